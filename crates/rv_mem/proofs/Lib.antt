@@ -1,11 +1,8 @@
 pub mod Prelude
 pub mod Accesses
 pub mod Lookups
-pub mod PageReads
 pub mod PageRuns
-pub mod PageWrites
-pub mod Paging
-pub mod Ranges
+pub mod PageAccesses
 pub mod Runs
-pub mod Tables
+pub mod Paging
 pub mod Facts

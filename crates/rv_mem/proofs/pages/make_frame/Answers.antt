@@ -1,5 +1,5 @@
 use Rattle.rv_mem.proofs.Prelude.{◌≡◌, ◌/◌, ◌∙◌, ℕ, List, length, subst, sym, arith, slice_index, cell_at}
-use Rattle.rv_mem.proofs.PageWrites.{frame_made}
+use Rattle.rv_mem.proofs.PageAccesses.{frame_made}
 use Rattle.rv_mem.proofs.pages.make_frame.Goals as goal
 
 pub returns-clause-same : goal.returns-clause-same

@@ -1,6 +1,6 @@
 use Rattle.rv_mem.proofs.Prelude.{◌≡◌, ◌+◌, ◌%◌, arith, Option, ℕ, subst, IsSome, IfSome, frame_of}
 use Rattle.rv_mem.proofs.Paging.{get_pages, some_if, memory_is}
-use Rattle.rv_mem.proofs.PageWrites.{put_there}
+use Rattle.rv_mem.proofs.PageAccesses.{put_there}
 use Rattle.rv_mem.proofs.pages.Pages.put_byte.Goals as goal
 
 pub unwrap-requires : goal.unwrap-requires

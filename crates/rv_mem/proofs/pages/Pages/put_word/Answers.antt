@@ -2,8 +2,7 @@ use Rattle.rv_mem.proofs.Prelude.{◌≡◌, refl, ◌∙◌, rules, arith, Opti
 use Rattle.std.specs.Int.{bytes_low_first}
 use Rattle.std.specs.Vec.{with_items}
 use Rattle.rv_mem.proofs.Paging.{some_if, memory_is}
-use Rattle.rv_mem.proofs.PageReads.{no_first}
-use Rattle.rv_mem.proofs.PageWrites.{word_put}
+use Rattle.rv_mem.proofs.PageAccesses.{no_first, word_put}
 use Rattle.rv_mem.proofs.pages.Pages.put_word.Goals as goal
 
 pub unwrap-requires : goal.unwrap-requires

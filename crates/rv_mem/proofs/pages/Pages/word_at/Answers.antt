@@ -1,5 +1,5 @@
 use Rattle.rv_mem.proofs.Prelude.{◌≡◌, ℕ, List, ◌∷◌, [], Some, ap, sym, ◌∙◌, refl, arith, number_of}
-use Rattle.rv_mem.proofs.PageReads.{no_first, all_there, one_missing, four_read}
+use Rattle.rv_mem.proofs.PageAccesses.{no_first, all_there, one_missing, four_read}
 use Rattle.rv_mem.proofs.pages.Pages.word_at.Goals as goal
 
 pub returns-in_err-place : goal.returns-in_err-place

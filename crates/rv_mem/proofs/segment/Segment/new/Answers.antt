@@ -1,6 +1,6 @@
 use Rattle.std.proofs.Common.{◌-◌, length, arith}
 use Rattle.std.proofs.lemmas.Grind.{common_steps}
-use Rattle.rv_mem.proofs.Ranges.{below_filled}
+use Rattle.rv_mem.proofs.Runs.{below_filled}
 use Rattle.rv_mem.proofs.segment.Segment.new.Goals as goal
 
 pub invariant_of-result-clause-fits : goal.invariant_of-result-clause-fits

@@ -1,4 +1,4 @@
-use Rattle.rv_mem.proofs.Ranges.{found_in, none_in_all}
+use Rattle.rv_mem.proofs.Runs.{found_in, none_in_all}
 use Rattle.rv_mem.proofs.segments.Segments.has_in.Goals as goal
 
 pub returns-clause-found : goal.returns-clause-found

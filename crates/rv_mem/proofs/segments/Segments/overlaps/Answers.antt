@@ -1,6 +1,6 @@
 use Rattle.std.proofs.Common.{arith}
 use Rattle.rv_mem.specs.Segments.{bytes_of}
-use Rattle.rv_mem.proofs.Ranges.{over_low, over_high}
+use Rattle.rv_mem.proofs.Runs.{over_low, over_high}
 use Rattle.rv_mem.proofs.segments.Segments.overlaps.Goals as goal
 
 pub returns-then-has_in-clause-found : goal.returns-then-has_in-clause-found

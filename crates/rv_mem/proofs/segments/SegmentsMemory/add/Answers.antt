@@ -1,6 +1,6 @@
 use Rattle.std.proofs.Common.{arith, rules}
 use Rattle.rv_mem.proofs.Lookups.{is_memory}
-use Rattle.rv_mem.proofs.Ranges.{add_done}
+use Rattle.rv_mem.proofs.Runs.{add_done}
 use Rattle.rv_mem.proofs.segments.SegmentsMemory.add.Goals as goal
 
 pub invariant_of-self : goal.invariant_of-self

@@ -1,6 +1,5 @@
 use Rattle.rv_mem.proofs.Prelude.{◌≡◌, ◌+◌, ◌*◌, ◌/◌, ◌%◌, ◌<◌, ◌≤◌, ℕ, List, length, get_or, sym, ap, ◌∙◌, subst, arith, slice_index}
-use Rattle.rv_mem.proofs.Paging.{read_is}
-use Rattle.rv_mem.proofs.Tables.{many, number_is}
+use Rattle.rv_mem.proofs.Paging.{read_is, many, number_is}
 use Rattle.rv_mem.proofs.table.Table.get.Goals as goal
 
 pub returns-in_err-leaf-clause-none : goal.returns-in_err-leaf-clause-none

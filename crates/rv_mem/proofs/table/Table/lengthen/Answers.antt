@@ -1,5 +1,5 @@
 use Rattle.rv_mem.proofs.Prelude.{◌≡◌, ℕ, List, sym, ap, ◌∙◌, arith, slice_index}
-use Rattle.rv_mem.proofs.Tables.{many, number_is}
+use Rattle.rv_mem.proofs.Paging.{many, number_is}
 use Rattle.rv_mem.proofs.table.Table.lengthen.Goals as goal
 
 pub returns-in_err-make_chunk-clause-same : goal.returns-in_err-make_chunk-clause-same

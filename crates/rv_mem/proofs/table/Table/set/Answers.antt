@@ -1,6 +1,6 @@
 use Rattle.rv_mem.proofs.Prelude.{◌≡◌, ◌*◌, ◌<◌, ℕ, List, length, set, refl, sym, ap, ◌∙◌, subst, arith}
 use Rattle.rv_mem.specs.private.Frames.{numbers_of}
-use Rattle.rv_mem.proofs.Tables.{many, same_numbers, one_set}
+use Rattle.rv_mem.proofs.Paging.{many, same_numbers, one_set}
 use Rattle.rv_mem.proofs.table.Table.set.Goals as goal
 
 pub make_leaf-requires-clause-chunk : goal.make_leaf-requires-clause-chunk
