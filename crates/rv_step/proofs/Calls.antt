@@ -2,7 +2,7 @@
 use Rattle.rv_step.proofs.Prelude.{◌≡◌, ℕ, ◌==◌, Bool, true, false, cond, List, [], ◌∷◌, Option, Some, None, IsSome, is_some, refl, sym, ap, subst, ◌∙◌, Instr, Load, Store, Ecall, LoadKind, offset_by, Front, Read, Short, Bad, Bytes, byte_at, bytes_at, addresses, with_bytes, loaded, stored, Call, Trap, NoByteGoes, CallsAreEcalls, Hart, State, register, Stepped, Stands, next, unchanged, after_load, effect, IsAtPc, after_front, load_size, store_size}
 use Rattle.std.specs.FinMap.{insert}
 use Rattle.rv_step.specs.declared.outcome.Cause.TheVariants as cause
-use Rattle.rv_step.proofs.Bytes.{byte_at-insert}
+use Rattle.rv_step.proofs.States.{byte_at-insert}
 
 -- ---- no byte goes
 

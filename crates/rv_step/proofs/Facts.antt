@@ -3,10 +3,8 @@ use Rattle.rv_step.specs.Laws.{OneInstruction, AtPcIsFront, OneStep, SomeStep, S
 use Rattle.rv_step.proofs.Agreeing.{agree_same, stands_too}
 use Rattle.rv_step.proofs.Calls.{ecall_at, none_goes}
 use Rattle.rv_step.proofs.Pairs.{pair_left}
-use Rattle.rv_step.proofs.Reading.{instruction_one}
-use Rattle.rv_step.proofs.Registers.{other_registers}
-use Rattle.rv_step.proofs.Standing.{at_pc_front}
-use Rattle.rv_step.proofs.Steps.{effect_of, stays, other_bytes, step_some, step_one, all_found, keeps_state}
+use Rattle.rv_step.proofs.Standing.{instruction_one, at_pc_front}
+use Rattle.rv_step.proofs.Steps.{other_registers, effect_of, stays, other_bytes, step_some, step_one, all_found, keeps_state}
 
 pub one_instruction : OneInstruction
 one_instruction = instruction_one

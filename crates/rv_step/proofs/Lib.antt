@@ -1,14 +1,7 @@
 pub mod Prelude
 pub mod Agreeing
-pub mod Apart
-pub mod Bytes
 pub mod Calls
-pub mod Fetching
-pub mod Harts
-pub mod Memories
-pub mod Numbers
-pub mod Reading
-pub mod Registers
+pub mod States
 pub mod Standing
 pub mod Steps
 pub mod Pairs

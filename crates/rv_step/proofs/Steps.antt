@@ -1,15 +1,17 @@
--- What a step comes to.
-use Rattle.rv_step.proofs.Prelude.{◌≡◌, ◌≢◌, ℕ, ◌-◌, ◌%◌, ◌^◌, ◌<◌, ◌⊎◌, inl, inr, Bool, true, false, cond, List, Option, Some, None, is_some, IsSome, refl, sym, ap, subst, ◌∙◌, arith, Contains, option_map, Instr, Op, OpImm, Load, Store, Branch, Jal, Jalr, Lui, Auipc, Fence, Ecall, Ebreak, LoadKind, offset_by, Front, Read, Short, Bad, Bytes, byte_at, bytes_at, addresses, number_of, loaded, stored, Next, Trap, OneStep, SomeStep, StepIsEffect, StepKeepsState, StoppedStays, OtherBytesStay, AccessedIsThere, Hart, State, IsHart, IsState, register, past, Stepped, next, unchanged, after_load, effect, bytes_at_pc, IsAtPc, after_front, register_op, load_size, store_size}
+-- What a step comes to, and what it leaves of memory and registers.
+use Rattle.rv_step.proofs.Prelude.{◌≡◌, ◌≢◌, ℕ, ◌-◌, ◌%◌, ◌^◌, ◌<◌, ◌⊎◌, inl, inr, Bool, true, false, cond, List, Option, Some, None, is_some, IsSome, refl, sym, ap, subst, ◌∙◌, arith, Contains, option_map, Instr, Op, OpImm, Load, Store, Branch, Jal, Jalr, Lui, Auipc, Fence, Ecall, Ebreak, LoadKind, offset_by, Front, Read, Short, Bad, Bytes, byte_at, bytes_at, addresses, number_of, loaded, stored, Next, Trap, OneStep, SomeStep, StepIsEffect, StepKeepsState, StoppedStays, OtherBytesStay, AccessedIsThere, Hart, State, IsHart, IsState, register, past, Stepped, next, unchanged, after_load, effect, bytes_at_pc, IsAtPc, after_front, register_op, load_size, store_size, ◌==◌, set, get_or, OtherRegistersStay, with_register, with_pc, is_taken}
 use Rattle.rv_step.specs.Step.{Accesses}
 use Rattle.rv_word.specs.Spelling.{InRange}
 use Rattle.rv_word.specs.declared.instr.StoreWidth.{StoreWidth}
 use Rattle.rv_step.specs.declared.outcome.Cause.TheVariants as cause
-use Rattle.rv_step.proofs.Harts.{pc_is, after_is, register_is, moved_is}
-use Rattle.rv_step.proofs.Memories.{stored_is, loaded_fits}
-use Rattle.rv_step.proofs.Numbers.{word_fits, offset_even, result_fits, extended_fits, branch_is_even, jump_is_even}
+use Rattle.rv_step.proofs.States.{pc_is, after_is, register_is, moved_is, stored_is, loaded_fits, word_fits, offset_even, result_fits, extended_fits, branch_is_even, jump_is_even}
 use Rattle.rv_comp.proofs.Facts.{one_front, some_front, spelled_in_range, two_lengths}
 use Rattle.rv_mem.proofs.Facts.{addresses_are_these, others_stay, read_is_held}
 use Rattle.rv_step.proofs.Standing.{at_pc_front}
+use Rattle.rv_word.specs.Outlines.{unless_x0, written}
+use Rattle.std.proofs.lemmas.List.{get_or-set_other}
+
+-- ==== What a step comes to.
 
 -- ---- one step
 
@@ -167,3 +169,40 @@ front_state s Bad is st = is
 pub keeps_state : StepKeepsState
 keeps_state s r is step =
     subst (λ (x : Stepped). IsState x.state) (sym step.result) (front_state s step.front is step.at_pc)
+
+-- ==== What a step leaves of the registers.
+
+chosen : (b : Bool) (l : List ℕ) (rd v x : ℕ) → cond b None (Some rd) ≢ Some x → get_or (cond b l (set l rd v)) x 0 ≡ get_or l x 0
+chosen true l rd v x other = refl
+chosen false l rd v x other = get_or-set_other l rd x v 0 (λ e. other (ap Some (sym e)))
+
+wrote : (h : Hart) (rd v x : ℕ) → unless_x0 (Some rd) ≢ Some x → register (with_register h rd v) x ≡ register h x
+wrote h rd v x other = chosen (rd == 0) h.registers rd v x other
+
+load_keeps_register : (o : Option ℕ) (kind : LoadKind) (rd at n : ℕ) (h : Hart) (m : Bytes) (x : ℕ) → unless_x0 (Some rd) ≢ Some x → register (after_load o kind rd at n h m).state.hart x ≡ register h x
+load_keeps_register None kind rd at n h m x other = refl
+load_keeps_register (Some v) kind rd at n h m x other = wrote h rd _ x other
+
+store_keeps_register : (b : Bool) (at n : ℕ) (h : Hart) (w m : Bytes) (x : ℕ) → register (cond b (next (past h n) w) (unchanged (Trap cause.Store at) h m)).state.hart x ≡ register h x
+store_keeps_register true at n h w m x = refl
+store_keeps_register false at n h w m x = refl
+
+branch_keeps_register : (b : Bool) (pc n : ℕ) (h : Hart) (x : ℕ) → register (cond b (with_pc h pc) (past h n)) x ≡ register h x
+branch_keeps_register true pc n h x = refl
+branch_keeps_register false pc n h x = refl
+
+effect_keeps_register : (i : Instr) (n : ℕ) (h : Hart) (m : Bytes) (x : ℕ) → written i ≢ Some x → register (effect i n h m).state.hart x ≡ register h x
+effect_keeps_register (Op op rd rs1 rs2) n h m x other = wrote h rd _ x other
+effect_keeps_register (OpImm op rd rs1 imm) n h m x other = wrote h rd _ x other
+effect_keeps_register (Load kind rd rs1 imm) n h m x other = load_keeps_register (loaded m (offset_by (register h rs1) imm) (load_size kind)) kind rd _ n h m x other
+effect_keeps_register (Store width rs1 rs2 imm) n h m x other = store_keeps_register (is_some (bytes_at m (addresses (offset_by (register h rs1) imm) (store_size width)))) _ n h _ m x
+effect_keeps_register (Branch condition rs1 rs2 offset) n h m x other = branch_keeps_register (is_taken condition (register h rs1) (register h rs2)) _ n h x
+effect_keeps_register (Jal rd offset) n h m x other = wrote h rd _ x other
+effect_keeps_register (Jalr rd rs1 imm) n h m x other = wrote h rd _ x other
+effect_keeps_register (Lui rd imm) n h m x other = wrote h rd _ x other
+effect_keeps_register (Auipc rd imm) n h m x other = wrote h rd _ x other
+effect_keeps_register _ n h m x other = refl
+
+pub other_registers : OtherRegistersStay
+other_registers s i n r x st step other =
+    ap (λ (q : Stepped). register q.state.hart x) (effect_of s i n r st step) ∙ effect_keeps_register i n s.hart s.memory x other

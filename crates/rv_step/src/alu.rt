@@ -97,7 +97,7 @@ pub fn takes(cond: Cond, a: u32, b: u32) -> bool
 }
 
 /// The address that lies an offset away.
-#[tactic(auto, using(crate::proofs::Numbers::offset_even))]
+#[tactic(auto, using(crate::proofs::States::offset_even))]
 #[inline(always)]
 pub fn offset_from(a: u32, offset: i32) -> u32
     ensures value { result ≡ offset_by a offset }

@@ -5,7 +5,7 @@ use Rattle.sfi_host.specs.Laws.{CallsAreTyped, AnswersAreReplies}
 use Rattle.sfi_host.specs.Worlds.{StoppedItself}
 use Rattle.sfi_formats.specs.Formats.{has_stack, has_words, is_data_register}
 use Rattle.sfi_safe_runs.specs.Runs.{IsTyped, IsNear, IsWordStart}
-use Rattle.rv_step.proofs.Harts.{register_is, after_is}
+use Rattle.rv_step.proofs.States.{register_is, after_is}
 use Rattle.sfi_safe_runs.proofs.Facts.{goes_on_safely}
 use Rattle.sfi_host.proofs.Entered as parts
 use Rattle.sfi_host.proofs.Stops.{at_gate, at_gate_still, stopped_still}

@@ -1,6 +1,6 @@
 -- A world at its start is safe.
 use Rattle.sfi_host.proofs.Prelude.{◌≡◌, ◌≢◌, Bool, true, false, cond, ℕ, zero, suc, ◌+◌, ◌-◌, ◌%◌, ◌^◌, ◌<◌, ◌≤◌, List, [], ◌∷◌, length, Some, is_some, slice_get, refl, sym, ap, ◌∙◌, subst, arith, get_or_from_slice_get, slice_get_within, slice_index, replicate, map, None, Bytes, IsMemory, byte_at, Hart, IsHart, with_register, Part, Span, code_region, IsRightPart, IsRightLayout, InGuard, RunsSafely, AllRunSafely, CallsTyped, AllCallTyped, IsEnterable, AreEnterable, Bounds, bounds_of, fresh_hart, first_hart, first_seat, with_parts, AreEntered, HaveFirstData, Seat, IsSafeSeat, LiesOutside, IsSafeWorld}
-use Rattle.rv_step.proofs.Harts.{register_is}
+use Rattle.rv_step.proofs.States.{register_is}
 use Rattle.sfi_formats.specs.Formats.{unit, has_words}
 use Rattle.sfi_image.specs.Parts.{IsBundleStart}
 use Rattle.sfi_image.specs.Spelling.{data_region}

@@ -1,7 +1,7 @@
 -- A sandbox with a right layout has an entry at each unit of its code.
 use Rattle.std.specs.Prelude.{replicate}
 use Rattle.sfi_safe_runs.proofs.Prelude.{◌≡◌, ◌⊎◌, inl, inr, ⊎_elim, ◌==◌, ◌||◌, or_cases, eqb-true, true, ℕ, suc, ◌+◌, ◌-◌, ◌%◌, ◌^◌, ◌<◌, ◌≤◌, List, length, refl, subst, sym, arith, slice_index, Hart, IsHart, Part, IsRightPart, IsUnitStart, HasReserved, IsTyped, with_register, Format, Sfi1, Sfi2, Sfiw, unit, has_words, InData, IsNear, IsWordStart}
-use Rattle.rv_step.proofs.Harts.{register_is}
+use Rattle.rv_step.proofs.States.{register_is}
 use Rattle.sfi_formats.specs.Formats.{is_data_register}
 use Rattle.sfi_image.proofs.Facts.{code_ends}
 use Rattle.sfi_formats.specs.Limits.{slack}

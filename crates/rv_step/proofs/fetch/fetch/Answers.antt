@@ -1,5 +1,5 @@
 use Rattle.rv_step.specs.State.{State}
-use Rattle.rv_step.proofs.Fetching.{no_parcel, told, cut_short, both}
+use Rattle.rv_step.proofs.Standing.{no_parcel, told, cut_short, both}
 use Rattle.rv_step.proofs.fetch.fetch.Goals as goal
 
 pub returns-in_default : goal.returns-in_default

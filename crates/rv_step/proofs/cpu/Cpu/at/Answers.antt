@@ -1,4 +1,4 @@
-use Rattle.rv_step.proofs.Numbers.{new_hart}
+use Rattle.rv_step.proofs.States.{new_hart}
 use Rattle.rv_step.proofs.cpu.Cpu.at.Goals as goal
 
 pub invariant_of-result : goal.invariant_of-result
