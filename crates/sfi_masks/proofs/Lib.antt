@@ -1,6 +1,4 @@
 pub mod Vectors
-pub mod Quarter
-pub mod SideBySide
 pub mod Fields
 pub mod Cells
 pub mod Told

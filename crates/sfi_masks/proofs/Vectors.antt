@@ -1,13 +1,54 @@
--- Vectors of sixteen bytes by their lanes.
-use Rattle.std.proofs.Common.{◌≡◌, ℕ, ◌+◌, ◌*◌, ◌/◌, ◌%◌, ◌^◌, ◌<◌, Bool, true, false, cond, eqb, ◌==◌, List, [], ◌∷◌, ◌++◌, map, length, get_or, replicate, take, drop, refl, sym, subst, ap, ap₂, ◌∙◌, arith, w8, Fits, eqb-true, bit_and}
+-- Vectors of sixteen bytes by their lanes, and the masks that are made of them.
+use Rattle.std.proofs.Common.{◌≡◌, ℕ, ◌+◌, ◌*◌, ◌/◌, ◌%◌, ◌^◌, ◌<◌, ◌==◌, refl, sym, ap, ap₂, ◌∙◌, inl, inr, arith, bit_or, Bool, true, false, cond, eqb, List, [], ◌∷◌, ◌++◌, map, length, get_or, replicate, take, drop, subst, w8, Fits, eqb-true, bit_and}
+use Rattle.std.proofs.lemmas.Bool.{cases_eq, agree_below_at}
+use Rattle.std.proofs.lemmas.Nat.{or_shifted, or_comm, shr-shr, and_mask}
+use Rattle.std.proofs.lemmas.Nat.Bits.{bit_at_cat_low}
+use Rattle.sfi_masks.specs.Masks.{is_in}
+use Rattle.sfi_masks.specs.private.{of_four, HasLanes, Code, is_on_x2, half_classes, followed, free_followed, kept_of, rest, free_classes, access_classes}
 use Rattle.std.specs.Prelude.{slice_index}
-use Rattle.std.proofs.lemmas.Bool.{agree_below_at}
 use Rattle.std.proofs.lemmas.List.{get_or-map, length-map, take-take, take_all, take-append-drop, length-drop}
-use Rattle.std.proofs.lemmas.Nat.{and_mask}
 use Rattle.std.proofs.lemmas.Simd.{length-zip2, get_or-zip2, length-replicate, get_or-replicate, Each1-from_get_or, Each1-get_or, swz_l, SwzOk, SwzOk-from_below, length-swz_l, get_or-swz_l_below, bitmask_splat, mask_l-lt, bit_mask_l, pick_l_left, tops_compared, length-sel_l, get_or-sel_l}
 use lib.Lanes.{zip2, mask_l, chunk, top, pick_l, sel_l, Each1}
-use Rattle.sfi_masks.specs.Masks.{is_in}
-use Rattle.sfi_masks.specs.private.{HasLanes}
+use Rattle.sfi_masks.specs.declared.tables.TheConstants.{ALONE}
+
+-- ==== Four numbers of 16 bits side by side, bit by bit.
+
+above : (low high k whole : ℕ) → low < 2 ^ k → high * 2 ^ k + low ≡ whole → bit_or low (high * 2 ^ k) ≡ whole
+above low high k whole small sum = or_comm low (high * 2 ^ k) ∙ or_shifted high k low small ∙ sum
+
+abbrev whole : ℕ → ℕ → ℕ → ℕ → ℕ
+whole a b c d = ((d * 2 ^ 16 + c) * 2 ^ 16 + b) * 2 ^ 16 + a
+
+sum_is : (a b c d : ℕ) → a < 2 ^ 16 → b < 2 ^ 16 → c < 2 ^ 16 → d < 2 ^ 16
+    → bit_or (bit_or (bit_or a (b * 2 ^ 16 % 2 ^ 64)) (c * 2 ^ 32 % 2 ^ 64)) (d * 2 ^ 48 % 2 ^ 64) ≡ whole a b c d
+sum_is a b c d fa fb fc fd =
+    let eb : b * 2 ^ 16 % 2 ^ 64 ≡ b * 2 ^ 16 = omega arith in
+    let ec : c * 2 ^ 32 % 2 ^ 64 ≡ c * 2 ^ 32 = omega arith in
+    let ed : d * 2 ^ 48 % 2 ^ 64 ≡ d * 2 ^ 48 = omega arith in
+    let two = ap (λ n. bit_or a n) eb ∙ above a b 16 (b * 2 ^ 16 + a) fa refl in
+    let three = ap₂ (λ m n. bit_or m n) two ec ∙ above (b * 2 ^ 16 + a) c 32 ((c * 2 ^ 16 + b) * 2 ^ 16 + a) (omega arith) (omega arith) in
+    ap₂ (λ m n. bit_or m n) three ed ∙ above ((c * 2 ^ 16 + b) * 2 ^ 16 + a) d 48 (whole a b c d) (omega arith) (omega arith)
+
+-- sixteen bits of n, from bit k on
+part_at : (n above part k i j : ℕ) → n / 2 ^ k ≡ above * 2 ^ 16 + part → k + j ≡ i → j < 16 → is_in n i ≡ is_in part j
+part_at n above part k i j e place small =
+    ap (λ m. n / 2 ^ m % 2 == 1) (sym place) ∙ ap (λ m. m % 2 == 1) (sym (shr-shr n k j) ∙ ap (λ m. m / 2 ^ j) e)
+    ∙ ap (λ m. m == 1) (bit_at_cat_low above 16 part j small)
+
+pub joined_bits : (a b c d : ℕ) → a < 2 ^ 16 → b < 2 ^ 16 → c < 2 ^ 16 → d < 2 ^ 16 → (i : ℕ) → i < 64
+    → is_in (bit_or (bit_or (bit_or a (b * 2 ^ 16 % 2 ^ 64)) (c * 2 ^ 32 % 2 ^ 64)) (d * 2 ^ 48 % 2 ^ 64)) i ≡ is_in (of_four a b c d (i / 16)) (i % 16)
+joined_bits a b c d fa fb fc fd i lt = ap (λ n. is_in n i) (sum_is a b c d fa fb fc fd) ∙ elim (cases_eq (i / 16) 0) [
+  | inl e ↦ part_at (whole a b c d) ((d * 2 ^ 16 + c) * 2 ^ 16 + b) a 0 i (i % 16) (omega arith) (omega arith) (omega arith) ∙ ap (λ q. is_in (of_four a b c d q) (i % 16)) (sym e)
+  | inr x ↦ elim (cases_eq (i / 16) 1) [
+    | inl e ↦ part_at (whole a b c d) (d * 2 ^ 16 + c) b 16 i (i % 16) (omega arith) (omega arith) (omega arith) ∙ ap (λ q. is_in (of_four a b c d q) (i % 16)) (sym e)
+    | inr y ↦ elim (cases_eq (i / 16) 2) [
+      | inl e ↦ part_at (whole a b c d) d c 32 i (i % 16) (omega arith) (omega arith) (omega arith) ∙ ap (λ q. is_in (of_four a b c d q) (i % 16)) (sym e)
+      | inr z ↦ (let e : i / 16 ≡ 3 = omega arith in part_at (whole a b c d) 0 d 48 i (i % 16) (omega arith) (omega arith) (omega arith) ∙ ap (λ q. is_in (of_four a b c d q) (i % 16)) (sym e))
+    ]
+  ]
+]
+
+-- ==== Vectors of sixteen bytes by their lanes.
 
 pub own : (v : List ℕ) → length v ≡ 16 → HasLanes v (λ i. slice_index v i)
 own v count = record { count = count; lanes = λ i h. refl }
@@ -144,3 +185,36 @@ chosen_of v one other a p q y lanes ones others =
 pub chosen : (v : List ℕ) (a : ℕ → ℕ) (y one other : ℕ) → HasLanes v a
     → HasLanes (sel_l (map (top 7) (zip2 (λ x z. cond (eqb x z) 255 0) v (replicate 16 y))) (replicate 16 one) (replicate 16 other)) (λ i. cond (eqb (a i) y) one other)
 chosen v a y one other p = chosen_of v (replicate 16 one) (replicate 16 other) a (λ i. one) (λ i. other) y p (splat one) (splat other)
+
+-- ==== The masks of sixteen halfwords, by their bytes.
+
+module _ (code : Code) (byte : ℕ → ℕ) (low high : List ℕ) (lows : HasLanes low (λ i. byte (2 * i))) (highs : HasLanes high (λ i. byte (2 * i + 1))) where
+  abbrev next : ℕ → ℕ
+  next i = byte (2 * ((i + 1) % 16) + 1)
+
+  followed_is : (v : List ℕ) → HasLanes v (λ i. followed (slice_index low i) (slice_index high i) (slice_index high ((i + 1) % 16))) → HasLanes v (λ i. followed (byte (2 * i)) (byte (2 * i + 1)) (next i))
+  followed_is v p = same_lanes v _ _ p (λ i h.
+      ap₂ (λ a b. followed a b (slice_index high ((i + 1) % 16))) (lows.lanes i h) (highs.lanes i h)
+      ∙ ap (λ n. followed (byte (2 * i)) (byte (2 * i + 1)) n) (highs.lanes ((i + 1) % 16) (omega arith)))
+
+  by_bytes : (f : ℕ → ℕ → ℕ) (v : List ℕ) → HasLanes v (λ i. f (slice_index low i) (slice_index high i)) → HasLanes v (λ i. f (byte (2 * i)) (byte (2 * i + 1)))
+  by_bytes f v p = same_lanes v _ _ p (λ i h. ap₂ f (lows.lanes i h) (highs.lanes i h))
+
+  module _ (alone follow others keep free : List ℕ)
+      (are_alone : HasLanes alone (λ i. half_classes ALONE (slice_index low i) (slice_index high i)))
+      (are_followed : HasLanes follow (λ i. followed (slice_index low i) (slice_index high i) (slice_index high ((i + 1) % 16))))
+      (are_rest : HasLanes others (λ i. rest (is_on_x2 code) (slice_index low i) (slice_index high i)))
+      (are_kept : HasLanes keep (λ i. kept_of code (slice_index low i) (slice_index high i)))
+      (are_free : HasLanes free (λ i. free_followed code (slice_index high i) (slice_index low ((i + 1) % 16)))) where
+    pub free_lanes : HasLanes (zip2 bit_and (zip2 bit_or (zip2 bit_or alone others) (zip2 bit_and follow free)) keep)
+        (λ i. free_classes code (byte (2 * i)) (byte (2 * i + 1)) (byte (2 * ((i + 1) % 16))) (next i))
+    free_lanes =
+        let one = zipped bit_or alone others _ _ (by_bytes (half_classes ALONE) alone are_alone) (by_bytes (rest (is_on_x2 code)) others are_rest) in
+        let by_base = same_lanes free _ (λ i. free_followed code (byte (2 * i + 1)) (byte (2 * ((i + 1) % 16)))) are_free (λ i h. ap₂ (free_followed code) (highs.lanes i h) (lows.lanes ((i + 1) % 16) (omega arith))) in
+        let two = zipped bit_and follow free _ _ (followed_is follow are_followed) by_base in
+        zipped bit_and _ keep _ _ (zipped bit_or _ _ _ _ one two) (by_bytes (kept_of code) keep are_kept)
+
+    pub access_lanes : HasLanes (zip2 bit_and (zip2 bit_and follow (replicate 16 192)) keep)
+        (λ i. access_classes code (byte (2 * i)) (byte (2 * i + 1)) (next i))
+    access_lanes =
+        zipped bit_and _ keep _ _ (zipped bit_and follow (replicate 16 192) _ _ (followed_is follow are_followed) (splat 192)) (by_bytes (kept_of code) keep are_kept)

@@ -1,4 +1,4 @@
-use Rattle.sfi_masks.proofs.SideBySide.{joined_bits}
+use Rattle.sfi_masks.proofs.Vectors.{joined_bits}
 use Rattle.sfi_masks.proofs.masks.joined.Goals as goal
 
 pub returns : goal.returns

@@ -1,6 +1,6 @@
 use Rattle.std.proofs.Common.{ℕ, ◌%◌, ◌==◌, not, ap, ◌∙◌, slice_index}
 use Rattle.sfi_masks.specs.private.{words}
-use Rattle.sfi_masks.proofs.Quarter.{free_lanes, access_lanes}
+use Rattle.sfi_masks.proofs.Vectors.{free_lanes, access_lanes}
 use Rattle.sfi_masks.proofs.masks.word_masks_of_quarter.Goals as goal
 
 pub returns : goal.returns
