@@ -16,9 +16,9 @@ use Rattle.sfi_image.specs.Parts.FieldTest.{Code, Data, GuardRoom, Start, Gates,
 use Rattle.sfi_image.specs.Prefixes.{HasFaultWhateverFollows}
 use Rattle.sfi_image.specs.Faults.{IsFault, IsCountFault, ArePartsFault, IsPartFault, IsBodyFault}
 use Rattle.sfi_image.proofs.Standing.{region, Region}
-use Rattle.sfi_image.proofs.Cancelling.{length-fields}
+use Rattle.sfi_image.proofs.Fronts.{length-fields}
 use Rattle.sfi_image.proofs.Formats.{length-magic}
-use Rattle.sfi_image.proofs.Offsets.{length-gates, length-number, length-part}
+use Rattle.sfi_image.proofs.Seeking.{length-gates, length-number, length-part}
 
 -- more bytes than one sandbox has, and than an image has
 abbrev part_most : ℕ

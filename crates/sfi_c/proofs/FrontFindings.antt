@@ -14,8 +14,8 @@ use Rattle.sfi_image.specs.declared.bundle.BundlePlace.{BundlePlace}
 use Rattle.sfi_image.specs.Spelling.{fields_of, number, fields, gate, part, AreFieldWords, AreGateWords}
 use Rattle.sfi_image.specs.Parts.{IsRightPart, AreOf}
 use Rattle.sfi_image.specs.Prefixes.{part_of}
-use Rattle.sfi_image.proofs.Bundles.{right_words}
-use Rattle.sfi_image.proofs.Cancelling.{same_gate, same_fields, same_list, length-fields, part_split}
+use Rattle.sfi_image.proofs.Regions.{right_words}
+use Rattle.sfi_image.proofs.Fronts.{same_gate, same_fields, same_list, length-fields, part_split}
 use Rattle.sfi_rules.specs.declared.owed.Owed.{Owed}
 use Rattle.sfi_rules.specs.declared.owed.Owed.TheVariants.{Nothing}
 use Rattle.sfi_rules.specs.Rules.{rest_finding, is_empty}
@@ -25,7 +25,7 @@ use Rattle.sfi_rules.specs.words.Findings.{found_from, owed_past, IsWordFound, A
 use Rattle.sfi_rules.proofs.Facts.{one_longest_reading, one_bundle_list}
 use Rattle.sfi_safety.proofs.Places.{nothing_before}
 use Rattle.sfi_check.specs.Feeds.{AreFindingsSoFar, owed_after}
-use Rattle.sfi_image.proofs.Offsets.{length-gates}
+use Rattle.sfi_image.proofs.Seeking.{length-gates}
 
 -- ---- the first bundles of a part, where more have no finding
 

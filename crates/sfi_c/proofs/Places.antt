@@ -5,11 +5,11 @@ use Rattle.std.specs.List.{flat_map}
 use Rattle.sfi_image.specs.declared.cursor.PartView.{PartView}
 use Rattle.sfi_image.specs.declared.fields.Fields.{Fields}
 use Rattle.sfi_image.specs.Spelling.{fields_of, fields, gate, part}
-use Rattle.sfi_image.proofs.Cancelling.{length-fields}
+use Rattle.sfi_image.proofs.Fronts.{length-fields}
 use Rattle.sfi_c.specs.declared.part.SfiPart.{SfiPart}
 use Rattle.sfi_c.specs.Parts.{Tells, told_at}
 use Rattle.sfi_image.specs.Keeping.{LiesAt}
-use Rattle.sfi_image.proofs.Offsets.{length-gates, length-part, sandbox_lies}
+use Rattle.sfi_image.proofs.Seeking.{length-gates, length-part, sandbox_lies}
 
 -- ---- pieces
 

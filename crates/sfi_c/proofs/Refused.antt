@@ -18,8 +18,8 @@ use Rattle.sfi_image.specs.Faults.{IsFault}
 use Rattle.sfi_image.specs.Prefixes.{ImagePrefix, prefix_bytes, want_of, IsLess, IsRightPrefix, HasFaultWhateverFollows, part_of}
 use Rattle.sfi_image.specs.Prefixes.ImagePrefix.{Empty, AfterMagic, AfterCount, InGates, InCode, InInit, Whole}
 use Rattle.sfi_image.proofs.Standing.{region}
-use Rattle.sfi_image.proofs.Bundles.{right_words}
-use Rattle.sfi_image.proofs.Cancelling.{same_front, same_number, same_gate, same_fields, same_part, same_list, fronts, part_split}
+use Rattle.sfi_image.proofs.Regions.{right_words}
+use Rattle.sfi_image.proofs.Fronts.{same_front, same_number, same_gate, same_fields, same_part, same_list, fronts, part_split}
 use Rattle.sfi_image.proofs.Formats.{one_magic, length-magic}
 use Rattle.sfi_image.proofs.Facts.{one_fault, never_both, cut_short, whole_is_image}
 use Rattle.sfi_rules.specs.declared.owed.Owed.{Owed}
@@ -35,7 +35,7 @@ use Rattle.sfi_image.specs.Keeping.{StandsFor}
 use Rattle.sfi_check.specs.declared.feed.Feed.{Feed}
 use Rattle.sfi_check.proofs.Feeding.{fed_held, fed_fault, no_fault as no_fault_met}
 use Rattle.sfi_c.specs.Streams.{HaveFrontFindings, AreRefusedAlready}
-use Rattle.sfi_image.proofs.Offsets.{length-gates, length-number}
+use Rattle.sfi_image.proofs.Seeking.{length-gates, length-number}
 use Rattle.sfi_c.proofs.Bounds.{never_short}
 use Rattle.sfi_c.proofs.FrontFindings.{none_so_far, none_of_part, first_clean, Reads, IsPartial, HasNoCode, HasCode, IsAllThereIs, no_part, no_code, begins, same_code}
 

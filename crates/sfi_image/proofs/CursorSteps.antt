@@ -8,9 +8,9 @@ use Rattle.sfi_image.specs.declared.want.Want.TheVariants as wants
 use Rattle.sfi_image.specs.Keeping.{HasRead, HasPassed, IsViewOf, unread}
 use Rattle.sfi_image.specs.private.{Gives, LeadsOn}
 use denote.Ref.{Bor}
-use Rattle.sfi_image.proofs.Cancelling.{same_fields, length-fields, length-gate}
-use Rattle.sfi_image.proofs.Ending.{code_short, cut_short, trails, whole_is_image}
-pub use Rattle.sfi_image.proofs.GateLists.{past}
+use Rattle.sfi_image.proofs.Fronts.{same_fields, length-fields, length-gate}
+use Rattle.sfi_image.proofs.Steps.{code_short, cut_short, trails, whole_is_image}
+pub use Rattle.sfi_image.proofs.Tests.{past}
 use Rattle.sfi_image.proofs.Standing.{region}
 use Rattle.sfi_image.proofs.Formats.{same_format}
 use Rattle.sfi_image.proofs.Following.{fields_again, parts_bytes, flat_gate, head_push}

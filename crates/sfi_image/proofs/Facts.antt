@@ -1,12 +1,11 @@
 -- What holds of images, of their faults and regions: laws, and further lemmas, for proofs here and in the crates above.
 use Rattle.sfi_image.specs.Prefixes.{CutShort, Trails, WholeIsImage}
 use Rattle.sfi_image.specs.Laws.{OneImage, NeverBoth, OneFault, SomeReading}
-use Rattle.sfi_image.proofs.Ending as ending
+use Rattle.sfi_image.proofs.Steps as ending
 use Rattle.sfi_image.proofs.OneReading as reading
 use Rattle.sfi_image.proofs.SomeReading as some
-pub use Rattle.sfi_image.proofs.Bundles.{whole_bundles, code_ends}
-pub use Rattle.sfi_image.proofs.Masks.{masked_unit}
-pub use Rattle.sfi_image.proofs.Second.{right_in_second}
+pub use Rattle.sfi_image.proofs.Regions.{whole_bundles, code_ends, masked_unit}
+pub use Rattle.sfi_image.proofs.Formats.{right_in_second}
 
 pub one_image : OneImage
 one_image = reading.one_image

@@ -6,11 +6,9 @@ use Rattle.sfi_image.specs.declared.fault.LayoutFault.TheVariants.{Gates}
 use Rattle.sfi_image.specs.declared.fault.ImageFault.TheVariants as errors
 use Rattle.sfi_formats.proofs.Formats.{length_of_magic}
 use Rattle.sfi_image.proofs.Formats.{one_magic, length-magic, take-magic}
-use Rattle.sfi_image.proofs.GateLists.{front_gates}
-use Rattle.sfi_image.proofs.SpanLists.{front_apart}
-use Rattle.sfi_image.proofs.FieldTests.{part_passes}
-use Rattle.sfi_image.proofs.Bundles.{right_words}
-use Rattle.sfi_image.proofs.Cancelling.{same_front, same_number, same_gate, same_fields, same_part, same_list, fronts, GoesOn, length-gate, length-fields, part_split}
+use Rattle.sfi_image.proofs.Tests.{front_gates, front_apart, part_passes}
+use Rattle.sfi_image.proofs.Regions.{right_words}
+use Rattle.sfi_image.proofs.Fronts.{same_front, same_number, same_gate, same_fields, same_part, same_list, fronts, GoesOn, length-gate, length-fields, part_split}
 
 -- ---- the fields
 

@@ -6,11 +6,9 @@ use Rattle.sfi_image.specs.private.{Reads}
 use Rattle.std.proofs.Common.{append-nil}
 use Rattle.sfi_image.specs.declared.fault.LayoutFault.TheVariants as faults
 use Rattle.sfi_image.specs.declared.fault.ImageFault.TheVariants as errors
-use Rattle.sfi_image.proofs.GateLists.{front_gates, flat_split}
-use Rattle.sfi_image.proofs.SpanLists.{front_apart}
-use Rattle.sfi_image.proofs.FieldTests.{part_passes}
-use Rattle.sfi_image.proofs.Bundles.{right_words}
-use Rattle.sfi_image.proofs.Cancelling.{part_split}
+use Rattle.sfi_image.proofs.Tests.{front_gates, flat_split, front_apart, part_passes}
+use Rattle.sfi_image.proofs.Regions.{right_words}
+use Rattle.sfi_image.proofs.Fronts.{part_split}
 use Rattle.sfi_image.proofs.OneReading.{one_field_fault, same_some, not_some, no_fault}
 
 -- ---- what is wrong is the fault of the bytes

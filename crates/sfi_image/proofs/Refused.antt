@@ -7,8 +7,7 @@ use Rattle.std.proofs.Math.Seq.{split_at}
 use Rattle.sfi_image.specs.declared.fault.LayoutFault.TheVariants as faults
 use Rattle.sfi_image.proofs.Formats.{code_at_most}
 use Rattle.sfi_image.proofs.Regions.{not_region}
-use Rattle.sfi_image.proofs.FieldTests.{right_part, all_pass}
-use Rattle.sfi_image.proofs.SpanLists.{right_bounded, spans_push}
+use Rattle.sfi_image.proofs.Tests.{right_part, all_pass, right_bounded, spans_push}
 
 -- ---- lengths that no field can hold
 

@@ -3,13 +3,11 @@ use Rattle.sfi_image.proofs.Prelude.{◌≡◌, ℕ, ◌+◌, ◌<◌, List, [],
 use Rattle.sfi_image.specs.Laws.{SomeReading}
 use Rattle.sfi_image.specs.declared.fault.LayoutFault.TheVariants.{Gates}
 use Rattle.sfi_image.specs.declared.want.Stage.TheVariants as stage
-use Rattle.sfi_image.proofs.Numbers.{IsBytes}
+use Rattle.sfi_image.proofs.Fronts.{IsBytes, Spelled, IsBytes-from_all, IsBytes-drop, number_front, gate_front, fields_front}
 use Rattle.sfi_image.proofs.Deciding.{decided_le, decided_both, decided_same, decided_gates, some_first_fault}
-use Rattle.sfi_image.proofs.Fronts.{Spelled, IsBytes-from_all, IsBytes-drop, number_front, gate_front, fields_front}
 use Rattle.sfi_image.proofs.Standing.{magic_leads, count_leads}
-use Rattle.sfi_image.proofs.Steps.{fields_leads, gate_on, code_leads, init_leads, magic_fault, count_fault, fields_fault, gate_wrong}
+use Rattle.sfi_image.proofs.Steps.{fields_leads, gate_on, code_leads, init_leads, magic_fault, count_fault, fields_fault, gate_wrong, cut_short, trails, whole_is_image}
 use Rattle.sfi_image.proofs.Places.{code_next, init_next}
-use Rattle.sfi_image.proofs.Ending.{cut_short, trails, whole_is_image}
 
 -- the bytes are an image or have a fault
 abbrev IsRead : List ℕ → Type 0

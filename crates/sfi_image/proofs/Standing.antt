@@ -5,9 +5,8 @@ use Rattle.std.proofs.Math.Dec.{ltb}
 use Rattle.std.proofs.lemmas.Bool.{ltb-false}
 use Rattle.sfi_image.specs.declared.want.Stage.{Stage}
 use Rattle.sfi_image.specs.declared.want.Stage.TheVariants as stage
-use Rattle.sfi_image.proofs.FieldTests.{all_pass}
-use Rattle.sfi_image.proofs.SpanLists.{spans_push}
-use Rattle.sfi_image.proofs.Bundles.{whole_bundles}
+use Rattle.sfi_image.proofs.Tests.{all_pass, spans_push}
+use Rattle.sfi_image.proofs.Regions.{whole_bundles}
 use Rattle.sfi_image.proofs.Formats.{code_at_most, same_format}
 use Rattle.sfi_image.proofs.Following.{fields_again, finished, following_bytes}
 

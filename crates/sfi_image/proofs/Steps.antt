@@ -1,9 +1,11 @@
--- Where each step leads, and which faults it meets.
-use Rattle.sfi_image.proofs.Prelude.{◌≡◌, ◌↔◌, IsTrue, Bool, true, false, Option, slice_get, ℕ, ◌+◌, ◌-◌, ◌<◌, ◌≤◌, ◌⊎◌, List, [], ◌∷◌, ◌++◌, length, map, take, drop, refl, sym, ap, ◌∙◌, subst, arith, append_assoc, inl, inr, None, Some, All, flat_map, length-append, length_push, append-nil, map_push, length-map, All-push, Format, magic, Gate, Fields, Span, LayoutFault, Part, number, fields, gate, part, IsWord, AreFieldWords, AreGateWords, code_span, spans, spans_of, AreGates, IsFirstFault, field_tests, IsFault, IsPartFault, IsGateShort, IsGateWrong, AreContentsShort, ImagePrefix, AreBundlesWithin, prefix_bytes, head, IsHead, IsOpened, IsRightPrefix, after_init, after_code, after_gates, HasFaultWhateverFollows, Empty, AfterMagic, AfterCount, InGates, InCode, InInit, LayoutReader, StandsFor, Leads, next_init, next_code, next_gate, count_below}
+-- Where each step leads, which faults it meets, and where bytes end.
 use Rattle.std.proofs.Math.Seq.{take-append_seam}
 use Rattle.sfi_image.specs.declared.fault.LayoutFault.TheVariants as faults
 use Rattle.sfi_image.specs.declared.want.Stage.TheVariants as stage
-use Rattle.sfi_image.proofs.Standing.{leads, gates_stand, code_stand, init_stand, rest_from}
+use Rattle.sfi_image.proofs.Standing.{leads, gates_stand, code_stand, init_stand, rest_from, region}
+use Rattle.sfi_image.proofs.Prelude.{◌≡◌, ◌↔◌, IsTrue, Bool, true, false, Option, slice_get, ℕ, ◌+◌, ◌-◌, ◌<◌, ◌≤◌, ◌⊎◌, List, [], ◌∷◌, ◌++◌, length, map, take, drop, refl, sym, ap, ◌∙◌, subst, arith, append_assoc, inl, inr, None, Some, All, flat_map, length-append, length_push, append-nil, map_push, length-map, All-push, Format, magic, Gate, Fields, Span, LayoutFault, Part, number, fields, gate, part, IsWord, AreFieldWords, AreGateWords, code_span, spans, spans_of, AreGates, IsFirstFault, field_tests, IsFault, IsPartFault, IsGateShort, IsGateWrong, AreContentsShort, ImagePrefix, AreBundlesWithin, prefix_bytes, head, IsHead, IsOpened, IsRightPrefix, after_init, after_code, after_gates, HasFaultWhateverFollows, Empty, AfterMagic, AfterCount, InGates, InCode, InInit, LayoutReader, StandsFor, Leads, next_init, next_code, next_gate, count_below, format_of, spelling, CutShort, Trails, WholeIsImage, Whole}
+
+-- ==== Where each step leads, and which faults it meets.
 
 none_gates : (region : Span) → AreGates region []
 none_gates region = record { starts = λ k d h. absurd (omega arith); services = λ k d h. absurd (omega arith); ascending = λ i j d h e. absurd (omega arith) }
@@ -190,3 +192,45 @@ gate_fault old _ s g last h is e words at tells = let k = h.kept.0 in absurd cc
 pub no_rest : (bytes front rest : List ℕ) → bytes ≡ front ++ rest → length rest ≡ 0 → bytes ≡ front
 no_rest bytes front [] e len = e ∙ append-nil front
 no_rest bytes front (b ∷ rest) e len = absurd (omega arith)
+
+-- ==== Where bytes end after a prefix.
+
+-- the code is cut short
+pub code_short : (n : ℕ) (ps : List Part) (f : Fields) (gs : List Gate) (code rest : List ℕ) → IsRightPrefix (InCode n ps f gs code) → length code + length rest < f.code_size
+    → IsFault (prefix_bytes (InCode n ps f gs code) ++ rest) faults.Short
+code_short n ps f gs code rest right less =
+    let regroup : (head f.format n ps ++ (fields f ++ (flat_map gate gs ++ code))) ++ rest ≡ head f.format n ps ++ (fields f ++ (flat_map gate gs ++ (code ++ rest))) = simp append_assoc in
+    rw (regroup) (body_fault n ps f gs (code ++ rest) faults.Short right.0 (inr (inr (right.1, omega (arith, length-append code rest), refl))))
+
+pub cut_short : CutShort
+cut_short Empty rest right less = inl (less, refl)
+cut_short (AfterMagic format) rest right less = inr (inr (format, rest, refl, inl (less, refl)))
+cut_short (AfterCount format n ps) rest right less = head_fault format n ps rest faults.Short right.0 right.1 (inl (less, refl))
+cut_short (InGates n ps f gs) rest right less =
+    let regroup : (head f.format n ps ++ (fields f ++ flat_map gate gs)) ++ rest ≡ head f.format n ps ++ (fields f ++ (flat_map gate gs ++ rest)) = simp append_assoc in
+    rw (regroup) (body_fault n ps f gs rest faults.Short right.0 (inl (right.1, less, refl)))
+cut_short (InCode n ps f gs code) rest right less =
+    let reg = region (spans ps) f right.0.words right.0.passed in
+    let size = reg.size_is in
+    let even = right.2 in
+    let inside = right.3 in
+    code_short n ps f gs code rest right (omega arith)
+cut_short (InInit n ps f gs code init) rest right less =
+    let all = right.2 in
+    let inside = right.3 in
+    let regroup : (head f.format n ps ++ (fields f ++ (flat_map gate gs ++ (code ++ init)))) ++ rest ≡ head f.format n ps ++ (fields f ++ (flat_map gate gs ++ (code ++ (init ++ rest)))) = simp append_assoc in
+    rw (regroup) (body_fault n ps f gs (code ++ (init ++ rest)) faults.Short right.0 (inr (inr (right.1, omega (arith, length-append code (init ++ rest), length-append init rest), refl))))
+cut_short (Whole ps) rest right less = absurd less
+
+pub trails : Trails
+trails ps rest right some =
+    inr (inr (
+      format_of ps,
+      number (length ps) ++ (flat_map part ps ++ rest),
+      simp append_assoc,
+      inr (length ps, flat_map part ps ++ rest, refl, (let most = right.at_most in omega arith), inr (right.at_least, right.at_most, (ps, rest, refl, right.right, right.one_format, inr (refl, some, refl)))),
+    ))
+
+pub whole_is_image : WholeIsImage
+unfolding spelling
+whole_is_image ps right = record { bytes_are = refl; layout = record { at_least_one = right.at_least; at_most = right.at_most; one_format = right.one_format; right = right.right } }

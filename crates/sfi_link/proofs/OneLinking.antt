@@ -1,7 +1,7 @@
 -- One list of sandboxes is made of what is placed, or it has one fault.
 use Rattle.sfi_link.proofs.Prelude.{append_assoc, ◌≡◌, ℕ, ◌+◌, ◌*◌, ◌≤◌, List, [], ◌∷◌, ◌++◌, length, replicate, sym, ap, ◌∙◌, subst, arith, inl, inr, length-append, pos, ◌-ℤ◌, repeat, w32, to_le_bytes, InRange, spelling, Format, Part, fields_of, stub_of, BundleSlot, Wide, Short, Jump, Upper, Lower, Region, PlacedName, slot_size, size_of, slots_of, Placement, Place, Bases, LinkFault, bases_of, value_at, base_at, target_at, with_offset, IsSlot, AreSlots, place_of, spans_at, Span, AreApart, spans_of, spans, AllPairs, c_ebreak, needed, IsCodeSize, IsLinkedCode, part_with, IsLinked, AreLinkedFrom, AreLinked, HasSlotFault, IsSlotFault, HasPartFault, IsPartFault, IsLinkFault}
 use Rattle.std.proofs.lemmas.Option.{none-some}
-use Rattle.sfi_image.proofs.SpanLists.{front_apart}
+use Rattle.sfi_image.proofs.Tests.{front_apart}
 use Rattle.sfi_rewrite.proofs.Sizes.{size_of-append}
 use Rattle.sfi_link.proofs.Sizes.{size_fill}
 use Rattle.sfi_link.proofs.CleanPlaces.{some_same, made}

@@ -6,7 +6,7 @@ use Rattle.sfi_formats.specs.Limits.{service_most}
 use Rattle.std.proofs.lemmas.List.Kept.{AllPairs-cons}
 use Rattle.std.proofs.lemmas.Option.{slice_get-get_or}
 use Rattle.sfi_rewrite.specs.Placed as placements
-use Rattle.sfi_image.proofs.Bundles.{whole_bundles}
+use Rattle.sfi_image.proofs.Regions.{whole_bundles}
 use Rattle.sfi_rewrite.proofs.Sizes.{size_of-cons}
 
 -- ---- code regions

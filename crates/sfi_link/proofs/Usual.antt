@@ -3,9 +3,9 @@ use Rattle.sfi_link.proofs.Prelude.{◌≡◌, ℕ, ◌+◌, ◌-◌, ◌*◌, �
 use Rattle.std.specs.Prelude.{◌≢◌}
 use Rattle.std.proofs.lemmas.Nat.{pow-add}
 use Rattle.sfi_formats.specs.Limits.{usual}
-use Rattle.sfi_image.proofs.Bundles.{exponent_le}
+use Rattle.sfi_image.proofs.Regions.{exponent_le}
 use Rattle.sfi_image.proofs.Formats.{code_at_most}
-use Rattle.sfi_image.proofs.SpanLists.{pairs_of_two}
+use Rattle.sfi_image.proofs.Tests.{pairs_of_two}
 use Rattle.sfi_link.specs.Linked.{IsLinkedImage}
 use Rattle.sfi_link.specs.Laws.{UsualPlacesAreFree}
 use Rattle.sfi_link.specs.declared.fault.LinkFault.TheVariants as fault

@@ -4,7 +4,7 @@ use Rattle.std.specs.List.{All}
 use Rattle.std.proofs.lemmas.List.{length-append, append-nil}
 use Rattle.sfi_image.specs.Spelling.{IsWord}
 unfoldable use Rattle.sfi_image.specs.Spelling.{number}
-use Rattle.sfi_image.proofs.Cancelling.{same_number, fronts}
+use Rattle.sfi_image.proofs.Fronts.{same_number, fronts}
 use Rattle.sfi_names.specs.declared.names.Names.{Names}
 use Rattle.sfi_names.specs.Tables.{Named, Table, magic, entry, entries, IsNamed, IsTable, EndsIn, HasTable, IsNamesOf}
 unfoldable use Rattle.sfi_names.specs.Tables.{footer, spelling}

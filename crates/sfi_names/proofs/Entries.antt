@@ -7,7 +7,7 @@ use Rattle.std.proofs.lemmas.List.Elements.{All-nil, All-push}
 use Rattle.std.proofs.lemmas.Grind.{flat_map-append}
 use Rattle.sfi_image.specs.Spelling.{IsWord}
 unfoldable use Rattle.sfi_image.specs.Spelling.{number}
-use Rattle.sfi_image.proofs.Cancelling.{same_front, same_number, fronts}
+use Rattle.sfi_image.proofs.Fronts.{same_front, same_number, fronts}
 use Rattle.sfi_names.specs.Tables.{Named, entries, IsNamed, IsName}
 unfoldable use Rattle.sfi_names.specs.Tables.{entry}
 

@@ -16,8 +16,8 @@ unfoldable use Rattle.sfi_image.specs.Spelling.{number, part, spelling}
 use Rattle.sfi_image.specs.Prefixes.{head}
 use Rattle.sfi_image.specs.Faults.{IsFault}
 use Rattle.sfi_image.specs.Parts.{IsImage, IsRightPart, IsRightLayout, IsCodeRegion}
-use Rattle.sfi_image.proofs.Bundles.{right_words}
-use Rattle.sfi_image.proofs.Cancelling.{same_front, same_number, same_list, same_part}
+use Rattle.sfi_image.proofs.Regions.{right_words}
+use Rattle.sfi_image.proofs.Fronts.{same_front, same_number, same_list, same_part}
 use Rattle.sfi_image.proofs.Facts.{whole_bundles, code_ends, one_image, never_both, one_fault}
 use Rattle.sfi_image.proofs.Formats.{one_magic}
 use Rattle.sfi_places.specs.declared.relocation.MoveFault.{MoveFault}
@@ -31,7 +31,7 @@ use Rattle.sfi_safety.specs.Clean.{IsAccepted}
 use Rattle.sfi_places.specs.Moving.{moved_one, IsMoved, IsMoveFault, OneMoves, moved_address, moved_gate, moved}
 use Rattle.sfi_places.proofs.Moving.{clean_is_placeless}
 use Rattle.sfi_places.specs.private.{IsReplaced, GoesTo, GatesGo, CanMove}
-use Rattle.sfi_image.proofs.Offsets.{length-head, split_at, spelled, spelled_round, image_split}
+use Rattle.sfi_image.proofs.Seeking.{length-head, split_at, spelled, spelled_round, image_split}
 use Rattle.sfi_places.proofs.Writing.{one_of}
 
 abbrev pub own_place : Part → Place

@@ -5,11 +5,11 @@ use Rattle.std.proofs.lemmas.List.{length-append, length-map}
 use Rattle.sfi_image.specs.declared.part.Gate.{Gate}
 use Rattle.sfi_image.specs.Spelling.{Part, fields_of}
 unfoldable use Rattle.sfi_image.specs.Spelling.{number, fields, gate, part}
-use Rattle.sfi_image.proofs.Cancelling.{part_split, fields_split}
+use Rattle.sfi_image.proofs.Fronts.{part_split, fields_split}
 use Rattle.sfi_places.specs.Moving.{moved_address, moved_gate, moved}
 use Rattle.sfi_image.specs.Keeping.{LiesAt}
 use Rattle.sfi_places.specs.private.{IsReplaced}
-use Rattle.sfi_image.proofs.Offsets.{length-number}
+use Rattle.sfi_image.proofs.Seeking.{length-number}
 
 module _ (p : Part) (from data_from to data_to offset : ℕ) (before after : List ℕ) (e : offset ≡ length before) where
   -- the bytes with other addresses

@@ -9,12 +9,12 @@ use Rattle.byteorder.specs.Numbers.{little_number-reads_back}
 use Rattle.sfi_image.specs.declared.part.Gate.{Gate}
 use Rattle.sfi_image.specs.Spelling.{IsWord}
 unfoldable use Rattle.sfi_image.specs.Spelling.{number, gate}
-use Rattle.sfi_image.proofs.Cancelling.{gate_split}
-use Rattle.sfi_image.proofs.GateLists.{flat_split}
+use Rattle.sfi_image.proofs.Fronts.{gate_split}
+use Rattle.sfi_image.proofs.Tests.{flat_split}
 use Rattle.sfi_places.specs.Moving.{moved_address, moved_gate}
 use Rattle.sfi_image.specs.Keeping.{LiesAt}
 use Rattle.sfi_places.specs.private.{IsReplaced, GoesTo, GatesGo}
-use Rattle.sfi_image.proofs.Offsets.{length-number, length-gates}
+use Rattle.sfi_image.proofs.Seeking.{length-number, length-gates}
 
 -- ---- an address
 

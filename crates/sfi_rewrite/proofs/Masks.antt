@@ -4,7 +4,7 @@ use Rattle.std.proofs.Common.{mul_assoc}
 use Rattle.std.proofs.lemmas.Nat.{and_mask, div-add-mod', mod_low, pow-add, or_shifted, or_comm, mod-mul-add}
 use Rattle.rv_step.specs.Step.{result_of}
 use Rattle.sfi_image.specs.Parts.{IsRegion}
-use Rattle.sfi_image.proofs.Bundles.{exponent_le}
+use Rattle.sfi_image.proofs.Regions.{exponent_le}
 use Rattle.sfi_image.proofs.Facts.{masked_unit}
 use Rattle.sfi_rewrite.specs.Laws.{MasksCompose}
 

@@ -1,5 +1,5 @@
 use Rattle.sfi_image.proofs.Prelude.{◌≡◌, refl, inl, inr, arith, false, true, subst, IsRegion}
-use Rattle.sfi_image.proofs.FieldTests.{at_overlap}
+use Rattle.sfi_image.proofs.Tests.{at_overlap}
 use Rattle.sfi_image.proofs.fields.spans_after.Goals as goal
 
 pub returns-clause-passed : goal.returns-clause-passed

@@ -1,5 +1,5 @@
 use Rattle.sfi_image.proofs.Prelude.{refl, sym, ◌∙◌, arith}
-use Rattle.sfi_image.proofs.GateLists.{above_last, none_last, next_gate, next_above}
+use Rattle.sfi_image.proofs.Tests.{above_last, none_last, next_gate, next_above}
 use Rattle.sfi_image.proofs.gates.is_next_gate.Goals as goal
 
 pub returns-in-Some-clause-next : goal.returns-in-Some-clause-next

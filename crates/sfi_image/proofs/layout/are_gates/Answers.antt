@@ -1,5 +1,5 @@
 use Rattle.sfi_image.proofs.Prelude.{◌≡◌, ◌-◌, List, length, map, get_or, slice_get, take, refl, sym, subst, Some, take_more, All-push, All, AreGateWords, Gate, code_span, AreGates}
-use Rattle.sfi_image.proofs.GateLists.{last_push}
+use Rattle.sfi_image.proofs.Tests.{last_push}
 use Rattle.sfi_image.proofs.Refused.{wrong_gate, other_gate}
 use Rattle.sfi_image.proofs.layout.are_gates.Goals as goal
 

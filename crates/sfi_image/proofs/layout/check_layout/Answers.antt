@@ -1,6 +1,6 @@
 use Rattle.sfi_image.proofs.Prelude.{◌≡◌, ◌<◌, take, List, false, ℕ, eqb, sym, subst, arith, ◌∙◌, take_all, take-map, length-map, eq-eqb, Part, view, views, AreRight}
 use Rattle.sfi_image.proofs.Formats.{views_of}
-use Rattle.sfi_image.proofs.SpanLists.{two_pushed}
+use Rattle.sfi_image.proofs.Tests.{two_pushed}
 use Rattle.sfi_image.proofs.Refused.{StartRight, StartRight-push, start_right, wrong_part, map_at, map_more_at}
 use Rattle.sfi_image.proofs.layout.check_layout.Goals as goal
 

@@ -1,5 +1,5 @@
 use Rattle.sfi_image.proofs.Prelude.{◌∙◌, err_from_is_err_and, view}
-use Rattle.sfi_image.proofs.SpanLists.{two_spans}
+use Rattle.sfi_image.proofs.Tests.{two_spans}
 use Rattle.sfi_image.proofs.Refused.{tests_failed, gates_failed, all_passed, same_spans}
 use Rattle.sfi_image.proofs.layout.part_spans.Goals as goal
 

@@ -1,5 +1,5 @@
 use Rattle.sfi_image.proofs.Prelude.{◌≡◌, sym, arith, rules, take-append-drop, number}
-use Rattle.sfi_image.proofs.Numbers.{number_of_bytes, IsBytes-take}
+use Rattle.sfi_image.proofs.Fronts.{number_of_bytes, IsBytes-take}
 use Rattle.sfi_image.proofs.reading.number_at.Goals as goal
 
 pub returns-clause-front : goal.returns-clause-front

@@ -1,5 +1,5 @@
 use Rattle.std.proofs.Common.{refl}
-use Rattle.sfi_image.proofs.SpanLists.{pairs_of_two, two_of_pairs}
+use Rattle.sfi_image.proofs.Tests.{pairs_of_two, two_of_pairs}
 use Rattle.sfi_image.proofs.span.are_all_apart.Goals as goal
 
 pub returns-then-not-is_apart_from_all : goal.returns-then-not-is_apart_from_all

@@ -1,5 +1,5 @@
 use Rattle.std.proofs.Common.{refl, arith}
-use Rattle.sfi_image.proofs.SpanLists.{apart_more}
+use Rattle.sfi_image.proofs.Tests.{apart_more}
 use Rattle.sfi_image.proofs.span.is_apart_from_all.Goals as goal
 
 pub returns-then-not-are_apart : goal.returns-then-not-are_apart

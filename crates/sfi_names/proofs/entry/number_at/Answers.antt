@@ -1,7 +1,7 @@
 use Rattle.std.proofs.Common.{◌≡◌, sym, arith, rules}
 use Rattle.std.proofs.lemmas.List.{take-append-drop}
 use Rattle.sfi_image.specs.Spelling.{number}
-use Rattle.sfi_image.proofs.Numbers.{number_of_bytes, IsBytes-take}
+use Rattle.sfi_image.proofs.Fronts.{number_of_bytes, IsBytes-take}
 use Rattle.sfi_names.proofs.entry.number_at.Goals as goal
 
 pub returns-clause-front : goal.returns-clause-front

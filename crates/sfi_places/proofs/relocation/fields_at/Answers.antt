@@ -1,5 +1,5 @@
 use Rattle.std.proofs.Common.{ap, length, arith}
-use Rattle.sfi_image.proofs.Offsets.{length-part, length-gates}
+use Rattle.sfi_image.proofs.Seeking.{length-part, length-gates}
 use Rattle.sfi_places.proofs.relocation.fields_at.Goals as goal
 
 pub overflow_sub-result : goal.overflow_sub-result

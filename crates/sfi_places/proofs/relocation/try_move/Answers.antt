@@ -5,7 +5,7 @@ use Rattle.sfi_image.specs.Parts.{IsRightPart}
 use Rattle.sfi_image.proofs.Facts.{never_both}
 use Rattle.sfi_formats.specs.declared.place.Place.{Place}
 use Rattle.sfi_places.specs.Moving.{moved_one, moved}
-use Rattle.sfi_image.proofs.Offsets.{sandbox_lies}
+use Rattle.sfi_image.proofs.Seeking.{sandbox_lies}
 use Rattle.sfi_places.proofs.Moves.{can_move, can_move_back, moved_back, right_one, the_one, written_there, written_back, lies_there, layout_there}
 use Rattle.sfi_places.proofs.relocation.try_move.Goals as goal
 

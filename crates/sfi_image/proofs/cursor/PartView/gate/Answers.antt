@@ -1,5 +1,5 @@
 use Rattle.sfi_image.proofs.Prelude.{◌∙◌, length, Some, sym, ap, arith, Gate}
-use Rattle.sfi_image.proofs.Cancelling.{same_gate, length-gate}
+use Rattle.sfi_image.proofs.Fronts.{same_gate, length-gate}
 use Rattle.sfi_image.proofs.CursorSteps.{gate_there}
 use Rattle.sfi_image.proofs.cursor.PartView.gate.Goals as goal
 

@@ -1,5 +1,5 @@
 use Rattle.sfi_image.proofs.Prelude.{◌≡◌, ◌∙◌, ◌+◌, ◌-◌, drop, refl, arith, inr, count_below, first_or}
-use Rattle.sfi_image.proofs.Stretches.{stretch_bounds, stretch_kept}
+use Rattle.sfi_image.proofs.Places.{stretch_bounds, stretch_kept}
 use Rattle.sfi_image.proofs.layout_reader.LayoutReader.stretch_length.Goals as goal
 
 pub overflow_cast-result : goal.overflow_cast-result

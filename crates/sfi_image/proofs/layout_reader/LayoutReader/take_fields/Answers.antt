@@ -1,5 +1,5 @@
 use Rattle.sfi_image.proofs.Prelude.{ap, length, refl, sym, subst, arith, List, None, Some, All, AllPairs, Span, fields, AreApart, IsBounded, IsFirstFault, field_tests, length_push}
-use Rattle.sfi_image.proofs.SpanLists.{two_pushed, two_spans}
+use Rattle.sfi_image.proofs.Tests.{two_pushed, two_spans}
 use Rattle.sfi_image.proofs.Places.{fields_next}
 use Rattle.sfi_image.proofs.Steps.{fields_leads, fields_fault, no_rest}
 use Rattle.sfi_image.proofs.layout_reader.LayoutReader.take_fields.Goals as goal
