@@ -1,16 +1,62 @@
--- A question for a table, or for a name's address, has one answer.
-use Rattle.std.proofs.Common.{◌≡◌, ◌∙◌, ℕ, List, Some, None, Option, Result, Ok, Err, IfOk, IfErr, IsOkAnd, refl, sym, ap, subst}
-use Rattle.sfi_names.specs.declared.names.Names.{Names}
+-- What is answered of a sandbox, a table or a name's address.
+use Rattle.std.proofs.Common.{◌≡◌, ◌∙◌, ℕ, List, length, Some, refl, sym, ap, arith, None, Option, Result, Ok, Err, IfOk, IfErr, IsOkAnd, subst}
+use Rattle.std.specs.Prelude.{slice_get}
+use Rattle.std.proofs.lemmas.Option.{slice_get_within}
+use Rattle.sfi_image.specs.Spelling.{Part}
+use Rattle.sfi_image.specs.Keeping.{IsSandboxOf, IsBeyond}
+use Rattle.sfi_image.proofs.Facts.{one_image, never_both}
 use Rattle.sfi_names.specs.declared.image.Missing.{Missing}
 use Rattle.sfi_names.specs.declared.image.Missing.TheVariants.{NoImage, NoSandbox, NoTable, BadTable, NoName}
+use Rattle.sfi_names.specs.Images.{IsInitOf, HasTableOf, HasNoTable, IsAnswer, of_kind}
+use Rattle.sfi_names.specs.private.{HasNoInit}
+use Rattle.sfi_names.specs.declared.names.Names.{Names}
 use Rattle.sfi_names.specs.declared.image.Kind.{Kind}
 use Rattle.sfi_names.specs.declared.fault.NamesFault.TheVariants as faults
 use Rattle.sfi_names.specs.Tables.{Table, HasTable, IsNamesOf, address_of}
 use Rattle.sfi_names.specs.Faults.{IsFault}
-use Rattle.sfi_names.specs.Images.{IsInitOf, HasTableOf, HasNoTable, IsAnswer, of_kind}
-use Rattle.sfi_names.specs.private.{HasNoInit}
 use Rattle.sfi_names.proofs.Ends.{ends_in_magic, one_table}
-use Rattle.sfi_names.proofs.Seeking.{same_init, init_not_missing, same_missing}
+
+-- ==== A sandbox of an image by its number: its first data bytes, or why there are none.
+
+one_sandbox : (bytes : List ℕ) (number : ℕ) (p q : Part) → IsSandboxOf bytes number p → IsSandboxOf bytes number q → p ≡ q
+one_sandbox bytes number p q h k =
+    let same : h.parts ≡ k.parts = one_image bytes h.parts k.parts h.image k.image in
+    let both : Some p ≡ Some q = sym h.sandbox_is ∙ ap (λ (l : List Part). slice_get l number) same ∙ k.sandbox_is in
+    cc
+
+pub same_init : (bytes : List ℕ) (number : ℕ) (x y : List ℕ) → IsInitOf bytes number x → IsInitOf bytes number y → x ≡ y
+same_init bytes number x y h k = h.init_is ∙ ap (λ (p : Part). p.init) (one_sandbox bytes number h.sandbox k.sandbox h.sandbox_is k.sandbox_is) ∙ sym k.init_is
+
+not_beyond : (bytes : List ℕ) (number : ℕ) (p : Part) → IsSandboxOf bytes number p → IsBeyond bytes number → ⊥
+not_beyond bytes number p h b =
+    let same : length h.parts ≡ length b.0 = ap length (one_image bytes h.parts b.0 h.image b.1) in
+    let within = slice_get_within h.parts number p h.sandbox_is in
+    let many = b.2 in
+    omega arith
+
+pub init_not_missing : (bytes : List ℕ) (number : ℕ) (x : List ℕ) (m : Missing) → IsInitOf bytes number x → HasNoInit bytes number m → ⊥
+init_not_missing bytes number x NoImage h f = never_both bytes h.sandbox_is.parts f.0 h.sandbox_is.image f.1
+init_not_missing bytes number x NoSandbox h b = not_beyond bytes number h.sandbox h.sandbox_is b
+init_not_missing bytes number x NoTable h f = f
+init_not_missing bytes number x BadTable h f = f
+init_not_missing bytes number x NoName h f = f
+
+pub same_missing : (bytes : List ℕ) (number : ℕ) (m n : Missing) → HasNoInit bytes number m → HasNoInit bytes number n → m ≡ n
+same_missing bytes number NoImage NoImage f g = refl
+same_missing bytes number NoImage NoSandbox f b = absurd (never_both bytes b.0 f.0 b.1 f.1)
+same_missing bytes number NoImage NoTable f g = absurd g
+same_missing bytes number NoImage BadTable f g = absurd g
+same_missing bytes number NoImage NoName f g = absurd g
+same_missing bytes number NoSandbox NoImage b f = absurd (never_both bytes b.0 f.0 b.1 f.1)
+same_missing bytes number NoSandbox NoSandbox f g = refl
+same_missing bytes number NoSandbox NoTable f g = absurd g
+same_missing bytes number NoSandbox BadTable f g = absurd g
+same_missing bytes number NoSandbox NoName f g = absurd g
+same_missing bytes number NoTable n f g = absurd f
+same_missing bytes number BadTable n f g = absurd f
+same_missing bytes number NoName n f g = absurd f
+
+-- ==== A question for a table, or for a name's address, has one answer.
 
 -- ---- of first data bytes
 
@@ -59,8 +105,8 @@ never_misses : (image : List ℕ) (number : ℕ) (t : Table) (m : Missing) → H
 never_misses image number t m h (nowhere k) = init_not_missing image number h.init m h.init_is k
 never_misses image number t m h (there y k f) = not_lacks y t m (subst (λ (z : List ℕ). HasTable z t) (same_init image number h.init y h.init_is k) h.table) f
 
-never_both : (image : List ℕ) (number : ℕ) (t : Table) (m : Missing) → HasTableOf image number t → HasNoTable image number m → ⊥
-never_both image number t m h k = never_misses image number t m h (misses image number m k)
+never_found_and_missing : (image : List ℕ) (number : ℕ) (t : Table) (m : Missing) → HasTableOf image number t → HasNoTable image number m → ⊥
+never_found_and_missing image number t m h k = never_misses image number t m h (misses image number m k)
 
 -- ---- a table
 
@@ -72,10 +118,10 @@ Lost image number r = IfErr r (λ m. HasNoTable image number m)
 
 pub only_found : (image : List ℕ) (number : ℕ) (r : Result Names Missing) → Found image number r → Lost image number r → (t : Table) → HasTableOf image number t → IsOkAnd r (λ n. IsNamesOf n t)
 only_found image number (Ok n) f l t h = subst (λ (u : Table). IsNamesOf n u) (same_table image number f.0 t f.1 h) f.2
-only_found image number (Err m) f l t h = absurd (never_both image number t m h l)
+only_found image number (Err m) f l t h = absurd (never_found_and_missing image number t m h l)
 
 pub only_missing : (image : List ℕ) (number : ℕ) (r : Result Names Missing) → Found image number r → Lost image number r → (m : Missing) → HasNoTable image number m → r ≡ Err m
-only_missing image number (Ok n) f l m h = absurd (never_both image number f.0 m f.1 h)
+only_missing image number (Ok n) f l m h = absurd (never_found_and_missing image number f.0 m f.1 h)
 only_missing image number (Err k) f l m h = ap Err (same_none image number k m l h)
 
 -- ---- an address
@@ -99,8 +145,8 @@ looks image number kind name (Err NoSandbox) h = missing NoSandbox h refl
 
 same_looks : (image : List ℕ) (number : ℕ) (kind : Kind) (name : List ℕ) (r s : Result ℕ Missing) → Looks image number kind name r → Looks image number kind name s → r ≡ s
 same_looks image number kind name r s (read t h e) (read u k f) = e ∙ ap (λ (v : Table). told (address_of name (of_kind kind v))) (same_table image number t u h k) ∙ sym f
-same_looks image number kind name r s (read t h e) (missing m k f) = absurd (never_both image number t m h k)
-same_looks image number kind name r s (missing m h e) (read u k f) = absurd (never_both image number u m k h)
+same_looks image number kind name r s (read t h e) (missing m k f) = absurd (never_found_and_missing image number t m h k)
+same_looks image number kind name r s (missing m h e) (read u k f) = absurd (never_found_and_missing image number u m k h)
 same_looks image number kind name r s (missing m h e) (missing n k f) = e ∙ ap Err (same_none image number m n h k) ∙ sym f
 
 pub one_answer : (image : List ℕ) (number : ℕ) (kind : Kind) (name : List ℕ) (r s : Result ℕ Missing) → IsAnswer image number kind name r → IsAnswer image number kind name s → r ≡ s

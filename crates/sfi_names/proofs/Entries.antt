@@ -1,15 +1,19 @@
--- What is spelled by entries is determined by the bytes.
-use Rattle.std.proofs.Common.{◌≡◌, ℕ, ◌+◌, ◌<◌, ◌≤◌, List, [], ◌∷◌, ◌++◌, length, get_or, take, drop, refl, sym, ap, subst, ◌∙◌, arith, append_assoc, inl, inr}
+-- The entries of a table: as bytes, as they are sought, and as they are written.
+use Rattle.std.proofs.Common.{◌≡◌, ℕ, ◌+◌, ◌<◌, ◌≤◌, List, [], ◌∷◌, ◌++◌, length, get_or, take, drop, refl, sym, ap, subst, ◌∙◌, arith, append_assoc, inl, inr, cond, Bool, true, false, Some, None}
 use Rattle.std.specs.List.{All, between}
 use Rattle.std.proofs.lemmas.Slice.{first_rest}
 use Rattle.std.proofs.lemmas.List.{length-append, append-nil, take-append-drop}
-use Rattle.std.proofs.lemmas.List.Elements.{All-nil, All-push}
+use Rattle.std.proofs.lemmas.List.Elements.{All-nil, All-push, All-head, All-tail}
 use Rattle.std.proofs.lemmas.Grind.{flat_map-append}
 use Rattle.sfi_image.specs.Spelling.{IsWord}
 unfoldable use Rattle.sfi_image.specs.Spelling.{number}
 use Rattle.sfi_image.proofs.Fronts.{same_front, same_number, fronts}
-use Rattle.sfi_names.specs.Tables.{Named, entries, IsNamed, IsName}
-unfoldable use Rattle.sfi_names.specs.Tables.{entry}
+use Rattle.sfi_names.specs.Tables.{Named, entries, IsNamed, IsName, address_of, Table, magic}
+unfoldable use Rattle.sfi_names.specs.Tables.{entry, footer, spelling}
+use Rattle.std.specs.Str.{bytes_eq}
+use Rattle.sfi_names.specs.Laws.{FollowsFirst, OneFirst}
+
+-- ==== What is spelled by entries is determined by the bytes.
 
 -- two ends of one length are the same end
 pub same_end : (xs ys : List ℕ) (a b : List ℕ) → length a ≡ length b → xs ++ a ≡ ys ++ b → (xs ≡ ys) × (a ≡ b)
@@ -118,3 +122,80 @@ stuck bytes rest h some none all =
       | inr (inl on) ↦ none on.0 on.2 on.3 on.5
       | inr (inr on) ↦ omega (arith, ap length on.5, length-entry on.0 on.2)
     ]
+
+-- ==== A name is sought, one entry after another.
+
+-- of entries that are all of the bytes these are left, and the name stands for what it stands for in these
+pub record IsLeft (rest name : List ℕ) (es : List Named) : Type 0 where
+  pub left : List Named
+  pub named : All IsNamed left
+  pub rest_is : rest ≡ entries left
+  pub same : address_of name es ≡ address_of name left
+
+abbrev pub StillToFind : List ℕ → List ℕ → List ℕ → Type 0
+StillToFind bytes rest name = (es : List Named) → All IsNamed es → bytes ≡ entries es → IsLeft rest name es
+
+pub all_left : (bytes name : List ℕ) → StillToFind bytes bytes name
+all_left bytes name es fits e = record { left = es; named = fits; rest_is = e; same = refl }
+
+pub one_first : OneFirst
+one_first [] e rest all fits g = absurd (omega (arith, ap length g, length-entry e rest))
+one_first (x ∷ xs) e rest all fits g =
+    let both = same_entry e x rest (entries xs) fits (All-head IsNamed x xs all) (sym g) in
+    record {
+      others = xs;
+      named = All-tail IsNamed x xs all;
+      all = ap (λ (y : Named). y ∷ xs) (sym both.0);
+      rest_is = both.1;
+    }
+
+-- the entry that begins what is left is the first of what is left
+module _ (rest name : List ℕ) (e : Named) (more : List ℕ) (fits : IsNamed e) (g : rest ≡ entry e ++ more) where
+  first : (left : List Named) → All IsNamed left → rest ≡ entries left → FollowsFirst left e more
+  first left all r = one_first left e more all fits (sym r ∙ g)
+
+  -- it isn't the one
+  pub passed : (es : List Named) → bytes_eq e.name name ≡ false → IsLeft rest name es → IsLeft more name es
+  passed es other h =
+      let f = first h.left h.named h.rest_is in
+      record {
+        left = f.others;
+        named = f.named;
+        rest_is = f.rest_is;
+        same = h.same ∙ ap (address_of name) f.all ∙ ap (λ (b : Bool). cond b (Some e.address) (address_of name f.others)) other;
+      }
+
+  -- it is
+  pub found : (es : List Named) → bytes_eq e.name name ≡ true → IsLeft rest name es → Some e.address ≡ address_of name es
+  found es same h =
+      let f = first h.left h.named h.rest_is in
+      sym (h.same ∙ ap (address_of name) f.all ∙ ap (λ (b : Bool). cond b (Some e.address) (address_of name f.others)) same)
+
+-- where no entry begins what is left, nothing is
+pub not_found : (rest name : List ℕ) (es : List Named) → BeginsNone rest → IsLeft rest name es → None ≡ address_of name es
+not_found rest name es none h = ends h.left h.named h.rest_is h.same
+  where
+    ends : (left : List Named) → All IsNamed left → rest ≡ entries left → address_of name es ≡ address_of name left → None ≡ address_of name es
+    ends [] all r same = sym same
+    ends (x ∷ xs) all r same = absurd (none x (entries xs) (All-head IsNamed x xs all) r)
+
+-- ==== What is written piece by piece is a table's bytes.
+
+regrouped : (x y z m : List ℕ) → (x ++ (y ++ z)) ++ m ≡ x ++ (y ++ (z ++ m))
+regrouped x y z m = append_assoc x (y ++ z) m ∙ ap (λ (t : List ℕ). x ++ t) (append_assoc y z m)
+
+in_order : (o e i x y z m : List ℕ) → (((((o ++ e) ++ i) ++ x) ++ y) ++ z) ++ m ≡ o ++ (e ++ (i ++ ((x ++ (y ++ z)) ++ m)))
+in_order o e i x y z m =
+    append_assoc ((((o ++ e) ++ i) ++ x) ++ y) z m
+    ∙ append_assoc (((o ++ e) ++ i) ++ x) y (z ++ m)
+    ∙ append_assoc ((o ++ e) ++ i) x (y ++ (z ++ m))
+    ∙ append_assoc (o ++ e) i (x ++ (y ++ (z ++ m)))
+    ∙ append_assoc o e (i ++ (x ++ (y ++ (z ++ m))))
+    ∙ ap (λ (t : List ℕ). o ++ (e ++ (i ++ t))) (sym (regrouped x y z m))
+
+pub written : (old a b c d e f exports imports : List ℕ) (version : ℕ) (t : Table)
+    → a ≡ old ++ exports → b ≡ a ++ imports → c ≡ b ++ number version → d ≡ c ++ number (length exports) → e ≡ d ++ number (length imports) → f ≡ e ++ magic
+    → version ≡ t.version → exports ≡ entries t.exports → imports ≡ entries t.imports → f ≡ old ++ spelling t
+unfolding footer spelling
+written old a b c d e f exports imports version t h1 h2 h3 h4 h5 h6 v x i =
+    rw (h6, h5, h4, h3, h2, h1, v, x, i) (in_order old (entries t.exports) (entries t.imports) (number t.version) (number (length (entries t.exports))) (number (length (entries t.imports))) magic)

@@ -1,7 +1,7 @@
 -- What holds of tables: laws, for proofs in the crates above.
 use Rattle.sfi_names.specs.Laws.{OneTable, OneFirst}
 use Rattle.sfi_names.proofs.Ends as ends
-use Rattle.sfi_names.proofs.Lookups as lookups
+use Rattle.sfi_names.proofs.Entries as lookups
 
 pub one_table : OneTable
 one_table = ends.one_table

@@ -1,7 +1,4 @@
-pub mod Entries
-pub mod Lookups
 pub mod Ends
-pub mod Seeking
 pub mod Answering
-pub mod Writing
+pub mod Entries
 pub mod Facts

@@ -1,6 +1,6 @@
 use Rattle.std.proofs.Common.{◌∙◌, sym}
 use Rattle.sfi_names.specs.Tables.{named}
-use Rattle.sfi_names.proofs.Lookups.{passed, found, not_found}
+use Rattle.sfi_names.proofs.Entries.{passed, found, not_found}
 use Rattle.sfi_names.proofs.entry.address_named.Goals as goal
 
 pub returns-then-eq : goal.returns-then-eq

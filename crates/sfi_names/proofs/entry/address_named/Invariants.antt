@@ -1,5 +1,5 @@
 use Rattle.std.proofs.Common.{length}
-use Rattle.sfi_names.proofs.Lookups.{StillToFind}
+use Rattle.sfi_names.proofs.Entries.{StillToFind}
 use Rattle.sfi_names.proofs.entry.address_named.Given as goal
 
 abbrev pub invariant-loop-entry : goal.invariant-loop-entry

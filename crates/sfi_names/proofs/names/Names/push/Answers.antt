@@ -1,5 +1,5 @@
 use Rattle.std.proofs.Common.{rules}
-use Rattle.sfi_names.proofs.Writing.{written}
+use Rattle.sfi_names.proofs.Entries.{written}
 use Rattle.sfi_names.proofs.names.Names.push.Goals as goal
 
 pub returns : goal.returns
