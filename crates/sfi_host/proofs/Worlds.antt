@@ -5,8 +5,7 @@ use Rattle.sfi_formats.specs.Formats.{unit, has_words}
 use Rattle.sfi_image.specs.Parts.{IsBundleStart}
 use Rattle.sfi_image.specs.Spelling.{data_region}
 use Rattle.sfi_safe_runs.specs.Runs.{IsUnitStart, HasReserved, IsTyped}
-use Rattle.sfi_safe_runs.proofs.Entries.{zero_words, some_unit, typed_when}
-use Rattle.sfi_safe_runs.proofs.Formats.{words, of_bundle}
+use Rattle.sfi_safe_runs.proofs.Entries.{zero_words, some_unit, typed_when, words, of_bundle}
 use Rattle.sfi_host.specs.Loading.{with_typed}
 use Rattle.sfi_image.proofs.Facts.{code_ends}
 use Rattle.sfi_host.proofs.SafeSeats.{ready_safe}

@@ -1,13 +1,169 @@
--- A sandbox with a right layout has an entry at each unit of its code.
-use Rattle.std.specs.Prelude.{replicate}
-use Rattle.sfi_safe_runs.proofs.Prelude.{◌≡◌, ◌⊎◌, inl, inr, ⊎_elim, ◌==◌, ◌||◌, or_cases, eqb-true, true, ℕ, suc, ◌+◌, ◌-◌, ◌%◌, ◌^◌, ◌<◌, ◌≤◌, List, length, refl, subst, sym, arith, slice_index, Hart, IsHart, Part, IsRightPart, IsUnitStart, HasReserved, IsTyped, with_register, Format, Sfi1, Sfi2, Sfiw, unit, has_words, InData, IsNear, IsWordStart}
-use Rattle.rv_step.proofs.States.{register_is}
-use Rattle.sfi_formats.specs.Formats.{is_data_register}
+-- Where sandboxes are entered: what the formats ask, and that a right layout has it.
+use Rattle.sfi_formats.specs.Formats.{has_stack, is_data_register}
+use Rattle.sfi_image.specs.Parts.{IsBundleStart, reserved_for}
+use Rattle.sfi_image.specs.Spelling.{data_region}
+use Rattle.sfi_safe_runs.specs.Runs.{StackInData, AreWordsTyped}
+use Rattle.sfi_safe_runs.specs.Laws.{BundlesAskTheSame, WordsAsk, FirstFormatAsksNoStack, HasEntries}
+use Rattle.std.specs.Cmp.{nat_cmp_total, unsigned_tied}
+use Rattle.std.specs.FinMap.{empty, get-empty, insert, get-insert}
+use Rattle.std.specs.Ordering.{nat_cmp}
 use Rattle.sfi_image.proofs.Facts.{code_ends}
+use Rattle.std.specs.Prelude.{replicate}
+use Rattle.rv_step.proofs.States.{register_is}
 use Rattle.sfi_formats.specs.Limits.{slack}
-use Rattle.sfi_safe_runs.specs.Laws.{HasEntries}
-use Rattle.sfi_safe_runs.proofs.Formats.{to_word}
-use Rattle.sfi_safe_runs.proofs.Entering.{entered}
+use Rattle.sfi_safe_runs.proofs.Prelude.{◌≡◌, ℕ, ◌%◌, List, true, false, refl, sym, ap, ◌∙◌, false≢true, Part, IsUnitStart, IsTyped, Format, Sfi1, Sfi2, Sfiw, ◌≢◌, zero, suc, ◌+◌, ◌-◌, ◌^◌, ◌<◌, ◌≤◌, ◌==◌, ◌⊎◌, Bool, cond, [], ◌∷◌, length, Option, Some, None, inl, inr, ⊎_elim, cases_lt, subst, arith, slice_index, Bytes, IsMemory, byte_at, AreApart, code_region, guarded_region, IsRightPart, Hart, IsHart, InGuard, HasReserved, IsEntry, CanBeEntered, ◌||◌, or_cases, eqb-true, with_register, unit, has_words, InData, IsNear, IsWordStart}
+
+-- ==== What the formats ask.
+
+-- code that isn't in words is in bundles
+pub bundles : (f : Format) → has_words f ≡ false → unit f ≡ 16
+bundles Sfi1 none = refl
+bundles Sfi2 none = refl
+bundles Sfiw none = absurd (false≢true (sym none))
+
+-- that in words is in words of 4 bytes, and has no stack pointer
+pub words : (f : Format) → has_words f ≡ true → unit f ≡ 4
+words Sfi1 has = absurd (false≢true has)
+words Sfi2 has = absurd (false≢true has)
+words Sfiw has = refl
+
+no_stack : (f : Format) → has_words f ≡ true → has_stack f ≡ true → ⊥
+no_stack Sfi1 has stack = false≢true has
+no_stack Sfi2 has stack = false≢true has
+no_stack Sfiw has stack = false≢true stack
+
+pub to_word : (p : Part) (a : ℕ) → has_words p.format ≡ true → IsUnitStart p a → IsWordStart p a
+to_word p a has start = record { held = start.held; aligned = ap (λ (u : ℕ). a % u) (sym (words p.format has)) ∙ start.aligned }
+
+pub of_word : (p : Part) (a : ℕ) → has_words p.format ≡ true → IsWordStart p a → IsUnitStart p a
+of_word p a has start = record { held = start.held; aligned = ap (λ (u : ℕ). a % u) (words p.format has) ∙ start.aligned }
+
+pub of_words_typed : (p : Part) (registers : List ℕ) → has_words p.format ≡ true → AreWordsTyped p registers → IsTyped p registers
+of_words_typed p registers has typed = record { stack = λ stack. absurd (no_stack p.format has stack); words = λ _. typed }
+
+pub to_bundle : (p : Part) (a : ℕ) → has_words p.format ≡ false → IsUnitStart p a → IsBundleStart (code_region p) a
+to_bundle p a none start = record { held = start.held; aligned = ap (λ (u : ℕ). a % u) (sym (bundles p.format none)) ∙ start.aligned }
+
+pub of_bundle : (p : Part) (a : ℕ) → has_words p.format ≡ false → IsBundleStart (code_region p) a → IsUnitStart p a
+of_bundle p a none start = record { held = start.held; aligned = ap (λ (u : ℕ). a % u) (bundles p.format none) ∙ start.aligned }
+
+pub of_stack : (p : Part) (registers : List ℕ) → has_words p.format ≡ false → StackInData p registers → IsTyped p registers
+of_stack p registers none stack = record { stack = stack; words = λ has. absurd (false≢true (sym none ∙ has)) }
+
+pub bundles_ask : BundlesAskTheSame
+bundles_ask p none = (
+  λ a. (to_bundle p a none, of_bundle p a none),
+  ap (λ (u : ℕ). reserved_for u (code_region p) (data_region p)) (bundles p.format none),
+  λ registers. (λ typed. typed.stack, of_stack p registers none),
+)
+
+pub words_asks : WordsAsk
+words_asks p has = (
+  λ a. (to_word p a has, of_word p a has),
+  ap (λ (u : ℕ). reserved_for u (code_region p) (data_region p)) (words p.format has),
+  λ registers. (λ typed. typed.words has, of_words_typed p registers has),
+)
+
+pub first_asks : FirstFormatAsksNoStack
+first_asks p registers first = of_stack p registers (ap has_words first) (λ has. absurd (false≢true (sym (ap has_stack first) ∙ has)))
+
+-- ==== A sandbox with a right layout can be entered.
+
+-- a memory with these bytes from an address on
+pub bytes_over : Bytes → ℕ → List ℕ → Bytes
+bytes_over m at [] = m
+bytes_over m at (b ∷ bs) = insert (bytes_over m (at + 1) bs) at b
+
+inserted : (m : Bytes) (a b q : ℕ) → byte_at (insert m a b) q ≡ cond (q == a) (Some b) (byte_at m q)
+inserted m a b q = get-insert nat_cmp_total m a b q ∙ ap (λ (t : Bool). cond t (Some b) (byte_at m q)) (unsigned_tied q a)
+
+pub inserted_here : (m : Bytes) (a b q : ℕ) → q ≡ a → byte_at (insert m a b) q ≡ Some b
+inserted_here m a b q e = inserted m a b q ∙ (let t : (q == a) ≡ true = grind arith in ap (λ (t : Bool). cond t (Some b) (byte_at m q)) t)
+
+pub inserted_elsewhere : (m : Bytes) (a b q : ℕ) → q ≢ a → byte_at (insert m a b) q ≡ byte_at m q
+inserted_elsewhere m a b q ne = inserted m a b q ∙ (let t : (q == a) ≡ false = grind arith in ap (λ (t : Bool). cond t (Some b) (byte_at m q)) t)
+
+-- they are there
+pub there : (m : Bytes) (at : ℕ) (bs : List ℕ) (k : ℕ) → k < length bs → byte_at (bytes_over m at bs) (at + k) ≡ Some (slice_index bs k)
+unfolding bytes_over
+there m at [] k below = absurd (omega arith)
+there m at (b ∷ bs) zero below = inserted_here (bytes_over m (at + 1) bs) at b (at + 0) (omega arith)
+there m at (b ∷ bs) (suc k) below =
+    let e : at + suc k ≡ at + 1 + k = omega arith in
+    inserted_elsewhere (bytes_over m (at + 1) bs) at b (at + suc k) (λ same. omega arith)
+    ∙ ap (byte_at (bytes_over m (at + 1) bs)) e ∙ there m (at + 1) bs k (omega arith)
+
+-- and elsewhere is what was
+pub elsewhere : (m : Bytes) (at : ℕ) (bs : List ℕ) (q : ℕ) → (q < at) ⊎ (at + length bs ≤ q) → byte_at (bytes_over m at bs) q ≡ byte_at m q
+unfolding bytes_over
+elsewhere m at [] q out = refl
+elsewhere m at (b ∷ bs) q (inl less) = inserted_elsewhere (bytes_over m (at + 1) bs) at b q (λ same. omega arith) ∙ elsewhere m (at + 1) bs q (inl (omega arith))
+elsewhere m at (b ∷ bs) q (inr more) = inserted_elsewhere (bytes_over m (at + 1) bs) at b q (λ same. omega arith) ∙ elsewhere m (at + 1) bs q (inr (omega arith))
+
+one_of : (P : ℕ → ℕ → Type 0) (q a b c : ℕ) (t : Bool) (o : Option ℕ) → (t ≡ true → q ≡ a) → P a b → ((d : ℕ) → o ≡ Some d → P q d) → cond t (Some b) o ≡ Some c → P q c
+one_of P q a b c true o at here others e =
+    let same : b ≡ c = cc in
+    subst (λ (x : ℕ). P x c) (sym (at refl)) (subst (λ (x : ℕ). P a x) same here)
+one_of P q a b c false o at here others e = others c e
+
+pub insert_is : (m : Bytes) (a b : ℕ) → IsMemory m → a < 2 ^ 32 → b < 256 → IsMemory (insert m a b)
+insert_is m a b is f g = record {
+  addresses = λ q c e. one_of (λ x y. x < 2 ^ 32) q a b c (q == a) (byte_at m q) (λ t. grind arith) f (is.addresses q) (sym (inserted m a b q) ∙ e);
+  bytes = λ q c e. one_of (λ x y. y < 256) q a b c (q == a) (byte_at m q) (λ t. grind arith) g (is.bytes q) (sym (inserted m a b q) ∙ e);
+}
+
+bytes_are : (at : ℕ) (bs : List ℕ) → at + length bs ≤ 2 ^ 32 → ((k : ℕ) → slice_index bs k < 256) → IsMemory (bytes_over empty at bs)
+unfolding bytes_over
+bytes_are at [] fits small = record {
+  addresses = λ a b e. absurd (let none : None ≡ Some b = sym (get-empty nat_cmp a) ∙ e in cc);
+  bytes = λ a b e. absurd (let none : None ≡ Some b = sym (get-empty nat_cmp a) ∙ e in cc);
+}
+bytes_are at (b ∷ bs) fits small = insert_is (bytes_over empty (at + 1) bs) at b (bytes_are (at + 1) bs (omega arith) (λ k. small (suc k))) (omega arith) (small 0)
+
+-- an address is in a guard or in the code, not in both
+outside : (p : Part) (a : ℕ) → IsRightPart p → AreApart (code_region p) (guarded_region p) → InGuard p a → (a < p.code_base) ⊎ (p.code_base + length p.code ≤ a)
+outside p a right apart guard = by_order guard
+  where
+    room : 4096 ≤ p.data_base
+    room = right.guard_room.below
+
+    not_in : p.data_base - 4096 ≤ a → a < p.data_base + p.data_size + 4096 → (a < p.code_base) ⊎ (p.code_base + length p.code ≤ a)
+    not_in low high =
+        let room' = room in
+        ⊎_elim
+        (λ (less : a < p.code_base). inl less)
+        (λ (more : p.code_base ≤ a). ⊎_elim
+        (λ (less : a < p.code_base + length p.code). absurd (apart a (more, less) (low, omega arith)))
+        (λ (past : p.code_base + length p.code ≤ a). inr past)
+        (cases_lt a (p.code_base + length p.code)))
+        (cases_lt a p.code_base)
+
+    by_order : InGuard p a → (a < p.code_base) ⊎ (p.code_base + length p.code ≤ a)
+    by_order (inl (from, below)) = let room' = room in not_in from (omega arith)
+    by_order (inr (from, below)) = not_in (omega arith) below
+
+-- where the code is known to end within the addresses
+pub entered_at : (p : Part) → p.code_base + length p.code ≤ 2 ^ 32 → (h : Hart) → IsRightPart p → AreApart (code_region p) (guarded_region p) → ((k : ℕ) → slice_index p.code k < 256)
+    → IsHart h → IsUnitStart p h.pc → HasReserved p h.registers → IsTyped p h.registers → (m : Bytes) × IsEntry p (record { hart = h; memory = m })
+entered_at p end h right apart small hart start reserved typed = (
+  bytes_over empty p.code_base p.code,
+  record {
+    state = record {
+      hart = hart;
+      memory = bytes_are p.code_base p.code end small;
+    };
+    start = start;
+    reserved = reserved;
+    typed = typed;
+    code = there empty p.code_base p.code;
+    guards = λ a guard. elsewhere empty p.code_base p.code a (outside p a right apart guard) ∙ get-empty nat_cmp a;
+  },
+)
+
+pub entered : CanBeEntered
+entered p h right = entered_at p (code_ends p right) h right
+
+-- ==== A sandbox with a right layout has an entry at each unit of its code.
 
 pub zero_words : (n r : ℕ) → slice_index (replicate n 0) r < 2 ^ 32
 zero_words (suc n) (suc r) = zero_words n r

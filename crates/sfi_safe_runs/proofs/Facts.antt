@@ -1,9 +1,7 @@
 -- What holds of runs, whatever the rules: laws, and further lemmas, for proofs here and in the crates above.
 use Rattle.sfi_safe_runs.specs.Laws.{SafeTurns, SafeStaysSafe, SafeFetches, GoesOnSafely, CanBeEntered, HasEntries, BundlesAskTheSame, WordsAsk, FirstFormatAsksNoStack}
-use Rattle.sfi_safe_runs.proofs.Entering.{entered}
-use Rattle.sfi_safe_runs.proofs.Entries.{entries}
-use Rattle.sfi_safe_runs.proofs.Formats.{bundles_ask, words_asks, first_asks}
-use Rattle.sfi_safe_runs.proofs.Safe.{turns_safe, stays_safe, fetches, goes_on}
+use Rattle.sfi_safe_runs.proofs.Entries.{entered, entries, bundles_ask, words_asks, first_asks}
+use Rattle.sfi_safe_runs.proofs.SafeRuns.{turns_safe, stays_safe, fetches, goes_on}
 
 pub safe_turns : SafeTurns
 safe_turns = turns_safe

@@ -1,11 +1,6 @@
 pub mod Prelude
-pub mod Accessing
-pub mod Entering
 pub mod Entries
-pub mod Formats
-pub mod Masks
-pub mod Safe
+pub mod Accessing
 pub mod Stepping
-pub mod Standing
-pub mod Turning
+pub mod SafeRuns
 pub mod Facts

@@ -9,9 +9,8 @@ use Rattle.sfi_image.proofs.Facts.{code_ends}
 use Rattle.sfi_safe_runs.specs.Safety.{KeepsAll, IsTrap, IsSafeTurn}
 use Rattle.sfi_safe_runs.specs.Runs.{KeepsReserved}
 use Rattle.sfi_safe_runs.specs.Direct.{IsDirect, IsInBoard, HasEcall, HasCodeButBoards, KeepsButBoards, IsDirectEntry, IsDirectReply, IsDirectChange, IsDirectTurn, IsDirectRun, IsDirectState, IsDirectSafeRun, RunsDirectly, IsCalling, CallsTypedDirectly}
-use Rattle.sfi_safe_runs.proofs.Entering.{bytes_over, there, elsewhere}
-use Rattle.sfi_safe_runs.proofs.Standing.{stands_there}
-use Rattle.sfi_safe_runs.proofs.Stepping.{guarded}
+use Rattle.sfi_safe_runs.proofs.Entries.{bytes_over, there, elsewhere}
+use Rattle.sfi_safe_runs.proofs.Stepping.{stands_there, guarded}
 use Rattle.sfi_word_safety.proofs.Places.{bundles_whole}
 
 -- ---- units of code

@@ -2,8 +2,8 @@
 use Rattle.sfi_safety.proofs.Prelude.{◌≡◌, ℕ, ◌+◌, ◌*◌, ◌%◌, ◌≤◌, ◌⊎◌, List, length, sym, ap, ◌∙◌, subst, inl, inr, arith, Instr, Ecall, address_after, Outcome, Next, State, Stepped, Stands, IsStep, unit, Part, IsUnitStart, IsTyped, KeepsBytes, AreCleanBundles, IsGood}
 use Rattle.sfi_safe_runs.specs.Direct.{RunsDirectly, CallsTypedDirectly}
 use Rattle.sfi_safe_runs.specs.Runs.{KeepsReserved}
-use Rattle.sfi_safe_runs.proofs.Turning.{kept_after}
-use Rattle.sfi_safe_runs.proofs.Formats.{bundles, to_bundle, of_bundle}
+use Rattle.sfi_safe_runs.proofs.SafeRuns.{kept_after}
+use Rattle.sfi_safe_runs.proofs.Entries.{bundles, to_bundle, of_bundle}
 use Rattle.sfi_word_safety.proofs.Places.{bundles_whole}
 use Rattle.sfi_safety.proofs.Direct.{runs_and_calls}
 use Rattle.sfi_safety.proofs.Effects.{GoesTo, Leads}

@@ -2,8 +2,8 @@
 use Rattle.sfi_safety.proofs.Prelude.{◌≡◌, ℕ, ◌+◌, ◌%◌, ◌≤◌, ◌⊎◌, sym, ap, ◌∙◌, subst, inl, inr, ⊎_elim, arith, List, length, drop, Instr, Outcome, Next, address_after, State, Stepped, Stands, IsStep, unit, Part, IsUnitStart, IsTyped, KeepsBytes, Ecall}
 use Rattle.sfi_safe_runs.specs.Direct.{RunsDirectly, CallsTypedDirectly}
 use Rattle.sfi_safe_runs.specs.Runs.{KeepsReserved}
-use Rattle.sfi_safe_runs.proofs.Turning.{kept_after}
-use Rattle.sfi_safe_runs.proofs.Formats.{words, to_word, of_word}
+use Rattle.sfi_safe_runs.proofs.SafeRuns.{kept_after}
+use Rattle.sfi_safe_runs.proofs.Entries.{words, to_word, of_word}
 use Rattle.sfi_word_safety.specs.Code.{IsCleanInWords, IsGoodInWords}
 use Rattle.sfi_word_safety.proofs.Effects.{Leads}
 use Rattle.sfi_word_safety.proofs.Facts.{turn_keeps}

@@ -3,7 +3,7 @@ use Rattle.sfi_safety.proofs.Prelude.{◌≡◌, ℕ, ◌+◌, ◌⊎◌, List, 
 use Rattle.std.specs.Prelude.{IfSome}
 use Rattle.rv_comp.specs.declared.front.Front.TheVariants.{Read}
 use Rattle.rv_step.proofs.Facts.{stopped_stays, step_is_effect, other_bytes_stay}
-use Rattle.sfi_safe_runs.proofs.Formats.{to_bundle}
+use Rattle.sfi_safe_runs.proofs.Entries.{to_bundle}
 use Rattle.sfi_safe_runs.proofs.Stepping.{guarded}
 use Rattle.sfi_safe_runs.specs.Padded.{KeepsCode, IsPaddedEntry, IsPaddedReply, IsPaddedChange, IsPaddedTurn, IsPaddedRun, IsContainedStep, IsContainedTurn, IsContainedRun, RunsContained, CallsTypedPadded}
 use Rattle.sfi_safety.proofs.Effects.{Leads, leads}

@@ -2,9 +2,8 @@
 use Rattle.sfi_safety.proofs.Prelude.{◌≡◌, ◌≢◌, ℕ, ◌-◌, ◌<◌, List, [], ◌∷◌, length, true, not, ◌&&◌, ◌==◌, sym, ap, ◌∙◌, subst, arith, slice_index, and_parts, and_from, not-true, false≢true, eqb-false, And, Or, Instr, Op, InRange, code_most, Hart, register, result_of, Part, code_region, IsBundleStart, InData, Leaves, follows_mask, WritesResult, InstructionLeaves, RegOp, is_masking, is_placing, is_reserved}
 use Rattle.sfi_rules.specs.Readings.{follows_pair}
 use Rattle.std.specs.Prelude.{bit_and, bit_or}
-use Rattle.sfi_safe_runs.proofs.Formats.{bundles as bundle_unit}
-use Rattle.sfi_safe_runs.proofs.Accessing.{written}
-use Rattle.sfi_safe_runs.proofs.Masks.{masked_data, masked_code}
+use Rattle.sfi_safe_runs.proofs.Entries.{bundles as bundle_unit}
+use Rattle.sfi_safe_runs.proofs.Accessing.{written, masked_data, masked_code}
 use Rattle.sfi_pairs.proofs.Facts.{masking_is, placing_is}
 
 -- ---- the two instructions of a pair

@@ -3,7 +3,7 @@ use Rattle.sfi_safety.proofs.Prelude.{◌≡◌, ℕ, zero, suc, ◌+◌, ◌-�
 use Rattle.sfi_rules.proofs.Readings.{spelled_within}
 use Rattle.std.proofs.lemmas.List.{take-take, drop-take, drop-drop}
 use Rattle.sfi_safety.proofs.PairResult.{leaves_nothing}
-use Rattle.sfi_safe_runs.proofs.Standing.{pc_within, stands_there, state_safe}
+use Rattle.sfi_safe_runs.proofs.Stepping.{pc_within, stands_there, state_safe}
 use Rattle.sfi_image.proofs.Facts.{whole_bundles}
 
 -- ---- a bundle without a finding

@@ -4,7 +4,7 @@ use Rattle.sfi_safety.specs.Samples.{Sample, sandbox, sandboxed_store}
 use Rattle.std.specs.FinMap.{insert}
 use Rattle.rv_step.specs.declared.outcome.Cause.TheVariants as cause
 use Rattle.sfi_image.specs.Spelling as image
-use Rattle.sfi_safe_runs.proofs.Entering.{inserted_here, inserted_elsewhere}
+use Rattle.sfi_safe_runs.proofs.Entries.{inserted_here, inserted_elsewhere}
 use Rattle.rv_comp.proofs.Facts.{word_spells}
 use Rattle.sfi_safety.proofs.Readings.{IsSpelled, op_spelled, store_spelled, ebreak_spelled, code_findings}
 use Rattle.sfi_safety.proofs.Samples.{IsSample, without_gates, size, right_layout, hart, first, enters, step_at}

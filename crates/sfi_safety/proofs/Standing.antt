@@ -7,7 +7,7 @@ use Rattle.sfi_safety.proofs.PairResult.{leaves_after}
 use Rattle.sfi_safety.proofs.Stacking.{is_of_pair, stack_here, stack_lies}
 use Rattle.rv_comp.proofs.Facts.{spelled_in_range, ecall_is_wide}
 use Rattle.rv_step.proofs.Facts.{one_instruction}
-use Rattle.sfi_safe_runs.proofs.Formats.{of_stack}
+use Rattle.sfi_safe_runs.proofs.Entries.{of_stack}
 use Rattle.sfi_safe_runs.proofs.Stepping.{gate_of}
 use Rattle.sfi_image.proofs.Facts.{code_ends}
 use Rattle.sfi_rules.proofs.Facts.{same_bundle_starts}

@@ -7,7 +7,7 @@ use Rattle.sfi_safety.proofs.Samples.{IsSample, without_gates, size, refused, st
 use Rattle.sfi_safety.proofs.Undecodable.{ones_begin_nothing}
 use Rattle.sfi_safety.proofs.Needed.{nop_spelled, short_nop, half_begins_nothing}
 use Rattle.rv_step.proofs.Facts.{one_instruction, step_is_effect}
-use Rattle.sfi_safe_runs.proofs.Formats.{to_bundle}
+use Rattle.sfi_safe_runs.proofs.Entries.{to_bundle}
 
 -- an ebreak stands at that offset of the code
 abbrev StopsAt : Sample → ℕ → Type 0

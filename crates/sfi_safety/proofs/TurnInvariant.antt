@@ -1,7 +1,7 @@
 -- Each turn keeps a good state, and so does each run.
 use Rattle.sfi_safety.proofs.Prelude.{ℕ, Ecall, State, Stands, Part, IsReply, IsChange, Turn, Steps, Replies, Changes, IsTurn, after_turn, RunsSafely, IsTyped, AreCleanBundles, IsGood, IsGoodIf, EntryIsGood, TurnKeeps, CallsTyped}
-use Rattle.sfi_safe_runs.proofs.Formats.{to_bundle}
-use Rattle.sfi_safe_runs.proofs.Turning.{entry_keeps, reply_keeps, change_keeps, turn_safe, runs_safely, calls_typed}
+use Rattle.sfi_safe_runs.proofs.Entries.{to_bundle}
+use Rattle.sfi_safe_runs.proofs.SafeRuns.{entry_keeps, reply_keeps, change_keeps, turn_safe, runs_safely, calls_typed}
 use Rattle.sfi_safety.proofs.Places.{at_start, safe_here}
 use Rattle.sfi_safety.proofs.Standing.{place_replied, place_unchanged, typed_at_ecall}
 use Rattle.sfi_safety.proofs.Stepping.{step_good, step_safe}

@@ -1,8 +1,7 @@
 -- Where the samples in words are entered.
 use Rattle.sfi_safety.proofs.Prelude.{◌≡◌, ℕ, ◌+◌, ◌-◌, ◌*◌, ◌%◌, ◌^◌, ◌<◌, [], ◌∷◌, ◌++◌, length, replicate, true, refl, sym, ap, ◌∙◌, arith, has_words, Bytes, Hart, IsHart, IsEntry, HasReserved, IsUnitStart, IsTyped, AreFindings, IsNeeded, BreaksNoOther, HasUnsafeRun, unit, Rule, Sample, sandbox}
 use Rattle.sfi_safe_runs.specs.Runs.{IsNear, IsWordStart}
-use Rattle.sfi_safe_runs.proofs.Formats.{words as word_unit, of_word, of_words_typed}
-use Rattle.sfi_safe_runs.proofs.Entries.{each_near}
+use Rattle.sfi_safe_runs.proofs.Entries.{words as word_unit, of_word, of_words_typed, each_near}
 use Rattle.sfi_safety.proofs.Samples.{IsSample, size, each_below, enters_with, needed_from}
 
 -- x1 and x10 are 240, x3, x4 and x29 point to the data, the reserved registers but x26 have their values, and all others but x2, x30 and x31 are 0

@@ -16,7 +16,7 @@ use Rattle.sfi_rules.specs.Readings.{Piece, IsReading}
 use Rattle.sfi_rules.proofs.Readings.{spelled_within}
 use Rattle.sfi_report.specs.Listing.{unit_bytes}
 use Rattle.sfi_safe_runs.specs.Runs.{HasCode}
-use Rattle.sfi_safe_runs.proofs.Standing.{stands_there}
+use Rattle.sfi_safe_runs.proofs.Stepping.{stands_there}
 use Rattle.sfi_translate.specs.Machine.{IsLine, bytes_of}
 
 -- ---- in its unit

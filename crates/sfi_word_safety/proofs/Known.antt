@@ -1,11 +1,10 @@
 -- What is known of the typed registers before an instruction, and what it makes of that.
 use Rattle.sfi_word_safety.proofs.Prelude.{◌≡◌, ℕ, ◌+◌, ◌<◌, ◌≤◌, ◌⊎◌, List, ◌∷◌, length, true, false, not, ◌&&◌, ◌||◌, ◌==◌, refl, sym, ap, ◌∙◌, subst, inl, inr, ⊎_elim, arith, Option, Some, None, ℤ, slice_index, bit_and, bit_or, and_parts, or_cases, eqb-true, eq-eqb, not-false, false≢true, cases_Bool, offset_by, InRange, IsImm12, destination, is_register, writes_register, Instr, Op, OpImm, Load, Store, Branch, Jal, Jalr, Ecall, Addi, And, Or, Add, Bytes, address_after, Accesses, Hart, register, effect, word, result_of, load_size, store_size, is_masking, is_placing, Part, Piece, is_jump, InData, InGuard, is_data_register, IsWordStart, IsNear, HasReserved, AreWordsTyped, places, masks, begins_placing, begins_masking, begins_using, begins_code, is_pointer_step, uses, is_small, may_access, breaks_access, may_write_data, breaks_data_of, breaks_data, may_write_code, breaks_code, breaks_offset, IsRightPart, has_words, ◌-◌, IsKnown, IsCodeKnown, AreKnown}
 use Rattle.sfi_formats.specs.Formats.{code_most}
-use Rattle.sfi_safe_runs.proofs.Accessing.{imm12_within, near_access, stepped, used, first_address, load_sized, store_sized, load_range, store_range}
-use Rattle.sfi_safe_runs.proofs.Formats.{words as word_unit}
-use Rattle.sfi_safe_runs.proofs.Masks as at
+use Rattle.sfi_safe_runs.proofs.Accessing.{imm12_within, near_access, stepped, used, first_address, load_sized, store_sized, load_range, store_range, masked_code}
+use Rattle.sfi_safe_runs.proofs.Entries.{words as word_unit}
+use Rattle.sfi_safe_runs.proofs.Accessing as at
 use Rattle.sfi_pairs.proofs.Facts.{masking_is, placing_is}
-use Rattle.sfi_safe_runs.proofs.Masks.{masked_code}
 use Rattle.sfi_word_safety.proofs.Tests.{data_register, writes_it, writes_other, or_is, step_is, small_within}
 use Rattle.sfi_word_safety.proofs.Effects.{writes, others_stay, result_there, step_there, is_flow}
 

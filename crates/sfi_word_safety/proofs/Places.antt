@@ -3,7 +3,7 @@ use Rattle.sfi_word_safety.proofs.Prelude.{◌≡◌, ℕ, ◌+◌, ◌-◌, ◌
 use Rattle.rv_comp.proofs.Facts.{two_lengths}
 use Rattle.sfi_image.proofs.Facts.{code_ends, whole_bundles}
 use Rattle.sfi_rules.proofs.Readings.{spelled_within}
-use Rattle.sfi_safe_runs.proofs.Standing.{stands_there, state_safe}
+use Rattle.sfi_safe_runs.proofs.Stepping.{stands_there, state_safe}
 use Rattle.sfi_word_safety.proofs.Known.{typed_known}
 
 -- ---- pieces

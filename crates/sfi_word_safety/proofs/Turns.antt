@@ -2,8 +2,8 @@
 use Rattle.sfi_word_safety.proofs.Prelude.{◌≡◌, ℕ, List, ◌∷◌, sym, ap, ◌∙◌, subst, Ecall, address_after, Hart, State, Stands, Part, ends_region, IsReply, IsChange, Turn, Steps, Replies, Changes, IsTurn, after_turn, AreKnown, IsCleanInWords, IsAtPlaceInWords, IsGoodInWords, IsGoodInWordsIf, EntryIsGoodInWords, TurnKeepsInWords, CleanWordsRunSafely}
 use Rattle.rv_comp.proofs.Facts.{ecall_is_wide}
 use Rattle.sfi_safe_runs.specs.Runs.{IsTyped}
-use Rattle.sfi_safe_runs.proofs.Formats.{to_word, of_words_typed}
-use Rattle.sfi_safe_runs.proofs.Turning.{entry_keeps, reply_keeps, change_keeps, turn_safe, runs_safely, calls_typed}
+use Rattle.sfi_safe_runs.proofs.Entries.{to_word, of_words_typed}
+use Rattle.sfi_safe_runs.proofs.SafeRuns.{entry_keeps, reply_keeps, change_keeps, turn_safe, runs_safely, calls_typed}
 use Rattle.sfi_word_safety.specs.Laws.{CleanWordsCallTyped}
 use Rattle.sfi_word_safety.proofs.Known.{typed_known, typed_at_ecall}
 use Rattle.sfi_word_safety.proofs.Places.{at_start, goes_on, safe_here}
