@@ -17,7 +17,7 @@ use Rattle.sfi_rewrite.specs.Expansion as stack
 use Rattle.rv_comp.proofs.Facts.{word_spells, spelled_length, two_lengths}
 use Rattle.sfi_link.proofs.Written.{short_spells}
 use Rattle.sfi_rewrite.proofs.Sizes.{size_of-cons}
-use Rattle.sfi_rules.proofs.Readings.{front_one}
+use Rattle.sfi_rules.proofs.OneList.{front_one}
 pub use Rattle.std.proofs.lemmas.Option.{same_Some as some_same}
 
 -- ---- what is asked of names, and what of ends

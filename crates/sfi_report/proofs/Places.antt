@@ -22,7 +22,7 @@ use Rattle.sfi_rules.specs.declared.owed.Owed.{Owed}
 use Rattle.sfi_rules.specs.words.Rules.{owed_next}
 use Rattle.sfi_rules.specs.words.Findings as words
 use Rattle.sfi_report.specs.private.{SpellsFirst, IsPlace}
-use Rattle.sfi_rules.proofs.Lowest.{lowest_is}
+use Rattle.sfi_rules.proofs.Findings.{lowest_is}
 use Rattle.sfi_report.proofs.Lines.{spell_even, spell_fits}
 
 -- the finding is one of the sandbox, `offset` bytes after address `at`, where these bytes lie

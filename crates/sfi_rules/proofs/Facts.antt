@@ -2,13 +2,12 @@
 use Rattle.sfi_rules.proofs.Prelude.{[], refl, ◌+◌, ◌%◌, ◌==◌, ◌&&◌, nat_le, nat_lt, and_parts, and_from, leb-true, ltb-true, eqb-true, le-leb, lt-ltb, eq-eqb}
 use Rattle.sfi_formats.specs.Limits.{bundle_size}
 use Rattle.sfi_rules.specs.Laws.{SameBundleStarts, OneLongestReading, OneBundleList, OneList, OneImageList, FirstFormatHasNoStack, FirstFormatFindsNoV10, CleanBreaksStackAlone, OwedIsOfTwo}
-use Rattle.sfi_rules.proofs.AfterTwo.{of_two}
-pub use Rattle.sfi_rules.proofs.AfterTwo.{and_is}
-use Rattle.sfi_rules.proofs.FirstFormat as first
+use Rattle.sfi_rules.proofs.Findings.{of_two}
+pub use Rattle.sfi_rules.proofs.Findings.{and_is, in_bundles, of_bundles, in_words, of_words, all_found, none_found}
+use Rattle.sfi_rules.proofs.Formats as first
 use Rattle.sfi_rules.proofs.OneList as lists
-pub use Rattle.sfi_rules.proofs.InBundles.{in_bundles, of_bundles, in_words, of_words, all_found, none_found}
-use Rattle.sfi_rules.proofs.Readings.{longest_one}
-use Rattle.sfi_rules.proofs.Second.{image_of_stack}
+use Rattle.sfi_rules.proofs.OneList.{longest_one}
+use Rattle.sfi_rules.proofs.Formats.{image_of_stack}
 pub use Rattle.sfi_rules.proofs.WordRules.{AreKept, kept_of, none_of}
 
 pub same_bundle_starts : SameBundleStarts

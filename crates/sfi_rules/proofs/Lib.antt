@@ -1,11 +1,6 @@
 pub mod Prelude
-pub mod Lowest
-pub mod OneList
-pub mod Readings
-pub mod FirstFormat
-pub mod Second
-pub mod AfterTwo
+pub mod Formats
 pub mod Facts
-pub mod InBundles
-pub mod WordList
+pub mod Findings
+pub mod OneList
 pub mod WordRules

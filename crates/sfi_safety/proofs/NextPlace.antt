@@ -1,7 +1,7 @@
 -- What a place without a finding keeps, and that the machine goes on from it to a place again.
 use Rattle.sfi_safety.proofs.Prelude.{◌≡◌, ◌≢◌, ℕ, ◌+◌, ◌*◌, ◌<◌, ◌≤◌, List, [], ◌∷◌, length, drop, Bool, true, false, not, ◌&&◌, ◌==◌, refl, ap, ◌∙◌, subst, arith, eqb-false, drop-drop, address_after, Hart, Part, bundle_place, bundle_bytes, Piece, IsReading, rest_of, InstrInBundle, breaks_ecall, breaks_reserved, breaks_access, breaks_jump, breaks_target, breaks_end, breaks_stack, ends_region, is_empty, lowest, all_rules, findings_from, Leaves, AreCleanBundles, StackInDataBefore, IsAtPlace, V3, V4, V5, V6, V7, V8, V10, length-drop}
-use Rattle.sfi_rules.proofs.Lowest.{kept}
-use Rattle.sfi_rules.proofs.Readings.{spelled_within}
+use Rattle.sfi_rules.proofs.Findings.{kept}
+use Rattle.sfi_rules.proofs.OneList.{spelled_within}
 use Rattle.sfi_image.proofs.Facts.{whole_bundles, code_ends}
 use Rattle.sfi_safety.proofs.Places.{nothing_before, at_start, bundle_length, here_within}
 

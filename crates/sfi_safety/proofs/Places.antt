@@ -1,6 +1,6 @@
 -- A hart at a bundle start is at that bundle's first piece, and the one instruction there is the reading's.
 use Rattle.sfi_safety.proofs.Prelude.{◌≡◌, ℕ, zero, suc, ◌+◌, ◌-◌, ◌*◌, ◌/◌, ◌%◌, ◌<◌, ◌≤◌, List, [], ◌∷◌, ◌++◌, length, take, drop, true, refl, sym, ap, ◌∙◌, subst, inl, inr, ⊎_elim, arith, add-zero, cases_lt, Spells, Bytes, Hart, Stands, Part, code_region, IsBundleStart, BundlePlace, Finding, bundle_place, bundle_bytes, Piece, IsReading, rest_of, is_empty, findings_from, rest_finding, AreReadingFindings, AreBundleFindings, AreFindingsOfFirst, StackInData, HasCode, AreCleanBundles, IsAtPlace, IsSafeState, length-take, length-drop, InCode}
-use Rattle.sfi_rules.proofs.Readings.{spelled_within}
+use Rattle.sfi_rules.proofs.OneList.{spelled_within}
 use Rattle.std.proofs.lemmas.List.{take-take, drop-take, drop-drop}
 use Rattle.sfi_safety.proofs.PairResult.{leaves_nothing}
 use Rattle.sfi_safe_runs.proofs.Stepping.{pc_within, stands_there, state_safe}

@@ -7,7 +7,7 @@ use Rattle.std.proofs.Common.{length-append, length-take, length-drop}
 use Rattle.sfi_safe_runs.proofs.Facts.{can_be_entered}
 use Rattle.sfi_safe_runs.proofs.Entries.{bundles as bundle_unit, of_bundle, of_stack}
 use Rattle.sfi_safe_runs.proofs.Stepping.{read_all}
-use Rattle.sfi_rules.proofs.InBundles.{of_bundles}
+use Rattle.sfi_rules.proofs.Findings.{of_bundles}
 use Rattle.std.specs.Prelude.{MatchBool}
 
 -- ---- the samples' layout

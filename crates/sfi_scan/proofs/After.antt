@@ -3,7 +3,7 @@ use Rattle.sfi_scan.proofs.Prelude.{◌≡◌, ◌⊎◌, ◌-◌, ℕ, suc, ◌
 use Rattle.rv_comp.specs.declared.front.Front.{Front}
 use Rattle.rv_comp.specs.declared.front.Front.TheVariants.{Bad}
 use Rattle.rv_comp.specs.Fronts.{IsFront}
-use Rattle.sfi_rules.proofs.Readings.{IsStuck, front_one, spelled_within}
+use Rattle.sfi_rules.proofs.OneList.{IsStuck, front_one, spelled_within}
 
 -- all of a slice from there on
 pub tail_is : (at : ℕ) (xs : List ℕ) → take (length xs - at) (drop at xs) ≡ drop at xs

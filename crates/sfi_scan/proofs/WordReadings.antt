@@ -8,7 +8,7 @@ use Rattle.sfi_rules.specs.declared.owed.Owed.TheVariants as kind
 use Rattle.sfi_rules.specs.words.Rules.{owed_next}
 use Rattle.sfi_rules.specs.words.Findings.{lowest, found_at, found_from, owed_past}
 use Rattle.sfi_rules.specs.Rules.{rest_finding, rule_of_length, broken}
-use Rattle.sfi_rules.proofs.Readings.{IsStuck, spelled_within}
+use Rattle.sfi_rules.proofs.OneList.{IsStuck, spelled_within}
 use Rattle.sfi_scan.proofs.After.{longest_more, longest_none, no_bytes_left, tail_is}
 
 pub empty_list : {A : Type 0} (xs : List A) → length xs ≡ 0 → xs ≡ []

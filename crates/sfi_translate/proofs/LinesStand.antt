@@ -13,7 +13,7 @@ use Rattle.sfi_formats.specs.Formats.{unit}
 use Rattle.sfi_image.specs.Parts.{IsRightPart}
 use Rattle.sfi_image.proofs.Facts.{whole_bundles}
 use Rattle.sfi_rules.specs.Readings.{Piece, IsReading}
-use Rattle.sfi_rules.proofs.Readings.{spelled_within}
+use Rattle.sfi_rules.proofs.OneList.{spelled_within}
 use Rattle.sfi_report.specs.Listing.{unit_bytes}
 use Rattle.sfi_safe_runs.specs.Runs.{HasCode}
 use Rattle.sfi_safe_runs.proofs.Stepping.{stands_there}

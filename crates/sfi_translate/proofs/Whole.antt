@@ -12,7 +12,7 @@ use Rattle.sfi_image.proofs.Facts.{whole_bundles}
 use Rattle.sfi_rules.specs.Readings.{Piece, IsReading, IsLongestReading, rest_of, bundle_bytes}
 use Rattle.sfi_rules.specs.words.Rules.{breaks_width}
 use Rattle.sfi_rules.proofs.Facts.{one_longest_reading}
-use Rattle.sfi_rules.proofs.Readings.{spelled_within}
+use Rattle.sfi_rules.proofs.OneList.{spelled_within}
 use Rattle.sfi_safe_runs.proofs.Entries.{bundles, words}
 use Rattle.sfi_safety.specs.Places.{AreCleanBundles, IsAtPlace}
 use Rattle.sfi_safety.proofs.Places.{at_start, here_within}

@@ -3,7 +3,7 @@ use Rattle.sfi_word_safety.proofs.Prelude.{◌≡◌, ◌↔◌, ℕ, ◌+◌, �
 use Rattle.std.proofs.lemmas.Bool.{and_parts, and_from, not-true, not-false}
 use Rattle.sfi_rules.specs.words.Rules.{breaks_width, breaks_ecall, breaks_access, breaks_jump, breaks_target, breaks_end, breaks_data, breaks_code, breaks_offset}
 use Rattle.sfi_word_safety.specs.Code.{BreaksNone, BreakNone, AreWordsClean}
-use Rattle.sfi_rules.proofs.Readings.{IsStuck, spelled_within, front_one}
+use Rattle.sfi_rules.proofs.OneList.{IsStuck, spelled_within, front_one}
 use Rattle.sfi_word_safety.proofs.Owing.{meets, meets_if, owed_after, is_nothing, keeps, after_is}
 use Rattle.sfi_word_safety.proofs.Judging.{none_failing}
 

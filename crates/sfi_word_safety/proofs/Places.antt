@@ -2,7 +2,7 @@
 use Rattle.sfi_word_safety.proofs.Prelude.{◌≡◌, ℕ, ◌+◌, ◌-◌, ◌%◌, ◌<◌, ◌≤◌, ◌⊎◌, List, [], ◌∷◌, length, take, drop, Bool, true, false, not, ◌==◌, refl, sym, ap, ◌∙◌, subst, ⊎_elim, arith, add-zero, length-drop, drop-drop, cases_lt, eqb-true, eq-eqb, false≢true, Spells, Bytes, address_after, Hart, Stands, Part, Piece, IsReading, rest_of, is_empty, ends_region, HasCode, IsWordStart, breaks_width, BreakNone, IsCleanInWords, AreKnown, IsPlace, IsAtPlaceInWords, AreWordsTyped, IsSafeState, IsRightPart}
 use Rattle.rv_comp.proofs.Facts.{two_lengths}
 use Rattle.sfi_image.proofs.Facts.{code_ends, whole_bundles}
-use Rattle.sfi_rules.proofs.Readings.{spelled_within}
+use Rattle.sfi_rules.proofs.OneList.{spelled_within}
 use Rattle.sfi_safe_runs.proofs.Stepping.{stands_there, state_safe}
 use Rattle.sfi_word_safety.proofs.Known.{typed_known}
 

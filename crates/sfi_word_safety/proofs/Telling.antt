@@ -11,7 +11,7 @@ use Rattle.sfi_word_safety.proofs.Judging.{after_is_next, ends_owing}
 use Rattle.sfi_rules.proofs.Facts.{AreKept, kept_of, none_of}
 use Rattle.sfi_word_safety.proofs.Passing.{BreaksNoneHere, IsKeptHere, IsCleanWith, IsSameWith, with_first, with_last, kept_here, goes}
 use Rattle.rv_comp.proofs.Facts.{two_lengths}
-use Rattle.sfi_rules.proofs.Readings.{IsStuck, spelled_within}
+use Rattle.sfi_rules.proofs.OneList.{IsStuck, spelled_within}
 
 -- this is owed at the offset, after these findings
 pub record Tells (p : Part) (at : ℕ) (owed : Owed) (found : List Finding) : Type 0 where
