@@ -1,7 +1,7 @@
 -- The first look walks as the scan does, and finds nothing.
 use Rattle.sfi_scan.proofs.Prelude.{◌≡◌, ℕ, ◌+◌, ◌<◌, ◌≤◌, false, true, List, [], ◌∷◌, length, take, drop, Some, None, refl, sym, ap, ◌∙◌, subst, inl, inr, arith, length-drop, length-take, drop-drop, Instr, outline, IsWordOf, Spells, has_stack, Before, BundlePlace, near, InstrInBundle, is_last_bundle, lowest, all_rules, Op, And, Or, Piece, IsLongestReading, half_at, word_at, AreWordsFrom, IsCleanOne, is_clean, IsStackWrite, AreStackPair, IsShortSpelling}
 use Rattle.sfi_rules.specs.Readings.{begins_pair, precedes_pair}
-use Rattle.sfi_scan.proofs.After.{Begins, begins}
+use Rattle.sfi_scan.proofs.Readings.{Begins, begins}
 use Rattle.sfi_scan.proofs.FirstLook.{clean_is, kind_of, write_quiet, masking_quiet, placing_quiet, masking_before}
 use Rattle.sfi_scan.proofs.Walk.{Leads, next, at_first}
 

@@ -4,7 +4,7 @@ use Rattle.rv_word.specs.Spelling.{length_of}
 use Rattle.rv_word.specs.declared.length.Length.{Length}
 use Rattle.rv_word.specs.declared.length.Length.TheVariants.{Wide}
 use Rattle.sfi_rules.proofs.OneList.{IsStuck, spelled_within}
-use Rattle.sfi_scan.proofs.After.{longest_more, longest_none, no_bytes_left}
+use Rattle.sfi_scan.proofs.Readings.{longest_more, longest_none, no_bytes_left}
 
 -- ---- spellings
 

@@ -5,9 +5,7 @@ use Rattle.rv_word.proofs.Facts.{one_spelling}
 use Rattle.sfi_masks.specs.Masks.{half_at as block_half, word_at, may_write_in_words, may_be_on_in_words, is_free_by, IsFreeHalfBy, IsFreeWordBy}
 use Rattle.sfi_rules.specs.words.Rules.{may_access}
 use Rattle.sfi_scan.specs.private.Words.{bytes_at, IsQuietWord, IsMasking, IsPlacing, IsPair, IsStepOf, IsUseOf, IsUsedStep, IsPlainHalf}
-use Rattle.sfi_scan.proofs.WordLook.{quiet_word, found_wide, found_halves}
-use Rattle.sfi_scan.proofs.WordPairs.{masking, placing, placing_code, masked, placed, stepping, code_owed, owing}
-use Rattle.sfi_scan.proofs.WordPlain.{plain, used}
+use Rattle.sfi_scan.proofs.WordLook.{quiet_word, found_wide, found_halves, masking, placing, placing_code, masked, placed, stepping, code_owed, owing, plain, used}
 
 -- ---- what the masks tell to be free is plain
 

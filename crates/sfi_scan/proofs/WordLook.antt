@@ -1,13 +1,129 @@
--- What the look at a word tells, and that a word of which it tells has no findings.
-use Rattle.sfi_scan.proofs.Prelude.{◌≡◌, ℕ, ◌+◌, ◌≤◌, ◌==◌, Bool, true, false, List, [], ◌++◌, length, take, drop, length-take, length-drop, append-nil, ap₂, Finding, Spells, half_at, word_at, ◌||◌, not, Option, Some, None, refl, sym, ap, ◌∙◌, subst, inl, inr, arith, IfSome, OnTrue, Instr, Load, Store, outline, IsWordThat, IsWordOf, BundlePlace, and_from, IsHalfwordThat, access, IsAccessOf, Access, Outline, Computes, is_data_register, Owed, Nothing, MaskOrUse, IsWordFound, owed_by, uses, is_kept, is_plain, IsQuiet, IsQuietThere, IsBeforeEnd}
-use Rattle.std.proofs.lemmas.Bool.{not_from_false}
+-- What the look at a word tells of it.
+use Rattle.sfi_scan.proofs.Prelude.{◌≡◌, ℕ, ◌==◌, Bool, true, false, ◌&&◌, not, Some, ℤ, pos, negsuc, refl, subst, OnTrue, and_parts, Instr, Op, OpImm, Load, Store, Branch, Jal, Jalr, Lui, Auipc, Ecall, outline, BundlePlace, is_zero, not-true, destination, Computes, uses, left, Nothing, MaskOrUse, is_kept, is_plain, IsQuiet, IsBeforeEnd, ◌||◌, ap, eqb-true, And, Or, eq-eqb, or_left, is_data_register, Owed, Code, owed_by, ◌+◌, ◌≤◌, List, [], ◌++◌, length, take, drop, length-take, length-drop, append-nil, ap₂, Finding, Spells, half_at, word_at, Option, None, sym, ◌∙◌, inl, inr, arith, IfSome, IsWordThat, IsWordOf, and_from, IsHalfwordThat, access, IsAccessOf, Access, Outline, IsWordFound, IsQuietThere}
+use Rattle.std.proofs.lemmas.Bool.{not_from_true, not_from_false}
+use Rattle.rv_word.specs.Spelling.{offset_by}
+use Rattle.sfi_rules.specs.words.Rules.{may_access, is_word_start, is_pointer_step, owed_next}
+use Rattle.sfi_scan.proofs.WordQuiet.{is_kept_one, unkept, IsSafe, quiet_where, IsWrite, typed}
+use Rattle.rv_word.specs.declared.instr.ImmOp.TheVariants.{Addi}
+use Rattle.sfi_rules.specs.declared.owed.Owed.TheVariants.{Mask, PlaceOnly}
 use Rattle.rv_word.proofs.Facts.{one_spelling}
 use Rattle.sfi_rules.specs.words.Findings.{lowest, found_at}
-use Rattle.sfi_rules.specs.words.Rules.{owed_next, may_access}
 use Rattle.sfi_scan.specs.private.Words.{IsPlainHalf}
-use Rattle.sfi_scan.proofs.WordPairs.{owing}
-use Rattle.sfi_scan.proofs.WordPlain.{plain, used}
-use Rattle.sfi_scan.proofs.WordReadings.{word_wide, word_two}
+use Rattle.sfi_scan.proofs.Readings.{word_wide, word_two}
+
+-- ==== What an outline tells of an instruction of code in words.
+
+-- what an indirect jump's registers and offset tell
+pub jump_plain : (rd base n : ℕ) (z : ℤ) → is_zero z ≡ true → is_kept rd ≡ false → n ≡ base → OnTrue (n == 30) ((not (is_kept rd) && (is_zero z && (base == 30))) ≡ true)
+jump_plain rd base n z f g e = subst (λ (m : ℕ). OnTrue (n == 30) ((not (is_kept rd) && (is_zero z && (m == 30))) ≡ true)) e (by (n == 30))
+  where
+    by : (p : Bool) → OnTrue p ((not (is_kept rd) && (is_zero z && p)) ≡ true)
+    by false = tt
+    by true = rw (f, g) refl
+
+-- what computes into a register accesses nothing and jumps nowhere
+pub record IsComputing (b : BundlePlace) (at : ℕ) (i : Instr) (rd : ℕ) : Type 0 where
+  pub safe : IsSafe b at i
+  pub writes : destination i ≡ Some rd
+
+pub computing : (b : BundlePlace) (at : ℕ) (i : Instr) (rd : ℕ) → outline i ≡ Computes rd → IsComputing b at i rd
+computing b at (Op op r rs1 rs2) rd e = record { safe = record { ecall = refl; access = refl; jump = refl; target = refl }; writes = cc }
+computing b at (OpImm op r rs1 imm) rd e = record { safe = record { ecall = refl; access = refl; jump = refl; target = refl }; writes = cc }
+computing b at (Lui r imm) rd e = record { safe = record { ecall = refl; access = refl; jump = refl; target = refl }; writes = cc }
+computing b at (Auipc r imm) rd e = record { safe = record { ecall = refl; access = refl; jump = refl; target = refl }; writes = cc }
+computing b at i rd e = absurd cc
+
+module _ (b : BundlePlace) (at : ℕ) where
+  plain_safe : (i : Instr) → is_plain b at (outline i) ≡ true → IsSafe b at i
+  plain_safe (Load kind rd rs1 imm) h = record { ecall = refl; access = not_from_true (may_access rs1) (and_parts (not (is_kept rd)) (may_access rs1) h).1; jump = refl; target = refl }
+  plain_safe (Store width rs1 rs2 imm) h = record { ecall = refl; access = not_from_true (may_access rs1) h; jump = refl; target = refl }
+  plain_safe (Branch cond rs1 rs2 offset) h = record { ecall = refl; access = refl; jump = refl; target = not_from_true (is_word_start b.code_base b.code_size (offset_by at offset)) h }
+  plain_safe (Jal rd offset) h =
+      record { ecall = refl; access = refl; jump = refl; target = not_from_true (is_word_start b.code_base b.code_size (offset_by at offset)) (and_parts (not (is_kept rd)) (is_word_start b.code_base b.code_size (offset_by at offset)) h).1 }
+  plain_safe (Jalr rd rs1 (pos n)) h = record { ecall = refl; access = refl; jump = not_from_true ((n == 0) && (rs1 == 30)) (and_parts (not (is_kept rd)) ((n == 0) && (rs1 == 30)) h).1; target = refl }
+  plain_safe (Jalr rd rs1 (negsuc n)) h = absurd (let no = (and_parts (not (is_kept rd)) false h).1 in cc)
+  plain_safe Ecall h = absurd cc
+  plain_safe i h = record { ecall = refl; access = refl; jump = refl; target = refl }
+
+  plain_unkept : (i : Instr) → is_plain b at (outline i) ≡ true → is_kept_one (destination i) ≡ false
+  plain_unkept (Op op rd rs1 rs2) h = not-true (is_kept rd) h
+  plain_unkept (OpImm op rd rs1 imm) h = not-true (is_kept rd) h
+  plain_unkept (Lui rd imm) h = not-true (is_kept rd) h
+  plain_unkept (Auipc rd imm) h = not-true (is_kept rd) h
+  plain_unkept (Load kind rd rs1 imm) h = not-true (is_kept rd) (and_parts (not (is_kept rd)) (may_access rs1) h).0
+  plain_unkept (Jal rd offset) h = not-true (is_kept rd) (and_parts (not (is_kept rd)) (is_word_start b.code_base b.code_size (offset_by at offset)) h).0
+  plain_unkept (Jalr rd rs1 imm) h = not-true (is_kept rd) (and_parts (not (is_kept rd)) (is_zero imm && (rs1 == 30)) h).0
+  plain_unkept i h = refl
+
+  pub plain : (size : ℕ) (i : Instr) → IsBeforeEnd b at size → is_plain b at (outline i) ≡ true → IsQuiet b at size Nothing i Nothing
+  plain size i before h = quiet_where b at size before Nothing Nothing Nothing i (plain_safe i h) (unkept i (plain_unkept i h)) refl
+
+  -- it uses the register after its step
+  left_used : (d : ℕ) (i : Instr) → uses d i ≡ true → left (MaskOrUse d) i ≡ Some Nothing
+  left_used d (Load kind rd rs1 imm) u = rw u refl
+  left_used d (Store width rs1 rs2 imm) u = rw u refl
+  left_used d i u = absurd cc
+
+  pub used : (size d : ℕ) (i : Instr) → IsBeforeEnd b at size → uses d i ≡ true → is_plain b at (outline i) ≡ true → IsQuiet b at size (MaskOrUse d) i Nothing
+  used size d i before u h = quiet_where b at size before (MaskOrUse d) Nothing Nothing i (plain_safe i h) (unkept i (plain_unkept i h)) (left_used d i u)
+
+-- ==== The words of pairs, and what owes something itself: each breaks no rule where what is owed is met.
+
+-- `and x31, a, x27` and `or d, x31, x26`
+abbrev pub masking : ℕ → Instr
+masking a = Op And 31 a 27
+
+abbrev pub placing : ℕ → Instr
+placing d = Op Or d 31 26
+
+-- `or x30, x30, x24`
+abbrev pub placing_code : Instr
+placing_code = Op Or 30 30 24
+
+masking_write : (a : ℕ) → IsWrite (masking a) Nothing
+masking_write a = record { reserved = refl; offset = refl; own_is = refl }
+
+same : (d : ℕ) → (d == d) ≡ true
+same d = eq-eqb d d refl
+
+placing_write : (d : ℕ) → is_data_register d ≡ true → IsWrite (placing d) Nothing
+placing_write d h = typed (placing d) d Nothing refl (or_left (is_data_register d) (d == 30) h) (rw (h, same d) refl)
+
+module _ (b : BundlePlace) (at size : ℕ) (before : IsBeforeEnd b at size) where
+  pub masked : (a : ℕ) → IsQuiet b at size Nothing (masking a) Nothing
+  masked a = quiet_where b at size before Nothing Nothing Nothing (masking a) (computing b at (masking a) 31 refl).safe (masking_write a) refl
+
+  pub masked_owed : (d : ℕ) → IsQuiet b at size (Mask d) (masking d) (PlaceOnly d)
+  masked_owed d = quiet_where b at size before (Mask d) (PlaceOnly d) Nothing (masking d) (computing b at (masking d) 31 refl).safe (masking_write d) (rw (same d) refl)
+
+  pub masked_or_used : (d : ℕ) → IsQuiet b at size (MaskOrUse d) (masking d) (PlaceOnly d)
+  masked_or_used d = quiet_where b at size before (MaskOrUse d) (PlaceOnly d) Nothing (masking d) (computing b at (masking d) 31 refl).safe (masking_write d) (rw (same d) refl)
+
+  pub placed : (d : ℕ) → is_data_register d ≡ true → IsQuiet b at size Nothing (placing d) Nothing
+  placed d h = quiet_where b at size before Nothing Nothing Nothing (placing d) (computing b at (placing d) d refl).safe (placing_write d h) refl
+
+  pub placed_owed : (d : ℕ) → is_data_register d ≡ true → IsQuiet b at size (PlaceOnly d) (placing d) Nothing
+  placed_owed d h = quiet_where b at size before (PlaceOnly d) Nothing Nothing (placing d) (computing b at (placing d) d refl).safe (placing_write d h) (rw (same d) refl)
+
+  pub code_owed : IsQuiet b at size Code placing_code Nothing
+  code_owed = quiet_where b at size before Code Nothing Nothing placing_code (computing b at placing_code 30 refl).safe (record { reserved = refl; offset = refl; own_is = refl }) refl
+
+  -- what computes into a typed register, and owes what can be told
+  pub owing : (rd : ℕ) (i : Instr) (next : Owed) → outline i ≡ Computes rd → (is_data_register rd || (rd == 30)) ≡ true → owed_by i ≡ Some next → IsQuiet b at size Nothing i next
+  owing rd i next e h own =
+      let c = computing b at i rd e in
+      quiet_where b at size before Nothing Nothing next i c.safe (typed i rd next c.writes h own) refl
+
+  -- a step of a data register
+  pub stepping : (d : ℕ) (i : Instr) → is_data_register d ≡ true → is_pointer_step d i ≡ true → IsQuiet b at size Nothing i (MaskOrUse d)
+  stepping d (OpImm Addi rd rs1 imm) h s =
+      let both = and_parts (rd == d) (rs1 == d) s in
+      let one : rd ≡ d = eqb-true rd d both.0 in
+      let two : rs1 ≡ d = eqb-true rs1 d both.1 in
+      owing d (OpImm Addi rd rs1 imm) (MaskOrUse d) (ap Computes one) (or_left (is_data_register d) (d == 30) h) (rw (one, two, h, same d) refl)
+  stepping d i h s = absurd cc
+
+-- ==== What the look at a word tells, and that a word of which it tells has no findings.
 
 abbrev written_of : Option Access → ℕ
 written_of None = 0

@@ -1,6 +1,6 @@
 use Rattle.sfi_scan.proofs.Prelude.{ap, refl, inl, Short}
 use Rattle.sfi_scan.specs.declared.ahead.Ahead.{Ahead}
-use Rattle.sfi_scan.proofs.After.{first_read, none_read, stuck_of}
+use Rattle.sfi_scan.proofs.Readings.{first_read, none_read, stuck_of}
 use Rattle.sfi_scan.proofs.ahead.first_of.Goals as goal
 
 pub returns-in-Read : goal.returns-in-Read

@@ -1,5 +1,5 @@
 use Rattle.sfi_scan.proofs.Prelude.{ℕ, ◌∙◌, sym, refl, inl, subst, List, Short, IsLongestReading}
-use Rattle.sfi_scan.proofs.After.{both_read, none_read, stuck_of, tail_is}
+use Rattle.sfi_scan.proofs.Readings.{both_read, none_read, stuck_of, tail_is}
 use Rattle.sfi_scan.proofs.ahead.read_ahead.Goals as goal
 
 pub returns-in-Read : goal.returns-in-Read

@@ -1,5 +1,5 @@
 use Rattle.sfi_scan.proofs.Prelude.{ℕ, ◌≡◌, ◌<◌, ◌+◌, ◌*◌, false, sym, ◌∙◌, ap, w8, is_in}
-use Rattle.sfi_scan.proofs.Bits.{in_none, in_more}
+use Rattle.sfi_scan.proofs.Marks.{in_none, in_more}
 use Rattle.sfi_scan.proofs.block.bundles_without.Goals as goal
 use Rattle.sfi_scan.proofs.block.bundles_without.Goals.{then-places-k-eq0, else-places-k-eq0}
 

@@ -1,5 +1,5 @@
 use Rattle.sfi_scan.proofs.Prelude.{◌-◌, sym, ◌∙◌, ap, w64, trailing_zeros, OnTrue_at, is_in, Fits-lt-pow}
-use Rattle.sfi_scan.proofs.Bits.{in_lowest, in_rest, in_more}
+use Rattle.sfi_scan.proofs.Marks.{in_lowest, in_rest, in_more}
 use Rattle.sfi_scan.proofs.Starts.{IsCleanAccess}
 use Rattle.sfi_scan.proofs.block.clean_accesses.Goals as goal
 use Rattle.sfi_scan.proofs.block.clean_accesses.Goals.{then-is_clean_access, else-is_clean_access}

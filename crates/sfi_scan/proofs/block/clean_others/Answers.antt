@@ -1,5 +1,5 @@
 use Rattle.sfi_scan.proofs.Prelude.{sym, ◌∙◌, ap, w64, trailing_zeros, OnTrue_at, is_in, IsCleanAt, Fits-lt-pow}
-use Rattle.sfi_scan.proofs.Bits.{in_lowest, in_more}
+use Rattle.sfi_scan.proofs.Marks.{in_lowest, in_more}
 use Rattle.sfi_scan.proofs.block.clean_others.Goals as goal
 use Rattle.sfi_scan.proofs.block.clean_others.Goals.{then-is_clean_at, else-is_clean_at}
 

@@ -1,5 +1,5 @@
 use Rattle.sfi_scan.proofs.Prelude.{arith}
-use Rattle.sfi_scan.proofs.Writes.{written_told}
+use Rattle.sfi_scan.proofs.Marks.{written_told}
 use Rattle.sfi_scan.proofs.block.is_written.Goals as goal
 
 pub word_of-requires : goal.word_of-requires

@@ -1,6 +1,5 @@
 use Rattle.sfi_scan.proofs.Prelude.{ℕ, ◌+◌, ◌-◌, sym, arith, ◌∙◌, ap, w64, refl, inl, inr, trailing_zeros, OnTrue_at, is_in, IsOfWrite, Fits-lt-pow}
-use Rattle.sfi_scan.proofs.Bits.{in_lowest, in_rest, in_rest_other, in_more}
-use Rattle.sfi_scan.proofs.Writes.{no_writes}
+use Rattle.sfi_scan.proofs.Marks.{in_lowest, in_rest, in_rest_other, in_more, no_writes}
 use Rattle.sfi_scan.proofs.block.stack_writes.Goals as goal
 use Rattle.sfi_scan.proofs.block.stack_writes.Goals.{then-is_written, else-is_written}
 

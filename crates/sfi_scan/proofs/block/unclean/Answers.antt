@@ -1,8 +1,7 @@
 use Rattle.sfi_scan.proofs.Prelude.{bit_and, ◌≡◌, ◌+◌, ◌*◌, true, false, sym, ap, ◌∙◌, inl, arith, is_in}
-use Rattle.sfi_scan.proofs.Marks.{after_two_is}
-use Rattle.sfi_scan.proofs.Bits.{in_all, in_zero}
+use Rattle.sfi_scan.proofs.Marks.{after_two_is, in_all, in_zero}
 use Rattle.sfi_scan.proofs.Joining.{joined}
-use Rattle.sfi_scan.proofs.Seen.{seen, free_start, access_inside, access_free}
+use Rattle.sfi_scan.proofs.Starts.{seen, free_start, access_inside, access_free}
 use Rattle.sfi_scan.proofs.block.unclean.Goals as goal
 
 pub returns-then-not-are_starts : goal.returns-then-not-are_starts

@@ -1,4 +1,4 @@
-use Rattle.sfi_scan.proofs.Seen.{without_is}
+use Rattle.sfi_scan.proofs.Starts.{without_is}
 use Rattle.sfi_scan.proofs.block.without.Goals as goal
 
 pub returns : goal.returns

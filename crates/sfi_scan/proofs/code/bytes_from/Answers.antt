@@ -1,5 +1,5 @@
 use Rattle.sfi_scan.proofs.Prelude.{◌∙◌, take, ap}
-use Rattle.sfi_scan.proofs.After.{tail_is}
+use Rattle.sfi_scan.proofs.Readings.{tail_is}
 use Rattle.sfi_scan.proofs.code.bytes_from.Goals as goal
 
 pub returns : goal.returns

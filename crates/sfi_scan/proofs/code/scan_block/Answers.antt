@@ -1,5 +1,5 @@
 use Rattle.sfi_scan.proofs.Prelude.{◌≡◌, ℕ, [], true, sym, subst, is_in, arith}
-use Rattle.sfi_scan.proofs.Bits.{all_set}
+use Rattle.sfi_scan.proofs.Marks.{all_set}
 use Rattle.sfi_scan.proofs.Stretches.{block_clean}
 use Rattle.sfi_scan.proofs.code.scan_block.Goals as goal
 

@@ -1,4 +1,4 @@
-use Rattle.sfi_scan.proofs.Table16.{free_told, no_stack, other_register}
+use Rattle.sfi_scan.proofs.Tables.{free_told, no_stack, other_register}
 use Rattle.sfi_scan.proofs.computing.is_free_half.Goals as goal
 
 pub returns-then-not-stack : goal.returns-then-not-stack

@@ -1,5 +1,5 @@
 use Rattle.sfi_scan.proofs.Prelude.{refl}
-use Rattle.sfi_scan.proofs.PairTables.{data_pair_told}
+use Rattle.sfi_scan.proofs.Tables.{data_pair_told}
 use Rattle.sfi_scan.proofs.pair_words.are_data_pair.Goals as goal
 
 pub returns : goal.returns

@@ -1,5 +1,5 @@
 use Rattle.sfi_scan.proofs.Prelude.{◌≡◌, ◌+◌, List, ◌++◌, sym, ◌∙◌, subst, refl, inl, Short, Finding, AreReadingFindings, finding_of, V1, V2}
-use Rattle.sfi_scan.proofs.After.{stuck_of}
+use Rattle.sfi_scan.proofs.Readings.{stuck_of}
 use Rattle.sfi_scan.proofs.Walk.{Leads, next_of, at_last, short_end, bad_end, pushed, some_found, none_found}
 use Rattle.sfi_scan.proofs.scan.scan_instructions.Goals as goal
 use Rattle.sfi_scan.proofs.scan.scan_instructions.Goals.{in-Some, in_default}

@@ -1,5 +1,5 @@
 use Rattle.sfi_scan.proofs.Prelude.{◌≡◌, ◌∙◌, ◌-◌, ◌*◌, ◌/◌, ℕ, List, take, drop, sym, ap, subst, arith, BundlePlace, IsWithinBlock, AreCleanWords, stretch_place}
-use Rattle.sfi_scan.proofs.WordFronts.{block_seen}
+use Rattle.sfi_scan.proofs.WordStretches.{block_seen}
 use Rattle.sfi_scan.proofs.words.look_at_front.Goals as goal
 
 pub look_at_block-requires-clause-within : goal.look_at_block-requires-clause-within

@@ -1,5 +1,5 @@
 use Rattle.sfi_scan.proofs.Prelude.{List, sym, subst, arith, Finding}
-use Rattle.sfi_scan.proofs.WordReadings.{empty_list}
+use Rattle.sfi_scan.proofs.Readings.{empty_list}
 use Rattle.sfi_scan.proofs.WordStretches.{words_scanned_one}
 use Rattle.sfi_scan.proofs.words.scan_one.Goals as goal
 

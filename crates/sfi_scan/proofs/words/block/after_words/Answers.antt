@@ -1,5 +1,5 @@
 use Rattle.sfi_scan.proofs.Prelude.{◌≡◌, ◌+◌, ◌-◌, ◌*◌, ◌/◌, ℕ, suc, refl, subst, arith, AreCleanWords}
-use Rattle.sfi_scan.proofs.WordSteps.{even_there, reached, passed}
+use Rattle.sfi_scan.proofs.WordMarks.{even_there, reached, passed}
 use Rattle.sfi_scan.proofs.words.block.after_words.Goals as goal
 
 pub loop-at-init : goal.loop-at-init

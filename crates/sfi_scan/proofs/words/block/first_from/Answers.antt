@@ -1,5 +1,5 @@
 use Rattle.sfi_scan.proofs.Prelude.{arith}
-use Rattle.sfi_scan.proofs.WordSteps.{none_ahead, first_ahead}
+use Rattle.sfi_scan.proofs.WordMarks.{none_ahead, first_ahead}
 use Rattle.sfi_scan.proofs.words.block.first_from.Goals as goal
 
 pub returns-then-ahead-eq0-clause-none : goal.returns-then-ahead-eq0-clause-none

@@ -1,7 +1,6 @@
 use Rattle.sfi_scan.proofs.Prelude.{inl, arith, OnTrue_at}
-use Rattle.sfi_scan.proofs.Bits.{in_rest, in_rest_other}
-use Rattle.sfi_scan.proofs.WordMarks.{told_quiet}
-use Rattle.sfi_scan.proofs.WordSteps.{all_seen}
+use Rattle.sfi_scan.proofs.Marks.{in_rest, in_rest_other}
+use Rattle.sfi_scan.proofs.WordMarks.{told_quiet, all_seen}
 use Rattle.sfi_scan.proofs.words.block.look_at_block.Goals as goal
 
 pub returns-then-is_nothing : goal.returns-then-is_nothing

@@ -1,5 +1,5 @@
 use Rattle.sfi_scan.proofs.Prelude.{◌-◌, sym, ◌∙◌, ap, arith, w64, trailing_zeros, OnTrue_at, is_in, Fits-lt-pow, IsPairAt}
-use Rattle.sfi_scan.proofs.Bits.{in_lowest, in_rest, in_more, in_zero}
+use Rattle.sfi_scan.proofs.Marks.{in_lowest, in_rest, in_more, in_zero}
 use Rattle.sfi_scan.proofs.WordBlock.{next_is, pair_at}
 use Rattle.sfi_scan.proofs.WordMarks.{two_words}
 use Rattle.sfi_scan.proofs.words.block.pairs_in.Goals as goal

@@ -1,5 +1,5 @@
 use Rattle.sfi_scan.proofs.Prelude.{ℕ, ◌-◌, sym, ◌∙◌, ap, w64, trailing_zeros, OnTrue_at, is_in, Fits-lt-pow, Nothing, IsCleanWord}
-use Rattle.sfi_scan.proofs.Bits.{in_lowest, in_rest, in_more}
+use Rattle.sfi_scan.proofs.Marks.{in_lowest, in_rest, in_more}
 use Rattle.sfi_scan.proofs.words.block.plain_words.Goals as goal
 use Rattle.sfi_scan.proofs.words.block.plain_words.Goals.{then-is_plain_at, else-is_plain_at}
 

@@ -1,5 +1,5 @@
 use Rattle.sfi_scan.proofs.Prelude.{◌≡◌, ℕ, ◌+◌, ◌-◌, false, sym, ◌∙◌, ap, arith, w64, trailing_zeros, OnTrue_at, is_in, Fits-lt-pow, IsSteppedWord}
-use Rattle.sfi_scan.proofs.Bits.{in_lowest, in_rest, in_more, in_zero}
+use Rattle.sfi_scan.proofs.Marks.{in_lowest, in_rest, in_more, in_zero}
 use Rattle.sfi_scan.proofs.WordBlock.{stepped, next_is}
 use Rattle.sfi_scan.proofs.WordMarks.{before_access}
 use Rattle.sfi_scan.proofs.words.block.used_steps.Goals as goal

@@ -1,6 +1,5 @@
 use Rattle.sfi_scan.proofs.Prelude.{Nothing}
-use Rattle.sfi_scan.proofs.WordLook.{quiet_word}
-use Rattle.sfi_scan.proofs.WordPairs.{masking, placing, masked, placed}
+use Rattle.sfi_scan.proofs.WordLook.{quiet_word, masking, placing, masked, placed}
 use Rattle.sfi_scan.proofs.words.look.after_kept.Goals as goal
 
 pub returns-then-is_masking : goal.returns-then-is_masking

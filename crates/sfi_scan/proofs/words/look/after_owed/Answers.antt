@@ -1,7 +1,6 @@
 use Rattle.sfi_scan.proofs.Prelude.{sym, subst, Owed, Nothing, MaskOrUse, Code, IsQuietThere}
 use Rattle.sfi_rules.specs.declared.owed.Owed.TheVariants.{Mask, PlaceOnly}
-use Rattle.sfi_scan.proofs.WordLook.{quiet_owed}
-use Rattle.sfi_scan.proofs.WordPairs.{masking, placing, placing_code, masked_owed, masked_or_used, placed_owed, code_owed}
+use Rattle.sfi_scan.proofs.WordLook.{quiet_owed, masking, placing, placing_code, masked_owed, masked_or_used, placed_owed, code_owed}
 use Rattle.sfi_scan.proofs.words.look.after_owed.Goals as goal
 
 pub returns-else-not-is_masking_of : goal.returns-else-not-is_masking_of

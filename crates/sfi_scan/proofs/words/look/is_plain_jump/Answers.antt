@@ -1,6 +1,6 @@
 use Rattle.sfi_scan.proofs.Prelude.{sym}
 use Rattle.sfi_scan.proofs.FirstLook.{zero_of}
-use Rattle.sfi_scan.proofs.WordPlain.{jump_plain}
+use Rattle.sfi_scan.proofs.WordLook.{jump_plain}
 use Rattle.sfi_scan.proofs.words.look.is_plain_jump.Goals as goal
 
 pub returns : goal.returns

@@ -1,6 +1,5 @@
 use Rattle.sfi_scan.proofs.Prelude.{arith, inl}
-use Rattle.sfi_scan.proofs.After.{stuck_of}
-use Rattle.sfi_scan.proofs.WordReadings.{two_of, word_bad, adds_wide, adds_two, adds_cut, adds_bad}
+use Rattle.sfi_scan.proofs.Readings.{stuck_of, two_of, word_bad, adds_wide, adds_two, adds_cut, adds_bad}
 use Rattle.sfi_scan.proofs.words.word.scan_unseen.Goals as goal
 
 pub returns-in-Short : goal.returns-in-Short
