@@ -8,8 +8,7 @@ use Rattle.sfi_word_safety.specs.Code.{IsCleanInWords, IsGoodInWords}
 use Rattle.sfi_word_safety.proofs.Effects.{Leads}
 use Rattle.sfi_word_safety.proofs.Facts.{turn_keeps}
 use Rattle.sfi_word_safety.proofs.Places.{at_start, base_aligned, sized}
-use Rattle.sfi_word_safety.proofs.Stepping.{only, step_leads}
-use Rattle.sfi_word_safety.proofs.Turns.{place_replied, good_calls}
+use Rattle.sfi_word_safety.proofs.Stepping.{only, step_leads, place_replied, good_calls}
 use Rattle.sfi_safety.proofs.Direct.{runs_and_calls}
 
 module _ (p : Part) (clean : IsCleanInWords p) (s : State) (i : Instr) (n : ℕ) (good : IsGoodInWords p s) (stands : Stands s i n) where

@@ -1,10 +1,73 @@
--- What each instruction does: which register it writes, where it goes, and that only what breaks V3 or V6 leaves.
-use Rattle.sfi_word_safety.proofs.Prelude.{◌≡◌, ◌≢◌, ℕ, ◌+◌, ◌*◌, ◌%◌, ◌^◌, ◌<◌, ◌≤◌, ◌⊎◌, List, length, Bool, true, false, cond, not, ◌&&◌, ◌==◌, refl, sym, ap, ◌∙◌, subst, inl, inr, arith, Option, Some, None, ℤ, pos, negsuc, slice_index, is_some, and_parts, eqb-true, leb-true, ltb-true, not-false, false≢true, offset_by, destination, Instr, Op, OpImm, Load, Store, Branch, Jal, Jalr, Lui, Auipc, Fence, Ecall, Ebreak, RegOp, Addi, LoadKind, Bytes, bytes_at, address_after, addresses, loaded, Hart, register, with_register, with_pc, past, even_of, effect, after_load, next, unchanged, word, result_of, load_size, store_size, is_taken, extended, Outcome, Next, Call, Trap, is_reserved, Part, is_gate_of, IsGate, breaks_reserved, ends_region, IsWordStart, HasReserved, is_word_start, breaks_ecall, breaks_jump, breaks_target}
+-- What each instruction does, and what passes a test of the rules.
+use Rattle.sfi_word_safety.proofs.Prelude.{◌≡◌, ◌≢◌, ℕ, ◌<◌, true, false, ◌&&◌, ◌||◌, ◌==◌, refl, sym, ap, ◌∙◌, arith, ⊎_elim, Option, Some, None, ℤ, pos, negsuc, and_parts, or_cases, eqb-true, eq-eqb, false≢true, leb-true, ltb-true, destination, is_register, writes_register, Instr, Op, OpImm, Or, Addi, is_data_register, is_or, is_small, is_pointer_step, ◌+◌, ◌*◌, ◌%◌, ◌^◌, ◌≤◌, ◌⊎◌, List, length, Bool, cond, not, subst, inl, inr, slice_index, is_some, not-false, offset_by, Load, Store, Branch, Jal, Jalr, Lui, Auipc, Fence, Ecall, Ebreak, RegOp, LoadKind, Bytes, bytes_at, address_after, addresses, loaded, Hart, register, with_register, with_pc, past, even_of, effect, after_load, next, unchanged, word, result_of, load_size, store_size, is_taken, extended, Outcome, Next, Call, Trap, is_reserved, Part, is_gate_of, IsGate, breaks_reserved, ends_region, IsWordStart, HasReserved, is_word_start, breaks_ecall, breaks_jump, breaks_target}
+use Rattle.sfi_safe_runs.proofs.Accessing.{IsWithin, kept, count_kept, written}
 use Rattle.std.specs.Prelude.{nat_le, nat_lt}
 use Rattle.rv_step.specs.declared.outcome.Cause.TheVariants as cause
 use Rattle.rv_step.specs.Step.{register_op}
-use Rattle.sfi_safe_runs.proofs.Accessing.{kept, count_kept, written}
 use Rattle.sfi_safe_runs.proofs.Stepping.{gate_of}
+
+-- ==== What passes a test of the rules.
+
+-- ---- signed numbers
+
+pub small_within : (z : ℤ) → is_small z ≡ true → IsWithin 1020 z
+small_within (pos n) h = leb-true n 1020 h
+small_within (negsuc n) h = ltb-true n 1020 h
+
+-- ---- registers
+
+pub record IsOther (d : ℕ) : Type 0 where
+  pub below : d < 32
+  pub some : d ≢ 0
+
+other : (d k : ℕ) → (d == k) ≡ true → k < 32 → 0 < k → IsOther d
+other d k e below some = let same = eqb-true d k e in record { below = omega arith; some = λ none. omega arith }
+
+pub data_register : (d : ℕ) → is_data_register d ≡ true → IsOther d
+data_register d h =
+    ⊎_elim
+    (λ (a : ((d == 2) || (d == 3) || (d == 4)) ≡ true). ⊎_elim
+    (λ (b : ((d == 2) || (d == 3)) ≡ true). ⊎_elim
+    (λ (c : (d == 2) ≡ true). other d 2 c (omega arith) (omega arith))
+    (λ (c : (d == 3) ≡ true). other d 3 c (omega arith) (omega arith))
+    (or_cases (d == 2) (d == 3) b))
+    (λ (b : (d == 4) ≡ true). other d 4 b (omega arith) (omega arith))
+    (or_cases ((d == 2) || (d == 3)) (d == 4) a))
+    (λ (a : (d == 29) ≡ true). other d 29 a (omega arith) (omega arith))
+    (or_cases ((d == 2) || (d == 3) || (d == 4)) (d == 29) h)
+
+register_is : (r : ℕ) (o : Option ℕ) → is_register r o ≡ true → o ≡ Some r
+register_is r (Some d) h = ap Some (eqb-true d r h)
+register_is r None h = absurd (false≢true h)
+
+-- the instruction's destination is the register, or it isn't
+pub writes_it : (r : ℕ) (i : Instr) → writes_register r i ≡ true → destination i ≡ Some r
+writes_it r i h = register_is r (destination i) h
+
+pub writes_other : (r : ℕ) (i : Instr) → writes_register r i ≡ false → destination i ≢ Some r
+writes_other r i h e = false≢true (sym h ∙ ap (is_register r) e ∙ eq-eqb r r refl)
+
+-- ---- instructions
+
+pub or_is : (rd a b : ℕ) (i : Instr) → is_or rd a b i ≡ true → i ≡ Op Or rd a b
+or_is rd a b (Op Or x y z) h =
+    let outer = and_parts ((x == rd) && (y == a)) (z == b) h in
+    let inner = and_parts (x == rd) (y == a) outer.0 in
+    let e1 = eqb-true x rd inner.0 in
+    let e2 = eqb-true y a inner.1 in
+    let e3 = eqb-true z b outer.1 in
+    cc
+or_is rd a b _ h = absurd (false≢true h)
+
+pub step_is : (d : ℕ) (i : Instr) → is_pointer_step d i ≡ true → (imm : ℤ) × (i ≡ OpImm Addi d d imm)
+step_is d (OpImm Addi x y imm) h =
+    let inner = and_parts (x == d) (y == d) h in
+    let e1 = eqb-true x d inner.0 in
+    let e2 = eqb-true y d inner.1 in
+    (imm, cc)
+step_is d _ h = absurd (false≢true h)
+
+-- ==== What each instruction does: which register it writes, where it goes, and that only what breaks V3 or V6 leaves.
 
 -- ---- the register that it writes
 

@@ -1,6 +1,6 @@
 -- What holds of every sandbox of code in words that breaks no rule: the laws, for proofs here and in the crates above.
 use Rattle.sfi_word_safety.specs.Laws.{EntryIsGoodInWords, TurnKeepsInWords, CleanWordsRunSafely, CleanWordsCallTyped, FindsWhatIsBroken}
-use Rattle.sfi_word_safety.proofs.Turns as turns
+use Rattle.sfi_word_safety.proofs.Stepping as turns
 use Rattle.sfi_word_safety.proofs.Listing.{finds}
 
 pub entry_is_good : EntryIsGoodInWords

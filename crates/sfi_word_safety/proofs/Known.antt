@@ -5,8 +5,7 @@ use Rattle.sfi_safe_runs.proofs.Accessing.{imm12_within, near_access, stepped, u
 use Rattle.sfi_safe_runs.proofs.Entries.{words as word_unit}
 use Rattle.sfi_safe_runs.proofs.Accessing as at
 use Rattle.sfi_pairs.proofs.Facts.{masking_is, placing_is}
-use Rattle.sfi_word_safety.proofs.Tests.{data_register, writes_it, writes_other, or_is, step_is, small_within}
-use Rattle.sfi_word_safety.proofs.Effects.{writes, others_stay, result_there, step_there, is_flow}
+use Rattle.sfi_word_safety.proofs.Effects.{data_register, writes_it, writes_other, or_is, step_is, small_within, writes, others_stay, result_there, step_there, is_flow}
 
 step_range : (d : ℕ) (imm : ℤ) → InRange (OpImm Addi d d imm) → IsImm12 imm
 unfolding InRange

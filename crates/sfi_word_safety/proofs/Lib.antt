@@ -1,10 +1,8 @@
 pub mod Prelude
-pub mod Tests
 pub mod Effects
 pub mod Known
 pub mod Places
 pub mod Stepping
-pub mod Turns
 pub mod Owing
 pub mod Passing
 pub mod Judging
