@@ -5,8 +5,7 @@ use Rattle.rv_word.specs.declared.instr.LoadKind.{LoadKind}
 use Rattle.sfi_rules.specs.Readings.{follows_data_pair, follows_code_pair}
 use Rattle.rv_step.specs.declared.outcome.Cause.TheVariants as cause
 use Rattle.sfi_safe_runs.proofs.Accessing.{near_access, imm12_within, load_sized, store_sized, load_range, store_range, kept, count_kept, reserved_kept}
-use Rattle.sfi_safety.proofs.Stacking.{is_of_pair, stack_here, stack_after, jump_keeps}
-use Rattle.sfi_safety.proofs.PairResult.{leaves_after}
+use Rattle.sfi_safety.proofs.Registers.{is_of_pair, stack_here, stack_after, jump_keeps, leaves_after}
 
 -- what is used of the place where a step begins, for the instruction there
 pub record Here (sandbox : ℕ) (p : Part) (h : Hart) (i : Instr) (n : ℕ) : Type 0 where

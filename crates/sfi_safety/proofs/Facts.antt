@@ -10,11 +10,10 @@ use Rattle.sfi_safety.specs.WordSamples.{undecodable_word, crossing_words, ecall
 use Rattle.sfi_safety.proofs.Needed as needed
 use Rattle.sfi_safety.proofs.NeededWords as words
 use Rattle.sfi_safety.proofs.Sandboxed as sandboxed
-use Rattle.sfi_safety.proofs.SandboxedWords as sandboxed_words
 use Rattle.sfi_safety.proofs.Stricter as stricter
-use Rattle.sfi_safety.proofs.PairResult.{leaves_after}
+use Rattle.sfi_safety.proofs.Registers.{leaves_after}
 use Rattle.sfi_safety.proofs.Safe.{clean_runs, clean_calls, clean_contained, clean_padded_calls, clean_direct, clean_direct_calls}
-use Rattle.sfi_safety.proofs.TurnInvariant as invariant
+use Rattle.sfi_safety.proofs.Stepping as invariant
 
 pub instruction_leaves : InstructionLeaves
 instruction_leaves = leaves_after
@@ -137,4 +136,4 @@ pub sandboxed_store_is_accepted : IsAcceptedAndRuns (sandbox sandboxed_store)
 sandboxed_store_is_accepted = sandboxed.accepted_and_runs
 
 pub stored_in_words_is_accepted : IsAcceptedAndRuns (sandbox stored_in_words)
-stored_in_words_is_accepted = sandboxed_words.accepted_and_runs
+stored_in_words_is_accepted = sandboxed.accepted_words_run

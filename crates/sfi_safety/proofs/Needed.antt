@@ -2,9 +2,8 @@
 use Rattle.sfi_safety.proofs.Prelude.{◌≡◌, ◌≢◌, ℕ, zero, suc, ◌+◌, ◌*◌, ◌<◌, ◌≤◌, ◌==◌, ◌||◌, List, [], ◌∷◌, length, take, drop, Some, false, refl, sym, ap, ◌∙◌, subst, inl, inr, arith, get_or-take, pos, slice_index, All, ints, Instr, And, Or, Sw, Op, Store, Jalr, Ecall, Ebreak, spelling, InRange, Spells, Bytes, Stands, unchanged, Call, is_gate_of, IsBundleStart, AreGateWords, bundle_place, bundle_bytes, HasCode, Steps, Replies, IsReply, IsEntry, IsNeeded, HasUnsafeRun, Hart, Finding, Format, has_words, CAddi, Sample, sandbox, nop, undecodable, crossing_store, running_off_the_end, gate_comes_back_elsewhere, V1, V2, V8, V9, add-zero, OpImm, Jal, minus, Sfi1, Sfi2, Piece, IsGate, BreaksAloneInBundle, EachRuleIsNeeded, Sfiw, false≢true, Addi, BreaksAlone, Rule, V3, V4, V5, V6, V7, V10, V11, V12}
 use Rattle.sfi_formats.specs.Limits.{service_most}
 use Rattle.sfi_pairs.specs.Pairs.{stub}
-use Rattle.sfi_safety.proofs.Readings.{read_in_both, BrokenIn, IsSpelled, BeginsNothing, op_spelled, nothing_begins, ebreak_spelled, four, read_bundle, four_longest, wide, all_findings, quiet, none_listed, ecall_spelled, jalr_past, store_spelled, addi_x2, code_findings, found_in_both}
+use Rattle.sfi_safety.proofs.Readings.{read_in_both, BrokenIn, IsSpelled, BeginsNothing, op_spelled, nothing_begins, ebreak_spelled, four, read_bundle, four_longest, wide, all_findings, quiet, none_listed, ecall_spelled, jalr_past, store_spelled, addi_x2, code_findings, found_in_both, ones_begin_nothing}
 use Rattle.sfi_safety.proofs.Samples.{IsSample, without_gates, hart, is_hart, first, bytes_there, stands, then_turn, step_at, then_step, reaches, has_left, past_end, needed, of_both, breaks_alone, stack_hart, calls_elsewhere, InBoth}
-use Rattle.sfi_safety.proofs.Undecodable.{ones_begin_nothing}
 use Rattle.rv_comp.proofs.Facts.{one_spelling, word_spells}
 use Rattle.sfi_safety.specs.Samples.{words_of, bytes_of, ecall_at_no_gate, written_rd_forgotten, pair_on_x0, pair_across_bundles, jalr_offset_ignored, jump_to_any_start, stack_not_put_back}
 

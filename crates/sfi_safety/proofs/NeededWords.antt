@@ -4,12 +4,10 @@ use Rattle.rv_comp.proofs.Facts.{word_spells}
 use Rattle.sfi_rules.specs.declared.owed.Owed.TheVariants.{Nothing, Mask}
 use Rattle.sfi_safety.specs.Needed.{IsOwedBefore, EachRuleOfWordsIsNeeded}
 use Rattle.sfi_safety.specs.WordSamples.{undecodable_word, crossing_words, ecall_in_words, data_base_written, untyped_base, jump_past_its_register, jump_out, nop_at_the_end, data_register_not_put_back, code_register_not_put_back, offset_not_masked}
-use Rattle.sfi_safety.proofs.Readings.{IsSpelled, op_spelled, store_spelled, addi_x2, ebreak_spelled, ecall_spelled, nothing_begins, wide}
+use Rattle.sfi_safety.proofs.Readings.{IsSpelled, op_spelled, store_spelled, addi_x2, ebreak_spelled, ecall_spelled, nothing_begins, wide, ones_begin_nothing}
 use Rattle.sfi_safety.proofs.Samples.{IsSample, without_gates, then_step, reaches, calls_elsewhere, has_left, past_end}
 use Rattle.sfi_safety.proofs.Needed.{undecodable_runs, nop_spelled, short_nop, store_across, nop_next, half_begins_nothing}
-use Rattle.sfi_safety.proofs.Undecodable.{ones_begin_nothing}
-use Rattle.sfi_safety.proofs.WordEntries.{typed_hart, at_word, needed_at}
-use Rattle.sfi_safety.proofs.WordReadings.{read_word, one_word, ebreak_found, alone, four_found, ebreaks_found, brk, before_last, all_found, first_found, code_found}
+use Rattle.sfi_safety.proofs.WordSamples.{typed_hart, at_word, needed_at, read_word, one_word, ebreak_found, alone, four_found, ebreaks_found, brk, before_last, all_found, first_found, code_found}
 
 -- ---- the words
 

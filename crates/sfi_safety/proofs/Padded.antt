@@ -8,7 +8,7 @@ use Rattle.sfi_safe_runs.proofs.Stepping.{guarded}
 use Rattle.sfi_safe_runs.specs.Padded.{KeepsCode, IsPaddedEntry, IsPaddedReply, IsPaddedChange, IsPaddedTurn, IsPaddedRun, IsContainedStep, IsContainedTurn, IsContainedRun, RunsContained, CallsTypedPadded}
 use Rattle.sfi_safety.proofs.Effects.{Leads, leads}
 use Rattle.sfi_safety.proofs.Places.{at_start, safe_here}
-use Rattle.sfi_safety.proofs.Standing.{stands_here, only, here, near_here, place_replied, place_unchanged, typed_at_ecall}
+use Rattle.sfi_safety.proofs.Stepping.{stands_here, only, here, near_here, place_replied, place_unchanged, typed_at_ecall}
 
 -- a good state, of whose guard zones nothing is known
 record IsHeld (sandbox : ℕ) (p : Part) (s : State) : Type 0 where

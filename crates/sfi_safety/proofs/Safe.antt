@@ -1,15 +1,113 @@
--- Every sandbox without a finding runs safely, whatever its format, and so does each of a clean image.
-use Rattle.sfi_safety.proofs.Prelude.{◌≡◌, ℕ, zero, suc, ◌+◌, List, [], ◌∷◌, Bool, true, false, refl, sym, ◌∙◌, subst, arith, All, has_words, Part, AreApart, code_region, guarded_region, AreRight, Finding, AreFindings, AreFindingsFrom, RunsSafely, AllRunSafely, IsCleanPart, AreCleanBundles, CleanRunsSafely, CleanCallsTyped, CleanRunsContained, CleanPaddedCallsTyped, CleanRunsDirectly, CleanDirectCallsTyped, IsClean, MayRun}
+-- Code without a finding runs safely, whatever its format, with direct gates too.
+use Rattle.sfi_safety.proofs.Prelude.{◌≡◌, ℕ, ◌+◌, ◌*◌, ◌%◌, ◌≤◌, ◌⊎◌, List, length, sym, ap, ◌∙◌, subst, inl, inr, arith, Instr, Ecall, address_after, Outcome, Next, State, Stepped, Stands, IsStep, unit, Part, IsUnitStart, IsTyped, KeepsBytes, AreCleanBundles, IsGood, ⊎_elim, drop, zero, suc, [], ◌∷◌, Bool, true, false, refl, All, has_words, AreApart, code_region, guarded_region, AreRight, Finding, AreFindings, AreFindingsFrom, RunsSafely, AllRunSafely, IsCleanPart, CleanRunsSafely, CleanCallsTyped, CleanRunsContained, CleanPaddedCallsTyped, CleanRunsDirectly, CleanDirectCallsTyped, IsClean, MayRun}
+use Rattle.sfi_safe_runs.specs.Direct.{RunsDirectly, CallsTypedDirectly}
+use Rattle.sfi_safe_runs.specs.Runs.{KeepsReserved}
+use Rattle.sfi_safe_runs.proofs.SafeRuns.{kept_after}
+use Rattle.sfi_safe_runs.proofs.Entries.{bundles, to_bundle, of_bundle, words as unit_is_word, to_word, of_word}
+use Rattle.sfi_word_safety.proofs.Places.{bundles_whole, at_start as at_word_start, base_aligned, sized}
+use Rattle.sfi_safety.proofs.Direct.{runs_and_calls}
+use Rattle.sfi_safety.proofs.Effects.{GoesTo, Leads}
+use Rattle.sfi_safety.proofs.Places.{at_start, here_within, nothing_before}
+use Rattle.sfi_safety.proofs.Stepping as standing
+use Rattle.sfi_safety.proofs.Stepping.{step_leads, turn_keeps, good_calls, bundles_run, bundles_call}
+use Rattle.sfi_word_safety.specs.Code.{IsCleanInWords, IsGoodInWords}
+use Rattle.sfi_word_safety.proofs.Effects.{Leads as WordLeads}
+use Rattle.sfi_word_safety.proofs.Facts.{turn_keeps as words_turn_keeps}
+use Rattle.sfi_word_safety.proofs.Stepping.{only, step_leads as word_step_leads, place_replied, good_calls as good_words_call}
 use Rattle.sfi_rules.proofs.Facts.{in_bundles, in_words}
 use Rattle.sfi_safe_runs.specs.Safety.{CallsTyped, AllCallTyped}
 use Rattle.sfi_word_safety.specs.Code as words
 use Rattle.sfi_word_safety.proofs.Facts as words_facts
-use Rattle.sfi_safe_runs.specs.Direct.{RunsDirectly, CallsTypedDirectly}
-use Rattle.sfi_safety.proofs.DirectBundles.{bundles_directly}
-use Rattle.sfi_safety.proofs.DirectWords.{words_directly}
 use Rattle.sfi_safety.proofs.Padded.{bundles_contained, bundles_call_padded}
-use Rattle.sfi_safety.proofs.Places.{nothing_before}
-use Rattle.sfi_safety.proofs.TurnInvariant.{bundles_run, bundles_call}
+
+-- ==== Code in bundles that breaks no rule runs safely with direct gates.
+
+-- ---- a good state
+
+module _ (sandbox : ℕ) (p : Part) (clean : AreCleanBundles sandbox p) (s : State) (i : Instr) (n : ℕ) (good : IsGood sandbox p s) (stands : Stands s i n) where
+  size_is : n ≡ good.place.here.size
+  size_is = (standing.only sandbox p s clean good.place good.kept.code i n stands).1
+
+  -- the instruction fits into its bundle
+  fits : s.hart.pc % unit p.format + n ≤ unit p.format
+  fits =
+      let base : p.code_base % 16 ≡ 0 = (bundles_whole p clean.right).0 in
+      let pc : s.hart.pc ≡ p.code_base + 16 * good.place.number + good.place.offset = good.place.pc in
+      let within : good.place.offset + good.place.here.size ≤ 16 = here_within sandbox p s.hart clean good.place in
+      let size : n ≡ good.place.here.size = size_is in
+      let sixteen : s.hart.pc % 16 + n ≤ 16 = omega arith in
+      subst (λ (u : ℕ). s.hart.pc % u + n ≤ u) (sym (bundles p.format clean.bundles)) sixteen
+
+  goes : (r : Stepped) → IsStep s r → r.outcome ≡ Next → (r.state.hart.pc ≡ address_after s.hart.pc n) ⊎ IsUnitStart p r.state.hart.pc
+  goes r step done = by (subst (λ (o : Outcome). Leads sandbox p s.hart good.place.here.size o r.state.hart) done (step_leads sandbox p s clean good r step)).1
+    where
+      by : GoesTo p s.hart good.place.here.size r.state.hart.pc → (r.state.hart.pc ≡ address_after s.hart.pc n) ⊎ IsUnitStart p r.state.hart.pc
+      by (inl on) = inl (on ∙ ap (λ (k : ℕ). address_after s.hart.pc k) (sym size_is))
+      by (inr start) = inr (of_bundle p r.state.hart.pc clean.bundles start)
+
+-- a reply, whatever its memory but the code and the guard zones
+replied : (sandbox : ℕ) (p : Part) (clean : AreCleanBundles sandbox p) (s : State) (n : ℕ) → IsGood sandbox p s → Stands s Ecall n → (after : State) → after.hart.pc ≡ address_after s.hart.pc 4 → length after.hart.registers ≡ 32 → KeepsReserved s.hart after.hart → IsTyped p after.hart.registers → KeepsBytes p s.memory after.memory → IsGood sandbox p after
+replied sandbox p clean s n good asked after pc count reserved typed bytes = record {
+  kept = kept_after p s after good.kept count reserved bytes;
+  place = standing.place_replied sandbox p s clean good.place good.kept.code good.kept.count good.kept.reserved after.hart n asked pc typed;
+}
+
+pub bundles_directly : (sandbox : ℕ) (p : Part) → AreCleanBundles sandbox p → (direct : List ℕ) → RunsDirectly p direct × CallsTypedDirectly p direct
+bundles_directly sandbox p clean direct =
+    runs_and_calls p clean.right direct clean.apart (IsGood sandbox p)
+    (λ s kept start typed. record { kept = kept; place = at_start sandbox p s.hart clean (to_bundle p s.hart.pc clean.bundles start) typed.stack })
+    (λ s turn good h. turn_keeps sandbox p s turn clean good h)
+    (λ s after n good asked pc count reserved typed bytes. replied sandbox p clean s n good asked after pc count reserved typed bytes)
+    (λ s i n good stands. fits sandbox p clean s i n good stands)
+    (λ s i n r good stands step done. goes sandbox p clean s i n good stands r step done)
+    (λ s n good stands. good_calls sandbox p s n clean good stands)
+
+-- ==== Code in words that breaks no rule runs safely with direct gates.
+
+module _ (p : Part) (clean : IsCleanInWords p) (s : State) (i : Instr) (n : ℕ) (good : IsGoodInWords p s) (stands : Stands s i n) where
+  word_size_is : n ≡ good.place.place.here.size
+  word_size_is = (only p s clean good i n stands).1
+
+  -- the instruction word_fits into its word
+  word_fits : s.hart.pc % unit p.format + n ≤ unit p.format
+  word_fits =
+      let at = good.place in
+      let base : p.code_base % 4 ≡ 0 = base_aligned p clean in
+      let pc : s.hart.pc ≡ p.code_base + at.offset = at.pc in
+      let even : at.offset % 2 ≡ 0 = at.even in
+      let size : n ≡ at.place.here.size = word_size_is in
+      let four : s.hart.pc % 4 + n ≤ 4 =
+      ⊎_elim
+      (λ (two : at.place.here.size ≡ 2). omega arith)
+      (λ (whole : (at.place.here.size ≡ 4) × (at.offset % 4 ≡ 0)). let f = whole.0 in let g = whole.1 in omega arith)
+      (sized p (drop at.offset p.code) at.offset at.place.here base at.place.reading.0 at.place.none.0.width) in
+      subst (λ (u : ℕ). s.hart.pc % u + n ≤ u) (sym (unit_is_word p.format clean.words)) four
+
+  word_goes : (r : Stepped) → IsStep s r → r.outcome ≡ Next → (r.state.hart.pc ≡ address_after s.hart.pc n) ⊎ IsUnitStart p r.state.hart.pc
+  word_goes r step done = by (subst (λ (o : Outcome). WordLeads p good.place.place.here.instr good.place.place.here.size s.hart o r.state.hart) done (word_step_leads p s clean good r step))
+    where
+      by : WordLeads p good.place.place.here.instr good.place.place.here.size s.hart Next r.state.hart → (r.state.hart.pc ≡ address_after s.hart.pc n) ⊎ IsUnitStart p r.state.hart.pc
+      by (inl (on, flows)) = inl (on ∙ ap (λ (k : ℕ). address_after s.hart.pc k) (sym word_size_is))
+      by (inr (start, flow)) = inr (of_word p r.state.hart.pc clean.words start)
+
+-- a reply, whatever its memory but the code and the guard zones
+word_replied : (p : Part) (clean : IsCleanInWords p) (s : State) (n : ℕ) → IsGoodInWords p s → Stands s Ecall n → (after : State) → after.hart.pc ≡ address_after s.hart.pc 4 → length after.hart.registers ≡ 32 → KeepsReserved s.hart after.hart → IsTyped p after.hart.registers → KeepsBytes p s.memory after.memory → IsGoodInWords p after
+word_replied p clean s n good asked after pc count reserved typed bytes = record {
+  kept = kept_after p s after good.kept count reserved bytes;
+  place = place_replied p clean s good after.hart n asked pc typed;
+}
+
+pub words_directly : (p : Part) → IsCleanInWords p → (direct : List ℕ) → RunsDirectly p direct × CallsTypedDirectly p direct
+words_directly p clean direct =
+    runs_and_calls p clean.right direct clean.apart (IsGoodInWords p)
+    (λ s kept start typed. record { kept = kept; place = at_word_start p clean s.hart (to_word p s.hart.pc clean.words start) (typed.words clean.words) })
+    (λ s turn good h. words_turn_keeps p s turn clean good h)
+    (λ s after n good asked pc count reserved typed bytes. word_replied p clean s n good asked after pc count reserved typed bytes)
+    (λ s i n good stands. word_fits p clean s i n good stands)
+    (λ s i n r good stands step done. word_goes p clean s i n good stands r step done)
+    (λ s n good stands. good_words_call p s n clean good stands)
+
+-- ==== Every sandbox without a finding runs safely, whatever its format, and so does each of a clean image.
 
 -- ---- a sandbox
 

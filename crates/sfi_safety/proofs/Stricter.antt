@@ -2,9 +2,8 @@
 use Rattle.sfi_safety.proofs.Prelude.{false, has_words, ◌≡◌, ℕ, zero, suc, ◌+◌, ◌-◌, ◌*◌, ◌/◌, ◌<◌, List, [], ◌∷◌, take, drop, Some, refl, sym, ap, ◌∙◌, subst, arith, Instr, Ecall, Ebreak, spelling, Spells, Sfi1, Accesses, State, Stepped, Stands, IsStep, effect, Call, Trap, Finding, bundle_place, bundle_bytes, HasCode, Turn, Steps, Replies, Changes, IsRun, IsEntry, after_step, IsSafeState, IsSafeStep, IsSafeRun, RunsSafely, IsStricter, ⊎_elim, cases_lt, ◌≤◌, V1, V2, V3, V8}
 use Rattle.sfi_safety.specs.Samples.{Sample, sandbox, nop, undecodable_after_ebreak, crossing_after_ebreak, ecall_after_ebreak, nops_after_ebreak}
 use Rattle.rv_step.specs.declared.outcome.Cause.TheVariants as cause
-use Rattle.sfi_safety.proofs.Readings.{ebreak_spelled, read_bundle, four_words, code_findings, all_findings, quiet, none_listed, wide, ecall_spelled}
+use Rattle.sfi_safety.proofs.Readings.{ebreak_spelled, read_bundle, four_words, code_findings, all_findings, quiet, none_listed, wide, ecall_spelled, ones_begin_nothing}
 use Rattle.sfi_safety.proofs.Samples.{IsSample, without_gates, size, refused, stands}
-use Rattle.sfi_safety.proofs.Undecodable.{ones_begin_nothing}
 use Rattle.sfi_safety.proofs.Needed.{nop_spelled, short_nop, half_begins_nothing}
 use Rattle.rv_step.proofs.Facts.{one_instruction, step_is_effect}
 use Rattle.sfi_safe_runs.proofs.Entries.{to_bundle}
