@@ -1,10 +1,9 @@
 -- What holds of sandboxes at other places, and beside those of another image: the laws, for proofs in the crates above.
 use Rattle.sfi_places.specs.Moving.{FindingsArePlaceless, CleanIsPlaceless, MovedIsRight, AcceptedMoves, OneMoves}
 use Rattle.sfi_places.specs.Beside.{BesideIsAsOne, BesideByPairs}
-use Rattle.sfi_places.proofs.Beside as beside
+use Rattle.sfi_places.proofs.Relaid as beside
 use Rattle.sfi_places.proofs.Moves as moves
 use Rattle.sfi_places.proofs.Moving as moving
-use Rattle.sfi_places.proofs.Relaid as relaid
 
 pub findings_are_placeless : FindingsArePlaceless
 findings_are_placeless = moving.findings_are_placeless
@@ -13,10 +12,10 @@ pub clean_is_placeless : CleanIsPlaceless
 clean_is_placeless = moving.clean_is_placeless
 
 pub moved_is_right : MovedIsRight
-moved_is_right = relaid.moved_is_right
+moved_is_right = beside.moved_is_right
 
 pub accepted_moves : AcceptedMoves
-accepted_moves = relaid.accepted_moves
+accepted_moves = beside.accepted_moves
 
 pub one_moves : OneMoves
 one_moves = moves.one_moves

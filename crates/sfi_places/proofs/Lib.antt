@@ -1,4 +1,3 @@
-pub mod Beside
 pub mod Moving
 mod Writing
 mod Placing
