@@ -1,15 +1,10 @@
 pub mod Prelude
-pub mod Counts
-pub mod Feeding
-pub mod Findings
 pub mod OneVerdict
-pub mod Verdicts
 pub mod Tallying
 pub mod Leading
 pub mod Stretches
-pub mod Chains
-pub mod Judging
+pub mod Feeding
 pub mod Pieces
 pub mod Converted
-pub mod ForC
+pub mod Verdicts
 pub mod Facts

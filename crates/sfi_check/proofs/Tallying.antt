@@ -1,9 +1,72 @@
--- The tally of a prefix and of the one that follows it.
-use Rattle.sfi_check.proofs.Prelude.{◌≡◌, ℕ, ◌+◌, ◌*◌, ◌/◌, ◌<◌, ◌≤◌, eqb, List, [], ◌∷◌, ◌++◌, length, refl, sym, ap, ◌∙◌, subst, arith, append_assoc, inl, inr, slice_get, cases_Bool, eqb-true, length-append, length_push, append-nil, Gate, Part, ImagePrefix, IsRightPrefix, want_of, part_of, after_parts, after_init, after_code, after_gates, Follows, HasFaultWhateverFollows, Empty, AfterMagic, AfterCount, InGates, InCode, InInit, Finding, AreFindings, AreFoundUpTo, AreImageFindings, Tally, bundle_count, owed_after, AreFindingsSoFar, AreFindingsWithin, findings_most, Tallies, Fields, LayoutFault}
+-- The tally of a front and of the next, with findings and bundles of one sandbox more.
+use Rattle.sfi_check.proofs.Prelude.{◌≡◌, ℕ, ◌+◌, ◌/◌, ◌<◌, ◌≤◌, List, [], ◌∷◌, ◌++◌, length, get_or, take, sym, ap, ◌∙◌, subst, arith, take_more, take_all, length-map, get_or-map, Format, code_most, SandboxPart, Part, view, views, IsRightLayout, bundle_count, refl, append_assoc, add-zero, All, append-nil, length-take, IsRightPart, Finding, AreFindings, AreFindingsFrom, AreImageFindings, ◌*◌, eqb, inl, inr, slice_get, cases_Bool, eqb-true, length-append, length_push, Gate, ImagePrefix, IsRightPrefix, want_of, part_of, after_parts, after_init, after_code, after_gates, Follows, HasFaultWhateverFollows, Empty, AfterMagic, AfterCount, InGates, InCode, InInit, AreFoundUpTo, Tally, owed_after, AreFindingsSoFar, AreFindingsWithin, findings_most, Tallies, Fields, LayoutFault}
 use Rattle.std.proofs.lemmas.List.Sums.{sum_by-append}
+use Rattle.sfi_image.proofs.Formats.{code_at_most}
 use Rattle.sfi_image.specs.declared.want.Want.TheVariants as wants
 use Rattle.sfi_rules.proofs.Facts.{all_found, none_found}
-use Rattle.sfi_check.proofs.Findings.{findings_append}
+
+-- ==== The bundles of one part more.
+
+pub one_more_counted : (f : Format) (items : List SandboxPart) (i : ℕ) (d p : SandboxPart) (bundles : ℕ) → p ≡ get_or items i d → i < length items → bundles ≡ bundle_count (take i (views f items)) → bundles + length p.code.now / 16 ≡ bundle_count (take (i + 1) (views f items))
+one_more_counted f items i d p bundles is h before =
+    let within : i < length (views f items) = omega (arith, length-map items (view f)) in
+    let longer : take (i + 1) (views f items) ≡ take i (views f items) ++ view f p ∷ [] =
+    take_more (views f items) i (view f d) within ∙ ap (λ (q : Part). take i (views f items) ++ q ∷ []) (get_or-map (view f) items i d (view f d) h ∙ ap (view f) (sym is)) in
+    let joined = ap bundle_count longer ∙ sum_by-append (λ (q : Part). length q.code / 16) (take i (views f items)) (view f p ∷ []) in
+    omega (arith, joined, before)
+
+-- a part has at most 65536
+pub few_more : (f : Format) (items : List SandboxPart) (i : ℕ) (d p : SandboxPart) → p ≡ get_or items i d → IsRightLayout (views f items) → i < length items → length p.code.now / 16 ≤ 65536
+few_more f items i d p is right h =
+    let within : i < length (views f items) = omega (arith, length-map items (view f)) in
+    let same = get_or-map (view f) items i d (view f d) h ∙ ap (view f) (sym is) in
+    let most = (right.right.each i (view f d) within).code_placed.at_most in
+    let code : length (view f p).code ≤ code_most f = subst (λ (q : Part). length q.code ≤ code_most q.format) same most in
+    let limit = code_at_most f in
+    omega arith
+
+pub at_end : (f : Format) (items : List SandboxPart) (i bundles : ℕ) → length items ≤ i → bundles ≡ bundle_count (take i (views f items)) → bundles ≡ bundle_count (views f items)
+at_end f items i bundles h e =
+    let all : length (views f items) ≤ i = omega (arith, length-map items (view f)) in
+    e ∙ ap bundle_count (take_all i (views f items) all)
+
+-- there are at most 16 parts
+pub few_parts : (f : Format) (items : List SandboxPart) → IsRightLayout (views f items) → length items ≤ 16
+few_parts f items right = let most = right.at_most in omega (arith, most, length-map items (view f))
+
+-- ==== The findings of one sandbox more.
+
+pub findings_append : (n m : ℕ) (parts : List Part) (p : Part) (found last : List Finding) → AreFindingsFrom n parts found → AreFindings m p last → m ≡ n + length parts → AreFindingsFrom n (parts ++ p ∷ []) (found ++ last)
+findings_append n m [] p found last h here e =
+    let at : m ≡ n = e ∙ add-zero n in
+    (last, [], subst (λ k. AreFindings k p last) at here, refl, ap (λ (l : List Finding). l ++ last) h ∙ sym (append-nil last))
+findings_append n m (q ∷ parts) p found last h here e =
+    let rest = findings_append (n + 1) m parts p h.1 last h.3 here (omega arith) in
+    (h.0, h.1 ++ last, h.2, rest, ap (λ (l : List Finding). l ++ last) h.4 ∙ append_assoc h.0 h.1 last)
+
+-- the parts in the list that the code goes over are right
+pub right_at : (f : Format) (image : List Part) (items : List SandboxPart) (i : ℕ) (d : SandboxPart) → views f items ≡ image → IsRightLayout image → i < length items → IsRightPart (view f (get_or items i d))
+right_at f image items i d e right h =
+    let each = subst (λ (l : List Part). All IsRightPart l) (sym e) right.right.each in
+    let within : i < length (views f items) = omega (arith, length-map items (view f)) in
+    subst (λ (p : Part). IsRightPart p) (get_or-map (view f) items i d (view f d) h) (each i (view f d) within)
+
+pub one_more_found : (f : Format) (image : List Part) (items : List SandboxPart) (i : ℕ) (d : SandboxPart) (found last : List Finding) → views f items ≡ image → i < length items → AreImageFindings (take i image) found → AreFindings i (view f (get_or items i d)) last → AreImageFindings (take (i + 1) image) (found ++ last)
+one_more_found f image items i d found last e h before here =
+    let within : i < length (views f items) = omega (arith, length-map items (view f)) in
+    let longer : take (i + 1) (views f items) ≡ take i (views f items) ++ view f (get_or items i d) ∷ [] =
+    take_more (views f items) i (view f d) within ∙ ap (λ (p : Part). take i (views f items) ++ p ∷ []) (get_or-map (view f) items i d (view f d) h) in
+    let count : i ≡ 0 + length (take i (views f items)) = omega (arith, length-take i (views f items)) in
+    let before' = subst (λ (l : List Part). AreImageFindings (take i l) found) (sym e) before in
+    let more = findings_append 0 i (take i (views f items)) (view f (get_or items i d)) found last before' here count in
+    subst (λ (l : List Part). AreImageFindings l (found ++ last)) (sym longer ∙ ap (take (i + 1)) e) more
+
+pub in_the_end : (f : Format) (image : List Part) (items : List SandboxPart) (i : ℕ) (found : List Finding) → views f items ≡ image → length items ≤ i → AreImageFindings (take i image) found → AreImageFindings image found
+in_the_end f image items i found e h before =
+    let all : length image ≤ i = omega (arith, length-map items (view f), ap length e) in
+    subst (λ (l : List Part). AreImageFindings l found) (take_all i image all) before
+
+-- ==== The tally of a prefix and of the one that follows it.
 
 -- ---- a tally within a sandbox's code
 

@@ -1,5 +1,5 @@
 use Rattle.sfi_check.proofs.Prelude.{◌+◌, List, ◌++◌, take, refl, ap, ◌∙◌, subst, sym, Finding, SandboxPart, view, views, IsRightPart, AreFindings, AreImageFindings}
-use Rattle.sfi_check.proofs.Findings.{right_at, one_more, in_the_end}
+use Rattle.sfi_check.proofs.Tallying.{right_at, one_more_found, in_the_end}
 use Rattle.sfi_check.proofs.conversion.findings_as.Goals as goal
 
 pub loop-sandbox-init : goal.loop-sandbox-init
@@ -13,7 +13,7 @@ scan_part_as-requires c =
 pub loop-sandbox-preserved : goal.loop-sandbox-preserved
 loop-sandbox-preserved c =
     let here = subst (λ (p : SandboxPart). AreFindings c.loop-sandbox.sandbox (view c.args.format p) c.in_ok-of_part.of_part.items) c.index-parts-sandbox.is c.in_ok-of_part.ensures in
-    let more = one_more c.args.format (views c.args.format c.args.parts.now) c.args.parts.now c.loop-sandbox.sandbox c.index-parts-sandbox.result c.loop-sandbox.found.items c.in_ok-of_part.of_part.items refl c.loop-sandbox-test.true c.loop-sandbox.invariant here in
+    let more = one_more_found c.args.format (views c.args.format c.args.parts.now) c.args.parts.now c.loop-sandbox.sandbox c.index-parts-sandbox.result c.loop-sandbox.found.items c.in_ok-of_part.of_part.items refl c.loop-sandbox-test.true c.loop-sandbox.invariant here in
     let found = c.in_ok-extend_from_slice.ensures.items ∙ ap (λ (l : List Finding). c.loop-sandbox.found.items ++ l) c.deref.ensures.value in
     subst (λ (l : List Finding). AreImageFindings (take (c.loop-sandbox.sandbox + 1) (views c.args.format c.args.parts.now)) l) (sym found) more
 

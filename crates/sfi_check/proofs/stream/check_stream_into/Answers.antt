@@ -1,7 +1,6 @@
 use Rattle.sfi_check.proofs.Prelude.{◌∙◌, ◌<◌, ◌-◌, ℕ, [], take, length, subst, arith, Some, length-take}
 use Rattle.sfi_check.proofs.Feeding.{from_nothing, fed_weaker, fed_held, few_held}
-use Rattle.sfi_check.proofs.Chains.{no_reads}
-use Rattle.sfi_check.proofs.Pieces.{fails, faulty, ends_here, reads_on}
+use Rattle.sfi_check.proofs.Pieces.{no_reads, fails, faulty, ends_here, reads_on}
 use Rattle.sfi_check.proofs.stream.check_stream_into.Goals as goal
 
 pub loop-feed-init : goal.loop-feed-init

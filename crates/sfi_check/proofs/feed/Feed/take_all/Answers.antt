@@ -1,7 +1,6 @@
 use Rattle.sfi_check.proofs.Prelude.{◌≡◌, ◌∙◌, ◌<◌, ◌-◌, ◌++◌, ℕ, List, take, drop, length, refl, sym, ap, arith, inl, inr, append_assoc, append-nil, length-drop, take-append-drop, take_all}
-use Rattle.sfi_check.proofs.Feeding.{held_fed, at_reader, falls, some_left}
+use Rattle.sfi_check.proofs.Feeding.{held_fed, at_reader, falls, some_left, trailing}
 use Rattle.sfi_check.proofs.Leading.{tail_is, fault_on}
-use Rattle.sfi_check.proofs.Judging.{trailing}
 use Rattle.sfi_image.specs.declared.fault.LayoutFault.TheVariants as faults
 use Rattle.sfi_check.proofs.feed.Feed.take_all.Goals as goal
 

@@ -1,7 +1,7 @@
 use Rattle.sfi_check.proofs.Prelude.{sym, subst}
 use Rattle.sfi_check.specs.ForC.{IsVerdictForC}
 use Rattle.sfi_check.specs.declared.for_c.SfiVerdict.{SfiVerdict}
-use Rattle.sfi_check.proofs.ForC.{means}
+use Rattle.sfi_check.proofs.Verdicts.{means}
 use Rattle.sfi_check.proofs.for_c.SfiVerdict.of.Goals as goal
 
 pub returns : goal.returns
