@@ -12,7 +12,7 @@ use Rattle.sfi_rules.proofs.Facts.{of_bundles, of_words, same_bundle_starts}
 use Rattle.std.proofs.lemmas.Option.{slice_get_within, get_or_from_slice_get}
 use Rattle.sfi_rules.specs.Readings.{bundle_place}
 use Rattle.sfi_rules.specs.declared.owed.Owed.TheVariants as kind
-use Rattle.sfi_rewrite.proofs.WordView.{InWords, view, as_laid, word_aligned}
+use Rattle.sfi_rewrite.proofs.WordLaying.{InWords, view, as_laid, word_aligned}
 use Rattle.sfi_link.proofs.WordItems.{AreWordStarts, nothing_owed, items_right}
 use Rattle.sfi_link.proofs.WordRegion.{IsFilled, filled_is_clean}
 use Rattle.sfi_link.proofs.CleanPlaces.{AreStarts, some_same}

@@ -17,7 +17,7 @@ use Rattle.sfi_rewrite.specs.words.Expansion.{data_mask, base_of, before, after,
 use Rattle.rv_word.specs.Outlines.{destination}
 use Rattle.std.specs.Prelude.{not, ◌&&◌, ◌||◌, ◌==◌, drop, Option, None, if◌then◌else◌}
 use Rattle.sfi_rewrite.proofs.Facts.{rewritten_is_transparent}
-use Rattle.sfi_rewrite.proofs.WordStanding.{body_laid}
+use Rattle.sfi_rewrite.proofs.Standing.{body_laid}
 use Rattle.sfi_link.proofs.CleanPlaces.{made}
 use Rattle.sfi_link.proofs.Pushed.{which_base}
 use Rattle.rv_word.specs.declared.instr.RegOp.TheVariants.{Add}

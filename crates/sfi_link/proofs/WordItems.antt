@@ -23,7 +23,7 @@ use Rattle.sfi_rules.specs.declared.owed.Owed.TheVariants as kind
 use Rattle.sfi_rules.specs.Readings.{is_jump}
 use Rattle.sfi_rules.specs.words.Rules.{is_word_start, may_access, places, masks, breaks_ecall, left}
 use Rattle.sfi_rewrite.proofs.Sizes.{size_of-append}
-use Rattle.sfi_rewrite.proofs.WordStanding.{apart, body_laid, slots_of_marked}
+use Rattle.sfi_rewrite.proofs.Standing.{apart, body_laid, slots_of_marked}
 use Rattle.sfi_link.proofs.CleanPlaces.{is_calm, lands, made}
 use Rattle.sfi_link.proofs.WordRules.{IsLawful, Meets, lawful_by, meets_by}
 use Rattle.sfi_link.proofs.WordOwing.{of_data, free_one, IsFreeOne, unreserved, no_offset, use_is, IsMaskOwed, Owes, owing, owing_as_named}

@@ -14,7 +14,7 @@ use Rattle.sfi_rules.specs.words.Findings.{is_at_gate, breaks_last, AreFindingsI
 use Rattle.std.proofs.Math.Seq.{take-append_seam, drop-append_seam}
 use Rattle.rv_comp.proofs.Facts.{word_spells, spelled_length}
 use Rattle.sfi_rewrite.proofs.Sizes.{size_of-cons}
-use Rattle.sfi_rewrite.proofs.WordView.{InWords, no_word, two_forms, one_slot}
+use Rattle.sfi_rewrite.proofs.WordLaying.{InWords, no_word, two_forms, one_slot}
 use Rattle.sfi_link.proofs.CleanPlaces.{slot_spells, some_same}
 use Rattle.sfi_link.proofs.Stubs.{length_stubs}
 use Rattle.sfi_link.proofs.Region.{cut}

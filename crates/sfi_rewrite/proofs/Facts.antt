@@ -2,7 +2,7 @@
 use Rattle.sfi_rewrite.specs.Laws.{OneExpansion, OneWordExpansion, OnePlacement, OneRewriting, OneFault, NeverBoth, SomeRewriting, RewrittenIsPlaced, ExpansionsAreTransparent, WordExpansionsAreTransparent, MasksCompose, RewrittenIsTransparent, TransparencyCanBeMet, WordTransparencyCanBeMet}
 use Rattle.sfi_rewrite.proofs.Laid as laid
 use Rattle.sfi_rewrite.proofs.Masks as masks
-use Rattle.sfi_rewrite.proofs.OneFault as faults
+use Rattle.sfi_rewrite.proofs.Sources as faults
 use Rattle.sfi_rewrite.proofs.OneWay as way
 use Rattle.sfi_rewrite.proofs.Placements.{placed_parts}
 use Rattle.sfi_rewrite.proofs.Samples as samples

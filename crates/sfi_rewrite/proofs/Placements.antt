@@ -4,15 +4,13 @@ use Rattle.sfi_formats.specs.Formats.{unit, has_words}
 use Rattle.sfi_rewrite.specs.Placed.{AreWholeIn}
 use Rattle.sfi_rewrite.specs.words.Expansion as words
 use Rattle.sfi_rewrite.proofs.WordLaid.{first_fits, all_first, laid_aligned, all_fit, laid_of}
-use Rattle.sfi_rewrite.proofs.WordKnown.{words_known}
+use Rattle.sfi_rewrite.proofs.KnownSlots.{words_known, IsKnown, nops_known, laid_known}
 use Rattle.std.proofs.lemmas.Slice.Zip.{AllZip-left, AllZip-long}
 use Rattle.std.specs.Option.{IsSomeAnd}
 use Rattle.sfi_rewrite.proofs.Sizes.{size_of-append, size_nops, size_even}
-use Rattle.sfi_rewrite.proofs.Laid.{laid_split, laid_one_way, size_next}
+use Rattle.sfi_rewrite.proofs.Laid.{laid_split, laid_one_way, size_next, laid_whole}
 use Rattle.sfi_rewrite.proofs.OneByOne.{whole_bundles}
-use Rattle.sfi_rewrite.proofs.Whole.{laid_whole}
-use Rattle.sfi_rewrite.proofs.KnownSlots.{IsKnown, nops_known, laid_known}
-use Rattle.sfi_rewrite.proofs.PlacedNames.{each_there}
+use Rattle.sfi_rewrite.proofs.Sources.{each_there}
 
 -- ---- bodies
 

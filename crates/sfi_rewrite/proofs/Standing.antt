@@ -1,14 +1,208 @@
 -- Each instruction of a source stands transparent in what is placed.
-use Rattle.sfi_rewrite.proofs.Prelude.{◌≡◌, ℕ, ◌+◌, ◌<◌, List, [], ◌∷◌, ◌++◌, length, drop, replicate, ap, ◌∙◌, subst, arith, append_assoc, append-nil, All, AllZip, slice_get, Some, slots_of, Format, HasEndLabel, drop_more, All-get_or, get_or_from_slice_get, slice_get_within, Item, Sandbox, BundleSlot, size_of, c_nop, AreLaidFrom, Placement, IsPermitted, IsRewritten, RewrittenIsTransparent, StandTransparent, Sfi1, Sfi2, Sfiw, AreLaidIn, FillsEndIn, has_words}
+use Rattle.sfi_rewrite.proofs.Prelude.{◌≡◌, ℕ, ◌+◌, ◌<◌, ◌&&◌, ◌==◌, arith, true≢false, List, [], ◌∷◌, ◌++◌, Bool, true, false, MatchBool, length, map, take, drop, Option, Some, None, refl, sym, ap, ◌∙◌, subst, inl, inr, ◌⊎◌, append-nil, All, All-get_or, slice_get, drop_more, get_or_from_slice_get, slice_get_within, Instr, Op, OpImm, Load, Store, Jalr, Item, Body, Plain, To, High, Low, Base, BundleSlot, Wide, Short, Jump, Upper, Lower, Region, slots_of, IsAlone, IsPermitted, MayBe, Placement, not, ◌||◌, if◌then◌else◌, destination, Sfiw, is_data_register, replicate, append_assoc, AllZip, Format, HasEndLabel, Sandbox, size_of, c_nop, AreLaidFrom, IsRewritten, RewrittenIsTransparent, StandTransparent, Sfi1, Sfi2, AreLaidIn, FillsEndIn, has_words}
+use Rattle.std.proofs.lemmas.List.{take-append-drop, map-append}
+use Rattle.sfi_rewrite.specs.words.Expansion.{IsConfined, IsAround, IsExpansionOf, IsExpansion, before, after, base_of, data_mask, mask_after, is_move, moved, is_step_before_use, Marked, marked, alone, in_words, AreExpanded, AreLaid}
+use Rattle.sfi_rewrite.specs.words.Transparency.{AreAsLaid, ActsAs, StandsTransparent as StandsTransparentInWords}
+use Rattle.sfi_rewrite.proofs.WordLaying.{view, as_laid, words_at_label}
+use Rattle.sfi_rewrite.proofs.WordLaid.{expanded_split, all_fit}
+use Rattle.sfi_rewrite.proofs.WordItems.{AreSome, expansion_of_some}
+use Rattle.sfi_rewrite.proofs.WordKept.{body_acts, plain_steps}
 use Rattle.sfi_rewrite.specs.Transparency.{StandsTransparent}
 use Rattle.sfi_rewrite.specs.Standing.{StandsAs}
-use Rattle.sfi_rewrite.proofs.WordLaid.{all_fit}
-use Rattle.sfi_rewrite.proofs.WordStanding.{stands_in_words}
 use Rattle.sfi_rewrite.proofs.Laid.{laid_split}
 use Rattle.sfi_rewrite.proofs.StackKept.{all_transparent}
 
-apart : (front nops expanded rest pad : List BundleSlot) → (front ++ (nops ++ (expanded ++ rest))) ++ pad ≡ front ++ (nops ++ (expanded ++ (rest ++ pad)))
-apart front nops expanded rest pad =
+-- ==== Each item of code in words stands transparent in what is placed.
+
+-- ---- slots as they are laid
+
+-- what is laid for slots one after another
+pub record LaidApart (front back laid : List BundleSlot) : Type 0 where
+  pub first : List BundleSlot
+  pub rest : List BundleSlot
+  pub both : laid ≡ first ++ rest
+  pub are_first : AreAsLaid front first
+  pub are_rest : AreAsLaid back rest
+
+pub apart : (front back laid : List BundleSlot) → AreAsLaid (front ++ back) laid → LaidApart front back laid
+apart [] back laid h = record { first = []; rest = laid; both = refl; are_first = tt; are_rest = h }
+apart (s ∷ front) back [] h = absurd h
+apart (s ∷ front) back (x ∷ laid) h =
+    let r = apart front back laid h.1 in
+    record { first = x ∷ r.first; rest = r.rest; both = ap (λ v. x ∷ v) r.both; are_first = (h.0, r.are_first); are_rest = r.are_rest }
+
+-- each has 32 bits
+abbrev AreWide : List BundleSlot → Type 0
+AreWide [] = Unit {0}
+AreWide (s ∷ slots) = (alone s ≡ s) × AreWide slots
+
+wide_stays : (slots laid : List BundleSlot) → AreWide slots → AreAsLaid slots laid → laid ≡ slots
+wide_stays [] [] w h = refl
+wide_stays [] (x ∷ laid) w h = absurd h
+wide_stays (s ∷ slots) [] w h = absurd h
+wide_stays (s ∷ slots) (x ∷ laid) w h =
+    let first : x ≡ s = elim h.0 [ inl e ↦ e | inr e ↦ e ∙ w.0 ] in
+    ap (λ y. y ∷ laid) first ∙ ap (λ v. s ∷ v) (wide_stays slots laid w.1 h.1)
+
+made_wide : (none : Bool) (d a : ℕ) → AreWide (if none then [] else data_mask d a)
+made_wide true d a = tt
+made_wide false d a = (refl, (refl, tt))
+
+before_wide : (i : Instr) → AreWide (before i)
+before_wide (Load kind rd a imm) = made_wide (is_data_register a || (a == 0)) 29 a
+before_wide (Store width a rs2 imm) = made_wide (is_data_register a || (a == 0)) 29 a
+before_wide (Jalr rd a imm) = (refl, (refl, tt))
+before_wide _ = tt
+
+masks_wide : (is : Bool) (d : ℕ) → AreWide (if is then data_mask d d else [])
+masks_wide true d = (refl, (refl, tt))
+masks_wide false d = tt
+
+mask_wide : (to : Option ℕ) → AreWide (mask_after to)
+mask_wide None = tt
+mask_wide (Some d) = masks_wide (is_data_register d) d
+
+after_wide : (step : Bool) (i : Instr) → AreWide (after step i)
+after_wide true i = tt
+after_wide false i = mask_wide (destination i)
+
+moved_wide : (i : Instr) → AreWide (moved i)
+moved_wide (OpImm op d a imm) = (refl, (refl, tt))
+moved_wide (Op op d b a) = (refl, (refl, tt))
+moved_wide _ = tt
+
+-- ---- an expansion as it is laid is one, with or without 16-bit forms
+
+one_laid : (s : BundleSlot) (slots laid : List BundleSlot) → slots ≡ s ∷ [] → AreAsLaid slots laid → (laid ≡ s ∷ []) ⊎ (laid ≡ alone s ∷ [])
+one_laid s slots laid e h = cases laid (subst (λ v. AreAsLaid v laid) e h)
+  where
+    cases : (laid : List BundleSlot) → AreAsLaid (s ∷ []) laid → (laid ≡ s ∷ []) ⊎ (laid ≡ alone s ∷ [])
+    cases [] h = absurd h
+    cases (x ∷ []) h = elim h.0 [ inl e ↦ inl (ap (λ y. y ∷ []) e) | inr e ↦ inr (ap (λ y. y ∷ []) e) ]
+    cases (x ∷ y ∷ laid) h = absurd h.1
+
+alone_laid : (rvc : Bool) (i : Instr) (slots laid : List BundleSlot) → IsAlone rvc i slots → AreAsLaid slots laid → (r : Bool) × IsAlone r i laid
+alone_laid false i slots laid e h = elim (one_laid (Wide i) slots laid e h) [ inl l ↦ (false, l) | inr l ↦ (false, l) ]
+alone_laid true i slots laid (inl f) h =
+    elim (one_laid (Short f.0) slots laid f.2 h) [
+      | inl l ↦ (true, inl (f.0, f.1, l))
+      | inr l ↦ (false, l ∙ ap (λ j. Wide j ∷ []) f.1.expands)
+    ]
+alone_laid true i slots laid (inr w) h = elim (one_laid (Wide i) slots laid w.1 h) [ inl l ↦ (false, l) | inr l ↦ (false, l) ]
+
+confined_laid : (rvc : Bool) (i : Instr) (slots laid : List BundleSlot) → IsConfined rvc i slots → AreAsLaid slots laid → (r : Bool) × IsConfined r i laid
+confined_laid rvc (Load kind rd a imm) slots laid e h = alone_laid rvc (Load kind rd (base_of a) imm) slots laid e h
+confined_laid rvc (Store width a rs2 imm) slots laid e h = alone_laid rvc (Store width (base_of a) rs2 imm) slots laid e h
+confined_laid rvc (Jalr rd a imm) slots laid e h = elim (one_laid (Wide (Jalr rd 30 imm)) slots laid e h) [ inl l ↦ (rvc, l) | inr l ↦ (rvc, l) ]
+confined_laid rvc other slots laid e h = alone_laid rvc other slots laid e h
+
+around_laid : (rvc step : Bool) (i : Instr) (slots laid : List BundleSlot) → IsAround rvc step i slots → AreAsLaid slots laid → (r : Bool) × IsAround r step i laid
+around_laid rvc step i slots laid e h =
+    let one = apart (before i) (e.0 ++ after step i) laid (subst (λ v. AreAsLaid v laid) e.2 h) in
+    let two = apart e.0 (after step i) one.rest one.are_rest in
+    let first = wide_stays (before i) one.first (before_wide i) one.are_first in
+    let last = wide_stays (after step i) two.rest (after_wide step i) two.are_rest in
+    let mid = confined_laid rvc i e.0 two.first e.1 two.are_first in
+    (mid.0, (two.first, mid.1, one.both ∙ ap (λ v. v ++ one.rest) first ∙ ap (λ v. before i ++ v) (two.both ∙ ap (λ v. two.first ++ v) last)))
+
+plain_laid : (moves rvc step : Bool) (i : Instr) (slots laid : List BundleSlot) → MatchBool moves (slots ≡ moved i) (IsAround rvc step i slots) → AreAsLaid slots laid
+    → (r : Bool) × MatchBool moves (laid ≡ moved i) (IsAround r step i laid)
+plain_laid true rvc step i slots laid e h = (rvc, wide_stays (moved i) laid (moved_wide i) (subst (λ v. AreAsLaid v laid) e h))
+plain_laid false rvc step i slots laid e h = around_laid rvc step i slots laid e h
+
+pub body_laid : (line : ℕ) (rvc step : Bool) (body : Body) (slots laid : List BundleSlot) → IsExpansionOf line rvc step body slots → AreAsLaid slots laid → (r : Bool) × IsExpansionOf line r step body laid
+body_laid line rvc step (Plain i) slots laid e h = plain_laid (is_move i && not step) rvc step i slots laid e h
+body_laid line rvc step (To i name) slots laid e h = (rvc, wide_stays (Jump i name line ∷ []) laid (refl, tt) (subst (λ v. AreAsLaid v laid) e h))
+body_laid line rvc step (High rd name) slots laid e h =
+    (rvc, wide_stays (Upper rd name line ∷ mask_after (Some rd)) laid (refl, mask_wide (Some rd)) (subst (λ v. AreAsLaid v laid) e h))
+body_laid line rvc step (Low rd name) slots laid e h =
+    (rvc, wide_stays (Lower rd name line ∷ mask_after (Some rd)) laid (refl, mask_wide (Some rd)) (subst (λ v. AreAsLaid v laid) e h))
+body_laid line rvc step (Base rd name) slots laid e h =
+    (rvc, wide_stays (Region rd name line ∷ mask_after (Some rd)) laid (refl, mask_wide (Some rd)) (subst (λ v. AreAsLaid v laid) e h))
+
+laid_acts : (x : Item) (later : List Item) (expanded own : List BundleSlot) (i : Instr) → MayBe x.body i → IsPermitted Sfiw x → IsExpansion x later expanded → AreAsLaid expanded own → ActsAs (is_step_before_use x later) i own
+laid_acts x later expanded own i be p is h =
+    let r = body_laid x.line x.rvc (is_step_before_use x later) x.body expanded own is h in
+    body_acts x.line r.0 (is_step_before_use x later) x.body i own be p.operands p.no_barred_jump (plain_steps x later) r.1
+
+-- ---- what stands before a label
+
+same_front : (a b c d : List BundleSlot) → a ++ b ≡ c ++ d → length a ≡ length c → a ≡ c
+same_front [] b [] d e l = refl
+same_front [] b (y ∷ c) d e l = absurd (omega arith)
+same_front (x ∷ a) b [] d e l = absurd (omega arith)
+same_front (x ∷ a) b (y ∷ c) d e l =
+    let first : x ≡ y = cc in
+    let rest : a ++ b ≡ c ++ d = cc in
+    ap (λ z. z ∷ a) first ∙ ap (λ v. y ∷ v) (same_front a b c d rest (omega arith))
+
+laid_length : (slots laid : List BundleSlot) → AreAsLaid slots laid → length laid ≡ length slots
+laid_length [] [] h = refl
+laid_length [] (x ∷ laid) h = absurd h
+laid_length (s ∷ slots) [] h = absurd h
+laid_length (s ∷ slots) (x ∷ laid) h = let rest = laid_length slots laid h.1 in omega arith
+
+words_before : (front : List Marked) (labelled : Bool) (slots : List BundleSlot) (rest : List Marked) → labelled ≡ true → AreSome slots
+    → in_words (front ++ (marked labelled slots ++ rest)) ≡ in_words front ++ in_words (marked labelled slots ++ rest)
+words_before front true slots rest l some =
+    subst (λ v. in_words (front ++ (marked true v ++ rest)) ≡ in_words front ++ in_words (marked true v ++ rest)) (sym some.are) (words_at_label front some.first (marked false some.rest ++ rest))
+words_before front false slots rest l some = absurd (true≢false (sym l))
+
+-- what is laid before a slot with a label are the words of the slots before it
+label_words : (front all rest : List Marked) (labelled : Bool) (slots first later : List BundleSlot) → AreSome slots → all ≡ front ++ (marked labelled slots ++ rest) → in_words all ≡ first ++ later
+    → AreAsLaid (map (λ m. m.1) front) first → labelled ≡ true → first ≡ in_words front
+label_words front all rest labelled slots first later some parts both laid l =
+    let lengths : length first ≡ length (in_words front) =
+    laid_length (map (λ m. m.1) front) first laid ∙ sym (laid_length (map (λ m. m.1) front) (in_words front) (as_laid front (in_words front) (view front))) in
+    let words : first ++ later ≡ in_words front ++ in_words (marked labelled slots ++ rest) = sym both ∙ ap (λ v. in_words v) parts ∙ words_before front labelled slots rest l some in
+    same_front first later (in_words front) (in_words (marked labelled slots ++ rest)) words lengths
+
+-- ---- an item among the others
+
+pub slots_of_marked : (labelled : Bool) (slots : List BundleSlot) → map (λ m. m.1) (marked labelled slots) ≡ slots
+slots_of_marked labelled [] = refl
+slots_of_marked labelled (s ∷ slots) = ap (λ v. s ∷ v) (slots_of_marked false slots)
+
+pub stands_in_words : (items : List Item) (p : Placement) (slots : List BundleSlot) (k : ℕ) (x : Item) → AreLaid items slots → slots_of p.bundles ≡ slots → All (IsPermitted Sfiw) items
+    → slice_get items k ≡ Some x → StandsTransparentInWords items p k x
+stands_in_words items p slots k x l code permitted at =
+    let within : k < length items = slice_get_within items k x at in
+    let is = get_or_from_slice_get items k x x at in
+    let from : drop k items ≡ x ∷ drop (k + 1) items = drop_more items k x within ∙ ap (λ (y : Item). y ∷ drop (k + 1) items) is in
+    let parts : items ≡ take k items ++ drop k items = sym (take-append-drop k items) in
+    let s = expanded_split (take k items) (drop k items) [] l.0 (subst (λ v. AreExpanded v [] l.0) parts l.1) in
+    let rest : AreExpanded (x ∷ drop (k + 1) items) [] s.back = subst (λ v. AreExpanded v [] s.back) from s.after in
+    let expanded = rest.0 in
+    let expansion : IsExpansion x (drop (k + 1) items) expanded = subst (λ v. IsExpansion x v expanded) (append-nil (drop (k + 1) items)) rest.2 in
+    let all : map (λ m. m.1) l.0 ≡ map (λ m. m.1) s.front ++ (expanded ++ map (λ m. m.1) rest.1) =
+    ap (λ v. map (λ m. m.1) v) s.both ∙ map-append (λ m. m.1) s.front s.back
+    ∙ ap (λ v. map (λ m. m.1) s.front ++ v) (ap (λ v. map (λ m. m.1) v) rest.3 ∙ map-append (λ m. m.1) (marked x.labelled expanded) rest.1 ∙ ap (λ v. v ++ map (λ m. m.1) rest.1) (slots_of_marked x.labelled expanded)) in
+    let laid : AreAsLaid (map (λ m. m.1) s.front ++ (expanded ++ map (λ m. m.1) rest.1)) (in_words l.0) = subst (λ v. AreAsLaid v (in_words l.0)) all (as_laid l.0 (in_words l.0) (view l.0)) in
+    let one = apart (map (λ m. m.1) s.front) (expanded ++ map (λ m. m.1) rest.1) (in_words l.0) laid in
+    let two = apart expanded (map (λ m. m.1) rest.1) one.rest one.are_rest in
+    let earlier : AreExpanded (take k items) (drop k items) s.front = subst (λ v. AreExpanded (take k items) v s.front) (append-nil (drop k items)) s.before in
+    let all_parts : l.0 ≡ s.front ++ (marked x.labelled expanded ++ rest.1) = s.both ∙ ap (λ v. s.front ++ v) rest.3 in
+    let some = expansion_of_some x.line x.rvc (is_step_before_use x (drop (k + 1) items)) x.body expanded expansion in
+    let may : IsPermitted Sfiw x = subst (IsPermitted Sfiw) is (All-get_or (IsPermitted Sfiw) items k x within permitted) in
+    record {
+      before = one.first;
+      own = two.first;
+      after = two.rest;
+      placed = code ∙ l.2 ∙ one.both ∙ ap (λ v. one.first ++ v) two.both;
+      earlier = s.front;
+      are_earlier = earlier;
+      stand_earlier = one.are_first;
+      at_label = λ e. (s.front, earlier, label_words s.front l.0 rest.1 x.labelled expanded one.first one.rest some all_parts one.both one.are_first e);
+      expanded = expanded;
+      is_expansion = expansion;
+      stands = two.are_first;
+      transparent = λ i be. laid_acts x (drop (k + 1) items) expanded two.first i be may expansion two.are_first;
+    }
+
+-- ==== Each instruction of a source stands transparent in what is placed.
+
+regrouped : (front nops expanded rest pad : List BundleSlot) → (front ++ (nops ++ (expanded ++ rest))) ++ pad ≡ front ++ (nops ++ (expanded ++ (rest ++ pad)))
+regrouped front nops expanded rest pad =
     append_assoc front (nops ++ (expanded ++ rest)) pad
     ∙ ap (λ v. front ++ v) (append_assoc nops (expanded ++ rest) pad ∙ ap (λ v. nops ++ v) (append_assoc expanded rest pad))
 
@@ -32,7 +226,7 @@ stand_in_bundles f items p slots nops k x laid code permitted at =
       after = after.2 ++ replicate nops c_nop;
       placed =
           code ∙ ap (λ v. v ++ replicate nops c_nop) (split.both ∙ ap (λ v. split.front ++ v) after.4)
-          ∙ apart split.front (replicate after.0 c_nop) after.1 after.2 (replicate nops c_nop);
+          ∙ regrouped split.front (replicate after.0 c_nop) after.1 after.2 (replicate nops c_nop);
       transparent = λ i be. all_transparent f x i after.1 be is after.3.expansion;
     }
 

@@ -4,8 +4,7 @@ use Rattle.std.specs.Prelude.{Result, IfOk, IfErr}
 use Rattle.sfi_rewrite.specs.words.Expansion.{IsConfined, IsAround, IsExpansionOf, IsExpansion, before, after, base_of, is_step_before_use, is_move, moved, mask_after}
 use Rattle.sfi_rewrite.specs.private.{WordsSoFar, bytes_of, waiting_size, more_for, ended, before_label, with_slot, with_slots, with_more, LeadsTo, HaveRoom, AreWith, IsBeyond, HasNoRoom, AreOfFirst}
 use Rattle.sfi_rewrite.proofs.OneByOne.{StandsAt, room_fault}
-use Rattle.sfi_rewrite.proofs.WordLaying.{ended_leads, ended_last}
-use Rattle.sfi_rewrite.proofs.WordFilled.{slot_bytes, slot_aligned, ended_bytes, ended_aligned, ended_none, slots_append, slots_push, slots_more, slots_lead}
+use Rattle.sfi_rewrite.proofs.WordLaying.{ended_leads, ended_last, slot_bytes, slot_aligned, ended_bytes, ended_aligned, ended_none, slots_append, slots_push, slots_more, slots_lead}
 
 -- ---- one slot
 

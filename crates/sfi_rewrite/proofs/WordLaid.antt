@@ -2,7 +2,7 @@
 use Rattle.sfi_rewrite.proofs.Prelude.{◌≡◌, ℕ, zero, suc, ◌%◌, ◌≤◌, List, [], ◌∷◌, ◌++◌, length, take, drop, refl, sym, ap, ◌∙◌, subst, arith, append_assoc, take_all, take-take, All, MatchBool, Format, Item, BundleSlot, size_of, IsPermitted, AreFaultless, AreLaidFrom, Bool, true, false, ◌&&◌, Instr, Load, Store, Jalr, Body, Plain, Sfi1, Sfi2, Sfiw, take-append-drop, drop_all, AreLaidIn, not, code_most, has_words, Marked, marked, in_words, AreExpanded, AreLaidBefore}
 use Rattle.sfi_rewrite.specs.words.Expansion.{IsExpansion, before, after, base_of, IsConfined, IsAround, IsExpansionOf, is_step_before_use, is_move, moved}
 use Rattle.sfi_rewrite.proofs.Laid.{laid_one_way, alone_one_way, laid_split}
-use Rattle.sfi_rewrite.proofs.WordView.{words_more, word_aligned}
+use Rattle.sfi_rewrite.proofs.WordLaying.{words_more, word_aligned}
 use Rattle.sfi_rewrite.specs.Laws.{OneWordExpansion}
 use Rattle.sfi_rewrite.proofs.Sizes.{size_of-append}
 

@@ -1,5 +1,5 @@
 use Rattle.sfi_rewrite.proofs.Prelude.{named}
-use Rattle.sfi_rewrite.proofs.PlacedNames.{asked, label_at, none_at, names_push}
+use Rattle.sfi_rewrite.proofs.Sources.{asked, label_at, none_at, names_push}
 use Rattle.sfi_rewrite.proofs.names.place_names.Goals as goal
 
 pub placed_name-requires : goal.placed_name-requires

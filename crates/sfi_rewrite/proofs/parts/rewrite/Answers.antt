@@ -1,7 +1,6 @@
 use Rattle.sfi_rewrite.proofs.Prelude.{subst, sym, AllZip, UnlessMemory, IsSourceFault, IsRewritten, err_from_is_err_and}
-use Rattle.sfi_rewrite.proofs.OneFault.{rewritten_has_none}
+use Rattle.sfi_rewrite.proofs.Sources.{rewritten_has_none, is_placed, fault_answered}
 use Rattle.sfi_rewrite.proofs.Standing.{all_stand}
-use Rattle.sfi_rewrite.proofs.Sources.{is_placed, fault_answered}
 use Rattle.sfi_rewrite.proofs.parts.rewrite.Goals as goal
 
 pub returns-in_err-place_parts-clause-only_fault : goal.returns-in_err-place_parts-clause-only_fault

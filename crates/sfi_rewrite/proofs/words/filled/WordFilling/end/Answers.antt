@@ -1,5 +1,5 @@
 use Rattle.sfi_rewrite.proofs.Prelude.{so_far}
-use Rattle.sfi_rewrite.proofs.WordFilled.{fits_four}
+use Rattle.sfi_rewrite.proofs.WordLaying.{fits_four}
 use Rattle.sfi_rewrite.proofs.words.filled.WordFilling.end.Goals as goal
 
 pub overflow_add-result : goal.overflow_add-result

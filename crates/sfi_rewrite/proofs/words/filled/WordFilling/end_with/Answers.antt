@@ -1,4 +1,4 @@
-use Rattle.sfi_rewrite.proofs.WordFilled.{fits_more}
+use Rattle.sfi_rewrite.proofs.WordLaying.{fits_more}
 use Rattle.sfi_rewrite.proofs.words.filled.WordFilling.end_with.Goals as goal
 
 pub overflow_add-result : goal.overflow_add-result
