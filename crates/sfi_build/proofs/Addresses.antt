@@ -2,8 +2,7 @@
 use Rattle.sfi_link.proofs.Prelude.{◌≡◌, sym, subst, ℕ, ◌+◌, ◌^◌, ◌<◌, List, length, get_or, arith, Place, Placement, IsPlacedPart, IsPlaced, bases_of, AreNear}
 use Rattle.sfi_link.specs.Linked.{IsLinkedImage}
 use Rattle.sfi_link.proofs.Linking.{near_of}
-use Rattle.sfi_link.proofs.Mapping.{linked_at}
-use Rattle.sfi_link.proofs.Parts.{start_fits}
+use Rattle.sfi_link.proofs.Parts.{linked_at, start_fits}
 
 pub near_at : (given : List Place) (placed : List Placement) (bytes : List ℕ) → IsPlaced placed → IsLinkedImage given placed bytes → (k : ℕ) (p : Placement) → k < length placed → p ≡ get_or placed k p
     → AreNear (bases_of given k p) p.names × ((bases_of given k p).start < 2 ^ 32)

@@ -3,7 +3,7 @@ use Rattle.sfi_link.proofs.Prelude.{◌≡◌, ℕ, List, Some, sym, subst, arit
 use Rattle.sfi_image.specs.Parts.{IsImage}
 use Rattle.sfi_image.proofs.Facts.{one_image}
 use Rattle.sfi_link.specs.Names.{BeginsUnit, map_from}
-use Rattle.sfi_link.proofs.Labels.{labels_begin_units}
+use Rattle.sfi_link.proofs.Parts.{labels_begin_units}
 use Rattle.sfi_rewrite.proofs.Facts as sources
 use Rattle.sfi_build.specs.Laws.{CodeLabelsBeginUnits}
 use Rattle.sfi_build.proofs.Building.{one_build, whole_right}

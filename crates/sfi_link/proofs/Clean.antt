@@ -17,7 +17,7 @@ use Rattle.sfi_rewrite.specs.Placed.{expansion as whole_expansion}
 use Rattle.std.proofs.lemmas.Bool as bool
 use Rattle.sfi_rewrite.specs.Expansion as stack
 use Rattle.sfi_rewrite.proofs.Sizes.{size_of-cons}
-use Rattle.sfi_link.proofs.Sizes.{slot_some}
+use Rattle.sfi_link.proofs.Bytes.{slot_some}
 use Rattle.sfi_link.proofs.CleanPlaces.{AreStarts, IsReadAs, IsCleanFrom, passes, place, or_left, unreserved, is_calm, writes_unreserved, calm, no_write, well_written, pair_read, or_read, second_false, on_stack, lands, direct, PassesBefore, step, some_same, made, slot_spells, lone_ends}
 
 -- ---- slot by slot

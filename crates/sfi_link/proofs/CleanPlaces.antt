@@ -15,7 +15,7 @@ use Rattle.sfi_image.specs.declared.bundle.BundlePlace.{BundlePlace}
 use Rattle.std.proofs.Math.Seq.{take-append_seam, drop-append_seam}
 use Rattle.sfi_rewrite.specs.Expansion as stack
 use Rattle.rv_comp.proofs.Facts.{word_spells, spelled_length, two_lengths}
-use Rattle.sfi_link.proofs.Written.{short_spells}
+use Rattle.sfi_link.proofs.Bytes.{short_spells}
 use Rattle.sfi_rewrite.proofs.Sizes.{size_of-cons}
 use Rattle.sfi_rules.proofs.OneList.{front_one}
 pub use Rattle.std.proofs.lemmas.Option.{same_Some as some_same}

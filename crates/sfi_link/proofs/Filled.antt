@@ -1,7 +1,7 @@
 -- What is placed, filled up with c.ebreaks, is full bundles.
 use Rattle.sfi_link.proofs.Prelude.{◌≡◌, ℕ, zero, suc, ◌+◌, ◌-◌, ◌*◌, ◌/◌, ◌<◌, List, [], ◌∷◌, ◌++◌, length, get_or, true, refl, sym, ap, ◌∙◌, arith, append_assoc, append-nil, replicate, All, length-replicate, get_or-replicate, replicate-append-replicate, All-head, All-tail, All-cons, All-replicate, Format, BundleSlot, size_of, slots_of, AreBundles, AreWhole, nothing, c_ebreak}
 use Rattle.sfi_rewrite.proofs.Sizes.{size_of-append, size_even}
-use Rattle.sfi_link.proofs.Sizes.{size_fill}
+use Rattle.sfi_link.proofs.Bytes.{size_fill}
 use Rattle.sfi_link.proofs.CleanPlaces.{ends_slots}
 use Rattle.sfi_link.proofs.Region.{IsFull}
 

@@ -16,7 +16,7 @@ use Rattle.sfi_rewrite.proofs.WordLaying.{InWords, view, as_laid, word_aligned}
 use Rattle.sfi_link.proofs.WordItems.{AreWordStarts, nothing_owed, items_right}
 use Rattle.sfi_link.proofs.WordRegion.{IsFilled, filled_is_clean}
 use Rattle.sfi_link.proofs.CleanPlaces.{AreStarts, some_same}
-use Rattle.sfi_link.proofs.Stubs.{bundle_stub}
+use Rattle.sfi_link.proofs.Bytes.{bundle_stub}
 use Rattle.sfi_link.proofs.Region.{IsClosed, closed_is_clean}
 use Rattle.sfi_link.proofs.Filled.{filled}
 use Rattle.sfi_link.proofs.Parts.{well_placed, sixteens, listed_at, listed_only}

@@ -13,7 +13,7 @@ use Rattle.sfi_image.proofs.Formats.{code_at_most}
 use Rattle.sfi_rewrite.specs.declared.placed.PlacedName.TheVariants as name
 use Rattle.sfi_link.specs.declared.fault.LinkFault.TheVariants as named
 use Rattle.sfi_rewrite.proofs.Sizes.{size_even}
-use Rattle.sfi_link.proofs.Stubs.{length_stubs}
+use Rattle.sfi_link.proofs.Bytes.{length_stubs}
 use Rattle.sfi_link.proofs.Parts.{sixteens, well_placed}
 use Rattle.sfi_link.proofs.Pushed.{slots-append, written_length, fill_slots, memory_or, then_unless}
 use Rattle.sfi_link.proofs.OneLinking.{one_size, one_linking, one_fault, never_both}

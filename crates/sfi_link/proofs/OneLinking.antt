@@ -3,9 +3,8 @@ use Rattle.sfi_link.proofs.Prelude.{append_assoc, ◌≡◌, ℕ, ◌+◌, ◌*�
 use Rattle.std.proofs.lemmas.Option.{none-some}
 use Rattle.sfi_image.proofs.Tests.{front_apart}
 use Rattle.sfi_rewrite.proofs.Sizes.{size_of-append}
-use Rattle.sfi_link.proofs.Sizes.{size_fill}
+use Rattle.sfi_link.proofs.Bytes.{size_fill, length_stubs}
 use Rattle.sfi_link.proofs.CleanPlaces.{some_same, made}
-use Rattle.sfi_link.proofs.Stubs.{length_stubs}
 use Rattle.sfi_link.proofs.Parts.{slots_length}
 
 -- ---- bytes

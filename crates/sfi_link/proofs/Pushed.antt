@@ -1,5 +1,4 @@
--- Slots written one after another.
-use Rattle.sfi_link.proofs.Prelude.{◌≡◌, ℕ, zero, suc, ◌+◌, ◌<◌, List, [], ◌∷◌, ◌++◌, length, drop, get_or, replicate, Some, refl, sym, ap, ◌∙◌, subst, arith, append_assoc, append-nil, length-append, inl, inr, ℤ, pos, All, repeat, w32, to_le_bytes, ints, Op, OpImm, Lui, Addi, Option, None, slice_get, of_name, InRange, IsReg, IsImm12, spelling, expansion, upper, lower, BundleSlot, Upper, Lower, Region, PlacedName, slot_size, size_of, Bases, LinkFault, value_at, IsSlot, AreSlots, made_of, c_ebreak, HasRoomFor, IsPushed, AreWritten, HasSlotFault, IsSlotFault, ◌⊎◌, Encodes}
+-- Slots written one after another, and that they stand in a memory that holds their bytes.
 use Rattle.rv_comp.specs.declared.form.Form16.TheVariants.{CEbreak}
 use Rattle.rv_word.specs.declared.instr.RegOp.TheVariants.{Add}
 use Rattle.sfi_rewrite.specs.declared.placed.PlacedName.TheVariants as name
@@ -11,6 +10,18 @@ use Rattle.std.proofs.lemmas.List.Elements.{All-take, All-drop}
 use Rattle.sfi_rewrite.proofs.Sizes.{size_of-cons, size_of-append}
 use Rattle.sfi_link.proofs.Parts.{slots_length}
 use Rattle.sfi_link.specs.declared.fault.LinkFault.TheVariants.{Memory}
+use Rattle.rv_mem.specs.Bytes.{Bytes, byte_at, address_after}
+use Rattle.rv_mem.specs.Laws.{Holds}
+use Rattle.rv_step.specs.State.{State}
+use Rattle.rv_step.specs.Step.{Stands, further}
+use Rattle.sfi_link.specs.Standing.{IsResolvedTo, AreResolvedTo}
+use Rattle.sfi_rewrite.specs.Transparency.{SlotStands, SlotsStand}
+use Rattle.rv_mem.proofs.Facts.{read_is_held}
+use Rattle.rv_comp.proofs.Facts.{spelled_length}
+use Rattle.sfi_link.proofs.CleanPlaces.{slot_spells, some_same}
+use Rattle.sfi_link.proofs.Prelude.{◌≡◌, ℕ, zero, suc, ◌+◌, ◌<◌, List, [], ◌∷◌, ◌++◌, length, drop, get_or, replicate, Some, refl, sym, ap, ◌∙◌, subst, arith, append_assoc, append-nil, length-append, inl, inr, ℤ, pos, All, repeat, w32, to_le_bytes, ints, Op, OpImm, Lui, Addi, Option, None, slice_get, of_name, InRange, IsReg, IsImm12, spelling, expansion, upper, lower, BundleSlot, Upper, Lower, Region, PlacedName, slot_size, size_of, Bases, LinkFault, value_at, IsSlot, AreSlots, made_of, c_ebreak, HasRoomFor, IsPushed, AreWritten, HasSlotFault, IsSlotFault, ◌⊎◌, Encodes, slice_index, get_or_append_left, get_or-append-add, Instr, Wide, Short}
+
+-- ==== Slots written one after another.
 
 -- ---- what is said of a fault, unless memory ran out
 
@@ -178,3 +189,42 @@ pub fill_slots : (at : Bases) (names : List PlacedName) (here n : ℕ) → AreSl
 fill_slots at names here zero = refl
 fill_slots at names here (suc n) =
     (0x02 ∷ 0x90 ∷ [], repeat n (0x02 ∷ 0x90 ∷ []), record { instr = expansion CEbreak; resolves = refl; spelled = (refl, refl) }, fill_slots at names (here + 2) n, refl)
+
+-- ==== Where a memory holds the linker's bytes of slots, the slots stand.
+
+-- ---- memory
+
+-- bytes between others, in a memory that holds all of them
+pub held_part : (m : Bytes) (base to : ℕ) (front mid rest all : List ℕ) → ((k : ℕ) → address_after to k ≡ address_after base (length front + k)) → all ≡ front ++ (mid ++ rest) → Holds m base (length all) all → Holds m to (length mid) mid
+held_part m base to front mid rest all same e h = record {
+  count = refl;
+  each = λ k below.
+      let size : length all ≡ length front + (length mid + length rest) = ap (λ (l : List ℕ). length l) e ∙ length-append front (mid ++ rest) ∙ ap (λ n. length front + n) (length-append mid rest) in
+      let there : slice_index all (length front + k) ≡ slice_index mid k =
+      ap (λ (l : List ℕ). slice_index l (length front + k)) e ∙ get_or-append-add front (mid ++ rest) k 0 ∙ get_or_append_left mid rest 0 k below in
+      ap (byte_at m) (same k) ∙ h.each (length front + k) (omega arith) ∙ ap Some there;
+}
+
+-- ---- one slot
+
+slot_there : (at : Bases) (names : List PlacedName) (here : ℕ) (i : Instr) (x : BundleSlot) (bytes : List ℕ) (s : State) (is : IsSlot at names here x bytes) → IsResolvedTo at names here i x
+    → Stands s is.instr (slot_size x) → SlotStands i s x
+slot_there at names here i (Wide j) bytes s is goes st = subst (λ (k : Instr). Stands s k 4) (sym (some_same j is.instr is.resolves)) st
+slot_there at names here i (Short f) bytes s is goes st = subst (λ (k : Instr). Stands s k 2) (sym (some_same (expansion f) is.instr is.resolves)) st
+slot_there at names here i _ bytes s is goes st = subst (λ (k : Instr). Stands s k 4) (some_same is.instr i (sym is.resolves ∙ goes)) st
+
+-- ---- slots
+
+pub slots_there : (at : Bases) (names : List PlacedName) (here : ℕ) (i : Instr) (slots : List BundleSlot) (bytes : List ℕ) (s : State)
+    → AreSlots at names here slots bytes → AreResolvedTo at names here i slots → Holds s.memory s.hart.pc (length bytes) bytes → SlotsStand i s slots
+slots_there at names here i [] bytes s h goes m = tt
+slots_there at names here i (x ∷ slots) bytes s h goes m =
+    let front = h.0 in
+    let rest = h.1 in
+    let spelled = slot_spells at names here x front h.2 in
+    let count = spelled_length front h.2.instr (slot_size x) spelled in
+    let first = held_part s.memory s.hart.pc s.hart.pc [] front rest bytes (λ k. omega arith) h.4 m in
+    let later = held_part s.memory s.hart.pc (address_after s.hart.pc (slot_size x)) front rest [] bytes (λ k. omega arith) (h.4 ∙ ap (λ l. front ++ l) (sym (append-nil rest))) m in (
+      slot_there at names here i x front s h.2 goes.0 (record { bytes = front; there = (read_is_held s.memory s.hart.pc (slot_size x) front).1 (subst (λ n. Holds s.memory s.hart.pc n front) count first); spelled = spelled }),
+      slots_there at names (here + slot_size x) i slots rest (further s (slot_size x)) h.3 goes.1 later,
+    )

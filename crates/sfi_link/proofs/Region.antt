@@ -12,7 +12,7 @@ use Rattle.rv_comp.proofs.Facts.{word_spells}
 use Rattle.sfi_rewrite.proofs.Sizes.{size_of-cons}
 use Rattle.sfi_link.proofs.CleanPlaces.{AreStarts, ends_slots, ends_well, IsEndFine, IsCleanFrom, whole_is_longest}
 use Rattle.sfi_link.proofs.Clean.{IsCleanly, clean, clean_fill}
-use Rattle.sfi_link.proofs.Sizes.{join}
+use Rattle.sfi_link.proofs.Bytes.{join}
 use Rattle.std.proofs.lemmas.Grind.{flat_map-append}
 
 -- ---- bundles by their number

@@ -19,10 +19,9 @@ use Rattle.std.specs.Prelude.{not, ◌&&◌, ◌||◌, ◌==◌, drop, Option, N
 use Rattle.sfi_rewrite.proofs.Facts.{rewritten_is_transparent}
 use Rattle.sfi_rewrite.proofs.Standing.{body_laid}
 use Rattle.sfi_link.proofs.CleanPlaces.{made}
-use Rattle.sfi_link.proofs.Pushed.{which_base}
+use Rattle.sfi_link.proofs.Pushed.{which_base, held_part, slots_there}
 use Rattle.rv_word.specs.declared.instr.RegOp.TheVariants.{Add}
-use Rattle.sfi_link.proofs.SlotsThere.{held_part, slots_there}
-use Rattle.sfi_link.proofs.Stubs.{length_stubs}
+use Rattle.sfi_link.proofs.Bytes.{length_stubs}
 use Rattle.sfi_link.proofs.Region.{AreCut, cut}
 use Rattle.sfi_rewrite.proofs.Sizes.{size_of-append, size_nops}
 use Rattle.sfi_link.proofs.Parts.{slots_length, linked_right}

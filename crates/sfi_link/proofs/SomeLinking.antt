@@ -13,7 +13,7 @@ use Rattle.sfi_image.specs.Spelling as image
 use Rattle.sfi_link.specs.declared.fault.LinkFault.TheVariants as named
 use Rattle.sfi_image.proofs.Deciding.{Decided, decided_both, decided_lt, decided_pairs, decided_apart, decided_region, decided_guard_room}
 use Rattle.sfi_link.proofs.OneLinking.{one_size}
-use Rattle.sfi_link.proofs.Stubs.{length_stubs}
+use Rattle.sfi_link.proofs.Bytes.{length_stubs}
 use Rattle.sfi_image.proofs.Formats.{code_at_most}
 use Rattle.sfi_link.proofs.LinkedClean.{all_are_clean}
 use Rattle.sfi_link.proofs.Parts.{linked_is_right}

@@ -10,7 +10,7 @@ use Rattle.sfi_rules.specs.Rules.{rest_finding, is_empty}
 use Rattle.sfi_rules.specs.Readings.{bundle_place, bundle_bytes}
 use Rattle.sfi_rules.specs.words.Findings.{found_from, owed_past, IsWordFound, AreFoundInWords, AreFoundOfFirst, AreFindingsInWords}
 use Rattle.sfi_link.proofs.CleanPlaces.{whole_is_longest}
-use Rattle.sfi_link.proofs.Sizes.{join}
+use Rattle.sfi_link.proofs.Bytes.{join}
 
 -- ---- one word
 

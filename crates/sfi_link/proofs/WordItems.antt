@@ -25,9 +25,8 @@ use Rattle.sfi_rules.specs.words.Rules.{is_word_start, may_access, places, masks
 use Rattle.sfi_rewrite.proofs.Sizes.{size_of-append}
 use Rattle.sfi_rewrite.proofs.Standing.{apart, body_laid, slots_of_marked}
 use Rattle.sfi_link.proofs.CleanPlaces.{is_calm, lands, made}
-use Rattle.sfi_link.proofs.WordRules.{IsLawful, Meets, lawful_by, meets_by}
+use Rattle.sfi_link.proofs.WordSlots.{IsLawful, Meets, lawful_by, meets_by, IsRight, AreRight, right_append, right_known, right_alone, mask_right, after_right}
 use Rattle.sfi_link.proofs.WordOwing.{of_data, free_one, IsFreeOne, unreserved, no_offset, use_is, IsMaskOwed, Owes, owing, owing_as_named}
-use Rattle.sfi_link.proofs.WordSlots.{IsRight, AreRight, right_append, right_known, right_alone, mask_right, after_right}
 
 -- ---- names
 

@@ -16,13 +16,11 @@ use Rattle.rv_comp.proofs.Facts.{word_spells, spelled_length}
 use Rattle.sfi_rewrite.proofs.Sizes.{size_of-cons}
 use Rattle.sfi_rewrite.proofs.WordLaying.{InWords, no_word, two_forms, one_slot}
 use Rattle.sfi_link.proofs.CleanPlaces.{slot_spells, some_same}
-use Rattle.sfi_link.proofs.Stubs.{length_stubs}
+use Rattle.sfi_link.proofs.Bytes.{length_stubs, join, size_fill}
 use Rattle.sfi_link.proofs.Region.{cut}
 use Rattle.sfi_link.proofs.Parts.{slots_length}
-use Rattle.sfi_link.proofs.Sizes.{join, size_fill}
 use Rattle.sfi_link.proofs.WordFound.{IsQuiet, AreQuiet, quiet_append, length_join, quiet_is_clean}
-use Rattle.sfi_link.proofs.WordRules.{IsLawful, Meets, lawful_by, meets_by, place, quiet_end, quiet_piece}
-use Rattle.sfi_link.proofs.WordSlots.{IsRight, AreRight}
+use Rattle.sfi_link.proofs.WordSlots.{IsLawful, Meets, lawful_by, meets_by, place, quiet_end, quiet_piece, IsRight, AreRight}
 use Rattle.std.proofs.lemmas.Grind.{flat_map-append}
 
 -- ---- a word

@@ -1,5 +1,5 @@
 use Rattle.std.proofs.Common.{arith}
-use Rattle.sfi_link.proofs.Sizes.{all_but_last}
+use Rattle.sfi_link.proofs.Bytes.{all_but_last}
 use Rattle.sfi_link.proofs.code_region.size_of_bundles.Goals as goal
 
 pub returns-in-Some : goal.returns-in-Some

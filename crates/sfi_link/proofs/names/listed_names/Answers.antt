@@ -1,9 +1,8 @@
 use Rattle.sfi_link.proofs.Prelude.{◌≡◌, ◌+◌, ◌++◌, ◌∙◌, ◌∷◌, map, drop, refl, sym, subst, ap, arith, append_assoc, IsPlacedPart, entries_of, entries_in, map_from, bases_of, Some}
 use Rattle.std.proofs.lemmas.List.{at_drop_more}
 use Rattle.std.proofs.lemmas.Option.{slice_get_read, slice_get_past}
-use Rattle.sfi_link.proofs.Parts.{start_fits}
+use Rattle.sfi_link.proofs.Parts.{start_fits, linked_at}
 use Rattle.sfi_link.proofs.Linking.{near_of}
-use Rattle.sfi_link.proofs.Mapping.{linked_at}
 use Rattle.sfi_link.proofs.names.listed_names.Goals as goal
 
 pub bases_of-at-requires-clause-fits : goal.bases_of-at-requires-clause-fits

@@ -1,5 +1,5 @@
 use Rattle.sfi_link.proofs.Prelude.{sym, ◌∙◌}
-use Rattle.sfi_link.proofs.Stubs.{words_stub, bundle_stub}
+use Rattle.sfi_link.proofs.Bytes.{words_stub, bundle_stub}
 use Rattle.sfi_link.proofs.stub.stub_of.Goals as goal
 
 pub returns-then-has_words : goal.returns-then-has_words
