@@ -1,11 +1,6 @@
-pub mod Even
 pub mod Tails
 pub mod Fitting
-pub mod Steps
-pub mod Addresses
 pub mod Making
 pub mod Building
 pub mod Whole
-pub mod SomeBuilding
-pub mod Labels
 pub mod Facts

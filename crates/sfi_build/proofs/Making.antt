@@ -1,22 +1,69 @@
--- What the bytes of a table are made of.
-use Rattle.sfi_link.proofs.Prelude.{◌≡◌, refl, sym, ap, ◌∙◌, ◌⊎◌, inl, inr, ℕ, ◌+◌, ◌^◌, ◌<◌, ◌≤◌, ◌==◌, ◌&&◌, List, [], ◌∷◌, ◌++◌, Option, None, Some, Result, Ok, Err, Bool, true, false, nat_lt, length, map, slice_get, get_or, take, drop, arith, append-nil, take_more, map_push, length-take-le, All, Sandbox, Place, Placement}
+-- Tables are made step by step: what their bytes are made of.
+use Rattle.sfi_link.proofs.Prelude.{◌≡◌, sym, subst, ℕ, ◌+◌, ◌^◌, ◌<◌, List, length, get_or, arith, Place, Placement, IsPlacedPart, IsPlaced, bases_of, AreNear, refl, ap, ◌∙◌, zero, suc, [], ◌∷◌, ◌++◌, Option, None, Some, Result, Ok, Err, map, slice_get, take, drop, append_assoc, append-nil, Sandbox, ◌⊎◌, inl, inr, ◌≤◌, ◌==◌, ◌&&◌, Bool, true, false, nat_lt, take_more, map_push, length-take-le, All}
+use Rattle.sfi_link.specs.Linked.{IsLinkedImage}
+use Rattle.sfi_link.proofs.Linking.{near_of}
+use Rattle.sfi_link.proofs.Parts.{linked_at, start_fits}
+use Rattle.std.proofs.lemmas.List.{at_drop_more, drop_all}
+use Rattle.sfi_names.specs.Tables.{Named, Table, IsNamed, IsTable, entry, entries, spelling}
+use Rattle.sfi_text.specs.declared.source_text.Listed.{Listed}
+use Rattle.sfi_text.specs.SoFar.{SharedNames}
+use Rattle.sfi_build.specs.declared.table_fault.TableFault.{TableFault}
+use Rattle.sfi_build.specs.declared.table_fault.TableFault.TheVariants.{Unknown, NoRoom}
+use Rattle.sfi_build.specs.Tables.{address_in, on_ok, entry_with, entry_before, entries_of, tail_of, tails_from, each_with, sandbox_with, table_of, bytes_within, is_unlisted, room_of}
 use Rattle.std.proofs.Common.{cond}
 use Rattle.std.specs.List.{AllByRecursion}
 use Rattle.std.proofs.lemmas.List.Elements.{recursion_from_All}
 use Rattle.std.proofs.lemmas.Bool.{lt-ltb, le-ltb}
 use Rattle.std.proofs.lemmas.Grind.{flat_map-append}
-use Rattle.sfi_names.specs.Tables.{Named, Table, IsNamed, IsTable, entry, entries, spelling}
 use Rattle.sfi_build.specs.declared.build_fault.BuildFault.{BuildFault}
 use Rattle.sfi_build.specs.private.{IsTableStop}
 use Rattle.sfi_source.specs.Names.{IsShortLabel}
 use Rattle.sfi_source.specs.declared.item.Named.{Named as Meaning}
-use Rattle.sfi_text.specs.declared.source_text.Listed.{Listed}
-use Rattle.sfi_text.specs.SoFar.{SharedNames}
-use Rattle.sfi_build.specs.declared.table_fault.TableFault.{TableFault}
-use Rattle.sfi_build.specs.declared.table_fault.TableFault.TheVariants.{Unknown, NoRoom}
-use Rattle.sfi_build.specs.Tables.{on_ok, entry_with, entry_before, entries_of, table_of, bytes_within, is_unlisted, room_of, address_in, tail_of, tails_from, each_with, sandbox_with}
-use Rattle.sfi_build.proofs.Steps.{after, one_more, each_with_push}
 use Rattle.sfi_build.proofs.Fitting.{AreShort}
+
+-- ==== The addresses of names in an image have 32 bits.
+
+pub near_at : (given : List Place) (placed : List Placement) (bytes : List ℕ) → IsPlaced placed → IsLinkedImage given placed bytes → (k : ℕ) (p : Placement) → k < length placed → p ≡ get_or placed k p
+    → AreNear (bases_of given k p) p.names × ((bases_of given k p).start < 2 ^ 32)
+near_at given placed bytes right image k p less is =
+    let q = linked_at given 0 k k placed image.parts p (omega arith) less is image.linked.each in
+    let room = q.1.code.size.has_room in
+    let own : IsPlacedPart p = subst (λ r. IsPlacedPart r) (sym is) (right.each k p less) in
+    (near_of given k p _ own room q.1.lies, start_fits given k p _ room q.1.lies)
+
+-- ==== Tables are made step by step: entries of what is listed, and first data bytes of sandboxes.
+
+-- what was made before it, and on_ok what is made of the rest
+abbrev pub after : {X : Type 0} → List X → Result (List X) TableFault → Result (List X) TableFault
+after made rest = on_ok rest (λ more. Ok (made ++ more))
+
+pub at_first : {X : Type 0} (r : Result (List X) TableFault) → r ≡ after [] r
+at_first (Ok x) = refl
+at_first (Err f) = refl
+
+pub at_last : {X : Type 0} (made : List X) → after made (Ok []) ≡ Ok made
+at_last made = ap (λ l. Ok l) (append-nil made)
+
+pub one_more : {X : Type 0} (made : List X) (x : X) (rest : Result (List X) TableFault) → after made (on_ok rest (λ more. Ok (x ∷ more))) ≡ after (made ++ x ∷ []) rest
+one_more made x (Ok more) = ap (λ l. Ok l) (sym (append_assoc made (x ∷ []) more))
+one_more made x (Err f) = refl
+
+-- the next of what is listed, if there is one, is its first
+pub next : {X : Type 0} (xs : List X) (k : ℕ) (x : X) → k < length xs → x ≡ get_or xs k x → drop k xs ≡ x ∷ drop (k + 1) xs
+next xs k x less is = at_drop_more (λ l. l) xs k x less ∙ ap (λ y. y ∷ drop (k + 1) xs) (sym is)
+
+pub each_with_none : {X : Type 0} (add : List ℕ → X → X) (bs : List (List ℕ)) → each_with add bs [] ≡ []
+each_with_none add [] = refl
+each_with_none add (b ∷ bs) = refl
+
+pub each_with_push : {X : Type 0} (add : List ℕ → X → X) (bs : List (List ℕ)) (b : List ℕ) (xs : List X) (x : X) → length bs ≡ length xs
+    → each_with add (bs ++ b ∷ []) (xs ++ x ∷ []) ≡ each_with add bs xs ++ add b x ∷ []
+each_with_push add [] b [] x same = refl
+each_with_push add [] b (y ∷ ys) x same = absurd (omega (arith, same))
+each_with_push add (c ∷ bs) b [] x same = absurd (omega (arith, same))
+each_with_push add (c ∷ bs) b (y ∷ ys) x same = ap (λ l. add c y ∷ l) (each_with_push add bs b ys x (omega (arith, same)))
+
+-- ==== What the bytes of a table are made of.
 
 each_short : (names : List (List ℕ × Meaning)) → AllByRecursion (λ e. IsShortLabel e.0) names → AreShort (map (λ e. e.0) names)
 each_short [] h = tt

@@ -1,25 +1,37 @@
--- The image of a source with its tables is that without them, with other first data bytes.
-use Rattle.sfi_link.proofs.Prelude.{◌≡◌, refl, sym, ap, subst, ◌∙◌, ℕ, ◌+◌, ◌≤◌, List, [], ◌∷◌, Ok, length, length-map, arith, Sandbox, IsSandbox, Placement, Place, Part, AreLinkedFrom, AreLinked, IsPlaced, map_from}
+-- The image with its tables: it is that without them, a text has one or a fault, and what begins
+-- at labels.
 use Rattle.sfi_image.specs.Spelling.{spelling}
-use Rattle.sfi_link.specs.Names.{MapEntry}
+use Rattle.sfi_link.specs.Names.{MapEntry, BeginsUnit}
 use Rattle.std.proofs.lemmas.List.Elements.{recursion_from_All}
 use Rattle.sfi_source.specs.Source.{IsSource}
-use Rattle.sfi_text.specs.SoFar.{SharedNames}
+use Rattle.sfi_text.specs.SoFar.{SharedNames, tables}
 use Rattle.sfi_text.proofs.Facts as texts
 use Rattle.sfi_image.specs.Parts.{IsImage, IsRightLayout}
 use Rattle.sfi_rewrite.specs.Rewriting.{AreRewritten}
 use Rattle.sfi_rewrite.proofs.Facts as sources
 use Rattle.sfi_link.specs.Linked.{IsLinkedImage}
 use Rattle.sfi_formats.specs.Limits.{sandboxes_most}
-use Rattle.sfi_link.proofs.Parts.{linked_is_right}
+use Rattle.sfi_link.proofs.Parts.{linked_is_right, labels_begin_units}
 use Rattle.sfi_link.proofs.LinkedClean.{all_are_clean}
 use Rattle.sfi_build.specs.Tables.{tails_from, each_with, sandbox_with}
 use Rattle.sfi_image.proofs.Facts.{one_image}
 use Rattle.sfi_build.specs.private.{MayHave, HasInits, set_init}
-use Rattle.sfi_build.specs.Texts.{IsPlainBuild, MeansWhole, IsTextBuild, IsTextMap}
+use Rattle.sfi_build.specs.Texts.{IsPlainBuild, MeansWhole, IsTextBuild, IsTextMap, IsBuildFault}
 use Rattle.sfi_build.proofs.Tails.{placement_of, inits_of, tails_as_inits, length-each_with, rewritten_as, linked_as, map_as}
 use Rattle.sfi_build.proofs.Fitting.{tails_fit}
-use Rattle.sfi_build.proofs.Building.{whole_right}
+use Rattle.sfi_build.proofs.Building.{whole_right, one_build}
+use Rattle.sfi_build.specs.Laws.{CodeLabelsBeginUnits, SomeBuilding}
+use Rattle.std.proofs.Common.{Result, Err, inl, inr, ◌⊎◌}
+use Rattle.sfi_text.specs.Texts.{MeansSource, MeansText}
+use Rattle.sfi_build.specs.declared.table_fault.TableFault.{TableFault}
+use Rattle.sfi_build.specs.declared.build_fault.BuildFault.{BuildFault}
+use Rattle.sfi_build.specs.declared.build_fault.BuildFault.TheVariants.{Text, Rewrite, Link, Names}
+use Rattle.sfi_text.proofs.Facts.{some_source, sources_are_right}
+use Rattle.sfi_rewrite.proofs.Facts.{some_rewriting, rewritten_is_placed}
+use Rattle.sfi_link.proofs.SomeLinking.{some_linking}
+use Rattle.sfi_link.proofs.Prelude.{◌≡◌, refl, sym, ap, subst, ◌∙◌, ℕ, ◌+◌, ◌≤◌, List, [], ◌∷◌, Ok, length, length-map, arith, Sandbox, IsSandbox, Placement, Place, Part, AreLinkedFrom, AreLinked, IsPlaced, map_from, Some, All, slice_get}
+
+-- ==== The image of a source with its tables is that without them, with other first data bytes.
 
 pub rewritten_count : (source : List Sandbox) (placed : List Placement) → AreRewritten source placed → length placed ≡ length source
 rewritten_count [] [] h = refl
@@ -103,3 +115,43 @@ module _ (given : List Place) (text : List ℕ) (source : List Sandbox) (shared 
     build = built (spelling parts_as) (record { bytes_are = refl; layout = layout });
     entries_are = are ∙ sym (ap (λ w. map_from given 0 w placed_as) (tails_as_inits tails source) ∙ map_as given 0 inits source inits placed);
   }
+
+-- ==== At each label in the code of a text's map a unit of its sandbox's code begins in the text's image.
+
+pub code_labels_begin_units : CodeLabelsBeginUnits
+code_labels_begin_units given text bytes entries parts map build image =
+    let own = map.build in
+    let placed = sources.rewritten_is_placed own.source own.placed (whole_right given text own.source own.means) own.rewritten in
+    let same = one_image bytes own.image.parts parts (subst (λ (l : List ℕ). IsImage l own.image.parts) (one_build given text map.bytes bytes own build) own.image.image) image in
+    subst (λ es. All (BeginsUnit parts) es) (sym map.entries_are)
+    (subst (λ (ps : List Part). All (BeginsUnit ps) (map_from given 0 own.source own.placed)) same (labels_begin_units given 0 own.source own.placed own.image.parts own.image.parts placed.each own.image.linked.each (λ k n q at is. let here : k ≡ n = omega (arith, at) in subst (λ (m : ℕ). slice_get own.image.parts m ≡ Some q) here is)))
+
+-- ==== A text has a build, or a fault.
+
+meaning : (text : List ℕ) (source : List Sandbox) → MeansSource text source → (shared : List SharedNames) × MeansText text source shared
+meaning text source (new, last, leads, begun, is) = (tables new, (new, last, leads, begun, is, refl))
+
+-- with its tables, or the fault of one
+with_tables : (given : List Place) (text : List ℕ) (source : List Sandbox) (shared : List SharedNames) (placed : List Placement) → IsPlainBuild given text source shared placed
+    → (made : Result (List (List ℕ)) TableFault) → tails_from given placed 0 shared source ≡ made
+    → ((bytes : List ℕ) × IsTextBuild given text bytes) ⊎ ((f : BuildFault) × IsBuildFault given text f)
+with_tables given text source shared placed plain (Err f) is = inr (Names f, (source, shared, placed, plain, is))
+with_tables given text source shared placed plain (Ok tails) is =
+    inl (_, built given text source shared placed plain tails is _ (record { bytes_are = refl; layout = layout given text source shared placed plain tails is }))
+
+pub some_building : SomeBuilding
+some_building given text =
+    elim (some_source text) [
+      | inr (f, wrong) ↦ inr (Text f, wrong)
+      | inl (source, means) ↦
+          let (shared, lists) = meaning text source means in
+          elim (some_rewriting source) [
+            | inr (f, wrong) ↦ inr (Rewrite f, (source, shared, lists, wrong))
+            | inl (placed, rewritten) ↦ elim (some_linking given placed (rewritten_is_placed source placed (sources_are_right text source means) rewritten)) [
+              | inr (f, wrong) ↦ inr (Link f, (source, shared, placed, lists, rewritten, wrong))
+              | inl (bytes, image) ↦
+                  with_tables given text source shared placed (record { means = lists; rewritten = rewritten; bytes = bytes; image = image })
+                  (tails_from given placed 0 shared source) refl
+            ]
+          ]
+    ]

@@ -5,7 +5,7 @@ use Rattle.sfi_link.specs.declared.bases.Bases.{Bases}
 use Rattle.sfi_link.specs.Code.{address_at}
 use Rattle.sfi_link.specs.Linked.{IsLinkedImage}
 use Rattle.sfi_build.specs.Tables.{address_in}
-use Rattle.sfi_build.proofs.Addresses.{near_at}
+use Rattle.sfi_build.proofs.Making.{near_at}
 use Rattle.sfi_build.proofs.address.address_in.Goals as goal
 
 -- `near_at` of a list of parts that is what is placed

@@ -4,7 +4,7 @@ use Rattle.sfi_text.specs.Texts.{MeansText}
 use Rattle.sfi_build.specs.Tables.{tails_from, each_with, sandbox_with}
 use Rattle.sfi_build.specs.Texts.{IsPlainBuild}
 use Rattle.sfi_build.specs.private.{contents}
-use Rattle.sfi_build.proofs.Even.{even}
+use Rattle.sfi_build.proofs.Building.{even}
 use Rattle.sfi_build.proofs.Tails.{inits_of}
 use Rattle.sfi_build.proofs.Whole.{rewritten_count, few, may_have, has_inits}
 use Rattle.sfi_build.proofs.builder.build_of.Goals as goal

@@ -3,7 +3,7 @@ use Rattle.std.proofs.Common.{rules}
 use Rattle.sfi_text.specs.Texts.{MeansText}
 use Rattle.sfi_build.specs.Tables.{tails_from}
 use Rattle.sfi_build.specs.Texts.{IsPlainBuild}
-use Rattle.sfi_build.proofs.Even.{even}
+use Rattle.sfi_build.proofs.Building.{even}
 use Rattle.sfi_build.proofs.Whole.{few, mapped}
 use Rattle.sfi_build.proofs.builder.map_of.Goals as goal
 

@@ -3,7 +3,7 @@ use Rattle.std.proofs.Math.ListN.{get_or-map}
 use Rattle.std.proofs.lemmas.List.{drop_all}
 use Rattle.sfi_build.specs.Tables.{each_with}
 use Rattle.sfi_build.specs.private.{contents, set_init}
-use Rattle.sfi_build.proofs.Steps.{next, each_with_none}
+use Rattle.sfi_build.proofs.Making.{next, each_with_none}
 use Rattle.sfi_build.proofs.inits.parts_with.Goals as goal
 
 pub loop-sandbox-preserved : goal.loop-sandbox-preserved

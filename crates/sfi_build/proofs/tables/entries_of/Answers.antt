@@ -6,8 +6,7 @@ use Rattle.sfi_build.specs.Tables.{address_in, entry_with, entries_of}
 use Rattle.sfi_build.specs.private.{IsTableStop, IsEntryStop}
 use Rattle.sfi_build.specs.declared.build_fault.BuildFault.{BuildFault}
 use Rattle.sfi_build.specs.declared.table_fault.TableFault.TheVariants.{Unknown}
-use Rattle.sfi_build.proofs.Making.{entries_more, passed, stopped}
-use Rattle.sfi_build.proofs.Steps.{after}
+use Rattle.sfi_build.proofs.Making.{entries_more, passed, stopped, after}
 use Rattle.std.proofs.lemmas.List.{at_drop_more}
 use Rattle.sfi_build.proofs.tables.entries_of.Goals as goal
 

@@ -1,7 +1,7 @@
 use Rattle.sfi_link.proofs.Prelude.{◌≡◌, List, map, drop, slice_get, All}
 use Rattle.sfi_names.specs.Tables.{Named, IsNamed, entries}
 use Rattle.sfi_build.specs.Tables.{address_in, entries_of}
-use Rattle.sfi_build.proofs.Steps.{after}
+use Rattle.sfi_build.proofs.Making.{after}
 use Rattle.sfi_build.proofs.tables.entries_of.Given as goal
 
 -- some entries are written, and those of what is left follow them

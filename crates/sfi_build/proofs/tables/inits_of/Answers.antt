@@ -3,8 +3,7 @@ use Rattle.std.proofs.Common.{rules}
 use Rattle.std.specs.Prelude.{IfErr}
 use Rattle.sfi_build.specs.Tables.{address_in, tail_of, tails_from}
 use Rattle.sfi_build.specs.private.{IsTableStop, contents}
-use Rattle.sfi_build.proofs.Making.{carried, tails_stopped, tails_passed, inits_more}
-use Rattle.sfi_build.proofs.Steps.{next}
+use Rattle.sfi_build.proofs.Making.{carried, tails_stopped, tails_passed, inits_more, next}
 use Rattle.sfi_build.proofs.tables.inits_of.Goals as goal
 
 pub returns-in_err-init-clause-fault : goal.returns-in_err-init-clause-fault

@@ -1,7 +1,7 @@
 use Rattle.sfi_link.proofs.Prelude.{◌≡◌, ℕ, List, length, map, take, drop}
 use Rattle.sfi_build.specs.Tables.{tails_from, each_with, sandbox_with}
 use Rattle.sfi_build.specs.private.{contents}
-use Rattle.sfi_build.proofs.Steps.{after}
+use Rattle.sfi_build.proofs.Making.{after}
 use Rattle.sfi_build.proofs.tables.inits_of.Given as goal
 
 -- the first sandboxes have their first data bytes, with tails which those of the rest follow
