@@ -1,7 +1,4 @@
-mod Regions
-mod Filling
 mod Lookups
-mod Places
 mod Prelude
 mod FrontFindings
 mod Bounds

@@ -1,13 +1,101 @@
--- What a look-up says, and of which bytes.
-use Rattle.sfi_c.proofs.Prelude.{◌≡◌, ◌∙◌, ℕ, ◌<◌, List, length, Some, refl, sym, ap, arith, inr, slice_get_within, Part, Found, Beyond, IsSandboxOf}
-use Rattle.std.proofs.Common.{◌≢◌, Result, Ok, Err, IfErr, inl}
+-- Which sandbox a look-up finds, and where it lies.
+use Rattle.std.proofs.Common.{append_assoc, ◌↔◌, ◌≢◌, Result, Ok, Err, IfErr, inl}
+use Rattle.std.specs.List.{flat_map, All}
+use Rattle.sfi_image.specs.declared.cursor.PartView.{PartView}
+use Rattle.sfi_image.specs.declared.fields.Fields.{Fields}
+use Rattle.sfi_image.specs.Spelling.{fields_of, fields, gate, part, AreApart, code_region, guarded_region, spans}
+use Rattle.sfi_image.proofs.Fronts.{length-fields}
+use Rattle.sfi_c.specs.declared.part.SfiPart.{SfiPart}
+use Rattle.sfi_c.specs.Parts.{Tells, told_at, lookup_number, IsBeyondGates}
+use Rattle.sfi_image.specs.Keeping.{LiesAt, IsBeyond}
+use Rattle.sfi_image.proofs.Seeking.{length-gates, length-part, sandbox_lies}
+use Rattle.std.proofs.lemmas.List.Elements.{All-head, All-tail, All-from_recursion}
+use Rattle.sfi_image.specs.declared.span.Span.{Span}
+use Rattle.sfi_places.specs.Beside.{AreBeside}
+use Rattle.sfi_c.specs.Moves.{AreToldApart}
 use Rattle.std.specs.Prelude.{slice_get}
 use Rattle.sfi_image.proofs.Facts.{one_image, never_both}
 use Rattle.sfi_c.specs.declared.looking.Lookup.{Lookup}
 use Rattle.sfi_c.specs.declared.looking.Lookup.TheVariants.{NoImage}
-use Rattle.sfi_image.specs.Keeping.{IsBeyond}
-use Rattle.sfi_c.specs.Parts.{lookup_number, IsBeyondGates}
 use Rattle.sfi_c.specs.private.{HasPart, HasGate, HasFault, IsSaid, said_by}
+use Rattle.sfi_c.proofs.Prelude.{◌≡◌, ◌∙◌, ℕ, ◌+◌, ◌*◌, List, [], ◌++◌, length, refl, sym, ap, arith, length-append, Part, IsViewOf, IsSandboxOf, sandbox_offset, ◌∷◌, ◌<◌, Some, inr, slice_get_within, Found, Beyond}
+
+-- ==== Where a sandbox lies in the bytes of an image.
+
+-- ---- pieces
+
+-- what follows the front of a piece lies after it
+rest_lies : (bytes : List ℕ) (o m : ℕ) (s t : List ℕ) → m ≡ o + length s → LiesAt bytes o (s ++ t) → LiesAt bytes m t
+rest_lies bytes o m s t e h = record {
+  before = h.before ++ s;
+  after = h.after;
+  bytes_are = h.bytes_are ∙ ap (λ (l : List ℕ). h.before ++ l) (append_assoc s t h.after) ∙ sym (append_assoc h.before s (t ++ h.after));
+  offset_is = omega (arith, length-append h.before s, h.offset_is, e);
+}
+
+front_lies : (bytes : List ℕ) (o : ℕ) (s t : List ℕ) → LiesAt bytes o (s ++ t) → LiesAt bytes o s
+front_lies bytes o s t h = record {
+  before = h.before;
+  after = t ++ h.after;
+  bytes_are = h.bytes_are ∙ ap (λ (l : List ℕ). h.before ++ l) (append_assoc s t h.after);
+  offset_is = h.offset_is;
+}
+
+-- ---- a sandbox
+
+-- what is told of it at its place
+pub tells : (bytes : List ℕ) (i : ℕ) (p : Part) (t : SfiPart) (h : IsSandboxOf bytes i p) → t ≡ told_at p (sandbox_offset h.parts i) → Tells bytes h.parts i p t
+unfolding part
+tells bytes i p t h is =
+    let o = sandbox_offset h.parts i in
+    let gs = flat_map gate p.gates in
+    let all : LiesAt bytes (o + 28 + 8 * length p.gates) (p.code ++ p.init) =
+    rest_lies bytes (o + 28) _ gs (p.code ++ p.init) (omega (arith, length-gates p.gates))
+    (rest_lies bytes o (o + 28) (fields (fields_of p)) (gs ++ (p.code ++ p.init)) (omega (arith, length-fields (fields_of p) [], length-append (fields (fields_of p)) [])) (sandbox_lies h)) in
+    rw (is) (record {
+      told_is = refl;
+      code = front_lies bytes _ p.code p.init all;
+      init = rest_lies bytes _ _ p.code p.init refl all;
+    })
+
+-- ---- what is told
+
+pub part_is : (v : PartView) (p : Part) (o end : ℕ) → IsViewOf v p → end ≡ o + length (part p) → o + 28 + 8 * v.fields.gate_count + v.fields.code_size + v.fields.init_len ≡ end
+part_is v p o end h e =
+    omega (arith, e, length-part p, ap (λ (f : Fields). f.gate_count) h.fields_are, ap (λ (f : Fields). f.code_size) h.fields_are, ap (λ (f : Fields). f.init_len) h.fields_are)
+
+-- ==== Sandboxes of images by what is told of them.
+
+-- all of the two spans of a sandbox
+two : (P : Span → Type 0) (p : Part) → P (code_region p) → P (guarded_region p) → All P (spans (p ∷ []))
+two P p code guarded = All-from_recursion P (spans (p ∷ [])) (code, (guarded, tt))
+
+first : (P : Span → Type 0) (p : Part) → All P (spans (p ∷ [])) → P (code_region p)
+first P p all = All-head P (code_region p) (guarded_region p ∷ []) all
+
+second : (P : Span → Type 0) (p : Part) → All P (spans (p ∷ [])) → P (guarded_region p)
+second P p all = All-head P (guarded_region p) [] (All-tail P (code_region p) (guarded_region p ∷ []) all)
+
+pub beside : (bytes others : List ℕ) (number further : ℕ) (p q : Part) (one other : SfiPart) → (h : IsSandboxOf bytes number p) → (g : IsSandboxOf others further q)
+    → Tells bytes h.parts number p one → Tells others g.parts further q other → AreToldApart one other ↔ AreBeside (p ∷ []) (q ∷ [])
+beside bytes others number further p q one other h g of_p of_q =
+    let is = of_p.told_is in
+    let too = of_q.told_is in
+    rw (is, too) (
+      λ apart. two (λ (s : Span). All (λ (t : Span). AreApart s t) (spans (q ∷ []))) p
+          (two (AreApart (code_region p)) q apart.code_code apart.code_guarded) (two (AreApart (guarded_region p)) q apart.guarded_code apart.guarded_guarded),
+      λ all.
+          let code = first (λ (s : Span). All (λ (t : Span). AreApart s t) (spans (q ∷ []))) p all in
+          let guarded = second (λ (s : Span). All (λ (t : Span). AreApart s t) (spans (q ∷ []))) p all in
+          record {
+            code_code = first (AreApart (code_region p)) q code;
+            code_guarded = second (AreApart (code_region p)) q code;
+            guarded_code = first (AreApart (guarded_region p)) q guarded;
+            guarded_guarded = second (AreApart (guarded_region p)) q guarded;
+          },
+    )
+
+-- ==== What a look-up says, and of which bytes.
 
 pub is_found : (l : Lookup) → lookup_number l ≡ 0 → l ≡ Found
 is_found Found e = refl

@@ -1,4 +1,4 @@
-use Rattle.sfi_c.proofs.Regions.{beside}
+use Rattle.sfi_c.proofs.Lookups.{beside}
 use Rattle.sfi_c.proofs.apart.sfi_c_apart.Goals as goal
 
 pub returns-clause-beside : goal.returns-clause-beside

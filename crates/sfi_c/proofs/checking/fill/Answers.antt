@@ -1,6 +1,6 @@
 use Rattle.sfi_c.proofs.Prelude.{ℕ, List, [], ◌∙◌, ap, sym, subst, Finding, with_findings}
 use Rattle.sfi_c.specs.private.{Has}
-use Rattle.sfi_c.proofs.Filling.{at_first, handed_over}
+use Rattle.sfi_c.proofs.Writing.{at_first, handed_over}
 use Rattle.sfi_c.proofs.checking.fill.Goals as goal
 
 pub returns-clause-same_array : goal.returns-clause-same_array

@@ -1,6 +1,5 @@
 use Rattle.sfi_c.proofs.Prelude.{◌∙◌, sym, sandbox_offset}
-use Rattle.sfi_c.proofs.Places.{tells}
-use Rattle.sfi_c.proofs.Lookups.{is_found, found_there}
+use Rattle.sfi_c.proofs.Lookups.{tells, is_found, found_there}
 use Rattle.sfi_c.proofs.looking.sfi_c_part.Goals as goal
 use Rattle.sfi_c.proofs.looking.sfi_c_part.Goals.{in-Ok, in_default}
 

@@ -1,5 +1,5 @@
 use Rattle.sfi_c.proofs.Prelude.{◌≡◌, ◌+◌, ◌-◌, ◌*◌, refl, arith}
-use Rattle.sfi_c.proofs.Places.{part_is}
+use Rattle.sfi_c.proofs.Lookups.{part_is}
 use Rattle.sfi_c.proofs.part.part_told.Goals as goal
 
 pub overflow_sub-init_offset : goal.overflow_sub-init_offset

@@ -3,7 +3,7 @@ use Rattle.std.proofs.Common.{◌≤◌}
 use Rattle.std.proofs.Math.ListN.{drop_of_length-le}
 use Rattle.std.proofs.lemmas.List.{append-nil, length-drop, take_all}
 use Rattle.sfi_check.specs.declared.for_c.SfiFinding.{SfiFinding}
-use Rattle.sfi_c.proofs.Filling.{filled}
+use Rattle.sfi_c.proofs.Writing.{filled}
 use Rattle.sfi_c.proofs.finding.ArrayFindingSink.put.Goals as goal
 
 pub returns : goal.returns
