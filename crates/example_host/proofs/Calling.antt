@@ -18,12 +18,12 @@ use Rattle.sfi_host.specs.WorldSteps.{HaveRunJointly}
 use Rattle.sfi_host.specs.Plans.{IsJoint, IsCutJoint}
 use Rattle.sfi_host.specs.Slots.{bytes_in, IsWhole, Bounds, Slot}
 use Rattle.sfi_host.specs.Worlds.{Seat, Sandboxes, slot_of, slots_of, IsSafeWorld, StaysOutsideData}
-use Rattle.sfi_host.proofs.Leaving.{data_of_own, whole_in}
-use Rattle.sfi_host.proofs.Neighbours.{get_set_same, get_set_other}
+use Rattle.sfi_host.proofs.AfterCalls.{data_of_own, whole_in}
+use Rattle.sfi_host.proofs.OwnSteps.{get_set_same, get_set_other}
 use Rattle.sfi_host.proofs.Plans.{joined_cons, joined_nil}
 use Rattle.sfi_host.proofs.RegionBytes.{held}
 use Rattle.sfi_host.proofs.Runs.{all_there, each_there, ends_within}
-use Rattle.sfi_host.proofs.SameWorld.{get_map, outside_more, same_bounds}
+use Rattle.sfi_host.proofs.WorldBytes.{get_map, outside_more, same_bounds}
 use Rattle.sfi_host.proofs.Worlds.{map_get}
 
 -- ---- slots and seats

@@ -7,10 +7,9 @@ use Rattle.sfi_host.specs.Programs.{AreDecoded}
 use Rattle.sfi_host.proofs.Changing.{IsKept}
 use Rattle.sfi_host.proofs.Decoding.{decoded_still, first_decoded}
 use Rattle.sfi_host.proofs.Entered.{LieApart, lie_apart, all_outside, has_data, data_guarded, guard_in}
-use Rattle.sfi_host.proofs.Owned.{IsOf, of_parts}
+use Rattle.sfi_host.proofs.WorldBytes.{IsOf, of_parts, get_map}
 use Rattle.sfi_host.proofs.OwnSteps.{own_is, own_there, own_missing, same_own}
 use Rattle.sfi_host.proofs.SafeSeats as keep
-use Rattle.sfi_host.proofs.SameWorld.{get_map}
 use Rattle.sfi_host.proofs.Worlds.{map_get, AreFree, entered, world_safe, all_enterable}
 
 -- ---- lists, one after the other

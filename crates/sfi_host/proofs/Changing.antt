@@ -7,14 +7,12 @@ use Rattle.std.specs.Global.{Global}
 use Rattle.std.specs.declared.sync.Arc.{Arc}
 use Rattle.sfi_host.specs.Owning.{AreOwned}
 use Rattle.sfi_host.specs.Programs.{programs_of, AreDecoded}
-use Rattle.sfi_host.proofs.Asked.{found, seat_at}
+use Rattle.sfi_host.proofs.WorldBytes.{found_there, seat_at, still_owned, get_map, same_bounds}
 use Rattle.sfi_host.proofs.Decoding.{are_decoded}
-use Rattle.sfi_host.proofs.Neighbours.{slots_are, world_safe, get_set_other, set_itself, neighbours_are}
-use Rattle.sfi_host.proofs.Owned.{still_owned}
+use Rattle.sfi_host.proofs.OwnSteps.{slots_are, world_safe, get_set_other, set_itself, neighbours_are}
 use Rattle.sfi_host.proofs.SafeSeats as keep
-use Rattle.sfi_host.proofs.SameWorld.{get_map, same_bounds}
 use Rattle.sfi_host.proofs.Worlds.{map_get}
-use Rattle.sfi_host.proofs.Leaving.{stays_outside, whole_in, whole_of}
+use Rattle.sfi_host.proofs.AfterCalls.{stays_outside, whole_in, whole_of}
 
 -- ---- a turn
 
@@ -83,13 +81,13 @@ module _ (m n : Bytes) (items : List Sandbox) (programs : List Program) (i : ℕ
 -- the sandbox of a world that is looked up there may run, and is put back
 module _ (m : Bytes) (items : List Sandbox) (programs : List Program) (i : ℕ) (x : Sandbox) (inside : IsKept (world_of m items) programs) (below : i < length items) (is : x ≡ get_or items i x) where
   there : slice_get items i ≡ Some x
-  there = found items items i x refl below is
+  there = found_there items items i x refl below is
 
   pub may_run : (p : Program) → p ≡ get_or programs i p → IsSafeWith m (seat_of x) p
   may_run p program =
       let count : length programs ≡ length items = inside.1.count ∙ length-map items seat_of in
       let at : slice_get (seats_of items) i ≡ Some (seat_of x) = seat_at items i x there in
-      record { safe = inside.0.each i (seat_of x) at; decoded = inside.1.each i p (seat_of x) (found programs programs i p refl (omega (arith, below, count)) program) at }
+      record { safe = inside.0.each i (seat_of x) at; decoded = inside.1.each i p (seat_of x) (found_there programs programs i p refl (omega (arith, below, count)) program) at }
 
   -- so of one that is shared
   pub may_run_shared : (all : List (Arc Program Global)) → programs ≡ programs_of all → (p : Arc Program Global) → p ≡ get_or all i p → (q : Program) → q ≡ arc_value p → IsSafeWith m (seat_of x) q

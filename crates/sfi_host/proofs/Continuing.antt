@@ -3,8 +3,7 @@ use Rattle.sfi_host.proofs.Prelude.{◌≡◌, ◌≢◌, ◌⊎◌, inl, inr, �
 use Rattle.sfi_host.specs.Plans.{after_run, shortened, IsJointUpTo, JointFollows, CutFollows, CutIsShorter, RetryFollows}
 use Rattle.rv_step.specs.declared.outcome.Outcome.TheVariants as outcome
 use Rattle.sfi_host.proofs.Plans.{follows, allows_some, no_limit, joined_nil, bare, run_end, with_turn, is_joint, is_cut, none_then, turn_then}
-use Rattle.sfi_host.proofs.SlotSteps.{left_for_one}
-use Rattle.sfi_host.proofs.Turning.{allows_both, step_then, no_step}
+use Rattle.sfi_host.proofs.SlotSteps.{left_for_one, allows_both, step_then, no_step}
 
 -- ---- limits
 

@@ -3,11 +3,10 @@ use Rattle.sfi_host.proofs.Prelude.{◌≡◌, ◌≢◌, ◌⊎◌, inl, inr, �
 use Rattle.std.specs.Ordering.{nat_cmp}
 use Rattle.sfi_formats.specs.Formats.{unit}
 use Rattle.sfi_safe_runs.specs.Runs.{IsUnitStart}
-use Rattle.sfi_host.proofs.Asked.{seat_at, slot_is, no_slot}
+use Rattle.sfi_host.proofs.WorldBytes.{seat_at, slot_is, no_slot, first_owned}
 use Rattle.sfi_host.proofs.Decoding.{first_decoded}
 use Rattle.sfi_host.proofs.Entered.{lie_apart}
-use Rattle.sfi_host.proofs.Neighbours.{get_set_same}
-use Rattle.sfi_host.proofs.Owned.{first_owned}
+use Rattle.sfi_host.proofs.OwnSteps.{get_set_same}
 use Rattle.sfi_host.proofs.SafeSeats as keep
 use Rattle.sfi_host.proofs.Changing.{IsKept, AfterTurn, turn_taken}
 use Rattle.sfi_host.proofs.Worlds.{AreFreshOf, fresh_are, fresh_pc, reserved_at, typed_at, AreFree, entered, first_data_there, world_safe, all_enterable}

@@ -4,10 +4,9 @@ use Rattle.sfi_host.specs.Changing.{PutBackIsChange}
 use Rattle.sfi_host.specs.Loading.{ResetIsFirst}
 use Rattle.sfi_host.specs.Laws.{SomeMachine, OneMachine, NeighboursAreChanges, CallsAreTyped, AnswersAreReplies}
 use Rattle.sfi_host.specs.Worlds.{StepsAreOwn}
-use Rattle.sfi_host.proofs.Callbacks.{put_back_is}
-use Rattle.sfi_host.proofs.FirstAgain as first
-use Rattle.sfi_host.proofs.Neighbours as neighbours
-use Rattle.sfi_host.proofs.OwnSteps as own
+use Rattle.sfi_host.proofs.FromOutside.{put_back_is}
+use Rattle.sfi_host.proofs.ResetSeats as first
+use Rattle.sfi_host.proofs.OwnSteps as neighbours
 use Rattle.sfi_host.proofs.SafeSeats as seats
 pub use Rattle.sfi_host.proofs.Continuing.{plans_follow}
 
@@ -18,7 +17,7 @@ pub one_machine : OneMachine
 one_machine machine other is too s = one_step s (machine s) (other s) (is.steps s) (too.steps s)
 
 pub steps_are_own : StepsAreOwn
-steps_are_own = own.steps_own
+steps_are_own = neighbours.steps_own
 
 pub neighbours_are_changes : NeighboursAreChanges
 neighbours_are_changes = neighbours.neighbours_are

@@ -7,15 +7,14 @@ use Rattle.sfi_safe_runs.specs.Runs.{after_step as step_to, after_turn as goes_t
 use Rattle.sfi_host.specs.declared.turn.Turn.{Turn as PlanTurn}
 use Rattle.rv_step.specs.declared.outcome.Outcome.TheVariants as outcome
 use Rattle.sfi_host.proofs.Continuing.{way_goes}
-use Rattle.sfi_host.proofs.Leaving.{get_with_data}
+use Rattle.sfi_host.proofs.AfterCalls.{get_with_data}
 use Rattle.sfi_host.proofs.WorldSteps.{turn_of, Taken, IsTaken, AreTaken, are_world_steps, taken_follow, safe_after, slots_after, are_runs, safe_runs}
-use Rattle.sfi_host.proofs.Neighbours.{get_set_same, set_itself}
-use Rattle.sfi_host.proofs.OwnSteps.{steps_own}
+use Rattle.sfi_host.proofs.OwnSteps.{get_set_same, set_itself, steps_own}
 use Rattle.sfi_host.proofs.Plans.{joined_nil, joined_cons}
 use Rattle.sfi_host.proofs.RegionBytes.{get_kept, same_bytes, is_in-true}
 use Rattle.sfi_host.proofs.Runs.{there_below}
 use Rattle.sfi_host.proofs.SafeSeats as keep
-use Rattle.sfi_host.proofs.SameWorld.{get_map}
+use Rattle.sfi_host.proofs.WorldBytes.{get_map}
 use Rattle.sfi_host.proofs.SlotSteps.{moved_by, not_moved, next_safe, trap_safe, seat_with}
 
 given_append : (first second : List WorldStep) → given_in (first ++ second) ≡ given_in first ++ given_in second

@@ -4,8 +4,7 @@ use Rattle.sfi_host.specs.Modules.{part_of, parts_of}
 use Rattle.sfi_host.specs.declared.modules.ModulePart.{ModulePart}
 use Rattle.sfi_image.proofs.Facts.{code_ends}
 use Rattle.sfi_host.specs.Adding.{TakesUp, Meet, MeetsSome}
-use Rattle.sfi_host.proofs.Asked.{seat_at}
-use Rattle.sfi_host.proofs.SameWorld.{get_map}
+use Rattle.sfi_host.proofs.WorldBytes.{seat_at, get_map}
 
 -- ---- one sandbox and one part, by their spans
 

@@ -6,11 +6,10 @@ use Rattle.sfi_host.specs.Adding.{is_own_of, bytes_of, number_without, without_o
 use Rattle.sfi_host.specs.Owning.{IsOwned, AreOwned}
 use Rattle.sfi_host.specs.Programs.{AreDecoded}
 use Rattle.sfi_host.proofs.Changing.{IsKept}
-use Rattle.sfi_host.proofs.Copied.{own_of, whose}
+use Rattle.sfi_host.proofs.Copied.{own_of, whose, old_number, old_other, old_back, get_removed, get_rest, map_remove}
 use Rattle.sfi_host.proofs.Decoding.{decoded_still}
 use Rattle.sfi_host.proofs.OwnSteps.{own_is, own_there, own_missing, same_own}
 use Rattle.sfi_host.proofs.RegionBytes.{get_kept}
-use Rattle.sfi_host.proofs.Removed.{old_number, old_other, old_back, get_removed, get_rest, map_remove}
 use Rattle.sfi_host.proofs.SafeSeats as keep
 
 module _ (w : Sandboxes) (i : ℕ) (world : IsSafeWorld w) where

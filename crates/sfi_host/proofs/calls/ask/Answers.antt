@@ -1,6 +1,5 @@
 use Rattle.sfi_host.proofs.Prelude.{◌≡◌, ap, ◌∙◌, sym, subst, IsMemory, Sandbox, call_by, call_of, bytes_in, IsWhole, seat_of, IsReplied, IsNotReplied, slot_of, StaysSafe, StaysOutside}
-use Rattle.sfi_host.proofs.Leaving.{whole_in, whole_of, stays_outside}
-use Rattle.sfi_host.proofs.Replying.{asked_is, still_ready, bounds_after, safe_after, replies, refuses}
+use Rattle.sfi_host.proofs.AfterCalls.{whole_in, whole_of, stays_outside, asked_is, still_ready, bounds_after, safe_after, replies, refuses}
 use Rattle.sfi_host.proofs.calls.ask.Goals as goal
 
 pub call_gate-host_answer-requires : goal.call_gate-host_answer-requires

@@ -1,5 +1,5 @@
 use Rattle.sfi_host.proofs.Prelude.{◌∙◌, ℕ, ap, loaded}
-use Rattle.sfi_host.proofs.Ecalls.{is_word, no_word}
+use Rattle.sfi_host.proofs.Stops.{is_word, no_word}
 use Rattle.sfi_host.proofs.calls.is_ecall.Goals as goal
 
 pub returns-in_default : goal.returns-in_default

@@ -1,6 +1,6 @@
 use Rattle.sfi_host.proofs.Prelude.{seat_of}
 use Rattle.sfi_host.proofs.Copied.{code_whole, code_end}
-use Rattle.sfi_host.proofs.Leaving.{whole_in}
+use Rattle.sfi_host.proofs.AfterCalls.{whole_in}
 use Rattle.sfi_host.proofs.copying.copy_sandbox.Goals as goal
 
 pub copy_region-requires-clause-whole : goal.copy_region-requires-clause-whole

@@ -1,6 +1,6 @@
 use Rattle.sfi_host.proofs.Prelude.{List, subst, sym, ◌+◌, arith, Sandbox}
 use Rattle.sfi_host.specs.Modules.{part_of}
-use Rattle.sfi_host.proofs.Loaded.{AreLoaded, right_part, one_more}
+use Rattle.sfi_host.proofs.Entered.{AreLoaded, right_part, one_more}
 use Rattle.sfi_host.proofs.loading.load_parts.Goals as goal
 
 pub add_part-requires : goal.add_part-requires

@@ -1,4 +1,4 @@
-use Rattle.sfi_host.proofs.Loaded.{AreLoaded}
+use Rattle.sfi_host.proofs.Entered.{AreLoaded}
 use Rattle.sfi_host.proofs.loading.load_parts.Given as goal
 
 abbrev pub invariant-loop-part : goal.invariant-loop-part

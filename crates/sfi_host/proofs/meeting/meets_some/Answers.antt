@@ -1,6 +1,6 @@
 use Rattle.sfi_host.proofs.Prelude.{refl, arith, seat_of}
 use Rattle.sfi_host.specs.Modules.{part_of}
-use Rattle.sfi_host.proofs.Loaded.{right_part}
+use Rattle.sfi_host.proofs.Entered.{right_part}
 use Rattle.sfi_host.proofs.Meetings.{view_at, next_none, none_of_all}
 use Rattle.sfi_host.proofs.meeting.meets_some.Goals as goal
 

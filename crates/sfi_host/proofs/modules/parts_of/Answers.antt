@@ -3,7 +3,7 @@ use Rattle.sfi_host.specs.Modules.{part_of, parts_of, program_in, HavePrograms}
 use Rattle.sfi_host.specs.Programs.{IsProgramOf}
 use Rattle.sfi_host.specs.declared.modules.ModulePart.{ModulePart}
 use Rattle.sfi_host.proofs.Decoding.{pushed}
-use Rattle.sfi_host.proofs.Loaded.{right_part, next_made, all_made}
+use Rattle.sfi_host.proofs.Entered.{right_part, next_made, all_made}
 use Rattle.sfi_host.proofs.modules.parts_of.Goals as goal
 
 pub of-requires : goal.of-requires

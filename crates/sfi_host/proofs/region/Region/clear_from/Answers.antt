@@ -1,5 +1,5 @@
 use Rattle.sfi_host.proofs.Prelude.{arith, length, take, length-take, span_of, ◌+◌}
-use Rattle.sfi_host.proofs.Refilling.{next_there, more_cleared, all_cleared}
+use Rattle.sfi_host.proofs.Runs.{next_there, more_cleared, all_cleared}
 use Rattle.sfi_host.proofs.region.Region.clear_from.Goals as goal
 
 pub returns : goal.returns

@@ -1,5 +1,5 @@
 use Rattle.sfi_host.proofs.Prelude.{◌-◌, span_of}
-use Rattle.sfi_host.proofs.Refilling.{IsCleared}
+use Rattle.sfi_host.proofs.Runs.{IsCleared}
 use Rattle.sfi_host.proofs.region.Region.clear_from.Given as goal
 
 abbrev pub invariant-loop-done : goal.invariant-loop-done

@@ -1,5 +1,5 @@
 use Rattle.sfi_host.proofs.Prelude.{arith, length, ◌∙◌, span_of}
-use Rattle.sfi_host.proofs.Refilling.{next_there, filled_up}
+use Rattle.sfi_host.proofs.Runs.{next_there, filled_up}
 use Rattle.sfi_host.proofs.region.Region.fill.Goals as goal
 
 pub write-requires-clause-there : goal.write-requires-clause-there

@@ -1,7 +1,7 @@
 use Rattle.sfi_host.proofs.Prelude.{◌≡◌, ◌↔◌, IsTrue, OnTrue, sym, subst, Hart, Slot, slots_of}
 use Rattle.sfi_host.specs.private.Sandboxes.{slot_in}
 use Rattle.sfi_host.specs.Changing.{MaySetAt, with_hart}
-use Rattle.sfi_host.proofs.Callbacks.{not_waiting, odd_callback, callback_where, callback_if_done}
+use Rattle.sfi_host.proofs.FromOutside.{not_waiting, odd_callback, callback_where, callback_if_done}
 use Rattle.sfi_host.proofs.world.World.call_back.Given as given
 use Rattle.sfi_host.proofs.world.World.call_back.Goals as goal
 

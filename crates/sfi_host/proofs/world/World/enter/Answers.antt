@@ -1,6 +1,6 @@
 use Rattle.sfi_host.proofs.Prelude.{◌≡◌, true, set, slice_get, Some, refl, sym, ◌∙◌, subst, arith, slice_get_past, same_Some, Sandbox, MayEnter, seat_of, world_of, slot_of}
 use Rattle.sfi_host.specs.Programs.{programs_of}
-use Rattle.sfi_host.proofs.Asked.{found, seat_at}
+use Rattle.sfi_host.proofs.WorldBytes.{found_there, seat_at}
 use Rattle.sfi_host.proofs.Changing.{others_same}
 use Rattle.sfi_safe_runs.proofs.Entries.{even_unit}
 use Rattle.sfi_host.proofs.Entries.{sizes, HasEntered, has_entered, no_entry, entry_where}
@@ -17,7 +17,7 @@ returns-then-not-may_enter-clause-may g c =
     let items = c.self.inside.sandboxes.items in
     let x = c.index.result.now in
     entry_where c.args.self.now (g.M.Memory.bytes c.self.inside.memory) items c.self.view_is c.args.i c.args.pc x _
-    (found items items c.args.i x refl (omega (arith, c.len.ensures, c.if-place-len.false)) c.index.ensures) c.if-not-may_enter.ensures
+    (found_there items items c.args.i x refl (omega (arith, c.len.ensures, c.if-place-len.false)) c.index.ensures) c.if-not-may_enter.ensures
 
 -- ---- it may be entered
 
@@ -25,7 +25,7 @@ pub enter-requires : goal.enter-requires
 enter-requires g c =
     let items = c.self.inside.sandboxes.items in
     let x = c.index_mut.result.now in
-    let there = seat_at items c.args.i x (found items items c.args.i x refl (omega (arith, c.len.ensures, c.if-place-len.false)) c.index_mut.ensures.value) in
+    let there = seat_at items c.args.i x (found_there items items c.args.i x refl (omega (arith, c.len.ensures, c.if-place-len.false)) c.index_mut.ensures.value) in
     let z = sizes (g.M.Memory.bytes c.self.inside.memory) (seat_of x) (c.self.invariant.0.each c.args.i (seat_of x) there) in
     record { even = even_unit c.index.result.now.format c.args.pc (c.if-not-may_enter.ensures.0 refl).aligned; code_size = z.0; data_size = z.1; data_end = z.2 }
 
@@ -34,13 +34,13 @@ enter-requires g c =
 at : (g : given.Over) (c : goal.After-self-1 g) → slice_get c.self.inside.sandboxes.items c.args.i ≡ Some c.index_mut.result.now
 at g c =
     let items = c.self.inside.sandboxes.items in
-    found items items c.args.i c.index_mut.result.now refl (omega (arith, c.len.ensures, c.if-place-len.false)) c.index_mut.ensures.value
+    found_there items items c.args.i c.index_mut.result.now refl (omega (arith, c.len.ensures, c.if-place-len.false)) c.index_mut.ensures.value
 
 may : (g : given.Over) (c : goal.After-self-1 g) → MayEnter (seat_of c.index_mut.result.now).bounds c.index_mut.result.now.status c.args.pc
 may g c =
     let items = c.self.inside.sandboxes.items in
     let x = c.index.result.now in
-    let here : slice_get items c.args.i ≡ Some x = found items items c.args.i x refl (omega (arith, c.len.ensures, c.if-place-len.false)) c.index.ensures in
+    let here : slice_get items c.args.i ≡ Some x = found_there items items c.args.i x refl (omega (arith, c.len.ensures, c.if-place-len.false)) c.index.ensures in
     subst (λ (y : Sandbox). MayEnter (seat_of y).bounds y.status c.args.pc) (same_Some x c.index_mut.result.now (sym here ∙ at g c)) (c.if-not-may_enter.ensures.0 refl)
 
 after : (g : given.Over) (c : goal.After-self-1 g) → let m = g.M.Memory.bytes c.self.inside.memory in let items = c.self.inside.sandboxes.items in

@@ -2,11 +2,10 @@ use Rattle.sfi_host.proofs.Prelude.{◌≡◌, ◌≢◌, ℕ, [], ◌∷◌, se
 use Rattle.sfi_host.specs.Programs.{programs_of}
 use Rattle.sfi_host.specs.declared.guest.Request.{Request}
 use Rattle.sfi_host.specs.Waiting.{Waits, later_answer, later_reply}
-use Rattle.sfi_host.proofs.Asked.{found, seat_at}
+use Rattle.sfi_host.proofs.WorldBytes.{found_there, seat_at, world_runs}
 use Rattle.sfi_host.proofs.Changing.{AfterTurn, others_same, turn_taken}
 use Rattle.sfi_host.proofs.Joined.{joined_are}
 use Rattle.sfi_host.proofs.LaterReplies.{reply_is_answer}
-use Rattle.sfi_host.proofs.SameWorld.{world_runs}
 use Rattle.sfi_host.proofs.Stops.{have_stopped}
 use Rattle.sfi_host.proofs.Waited.{waits_at, is_told}
 use Rattle.sfi_host.proofs.world.World.reply.Given as given
@@ -22,7 +21,7 @@ pub returns-in_default-clause-may : goal.returns-in_default-clause-may
 returns-in_default-clause-may g c =
     let m = g.M.Memory.bytes c.self.inside.memory in
     let items = c.self.inside.sandboxes.items in
-    let at = found items items c.args.i c.index.result.now refl (omega (arith, c.len.ensures, c.if-place-len.false)) c.index.ensures in
+    let at = found_there items items c.args.i c.index.result.now refl (omega (arith, c.len.ensures, c.if-place-len.false)) c.index.ensures in
     let e = c.asked_by.ensures in
     let told = is_told c.args.self.now m items c.self.view_is c.args.i c.index.result.now at c.self.invariant.0 c.asked_by.result e.asks e.ready e.stands e.silent in (
       λ e. absurd (cc),
@@ -37,12 +36,12 @@ returns-in_default-clause-may g c =
 seen : (g : given.Over) (c : goal.After-host-1 g) → slice_get c.self.inside.sandboxes.items c.args.i ≡ Some c.index.result.now
 seen g c =
     let items = c.self.inside.sandboxes.items in
-    found items items c.args.i c.index.result.now refl (omega (arith, c.len.ensures, c.if-place-len.false)) c.index.ensures
+    found_there items items c.args.i c.index.result.now refl (omega (arith, c.len.ensures, c.if-place-len.false)) c.index.ensures
 
 at : (g : given.Over) (c : goal.After-host-1 g) → slice_get c.self.inside.sandboxes.items c.args.i ≡ Some c.index_mut.result.now
 at g c =
     let items = c.self.inside.sandboxes.items in
-    found items items c.args.i c.index_mut.result.now refl (omega (arith, c.len.ensures, c.if-place-len.false)) c.index_mut.ensures.value
+    found_there items items c.args.i c.index_mut.result.now refl (omega (arith, c.len.ensures, c.if-place-len.false)) c.index_mut.ensures.value
 
 same : (g : given.Over) (c : goal.After-host-1 g) → c.index.result.now ≡ c.index_mut.result.now
 same g c = same_Some c.index.result.now c.index_mut.result.now (sym (seen g c) ∙ at g c)

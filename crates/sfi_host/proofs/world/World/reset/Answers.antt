@@ -1,6 +1,6 @@
 use Rattle.sfi_host.proofs.Prelude.{◌≡◌, set, slice_get, Some, refl, arith, slice_get_past, seat_of, world_of, slot_of}
 use Rattle.sfi_host.specs.Programs.{programs_of}
-use Rattle.sfi_host.proofs.Asked.{found, seat_at}
+use Rattle.sfi_host.proofs.WorldBytes.{found_there, seat_at}
 use Rattle.sfi_host.proofs.Changing.{others_same, whole_at}
 use Rattle.sfi_host.proofs.Entries.{sizes}
 use Rattle.sfi_host.proofs.ResetSeats.{HasReset, has_reset, none_reset, some_reset, start_even, init_fits}
@@ -17,7 +17,7 @@ reset-requires g c =
     let m = g.M.Memory.bytes c.self.inside.memory in
     let items = c.self.inside.sandboxes.items in
     let x = c.index_mut.result.now in
-    let at = found items items c.args.i x refl (omega (arith, c.len.ensures, c.if-place-len.false)) c.index_mut.ensures.value in
+    let at = found_there items items c.args.i x refl (omega (arith, c.len.ensures, c.if-place-len.false)) c.index_mut.ensures.value in
     let seat = c.self.invariant.0.each c.args.i (seat_of x) (seat_at items c.args.i x at) in
     let z = sizes m (seat_of x) seat in
     record {
@@ -34,7 +34,7 @@ reset-requires g c =
 at : (g : given.Over) (c : goal.After-self-1 g) → slice_get c.self.inside.sandboxes.items c.args.i ≡ Some c.index_mut.result.now
 at g c =
     let items = c.self.inside.sandboxes.items in
-    found items items c.args.i c.index_mut.result.now refl (omega (arith, c.len.ensures, c.if-place-len.false)) c.index_mut.ensures.value
+    found_there items items c.args.i c.index_mut.result.now refl (omega (arith, c.len.ensures, c.if-place-len.false)) c.index_mut.ensures.value
 
 after : (g : given.Over) (c : goal.After-self-1 g) → let m = g.M.Memory.bytes c.self.inside.memory in let n = g.M.Memory.bytes c.reset.new.memory in let items = c.self.inside.sandboxes.items in
     HasReset c.args.self.now (programs_of c.self.inside.programs.items) c.args.i (slot_of m (seat_of c.index_mut.result.now)) (slot_of n (seat_of c.reset.new.self)) (world_of n (set items c.args.i c.reset.new.self))

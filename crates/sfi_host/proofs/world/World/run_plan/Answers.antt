@@ -2,7 +2,7 @@ use Rattle.sfi_host.proofs.Prelude.{◌≡◌, ◌≢◌, ◌⊎◌, inl, inr, �
 use Rattle.sfi_host.proofs.Continuing.{next_taken, next_cut}
 use Rattle.sfi_host.proofs.Joined.{joined_are}
 use Rattle.sfi_host.proofs.Plans.{none_joint}
-use Rattle.sfi_host.proofs.SameWorld.{outside_more, world_runs}
+use Rattle.sfi_host.proofs.WorldBytes.{outside_more, world_runs}
 use Rattle.sfi_host.proofs.Stops.{have_stopped}
 use Rattle.sfi_host.proofs.world.World.run_plan.Given as given
 use Rattle.sfi_host.proofs.world.World.run_plan.Goals as goal

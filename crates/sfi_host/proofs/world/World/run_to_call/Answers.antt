@@ -1,6 +1,6 @@
 use Rattle.sfi_host.proofs.Prelude.{[], ◌∷◌}
 use Rattle.sfi_host.proofs.Joined.{joined_are}
-use Rattle.sfi_host.proofs.SameWorld.{moves_to}
+use Rattle.sfi_host.proofs.WorldBytes.{moves_to}
 use Rattle.sfi_host.proofs.Stops.{have_stopped}
 use Rattle.sfi_host.specs.Waiting.{silent}
 use Rattle.sfi_host.proofs.world.World.run_to_call.Goals as goal

@@ -1,10 +1,10 @@
 use Rattle.sfi_host.proofs.Prelude.{◌≡◌, ◌↔◌, IsTrue, true, false, set, slice_get, Some, refl, sym, ap, ◌∙◌, subst, arith, slice_get_past, same_Some, Hart, IsHart, Sandbox, seat_of, world_of, slot_of, slots_of}
 use Rattle.sfi_host.specs.Programs.{programs_of}
 use Rattle.sfi_host.specs.Changing.{IsEntryHart}
-use Rattle.sfi_host.proofs.Asked.{found, seat_at}
+use Rattle.sfi_host.proofs.WorldBytes.{found_there, seat_at}
 use Rattle.sfi_host.proofs.Changing.{others_same}
 use Rattle.sfi_host.proofs.Entries.{sizes}
-use Rattle.sfi_host.proofs.SetRegisters.{HasSet, has_set, none_set, set_where}
+use Rattle.sfi_host.proofs.FromOutside.{HasSet, has_set, none_set, set_where}
 use Rattle.sfi_host.proofs.world.World.set_cpu.Given as given
 use Rattle.sfi_host.proofs.world.World.set_cpu.Goals as goal
 
@@ -17,7 +17,7 @@ pub may_hold-requires : goal.may_hold-requires
 may_hold-requires g c =
     let items = c.self.inside.sandboxes.items in
     let x = c.index.result.now in
-    let there = seat_at items c.args.i x (found items items c.args.i x refl (omega (arith, c.len.ensures, c.if-place-len.false)) c.index.ensures) in
+    let there = seat_at items c.args.i x (found_there items items c.args.i x refl (omega (arith, c.len.ensures, c.if-place-len.false)) c.index.ensures) in
     let z = sizes (g.M.Memory.bytes c.self.inside.memory) (seat_of x) (c.self.invariant.0.each c.args.i (seat_of x) there) in
     record { code_size = z.0; data_size = z.1 }
 
@@ -26,7 +26,7 @@ returns-then-not-may_hold-clause-may g c =
     let items = c.self.inside.sandboxes.items in
     let x = c.index.result.now in
     set_where c.args.self.now (g.M.Memory.bytes c.self.inside.memory) items c.self.view_is c.args.i c.args.cpu x false
-    (found items items c.args.i x refl (omega (arith, c.len.ensures, c.if-place-len.false)) c.index.ensures)
+    (found_there items items c.args.i x refl (omega (arith, c.len.ensures, c.if-place-len.false)) c.index.ensures)
     c.if-not-may_hold.ensures
 
 -- ---- what comes of it
@@ -34,13 +34,13 @@ returns-then-not-may_hold-clause-may g c =
 at : (g : given.Over) (c : goal.After-self-1 g) → slice_get c.self.inside.sandboxes.items c.args.i ≡ Some c.index_mut.result.now
 at g c =
     let items = c.self.inside.sandboxes.items in
-    found items items c.args.i c.index_mut.result.now refl (omega (arith, c.len.ensures, c.if-place-len.false)) c.index_mut.ensures.value
+    found_there items items c.args.i c.index_mut.result.now refl (omega (arith, c.len.ensures, c.if-place-len.false)) c.index_mut.ensures.value
 
 may : (g : given.Over) (c : goal.After-self-1 g) → IsEntryHart (seat_of c.index_mut.result.now).bounds c.args.cpu
 may g c =
     let items = c.self.inside.sandboxes.items in
     let x = c.index.result.now in
-    let here : slice_get items c.args.i ≡ Some x = found items items c.args.i x refl (omega (arith, c.len.ensures, c.if-place-len.false)) c.index.ensures in
+    let here : slice_get items c.args.i ≡ Some x = found_there items items c.args.i x refl (omega (arith, c.len.ensures, c.if-place-len.false)) c.index.ensures in
     subst (λ (y : Sandbox). IsEntryHart (seat_of y).bounds c.args.cpu) (same_Some x c.index_mut.result.now (sym here ∙ at g c))
     (c.if-not-may_hold.ensures.0 refl)
 

@@ -1,7 +1,7 @@
 use Rattle.sfi_host.proofs.Prelude.{◌≡◌, ◌↔◌, IsTrue, Hart, Sandboxes, slots_of, subst}
 use Rattle.std.specs.Bool.{OnTrue}
 use Rattle.sfi_host.specs.Changing.{hart_of, MaySetAt, with_hart}
-use Rattle.sfi_host.proofs.SetRegisters.{odd_set}
+use Rattle.sfi_host.proofs.FromOutside.{odd_set}
 use Rattle.sfi_host.proofs.world.World.set_registers.Goals as goal
 
 pub returns-in_default-clause-may : goal.returns-in_default-clause-may

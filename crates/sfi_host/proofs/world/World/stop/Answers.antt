@@ -1,8 +1,8 @@
 use Rattle.sfi_host.proofs.Prelude.{◌≡◌, true, set, slice_get, Some, refl, sym, ◌∙◌, subst, arith, slice_get_past, same_Some, Sandbox, Ready, seat_of, world_of, slot_of}
 use Rattle.sfi_host.specs.Programs.{programs_of}
-use Rattle.sfi_host.proofs.Asked.{found}
+use Rattle.sfi_host.proofs.WorldBytes.{found_there}
 use Rattle.sfi_host.proofs.Changing.{others_same}
-use Rattle.sfi_host.proofs.Stopping.{HasStopped, has_stopped, none_ready, ready_where}
+use Rattle.sfi_host.proofs.FromOutside.{HasStopped, has_stopped, none_ready, ready_where}
 use Rattle.sfi_host.proofs.world.World.stop.Given as given
 use Rattle.sfi_host.proofs.world.World.stop.Goals as goal
 
@@ -16,20 +16,20 @@ returns-then-not-is_ready-clause-may g c =
     let items = c.self.inside.sandboxes.items in
     let x = c.index.result.now in
     ready_where c.args.self.now (g.M.Memory.bytes c.self.inside.memory) items c.self.view_is c.args.i x _
-    (found items items c.args.i x refl (omega (arith, c.len.ensures, c.if-place-len.false)) c.index.ensures) c.if-not-is_ready.ensures
+    (found_there items items c.args.i x refl (omega (arith, c.len.ensures, c.if-place-len.false)) c.index.ensures) c.if-not-is_ready.ensures
 
 -- ---- what comes of it
 
 at : (g : given.Over) (c : goal.After-self-1 g) → slice_get c.self.inside.sandboxes.items c.args.i ≡ Some c.index_mut.result.now
 at g c =
     let items = c.self.inside.sandboxes.items in
-    found items items c.args.i c.index_mut.result.now refl (omega (arith, c.len.ensures, c.if-place-len.false)) c.index_mut.ensures.value
+    found_there items items c.args.i c.index_mut.result.now refl (omega (arith, c.len.ensures, c.if-place-len.false)) c.index_mut.ensures.value
 
 ready : (g : given.Over) (c : goal.After-self-1 g) → c.index_mut.result.now.status ≡ Ready
 ready g c =
     let items = c.self.inside.sandboxes.items in
     let x = c.index.result.now in
-    let here : slice_get items c.args.i ≡ Some x = found items items c.args.i x refl (omega (arith, c.len.ensures, c.if-place-len.false)) c.index.ensures in
+    let here : slice_get items c.args.i ≡ Some x = found_there items items c.args.i x refl (omega (arith, c.len.ensures, c.if-place-len.false)) c.index.ensures in
     subst (λ (y : Sandbox). y.status ≡ Ready) (same_Some x c.index_mut.result.now (sym here ∙ at g c)) (c.if-not-is_ready.ensures.0 refl)
 
 after : (g : given.Over) (c : goal.After-self-1 g) → let m = g.M.Memory.bytes c.self.inside.memory in let items = c.self.inside.sandboxes.items in

@@ -1,14 +1,13 @@
 use Rattle.sfi_host.proofs.Prelude.{◌≡◌, refl, arith, subst, slice_get, Some, Sandboxes, IsSafeWorld}
-use Rattle.sfi_host.proofs.Asked.{found, slot_is}
-use Rattle.sfi_host.proofs.AtGate.{if_at_gate}
-use Rattle.sfi_host.proofs.Waited.{if_waits, is_told}
+use Rattle.sfi_host.proofs.WorldBytes.{found_there, slot_is}
+use Rattle.sfi_host.proofs.Waited.{if_at_gate, if_waits, is_told}
 use Rattle.sfi_host.proofs.world.World.waiting.Given as given
 use Rattle.sfi_host.proofs.world.World.waiting.Goals as goal
 
 at : (g : given.Over) (c : goal.After-asked_by g) → slice_get c.self.inside.sandboxes.items c.args.i ≡ Some c.index.result.now
 at g c =
     let items = c.self.inside.sandboxes.items in
-    found items items c.args.i c.index.result.now refl (omega (arith, c.len.ensures, c.if-place-len.false)) c.index.ensures
+    found_there items items c.args.i c.index.result.now refl (omega (arith, c.len.ensures, c.if-place-len.false)) c.index.ensures
 
 pub returns : goal.returns
 returns g c =

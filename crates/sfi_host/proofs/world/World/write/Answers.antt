@@ -1,7 +1,7 @@
 use Rattle.sfi_host.proofs.Prelude.{◌≡◌, ◌↔◌, IsTrue, IsSome, List, length, ℕ, true, false, Option, Some, slice_get, refl, subst, arith, rules, seat_of, world_of, slot_of}
 use Rattle.sfi_host.specs.Programs.{programs_of}
 use Rattle.sfi_host.specs.Changing.{AreChanges}
-use Rattle.sfi_host.proofs.Asked.{found, data_bytes_is}
+use Rattle.sfi_host.proofs.WorldBytes.{found_there, data_bytes_is}
 use Rattle.sfi_host.proofs.Changing.{whole_at, data_written, others_same, AfterTurn}
 use Rattle.sfi_host.proofs.world.World.write.Given as given
 use Rattle.sfi_host.proofs.world.World.write.Goals as goal
@@ -12,7 +12,7 @@ returns-then-not-covers-clause-there g c =
     let m = g.M.Memory.bytes c.self.inside.memory in
     let items = c.self.inside.sandboxes.items in
     let x = c.index.result.now in
-    let here : slice_get items c.args.i ≡ Some x = found items items c.args.i x refl (omega (arith, c.len.ensures, c.if-place-len.false)) c.index.ensures in
+    let here : slice_get items c.args.i ≡ Some x = found_there items items c.args.i x refl (omega (arith, c.len.ensures, c.if-place-len.false)) c.index.ensures in
     subst (λ (o : Option (List ℕ)). IsTrue false ↔ IsSome o)
     (data_bytes_is c.args.self.now m items c.self.view_is c.args.i x c.args.at (length c.args.bytes.now) here)
     (c.if-not-covers.ensures.there m (whole_at m items c.args.i x c.self.invariant.0 here))
@@ -22,7 +22,7 @@ write-requires g c =
     let m = g.M.Memory.bytes c.self.inside.memory in
     let items = c.self.inside.sandboxes.items in
     let x = c.index.result.now in
-    let whole = whole_at m items c.args.i x c.self.invariant.0 (found items items c.args.i x refl (omega (arith, c.len.ensures, c.if-place-len.false)) c.index.ensures) in
+    let whole = whole_at m items c.args.i x c.self.invariant.0 (found_there items items c.args.i x refl (omega (arith, c.len.ensures, c.if-place-len.false)) c.index.ensures) in
     record { there = (c.if-not-covers.ensures.there m whole).0 refl; end = c.if-not-covers.ensures.end m (g.met.M.Memory.in_range c.self.inside.memory) whole }
 
 -- ---- what the write leaves
@@ -30,7 +30,7 @@ write-requires g c =
 here : (g : given.Over) (c : After-write g) → slice_get c.self.inside.sandboxes.items c.args.i ≡ Some c.index.result.now
 here g c =
     let items = c.self.inside.sandboxes.items in
-    found items items c.args.i c.index.result.now refl (omega (arith, c.len.ensures, c.if-place-len.false)) c.index.ensures
+    found_there items items c.args.i c.index.result.now refl (omega (arith, c.len.ensures, c.if-place-len.false)) c.index.ensures
 
 after : (g : given.Over) (c : After-write g) → let m = g.M.Memory.bytes c.self.inside.memory in let n = g.M.Memory.bytes c.write.new.memory in let o = world_of n c.self.inside.sandboxes.items in
     AfterTurn c.args.self.now (programs_of c.self.inside.programs.items) c.args.i (slot_of m (seat_of c.index.result.now)) (slot_of n (seat_of c.index.result.now)) o × AreChanges c.args.self.now o
