@@ -1,6 +1,6 @@
 -- What holds of every report, listing and state: the laws.
 use Rattle.sfi_report.specs.Laws.{OneReport, OneListing, OneState}
-use Rattle.sfi_report.proofs.OneText as text
+use Rattle.sfi_report.proofs.Texts as text
 
 pub one_report : OneReport
 one_report = text.one_report

@@ -1,9 +1,5 @@
 pub mod Prelude
-pub mod Padding
 pub mod Lines
-pub mod Sandboxes
-pub mod NameLines
 pub mod Places
-pub mod Reports
-pub mod OneText
+pub mod Texts
 pub mod Facts

@@ -7,7 +7,7 @@ use Rattle.sfi_formats.specs.declared.format.Format.TheVariants.{Sfi1, Sfi2, Sfi
 use Rattle.sfi_image.specs.Spelling.{views}
 use Rattle.sfi_image.specs.Parts.{IsRightPart}
 use Rattle.sfi_image.proofs.Facts.{whole_bundles}
-use Rattle.sfi_report.proofs.Sandboxes.{unit_fits}
+use Rattle.sfi_report.proofs.Texts.{unit_fits}
 use Rattle.sfi_translate.specs.Translation.{sandbox_line, data_line, last_line, function_text, entry_text, head_text, IsTextOfFirst, IsTranslationFrom, IsTranslation}
 
 -- the text of the units before this offset after the old one

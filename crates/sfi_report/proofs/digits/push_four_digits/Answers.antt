@@ -1,5 +1,5 @@
 use Rattle.sfi_report.proofs.Prelude.{◌∙◌, ◌++◌, ap, string_bytes, on_ok_weaker}
-use Rattle.sfi_report.proofs.Padding.{padding_is_zeros}
+use Rattle.sfi_report.proofs.Lines.{padding_is_zeros}
 use Rattle.sfi_report.proofs.digits.push_four_digits.Goals as goal
 
 pub returns : goal.returns

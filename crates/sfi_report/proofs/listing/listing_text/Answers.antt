@@ -1,6 +1,6 @@
 use Rattle.sfi_report.proofs.Prelude.{◌≡◌, ◌++◌, ◌∙◌, List, ℕ, refl, sym, ap, subst, string_bytes, Format, SandboxPart, view, format_of, Adds, format_line, IsSandboxListing}
 use Rattle.sfi_image.specs.Parts.{IsRightPart}
-use Rattle.sfi_report.proofs.Sandboxes.{right_at, AreListedTo, no_sandboxes, one_sandbox_more, all_sandboxes}
+use Rattle.sfi_report.proofs.Texts.{right_at, AreListedTo, no_sandboxes, one_sandbox_more, all_sandboxes}
 use Rattle.sfi_report.proofs.listing.listing_text.Goals as goal
 
 pub loop-sandbox-init : goal.loop-sandbox-init

@@ -1,5 +1,5 @@
 use Rattle.sfi_report.proofs.Prelude.{string_bytes, format_of, format_line}
-use Rattle.sfi_report.proofs.Sandboxes.{AreListedTo}
+use Rattle.sfi_report.proofs.Texts.{AreListedTo}
 use Rattle.sfi_report.proofs.listing.listing_text.Given as goal
 
 -- the sandboxes so far are listed

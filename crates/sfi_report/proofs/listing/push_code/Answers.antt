@@ -1,6 +1,6 @@
 use Rattle.sfi_report.proofs.Prelude.{◌≡◌, ◌+◌, ◌-◌, ◌≤◌, length, take, drop, subst, arith, length-take, string_bytes, view, Adds, IsUnitListing}
 use Rattle.std.proofs.Common.{◌^◌, length-drop}
-use Rattle.sfi_report.proofs.Sandboxes.{unit_fits, one_unit_more}
+use Rattle.sfi_report.proofs.Texts.{unit_fits, one_unit_more}
 use Rattle.sfi_report.proofs.listing.push_code.Goals as goal
 
 pub overflow_add-part : goal.overflow_add-part

@@ -1,5 +1,5 @@
 use Rattle.sfi_report.proofs.Prelude.{◌-◌, length, string_bytes, view}
-use Rattle.sfi_report.proofs.Sandboxes.{IsListedTo}
+use Rattle.sfi_report.proofs.Texts.{IsListedTo}
 use Rattle.sfi_report.proofs.listing.push_code.Given as goal
 
 -- the units so far are listed

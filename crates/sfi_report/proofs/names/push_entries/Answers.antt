@@ -1,6 +1,6 @@
 use Rattle.sfi_report.proofs.Prelude.{string_bytes}
 use Rattle.sfi_names.specs.Tables.{named}
-use Rattle.sfi_report.proofs.NameLines.{one_written, all_written}
+use Rattle.sfi_report.proofs.Lines.{one_written, all_written}
 use Rattle.sfi_report.proofs.names.push_entries.Goals as goal
 
 pub loop-entry-preserved : goal.loop-entry-preserved

@@ -1,5 +1,5 @@
 use Rattle.sfi_report.proofs.Prelude.{length, string_bytes}
-use Rattle.sfi_report.proofs.NameLines.{AreWrittenTo}
+use Rattle.sfi_report.proofs.Lines.{AreWrittenTo}
 use Rattle.sfi_report.proofs.names.push_entries.Given as goal
 
 abbrev pub invariant-loop-entry : goal.invariant-loop-entry

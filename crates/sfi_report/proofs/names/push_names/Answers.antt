@@ -1,6 +1,6 @@
 use Rattle.sfi_report.proofs.Prelude.{◌≡◌, ◌++◌, ◌∙◌, ap, ℕ, string_bytes, on_ok_weaker}
 use Rattle.sfi_report.specs.Listing.{interface_line}
-use Rattle.sfi_report.proofs.NameLines.{no_table, whole_table}
+use Rattle.sfi_report.proofs.Lines.{no_table, whole_table}
 use Rattle.sfi_report.proofs.names.push_names.Goals as goal
 
 pub returns-in_default : goal.returns-in_default

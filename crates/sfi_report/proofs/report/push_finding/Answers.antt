@@ -1,6 +1,6 @@
 use Rattle.sfi_report.proofs.Prelude.{◌-◌, string_bytes, on_ok_weaker}
 use Rattle.std.proofs.lemmas.List.{take_rest}
-use Rattle.sfi_report.proofs.Reports.{line_of, text_on_ok}
+use Rattle.sfi_report.proofs.Texts.{line_of, text_on_ok}
 use Rattle.sfi_report.proofs.report.push_finding.Goals as goal
 
 pub returns : goal.returns

@@ -1,7 +1,7 @@
 use Rattle.sfi_report.proofs.Prelude.{◌≡◌, List, get_or, sym, subst, string_bytes, take_all, Part, Format, SandboxPart, format_of, Finding, V1, Adds, Stands, IsFindingLine, IsReport}
 use Rattle.sfi_image.specs.Spelling.{views}
 use Rattle.sfi_report.proofs.Places.{findings_stand}
-use Rattle.sfi_report.proofs.Reports.{one_finding_more}
+use Rattle.sfi_report.proofs.Texts.{one_finding_more}
 use Rattle.sfi_report.proofs.report.report_text.Goals as goal
 
 -- what the list has after its end

@@ -1,6 +1,6 @@
 use Rattle.sfi_translate.proofs.Prelude.{List, ℕ, sym, subst, take, string_bytes, Format, SandboxPart, view, format_of, Adds, IsSandboxText}
 use Rattle.sfi_image.specs.Parts.{IsRightPart}
-use Rattle.sfi_report.proofs.Sandboxes.{right_at}
+use Rattle.sfi_report.proofs.Texts.{right_at}
 use Rattle.sfi_translate.specs.Translation.{IsTranslationFrom}
 use Rattle.sfi_translate.proofs.Sandboxes.{no_sandboxes, one_sandbox_more, all_sandboxes}
 use Rattle.sfi_translate.proofs.translation.translation_text.Goals as goal
