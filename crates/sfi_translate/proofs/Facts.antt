@@ -15,7 +15,7 @@ use Rattle.sfi_word_safety.specs.Code.{IsCleanInWords, IsGoodInWords}
 use Rattle.sfi_word_safety.proofs.Facts as words
 use Rattle.sfi_translate.specs.Machine.{Going, Loop, AreTranslatedSteps}
 use Rattle.sfi_translate.specs.Laws.{UnitsAreWhole, LinesAreInText, IsReached, IsAsImage, TranslatedRunsAsImage}
-use Rattle.sfi_translate.proofs.InText.{in_text}
+use Rattle.sfi_translate.proofs.LinesStand.{in_text}
 use Rattle.sfi_translate.proofs.Moves.{as_image, run_good}
 use Rattle.sfi_translate.proofs.Whole.{bundles_whole, words_whole}
 

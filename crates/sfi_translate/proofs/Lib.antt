@@ -1,11 +1,8 @@
 pub mod Prelude
-pub mod Readings
-pub mod Sandboxes
-pub mod LinesStand
+pub mod Text
 pub mod Counting
-pub mod Tested
-pub mod Rows
+pub mod LineSteps
 pub mod Moves
 pub mod Whole
-pub mod InText
+pub mod LinesStand
 pub mod Facts

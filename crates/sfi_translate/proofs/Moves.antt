@@ -17,8 +17,7 @@ use Rattle.sfi_translate.specs.Machine.{ControlPoint, Label, Slow, Loop, Stopped
 use Rattle.sfi_translate.specs.Laws.{HasData, IsAsImage}
 use Rattle.sfi_translate.proofs.LinesStand.{stands, two_or_four, between_heads}
 use Rattle.sfi_translate.proofs.Counting.{IsEnough, loop_enough, line_enough}
-use Rattle.sfi_translate.proofs.Tested.{done_next, fixed_is}
-use Rattle.sfi_translate.proofs.Rows.{row_is_step}
+use Rattle.sfi_translate.proofs.LineSteps.{done_next, fixed_is, row_is_step}
 
 -- ---- steps
 

@@ -1,7 +1,7 @@
 use Rattle.sfi_translate.proofs.Prelude.{◌≡◌, ◌+◌, ◌-◌, ◌≤◌, length, take, drop, subst, arith, length-take, string_bytes, view, Adds, IsUnitText}
 use Rattle.std.proofs.Common.{◌^◌, length-drop}
 use Rattle.sfi_report.proofs.Texts.{unit_fits}
-use Rattle.sfi_translate.proofs.Sandboxes.{one_unit_more}
+use Rattle.sfi_translate.proofs.Text.{one_unit_more}
 use Rattle.sfi_translate.proofs.translation.push_code.Goals as goal
 
 pub overflow_add-here : goal.overflow_add-here

@@ -1,5 +1,5 @@
 use Rattle.sfi_translate.proofs.Prelude.{◌-◌, length, string_bytes, view}
-use Rattle.sfi_translate.proofs.Sandboxes.{IsWrittenTo}
+use Rattle.sfi_translate.proofs.Text.{IsWrittenTo}
 use Rattle.sfi_translate.proofs.translation.push_code.Given as goal
 
 -- the units so far are written

@@ -1,6 +1,6 @@
 use Rattle.sfi_translate.proofs.Prelude.{◌-◌, inl, inr, sym, length, take, drop, string_bytes, append-nil, Read}
 use Rattle.std.proofs.lemmas.List.{take_rest}
-use Rattle.sfi_translate.proofs.Readings.{at_first, next, at_last, at_rest}
+use Rattle.sfi_translate.proofs.Text.{at_first, next, at_last, at_rest}
 use Rattle.sfi_translate.proofs.translation.push_reading.Goals as goal
 
 pub loop-at-init : goal.loop-at-init

@@ -1,5 +1,5 @@
 use Rattle.sfi_translate.proofs.Prelude.{◌-◌, length, string_bytes}
-use Rattle.sfi_translate.proofs.Readings.{Leads}
+use Rattle.sfi_translate.proofs.Text.{Leads}
 use Rattle.sfi_translate.proofs.translation.push_reading.Given as goal
 
 -- the lines so far lead to those of the longest reading

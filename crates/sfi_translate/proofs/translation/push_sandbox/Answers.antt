@@ -1,6 +1,6 @@
 use Rattle.sfi_translate.proofs.Prelude.{◌≡◌, ◌++◌, ◌∙◌, List, ap, string_bytes, flat_map, take_all, on_ok_weaker, view, gate_line}
 use Rattle.sfi_image.specs.declared.part.Gate.{Gate}
-use Rattle.sfi_translate.proofs.Sandboxes.{whole_sandbox}
+use Rattle.sfi_translate.proofs.Text.{whole_sandbox}
 use Rattle.sfi_translate.proofs.translation.push_sandbox.Goals as goal
 
 pub returns : goal.returns

@@ -1,5 +1,5 @@
 use Rattle.sfi_translate.proofs.Prelude.{string_bytes, on_ok_weaker}
-use Rattle.sfi_translate.proofs.Sandboxes.{whole_unit}
+use Rattle.sfi_translate.proofs.Text.{whole_unit}
 use Rattle.sfi_translate.proofs.translation.push_unit.Goals as goal
 
 pub returns : goal.returns

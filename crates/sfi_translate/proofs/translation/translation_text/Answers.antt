@@ -2,7 +2,7 @@ use Rattle.sfi_translate.proofs.Prelude.{List, ℕ, sym, subst, take, string_byt
 use Rattle.sfi_image.specs.Parts.{IsRightPart}
 use Rattle.sfi_report.proofs.Texts.{right_at}
 use Rattle.sfi_translate.specs.Translation.{IsTranslationFrom}
-use Rattle.sfi_translate.proofs.Sandboxes.{no_sandboxes, one_sandbox_more, all_sandboxes}
+use Rattle.sfi_translate.proofs.Text.{no_sandboxes, one_sandbox_more, all_sandboxes}
 use Rattle.sfi_translate.proofs.translation.translation_text.Goals as goal
 
 pub loop-sandbox-init : goal.loop-sandbox-init
