@@ -5,7 +5,7 @@ use Rattle.sfi_io.specs.Laws.{ComesToItsBytes, ComesToItsFault, TextsBeginAsNone
 use Rattle.sfi_io.specs.Pieces.{start_of}
 use Rattle.sfi_io.proofs.Ahead.{keeps_limit}
 use Rattle.sfi_io.proofs.Faults.{fault_comes}
-use Rattle.sfi_io.proofs.Images as images
+use Rattle.sfi_io.proofs.Leads as images
 
 spells : (text bytes : List ℕ) → outcome (start_of text) ≡ Ok bytes → SpellsBytes text bytes
 spells text bytes e = by (nat_lt limit (length text)) refl

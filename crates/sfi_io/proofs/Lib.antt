@@ -1,9 +1,7 @@
 pub mod Prelude
-pub mod Classes
 pub mod Ahead
 pub mod Faults
 pub mod Facts
 pub mod Fronts
-pub mod Images
 pub mod Leads
-pub mod Lanes
+pub mod Digits

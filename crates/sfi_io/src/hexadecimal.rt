@@ -73,7 +73,7 @@ fn class_of(byte: u8) -> u8
 
 /// Whether the byte is white space.
 #[inline(always)]
-#[tactic(auto, using(crate::proofs::Classes::class_white))]
+#[tactic(auto, using(crate::proofs::Digits::class_white))]
 pub(crate) fn is_white(byte: u8) -> bool
     ensures { result ≡ not (is_kept byte) }
 {
@@ -81,7 +81,7 @@ pub(crate) fn is_white(byte: u8) -> bool
 }
 
 /// The number of a digit of either case.
-#[tactic(auto, using(crate::proofs::Classes::class_digit_some, crate::proofs::Classes::class_digit_none))]
+#[tactic(auto, using(crate::proofs::Digits::class_digit_some, crate::proofs::Digits::class_digit_none))]
 pub(crate) fn digit_value(digit: u8) -> Option<u8>
     ensures { result ≡ hex_digit_value digit }
 {

@@ -1,5 +1,5 @@
 use Rattle.sfi_io.proofs.Prelude.{arith}
-use Rattle.sfi_io.proofs.Classes.{both_small, class_digit_some, digit_kept, pair_is, wrong_pair}
+use Rattle.sfi_io.proofs.Digits.{both_small, class_digit_some, digit_kept, pair_is, wrong_pair}
 use Rattle.sfi_io.proofs.hexadecimal.byte_of.Goals as goal
 
 pub overflow_mul-result : goal.overflow_mul-result

@@ -1,5 +1,5 @@
 use Rattle.sfi_io.proofs.Prelude.{◌≡◌, ◌<◌, ◌+◌, ◌-◌, ◌*◌, ◌∙◌, ℕ, List, Some, ap, arith, sym, subst, take_all, slice_index, hex_digit_value, IsByteOf}
-use Rattle.sfi_io.proofs.Classes.{byte_of_values}
+use Rattle.sfi_io.proofs.Digits.{byte_of_values}
 use Rattle.sfi_io.proofs.hexadecimal.decode_block.Goals as goal
 
 pub returns-clause-each : goal.returns-clause-each

@@ -1,7 +1,7 @@
 use Rattle.sfi_io.proofs.Prelude.{◌∙◌, ◌+◌, ◌*◌, ◌%◌, arith}
 use Rattle.std.proofs.Common.{◌/◌, ◌^◌, Fits, w8}
 use Rattle.std.proofs.lemmas.Simd.{below_from_Fits, Each1-get_or}
-use Rattle.sfi_io.proofs.Lanes.{splat, zipped, paired, joins}
+use Rattle.sfi_io.proofs.Digits.{splat, zipped, paired, joins}
 use Rattle.sfi_io.proofs.hexadecimal.joined.Goals as goal
 
 pub returns-clause-each : goal.returns-clause-each

@@ -1,8 +1,7 @@
 use Rattle.sfi_io.proofs.Prelude.{◌∙◌, sym, arith, slice_index}
 use Rattle.std.proofs.Common.{bit_and, bit_xor, Fits, w8}
 use Rattle.std.proofs.lemmas.Simd.{Each1-get_or}
-use Rattle.sfi_io.proofs.Classes.{large_is}
-use Rattle.sfi_io.proofs.Lanes.{own, splat, zipped, no_bits, before_other}
+use Rattle.sfi_io.proofs.Digits.{large_is, own, splat, zipped, no_bits, before_other}
 use Rattle.sfi_io.proofs.hexadecimal.pairs_before.Goals as goal
 
 pub returns-then-values-eq0-clause-digits : goal.returns-then-values-eq0-clause-digits

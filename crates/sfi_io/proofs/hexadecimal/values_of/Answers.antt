@@ -1,8 +1,7 @@
 use Rattle.sfi_io.proofs.Prelude.{◌∙◌, ◌+◌, ◌-◌, ◌%◌, ap, sym, arith, slice_index, nat_lt, ℕ, Some}
 use Rattle.std.proofs.Common.{bit_or, Fits, w8}
 use Rattle.std.proofs.lemmas.Simd.{Each1-get_or}
-use Rattle.sfi_io.proofs.Classes.{value_is}
-use Rattle.sfi_io.proofs.Lanes.{own, splat, zipped, chosen}
+use Rattle.sfi_io.proofs.Digits.{value_is, own, splat, zipped, chosen}
 use Rattle.sfi_io.proofs.hexadecimal.values_of.Goals as goal
 
 abbrev added : ℕ → ℕ → ℕ

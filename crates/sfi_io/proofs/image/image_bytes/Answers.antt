@@ -1,6 +1,6 @@
 use Rattle.sfi_io.proofs.Prelude.{◌≡◌, ◌∙◌, List, ℕ, inl, inr}
 use Rattle.sfi_io.specs.Hexadecimal.{GivesImage}
-use Rattle.sfi_io.proofs.Images.{texts_begin_as_none}
+use Rattle.sfi_io.proofs.Leads.{texts_begin_as_none}
 use Rattle.sfi_io.proofs.image.image_bytes.Goals as goal
 
 pub returns-then-begins_as_image-clause-only_bytes : goal.returns-then-begins_as_image-clause-only_bytes
