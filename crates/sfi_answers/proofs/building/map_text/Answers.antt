@@ -3,7 +3,7 @@ use Rattle.std.specs.Prelude.{string_bytes}
 use Rattle.sfi_formats.specs.declared.format.Format.{Format}
 use Rattle.sfi_image.specs.Spelling.{view, format_of}
 use Rattle.sfi_image.specs.declared.part.SandboxPart.{SandboxPart}
-use Rattle.sfi_answers.proofs.Maps.{Maps, one_mapped_more, all_mapped}
+use Rattle.sfi_answers.proofs.Sources.{Maps, one_mapped_more, all_mapped}
 use Rattle.sfi_answers.proofs.building.map_text.Goals as goal
 
 pub loop-sandbox-preserved : goal.loop-sandbox-preserved

@@ -1,5 +1,5 @@
 use Rattle.std.specs.Prelude.{string_bytes}
-use Rattle.sfi_answers.proofs.Maps.{AreMapped}
+use Rattle.sfi_answers.proofs.Sources.{AreMapped}
 use Rattle.sfi_answers.proofs.building.map_text.Given as goal
 
 -- the sandboxes so far are mapped

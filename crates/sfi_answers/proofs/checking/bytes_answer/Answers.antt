@@ -1,5 +1,5 @@
 use Rattle.std.proofs.lemmas.Result.{IfOk-weaker}
-use Rattle.sfi_answers.proofs.Verdicts.{of_stop}
+use Rattle.sfi_answers.proofs.Images.{of_stop}
 use Rattle.sfi_answers.proofs.checking.bytes_answer.Goals as goal
 
 pub returns-in-Err-clause-fault : goal.returns-in-Err-clause-fault

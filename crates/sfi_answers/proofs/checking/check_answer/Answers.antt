@@ -1,6 +1,6 @@
 use Rattle.std.proofs.Common.{◌∙◌, inl, refl}
 use Rattle.sfi_answers.specs.Answers.{SaysVerdict}
-use Rattle.sfi_answers.proofs.Verdicts.{accepted}
+use Rattle.sfi_answers.proofs.Images.{accepted}
 use Rattle.sfi_answers.proofs.checking.check_answer.Goals as goal
 
 pub returns-in_ok-accepted_line-in-Ok : goal.returns-in_ok-accepted_line-in-Ok

@@ -3,7 +3,7 @@ use Rattle.std.specs.Prelude.{string_bytes}
 use Rattle.sfi_check.specs.declared.refusal.Refusal.{Refusal}
 use Rattle.sfi_rules.specs.declared.finding.Finding.{Finding}
 use Rattle.sfi_answers.specs.Answers.{IsRefusalText, SaysRefused, Refuses}
-use Rattle.sfi_answers.proofs.Verdicts.{has_fault, has_findings}
+use Rattle.sfi_answers.proofs.Images.{has_fault, has_findings}
 use Rattle.sfi_answers.proofs.checking.refusal_answer.Goals as goal
 
 pub returns-in_ok-refusal_text-in-Findings : goal.returns-in_ok-refusal_text-in-Findings

@@ -1,7 +1,7 @@
 use Rattle.std.proofs.Common.{false}
 use Rattle.std.proofs.lemmas.Result.{IfOk-weaker}
 use Rattle.sfi_answers.specs.Answers.{HasSomeFault, SaysVerdict}
-use Rattle.sfi_answers.proofs.Streamed.{judged}
+use Rattle.sfi_answers.proofs.Images.{judged}
 use Rattle.sfi_answers.proofs.raw.raw_answer.Goals as goal
 
 pub stream_answer-requires : goal.stream_answer-requires

@@ -2,7 +2,7 @@ use Rattle.std.proofs.Common.{List, inl, subst, sym}
 use Rattle.std.specs.Prelude.{string_bytes}
 use Rattle.sfi_image.specs.Spelling.{Part}
 use Rattle.sfi_answers.specs.Answers.{IsTranslationText, SaysTranslation}
-use Rattle.sfi_answers.proofs.Verdicts.{accepted}
+use Rattle.sfi_answers.proofs.Images.{accepted}
 use Rattle.sfi_answers.proofs.translating.translation_answer.Goals as goal
 
 pub returns-in_ok-text_of-in-Ok : goal.returns-in_ok-text_of-in-Ok

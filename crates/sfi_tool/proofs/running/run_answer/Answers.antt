@@ -1,6 +1,6 @@
 use Rattle.sfi_tool.proofs.Prelude.{inl, subst, sym}
 use Rattle.sfi_tool.specs.Running.{IsRunText, SaysRun}
-use Rattle.sfi_answers.proofs.Verdicts.{accepted}
+use Rattle.sfi_answers.proofs.Images.{accepted}
 use Rattle.sfi_tool.proofs.running.run_answer.Goals as goal
 
 pub returns-in_ok-run_text-in-Ok : goal.returns-in_ok-run_text-in-Ok
