@@ -23,7 +23,7 @@ use Rattle.sfi_host.specs.declared.guest.Request.{Request}
 use Rattle.sfi_tool.specs.declared.piece.Piece.{Piece}
 use Rattle.sfi_tool.specs.Executing.{IsStopText, Streams, get_if, other, piece_of, put_if, stop_lines, streams}
 use Rattle.sfi_tool.specs.private.{AreWithin, GoesOnWith, IfKnown, IsAnsweredBy, IsAsked, piece_answer, piece_bytes, IsPiece, IsReplyTo, IsServed, IsStreamed, Streamed, TakesTurns, handed_by, kept}
-use Rattle.sfi_tool.proofs.Streams.{answered_turns, appends_none, asked_by, keeps_appends, known_same, streamed_both}
+use Rattle.sfi_tool.proofs.Turns.{answered_turns, appends_none, asked_by, keeps_appends, known_same, streamed_both}
 use Rattle.sfi_tool.proofs.Budgets.{reply_within}
 
 put_none : (xs : List ℕ) → xs ≡ xs ++ []

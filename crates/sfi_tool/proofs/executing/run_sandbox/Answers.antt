@@ -1,5 +1,5 @@
 use Rattle.sfi_tool.proofs.Prelude.{slots_of}
-use Rattle.sfi_tool.proofs.Streams.{streamed_both, streamed_none}
+use Rattle.sfi_tool.proofs.Turns.{streamed_both, streamed_none}
 use Rattle.sfi_tool.proofs.executing.run_sandbox.Goals as goal
 
 pub loop-init : goal.loop-init

@@ -1,5 +1,5 @@
 use Rattle.sfi_tool.proofs.Prelude.{slots_of}
-use Rattle.sfi_tool.proofs.Streams.{none_ran, one_more_ran}
+use Rattle.sfi_tool.proofs.Turns.{none_ran, one_more_ran}
 use Rattle.sfi_tool.proofs.executing.run_sandboxes.Goals as goal
 
 pub loop-sandbox-init : goal.loop-sandbox-init

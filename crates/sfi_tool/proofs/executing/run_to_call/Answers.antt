@@ -1,6 +1,6 @@
 use Rattle.sfi_tool.proofs.Prelude.{ℕ, ◌∙◌, slots_of, subst}
 use Rattle.sfi_tool.proofs.Budgets.{run_within}
-use Rattle.sfi_tool.proofs.Streams.{asked_is, to_call_streamed}
+use Rattle.sfi_tool.proofs.Turns.{asked_is, to_call_streamed}
 use Rattle.std.proofs.Common.{◌≤◌}
 use Rattle.sfi_tool.proofs.executing.run_to_call.Goals as goal
 

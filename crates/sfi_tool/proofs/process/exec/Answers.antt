@@ -2,7 +2,7 @@ use Rattle.std.proofs.lemmas.Result.{IfOk-weaker}
 use Rattle.sfi_tool.proofs.Prelude.{◌∙◌, subst}
 use Rattle.sfi_io.specs.Hexadecimal.{IsInput}
 use Rattle.sfi_io.specs.declared.streams.Input.{Input}
-use Rattle.sfi_tool.proofs.Processes.{executes, whole_is}
+use Rattle.sfi_tool.proofs.Jobs.{executes, whole_is}
 use Rattle.sfi_tool.proofs.process.exec.Goals as goal
 
 pub returns-in-Ok-Whole-clause-executes : goal.returns-in-Ok-Whole-clause-executes

@@ -6,7 +6,7 @@ use Rattle.sfi_tool.proofs.Prelude.{◌∙◌, ℕ, List, Part, string_bytes, sl
 use Rattle.sfi_host.specs.Worlds.{Seat, slot_of}
 use Rattle.sfi_tool.specs.private.{AreWithin}
 use Rattle.sfi_tool.proofs.Budgets.{first_within}
-use Rattle.sfi_tool.proofs.Processes.{ran_of}
+use Rattle.sfi_tool.proofs.Jobs.{ran_of}
 use Rattle.sfi_tool.proofs.process.run_accepted.Goals as goal
 
 pub run_sandboxes-ran-requires-clause-within : goal.run_sandboxes-ran-requires-clause-within

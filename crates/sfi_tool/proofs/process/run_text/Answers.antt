@@ -1,6 +1,6 @@
 use Rattle.sfi_tool.proofs.Prelude.{◌∙◌, subst, sym}
 use Rattle.sfi_answers.specs.Answers.{IsAcceptedImage}
-use Rattle.sfi_tool.proofs.Processes.{no_bytes, same_fault}
+use Rattle.sfi_tool.proofs.Jobs.{no_bytes, same_fault}
 use Rattle.sfi_tool.proofs.process.run_text.Goals as goal
 
 pub returns-in-Ok-clause-not_accepted : goal.returns-in-Ok-clause-not_accepted

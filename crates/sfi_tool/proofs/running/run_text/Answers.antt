@@ -1,6 +1,6 @@
 use Rattle.sfi_tool.proofs.Prelude.{string_bytes}
 use Rattle.std.proofs.lemmas.Result.{IfOk-weaker}
-use Rattle.sfi_tool.proofs.Rounds.{said_of_run}
+use Rattle.sfi_tool.proofs.Turns.{said_of_run}
 use Rattle.sfi_tool.proofs.running.run_text.Goals as goal
 
 pub returns : goal.returns

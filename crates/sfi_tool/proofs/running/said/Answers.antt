@@ -1,7 +1,7 @@
 use Rattle.sfi_tool.proofs.Prelude.{◌∙◌, List, length, ap, subst, arith, string_bytes, slots_of, Part, view, AreStates, Adds}
 use Rattle.std.proofs.lemmas.List.{length-map}
 use Rattle.sfi_image.specs.Spelling.{format_of}
-use Rattle.sfi_tool.proofs.Rounds.{lines_and_states}
+use Rattle.sfi_tool.proofs.Turns.{lines_and_states}
 use Rattle.sfi_tool.proofs.running.said.Goals as goal
 
 pub push_states-requires : goal.push_states-requires

@@ -4,7 +4,7 @@ use Rattle.sfi_host.specs.Consoles.{console}
 use Rattle.sfi_host.specs.Plans.{IsJoint}
 use Rattle.sfi_host.proofs.Facts.{plans_follow}
 use Rattle.sfi_tool.specs.Running.{plan_of}
-use Rattle.sfi_tool.proofs.Rounds.{no_turn, one_more_round}
+use Rattle.sfi_tool.proofs.Turns.{no_turn, one_more_round}
 use Rattle.sfi_tool.proofs.running.take_rounds.Goals as goal
 
 pub loop-init : goal.loop-init
