@@ -1,4 +1,2 @@
-mod Stops
 mod Spelling
-mod Unique
 pub mod Facts

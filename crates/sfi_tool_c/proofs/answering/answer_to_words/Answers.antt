@@ -1,9 +1,7 @@
 use Rattle.std.proofs.Common.{map, string_bytes, sym, ap, ◌∙◌, inr, arith, subst, ℕ, ◌≡◌, ◌≤◌}
 use Rattle.std.proofs.lemmas.Result.{IfOk-weaker}
 use Rattle.sfi_command.specs.Command.{AsksNothing, number_of}
-use Rattle.sfi_tool_c.proofs.Spelling.{same_spelled}
-use Rattle.sfi_tool_c.proofs.Stops.{if_both, of_hex, of_usage}
-use Rattle.sfi_tool_c.proofs.Unique.{same_words}
+use Rattle.sfi_tool_c.proofs.Spelling.{same_spelled, if_both, of_hex, of_usage, same_words}
 use Rattle.sfi_tool_c.proofs.answering.answer_to_words.Goals as goal
 
 -- what is two or three, and not two

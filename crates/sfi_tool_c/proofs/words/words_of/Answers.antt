@@ -7,8 +7,7 @@ use Rattle.std.proofs.lemmas.List.Elements.{All-same, AllWithin-upto}
 use Rattle.sfi_tool_c.specs.CommandAnswers.{ended, HasNoZero}
 use Rattle.sfi_tool_c.proofs.words.words_of.Goals as goal
 use Rattle.sfi_tool_c.proofs.words.words_of.Goals.{then-bytes-at-eq0+in-Ok+in_ok-push_word, else-bytes-at-eq0}
-use Rattle.sfi_tool_c.proofs.Spelling.{between, next_word, unbroken_more, unbroken_word, unbroken_byte, utf8_more}
-use Rattle.sfi_tool_c.proofs.Unique.{around_zero, spells_none_bad, spells_none_unended}
+use Rattle.sfi_tool_c.proofs.Spelling.{between, next_word, unbroken_more, unbroken_word, unbroken_byte, utf8_more, around_zero, spells_none_bad, spells_none_unended}
 
 pub loop-at-preserved : goal.loop-at-preserved
 loop-at-preserved c = elim c.if-bytes-at-eq0.branch [
