@@ -1,5 +1,5 @@
 -- A text has one build or one fault, and as many lists as sandboxes.
-use Rattle.sfi_text.proofs.Prelude.{◌≡◌, refl, sym, ap, subst, ◌∙◌, ℕ, ◌+◌, inl, inr, List, [], ◌∷◌, ◌++◌, Option, None, Some, length, length-append, arith, Sandbox, Begun, SharedNames, SoFar, nothing, begin, format_or_sfi1, last_sandbox, sandboxes, tables, Stated, format, sandbox, within, Does, LabelsLead, RestLeads, uncommented, lines, LinesLead, MeansText}
+use Rattle.sfi_text.proofs.Prelude.{◌≡◌, refl, sym, ap, subst, ◌∙◌, ℕ, ◌+◌, inl, inr, List, [], ◌∷◌, ◌++◌, Option, None, Some, length, length-append, arith, Sandbox, Begun, SharedNames, SoFar, nothing, begin, last_sandbox, sandboxes, tables, Stated, format, sandbox, within, Does, LabelsLead, RestLeads, uncommented, lines, LinesLead, MeansText}
 use Rattle.sfi_text.specs.SoFar.{last_shared}
 use Rattle.sfi_link.proofs.Prelude.{◌⊎◌, Vec, Global, Result, Ok, Err, IfOk, IfErr, Placement, Place, IsLinkFault}
 use Rattle.std.specs.Prelude.{◌≢◌}

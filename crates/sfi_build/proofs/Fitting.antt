@@ -1,11 +1,10 @@
 -- Tables fit: each is bytes, and has room in the data of its sandbox.
-use Rattle.sfi_link.proofs.Prelude.{◌≡◌, refl, sym, ap, subst, ◌∙◌, ℕ, ◌+◌, ◌<◌, ◌≤◌, List, [], ◌∷◌, ◌++◌, Option, None, Some, Result, Ok, Err, Bool, true, false, nat_lt, length, length-append, arith, map, slice_get, flat_map, All, All-nil, All-cons, All-append, Sandbox, IsSandbox, Placement, Place}
+use Rattle.sfi_link.proofs.Prelude.{◌≡◌, refl, sym, ap, subst, ℕ, ◌+◌, ◌<◌, ◌≤◌, List, [], ◌∷◌, ◌++◌, Option, None, Some, Result, Ok, Err, true, false, nat_lt, length, length-append, arith, map, slice_get, All, All-nil, All-cons, All-append, Sandbox, IsSandbox, Placement, Place}
 use Rattle.std.proofs.Common.{cond, zero, suc}
 use Rattle.std.proofs.lemmas.Bool.{ltb-false}
 use Rattle.std.proofs.lemmas.Bool.Decides.{nat_tests}
 use Rattle.std.proofs.lemmas.Option.{same_Some, none-some}
-use Rattle.std.specs.Prelude.{◌==◌, ◌||◌, ◌&&◌, IsTrue}
-use Rattle.std.specs.Char.{is_ascii_alphabetic, is_ascii_digit}
+use Rattle.std.specs.Prelude.{IsTrue}
 use Rattle.std.specs.List.{AllByRecursion}
 use Rattle.std.proofs.lemmas.List.Elements.{All-from_recursion, recursion_from_All}
 unfoldable use Rattle.sfi_image.specs.Spelling.{number}

@@ -1,9 +1,9 @@
 -- Tables are made step by step: what their bytes are made of.
-use Rattle.sfi_link.proofs.Prelude.{◌≡◌, sym, subst, ℕ, ◌+◌, ◌^◌, ◌<◌, List, length, get_or, arith, Place, Placement, IsPlacedPart, IsPlaced, bases_of, AreNear, refl, ap, ◌∙◌, zero, suc, [], ◌∷◌, ◌++◌, Option, None, Some, Result, Ok, Err, map, slice_get, take, drop, append_assoc, append-nil, Sandbox, ◌⊎◌, inl, inr, ◌≤◌, ◌==◌, ◌&&◌, Bool, true, false, nat_lt, take_more, map_push, length-take-le, All}
+use Rattle.sfi_link.proofs.Prelude.{◌≡◌, sym, subst, ℕ, ◌+◌, ◌^◌, ◌<◌, List, length, get_or, arith, Place, Placement, IsPlacedPart, IsPlaced, bases_of, AreNear, refl, ap, ◌∙◌, [], ◌∷◌, ◌++◌, Option, None, Some, Result, Ok, Err, map, slice_get, take, drop, append_assoc, append-nil, Sandbox, inl, inr, ◌≤◌, ◌==◌, true, false, take_more, map_push, length-take-le, All}
 use Rattle.sfi_link.specs.Linked.{IsLinkedImage}
 use Rattle.sfi_link.proofs.Linking.{near_of}
 use Rattle.sfi_link.proofs.Parts.{linked_at, start_fits}
-use Rattle.std.proofs.lemmas.List.{at_drop_more, drop_all}
+use Rattle.std.proofs.lemmas.List.{at_drop_more}
 use Rattle.sfi_names.specs.Tables.{Named, Table, IsNamed, IsTable, entry, entries, spelling}
 use Rattle.sfi_text.specs.declared.source_text.Listed.{Listed}
 use Rattle.sfi_text.specs.SoFar.{SharedNames}

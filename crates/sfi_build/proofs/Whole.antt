@@ -2,8 +2,6 @@
 -- at labels.
 use Rattle.sfi_image.specs.Spelling.{spelling}
 use Rattle.sfi_link.specs.Names.{MapEntry, BeginsUnit}
-use Rattle.std.proofs.lemmas.List.Elements.{recursion_from_All}
-use Rattle.sfi_source.specs.Source.{IsSource}
 use Rattle.sfi_text.specs.SoFar.{SharedNames, tables}
 use Rattle.sfi_text.proofs.Facts as texts
 use Rattle.sfi_image.specs.Parts.{IsImage, IsRightLayout}
@@ -18,7 +16,6 @@ use Rattle.sfi_image.proofs.Facts.{one_image}
 use Rattle.sfi_build.specs.private.{MayHave, HasInits, set_init}
 use Rattle.sfi_build.specs.Texts.{IsPlainBuild, MeansWhole, IsTextBuild, IsTextMap, IsBuildFault}
 use Rattle.sfi_build.proofs.Tails.{placement_of, inits_of, tails_as_inits, length-each_with, rewritten_as, linked_as, map_as}
-use Rattle.sfi_build.proofs.Fitting.{tails_fit}
 use Rattle.sfi_build.proofs.Building.{whole_right, one_build}
 use Rattle.sfi_build.specs.Laws.{CodeLabelsBeginUnits, SomeBuilding}
 use Rattle.std.proofs.Common.{Result, Err, inl, inr, ◌⊎◌}
@@ -29,7 +26,7 @@ use Rattle.sfi_build.specs.declared.build_fault.BuildFault.TheVariants.{Text, Re
 use Rattle.sfi_text.proofs.Facts.{some_source, sources_are_right}
 use Rattle.sfi_rewrite.proofs.Facts.{some_rewriting, rewritten_is_placed}
 use Rattle.sfi_link.proofs.SomeLinking.{some_linking}
-use Rattle.sfi_link.proofs.Prelude.{◌≡◌, refl, sym, ap, subst, ◌∙◌, ℕ, ◌+◌, ◌≤◌, List, [], ◌∷◌, Ok, length, length-map, arith, Sandbox, IsSandbox, Placement, Place, Part, AreLinkedFrom, AreLinked, IsPlaced, map_from, Some, All, slice_get}
+use Rattle.sfi_link.proofs.Prelude.{◌≡◌, refl, sym, ap, subst, ◌∙◌, ℕ, ◌+◌, ◌≤◌, List, [], ◌∷◌, Ok, length, length-map, arith, Sandbox, Placement, Place, Part, AreLinkedFrom, AreLinked, IsPlaced, map_from, Some, All, slice_get}
 
 -- ==== The image of a source with its tables is that without them, with other first data bytes.
 

@@ -1,5 +1,5 @@
 -- What a host does to a sandbox: calls it back, stops it, sets its registers.
-use Rattle.sfi_host.proofs.Prelude.{◌≡◌, ◌≢◌, ◌↔◌, ◌⊎◌, ◌%◌, ℕ, Bool, true, false, is_some, List, Option, None, Some, IsSome, IsTrue, OnTrue, slice_get, refl, sym, ap, ◌∙◌, subst, ⊎_elim, cases_eq, same_Some, Bytes, Hart, Holds, InCode, InGuard, IsChange, KeepsBytes, Part, Bounds, bounds_of, Slot, Seat, Sandboxes, slot_of, slots_of, state_in, IsSafeSeat, IsSafeWorld, LiesOutside, StaysOutsideData, Sandbox, seat_of, world_of, set, map-set, option_map, Program, seats_of, status_at, Ready, ◌==◌, ◌||◌, eqb-true, IsHart, AreApart, with_guards, HasCode, IsEntry, IsAtEntry, IsEnterable}
+use Rattle.sfi_host.proofs.Prelude.{◌≡◌, ◌≢◌, ◌↔◌, ◌⊎◌, ◌%◌, ℕ, Bool, true, false, is_some, List, Option, None, Some, IsSome, IsTrue, OnTrue, slice_get, refl, sym, ap, ◌∙◌, subst, ⊎_elim, cases_eq, same_Some, Bytes, Hart, Holds, IsChange, KeepsBytes, Part, Bounds, bounds_of, Slot, Seat, Sandboxes, slot_of, slots_of, state_in, IsSafeSeat, IsSafeWorld, LiesOutside, StaysOutsideData, Sandbox, seat_of, world_of, set, map-set, option_map, Program, seats_of, status_at, Ready, ◌==◌, ◌||◌, eqb-true, IsHart, AreApart, with_guards, HasCode, IsEntry, IsAtEntry, IsEnterable}
 use Rattle.sfi_host.specs.Changing.{called_back_hart, MayCallBackAt, PutBackIsChange, with_callback, with_callback_of, IsEntryHart, MaySetAt, with_hart, stopped_seat, with_stop_of, with_stop, hart_of, HoldsTypedWords, set_seat, with_hart_of}
 use Rattle.sfi_host.specs.Waiting.{IsAtCall}
 use Rattle.sfi_formats.specs.Formats.{unit}

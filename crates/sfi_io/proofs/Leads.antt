@@ -5,11 +5,11 @@ use Rattle.std.specs.Io.KnownBytes.{Consumes, IsAtEnd}
 use Rattle.sfi_formats.specs.declared.format.Format.{Format}
 use Rattle.sfi_formats.specs.declared.format.Format.TheVariants.{Sfi1, Sfi2, Sfiw}
 use Rattle.sfi_formats.specs.Formats.{magic}
-use Rattle.sfi_io.specs.Hexadecimal.{SpellsBytes, BeginsAsImage}
+use Rattle.sfi_io.specs.Hexadecimal.{BeginsAsImage}
 use Rattle.sfi_io.specs.Laws.{TextsBeginAsNone}
 use Rattle.sfi_io.specs.declared.text.TextStop.{TextStop}
 use Rattle.sfi_io.specs.declared.text.TextStop.TheVariants.{Failed}
-use Rattle.sfi_io.proofs.Prelude.{◌≡◌, ◌∙◌, ℕ, arith, ◌≤◌, ◌==◌, ◌%◌, ◌++◌, Bool, true, false, List, [], ◌∷◌, Option, Some, None, Ok, Err, length, take, refl, sym, ap, subst, inl, inr, filter, if◌then◌else◌, decode_of, decode_pairs, OddLength, is_kept, Result, append_assoc, Leads, prepend, Fault, TooLarge}
+use Rattle.sfi_io.proofs.Prelude.{◌≡◌, ◌∙◌, ℕ, ◌≤◌, ◌==◌, ◌%◌, ◌++◌, Bool, true, false, List, [], ◌∷◌, Option, Some, None, Ok, Err, length, take, refl, sym, ap, subst, inl, inr, filter, if◌then◌else◌, decode_of, decode_pairs, OddLength, is_kept, Result, append_assoc, Leads, prepend, Fault, TooLarge}
 
 -- ==== Input that begins as an image.
 

@@ -21,10 +21,10 @@ use Rattle.sfi_rules.specs.declared.rule.Rule.TheVariants.{V1, V3, V5, V6, V7, V
 use Rattle.sfi_rules.specs.Rules.{broken, all_rules, rest_finding, InstrInBundle, is_empty, breaks_ecall, breaks_access, breaks_jump, breaks_target, breaks, is_last_bundle}
 use Rattle.sfi_rules.specs.Readings.{bundle_place, bundle_bytes, Piece, rest_of}
 use Rattle.sfi_rules.specs.Findings.{lowest, findings_from, AreReadingFindings, AreBundleFindings, AreFindingsOfFirst, AreFindingsInBundles}
-use Rattle.sfi_rules.specs.words.Rules.{is_word_start, owed_next}
+use Rattle.sfi_rules.specs.words.Rules.{owed_next}
 use Rattle.sfi_rules.specs.words.Rules as word_rules
 use Rattle.sfi_rules.specs.words.Findings as words
-use Rattle.sfi_rules.specs.words.Findings.{found_from, found_at, owed_past, IsWordFound, AreFoundInWords, AreFoundOfFirst, AreFindingsInWords}
+use Rattle.sfi_rules.specs.words.Findings.{found_from, found_at, IsWordFound, AreFoundInWords, AreFoundOfFirst, AreFindingsInWords}
 use Rattle.sfi_rules.specs.declared.owed.Owed.{Owed}
 use Rattle.sfi_places.specs.Moving.{moved_address, moved_gate, moved_finding, moved, FindingsArePlaceless, CleanIsPlaceless}
 

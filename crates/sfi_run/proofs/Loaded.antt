@@ -1,5 +1,5 @@
 -- Each status of loading is that of the bytes, and of no others.
-use Rattle.std.proofs.Common.{◌≡◌, ◌⊎◌, ◌↔◌, ℕ, List, [], ◌++◌, inl, inr, true, refl, subst}
+use Rattle.std.proofs.Common.{◌≡◌, ◌⊎◌, ◌↔◌, ℕ, List, [], inl, inr, true, refl, subst}
 use Rattle.std.proofs.lemmas.List.{append-nil}
 use Rattle.sfi_image.specs.declared.fault.LayoutFault.{LayoutFault}
 use Rattle.sfi_image.specs.Spelling.{Part}

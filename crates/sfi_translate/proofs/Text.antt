@@ -1,16 +1,13 @@
 -- The text of readings, of sandboxes and of an image.
 use Rattle.sfi_translate.proofs.Prelude.{◌≡◌, ℕ, ◌+◌, ◌≤◌, List, [], ◌∷◌, ◌++◌, length, take, drop, sym, ap, ◌∙◌, subst, refl, arith, append_assoc, append-nil, drop-drop, Read, line_text, Adds, IsReadingText, suc, ◌*◌, get_or, flat_map, take_all, length-take, Format, SandboxPart, Part, view, gate_line, IsUnitText, IsCodeText, IsSandboxText}
-use Rattle.std.proofs.Common.{length-drop, ◌<◌, ◌^◌, add-zero, Bool}
+use Rattle.std.proofs.Common.{length-drop, ◌<◌, add-zero, Bool}
 use Rattle.std.proofs.lemmas.List.{drop_all, take_more, length-map, get_or-map}
 use Rattle.rv_word.specs.declared.instr.Instr.{Instr}
 use Rattle.rv_comp.specs.Fronts.{Spells}
-use Rattle.sfi_rules.specs.Readings.{IsLongestReading}
 use Rattle.sfi_report.proofs.Lines.{spell_fits, longer, longest_of_stuck}
 use Rattle.sfi_formats.specs.Formats.{unit}
-use Rattle.sfi_formats.specs.declared.format.Format.TheVariants.{Sfi1, Sfi2, Sfiw}
 use Rattle.sfi_image.specs.Spelling.{views}
 use Rattle.sfi_image.specs.Parts.{IsRightPart}
-use Rattle.sfi_image.proofs.Facts.{whole_bundles}
 use Rattle.sfi_report.proofs.Texts.{unit_fits}
 use Rattle.sfi_translate.specs.Translation.{sandbox_line, data_line, last_line, function_text, entry_text, head_text, IsTextOfFirst, IsTranslationFrom, IsTranslation}
 
