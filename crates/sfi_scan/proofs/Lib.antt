@@ -9,7 +9,7 @@ pub mod Stretches
 pub mod Marks
 pub mod Walk
 pub mod Starts
-pub mod Tables
+pub mod TableEntries
 pub mod WordBlock
 pub mod WordLook
 pub mod WordQuiet

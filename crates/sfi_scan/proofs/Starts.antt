@@ -3,7 +3,7 @@ use Rattle.sfi_scan.proofs.Prelude.{◌≡◌, ℕ, ◌+◌, ◌-◌, ◌/◌, �
 use Rattle.rv_word.specs.declared.outline.Outline.TheVariants.{Stores, Orders, Stops}
 use Rattle.sfi_masks.specs.Masks.{half_at as block_half, word_at as block_word}
 use Rattle.sfi_scan.proofs.Joining.{half_cut, word_cut, IsQuietAt}
-use Rattle.sfi_scan.proofs.Tables.{clean_told, clean_access}
+use Rattle.sfi_scan.proofs.TableEntries.{clean_told, clean_access}
 use Rattle.std.proofs.lemmas.Bool.{true_from_ne_false}
 use Rattle.sfi_masks.specs.declared.masks.Masks.{Masks}
 use Rattle.sfi_scan.proofs.Marks.{in_and, in_not, in_rest, in_rest_other}

@@ -17,9 +17,8 @@ ghost use Rattle.sfi_rules.specs.Rules.{is_last_bundle, may_access};
 ghost use Rattle.sfi_scan.specs.private.Blocks.{half_at, word_at, AreWordsFrom, AreBefore, is_zero, is_protected, is_clean, is_clean_access, IsCleanOne, IsStackWrite, AreStackPair};
 
 use crate::before::{CODE, DATA, Pair, may_be_target};
-use crate::computing::is_free_half;
-use crate::pair_words::are_data_pair;
 use crate::rules::{STACK, is_bundle_start, is_last_bundle, offset_by};
+use crate::tables::{are_data_pair, is_free_half};
 use rv_comp::outline16;
 use rv_word::{Access, Outline, Reg, RegOp, access32, computes32, op_word, outline32};
 use sfi_formats::BUNDLE_BYTES;

@@ -15,14 +15,13 @@ mod before;
 mod block;
 mod clean;
 mod code;
-mod computing;
 mod findings;
 mod list;
-mod pair_words;
 mod part;
 mod rules;
 mod scan;
 mod sink;
+mod tables;
 mod words;
 
 pub use block::clean_bundles;

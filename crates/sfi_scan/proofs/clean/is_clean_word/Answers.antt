@@ -1,5 +1,5 @@
 use Rattle.sfi_scan.proofs.Prelude.{◌+◌, AreWordsFrom}
-use Rattle.sfi_scan.proofs.Tables.{clean_access}
+use Rattle.sfi_scan.proofs.TableEntries.{clean_access}
 use Rattle.sfi_scan.proofs.clean.is_clean_word.Goals as goal
 
 pub returns-in-Some : goal.returns-in-Some

@@ -1,5 +1,5 @@
-use Rattle.sfi_scan.proofs.Tables.{free_told, no_stack, other_register}
-use Rattle.sfi_scan.proofs.computing.is_free_half.Goals as goal
+use Rattle.sfi_scan.proofs.TableEntries.{free_told, no_stack, other_register}
+use Rattle.sfi_scan.proofs.tables.is_free_half.Goals as goal
 
 pub returns-then-not-stack : goal.returns-then-not-stack
 returns-then-not-stack c b is = free_told c.args.halfword c.ranges.halfword.fits c.if-halfword-place-eq0.false b c.args.stack is _ (no_stack c.args.stack _)

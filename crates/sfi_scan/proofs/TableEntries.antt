@@ -1,8 +1,8 @@
 -- The tables of pairs and of halfwords that compute, seen right at each.
-use Rattle.sfi_scan.specs.declared.pair_words.TheConstants.{MASKING, PLACING}
+use Rattle.sfi_scan.specs.declared.tables.TheConstants.{MASKING, PLACING}
 use Rattle.sfi_scan.proofs.FirstLook.{pair_told}
 use Rattle.rv_comp.specs.mirror.{extended, jump_offset, branch_offset, row_of, jump, jump_or_stop, outlined}
-use Rattle.sfi_scan.specs.declared.computing.TheConstants.{COMPUTING}
+use Rattle.sfi_scan.specs.declared.tables.TheConstants.{COMPUTING}
 use Rattle.sfi_scan.specs.private.Blocks.{IsFreeHalf}
 use Rattle.rv_comp.proofs.Facts.{halfwords_are_outlined}
 use Rattle.sfi_scan.proofs.Prelude.{◌≡◌, ℕ, ◌+◌, ◌*◌, ◌/◌, ◌%◌, ◌^◌, ◌<◌, Bool, true, false, ◌&&◌, ◌||◌, not, ◌==◌, List, refl, sym, ap, ap₂, ◌∙◌, arith, bit_and, slice_index, nat_eq, OnTrue, agree_below_at, and_parts, eqb-true, and_mask, and_block, and_le_r, Instr, Op, And, Or, spelling, InRange, IsWordOf, is_reserved, follows_pair, AreBefore, near, subst, Option, Some, IfSome, ◌≢◌, agree_below, ne_eqb, outline, has_stack, may_access, IsCleanOne, is_clean, is_clean_access, is_protected, BundlePlace, Before, Load, Store, IsHalfwordThat, access, IsAccessOf, Access, Outline, Computes, Words, not-true}
