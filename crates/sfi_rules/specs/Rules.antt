@@ -110,18 +110,14 @@ breaks_stack x i = writes_stack x.bundle i && not (may_write_stack x i)
 -- cases.) V1 and V2 are broken where no instruction is read, and V9 by a whole bundle,
 -- so never at a place; V11 and V12 are rules of code in words.
 abbrev pub breaks : InstrInBundle → Rule → Bool
-breaks x V1 = false
-breaks x V2 = false
 breaks x V3 = breaks_ecall x x.instr
 breaks x V4 = breaks_reserved x.instr
 breaks x V5 = breaks_access x x.instr
 breaks x V6 = breaks_jump x x.instr
 breaks x V7 = breaks_target x x.instr
 breaks x V8 = breaks_end x x.instr
-breaks x V9 = false
 breaks x V10 = breaks_stack x x.instr
-breaks x V11 = false
-breaks x V12 = false
+breaks x _ = false
 
 -- ==== The rules in order, and a broken one's finding, at an instruction or where none is read.
 

@@ -12,7 +12,7 @@ use Rattle.sfi_image.specs.Spelling.{Part}
 use Rattle.sfi_image.specs.declared.bundle.BundlePlace.{BundlePlace}
 use Rattle.sfi_rules.specs.declared.finding.Finding.{Finding}
 use Rattle.sfi_rules.specs.declared.rule.Rule.{Rule}
-use Rattle.sfi_rules.specs.declared.rule.Rule.TheVariants.{V1, V2, V3, V4, V5, V6, V7, V8, V9, V10, V11, V12}
+use Rattle.sfi_rules.specs.declared.rule.Rule.TheVariants.{V3, V4, V5, V6, V7, V8, V10, V11, V12}
 use Rattle.sfi_rules.specs.Rules.{broken, all_rules, rest_finding, breaks_reserved, ends_region, is_empty}
 use Rattle.sfi_rules.specs.Readings.{bundle_place, bundle_bytes, Piece, IsLongestReading, rest_of}
 use Rattle.sfi_rules.specs.declared.owed.Owed.{Owed}
@@ -58,18 +58,16 @@ fails_code o i = (is_of_code o && not (is_some (left o i)))
 -- the rule is broken at the place (V1 and V2 where no instruction is read, so never at a place; V9
 -- is none of code in words)
 abbrev pub breaks : InstrInWord → Rule → Bool
-breaks x V1 = false
-breaks x V2 = false
 breaks x V3 = breaks_ecall (is_at_gate x.bundle x.address) x.instr
 breaks x V4 = breaks_reserved x.instr
 breaks x V5 = breaks_access x.instr
 breaks x V6 = breaks_jump x.instr
 breaks x V7 = breaks_target x.bundle.code_base x.bundle.code_size x.address x.instr
 breaks x V8 = breaks_last x
-breaks x V9 = false
 breaks x V10 = fails_data x.owed x.instr
 breaks x V11 = fails_code x.owed x.instr
 breaks x V12 = breaks_offset x.instr
+breaks x _ = false
 
 -- the lowest rule that is broken at the place
 abbrev pub lowest : InstrInWord → Option Rule
