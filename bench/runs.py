@@ -11,15 +11,17 @@ sandbox: million x86 instructions, seconds, and the peak of resident memory.
 With --least it prints nanoseconds a step in their place: the least time of N runs of 48 million steps less the least of N
 of 9.6 million. So the start of a process drops out, and most of what other work on the machine adds.
 
-With --compiled it runs the programs of examples/c in the second format to their end, 16 sandboxes of each (`make` in
-examples/c first; it wants what compiled.py wants), and prints the steps of all, and of `sfi run` and the interpreter that
-decodes once x86 instructions and nanoseconds for a step: less what a run of one step a sandbox takes, each the least of N
-runs. The last row has the geometric means.
+With --compiled it runs the programs of examples/c in each format to their end, 16 sandboxes of each (`make` in examples/c
+first; it wants what compiled.py wants), and prints, of the first format, of the second and in words, x86 instructions and
+nanoseconds for a step of `sfi run` and of the interpreter that decodes once: less what a run of one step a sandbox takes,
+each the least of N runs. Then the ratio of their times, and that of a whole run by `sfi run` to one in the second format.
+The last row has the geometric means. It ends where lines differ, whole or after 9 turns of 977 steps.
 """
 import argparse
 import os
 import re
 import tempfile
+from dataclasses import dataclass
 
 import compiled
 import images
@@ -31,6 +33,7 @@ QUANTUM = 100_000
 TIMED = 96_000_000
 COUNTED = 1_600_000
 FEW, MANY = 9_600_000, 48_000_000
+CUT = "9", "977"
 
 
 def commands(program, interpreter, steps, sandboxes=1):
@@ -75,25 +78,56 @@ def print_least(program, interpreter, name, sandboxes, rounds, folder):
     print("|", " | ".join(cells), "|", flush=True)
 
 
-def print_compiled(program, interpreter, name, rounds, folder):
-    """Prints a program's row, and gives the ratios of the interpreter's instructions and time to those of `sfi run`."""
+@dataclass
+class CompiledRun:
+    """A program in a format: the steps of all sandboxes, and by way the instructions and the nanoseconds of a step."""
+    steps: int
+    counts: dict
+    times: dict
+
+    def ratio(self):
+        """The interpreter's time to that of `sfi run`."""
+        return self.times["C"] / self.times["sfi"]
+
+    def seconds(self):
+        return self.steps * self.times["sfi"]
+
+
+def compiled_run(program, interpreter, name, image_format, rounds, folder):
+    """What the program takes in a format, less what a run of one step a sandbox takes, each time the least of `rounds` runs."""
     digits = compiled.digits_of_case(name)
-    assembly = os.path.join(compiled.EXAMPLES, "build", name + ".asm")
-    image, _ = compiled.built(assembly, 2, [], folder, SANDBOXES[-1])
+    assembly = os.path.join(compiled.EXAMPLES, "build", *[image_format] * (image_format == compiled.WORDS), name + ".asm")
+    image, _ = compiled.built(assembly, image_format, [], folder, SANDBOXES[-1])
     ways = {"sfi": lambda *turns: [program, "run", "--rounds", turns[0], "--quantum", turns[1], "--input", digits],
             "C": lambda *turns: [interpreter, "once", *turns, digits]}
     one, whole = ("1", "1"), ("1000", str(QUANTUM))
+    cut = {measure.run(way(*CUT), image)[0] for way in ways.values()}
     lines = {measure.run(way(*whole), image)[0] for way in ways.values()}
-    if len(lines) != 1 or "ready" in (text := lines.pop()):
-        raise SystemExit(f"bench: {name}: the lines differ, or a sandbox didn't end")
+    if len(cut) != 1 or len(lines) != 1 or "ready" in (text := lines.pop()):
+        raise SystemExit(f"bench: {name}, format {image_format}: the lines differ, or a sandbox didn't end")
     steps = sum(map(int, re.findall(r"steps=(\d+)", text))) - SANDBOXES[-1]
-    least = measure.leasts({(name, turns): (way(*turns), image) for name, way in ways.items() for turns in [one, whole]}, rounds)
-    counts = [(measure.instructions(way(*whole), image) - measure.instructions(way(*one), image)) / steps for way in ways.values()]
-    times = [1e9 * (least[way, whole] - least[way, one]) / steps for way in ways]
-    ratios = [counts[1] / counts[0], times[1] / times[0]]
-    cells = [name, f"{steps:,}", *(f"{count:.1f}" for count in counts), *(f"{time:.2f}" for time in times)]
-    print("|", " | ".join(cells + [f"{ratio:.2f}" for ratio in ratios]), "|", flush=True)
-    return ratios
+    least = measure.leasts({(way, turns): (words(*turns), image) for way, words in ways.items() for turns in [one, whole]}, rounds)
+    counts = {way: (measure.instructions(words(*whole), image) - measure.instructions(words(*one), image)) / steps for way, words in ways.items()}
+    return CompiledRun(steps, counts, {way: 1e9 * (least[way, whole] - least[way, one]) / steps for way in ways})
+
+
+def print_compiled(program, interpreter, name, rounds, folder):
+    """Prints a program's row, and gives its runs by format."""
+    runs = {it: compiled_run(program, interpreter, name, it, rounds, folder) for it in compiled.FORMATS}
+    cells = [", ".join(f"{run.counts[way]:.1f}" for run in runs.values()) for way in ("sfi", "C")]
+    cells += [", ".join(f"{run.times[way]:.2f}" for run in runs.values()) for way in ("sfi", "C")]
+    cells.append(", ".join(f"{run.ratio():.2f}" for run in runs.values()))
+    cells.append(", ".join(f"{run.seconds() / runs[2].seconds():.2f}" for run in runs.values()))
+    print("|", " | ".join([name, *cells]), "|", flush=True)
+    return runs
+
+
+def print_means(rows):
+    """Prints geometric means of a format each: of a step's instructions and nanoseconds, and of the two ratios."""
+    values = [lambda run, _: run.counts["sfi"], lambda run, _: run.counts["C"], lambda run, _: run.times["sfi"], lambda run, _: run.times["C"],
+              lambda run, _: run.ratio(), lambda run, runs: run.seconds() / runs[2].seconds()]
+    cells = [", ".join(f"{compiled.mean([value(runs[it], runs) for runs in rows]):.2f}" for it in compiled.FORMATS) for value in values]
+    print("| geometric mean |", " | ".join(cells), "|")
 
 
 def print_load(program, shape, rounds, folder):
@@ -116,9 +150,8 @@ def main():
     with tempfile.TemporaryDirectory() as folder:
         interpreter = measure.compiled("interpreter.c", os.path.join(folder, "interpreter"))
         if options.compiled:
-            print("| program | steps | instructions: `sfi run` | C, once | ns: `sfi run` | C, once | instructions' ratio | times' |")
-            rows = [print_compiled(program, interpreter, name, options.rounds, folder) for name in compiled.CASES]
-            print("| geometric mean | | | | | |", " | ".join(f"{compiled.mean(ratios):.2f}" for ratios in zip(*rows)), "|")
+            print("| program | instructions: `sfi run` | C, once | ns: `sfi run` | C, once | C's time to `sfi run`'s | time to the second format's |")
+            print_means([print_compiled(program, interpreter, name, options.rounds, folder) for name in compiled.CASES])
             return
         print("| source, sandboxes |", " | ".join(commands(program, interpreter, 0)), "| to each step | to once |")
         for name in NAMES:

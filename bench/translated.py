@@ -1,13 +1,14 @@
 #!/usr/bin/env python3
 """How fast translated images are: the programs of examples/c and four kernels (kernels.c), by `sfi translate` and gcc
--O2, beside the same C by gcc -O2 alone, the kernels by wasm2c and by qemu-riscv32, too.
+-O2, beside the same C by gcc -O2 alone, the kernels by wasm2c, too.
 
-    bench/translated.py [--program PATH] [--rounds N] [--interpreted] [NAME ..]
+    bench/translated.py [--program PATH] [--rounds N] [--interpreted] [--peers] [NAME ..]
 
-It wants sfi-cc's tools, for wasm2c clang, wasm-ld and wabt, and for QEMU gcc for RISC-V and qemu-riscv32. A program
+It wants sfi-cc's tools, and for wasm2c clang, wasm-ld and wabt. A program
 runs again and again over an input that is built in (repeat.c); it ends where the checksums differ. Processor seconds
 of the native program, each the least of N alternated runs, and of the others the ratios to it; then the text's bytes
-for an instruction. With --interpreted, so of the same images by `sfi run`, which takes long.
+for an instruction. With --interpreted, so of the same images by `sfi run`, which takes long. With --peers, so of the
+kernels by qemu-riscv32, by node (less its start), and by wabt's wasm-interp (of a hundredth of the work), each where it is.
 """
 import argparse
 import os
@@ -26,6 +27,7 @@ KERNELS = {"sha": "sha", "sort_kernel": "sort", "matrix_kernel": "matrix", "siev
 FORMATS = ("2", "words")
 TURNS = ["--rounds", "10000", "--quantum", "1000000"]
 INCLUDE = os.path.join(compiled.TOP, "crates/sfi_translate/include")
+WASM = ["--target=wasm32", "-O2", "-mbulk-memory", "-nostdlib", "-DRUN_ALONE", "-Wl,--no-entry,--export=run"]
 WASM_RUN = """
 #include <stdio.h>
 #include "kernel.h"
@@ -85,12 +87,27 @@ def native(folder, options):
 def by_wasm2c(folder, options):
     """The program that wasm2c makes of a kernel."""
     wasm, path = os.path.join(folder, "kernel.wasm"), os.path.join(folder, "by_wasm2c")
-    call("clang", "--target=wasm32", "-O2", "-mbulk-memory", "-nostdlib", "-DRUN_ALONE", "-Wl,--no-entry,--export=run", *options, "-o", wasm)
+    call("clang", *WASM, *options, "-o", wasm)
     call("wasm2c", wasm, "-n", "kernel", "-o", os.path.join(folder, "kernel.c"))
     run = measure.written(os.path.join(folder, "run.c"), WASM_RUN.encode())
     library = "/usr/share/wabt/wasm2c"
     call("gcc", "-O2", "-I", library, run, os.path.join(folder, "kernel.c"), os.path.join(library, "wasm-rt-impl.c"), "-lm", "-o", path)
     return [path]
+
+
+def by_node(folder):
+    """The words that run a kernel's WebAssembly in node."""
+    load = "WebAssembly.instantiate(require('fs').readFileSync(process.argv[1])).then(it => console.log(it.instance.exports.run() >>> 0))"
+    return ["node", "-e", load, os.path.join(folder, "kernel.wasm")]
+
+
+def slow(folder, name):
+    """The seconds that wasm-interp takes for a hundredth of a kernel's work, times a hundred."""
+    wasm = os.path.join(folder, "hundredth.wasm")
+    options = sources(name, folder)
+    options[0] = f"-DTIMES={TIMES[name] // 100}"
+    call("clang", *WASM, *options, "-o", wasm)
+    return 100 * measure.run(["wasm-interp", wasm, "--run-all-exports"], os.devnull)[1]
 
 
 def by_qemu(folder, options):
@@ -122,6 +139,16 @@ def answer_of(output):
     return re.search(r"(?:exit=)?(\d+)", output.split(" ", 1)[-1]).group(1)
 
 
+def peers(folder, options):
+    """By name, the peers that are there and what runs a kernel in them."""
+    found = {}
+    if shutil.which(RISCV_GCC) and shutil.which(QEMU):
+        found["qemu-riscv32"] = by_qemu(folder, options), os.devnull
+    if shutil.which("node") and os.path.exists(os.path.join(folder, "kernel.wasm")):
+        found["node"] = by_node(folder), os.devnull
+    return found
+
+
 def measured(program, name, given, folder):
     """The native program's seconds, and by way the ratio to it; the lines of each format."""
     if name not in KERNELS:
@@ -134,8 +161,8 @@ def measured(program, name, given, folder):
         ways[image_format] = words, os.devnull
     if name in KERNELS and shutil.which("wasm2c") and shutil.which("clang"):
         ways["wasm2c"] = by_wasm2c(folder, options), os.devnull
-    if name in KERNELS and shutil.which(RISCV_GCC) and shutil.which(QEMU):
-        ways["qemu-riscv32"] = by_qemu(folder, options), os.devnull
+    if name in KERNELS and given.peers:
+        ways |= peers(folder, options)
     if given.interpreted:
         ways |= {f"run {it}": ([program, "run", *TURNS], image_in(folder, it)) for it in FORMATS}
     answers = {way: answer_of(measure.run(*words)[0]) for way, words in ways.items()}
@@ -143,6 +170,10 @@ def measured(program, name, given, folder):
         raise SystemExit(f"bench: {name}: the checksums differ: {answers}")
     least = measure.leasts(ways, given.rounds)
     seconds = least.pop("native")
+    if "node" in least:
+        least["node"] -= measure.leasts({"start": (["node", "-e", ""], os.devnull)}, given.rounds)["start"]
+    if name in KERNELS and given.peers and shutil.which("wasm-interp") and shutil.which("clang"):
+        least["wasm-interp"] = slow(folder, name)
     return seconds, {way: it / seconds for way, it in least.items()}, texts
 
 
@@ -163,6 +194,7 @@ def main():
     parser.add_argument("--program", default=measure.PROGRAM)
     parser.add_argument("--rounds", type=int, default=3)
     parser.add_argument("--interpreted", action="store_true")
+    parser.add_argument("--peers", action="store_true")
     given = parser.parse_args()
     program = measure.program_at(given.program)
     rows, texts = {}, []
