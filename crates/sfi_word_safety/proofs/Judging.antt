@@ -14,7 +14,7 @@ is_there c e = not-false c e
 left_there : (o : Owed) (i : Instr) → fails_data o i ≡ false → fails_code o i ≡ false → is_some (left o i) ≡ true
 left_there kind.Nothing i e f = refl
 left_there (kind.Mask d) i e f = is_there _ (or_parts _ _ e).0
-left_there (kind.InstrInWord d) i e f = is_there _ (or_parts _ _ e).0
+left_there (kind.PlaceOnly d) i e f = is_there _ (or_parts _ _ e).0
 left_there (kind.MaskOrUse d) i e f = is_there _ (or_parts _ _ e).0
 left_there kind.Code i e f = is_there _ (or_parts _ _ f).0
 
@@ -36,7 +36,7 @@ joined_is None w e f = absurd cc
 joined_is (Some l) None e f = absurd cc
 joined_is (Some kind.Nothing) (Some w) e f = refl
 joined_is (Some (kind.Mask d)) (Some w) e f = refl
-joined_is (Some (kind.InstrInWord d)) (Some w) e f = refl
+joined_is (Some (kind.PlaceOnly d)) (Some w) e f = refl
 joined_is (Some (kind.MaskOrUse d)) (Some w) e f = refl
 joined_is (Some kind.Code) (Some w) e f = refl
 
@@ -65,7 +65,7 @@ none_failing o x later m k =
 clear : (i : Instr) → ((d : ℕ) → masks d i ≡ false) → ((d : ℕ) → places d i ≡ false) → ((d : ℕ) → uses d i ≡ false) → is_placing 24 30 i ≡ false → (o : Owed) (w : Option Owed) → joined (left o i) w ≡ or_nothing w
 clear i m p u c kind.Nothing w = refl
 clear i m p u c (kind.Mask d) w = let e = m d in rw e refl
-clear i m p u c (kind.InstrInWord d) w = let e = p d in rw e refl
+clear i m p u c (kind.PlaceOnly d) w = let e = p d in rw e refl
 clear i m p u c (kind.MaskOrUse d) w = let e = m d in let f = u d in rw (e, f) refl
 clear i m p u c kind.Code w = rw c refl
 
