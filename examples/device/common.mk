@@ -5,13 +5,11 @@ SERVICES ?= $(SHARED)services.c
 INTERRUPTS ?= $(SHARED)interrupts.c
 FLAGS = -std=c11 -O2 -Wall -Wextra -Wconversion -Wshadow -Wmissing-prototypes -Werror \
 	-march=rv32im_zicsr_zifencei -mabi=ilp32 -mcmodel=medany -msmall-data-limit=0 -ffreestanding \
-	-fno-builtin -fno-tree-loop-distribute-patterns -nostdlib -I$(SHARED). -I$(SHARED)../../crates/sfi_c/include \
-	-I$(SHARED)../../crates/sfi_translate/include
+	-fno-builtin -fno-tree-loop-distribute-patterns -nostdlib -I$(SHARED). -I$(SHARED)../../crates/sfi_c/include
 FILES = switch.S image.c turns.c gates.c trap.c console.c verdict.c memory.c
 PROTECTION = $(if $(NO_PMP),pads.c,$(SHARED)protection.S $(SHARED)protection.c $(SHARED)guards.c)
 SOURCES = $(FILES:%=$(SHARED)%) $(PROTECTION) $(SERVICES) $(INTERRUPTS)
-NEEDED = $(SHARED)machine.h $(SHARED)host.h $(SHARED)registers.h $(SHARED)common.mk Makefile \
-	$(SHARED)../../crates/sfi_translate/include/sfi_services.h
+NEEDED = $(SHARED)machine.h $(SHARED)host.h $(SHARED)registers.h $(SHARED)common.mk Makefile
 
 # The bytes of CHECKER decide, not its time: it may name an older file than before.
 $(OUT)/linked.o: force

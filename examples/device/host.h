@@ -17,6 +17,8 @@ enum {
     BUNDLE = 16,
     WORD = 4,
     GUARD_ZONE = 4096, /* on each side of the data: every access there has to trap, and the sandbox ends by it */
+    PUT_MOST = 65536, /* bytes of a put or get */
+    MAILBOX_WORDS = 16,
     ENTRY_ARGUMENTS = 8
 };
 
@@ -51,6 +53,10 @@ struct frame {
 
 enum state { READY, EXITED, TRAPPED };
 
+struct letter {
+    uint32_t sender, word;
+};
+
 struct sandbox {
     struct part part;
     struct frame frame;
@@ -59,8 +65,9 @@ struct sandbox {
     const char *trap;           /* of TRAPPED */
     uint32_t trap_address;
     uint64_t steps;
+    uint32_t input_read, output_length, letter_count;
     uint32_t moved;             /* bytes of a put or get that goes on */
-    uint32_t output_length;
+    struct letter mailbox[MAILBOX_WORDS];
     uint8_t output[OUTPUT_MOST];
 };
 

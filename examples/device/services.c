@@ -1,57 +1,86 @@
 /* The services of a host, as the console of `sfi run` answers them (docs/GATES.md). A vendor's own
    host has a file with other services in the place of this one. */
 #include "host.h"
-#include "sfi_services.h" /* of crates/sfi_translate */
 
-static struct sfi_session sessions[SANDBOXES_MOST];
+enum service { EXIT, PUT, GET, YIELD, POST, TAKE };
+static const uint32_t FAILED = UINT32_MAX;
 
 static uint32_t least(uint32_t a, uint32_t b) {
     return a < b ? a : b;
 }
 
-/* Whether it is a put or get that isn't refused. Once a piece of it was moved, it isn't. */
-static bool moves_bytes(const struct sandbox *caller, const struct sfi_console *console, const struct sfi_console_call *call) {
-    bool is_put = call->service == SFI_PUT_SERVICE;
-    return caller->moved > 0 || (is_put && sfi_may_put(console, call)) || (call->service == SFI_GET_SERVICE && sfi_may_hand(call));
-}
-
 /* put and get move CALL_BYTES_MOST bytes at a time: the call is made again for the rest, and an interrupt can
    come before it. Only a call that is over writes a0. */
-static enum outcome move_piece(struct sandbox *caller, struct sfi_console *console, struct sfi_console_call *call) {
-    struct sfi_console_call piece = *call;
-    piece.a0 += caller->moved;
-    piece.a1 = least(call->a1 - caller->moved, CALL_BYTES_MOST);
-    sfi_console_reply(console, &piece);
-    caller->moved += piece.a0;
-    if (piece.a0 == CALL_BYTES_MOST && caller->moved < call->a1)
+static enum outcome moved(struct sandbox *caller, struct call *call, uint32_t piece, uint32_t length) {
+    caller->moved += piece;
+    if (caller->moved < length)
         return GOES_ON;
-    call->a0 = caller->moved;
     caller->moved = 0;
+    call->a0 = length;
     return REPLIED;
 }
 
-static enum outcome reply(struct sandbox *caller, struct sfi_console *console, struct sfi_console_call *call) {
-    if (moves_bytes(caller, console, call))
-        return move_piece(caller, console, call);
-    sfi_console_reply(console, call);
+static enum outcome fails(struct call *call) {
+    call->a0 = FAILED;
     return REPLIED;
+}
+
+static enum outcome put(struct world *world, struct call *call) {
+    struct sandbox *caller = &world->sandboxes[call->caller];
+    uint32_t length = call->a1, left = length - caller->moved, piece = least(left, CALL_BYTES_MOST);
+    if (length == 0)
+        return moved(caller, call, 0, 0);
+    const uint8_t *bytes = own_bytes(world, call->caller, call->a0, length);
+    if (bytes == NULL || length > PUT_MOST || left > OUTPUT_MOST - caller->output_length)
+        return fails(call);
+    memcpy(caller->output + caller->output_length, bytes + caller->moved, piece);
+    caller->output_length += piece;
+    return moved(caller, call, piece, length);
+}
+
+static enum outcome get(struct world *world, struct call *call) {
+    struct sandbox *caller = &world->sandboxes[call->caller];
+    uint32_t input = world->arguments->input_length - caller->input_read + caller->moved;
+    uint32_t length = least(call->a1, input), piece = least(length - caller->moved, CALL_BYTES_MOST);
+    if (call->a1 == 0)
+        return moved(caller, call, 0, 0);
+    uint8_t *bytes = own_bytes(world, call->caller, call->a0, call->a1);
+    if (bytes == NULL || call->a1 > PUT_MOST)
+        return fails(call);
+    memcpy(bytes + caller->moved, world->input + caller->input_read, piece);
+    caller->input_read += piece;
+    return moved(caller, call, piece, length);
+}
+
+static uint32_t post(struct world *world, const struct call *call) {
+    if (call->a0 >= world->count)
+        return FAILED;
+    struct sandbox *to = &world->sandboxes[call->a0];
+    if (to->letter_count == MAILBOX_WORDS)
+        return 1;
+    to->mailbox[to->letter_count++] = (struct letter){call->caller, call->a1};
+    return 0;
+}
+
+static void take(struct sandbox *caller, struct call *call) {
+    call->a0 = call->a1 = 0;
+    if (caller->letter_count == 0)
+        return;
+    call->a0 = caller->mailbox[0].word;
+    call->a1 = caller->mailbox[0].sender + 1;
+    caller->letter_count--;
+    for (uint32_t k = 0; k < caller->letter_count; k++)
+        caller->mailbox[k] = caller->mailbox[k + 1];
 }
 
 enum outcome serve(struct world *world, struct call *call) {
-    struct sandbox *caller = &world->sandboxes[call->caller];
-    struct sfi_session *own = &sessions[call->caller];
-    const uint32_t base = caller->part.data_base, size = caller->part.data_size;
-    struct sfi_console console = {world->input, world->arguments->input_length, OUTPUT_MOST, world->count, sessions};
-    struct sfi_console_call asked = {call->caller, call->service, call->a0, call->a1,
-                                     own_bytes(world, call->caller, base, size), base, size};
-    if (call->service == SFI_EXIT_SERVICE)
-        return LEFT;
-    if (call->service == SFI_YIELD_SERVICE)
-        return YIELDED;
-    own->output = caller->output;
-    enum outcome outcome = reply(caller, &console, &asked);
-    caller->output_length = own->written;
-    call->a0 = asked.a0;
-    call->a1 = asked.a1;
-    return outcome;
+    switch ((enum service)call->service) {
+    case EXIT: return LEFT;
+    case PUT: return put(world, call);
+    case GET: return get(world, call);
+    case YIELD: return YIELDED;
+    case POST: call->a0 = post(world, call); break;
+    case TAKE: take(&world->sandboxes[call->caller], call); break;
+    }
+    return REPLIED;
 }
