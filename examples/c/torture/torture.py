@@ -49,7 +49,7 @@ CSMITH_HEADERS = "/usr/include/csmith"
 STACKS = (540000, 65536)  # the second where the data leave no room for the first
 HEAP = 300000
 MEMORY, SECONDS = 3 << 30, 300  # what a conversion may take
-NATIVE_SECONDS = 30
+NATIVE_SECONDS, CSMITH_SECONDS = 30, 5  # many of csmith's programs never end
 RUN = ["run", "--rounds", "1000", "--quantum", "1000000"]
 ELSEWHERE = "05000000:09000000"  # a place for what can be moved
 MACHINE = ["-march=rv32imc", "-mabi=ilp32"]
@@ -71,14 +71,15 @@ class Case:
 
 @dataclass(frozen=True)
 class Room:
-    """What all cases share: the tests' folder, a folder for what is made, the program, the libraries by compiler, the options
-    of a hosted C, and whether each program is moved."""
+    """What all cases share: the tests' folder, a folder for what is made, the program, the libraries by compiler, the
+    options of a hosted C, whether each program is moved, and the seconds that a native run may take."""
     tests: str
     folder: str
     program: str
     libraries: dict
     hosted: tuple
     is_moved: bool
+    native_seconds: int
 
     def source(self, case):
         return os.path.join(self.tests, f"{case.name}.c")
@@ -100,7 +101,7 @@ def natively(room, case, place):
         ran([GCC, *MACHINE, "-nostdlib", "-o", f"{place}.native", os.path.join(room.folder, "start.o"), f"{place}.o",
              f"-L{PICOLIBC}/lib/rv32im/ilp32", "-Wl,--start-group", "-lc", "-lm", "-lgcc", "-Wl,--end-group"])
         done = subprocess.run([QEMU, f"{place}.native"], stdout=subprocess.PIPE, stderr=subprocess.DEVNULL, check=False,
-                              timeout=NATIVE_SECONDS)
+                              timeout=room.native_seconds)
     except (Failed, subprocess.TimeoutExpired):
         return None
     return done.returncode, done.stdout
@@ -199,7 +200,9 @@ def room_of(options, folder):
     for name in options.compiler:
         compiler = COMPILERS[name]
         libraries[name] = options.library or small_library(compiler)
-    return Room(tests, folder, os.path.abspath(options.program), libraries, tuple(hosted(options.library)), options.moved)
+    native_seconds = CSMITH_SECONDS if options.csmith else NATIVE_SECONDS
+    return Room(tests, folder, os.path.abspath(options.program), libraries, tuple(hosted(options.library)),
+                options.moved, native_seconds)
 
 
 def hosted(library):
@@ -283,7 +286,7 @@ def count(results, library):
             counts["failed"] += 1
             print(f"FAILED {case}\n  {said}", flush=True)
     if counts["left out"]:
-        print(f"left out, since they don't exit with 0 natively: {counts['left out']}")
+        print(f"left out, since they don't exit with 0 natively, or not in time: {counts['left out']}")
     return counts
 
 
@@ -297,7 +300,8 @@ CANNOT_PASS = {
     "cdivchkld": "newlib has no mathematical functions of long double",
 }
 WANT_LIBRARY = set("""20210505-1 920501-8 930513-1 980709-1 990826-0 fprintf-1 fprintf-chk-1 gofast pr56982 vfprintf-1
-                      fp-cmp-1 fp-cmp-2 fp-cmp-3 struct-ret-1""".split())  # FILE, floating point in printf, or more headers
+                      fp-cmp-1 fp-cmp-2 fp-cmp-3 struct-ret-1
+                      float-floor""".split())  # FILE, floating point in printf, more headers, or floor
 WANT_BUILTINS = set("20020314-1 20020720-1 20021113-1 20030125-1 20040223-1 941202-1 pr22061-1".split())
 
 
