@@ -85,10 +85,6 @@ class CompiledRun:
     counts: dict
     times: dict
 
-    def ratio(self):
-        """The interpreter's time to that of `sfi run`."""
-        return self.times["C"] / self.times["sfi"]
-
     def seconds(self):
         return self.steps * self.times["sfi"]
 
@@ -111,23 +107,31 @@ def compiled_run(program, interpreter, name, image_format, rounds, folder):
     return CompiledRun(steps, counts, {way: 1e9 * (least[way, whole] - least[way, one]) / steps for way in ways})
 
 
-def print_compiled(program, interpreter, name, rounds, folder):
-    """Prints a program's row, and gives its runs by format."""
-    runs = {it: compiled_run(program, interpreter, name, it, rounds, folder) for it in compiled.FORMATS}
-    cells = [", ".join(f"{run.counts[way]:.1f}" for run in runs.values()) for way in ("sfi", "C")]
-    cells += [", ".join(f"{run.times[way]:.2f}" for run in runs.values()) for way in ("sfi", "C")]
-    cells.append(", ".join(f"{run.ratio():.2f}" for run in runs.values()))
-    cells.append(", ".join(f"{run.seconds() / runs[2].seconds():.2f}" for run in runs.values()))
-    print("|", " | ".join([name, *cells]), "|", flush=True)
-    return runs
+# By title, what a column has of a run, which may be compared with the run in the second format.
+COLUMNS = {
+    "instructions: `sfi run`": lambda run, second: run.counts["sfi"],
+    "instructions: C, once": lambda run, second: run.counts["C"],
+    "ns: `sfi run`": lambda run, second: run.times["sfi"],
+    "ns: C, once": lambda run, second: run.times["C"],
+    "C's time to `sfi run`'s": lambda run, second: run.times["C"] / run.times["sfi"],
+    "time to the second format's": lambda run, second: run.seconds() / second.seconds(),
+}
 
 
-def print_means(rows):
-    """Prints geometric means of a format each: of a step's instructions and nanoseconds, and of the two ratios."""
-    values = [lambda run, _: run.counts["sfi"], lambda run, _: run.counts["C"], lambda run, _: run.times["sfi"], lambda run, _: run.times["C"],
-              lambda run, _: run.ratio(), lambda run, runs: run.seconds() / runs[2].seconds()]
-    cells = [", ".join(f"{compiled.mean([value(runs[it], runs) for runs in rows]):.2f}" for it in compiled.FORMATS) for value in values]
-    print("| geometric mean |", " | ".join(cells), "|")
+def print_row(title, rows):
+    """Prints a row: of each column and format, the geometric mean over the runs of these rows."""
+    cells = [", ".join(f"{compiled.mean([value(runs[it], runs[2]) for runs in rows]):.2f}" for it in compiled.FORMATS) for value in COLUMNS.values()]
+    print("|", " | ".join([title, *cells]), "|", flush=True)
+
+
+def print_compiled(program, interpreter, rounds, folder):
+    """Prints a row for each program, and one of their means."""
+    print("|", " | ".join(["program", *COLUMNS]), "|")
+    rows = []
+    for name in compiled.CASES:
+        rows.append({it: compiled_run(program, interpreter, name, it, rounds, folder) for it in compiled.FORMATS})
+        print_row(name, rows[-1:])
+    print_row("geometric mean", rows)
 
 
 def print_load(program, shape, rounds, folder):
@@ -150,8 +154,7 @@ def main():
     with tempfile.TemporaryDirectory() as folder:
         interpreter = measure.compiled("interpreter.c", os.path.join(folder, "interpreter"))
         if options.compiled:
-            print("| program | instructions: `sfi run` | C, once | ns: `sfi run` | C, once | C's time to `sfi run`'s | time to the second format's |")
-            print_means([print_compiled(program, interpreter, name, options.rounds, folder) for name in compiled.CASES])
+            print_compiled(program, interpreter, options.rounds, folder)
             return
         print("| source, sandboxes |", " | ".join(commands(program, interpreter, 0)), "| to each step | to once |")
         for name in NAMES:
