@@ -101,7 +101,7 @@ def by_node(folder):
     return ["node", "-e", load, os.path.join(folder, "kernel.wasm")]
 
 
-def slow(folder, name):
+def wasm_interp_seconds(folder, name):
     """The seconds that wasm-interp takes for a hundredth of a kernel's work, times a hundred."""
     wasm = os.path.join(folder, "hundredth.wasm")
     options = sources(name, folder)
@@ -173,7 +173,7 @@ def measured(program, name, given, folder):
     if "node" in least:
         least["node"] -= measure.leasts({"start": (["node", "-e", ""], os.devnull)}, given.rounds)["start"]
     if name in KERNELS and given.peers and shutil.which("wasm-interp") and shutil.which("clang"):
-        least["wasm-interp"] = slow(folder, name)
+        least["wasm-interp"] = wasm_interp_seconds(folder, name)
     return seconds, {way: it / seconds for way, it in least.items()}, texts
 
 
