@@ -30,7 +30,7 @@ const FULL: u32 = 1;
 const FAILED: u32 = u32::MAX;
 
 impl Store {
-    // The key a0 gets the value a1.
+    /// The key a0 gets the value a1.
     fn serve_put<M: Memory>(&mut self, guest: &mut Guest<'_, M>) -> GateAnswer
         requires has_data { HasData M.bytes guest.old }
         ensures same_reference { SameMemory guest.old guest.new }
@@ -47,7 +47,7 @@ impl Store {
         GateAnswer::Replied
     }
 
-    // The caller gets the value of the key a0.
+    /// The caller gets the value of the key a0.
     fn serve_get<M: Memory>(&mut self, guest: &mut Guest<'_, M>) -> GateAnswer
         requires has_data { HasData M.bytes guest.old }
         ensures same_reference { SameMemory guest.old guest.new }

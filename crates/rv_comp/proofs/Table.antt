@@ -9,7 +9,7 @@ use Rattle.rv_comp.specs.declared.encode.rows.TheConstants.{ROWS}
 use Rattle.std.proofs.Math.Nat.{pow-suc}
 use Rattle.std.proofs.Math.Pow.{pow_mono}
 use Rattle.std.proofs.Math.Seq.{drop-cons, drop-length}
-use Rattle.rv_comp.specs.declared.encode.Fields.{Fields as CodedFields}
+use Rattle.rv_comp.specs.declared.encode.FormFields.{FormFields as CodedFields}
 use Rattle.rv_comp.specs.Table as table
 use Rattle.rv_comp.specs.declared.encode.rows.Bit as coded
 use Rattle.rv_comp.proofs.Prelude.{◌≡◌, ℕ, Bool, true, false, cond, ◌&&◌, eqb, refl, ap, ap₂, sym, ◌∙◌, pos, negsuc, ℤ, eqb-true, and_parts, fields_of, place, Form16, CAddi4spn, CLw, CSw, CAddi, CJal, CLi, CAddi16sp, CLui, CSrli, CSrai, CAndi, CSub, CXor, COr, CAnd, CJ, CBeqz, CBnez, CSlli, CLwsp, CJr, CJalr, CMv, CAdd, CEbreak, CSwsp, ◌+◌, ◌-◌, ◌^◌, ◌<◌, ◌==◌, arith, inl, inr, Option, Some, None, agree_below, agree_below_at, cases_lt, halfword_of, allowed, expansion, decoded, quadrant0, quadrant1, quadrant2, arithmetic, upper, jump_or_move, extended, word_offset, six, jump_offset, branch_offset, stack_step, stack_address, load_offset, store_offset, ◌*◌, subst, List, ◌∷◌, ◌≤◌, map, drop, suc, slice_index_or, length, row, row_bit, row_fields, row_number, is_low, AreLow}

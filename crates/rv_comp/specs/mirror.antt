@@ -5,7 +5,7 @@ use Rattle.rv_word.specs.Spelling.{bits}
 use Rattle.rv_comp.specs.declared.form.Form16.{Form16}
 use Rattle.rv_comp.specs.declared.form.Form16.TheVariants.{CAddi4spn, CLw, CSw, CAddi, CJal, CLi, CAddi16sp, CLui, CSrli, CSrai, CAndi, CSub, CXor, COr, CAnd, CJ, CBeqz, CBnez, CSlli, CLwsp, CJr, CJalr, CMv, CAdd, CEbreak, CSwsp}
 use Rattle.rv_comp.specs.Table as table
-use Rattle.rv_comp.specs.declared.encode.Fields.{Fields}
+use Rattle.rv_comp.specs.declared.encode.FormFields.{FormFields}
 use Rattle.rv_comp.specs.declared.encode.rows.Bit.{Bit}
 use Rattle.rv_comp.specs.declared.encode.rows.Bit.TheVariants.{Zero, One, Rd, Rs1, Rs2, Imm}
 use Rattle.std.specs.Int.{w32, cast_signed}
@@ -146,7 +146,7 @@ row_bit (Rs2 k) = table.bit_of table.rs2 k
 row_bit (Imm k) = table.bit_of table.imm k
 
 -- the fields of the table
-abbrev pub row_fields : Fields → table.Fields
+abbrev pub row_fields : FormFields → table.Fields
 row_fields v = record { rd = v.rd; rs1 = v.rs1; rs2 = v.rs2; imm = v.imm }
 
 -- a bit that 32 bits have

@@ -17,20 +17,20 @@ use rv_word::Reg;
 
 /// The fields of a form; those that it hasn't are 0.
 #[derive(Clone, Copy)]
-struct Fields {
+struct FormFields {
     rd: Reg,
     rs1: Reg,
     rs2: Reg,
     imm: i32,
 }
 
-impl Fields {
+impl FormFields {
     /// The fields of these values.
     #[inline(always)]
-    fn new(rd: Reg, rs1: Reg, rs2: Reg, imm: i32) -> Fields
+    fn new(rd: Reg, rs1: Reg, rs2: Reg, imm: i32) -> FormFields
         ensures { result ≡ record { rd = rd; rs1 = rs1; rs2 = rs2; imm = imm } }
     {
-        Fields { rd, rs1, rs2, imm }
+        FormFields { rd, rs1, rs2, imm }
     }
 
     /// The bit of a row, for these values.
@@ -72,7 +72,7 @@ fn filled(_form: &Form16, row: usize, rd: Reg, rs1: Reg, rs2: Reg, imm: i32) -> 
     requires fields { fields_of _form.now ≡ record { rd = rd; rs1 = rs1; rs2 = rs2; imm = imm } }
     ensures { result ≡ halfword_of _form.now }
 {
-    Fields::new(rd, rs1, rs2, imm).halfword(&ROWS[row])
+    FormFields::new(rd, rs1, rs2, imm).halfword(&ROWS[row])
 }
 
 /// The halfword that the bits of the form's row make. Each row is named where its form is, so that

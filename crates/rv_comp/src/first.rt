@@ -159,7 +159,7 @@ fn first_of_lui(rd: Reg, imm: u32) -> Option<Form16>
 
 /// The first form of an instruction, if any.
 #[tactic(auto, unfolding(crate::specs::mirror::first_form))]
-fn first_of(instr: Instr) -> Option<Form16>
+fn first_form(instr: Instr) -> Option<Form16>
     ensures { result ≡ first_form instr }
 {
     match instr {
@@ -193,5 +193,5 @@ pub fn form_of(instr: Instr) -> Option<Form16>
     ensures only { (f : Form16) → IsFirst instr f → result ≡ Some f }
     ensures none { IfNone result ((f : Form16) → IsTrue (allowed f) → expansion f ≢ instr) }
 {
-    first_of(instr)
+    first_form(instr)
 }

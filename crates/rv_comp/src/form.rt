@@ -1,5 +1,8 @@
 //! The 16-bit forms, and the instructions that they stand for.
-use crate::build::{arithmetic, branch_on_zero, immediate, jump, jump_to, load, store, upper};
+use crate::expanded::{
+    arithmetic_instr, branch_on_zero_instr, immediate_instr, jump_instr, jump_to_instr,
+    load_word_instr, lui_instr, store_word_instr,
+};
 use rv_word::{Cond, ImmOp, Instr, Reg, RegOp};
 
 /// A 16-bit instruction, by its form's name.
@@ -71,37 +74,42 @@ impl Form16 {
         ensures { result ≡ expansion self.now }
     {
         match *self {
-            Form16::CAddi4spn { rd, imm } => immediate(ImmOp::Addi, rd, Reg::numbered(2), imm),
-            Form16::CLw { rd, rs1, imm } => load(rd, rs1, imm),
-            Form16::CSw { rs1, rs2, imm } => store(rs1, rs2, imm),
-            Form16::CAddi { rd, imm } => immediate(ImmOp::Addi, rd, rd, imm),
-            Form16::CJal { imm } => jump(Reg::numbered(1), imm),
-            Form16::CLi { rd, imm } => immediate(ImmOp::Addi, rd, Reg::numbered(0), imm),
-            Form16::CAddi16sp { imm } => immediate(
+            Form16::CAddi4spn { rd, imm } => immediate_instr(
+                ImmOp::Addi,
+                rd,
+                Reg::numbered(2),
+                imm,
+            ),
+            Form16::CLw { rd, rs1, imm } => load_word_instr(rd, rs1, imm),
+            Form16::CSw { rs1, rs2, imm } => store_word_instr(rs1, rs2, imm),
+            Form16::CAddi { rd, imm } => immediate_instr(ImmOp::Addi, rd, rd, imm),
+            Form16::CJal { imm } => jump_instr(Reg::numbered(1), imm),
+            Form16::CLi { rd, imm } => immediate_instr(ImmOp::Addi, rd, Reg::numbered(0), imm),
+            Form16::CAddi16sp { imm } => immediate_instr(
                 ImmOp::Addi,
                 Reg::numbered(2),
                 Reg::numbered(2),
                 imm,
             ),
-            Form16::CLui { rd, imm } => upper(rd, imm),
-            Form16::CSrli { rd, imm } => immediate(ImmOp::Srli, rd, rd, imm),
-            Form16::CSrai { rd, imm } => immediate(ImmOp::Srai, rd, rd, imm),
-            Form16::CAndi { rd, imm } => immediate(ImmOp::Andi, rd, rd, imm),
-            Form16::CSub { rd, rs2 } => arithmetic(RegOp::Sub, rd, rd, rs2),
-            Form16::CXor { rd, rs2 } => arithmetic(RegOp::Xor, rd, rd, rs2),
-            Form16::COr { rd, rs2 } => arithmetic(RegOp::Or, rd, rd, rs2),
-            Form16::CAnd { rd, rs2 } => arithmetic(RegOp::And, rd, rd, rs2),
-            Form16::CJ { imm } => jump(Reg::numbered(0), imm),
-            Form16::CBeqz { rs1, imm } => branch_on_zero(Cond::Beq, rs1, imm),
-            Form16::CBnez { rs1, imm } => branch_on_zero(Cond::Bne, rs1, imm),
-            Form16::CSlli { rd, imm } => immediate(ImmOp::Slli, rd, rd, imm),
-            Form16::CLwsp { rd, imm } => load(rd, Reg::numbered(2), imm),
-            Form16::CJr { rs1 } => jump_to(Reg::numbered(0), rs1),
-            Form16::CJalr { rs1 } => jump_to(Reg::numbered(1), rs1),
-            Form16::CMv { rd, rs2 } => arithmetic(RegOp::Add, rd, Reg::numbered(0), rs2),
-            Form16::CAdd { rd, rs2 } => arithmetic(RegOp::Add, rd, rd, rs2),
+            Form16::CLui { rd, imm } => lui_instr(rd, imm),
+            Form16::CSrli { rd, imm } => immediate_instr(ImmOp::Srli, rd, rd, imm),
+            Form16::CSrai { rd, imm } => immediate_instr(ImmOp::Srai, rd, rd, imm),
+            Form16::CAndi { rd, imm } => immediate_instr(ImmOp::Andi, rd, rd, imm),
+            Form16::CSub { rd, rs2 } => arithmetic_instr(RegOp::Sub, rd, rd, rs2),
+            Form16::CXor { rd, rs2 } => arithmetic_instr(RegOp::Xor, rd, rd, rs2),
+            Form16::COr { rd, rs2 } => arithmetic_instr(RegOp::Or, rd, rd, rs2),
+            Form16::CAnd { rd, rs2 } => arithmetic_instr(RegOp::And, rd, rd, rs2),
+            Form16::CJ { imm } => jump_instr(Reg::numbered(0), imm),
+            Form16::CBeqz { rs1, imm } => branch_on_zero_instr(Cond::Beq, rs1, imm),
+            Form16::CBnez { rs1, imm } => branch_on_zero_instr(Cond::Bne, rs1, imm),
+            Form16::CSlli { rd, imm } => immediate_instr(ImmOp::Slli, rd, rd, imm),
+            Form16::CLwsp { rd, imm } => load_word_instr(rd, Reg::numbered(2), imm),
+            Form16::CJr { rs1 } => jump_to_instr(Reg::numbered(0), rs1),
+            Form16::CJalr { rs1 } => jump_to_instr(Reg::numbered(1), rs1),
+            Form16::CMv { rd, rs2 } => arithmetic_instr(RegOp::Add, rd, Reg::numbered(0), rs2),
+            Form16::CAdd { rd, rs2 } => arithmetic_instr(RegOp::Add, rd, rd, rs2),
             Form16::CEbreak => Instr::Ebreak,
-            Form16::CSwsp { rs2, imm } => store(Reg::numbered(2), rs2, imm),
+            Form16::CSwsp { rs2, imm } => store_word_instr(Reg::numbered(2), rs2, imm),
         }
     }
 }

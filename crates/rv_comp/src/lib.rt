@@ -7,9 +7,9 @@
 #![tactic(auto)]
 
 mod bits;
-mod build;
 mod decode;
 mod encode;
+mod expanded;
 mod first;
 mod form;
 mod front;

@@ -32,7 +32,7 @@ pub(crate) fn write_halfword(cells: &mut [u8], place: usize, value: u32)
 }
 
 /// Writes bytes from a place on.
-pub(crate) fn put_bytes(cells: &mut [u8], place: usize, bytes: &[u8])
+pub(crate) fn write_cells(cells: &mut [u8], place: usize, bytes: &[u8])
     requires { place + length bytes.now ≤ length cells.old }
     ensures put { Puts cells.old cells.new place (length bytes.now) (slice_index bytes.now) }
     ensures small { (j : ℕ) → slice_index bytes.now j < 256 }
@@ -66,7 +66,7 @@ pub(crate) fn mark_cells(cells: &mut [u8], place: usize, count: usize, front: &[
 {
     let start = from.min(front.len());
     let given = count.min(front.len() - start);
-    put_bytes(cells, place, &front[start..start + given]);
+    write_cells(cells, place, &front[start..start + given]);
     put_same(cells, place + given, count - given, 0);
     put_same(cells, place + PAGE, count, 1);
 }

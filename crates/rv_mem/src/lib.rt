@@ -10,10 +10,10 @@ mod cells;
 pub mod fault;
 mod lookup;
 pub mod memory;
+mod page_table;
 pub mod pages;
 mod segment;
 pub mod segments;
-mod table;
 
 pub use fault::AddFault;
 pub use memory::{Memory, Width};

@@ -9,7 +9,7 @@ ghost use Rattle.rv_mem.specs.private.Frames.{KeepsFrames, HaveFrames, run_of};
 use crate::cells::{copy_cells, mark_cells, write_halfword, write_word};
 use crate::fault::AddFault;
 use crate::memory::{Memory, Width};
-use crate::table::Table;
+use crate::page_table::PageTable;
 use std::alloc::{AllocError, Global};
 
 /// How many addresses there are.
@@ -44,7 +44,7 @@ fn lengthen_cells(cells: &mut Vec<u8>, n: usize) -> Result<(), AllocError>
 }
 
 /// Room for a page in the table, and for frame 0.
-fn make_room(table: &mut Table, cells: &mut Vec<u8>, page: u32) -> Result<(), AllocError>
+fn make_room(table: &mut PageTable, cells: &mut Vec<u8>, page: u32) -> Result<(), AllocError>
     requires are { ArePages table.old cells.old.items }
     requires page { page < 2 ^ 23 }
     ensures are { ArePages table.new cells.new.items }
@@ -59,7 +59,7 @@ fn make_room(table: &mut Table, cells: &mut Vec<u8>, page: u32) -> Result<(), Al
 }
 
 /// Makes a frame for a page that has none.
-fn make_frame(table: &mut Table, cells: &mut Vec<u8>, page: u32) -> Result<(), AllocError>
+fn make_frame(table: &mut PageTable, cells: &mut Vec<u8>, page: u32) -> Result<(), AllocError>
     requires are { ArePages table.old cells.old.items }
     requires page { page < 2 ^ 23 }
     ensures are { ArePages table.new cells.new.items }
@@ -86,7 +86,7 @@ fn make_frame(table: &mut Table, cells: &mut Vec<u8>, page: u32) -> Result<(), A
 /// a byte share frame 0, which has no mark.
 #[derive(Drop)]
 pub struct Pages {
-    table: Table,
+    table: PageTable,
     cells: Vec<u8>,
     ghost are_pages: { ArePages table cells.items },
     ghost in_range: { IsMemory (values_of (cell_at table cells.items)) },
@@ -100,7 +100,7 @@ impl Pages {
         ensures { bytes_of result ≡ empty }
     {
         Pages {
-            table: Table::new(alloc),
+            table: PageTable::new(alloc),
             cells: Vec::new(alloc),
         }
     }
@@ -222,7 +222,7 @@ impl Pages {
         false
     }
 
-    /// Makes the page of an address, if it has no frame.
+    /// Makes a frame for the page of number `page`, if it has none.
     fn make_page(&mut self, page: u32) -> Result<(), AllocError>
         requires { page < 2 ^ 23 }
         ensures same { bytes_of self.new ≡ bytes_of self.old }

@@ -70,7 +70,7 @@ pub fn register_op_of(op: ImmOp) -> RegOp
 
 /// The register's value for the number that a load read.
 #[inline(always)]
-pub fn extend(kind: LoadKind, read: u32) -> u32
+pub fn load_result(kind: LoadKind, read: u32) -> u32
     requires { read < 256 ^ load_size kind }
     ensures { result ≡ extended kind read }
 {
@@ -83,7 +83,7 @@ pub fn extend(kind: LoadKind, read: u32) -> u32
 
 /// Whether a branch on the values of rs1 and rs2 is taken.
 #[inline(always)]
-pub fn takes(cond: Cond, a: u32, b: u32) -> bool
+pub fn is_branch_taken(cond: Cond, a: u32, b: u32) -> bool
     ensures { result ≡ is_taken cond a b }
 {
     match cond {

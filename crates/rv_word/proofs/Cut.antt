@@ -6,7 +6,7 @@ use Rattle.rv_word.specs.declared.instr.Cond.TheVariants.{Beq, Bne, Blt, Bge, Bl
 use Rattle.rv_word.specs.declared.instr.LoadKind.TheVariants.{Lb, Lh, Lw, Lbu, Lhu}
 use Rattle.rv_word.specs.declared.instr.RegOp.TheVariants.{Add}
 use Rattle.rv_word.specs.declared.instr.StoreWidth.TheVariants.{Sb, Sh, Sw}
-use Rattle.rv_word.proofs.Prelude.{◌≡◌, ℕ, ◌+◌, ◌*◌, ◌<◌, ◌/◌, ◌%◌, ℤ, pos, negsuc, arith, refl, sym, ap, ◌∙◌, Parts, RegOp, ImmOp, Slli, Srli, Srai, LoadKind, StoreWidth, Instr, Op, OpImm, Load, Store, Branch, Jal, Jalr, Lui, Auipc, Fence, Ecall, Ebreak, modulo, bits, op_funct3, op_funct7, imm_funct3, load_funct3, store_funct3, cond_funct3, spelling, InRange, IsWordOf, word_of, Fits, ◌≢◌, true, false, Option, Some, None, IfNone, is_shift, shift_funct7, SpellsNone}
+use Rattle.rv_word.proofs.Prelude.{◌≡◌, ℕ, ◌+◌, ◌*◌, ◌<◌, ◌/◌, ◌%◌, ℤ, pos, negsuc, arith, refl, sym, ap, ◌∙◌, WordFields, RegOp, ImmOp, Slli, Srli, Srai, LoadKind, StoreWidth, Instr, Op, OpImm, Load, Store, Branch, Jal, Jalr, Lui, Auipc, Fence, Ecall, Ebreak, modulo, bits, op_funct3, op_funct7, imm_funct3, load_funct3, store_funct3, cond_funct3, spelling, InRange, IsWordOf, word_of, Fits, ◌≢◌, true, false, Option, Some, None, IfNone, is_shift, shift_funct7, SpellsNone}
 
 -- ==== The word that spells an instruction, cut at the borders of the R format.
 
@@ -19,11 +19,11 @@ same_parts : (a7 a2 a1 a3 ad ao b7 b2 b1 b3 bd bo : ℕ) →
 same_parts a7 a2 a1 a3 ad ao b7 b2 b1 b3 bd bo p2 p1 p3 pd po q2 q1 q3 qd qo e =
     (omega arith, omega arith, omega arith, omega arith, omega arith, omega arith)
 
-abbrev pub parts : ℕ → ℕ → ℕ → ℕ → ℕ → ℕ → Parts
+abbrev pub parts : ℕ → ℕ → ℕ → ℕ → ℕ → ℕ → WordFields
 parts opcode rd funct3 rs1 rs2 funct7 =
     record { opcode = opcode; rd = rd; funct3 = funct3; rs1 = rs1; rs2 = rs2; funct7 = funct7 }
 
-one_cut : (p q : Parts) → Fits p → Fits q → word_of p ≡ word_of q → p ≡ q
+one_cut : (p q : WordFields) → Fits p → Fits q → word_of p ≡ word_of q → p ≡ q
 one_cut p q fp fq e =
     let s : (p.funct7 ≡ q.funct7) × (p.rs2 ≡ q.rs2) × (p.rs1 ≡ q.rs1) × (p.funct3 ≡ q.funct3) × (p.rd ≡ q.rd) × (p.opcode ≡ q.opcode) =
     same_parts p.funct7 p.rs2 p.rs1 p.funct3 p.rd p.opcode q.funct7 q.rs2 q.rs1 q.funct3 q.rd q.opcode
@@ -55,13 +55,13 @@ op_small Add = (omega arith, omega arith)
 op_small _ = (omega arith, omega arith)
 
 -- the parts of the word that spells an instruction
-unfoldable pub imm_cut : ImmOp → ℤ → ℕ → ℕ → Parts
+unfoldable pub imm_cut : ImmOp → ℤ → ℕ → ℕ → WordFields
 imm_cut Slli z rs1 rd = parts 19 rd 1 rs1 (modulo 5 z) 0
 imm_cut Srli z rs1 rd = parts 19 rd 5 rs1 (modulo 5 z) 0
 imm_cut Srai z rs1 rd = parts 19 rd 5 rs1 (modulo 5 z) 32
 imm_cut op z rs1 rd = parts 19 rd (imm_funct3 op) rs1 (modulo 12 z % 32) (modulo 12 z / 32)
 
-unfoldable pub cut : Instr → Parts
+unfoldable pub cut : Instr → WordFields
 cut (Op op rd rs1 rs2) = parts 51 rd (op_funct3 op) rs1 rs2 (op_funct7 op)
 cut (OpImm op rd rs1 z) = imm_cut op z rs1 rd
 cut (Load kind rd rs1 z) = parts 3 rd (load_funct3 kind) rs1 (modulo 12 z % 32) (modulo 12 z / 32)
@@ -132,7 +132,7 @@ cut_sum Ecall = refl
 cut_sum Ebreak = refl
 
 -- a word that spells i, cut, has the parts of i
-pub cut_is : (p : Parts) → Fits p → (i : Instr) → IsWordOf (word_of p) i → p ≡ cut i
+pub cut_is : (p : WordFields) → Fits p → (i : Instr) → IsWordOf (word_of p) i → p ≡ cut i
 cut_is p fits i w = one_cut p (cut i) fits (cut_fits i w.0) (w.1 ∙ sym (cut_sum i))
 
 imm_opcode : (op : ImmOp) (z : ℤ) (rs1 rd : ℕ) → (imm_cut op z rs1 rd).opcode ≡ 19
@@ -160,34 +160,34 @@ unfolding cut opcode_of
 cut_opcode (OpImm op rd rs1 z) = imm_opcode op z rs1 rd
 cut_opcode i = refl
 
-pub opcode_is : (p : Parts) → Fits p → (i : Instr) → IsWordOf (word_of p) i → p.opcode ≡ opcode_of i
-opcode_is p fits i w = ap (λ (q : Parts). q.opcode) (cut_is p fits i w) ∙ cut_opcode i
+pub opcode_is : (p : WordFields) → Fits p → (i : Instr) → IsWordOf (word_of p) i → p.opcode ≡ opcode_of i
+opcode_is p fits i w = ap (λ (q : WordFields). q.opcode) (cut_is p fits i w) ∙ cut_opcode i
 
 -- ==== Words that spell no instruction.
 
 -- the fields of two equal cuts are equal
-funct3_is : (p q : Parts) → p ≡ q → q.funct3 ≡ p.funct3
-funct3_is p q same = sym (ap (λ (r : Parts). r.funct3) same)
+funct3_is : (p q : WordFields) → p ≡ q → q.funct3 ≡ p.funct3
+funct3_is p q same = sym (ap (λ (r : WordFields). r.funct3) same)
 
-funct7_is : (p q : Parts) → p ≡ q → q.funct7 ≡ p.funct7
-funct7_is p q same = sym (ap (λ (r : Parts). r.funct7) same)
+funct7_is : (p q : WordFields) → p ≡ q → q.funct7 ≡ p.funct7
+funct7_is p q same = sym (ap (λ (r : WordFields). r.funct7) same)
 
-pub no_load : (p : Parts) → Fits p → p.opcode ≡ 0b0000011 → ((k : LoadKind) → load_funct3 k ≢ p.funct3) → SpellsNone (word_of p)
+pub no_load : (p : WordFields) → Fits p → p.opcode ≡ 0b0000011 → ((k : LoadKind) → load_funct3 k ≢ p.funct3) → SpellsNone (word_of p)
 unfolding cut opcode_of
 no_load p fits o none (Load k rd rs1 z) w = none k (funct3_is p _ (cut_is p fits (Load k rd rs1 z) w))
 no_load p fits o none i w = omega (arith, opcode_is p fits i w)
 
-pub no_store : (p : Parts) → Fits p → p.opcode ≡ 0b0100011 → ((k : StoreWidth) → store_funct3 k ≢ p.funct3) → SpellsNone (word_of p)
+pub no_store : (p : WordFields) → Fits p → p.opcode ≡ 0b0100011 → ((k : StoreWidth) → store_funct3 k ≢ p.funct3) → SpellsNone (word_of p)
 unfolding cut opcode_of
 no_store p fits o none (Store k rs1 rs2 z) w = none k (funct3_is p _ (cut_is p fits (Store k rs1 rs2 z) w))
 no_store p fits o none i w = omega (arith, opcode_is p fits i w)
 
-pub no_branch : (p : Parts) → Fits p → p.opcode ≡ 0b1100011 → ((c : Cond) → cond_funct3 c ≢ p.funct3) → SpellsNone (word_of p)
+pub no_branch : (p : WordFields) → Fits p → p.opcode ≡ 0b1100011 → ((c : Cond) → cond_funct3 c ≢ p.funct3) → SpellsNone (word_of p)
 unfolding cut opcode_of
 no_branch p fits o none (Branch c rs1 rs2 z) w = none c (funct3_is p _ (cut_is p fits (Branch c rs1 rs2 z) w))
 no_branch p fits o none i w = omega (arith, opcode_is p fits i w)
 
-pub no_op : (p : Parts) → Fits p → p.opcode ≡ 0b0110011 → ((op : RegOp) → op_funct7 op ≡ p.funct7 → op_funct3 op ≢ p.funct3) →
+pub no_op : (p : WordFields) → Fits p → p.opcode ≡ 0b0110011 → ((op : RegOp) → op_funct7 op ≡ p.funct7 → op_funct3 op ≢ p.funct3) →
     SpellsNone (word_of p)
 unfolding cut opcode_of
 no_op p fits o none (Op op rd rs1 rs2) w =
@@ -195,7 +195,7 @@ no_op p fits o none (Op op rd rs1 rs2) w =
     none op (funct7_is p _ same) (funct3_is p _ same)
 no_op p fits o none i w = omega (arith, opcode_is p fits i w)
 
-no_imm_op : (p : Parts) (op : ImmOp) (rd rs1 : ℕ) (z : ℤ) → p ≡ imm_cut op z rs1 rd →
+no_imm_op : (p : WordFields) (op : ImmOp) (rd rs1 : ℕ) (z : ℤ) → p ≡ imm_cut op z rs1 rd →
     ((op : ImmOp) → is_shift op ≡ false → imm_funct3 op ≢ p.funct3) →
     ((op : ImmOp) → is_shift op ≡ true → shift_funct7 op ≡ p.funct7 → imm_funct3 op ≢ p.funct3) → ⊥
 unfolding imm_cut
@@ -204,14 +204,14 @@ no_imm_op p Srli rd rs1 z same none no_shift = no_shift Srli refl (funct7_is p _
 no_imm_op p Srai rd rs1 z same none no_shift = no_shift Srai refl (funct7_is p _ same) (funct3_is p _ same)
 no_imm_op p op rd rs1 z same none no_shift = none op refl (funct3_is p _ same)
 
-pub no_imm : (p : Parts) → Fits p → p.opcode ≡ 0b0010011 →
+pub no_imm : (p : WordFields) → Fits p → p.opcode ≡ 0b0010011 →
     ((op : ImmOp) → is_shift op ≡ false → imm_funct3 op ≢ p.funct3) →
     ((op : ImmOp) → is_shift op ≡ true → shift_funct7 op ≡ p.funct7 → imm_funct3 op ≢ p.funct3) → SpellsNone (word_of p)
 unfolding cut opcode_of
 no_imm p fits o none no_shift (OpImm op rd rs1 z) w = no_imm_op p op rd rs1 z (cut_is p fits (OpImm op rd rs1 z) w) none no_shift
 no_imm p fits o none no_shift i w = omega (arith, opcode_is p fits i w)
 
-pub no_opcode : (p : Parts) → Fits p → p.opcode ≢ 51 → p.opcode ≢ 19 → p.opcode ≢ 3 → p.opcode ≢ 35 → p.opcode ≢ 99 →
+pub no_opcode : (p : WordFields) → Fits p → p.opcode ≢ 51 → p.opcode ≢ 19 → p.opcode ≢ 3 → p.opcode ≢ 35 → p.opcode ≢ 99 →
     p.opcode ≢ 111 → p.opcode ≢ 103 → p.opcode ≢ 55 → p.opcode ≢ 23 → p.opcode ≢ 15 → p.opcode ≢ 115 → SpellsNone (word_of p)
 unfolding opcode_of
 no_opcode p fits a b c d f g h j k l m i w =

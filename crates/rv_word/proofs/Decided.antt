@@ -1,5 +1,5 @@
 -- Whether a number spells an instruction, decided: the one that its parts read as, or none.
-use Rattle.rv_word.proofs.Prelude.{◌≡◌, ℕ, ◌/◌, ◌%◌, ◌^◌, ◌<◌, ◌⊎◌, inl, inr, ℤ, pos, negsuc, Bool, true, false, Option, Some, None, arith, refl, ap, subst, ◌∙◌, ◌≤ℤ◌, MatchBool, cases_lt, cases_eq, Parts, ImmOp, Instr, Op, OpImm, Load, Store, Branch, Jal, Jalr, Lui, Auipc, Fence, Ecall, Ebreak, modulo, minus, IsBetween, IsEven, is_shift, spelling, InRange, IsWordOf, IsImm12, IsImmOf, IsBranchOffset, IsJumpOffset, WordIsDecided, word_of, Fits, SpellsNone}
+use Rattle.rv_word.proofs.Prelude.{◌≡◌, ℕ, ◌/◌, ◌%◌, ◌^◌, ◌<◌, ◌⊎◌, inl, inr, ℤ, pos, negsuc, Bool, true, false, Option, Some, None, arith, refl, ap, subst, ◌∙◌, ◌≤ℤ◌, MatchBool, cases_lt, cases_eq, WordFields, ImmOp, Instr, Op, OpImm, Load, Store, Branch, Jal, Jalr, Lui, Auipc, Fence, Ecall, Ebreak, modulo, minus, IsBetween, IsEven, is_shift, spelling, InRange, IsWordOf, IsImm12, IsImmOf, IsBranchOffset, IsJumpOffset, WordIsDecided, word_of, Fits, SpellsNone}
 use Rattle.std.proofs.lemmas.Int.{ints}
 use Rattle.rv_word.proofs.Cut.{parts, cut_is}
 use Rattle.rv_word.proofs.Spellings.{read, cut_read, are_wide}
@@ -78,7 +78,7 @@ is_word_of word i = two (in_range i) (cases_eq word (spelling i))
 -- ---- the instruction that the parts read as
 
 -- what a word spells, its parts read as
-read_is : (p : Parts) → Fits p → (i : Instr) → IsWordOf (word_of p) i → read p ≡ Some i
+read_is : (p : WordFields) → Fits p → (i : Instr) → IsWordOf (word_of p) i → read p ≡ Some i
 read_is p fits i w = ap read (cut_is p fits i w) ∙ cut_read i w.0
 
 none_some : (o : Option Instr) (i : Instr) → o ≡ None → o ≡ Some i → ⊥
@@ -87,7 +87,7 @@ none_some o i a b = cc
 one_some : (o : Option Instr) (i j : Instr) → o ≡ Some i → o ≡ Some j → j ≡ i
 one_some o i j a b = cc
 
-read_decides : (p : Parts) → Fits p → (o : Option Instr) → read p ≡ o → ((i : Instr) × IsWordOf (word_of p) i) ⊎ SpellsNone (word_of p)
+read_decides : (p : WordFields) → Fits p → (o : Option Instr) → read p ≡ o → ((i : Instr) × IsWordOf (word_of p) i) ⊎ SpellsNone (word_of p)
 read_decides p fits None e = inr (λ j w. none_some (read p) j e (read_is p fits j w))
 read_decides p fits (Some i) e = elim (is_word_of (word_of p) i) [
   | inl w ↦ inl (i, w)
@@ -97,7 +97,7 @@ read_decides p fits (Some i) e = elim (is_word_of (word_of p) i) [
 -- ---- every number
 
 -- the parts of a number below 2 ^ 32
-parts_of : ℕ → Parts
+parts_of : ℕ → WordFields
 parts_of word = parts (word % 128) (word / 128 % 32) (word / 4096 % 8) (word / 32768 % 32) (word / 1048576 % 32) (word / 33554432)
 
 parts_fit : (word : ℕ) → word < 2 ^ 32 → Fits (parts_of word)

@@ -8,7 +8,7 @@ use Rattle.rv_word.specs.declared.instr.StoreWidth.TheVariants.{Sb, Sh, Sw}
 use Rattle.rv_word.proofs.Cut.{cut, cut_is}
 use Rattle.rv_word.proofs.Spellings.{one_spelling}
 use Rattle.rv_word.proofs.Tables.{imm12_of}
-use Rattle.rv_word.proofs.Prelude.{◌≡◌, ℕ, Option, Some, None, IfSome, IfNone, subst, refl, sym, ap, ◌∙◌, Instr, SpellsNone, IsWordOf, ◌+◌, ◌*◌, ◌^◌, ◌<◌, Bool, true, false, ◌&&◌, ◌==◌, inl, inr, arith, eqb-true, ◌||◌, not, nat_lt, if◌then◌else◌, and_parts, cases_eq, ltb-true, Parts, LoadKind, StoreWidth, Load, Store, bits, load_funct3, store_funct3, spelling, InRange, word_of, Fits, is_access}
+use Rattle.rv_word.proofs.Prelude.{◌≡◌, ℕ, Option, Some, None, IfSome, IfNone, subst, refl, sym, ap, ◌∙◌, Instr, SpellsNone, IsWordOf, ◌+◌, ◌*◌, ◌^◌, ◌<◌, Bool, true, false, ◌&&◌, ◌==◌, inl, inr, arith, eqb-true, ◌||◌, not, nat_lt, if◌then◌else◌, and_parts, cases_eq, ltb-true, WordFields, LoadKind, StoreWidth, Load, Store, bits, load_funct3, store_funct3, spelling, InRange, word_of, Fits, is_access}
 
 -- ==== What was decoded, as its outline.
 
@@ -61,7 +61,7 @@ store_of n small = elim (cases_eq n 0) [
 
 -- ---- of the parts
 
-of_load : (p : Parts) → Fits p → p.opcode ≡ 3 → p.funct3 < 6 → (p.funct3 ≡ 3 → ⊥) → IsAccessOf (word_of p) (record { written = p.rd; base = p.rs1 })
+of_load : (p : WordFields) → Fits p → p.opcode ≡ 3 → p.funct3 < 6 → (p.funct3 ≡ 3 → ⊥) → IsAccessOf (word_of p) (record { written = p.rd; base = p.rs1 })
 unfolding spelling InRange
 of_load p fits opcode small other =
     let kind = load_of p.funct3 small other in
@@ -73,7 +73,7 @@ of_load p fits opcode small other =
       accesses = refl;
     }
 
-of_store : (p : Parts) → Fits p → p.opcode ≡ 35 → p.funct3 < 3 → IsAccessOf (word_of p) (record { written = 0; base = p.rs1 })
+of_store : (p : WordFields) → Fits p → p.opcode ≡ 35 → p.funct3 < 3 → IsAccessOf (word_of p) (record { written = 0; base = p.rs1 })
 unfolding spelling InRange
 of_store p fits opcode small =
     let width = store_of p.funct3 small in
@@ -93,7 +93,7 @@ first_of : (a b : Bool) → b ≡ false → (a || b) ≡ true → a ≡ true
 first_of true b e h = refl
 first_of false b e h = absurd cc
 
-of_parts : (p : Parts) → Fits p → (stores : Bool) → (p.opcode == 35) ≡ stores
+of_parts : (p : WordFields) → Fits p → (stores : Bool) → (p.opcode == 35) ≡ stores
     → (((p.opcode == 3) || (p.opcode == 35)) && (nat_lt p.funct3 (if stores then 3 else 6) && not (p.funct3 == 3))) ≡ true
     → IsAccessOf (word_of p) (record { written = if stores then 0 else p.rd; base = p.rs1 })
 of_parts p fits true is h =
@@ -107,14 +107,14 @@ of_parts p fits false is h =
 
 -- ---- the answer
 
-pub access_found : (p : Parts) → Fits p → is_access p.opcode p.funct3 ≡ true → (written base : ℕ) → written ≡ (if p.opcode == 0b0100011 then 0 else p.rd) → base ≡ p.rs1
+pub access_found : (p : WordFields) → Fits p → is_access p.opcode p.funct3 ≡ true → (written base : ℕ) → written ≡ (if p.opcode == 0b0100011 then 0 else p.rd) → base ≡ p.rs1
     → IsAccessOf (word_of p) (record { written = written; base = base })
 access_found p fits is written base w b = rw (w, b) (of_parts p fits _ refl is)
 
 of_instr : (word : ℕ) (a : Access) (i : Instr) → IsAccessOf word a → IsWordOf word i → Some a ≡ access i
 of_instr word a i that is = sym that.accesses ∙ ap access (one_spelling word that.instr i that.spelled is)
 
-pub one : (p : Parts) → Fits p → is_access p.opcode p.funct3 ≡ true → (written base : ℕ) → written ≡ (if p.opcode == 0b0100011 then 0 else p.rd) → base ≡ p.rs1
+pub one : (p : WordFields) → Fits p → is_access p.opcode p.funct3 ≡ true → (written base : ℕ) → written ≡ (if p.opcode == 0b0100011 then 0 else p.rd) → base ≡ p.rs1
     → (i : Instr) → IsWordOf (word_of p) i → Some (record { written = written; base = base }) ≡ access i
 one p fits is written base w b i spelled = of_instr (word_of p) _ i (access_found p fits is written base w b) spelled
 
@@ -132,5 +132,5 @@ no_access (Load kind rd rs1 imm) h = absurd (let is = load_is kind in cc)
 no_access (Store width rs1 rs2 imm) h = absurd (let is = store_is width in cc)
 no_access _ h = refl
 
-pub access_none : (p : Parts) → Fits p → is_access p.opcode p.funct3 ≡ false → (i : Instr) → IsWordOf (word_of p) i → None ≡ access i
-access_none p fits other i is = no_access i (subst (λ (q : Parts). is_access q.opcode q.funct3 ≡ false) (cut_is p fits i is) other)
+pub access_none : (p : WordFields) → Fits p → is_access p.opcode p.funct3 ≡ false → (i : Instr) → IsWordOf (word_of p) i → None ≡ access i
+access_none p fits other i is = no_access i (subst (λ (q : WordFields). is_access q.opcode q.funct3 ≡ false) (cut_is p fits i is) other)

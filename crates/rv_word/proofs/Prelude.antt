@@ -12,5 +12,5 @@ pub use Rattle.rv_word.specs.declared.instr.Instr.TheVariants.{Load, Store, Op, 
 pub use Rattle.rv_word.specs.declared.instr.LoadKind.{LoadKind}
 pub use Rattle.rv_word.specs.declared.instr.RegOp.{RegOp}
 pub use Rattle.rv_word.specs.declared.instr.StoreWidth.{StoreWidth}
-pub use Rattle.rv_word.specs.declared.parts.Parts.{Parts}
+pub use Rattle.rv_word.specs.declared.word_fields.WordFields.{WordFields}
 pub use Rattle.rv_word.specs.private.{word_of, Fits, is_access, SpellsNone}

@@ -9,7 +9,7 @@ use Rattle.rv_word.specs.declared.instr.RegOp.TheVariants.{Add, Sub, Sll, Slt, S
 use Rattle.rv_word.specs.declared.instr.StoreWidth.TheVariants.{Sb, Sh, Sw}
 use Rattle.std.specs.List.{find}
 use Rattle.std.specs.Option.{option_map}
-use Rattle.rv_word.proofs.Prelude.{◌≡◌, ℕ, ◌^◌, ◌<◌, ◌/◌, ◌%◌, arith, refl, sym, subst, ◌∙◌, ◌≢◌, Parts, Instr, Op, OpImm, Load, Store, Branch, Jal, Jalr, Lui, Auipc, Fence, Ecall, Ebreak, bits, word_of, Fits, ne_eqb, eq-eqb, SpellingsAreWide, ◌+◌, ◌-◌, ◌*◌, ℤ, pos, negsuc, ap, Option, Some, None, nat_lt, List, [], ◌∷◌, ◌==◌, ◌&&◌, if◌then◌else◌, RegOp, ImmOp, Addi, Slti, Sltiu, Xori, Ori, Andi, Slli, Srli, Srai, LoadKind, StoreWidth, modulo, minus, IsBetween, IsEven, op_funct3, op_funct7, imm_funct3, load_funct3, store_funct3, cond_funct3, spelling, InRange, IsImm12, IsImmOf, OneSpelling}
+use Rattle.rv_word.proofs.Prelude.{◌≡◌, ℕ, ◌^◌, ◌<◌, ◌/◌, ◌%◌, arith, refl, sym, subst, ◌∙◌, ◌≢◌, WordFields, Instr, Op, OpImm, Load, Store, Branch, Jal, Jalr, Lui, Auipc, Fence, Ecall, Ebreak, bits, word_of, Fits, ne_eqb, eq-eqb, SpellingsAreWide, ◌+◌, ◌-◌, ◌*◌, ℤ, pos, negsuc, ap, Option, Some, None, nat_lt, List, [], ◌∷◌, ◌==◌, ◌&&◌, if◌then◌else◌, RegOp, ImmOp, Addi, Slti, Sltiu, Xori, Ori, Andi, Slli, Srli, Srai, LoadKind, StoreWidth, modulo, minus, IsBetween, IsEven, op_funct3, op_funct7, imm_funct3, load_funct3, store_funct3, cond_funct3, spelling, InRange, IsImm12, IsImmOf, OneSpelling}
 
 -- ==== A word that spells an instruction tells 32 bits.
 
@@ -33,7 +33,7 @@ wide_opcode i = elim i as (λ i. (opcode_of i % 4 ≡ 3) × (opcode_of i / 4 % 8
 wide_length : (first : ℕ) → bits first 1 0 ≡ 3 → bits first 4 2 ≢ 7 → length_of first ≡ Wide
 wide_length first low high = rw (eq-eqb (bits first 1 0) 3 low) (rw (ne_eqb (bits first 4 2) 7 high) refl)
 
-wide_sum : (p : Parts) → Fits p → p.opcode % 4 ≡ 3 → p.opcode / 4 % 8 ≢ 7 →
+wide_sum : (p : WordFields) → Fits p → p.opcode % 4 ≡ 3 → p.opcode / 4 % 8 ≢ 7 →
     (word_of p < 2 ^ 32) × (length_of (word_of p % 2 ^ 16) ≡ Wide)
 wide_sum p fits low high = (omega arith, wide_length (word_of p % 2 ^ 16) (omega arith) (λ e. omega arith))
 
@@ -86,35 +86,35 @@ shift_at funct7 funct3 =
     else if (funct7 == 32) && (funct3 == 5) then Some Srai
     else None
 
-abbrev i_imm : Parts → ℤ
+abbrev i_imm : WordFields → ℤ
 i_imm p = signed 2048 (p.funct7 * 32 + p.rs2)
 
-abbrev s_imm : Parts → ℤ
+abbrev s_imm : WordFields → ℤ
 s_imm p = signed 2048 (p.funct7 * 32 + p.rd)
 
-abbrev b_offset : Parts → ℤ
+abbrev b_offset : WordFields → ℤ
 b_offset p = signed 4096 (p.funct7 / 64 * 4096 + p.rd % 2 * 2048 + p.funct7 % 64 * 32 + p.rd / 2 * 2)
 
-abbrev upper : Parts → ℕ
+abbrev upper : WordFields → ℕ
 upper p = p.funct7 * 8192 + p.rs2 * 256 + p.rs1 * 8 + p.funct3
 
-abbrev j_offset : Parts → ℤ
+abbrev j_offset : WordFields → ℤ
 j_offset p = signed 1048576 (p.funct7 / 64 * 1048576 + p.rs1 * 32768 + p.funct3 * 4096 + p.rs2 % 2 * 2048
     + p.funct7 % 64 * 32 + p.rs2 / 2 * 2)
 
-abbrev imm_at : Parts → Option Instr
+abbrev imm_at : WordFields → Option Instr
 imm_at p =
     if (p.funct3 == 1) then option_map (λ op. OpImm op p.rd p.rs1 (pos p.rs2)) (shift_at p.funct7 p.funct3)
     else if (p.funct3 == 5) then option_map (λ op. OpImm op p.rd p.rs1 (pos p.rs2)) (shift_at p.funct7 p.funct3)
     else option_map (λ op. OpImm op p.rd p.rs1 (i_imm p)) (imm_op_at p.funct3)
 
-abbrev system_at : Parts → Option Instr
+abbrev system_at : WordFields → Option Instr
 system_at p =
     if (word_of p == 0x00000073) then Some Ecall
     else if (word_of p == 0x00100073) then Some Ebreak
     else None
 
-pub read : Parts → Option Instr
+pub read : WordFields → Option Instr
 read p =
     if (p.opcode == 0b0110111) then Some (Lui p.rd (upper p))
     else if (p.opcode == 0b0010111) then Some (Auipc p.rd (upper p))

@@ -1,5 +1,5 @@
 -- The tables of what computes, seen right at each opcode, funct3 and funct7.
-use Rattle.rv_word.proofs.Prelude.{◌≡◌, ℕ, ◌+◌, ◌-◌, ◌*◌, ◌/◌, ◌%◌, ◌<◌, ◌^◌, Bool, true, false, ◌&&◌, ◌==◌, ℤ, pos, negsuc, refl, sym, ap, ◌∙◌, subst, inl, inr, arith, eqb-true, eq-eqb, Option, Some, None, bit_and, slice_index, not, if◌then◌else◌, agree_below, agree_below_at, and_parts, cases_lt, Parts, RegOp, ImmOp, Addi, Instr, Op, OpImm, Lui, Auipc, modulo, bits, op_funct3, op_funct7, imm_funct3, is_shift, shift_funct7, spelling, InRange, IsWordOf, IsImm12, word_of, Fits}
+use Rattle.rv_word.proofs.Prelude.{◌≡◌, ℕ, ◌+◌, ◌-◌, ◌*◌, ◌/◌, ◌%◌, ◌<◌, ◌^◌, Bool, true, false, ◌&&◌, ◌==◌, ℤ, pos, negsuc, refl, sym, ap, ◌∙◌, subst, inl, inr, arith, eqb-true, eq-eqb, Option, Some, None, bit_and, slice_index, not, if◌then◌else◌, agree_below, agree_below_at, and_parts, cases_lt, WordFields, RegOp, ImmOp, Addi, Instr, Op, OpImm, Lui, Auipc, modulo, bits, op_funct3, op_funct7, imm_funct3, is_shift, shift_funct7, spelling, InRange, IsWordOf, IsImm12, word_of, Fits}
 use Rattle.rv_word.specs.Outlines.{outline, IsWordThat}
 use Rattle.rv_word.specs.declared.computing.TheConstants.{COMPUTING, CLASSES}
 use Rattle.rv_word.specs.declared.instr.RegOp.TheVariants.{Add}
@@ -72,7 +72,7 @@ imm12_of n lt = elim (cases_lt n 2048) [
   | inr more ↦ (negsuc (4095 - n), (omega (arith, ints), omega (arith, ints)), omega arith)
 ]
 
-of_op : (p : Parts) → Fits p → p.opcode ≡ 51 → (o : Option RegOp) → op_fits p.funct7 p.funct3 o ≡ true → IsWordThat (word_of p) (Computes p.rd)
+of_op : (p : WordFields) → Fits p → p.opcode ≡ 51 → (o : Option RegOp) → op_fits p.funct7 p.funct3 o ≡ true → IsWordThat (word_of p) (Computes p.rd)
 unfolding spelling InRange
 of_op p fits opcode None h = absurd cc
 of_op p fits opcode (Some op) h =
@@ -85,7 +85,7 @@ not_true : (b : Bool) → not b ≡ true → b ≡ false
 not_true true e = cc
 not_true false e = refl
 
-of_shift : (p : Parts) → Fits p → p.opcode ≡ 19 → (o : Option ImmOp) → shift_fits p.funct7 p.funct3 o ≡ true → IsWordThat (word_of p) (Computes p.rd)
+of_shift : (p : WordFields) → Fits p → p.opcode ≡ 19 → (o : Option ImmOp) → shift_fits p.funct7 p.funct3 o ≡ true → IsWordThat (word_of p) (Computes p.rd)
 unfolding spelling InRange
 of_shift p fits opcode None h = absurd cc
 of_shift p fits opcode (Some op) h =
@@ -100,7 +100,7 @@ of_shift p fits opcode (Some op) h =
       does = refl;
     }
 
-of_imm : (p : Parts) → Fits p → p.opcode ≡ 19 → (o : Option ImmOp) → imm_fits p.funct3 o ≡ true → IsWordThat (word_of p) (Computes p.rd)
+of_imm : (p : WordFields) → Fits p → p.opcode ≡ 19 → (o : Option ImmOp) → imm_fits p.funct3 o ≡ true → IsWordThat (word_of p) (Computes p.rd)
 unfolding spelling InRange
 of_imm p fits opcode None h = absurd cc
 of_imm p fits opcode (Some op) h =
@@ -115,10 +115,10 @@ of_imm p fits opcode (Some op) h =
       does = refl;
     }
 
-upper : Parts → ℕ
+upper : WordFields → ℕ
 upper p = p.funct7 * 8192 + p.rs2 * 256 + p.rs1 * 8 + p.funct3
 
-of_lui : (p : Parts) → Fits p → p.opcode ≡ 55 → IsWordThat (word_of p) (Computes p.rd)
+of_lui : (p : WordFields) → Fits p → p.opcode ≡ 55 → IsWordThat (word_of p) (Computes p.rd)
 unfolding spelling InRange upper
 of_lui p fits opcode = record {
   instr = Lui p.rd (upper p);
@@ -126,7 +126,7 @@ of_lui p fits opcode = record {
   does = refl;
 }
 
-of_auipc : (p : Parts) → Fits p → p.opcode ≡ 23 → IsWordThat (word_of p) (Computes p.rd)
+of_auipc : (p : WordFields) → Fits p → p.opcode ≡ 23 → IsWordThat (word_of p) (Computes p.rd)
 unfolding spelling InRange upper
 of_auipc p fits opcode = record {
   instr = Auipc p.rd (upper p);
@@ -134,7 +134,7 @@ of_auipc p fits opcode = record {
   does = refl;
 }
 
-of_op_imm : (p : Parts) → Fits p → p.opcode ≡ 19 → (one five : Bool)
+of_op_imm : (p : WordFields) → Fits p → p.opcode ≡ 19 → (one five : Bool)
     → (if one then shift_fits p.funct7 p.funct3 (shift_at p.funct7 p.funct3)
     else if five then shift_fits p.funct7 p.funct3 (shift_at p.funct7 p.funct3)
     else imm_fits p.funct3 (imm_op_at p.funct3)) ≡ true
@@ -143,7 +143,7 @@ of_op_imm p fits opcode true five h = of_shift p fits opcode (shift_at p.funct7 
 of_op_imm p fits opcode false true h = of_shift p fits opcode (shift_at p.funct7 p.funct3) h
 of_op_imm p fits opcode false false h = of_imm p fits opcode (imm_op_at p.funct3) h
 
-of_row : (p : Parts) → Fits p → p.opcode % 4 ≡ 3 → (lui auipc op imm : Bool)
+of_row : (p : WordFields) → Fits p → p.opcode % 4 ≡ 3 → (lui auipc op imm : Bool)
     → (p.opcode / 4 == 13) ≡ lui → (p.opcode / 4 == 5) ≡ auipc → (p.opcode / 4 == 12) ≡ op → (p.opcode / 4 == 4) ≡ imm
     → (if lui then true else if auipc then true else if op then op_fits p.funct7 p.funct3 (op_at p.funct7 p.funct3)
     else if imm then imm_computes p.funct3 p.funct7 else false) ≡ true
@@ -154,7 +154,7 @@ of_row p fits low false false true imm a b c d h = of_op p fits (let row = eqb-t
 of_row p fits low false false false true a b c d h = of_op_imm p fits (let row = eqb-true (p.opcode / 4) 4 d in omega arith) (p.funct3 == 1) (p.funct3 == 5) h
 of_row p fits low false false false false a b c d h = absurd cc
 
-of_parts : (p : Parts) → Fits p → p.opcode % 4 ≡ 3 → computes (p.opcode / 4) p.funct3 p.funct7 ≡ true → IsWordThat (word_of p) (Computes p.rd)
+of_parts : (p : WordFields) → Fits p → p.opcode % 4 ≡ 3 → computes (p.opcode / 4) p.funct3 p.funct7 ≡ true → IsWordThat (word_of p) (Computes p.rd)
 unfolding computes
 of_parts p fits low h = of_row p fits low _ _ _ _ refl refl refl refl h
 
@@ -165,7 +165,7 @@ op_computes Add = refl
 op_computes _ = refl
 
 -- the parts are those of an instruction that computes
-abbrev DoParts : Parts → Type 0
+abbrev DoParts : WordFields → Type 0
 DoParts p = (p.opcode % 4 ≡ 3) × (computes (p.opcode / 4) p.funct3 p.funct7 ≡ true)
 
 imm_parts : (op : ImmOp) (z : ℤ) (rs1 rd : ℕ) → DoParts (imm_cut op z rs1 rd)
@@ -184,31 +184,31 @@ cut_parts _ rd e = absurd cc
 -- ---- what the code tells
 
 -- the two tables' answer
-abbrev told : Parts → Bool
+abbrev told : WordFields → Bool
 told p = not (bit_and (slice_index COMPUTING (p.opcode / 4 * 8 + p.funct3)) (slice_index CLASSES p.funct7) == 0)
 
-told_is : (p : Parts) → Fits p → told p ≡ computes (p.opcode / 4) p.funct3 p.funct7
+told_is : (p : WordFields) → Fits p → told p ≡ computes (p.opcode / 4) p.funct3 p.funct7
 told_is p fits = table_at (p.opcode / 4) p.funct3 p.funct7 (omega (arith, fits.opcode)) fits.funct3 fits.funct7
 
 low_two : (n : ℕ) → bit_and n 3 ≡ n % 4
 low_two n = and_mask n 2
 
-rd_of : (p : Parts) → Fits p → bits (word_of p) 11 7 ≡ p.rd
+rd_of : (p : WordFields) → Fits p → bits (word_of p) 11 7 ≡ p.rd
 rd_of p fits = omega (arith, fits.opcode, fits.rd, fits.funct3, fits.rs1, fits.rs2, fits.funct7)
 
-pub found : (word : ℕ) (p : Parts) → word ≡ word_of p → Fits p → bit_and p.opcode 3 ≡ 3 → (b : Bool) → b ≡ told p → OnTrue b (IsWordThat word (Computes (bits word 11 7)))
+pub found : (word : ℕ) (p : WordFields) → word ≡ word_of p → Fits p → bit_and p.opcode 3 ≡ 3 → (b : Bool) → b ≡ told p → OnTrue b (IsWordThat word (Computes (bits word 11 7)))
 found word p e fits three false is = tt
 found word p e fits three true is =
     let done = of_parts p fits (sym (low_two p.opcode) ∙ three) (sym (is ∙ told_is p fits)) in
     subst (λ (w : ℕ). IsWordThat w (Computes (bits w 11 7))) (sym e) (subst (λ (r : ℕ). IsWordThat (word_of p) (Computes r)) (sym (rd_of p fits)) done)
 
-cuts : (word : ℕ) (p : Parts) → word ≡ word_of p → Fits p → (rd : ℕ) → IsWordThat word (Computes rd) → DoParts p
+cuts : (word : ℕ) (p : WordFields) → word ≡ word_of p → Fits p → (rd : ℕ) → IsWordThat word (Computes rd) → DoParts p
 cuts word p e fits rd that =
     let spelled : IsWordOf (word_of p) that.instr = subst (λ (w : ℕ). IsWordOf w that.instr) e that.spelled in
-    subst (λ (q : Parts). DoParts q) (sym (cut_is p fits that.instr spelled)) (cut_parts that.instr rd that.does)
+    subst (λ (q : WordFields). DoParts q) (sym (cut_is p fits that.instr spelled)) (cut_parts that.instr rd that.does)
 
-pub only_low : (word : ℕ) (p : Parts) → word ≡ word_of p → Fits p → (rd : ℕ) → IsWordThat word (Computes rd) → (bit_and p.opcode 3 == 3) ≡ true
+pub only_low : (word : ℕ) (p : WordFields) → word ≡ word_of p → Fits p → (rd : ℕ) → IsWordThat word (Computes rd) → (bit_and p.opcode 3 == 3) ≡ true
 only_low word p e fits rd that = eq-eqb (bit_and p.opcode 3) 3 (low_two p.opcode ∙ (cuts word p e fits rd that).0)
 
-pub only : (word : ℕ) (p : Parts) → word ≡ word_of p → Fits p → (rd : ℕ) → IsWordThat word (Computes rd) → told p ≡ true
+pub only : (word : ℕ) (p : WordFields) → word ≡ word_of p → Fits p → (rd : ℕ) → IsWordThat word (Computes rd) → told p ≡ true
 only word p e fits rd that = told_is p fits ∙ (cuts word p e fits rd that).1

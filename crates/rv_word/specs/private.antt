@@ -1,17 +1,17 @@
 -- Words that private contracts and proofs alone cite: no public statement rests on them.
 use Rattle.std.specs.Prelude.{ℕ, ◌<◌, ◌==◌, ◌&&◌, ◌||◌, not, nat_lt, Bool, if◌then◌else◌}
-use Rattle.rv_word.specs.declared.parts.Parts.{Parts}
+use Rattle.rv_word.specs.declared.word_fields.WordFields.{WordFields}
 use Rattle.rv_word.specs.declared.instr.Instr.{Instr}
 use Rattle.rv_word.specs.Spelling.{r_format, IsWordOf}
 
 -- ==== A word cut at the borders of the R format, for the contracts inside the decoder.
 
 -- the word that these parts make
-abbrev pub word_of : Parts → ℕ
+abbrev pub word_of : WordFields → ℕ
 word_of p = r_format p.funct7 p.rs2 p.rs1 p.funct3 p.rd p.opcode
 
 -- each part is one that its bits can hold
-pub record Fits (p : Parts) : Type 0 where
+pub record Fits (p : WordFields) : Type 0 where
   pub opcode : p.opcode < 128
   pub rd : p.rd < 32
   pub funct3 : p.funct3 < 8

@@ -6,8 +6,8 @@ ghost use Rattle.rv_word.specs.private.{word_of, Fits, is_access};
 ghost use Rattle.rv_word.specs.Spelling.{IsWordOf};
 
 use crate::opcode;
-use crate::parts::Parts;
 use crate::reg::Reg;
+use crate::word_fields::WordFields;
 
 /// The registers of a load or a store but the one whose value it stores.
 #[derive(Clone, Copy, PartialEq, Eq)]
@@ -18,7 +18,7 @@ pub struct Access {
     pub base: Reg,
 }
 
-impl Parts {
+impl WordFields {
     /// Whether opcode and funct3 are those of a load or a store.
     fn is_access(self) -> bool
         ensures { result ≡ is_access self.opcode self.funct3 }
@@ -61,5 +61,5 @@ pub fn access32(word: u32) -> Option<Access>
     ensures found { IfSome result (IsAccessOf word) }
     ensures only { (i : Instr) → IsWordOf word i → result ≡ access i }
 {
-    Parts::of(word).access()
+    WordFields::from_word(word).access()
 }

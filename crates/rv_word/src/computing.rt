@@ -6,7 +6,7 @@ ghost use Rattle.rv_word.specs.Spelling.{bits};
 ghost use Rattle.rv_word.specs.declared.outline.Outline.TheVariants.{Computes};
 ghost use Rattle.rv_word.specs.Outlines.{IsWordThat};
 
-use crate::parts::Parts;
+use crate::word_fields::WordFields;
 
 /// By bits 6:2 of a word and its funct3: the classes of funct7 with which the word computes. 1 is
 /// every funct7, 2 is 0000000, 4 is 0000001 (extension M) and 8 is 0100000.
@@ -63,7 +63,7 @@ pub fn computes32(word: u32) -> bool
     ensures found { OnTrue result (IsWordThat word (Computes (bits word 11 7))) }
     ensures only { (rd : ℕ) → IsWordThat word (Computes rd) → result ≡ true }
 {
-    let parts = Parts::of(word);
+    let parts = WordFields::from_word(word);
     let place = (parts.opcode >> 2) * 8 + parts.funct3;
     let class = CLASSES[parts.funct7 as usize];
     parts.opcode & 0b11 == 0b11 && COMPUTING[place as usize] & class != 0

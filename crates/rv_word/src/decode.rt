@@ -6,22 +6,22 @@ ghost use Rattle.rv_word.specs.Spelling.{IsWordOf};
 
 use crate::instr::{Cond, ImmOp, Instr, LoadKind, RegOp, StoreWidth};
 use crate::opcode;
-use crate::parts::Parts;
 use crate::reg::Reg;
+use crate::word_fields::WordFields;
 
 /// The instruction that the word spells; `None` where it spells none.
 pub fn decode32(word: u32) -> Option<Instr>
     ensures found { IfSome result (IsWordOf word) }
     ensures only { (i : Instr) → IsWordOf word i → result ≡ Some i }
 {
-    Parts::of(word).instr()
+    WordFields::from_word(word).to_instr()
 }
 
-// Below `instr` there is one function for each opcode of which some words spell nothing.
+// Below `to_instr` there is one function for each opcode.
 #[tactic(auto, unfolding(crate::specs::Spelling::spelling, crate::specs::Spelling::InRange))]
-impl Parts {
-    /// The instruction that the parts' word spells.
-    fn instr(self) -> Option<Instr>
+impl WordFields {
+    /// The instruction that the fields spell; none where they spell none.
+    fn to_instr(self) -> Option<Instr>
         requires { Fits self }
         ensures found { IfSome result (IsWordOf (word_of self)) }
         ensures none { IfNone result (SpellsNone (word_of self)) }
@@ -30,22 +30,13 @@ impl Parts {
             opcode::LOAD => self.load(),
             opcode::MISC_MEM => self.fence(),
             opcode::OP_IMM => self.op_imm(),
-            opcode::AUIPC => Some(Instr::Auipc {
-                rd: Reg::of_field(self.rd),
-                imm: self.upper(),
-            }),
+            opcode::AUIPC => Some(self.auipc()),
             opcode::STORE => self.store(),
             opcode::OP => self.op(),
-            opcode::LUI => Some(Instr::Lui {
-                rd: Reg::of_field(self.rd),
-                imm: self.upper(),
-            }),
+            opcode::LUI => Some(self.lui()),
             opcode::BRANCH => self.branch(),
             opcode::JALR => self.jalr(),
-            opcode::JAL => Some(Instr::Jal {
-                rd: Reg::of_field(self.rd),
-                offset: self.j_offset(),
-            }),
+            opcode::JAL => Some(self.jal()),
             opcode::SYSTEM => self.system(),
             _ => None,
         }
@@ -59,7 +50,7 @@ impl Parts {
         ensures none { IfNone result (SpellsNone (word_of self)) }
     {
         Some(Instr::Load {
-            kind: LoadKind::of(self.funct3)?,
+            kind: LoadKind::from_funct3(self.funct3)?,
             rd: Reg::of_field(self.rd),
             rs1: Reg::of_field(self.rs1),
             imm: self.i_imm(),
@@ -90,7 +81,7 @@ impl Parts {
         ensures found { IfSome result (IsWordOf (word_of self)) }
         ensures none { IfNone result (SpellsNone (word_of self)) }
     {
-        if let Some(op) = ImmOp::of(self.funct3) {
+        if let Some(op) = ImmOp::from_funct3(self.funct3) {
             return Some(Instr::OpImm {
                 op,
                 rd: Reg::of_field(self.rd),
@@ -114,7 +105,7 @@ impl Parts {
         ensures none { IfNone result (SpellsNone (word_of self)) }
     {
         Some(Instr::Store {
-            width: StoreWidth::of(self.funct3)?,
+            width: StoreWidth::from_funct3(self.funct3)?,
             rs1: Reg::of_field(self.rs1),
             rs2: Reg::of_field(self.rs2),
             imm: self.s_imm(),
@@ -129,7 +120,7 @@ impl Parts {
         ensures none { IfNone result (SpellsNone (word_of self)) }
     {
         Some(Instr::Op {
-            op: RegOp::of(self.funct7, self.funct3)?,
+            op: RegOp::from_functs(self.funct7, self.funct3)?,
             rd: Reg::of_field(self.rd),
             rs1: Reg::of_field(self.rs1),
             rs2: Reg::of_field(self.rs2),
@@ -144,7 +135,7 @@ impl Parts {
         ensures none { IfNone result (SpellsNone (word_of self)) }
     {
         Some(Instr::Branch {
-            cond: Cond::of(self.funct3)?,
+            cond: Cond::from_funct3(self.funct3)?,
             rs1: Reg::of_field(self.rs1),
             rs2: Reg::of_field(self.rs2),
             offset: self.b_offset(),
@@ -183,6 +174,42 @@ impl Parts {
             Some(Instr::Ebreak)
         } else {
             None
+        }
+    }
+
+    /// The `auipc` with these fields.
+    pub(crate) fn auipc(self) -> Instr
+        requires fits { Fits self }
+        requires opcode { self.opcode ≡ 0b0010111 }
+        ensures { IsWordOf (word_of self) result }
+    {
+        Instr::Auipc {
+            rd: Reg::of_field(self.rd),
+            imm: self.upper_bits(),
+        }
+    }
+
+    /// The `lui` with these fields.
+    pub(crate) fn lui(self) -> Instr
+        requires fits { Fits self }
+        requires opcode { self.opcode ≡ 0b0110111 }
+        ensures { IsWordOf (word_of self) result }
+    {
+        Instr::Lui {
+            rd: Reg::of_field(self.rd),
+            imm: self.upper_bits(),
+        }
+    }
+
+    /// The `jal` with these fields.
+    pub(crate) fn jal(self) -> Instr
+        requires fits { Fits self }
+        requires opcode { self.opcode ≡ 0b1101111 }
+        ensures { IsWordOf (word_of self) result }
+    {
+        Instr::Jal {
+            rd: Reg::of_field(self.rd),
+            offset: self.j_offset(),
         }
     }
 }

@@ -7,8 +7,8 @@ use crate::format::{b_word, i_word, j_word, s_word, u_word, unsigned_i_word};
 use crate::immediate::shift_bits;
 use crate::instr::{ImmOp, Instr, RegOp};
 use crate::opcode;
-use crate::parts::Parts;
 use crate::reg::Reg;
+use crate::word_fields::WordFields;
 
 /// The word that spells the instruction; `None` where a field is outside its range.
 #[tactic(auto, unfolding(crate::specs::Spelling::spelling, crate::specs::Spelling::InRange))]
@@ -46,7 +46,7 @@ pub fn encode32(instr: Instr) -> Option<u32>
 pub fn op_word(op: RegOp, rd: Reg, rs1: Reg, rs2: Reg) -> u32
     ensures { IsWordOf result (Instr.Op op rd rs1 rs2) }
 {
-    let parts = Parts {
+    let fields = WordFields {
         opcode: opcode::OP,
         rd: rd.field(),
         funct3: op.funct3(),
@@ -54,7 +54,7 @@ pub fn op_word(op: RegOp, rd: Reg, rs1: Reg, rs2: Reg) -> u32
         rs2: rs2.field(),
         funct7: op.funct7(),
     };
-    parts.word()
+    fields.word()
 }
 
 /// The word of a computation on an immediate, or on a shift amount.
@@ -66,7 +66,7 @@ fn op_imm_word(op: ImmOp, rd: Reg, rs1: Reg, imm: i32) -> Option<u32>
     let Some(funct7) = op.shift_funct7() else {
         return i_word(imm, rs1, op.funct3(), rd, opcode::OP_IMM);
     };
-    let parts = Parts {
+    let fields = WordFields {
         opcode: opcode::OP_IMM,
         rd: rd.field(),
         funct3: op.funct3(),
@@ -74,5 +74,5 @@ fn op_imm_word(op: ImmOp, rd: Reg, rs1: Reg, imm: i32) -> Option<u32>
         rs2: shift_bits(imm)?,
         funct7,
     };
-    Some(parts.word())
+    Some(fields.word())
 }

@@ -7,8 +7,8 @@ ghost use Rattle.rv_word.specs.Spelling.{IsImm12, IsBranchOffset, IsJumpOffset};
 
 use crate::bits::side_by_side;
 use crate::immediate::{branch_offset_bits, imm12_bits, jump_offset_bits};
-use crate::parts::Parts;
 use crate::reg::Reg;
+use crate::word_fields::WordFields;
 
 /// The word of the I format.
 pub(crate) fn i_word(imm: i32, rs1: Reg, funct3: u32, rd: Reg, opcode: u32) -> Option<u32>
@@ -29,7 +29,7 @@ pub(crate) fn unsigned_i_word(imm: u32, rs1: Reg, funct3: u32, rd: Reg, opcode: 
     if imm >= 1 << 12 {
         return None;
     }
-    let parts = Parts {
+    let fields = WordFields {
         opcode,
         rd: rd.field(),
         funct3,
@@ -37,7 +37,7 @@ pub(crate) fn unsigned_i_word(imm: u32, rs1: Reg, funct3: u32, rd: Reg, opcode: 
         rs2: imm & 0b11111,
         funct7: imm >> 5,
     };
-    Some(parts.word())
+    Some(fields.word())
 }
 
 /// The word of the S format.
@@ -48,7 +48,7 @@ pub(crate) fn s_word(imm: i32, rs2: Reg, rs1: Reg, funct3: u32, opcode: u32) -> 
     ensures { SomeIff result (IsImm12 imm) (s_format (modulo 12 imm) rs2 rs1 funct3 opcode) }
 {
     let imm = imm12_bits(imm)?;
-    let parts = Parts {
+    let fields = WordFields {
         opcode,
         rd: imm & 0b11111,
         funct3,
@@ -56,7 +56,7 @@ pub(crate) fn s_word(imm: i32, rs2: Reg, rs1: Reg, funct3: u32, opcode: u32) -> 
         rs2: rs2.field(),
         funct7: imm >> 5,
     };
-    Some(parts.word())
+    Some(fields.word())
 }
 
 /// The word of the B format.
@@ -68,7 +68,7 @@ pub(crate) fn b_word(offset: i32, rs2: Reg, rs1: Reg, funct3: u32, opcode: u32) 
         (IsBranchOffset offset) (b_format (modulo 13 offset) rs2 rs1 funct3 opcode) }
 {
     let imm = branch_offset_bits(offset)?;
-    let parts = Parts {
+    let fields = WordFields {
         opcode,
         rd: side_by_side((imm >> 1) & 0b1111, 1, (imm >> 11) & 1),
         funct3,
@@ -76,7 +76,7 @@ pub(crate) fn b_word(offset: i32, rs2: Reg, rs1: Reg, funct3: u32, opcode: u32) 
         rs2: rs2.field(),
         funct7: side_by_side(imm >> 12, 6, (imm >> 5) & 0b111111),
     };
-    Some(parts.word())
+    Some(fields.word())
 }
 
 /// The word of the U format, where `imm` is the number of bits 31:12.

@@ -47,7 +47,7 @@ impl RegOp {
     }
 
     /// The computation with these functs.
-    pub(crate) fn of(funct7: u32, funct3: u32) -> Option<Self>
+    pub(crate) fn from_functs(funct7: u32, funct3: u32) -> Option<Self>
         ensures found { IfSome result (λ op. (op_funct7 op ≡ funct7) × (op_funct3 op ≡ funct3)) }
         ensures none { IfNone result ((op : RegOp) →
             op_funct7 op ≡ funct7 → op_funct3 op ≢ funct3) }
@@ -109,7 +109,7 @@ impl ImmOp {
     }
 
     /// The operation with this funct3 that isn't a shift.
-    pub(crate) fn of(funct3: u32) -> Option<Self>
+    pub(crate) fn from_funct3(funct3: u32) -> Option<Self>
         ensures found { IfSome result (λ op. (is_shift op ≡ false) × (imm_funct3 op ≡ funct3)) }
         ensures none { IfNone result ((op : ImmOp) → is_shift op ≡ false → imm_funct3 op ≢ funct3) }
     {
@@ -156,7 +156,7 @@ impl LoadKind {
     }
 
     /// The load with this funct3, if any.
-    pub(crate) fn of(funct3: u32) -> Option<Self>
+    pub(crate) fn from_funct3(funct3: u32) -> Option<Self>
         ensures found { IfSome result (λ kind. load_funct3 kind ≡ funct3) }
         ensures none { IfNone result ((kind : LoadKind) → load_funct3 kind ≢ funct3) }
     {
@@ -185,7 +185,7 @@ impl StoreWidth {
     }
 
     /// The store with this funct3, if any.
-    pub(crate) fn of(funct3: u32) -> Option<Self>
+    pub(crate) fn from_funct3(funct3: u32) -> Option<Self>
         ensures found { IfSome result (λ width. store_funct3 width ≡ funct3) }
         ensures none { IfNone result ((width : StoreWidth) → store_funct3 width ≢ funct3) }
     {
@@ -215,7 +215,7 @@ impl Cond {
     }
 
     /// The branch with this funct3, if any.
-    pub(crate) fn of(funct3: u32) -> Option<Self>
+    pub(crate) fn from_funct3(funct3: u32) -> Option<Self>
         ensures found { IfSome result (λ cond. cond_funct3 cond ≡ funct3) }
         ensures none { IfNone result ((cond : Cond) → cond_funct3 cond ≢ funct3) }
     {

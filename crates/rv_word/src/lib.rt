@@ -19,8 +19,8 @@ pub mod instr;
 pub mod length;
 mod opcode;
 pub mod outline;
-mod parts;
 pub mod reg;
+mod word_fields;
 
 pub use access::{Access, access32};
 pub use computing::computes32;

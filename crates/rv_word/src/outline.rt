@@ -8,8 +8,8 @@ ghost use Rattle.rv_word.specs.Spelling.{IsWordOf};
 
 use crate::instr::Instr;
 use crate::opcode;
-use crate::parts::Parts;
 use crate::reg::Reg;
+use crate::word_fields::WordFields;
 
 /// What an instruction does, without the values that it does it with.
 #[derive(Clone, Copy, PartialEq, Eq)]
@@ -65,8 +65,8 @@ fn outline_of_some(instr: Option<Instr>) -> Option<Outline>
 }
 
 #[tactic(auto, using(crate::proofs::Outlines::outline_found, crate::proofs::Outlines::outline_none), unfolding(crate::specs::Spelling::spelling, crate::specs::Spelling::InRange))]
-impl Parts {
-    // One reading for each opcode, so that what an outline doesn't tell is never made.
+impl WordFields {
+    /// One reading for each opcode, so that what an outline doesn't tell is never made.
     #[inline(always)]
     fn outline(self) -> Option<Outline>
         requires { Fits self }
@@ -88,42 +88,6 @@ impl Parts {
             _ => None,
         }
     }
-
-    /// The `auipc` with these fields.
-    fn auipc(self) -> Instr
-        requires fits { Fits self }
-        requires opcode { self.opcode ≡ 0b0010111 }
-        ensures { IsWordOf (word_of self) result }
-    {
-        Instr::Auipc {
-            rd: Reg::of_field(self.rd),
-            imm: self.upper(),
-        }
-    }
-
-    /// The `lui` with these fields.
-    fn lui(self) -> Instr
-        requires fits { Fits self }
-        requires opcode { self.opcode ≡ 0b0110111 }
-        ensures { IsWordOf (word_of self) result }
-    {
-        Instr::Lui {
-            rd: Reg::of_field(self.rd),
-            imm: self.upper(),
-        }
-    }
-
-    /// The `jal` with these fields.
-    fn jal(self) -> Instr
-        requires fits { Fits self }
-        requires opcode { self.opcode ≡ 0b1101111 }
-        ensures { IsWordOf (word_of self) result }
-    {
-        Instr::Jal {
-            rd: Reg::of_field(self.rd),
-            offset: self.j_offset(),
-        }
-    }
 }
 
 /// What the instruction does that the word spells; `None` where it spells none.
@@ -132,5 +96,5 @@ pub fn outline32(word: u32) -> Option<Outline>
     ensures found { IfSome result (IsWordThat word) }
     ensures only { (i : Instr) → IsWordOf word i → result ≡ Some (outline i) }
 {
-    Parts::of(word).outline()
+    WordFields::from_word(word).outline()
 }

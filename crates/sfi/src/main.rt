@@ -11,7 +11,7 @@ use std::process::ExitCode;
 
 const NO_TEXT: &[u8] = b"error: an argument is not UTF-8\n\nFor more information, try '--help'.\n";
 
-// The status for arguments that can't be had: they aren't UTF-8, or an allocation was refused.
+/// The status for arguments that can't be had: they aren't UTF-8, or an allocation was refused.
 fn without_words(rt: HostRuntime, kind: ErrorKind) -> u8 {
     if kind == ErrorKind::OutOfMemory {
         return 4;
@@ -27,7 +27,7 @@ fn without_words(rt: HostRuntime, kind: ErrorKind) -> u8 {
 // The status where `exec` gives none of a sandbox.
 const NOT_RUN: u8 = 125;
 
-// The line that says why; what isn't accepted has its own.
+/// The line that says why; what isn't accepted has its own.
 fn fault_line(fault: ExecFault) -> &'static str {
     match fault {
         ExecFault::NotAccepted => "",
@@ -38,13 +38,13 @@ fn fault_line(fault: ExecFault) -> &'static str {
     }
 }
 
-// Says why there is no status of a sandbox.
+/// Says why there is no status of a sandbox.
 fn not_run(rt: &HostRuntime, line: &str) -> u8 {
     write_out(&mut rt.stderr(), line.as_bytes());
     NOT_RUN
 }
 
-// Runs the sandboxes of the image in that file, over the streams of this process.
+/// Runs the sandboxes of the image in that file, over the streams of this process.
 fn exec_file(rt: &HostRuntime, alloc: Global, path: &str, budget: u64) -> u8 {
     let Ok(mut image) = File::open(rt, path) else {
         return not_run(rt, "exec fault file\n");
@@ -66,7 +66,7 @@ fn exec_file(rt: &HostRuntime, alloc: Global, path: &str, budget: u64) -> u8 {
     }
 }
 
-// Runs the command that the arguments name, and gives the exit status.
+/// Runs the command that the arguments name, and gives the exit status.
 fn status(rt: HostRuntime) -> u8 {
     let alloc = rt.alloc();
     let args = match env::args(&rt) {
@@ -84,7 +84,7 @@ fn status(rt: HostRuntime) -> u8 {
     run_tool(alloc, words.as_slice(), &mut reader, &mut writer)
 }
 
-// Runs the command, and exits with its status.
+/// Runs the command, and exits with its status.
 fn main(rt: HostRuntime) -> ExitCode {
     ExitCode::from(status(rt))
 }

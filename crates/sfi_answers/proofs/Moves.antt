@@ -13,8 +13,8 @@ use Rattle.sfi_rules.specs.declared.finding.Finding.{Finding}
 use Rattle.sfi_safety.specs.Clean.{IsAccepted}
 use Rattle.sfi_check.specs.Verdict.{HasFindings}
 use Rattle.sfi_places.specs.Moving.{moved_one, IsMoved, IsMoveFault, IsWrongPlace}
-use Rattle.sfi_places.specs.declared.relocation.MoveFault.{MoveFault}
-use Rattle.sfi_places.specs.declared.relocation.MoveFault.TheVariants.{NoSandbox, NoPlace}
+use Rattle.sfi_places.specs.declared.moving.MoveFault.{MoveFault}
+use Rattle.sfi_places.specs.declared.moving.MoveFault.TheVariants.{NoSandbox, NoPlace}
 use Rattle.sfi_answers.specs.Answers.{Answers, AnswersStatus, IsStop, HasSomeFault, IsAcceptedImage, SaysRefused, on_verdict}
 use Rattle.sfi_answers.specs.Building.{image_output}
 use Rattle.sfi_answers.specs.Moving.{CannotMove, move}

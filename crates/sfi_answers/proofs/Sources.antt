@@ -1,7 +1,7 @@
 -- What is answered on a source text: of which nothing is made, and its map.
 use Rattle.std.proofs.Common.{◌≡◌, ◌⊎◌, ℕ, List, Result, Err, refl, sym, subst, inl, inr, ◌∙◌, ◌+◌, ◌<◌, ◌≤◌, arith, [], ◌∷◌, ◌++◌, length, take, get_or, ap, add-zero, append_assoc}
 use Rattle.std.specs.Prelude.{IsErrAnd}
-use Rattle.sfi_build.specs.declared.build_fault.BuildFault.{BuildFault}
+use Rattle.sfi_build.specs.declared.fault.BuildFault.{BuildFault}
 use Rattle.sfi_build.specs.Texts.{IsBuildFault, IsWantOfMemory}
 use Rattle.sfi_formats.specs.declared.place.Place.{Place}
 use Rattle.sfi_answers.specs.Building.{of_source, lines_in, IsTableText, IsMapFrom}

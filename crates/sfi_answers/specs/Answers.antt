@@ -3,7 +3,7 @@ use Rattle.std.specs.Prelude.{◌⊎◌, ℕ, List, ◌≡◌, Result, Ok, Err, 
 use Rattle.sfi_io.specs.Hexadecimal.{GivesImage, GivesNoImage}
 use Rattle.sfi_io.specs.declared.hexadecimal.HexStop.{HexStop}
 use Rattle.sfi_io.specs.declared.hexadecimal.HexStop.TheVariants as hex
-use Rattle.sfi_build.specs.declared.build_fault.BuildFault.{BuildFault}
+use Rattle.sfi_build.specs.declared.fault.BuildFault.{BuildFault}
 use Rattle.sfi_build.specs.Texts.{IsWantOfMemory}
 use Rattle.sfi_answers.specs.declared.fault.InputFault.TheVariants.{Hex}
 use Rattle.sfi_answers.specs.declared.fault.Stop.{Stop}

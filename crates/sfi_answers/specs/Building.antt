@@ -10,7 +10,7 @@ use Rattle.sfi_link.specs.declared.names.NameKind.{NameKind}
 use Rattle.sfi_link.specs.declared.names.NameKind.TheVariants.{Gate, Code, Data}
 use Rattle.sfi_report.specs.Listing.{hex_digits, line_end, IsNamesText}
 use Rattle.hex.specs.Hex.{encode_lower}
-use Rattle.sfi_build.specs.declared.build_fault.BuildFault.{BuildFault}
+use Rattle.sfi_build.specs.declared.fault.BuildFault.{BuildFault}
 use Rattle.sfi_build.specs.Texts.{IsTextBuild, IsTextMap, IsBuildFault}
 use Rattle.sfi_formats.specs.declared.place.Place.{Place}
 use Rattle.sfi_io.specs.Hexadecimal.{limit}
@@ -30,8 +30,8 @@ kind_name Code = codes "code"
 kind_name Data = codes "data"
 
 -- the line of a gate or label: its sandbox, counted from 0, what it is, its name and its address
-abbrev pub line_of_entry : MapEntry → List ℕ
-line_of_entry e =
+abbrev pub map_line : MapEntry → List ℕ
+map_line e =
     codes "sandbox=" ++ decimal e.sandbox
     ++ codes " " ++ kind_name e.kind
     ++ codes " " ++ e.name
@@ -39,7 +39,7 @@ line_of_entry e =
 
 -- the line of a gate or label of sandbox `sandbox`, and nothing of one of another
 abbrev pub line_in : ℕ → MapEntry → List ℕ
-line_in sandbox e = if e.sandbox == sandbox then line_of_entry e else []
+line_in sandbox e = if e.sandbox == sandbox then map_line e else []
 
 -- the lines of the gates and labels of sandbox `sandbox`, in their order
 abbrev pub lines_in : ℕ → List MapEntry → List ℕ

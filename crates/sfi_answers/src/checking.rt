@@ -74,7 +74,7 @@ pub fn check_answer(alloc: Global, report: bool, bytes: &[u8]) -> Result<Answer,
     match check(alloc, bytes) {
         Ok(accepted) => Ok(Answer::lines(
             0,
-            accepted_line(alloc, accepted.sandboxes(), accepted.bundles())?,
+            accepted_line(alloc, accepted.sandbox_count(), accepted.bundle_count())?,
         )),
         Err(refusal) => refusal_answer(alloc, report, bytes, refusal),
     }

@@ -9,7 +9,7 @@ use crate::checking::bytes_answer;
 use crate::fault::TOO_LARGE_LINE;
 use crate::text::text_answer;
 use crate::verdict::Answer;
-use sfi_io::{Input, ReadStop, begins_as_image, read_front, read_input};
+use sfi_io::{Input, ReadStop, begins_as_image, read_first_bytes, read_input};
 use std::alloc::Global;
 use std::io::Read;
 
@@ -37,7 +37,7 @@ pub fn image_answer<R: Read>(alloc: Global, reader: &mut R) -> Result<Answer, Re
     ensures fault { IfOk result (λ a. a.status ≡ 2
         → IfSome (R.remaining reader.old) (on_image (check false)).has_fault) }
 {
-    let front = read_front(alloc, reader)?;
+    let front = read_first_bytes(alloc, reader)?;
     let mut whole = front.as_slice().chain(reader);
     if begins_as_image(&front) {
         held_answer(alloc, &mut whole)

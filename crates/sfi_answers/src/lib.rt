@@ -1,4 +1,6 @@
-//! What the commands answer that run no sandbox: `check`, `build`, `map`, `dis`, `convert`, `move` and `translate`.
+//! The answers of the commands that run no sandbox, `check`, `build`, `map`, `dis`, `convert`, `move`
+//! and `translate`: what each prints on the bytes or the text that it gets, and the status with
+//! which the program ends.
 #![tactic(auto)]
 
 mod building;
@@ -7,6 +9,7 @@ mod converting;
 mod fault;
 mod image;
 mod listing;
+mod mapping;
 mod moving;
 mod raw;
 mod text;
@@ -14,12 +17,13 @@ mod translating;
 mod verdict;
 mod whole_program;
 
-pub use building::{build_answer, map_answer};
+pub use building::build_answer;
 pub use checking::{bytes_answer, check_answer, refusal_answer};
 pub use converting::conversion_answer;
 pub use fault::{InputFault, Stop, TOO_LARGE_LINE, stop_answer};
 pub use image::image_answer;
 pub use listing::listing_answer;
+pub use mapping::map_answer;
 pub use moving::move_answer;
 pub use raw::raw_answer;
 pub use translating::translation_answer;

@@ -15,7 +15,7 @@ use sfi_formats::Place;
 use sfi_places::{MoveFault, move_sandbox};
 use std::alloc::Global;
 
-// A copy of the image's bytes with sandbox `number` at the place.
+/// A copy of the image's bytes with sandbox `number` at the place.
 fn moved_copy(alloc: Global, bytes: &[u8], number: u32, to: Place) -> Result<Vec<u8>, Stop>
     ensures moved { IfOk result (λ now. IsMovedCopy bytes.now number to now.items) }
     ensures stop { IfErr result (IsMoveStop bytes.now number to) }

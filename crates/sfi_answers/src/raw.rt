@@ -8,7 +8,7 @@ ghost use Rattle.sfi_answers.specs.private.{IsJudged};
 use crate::fault::layout_line;
 use crate::verdict::{Answer, accepted_line, refused_line};
 use sfi_check::{StreamAnswer, check_stream};
-use sfi_image::Reading;
+use sfi_image::ReaderSource;
 use sfi_io::ReadStop;
 use std::alloc::Global;
 use std::io::Read;
@@ -46,7 +46,7 @@ pub fn raw_answer<R: Read>(alloc: Global, reader: &mut R) -> Result<Answer, Read
     ensures fault { IfOk result
         (λ a. a.status ≡ 2 → IfSome (R.remaining reader.old) (check false).has_fault) }
 {
-    let mut source = Reading::new(reader);
+    let mut source = ReaderSource::new(reader);
     let verdict = check_stream(&mut source);
     stream_answer(alloc, verdict)
 }

@@ -34,7 +34,7 @@ fn back_text(whole: bool) -> &'static str
 }
 
 /// The translation of an image, for a host or as a whole program.
-fn text_of(alloc: Global, whole: bool, image: &Image<'_>) -> Result<String, AllocError>
+fn translated_text(alloc: Global, whole: bool, image: &Image<'_>) -> Result<String, AllocError>
     ensures { IfOk result (λ text. IsTranslationText whole image.now (string_bytes text)) }
 {
     let mut text = String::from_str(alloc, front_text(whole))?;
@@ -49,7 +49,7 @@ pub fn translation_answer(alloc: Global, whole: bool, bytes: &[u8]) -> Result<An
     ensures { Answers (translate whole) bytes.now result }
 {
     match check(alloc, bytes) {
-        Ok(accepted) => Ok(Answer::lines(0, text_of(alloc, whole, accepted.image())?)),
+        Ok(accepted) => Ok(Answer::lines(0, translated_text(alloc, whole, accepted.image())?)),
         Err(refusal) => refusal_answer(alloc, false, bytes, refusal),
     }
 }

@@ -13,8 +13,8 @@ use Rattle.sfi_build.proofs.Fitting.{tails_fit, same_ok, same_err, ok_not_err}
 use Rattle.sfi_link.specs.Linked.{IsLinkedImage, ArePlacements, IsBuild}
 use Rattle.sfi_link.specs.Standing.{ImageRunsAs}
 use Rattle.sfi_build.specs.Texts.{IsPlainBuild, MeansWhole, IsTextBuild, IsTextMap, IsCleanImage, IsBuildFault, IsWantOfMemory, AnswersBuild, AnswersBuildFault}
-use Rattle.sfi_build.specs.declared.build_fault.BuildFault.{BuildFault}
-use Rattle.sfi_build.specs.declared.build_fault.BuildFault.TheVariants.{Text, Rewrite, Link, Names}
+use Rattle.sfi_build.specs.declared.fault.BuildFault.{BuildFault}
+use Rattle.sfi_build.specs.declared.fault.BuildFault.TheVariants.{Text, Rewrite, Link, Names}
 use Rattle.sfi_rewrite.specs.Rewriting.{IsSourceFault, AreRewritten}
 use Rattle.sfi_rewrite.specs.declared.fault.RewriteFault.{RewriteFault}
 use Rattle.sfi_text.proofs.Facts as texts

@@ -21,8 +21,8 @@ use Rattle.sfi_build.specs.Laws.{CodeLabelsBeginUnits, SomeBuilding}
 use Rattle.std.proofs.Common.{Result, Err, inl, inr, ◌⊎◌}
 use Rattle.sfi_text.specs.Texts.{MeansSource, MeansText}
 use Rattle.sfi_build.specs.declared.table_fault.TableFault.{TableFault}
-use Rattle.sfi_build.specs.declared.build_fault.BuildFault.{BuildFault}
-use Rattle.sfi_build.specs.declared.build_fault.BuildFault.TheVariants.{Text, Rewrite, Link, Names}
+use Rattle.sfi_build.specs.declared.fault.BuildFault.{BuildFault}
+use Rattle.sfi_build.specs.declared.fault.BuildFault.TheVariants.{Text, Rewrite, Link, Names}
 use Rattle.sfi_text.proofs.Facts.{some_source, sources_are_right}
 use Rattle.sfi_rewrite.proofs.Facts.{some_rewriting, rewritten_is_placed}
 use Rattle.sfi_link.proofs.SomeLinking.{some_linking}

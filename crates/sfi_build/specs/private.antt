@@ -6,8 +6,8 @@ use Rattle.std.specs.Global.{Global}
 use Rattle.sfi_image.specs.Spelling.{Part}
 use Rattle.sfi_image.specs.Parts.{IsImage, IsRightLayout}
 use Rattle.sfi_build.specs.declared.table_fault.TableFault.{TableFault}
-use Rattle.sfi_build.specs.declared.build_fault.BuildFault.{BuildFault}
-use Rattle.sfi_build.specs.declared.build_fault.BuildFault.TheVariants.{Names}
+use Rattle.sfi_build.specs.declared.fault.BuildFault.{BuildFault}
+use Rattle.sfi_build.specs.declared.fault.BuildFault.TheVariants.{Names}
 use Rattle.sfi_build.specs.Tables.{each_with}
 use Rattle.sfi_build.specs.Texts.{IsWantOfMemory}
 

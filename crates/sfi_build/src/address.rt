@@ -10,7 +10,7 @@ use sfi_rewrite::Placed;
 
 /// The address of name number `name` of sandbox `sandbox`, in the image of what is placed; none
 /// where there is no such name or it names nothing.
-pub(crate) fn address_in(
+pub(crate) fn placed_address(
     placed: &Placed,
     places: &[Place],
     sandbox: u32,

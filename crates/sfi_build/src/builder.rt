@@ -3,15 +3,15 @@ ghost use Rattle.std.specs.Prelude.{◌≡◌, ◌≢◌, ◌⊎◌, ◌<◌, �
 ghost use Rattle.sfi_source.specs.Source.{Sandbox};
 ghost use Rattle.sfi_text.specs.Texts.{most_bytes, first_line};
 ghost use Rattle.sfi_text.specs.declared.cause.TextCause.TheVariants.{Limit};
-ghost use Rattle.sfi_build.specs.declared.build_fault.BuildFault.{BuildFault};
-ghost use Rattle.sfi_build.specs.declared.build_fault.BuildFault.TheVariants.{Text, Link};
+ghost use Rattle.sfi_build.specs.declared.fault.BuildFault.{BuildFault};
+ghost use Rattle.sfi_build.specs.declared.fault.BuildFault.TheVariants.{Text, Link};
 ghost use Rattle.sfi_link.specs.declared.fault.LinkFault.TheVariants as fault;
 ghost use Rattle.sfi_link.specs.Linked.{IsBuild};
 ghost use Rattle.sfi_link.specs.Names.{MapEntry};
 ghost use Rattle.sfi_link.specs.Standing.{ImageRunsAs};
 ghost use Rattle.sfi_build.specs.Texts.{MeansWhole, IsTextBuild, IsTextMap, IsCleanImage, IsBuildFault, IsWantOfMemory, AnswersBuild, AnswersBuildFault};
 
-use crate::build_fault::BuildFault;
+use crate::fault::BuildFault;
 use crate::inits::image_with;
 use crate::tables::inits_of;
 use sfi_formats::Place;
@@ -20,9 +20,9 @@ use sfi_rewrite::rewrite;
 use sfi_text::{SourceText, parse_text};
 use std::alloc::Global;
 
-// The build of the text, or its fault: its image without tables is made first, which has all
-// addresses.
-fn build_of(alloc: Global, text: &str, places: &[Place]) -> Result<Vec<u8>, BuildFault>
+/// The build of the text, or its fault: its image without tables is made first, which has all
+/// addresses.
+fn build_from_text(alloc: Global, text: &str, places: &[Place]) -> Result<Vec<u8>, BuildFault>
     ensures built { IfOk result (λ bytes. IsTextBuild places.now text.now bytes.items) }
     ensures fault { IfErr result (λ f. IsWantOfMemory f ⊎ IsBuildFault places.now text.now f) }
     ensures too_long { most_bytes < length text.now → result ≡ Err (Text (first_line Limit)) }
@@ -61,7 +61,7 @@ pub fn build_at(alloc: Global, text: &str, places: &[Place]) -> Result<Vec<u8>, 
     // A text above its limit gets its fault, whatever memory there is.
     ensures too_long { most_bytes < length text.now → result ≡ Err (Text (first_line Limit)) }
 {
-    build_of(alloc, text, places)
+    build_from_text(alloc, text, places)
 }
 
 /// Builds the image of a text, as [`build_at`] does, with each sandbox at its usual place.
@@ -90,8 +90,12 @@ pub fn build(alloc: Global, text: &str) -> Result<Vec<u8>, BuildFault>
     build_at(alloc, text, &[])
 }
 
-// The gates and labels of the text, or its fault.
-fn map_of(alloc: Global, text: &str, places: &[Place]) -> Result<Vec<NameAddress>, BuildFault>
+/// The gates and labels of the text, or its fault.
+fn map_from_text(
+    alloc: Global,
+    text: &str,
+    places: &[Place],
+) -> Result<Vec<NameAddress>, BuildFault>
     ensures mapped { IfOk result (λ entries. IsTextMap places.now text.now entries.items) }
     ensures fault { IfErr result (λ f. IsWantOfMemory f ⊎ IsBuildFault places.now text.now f) }
     ensures too_long { most_bytes < length text.now → result ≡ Err (Text (first_line Limit)) }
@@ -124,5 +128,5 @@ pub fn names_at(alloc: Global, text: &str, places: &[Place]) -> Result<Vec<NameA
     // A text above its limit gets its fault, whatever memory there is.
     ensures too_long { most_bytes < length text.now → result ≡ Err (Text (first_line Limit)) }
 {
-    map_of(alloc, text, places)
+    map_from_text(alloc, text, places)
 }

@@ -8,7 +8,7 @@ ghost use Rattle.sfi_build.specs.private.{MayHave, HasInits, contents, set_init}
 use sfi_image::{ImageFault, SandboxPart, parse_image, write_image_as};
 use std::alloc::{AllocError, Global};
 
-// The sandbox with these first data bytes.
+/// The sandbox with these first data bytes.
 fn part_with<'a>(
     alloc: Global,
     part: &SandboxPart<'a>,
@@ -30,7 +30,7 @@ fn part_with<'a>(
     })
 }
 
-// The sandboxes, each with its first data bytes of the list.
+/// The sandboxes, each with its first data bytes of the list.
 fn parts_with<'a>(
     alloc: Global,
     parts: &[SandboxPart<'a>],
@@ -48,7 +48,7 @@ fn parts_with<'a>(
     Ok(made)
 }
 
-// The image with these first data bytes.
+/// The image with these first data bytes.
 pub(crate) fn image_with(
     alloc: Global,
     bytes: &[u8],

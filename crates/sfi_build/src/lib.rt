@@ -7,14 +7,14 @@
 #![tactic(auto)]
 
 mod address;
-mod build_fault;
 mod builder;
+mod fault;
 mod inits;
 mod table_fault;
 mod tables;
 
-pub use build_fault::BuildFault;
 pub use builder::{build, build_at, names_at};
+pub use fault::BuildFault;
 pub use sfi_formats::Place;
 pub use sfi_link::{NameAddress, NameKind};
 pub use table_fault::TableFault;

@@ -9,11 +9,11 @@ ghost use Rattle.sfi_link.specs.Linked.{IsLinkedImage};
 ghost use Rattle.sfi_build.specs.Tables.{address_in, entry_with, entries_of, is_unlisted, tail_of, tails_from, each_with, sandbox_with};
 ghost use Rattle.sfi_build.specs.private.{IsEntryStop, IsTableStop, contents};
 
-use crate::address::address_in;
-use crate::build_fault::BuildFault;
+use crate::address::placed_address;
+use crate::fault::BuildFault;
 use crate::table_fault::TableFault;
 use sfi_formats::Place;
-use sfi_names::{Entry, Names as Table};
+use sfi_names::{NameEntry, Names as Table};
 use sfi_rewrite::Placed;
 use sfi_source::{Names, SourcePart};
 use sfi_text::{Listed, SharedNames};
@@ -22,9 +22,9 @@ use std::alloc::Global;
 /// How many bytes of a table are no entry's.
 const FOOTER_BYTES: usize = 16;
 
-// Appends the entry of what is listed, with the address that it has in the image of what is placed,
-// in sandbox `sandbox`.
-fn push_entry(
+/// Appends the entry of what is listed, with the address that it has in the image of what is placed,
+/// in sandbox `sandbox`.
+fn push_listed(
     bytes: &mut Vec<u8>,
     placed: &Placed,
     places: &[Place],
@@ -44,11 +44,11 @@ fn push_entry(
         (address_in places.now sandbox (slice_get placed.now sandbox) one.now.name)) one.now.line) }
 {
     let name = names.text(one.name);
-    let address = address_in(placed, places, sandbox, one.name);
+    let address = placed_address(placed, places, sandbox, one.name);
     let (Some(name), Some(address)) = (name, address) else {
         return Err(BuildFault::Names(TableFault::Unknown { line: one.line }));
     };
-    let entry = Entry {
+    let entry = NameEntry {
         address,
         name: name.as_bytes(),
     };
@@ -56,8 +56,8 @@ fn push_entry(
     Ok(())
 }
 
-// The bytes of the entries of what is listed: the names have the addresses that they have in the
-// image of what is placed, in sandbox `sandbox`.
+/// The bytes of the entries of what is listed: the names have the addresses that they have in the
+/// image of what is placed, in sandbox `sandbox`.
 fn entries_of(
     alloc: Global,
     placed: &Placed,
@@ -79,28 +79,28 @@ fn entries_of(
 {
     let mut bytes = Vec::new(alloc);
     for one in listed {
-        push_entry(&mut bytes, placed, places, sandbox, names, one)?;
+        push_listed(&mut bytes, placed, places, sandbox, names, one)?;
     }
     Ok(bytes)
 }
 
-// Whether nothing is listed.
+/// Whether nothing is listed.
 fn is_unlisted(shared: &SharedNames) -> bool
     ensures { result ≡ is_unlisted shared.now }
 {
     shared.exports.is_empty() && shared.imports.is_empty()
 }
 
-// Whether `room` bytes hold a table whose entries take `exports` and `imports` bytes.
+/// Whether `room` bytes hold a table whose entries take `exports` and `imports` bytes.
 fn has_room(room: usize, exports: usize, imports: usize) -> bool
     ensures { IsTrue result ↔ (exports + imports + FOOTER_BYTES ≤ room) }
 {
     exports <= room && imports <= room - exports && FOOTER_BYTES <= room - exports - imports
 }
 
-// The first data bytes of sandbox `sandbox`, which end in its table where something is
-// listed.
-fn init_of(
+/// The first data bytes of sandbox `sandbox`, which end in its table where something is
+/// listed.
+fn init_with_table(
     alloc: Global,
     placed: &Placed,
     places: &[Place],
@@ -139,7 +139,7 @@ fn init_of(
     Ok(init)
 }
 
-// The first data bytes of each sandbox, with its table.
+/// The first data bytes of each sandbox, with its table.
 pub(crate) fn inits_of(
     alloc: Global,
     placed: &Placed,
@@ -161,7 +161,7 @@ pub(crate) fn inits_of(
     let mut inits = Vec::new(alloc);
     for (sandbox, part) in parts.iter().enumerate() {
         let listed = &shared[sandbox];
-        let init = init_of(alloc, placed, places, sandbox as u32, listed, part)?;
+        let init = init_with_table(alloc, placed, places, sandbox as u32, listed, part)?;
         inits.push(init)?;
     }
     Ok(inits)

@@ -4,8 +4,8 @@ use Rattle.sfi_image.specs.Spelling.{AreApart, with_guards}
 use Rattle.sfi_c.specs.declared.part.SfiPart.{SfiPart}
 use Rattle.std.specs.Prelude.{ℕ}
 use Rattle.sfi_formats.specs.declared.place.Place.{Place}
-use Rattle.sfi_c.specs.declared.moving.Move.{Move}
-use Rattle.sfi_c.specs.declared.moving.Move.TheVariants.{Moved, Beyond, NoImage, NoPlace}
+use Rattle.sfi_c.specs.declared.moving.MoveAnswer.{MoveAnswer}
+use Rattle.sfi_c.specs.declared.moving.MoveAnswer.TheVariants.{Moved, Beyond, NoImage, NoPlace}
 
 -- the sandbox's code region
 abbrev pub told_code : SfiPart → Span
@@ -29,7 +29,7 @@ abbrev pub to_place : ℕ → ℕ → Place
 to_place code_base data_base = record { code_base = code_base; data_base = data_base }
 
 -- the number by which C knows how a move ended
-abbrev pub move_number : Move → ℕ
+abbrev pub move_number : MoveAnswer → ℕ
 move_number Moved = 0
 move_number Beyond = 1
 move_number NoImage = 2

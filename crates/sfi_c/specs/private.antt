@@ -6,10 +6,10 @@ use Rattle.sfi_image.specs.Faults.{IsFault}
 use Rattle.sfi_c.specs.declared.looking.Lookup.{Lookup}
 use Rattle.sfi_c.specs.declared.looking.Lookup.TheVariants.{Found, Beyond, NoImage}
 use Rattle.sfi_image.specs.Keeping.{IsSandboxOf}
-use Rattle.sfi_places.specs.declared.relocation.MoveFault.{MoveFault}
-use Rattle.sfi_places.specs.declared.relocation.MoveFault.TheVariants as faults
-use Rattle.sfi_c.specs.declared.moving.Move.{Move}
-use Rattle.sfi_c.specs.declared.moving.Move.TheVariants as moves
+use Rattle.sfi_places.specs.declared.moving.MoveFault.{MoveFault}
+use Rattle.sfi_places.specs.declared.moving.MoveFault.TheVariants as faults
+use Rattle.sfi_c.specs.declared.moving.MoveAnswer.{MoveAnswer}
+use Rattle.sfi_c.specs.declared.moving.MoveAnswer.TheVariants as moves
 use Rattle.sfi_c.specs.Parts.{with_findings}
 use Rattle.std.proofs.Common.{sym, subst, append_assoc}
 use Rattle.std.proofs.lemmas.List.{append-nil}
@@ -45,7 +45,7 @@ said_by (Err l) = l
 -- ---- what is said of a sandbox that was to be moved
 
 -- what is said of a move by its answer
-abbrev pub move_said_of : Result (Unit {0}) MoveFault → Move
+abbrev pub move_said_of : Result (Unit {0}) MoveFault → MoveAnswer
 move_said_of (Ok done) = moves.Moved
 move_said_of (Err faults.NoSandbox) = moves.Beyond
 move_said_of (Err (faults.NoImage k)) = moves.NoImage

@@ -12,7 +12,7 @@ use sfi_formats::GUARD;
 use sfi_image::Span;
 
 /// The sandbox's code region.
-fn told_code(part: &SfiPart) -> Span
+fn code_span_of(part: &SfiPart) -> Span
     ensures is { result ≡ told_code part.now }
     ensures end { result.base + result.size < 2 ^ 33 }
 {
@@ -23,7 +23,7 @@ fn told_code(part: &SfiPart) -> Span
 }
 
 /// The sandbox's data region with a guard zone on each side.
-fn told_guarded(part: &SfiPart) -> Span
+fn guarded_data_span_of(part: &SfiPart) -> Span
     ensures is { result ≡ told_guarded part.now }
     ensures end { result.base + result.size < 2 ^ 34 }
 {
@@ -46,13 +46,13 @@ fn are_apart(one: Span, other: Span) -> bool
 
 /// Whether each of the two regions of `one`, the data with guard zones, lies apart from each of
 /// `other`.
-fn are_told_apart(one: &SfiPart, other: &SfiPart) -> bool
+fn are_parts_apart(one: &SfiPart, other: &SfiPart) -> bool
     ensures { IsTrue result ↔ AreToldApart one.now other.now }
 {
-    let code = told_code(one);
-    let guarded = told_guarded(one);
-    let other_code = told_code(other);
-    let other_guarded = told_guarded(other);
+    let code = code_span_of(one);
+    let guarded = guarded_data_span_of(one);
+    let other_code = code_span_of(other);
+    let other_guarded = guarded_data_span_of(other);
     if !are_apart(code, other_code) {
         return false;
     }
@@ -77,5 +77,5 @@ pub extern "C" fn sfi_c_apart(one: &SfiPart, other: &SfiPart) -> bool
         → Tells bytes h.parts number p one.now → Tells others g.parts further q other.now
         → IsTrue result ↔ AreBeside (p ∷ []) (q ∷ []) }
 {
-    are_told_apart(one, other)
+    are_parts_apart(one, other)
 }

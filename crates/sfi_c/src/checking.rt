@@ -38,12 +38,12 @@ pub extern "C" fn sfi_c_check(image: &[u8], verdict: &mut SfiVerdict) -> u32
         elements: &mut [],
         written: 0,
     };
-    *verdict = SfiVerdict::of(check_into(image, &mut none));
+    *verdict = SfiVerdict::from_answer(check_into(image, &mut none));
     verdict.status
 }
 
 /// Writes the image's findings to `sink`, in which nothing is written yet.
-fn fill(image: &[u8], sink: &mut Array<'_>)
+fn fill_with_findings(image: &[u8], sink: &mut Array<'_>)
     requires { sink.old.written ≡ 0 }
     ensures same_array { sink.new.elements.ghost_name ≡ sink.old.elements.ghost_name }
     ensures listed { (found : List Finding) → HasFindings image.now found
@@ -61,7 +61,7 @@ fn list_findings(image: &[u8], array: &mut [SfiFinding])
         elements: array,
         written: 0,
     };
-    fill(image, &mut sink);
+    fill_with_findings(image, &mut sink);
 }
 
 /// Writes the verdict on the bytes to `verdict`, and returns its status. Where the bytes are

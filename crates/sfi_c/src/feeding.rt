@@ -10,7 +10,7 @@ ghost use Rattle.sfi_check.specs.ForC.{number_of, acceptance, refusal, no_image,
 ghost use Rattle.sfi_c.specs.Streams.{IsStreamOf};
 ghost use Rattle.sfi_c.specs.Streams.{AreRefusedAlready};
 
-use crate::stage::fault_of;
+use crate::numbers::fault_numbered;
 use crate::stream::{SfiStream, feed_of, kept};
 use sfi_check::{Feed, SfiVerdict, Status};
 
@@ -61,7 +61,7 @@ pub extern "C" fn sfi_c_end(stream: &SfiStream, verdict: &mut SfiVerdict) -> u32
     ensures only_layout { (bytes : List ℕ) → IsStreamOf stream.now bytes
         → (k : LayoutFault) → IsFault bytes k → verdict.new ≡ no_image (fault_number k) }
 {
-    *verdict = SfiVerdict::of(feed_of(stream).answer());
+    *verdict = SfiVerdict::from_answer(feed_of(stream).answer());
     verdict.status
 }
 
@@ -76,7 +76,7 @@ pub extern "C" fn sfi_c_refused(stream: &SfiStream) -> bool
     ensures never_accepted { (bytes more : List ℕ) → IsStreamOf stream.now bytes → IsTrue result
         → (ps : List Part) → IsAccepted (bytes ++ more) ps → ⊥ }
 {
-    if fault_of(stream.fault).is_some() {
+    if fault_numbered(stream.fault).is_some() {
         return true;
     }
     stream.findings > 0

@@ -14,7 +14,7 @@ pub(crate) fn write_findings(found: &BundleFindings, array: &mut [SfiFinding])
         let Some(finding) = found.at(i) else {
             unreachable!();
         };
-        array[i] = SfiFinding::of(finding);
+        array[i] = SfiFinding::from_finding(finding);
     }
 }
 

@@ -11,8 +11,8 @@ mod feeding;
 mod finding;
 mod looking;
 mod moving;
+mod numbers;
 mod part;
-mod stage;
 mod stream;
 mod version;
 
@@ -20,7 +20,7 @@ pub use apart::sfi_c_apart;
 pub use checking::{sfi_c_check, sfi_c_findings};
 pub use feeding::{sfi_c_begin, sfi_c_end, sfi_c_feed, sfi_c_refused};
 pub use looking::{Lookup, sfi_c_gate, sfi_c_gates, sfi_c_part};
-pub use moving::{Move, sfi_c_move};
+pub use moving::{MoveAnswer, sfi_c_move};
 pub use part::{SfiGate, SfiPart};
 pub use sfi_check::{SfiFinding, SfiVerdict, Status};
 pub use stream::SfiStream;

@@ -9,7 +9,7 @@ ghost use Rattle.sfi_image.specs.Faults.{IsFault};
 ghost use Rattle.sfi_image.specs.Keeping.{sandbox_offset, IsSandboxOf, IsBeyond};
 ghost use Rattle.sfi_c.specs.Parts.{lookup_number, IsPartOf, IsGateOf, IsBeyondGates, AreGatesOf};
 
-use crate::part::{SfiGate, SfiPart, gate_told, part_told, write_gates};
+use crate::part::{SfiGate, SfiPart, copy_gates, gate_for_c, part_for_c};
 use sfi_image::{Gate, LayoutFault, PartView, sandbox_of};
 
 /// What is said of a sandbox or a gate that was asked for.
@@ -47,7 +47,7 @@ impl From<LayoutFault> for Lookup {
 }
 
 /// What is said: that it was found, or why not.
-pub(crate) fn said_by<T>(sought: &Result<T, Lookup>) -> Lookup
+pub(crate) fn lookup_of<T>(sought: &Result<T, Lookup>) -> Lookup
     ensures { result ≡ said_by sought.now }
 {
     match sought {
@@ -57,7 +57,7 @@ pub(crate) fn said_by<T>(sought: &Result<T, Lookup>) -> Lookup
 }
 
 /// Sandbox `number`, and where it ends, counted from the image's first byte.
-fn look_up<'a>(image: &'a [u8], number: u32) -> Result<(PartView<'a>, usize), Lookup>
+fn find_sandbox<'a>(image: &'a [u8], number: u32) -> Result<(PartView<'a>, usize), Lookup>
     ensures found { IfOk result (λ f. (p : Part) × (h : IsSandboxOf image.entry.now number p)
         × IsViewOf f.0 p × (f.1 ≡ sandbox_offset h.parts number + length (part p))) }
     ensures said { IsSaid (HasPart image.entry.now number) (IsBeyond image.entry.now number)
@@ -78,7 +78,7 @@ fn look_up_gate(image: &[u8], number: u32, index: u32) -> Result<Gate, Lookup>
         (HasFault image.now) (said_by result) }
     ensures missing { IfErr result (λ l. l ≢ Lookup.Found) }
 {
-    let (view, _) = look_up(image, number)?;
+    let (view, _) = find_sandbox(image, number)?;
     match view.gate(index) {
         Some(gate) => Ok(gate),
         None => Err(Lookup::Beyond),
@@ -105,10 +105,10 @@ pub extern "C" fn sfi_c_part(image: &[u8], number: u32, part: &mut SfiPart) -> u
     ensures only_layout { (k : LayoutFault) → IsFault image.now k
         → result ≡ lookup_number Lookup.NoImage }
 {
-    let sought = look_up(image, number);
-    let lookup = said_by(&sought);
+    let sought = find_sandbox(image, number);
+    let lookup = lookup_of(&sought);
     if let Ok((view, end)) = sought {
-        *part = part_told(&view, end);
+        *part = part_for_c(&view, end);
     }
     lookup.number()
 }
@@ -135,9 +135,9 @@ pub extern "C" fn sfi_c_gate(image: &[u8], number: u32, index: u32, gate: &mut S
         → result ≡ lookup_number Lookup.NoImage }
 {
     let sought = look_up_gate(image, number, index);
-    let lookup = said_by(&sought);
+    let lookup = lookup_of(&sought);
     if let Ok(found) = sought {
-        *gate = gate_told(found);
+        *gate = gate_for_c(found);
     }
     lookup.number()
 }
@@ -165,10 +165,10 @@ pub extern "C" fn sfi_c_gates(image: &[u8], number: u32, array: &mut [SfiGate]) 
     ensures only_layout { (k : LayoutFault) → IsFault image.now k
         → result ≡ lookup_number Lookup.NoImage }
 {
-    let sought = look_up(image, number);
-    let lookup = said_by(&sought);
+    let sought = find_sandbox(image, number);
+    let lookup = lookup_of(&sought);
     if let Ok((view, _)) = sought {
-        write_gates(&view, array);
+        copy_gates(&view, array);
     }
     lookup.number()
 }

@@ -15,7 +15,7 @@ use sfi_places::{MoveFault, move_sandbox};
 
 /// What is said of a sandbox that was to be moved.
 #[derive(Clone, Copy, PartialEq, Eq, Debug)]
-pub enum Move {
+pub enum MoveAnswer {
     /// The sandbox lies at the place.
     Moved,
     /// The image has fewer sandboxes.
@@ -26,7 +26,7 @@ pub enum Move {
     NoPlace,
 }
 
-impl Move {
+impl MoveAnswer {
     ghost use Rattle.sfi_c.specs.Moves.{move_number};
 
     /// The number by which C knows it, 0 to 3.
@@ -34,55 +34,55 @@ impl Move {
         ensures { result ≡ move_number self }
     {
         match self {
-            Move::Moved => 0,
-            Move::Beyond => 1,
-            Move::NoImage => 2,
-            Move::NoPlace => 3,
+            MoveAnswer::Moved => 0,
+            MoveAnswer::Beyond => 1,
+            MoveAnswer::NoImage => 2,
+            MoveAnswer::NoPlace => 3,
         }
     }
 }
 
 /// What C gets for the answer of `move_sandbox`.
-fn move_said_of(answer: Result<(), MoveFault>) -> Move
+fn move_answer_of(answer: Result<(), MoveFault>) -> MoveAnswer
     ensures { result ≡ move_said_of answer }
 {
     match answer {
-        Ok(()) => Move::Moved,
-        Err(MoveFault::NoSandbox) => Move::Beyond,
-        Err(MoveFault::NoImage(_)) => Move::NoImage,
-        Err(MoveFault::NoPlace) => Move::NoPlace,
+        Ok(()) => MoveAnswer::Moved,
+        Err(MoveFault::NoSandbox) => MoveAnswer::Beyond,
+        Err(MoveFault::NoImage(_)) => MoveAnswer::NoImage,
+        Err(MoveFault::NoPlace) => MoveAnswer::NoPlace,
     }
 }
 
 /// Moves the image's sandbox `number`, counted from 0, so that its code and its data begin at
-/// these addresses, and returns the number of a [`Move`]. Of the bytes only its bases, its start
+/// these addresses, and returns the number of a [`MoveAnswer`]. Of the bytes only its bases, its start
 /// and its gates' addresses change. It takes no memory.
 #[unsafe(no_mangle)]
 pub extern "C" fn sfi_c_move(image: &mut [u8], number: u32, code_base: u32, data_base: u32) -> u32
     ensures known { result ≤ 3 }
 
     // What each status means.
-    ensures moved { result ≡ move_number Move.Moved
+    ensures moved { result ≡ move_number MoveAnswer.Moved
         → IsMoved image.old number (to_place code_base data_base) image.new }
-    ensures beyond { result ≡ move_number Move.Beyond → IsBeyond image.old number }
-    ensures layout { result ≡ move_number Move.NoImage
+    ensures beyond { result ≡ move_number MoveAnswer.Beyond → IsBeyond image.old number }
+    ensures layout { result ≡ move_number MoveAnswer.NoImage
         → (k : LayoutFault) × IsFault image.old k }
-    ensures place { result ≡ move_number Move.NoPlace
+    ensures place { result ≡ move_number MoveAnswer.NoPlace
         → IsWrongPlace image.old number (to_place code_base data_base) }
-    ensures unmoved { result ≢ move_number Move.Moved → image.new ≡ image.old }
+    ensures unmoved { result ≢ move_number MoveAnswer.Moved → image.new ≡ image.old }
 
     // Which bytes get each status.
     ensures only_moved { (now : List ℕ)
         → IsMoved image.old number (to_place code_base data_base) now
-        → result ≡ move_number Move.Moved }
-    ensures only_beyond { IsBeyond image.old number → result ≡ move_number Move.Beyond }
+        → result ≡ move_number MoveAnswer.Moved }
+    ensures only_beyond { IsBeyond image.old number → result ≡ move_number MoveAnswer.Beyond }
     ensures only_layout { (k : LayoutFault) → IsFault image.old k
-        → result ≡ move_number Move.NoImage }
+        → result ≡ move_number MoveAnswer.NoImage }
     ensures only_place { IsWrongPlace image.old number (to_place code_base data_base)
-        → result ≡ move_number Move.NoPlace }
+        → result ≡ move_number MoveAnswer.NoPlace }
 
     // The verdict on the bytes doesn't change.
-    ensures accepted { result ≡ move_number Move.Moved → (ps : List Part) → IsImage image.old ps
+    ensures accepted { result ≡ move_number MoveAnswer.Moved → (ps : List Part) → IsImage image.old ps
         → IsAccepted image.old ps
         ↔ IsAccepted image.new (moved_one number (to_place code_base data_base) ps) }
 {
@@ -90,5 +90,5 @@ pub extern "C" fn sfi_c_move(image: &mut [u8], number: u32, code_base: u32, data
         code_base,
         data_base,
     };
-    move_said_of(move_sandbox(image, number, to)).number()
+    move_answer_of(move_sandbox(image, number, to)).number()
 }

@@ -4,7 +4,7 @@ ghost use Rattle.sfi_image.specs.Spelling.{Part, part};
 ghost use Rattle.sfi_image.specs.Keeping.{IsViewOf};
 ghost use Rattle.sfi_c.specs.Parts.{told_at, told_gate, with_gates};
 
-use crate::stage::format_number;
+use crate::numbers::format_number;
 use sfi_image::{Gate, PartView};
 
 /// A sandbox of an image: `struct sfi_part`.
@@ -47,7 +47,7 @@ pub struct SfiGate {
 }
 
 /// A sandbox as C gets it. `end` is where its bytes end, counted from the image's first.
-pub(crate) fn part_told(view: &PartView<'_>, end: usize) -> SfiPart
+pub(crate) fn part_for_c(view: &PartView<'_>, end: usize) -> SfiPart
     requires { (p : Part) × (offset : ℕ) × IsViewOf view.now p × (end ≡ offset + length (part p)) }
     ensures { (p : Part) (offset : ℕ) → IsViewOf view.now p → end ≡ offset + length (part p)
         → result ≡ told_at p offset }
@@ -69,7 +69,7 @@ pub(crate) fn part_told(view: &PartView<'_>, end: usize) -> SfiPart
 }
 
 /// A gate as C gets it.
-pub(crate) fn gate_told(gate: Gate) -> SfiGate
+pub(crate) fn gate_for_c(gate: Gate) -> SfiGate
     ensures { result ≡ told_gate gate }
 {
     SfiGate {
@@ -79,14 +79,14 @@ pub(crate) fn gate_told(gate: Gate) -> SfiGate
 }
 
 /// Writes the gates of the sandbox to the front of the array, as many as it has room for.
-pub(crate) fn write_gates(view: &PartView<'_>, array: &mut [SfiGate])
+pub(crate) fn copy_gates(view: &PartView<'_>, array: &mut [SfiGate])
     requires { (p : Part) × IsViewOf view.now p }
     ensures { (p : Part) → IsViewOf view.now p → array.new ≡ with_gates p.gates array.old }
 {
     let count = (view.fields.gate_count as usize).min(array.len());
     for i in 0..count {
         match view.gate(i as u32) {
-            Some(gate) => array[i] = gate_told(gate),
+            Some(gate) => array[i] = gate_for_c(gate),
             None => unreachable!(),
         }
     }

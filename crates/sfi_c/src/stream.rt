@@ -2,12 +2,12 @@
 ghost use Rattle.std.specs.Prelude.{◌≡◌};
 ghost use Rattle.sfi_c.specs.Streams.{fields_of, reader_of, tally_of, feed_of};
 
-use crate::stage::{
-    fault_number, fault_of, first_finding, first_told, format_number, format_of, owed_number,
-    owed_of, stage_number, stage_of,
+use crate::numbers::{
+    fault_number, fault_numbered, first_finding_for_c, first_finding_from_c, format_number,
+    format_numbered, owed_number, owed_numbered, stage_number, stage_numbered,
 };
 use sfi_check::{Feed, SfiFinding, Tally};
-use sfi_image::{Fields, KeptGates, KeptSpans, LayoutReader, Span};
+use sfi_image::{Fields, GateArray, LayoutReader, Span, SpanArray};
 use std::mem::size_of;
 
 /// What is known of the bytes of an image so far: `struct sfi_stream`, in which C sees no field.
@@ -77,7 +77,7 @@ fn fields_of(stream: &SfiStream) -> Fields
     ensures { result ≡ fields_of stream.now }
 {
     Fields {
-        format: format_of(stream.format),
+        format: format_numbered(stream.format),
         code_base: stream.code_base,
         code_size: stream.code_size,
         data_base: stream.data_base,
@@ -93,12 +93,12 @@ fn reader_of(stream: &SfiStream) -> LayoutReader
     ensures { result ≡ reader_of stream.now }
 {
     LayoutReader {
-        next: stage_of(stream.next),
+        next: stage_numbered(stream.next),
         count: stream.count,
         begun: stream.begun,
-        spans: KeptSpans::of(stream.spans, stream.span_count as usize),
+        spans: SpanArray::from_array(stream.spans, stream.span_count as usize),
         fields: fields_of(stream),
-        gates: KeptGates::of(stream.gates, stream.gate_count as usize),
+        gates: GateArray::from_array(stream.gates, stream.gate_count as usize),
         passed: stream.passed as usize,
         code_read: stream.code_read,
         init_read: stream.init_read,
@@ -113,8 +113,8 @@ fn tally_of(stream: &SfiStream) -> Tally
         sandboxes: stream.sandboxes,
         bundles: stream.bundles,
         count: stream.findings,
-        first: first_finding(stream.first),
-        owed: owed_of(stream.owed),
+        first: first_finding_from_c(stream.first),
+        owed: owed_numbered(stream.owed),
     }
 }
 
@@ -127,7 +127,7 @@ pub(crate) fn feed_of(stream: &SfiStream) -> Feed
         tally: tally_of(stream),
         held: stream.held,
         count: stream.held_count as usize,
-        fault: fault_of(stream.fault),
+        fault: fault_numbered(stream.fault),
     }
 }
 
@@ -161,7 +161,7 @@ pub(crate) fn kept(feed: &Feed) -> SfiStream
         sandboxes: feed.tally.sandboxes,
         bundles: feed.tally.bundles,
         findings: feed.tally.count,
-        first: first_told(feed.tally.first),
+        first: first_finding_for_c(feed.tally.first),
         owed: owed_number(feed.tally.owed),
         fault: fault_number(feed.fault),
     }

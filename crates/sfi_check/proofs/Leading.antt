@@ -4,8 +4,8 @@ use Rattle.sfi_image.specs.Parts.{IsFirstFault, field_tests}
 use Rattle.sfi_image.specs.declared.span.Span.{Span}
 use Rattle.sfi_image.specs.declared.want.Want.{Want}
 use Rattle.sfi_image.specs.declared.want.Want.TheVariants as wants
-use Rattle.sfi_check.specs.declared.ends.StepEnd.{StepEnd}
-use Rattle.sfi_check.specs.declared.ends.StepEnd.TheVariants as ends
+use Rattle.sfi_check.specs.declared.ends.FeedEnd.{FeedEnd}
+use Rattle.sfi_check.specs.declared.ends.FeedEnd.TheVariants as ends
 use Rattle.sfi_check.specs.private.{IsTakenOff, Steps}
 use Rattle.sfi_check.proofs.Tallying.{fault_onwards}
 use Rattle.sfi_image.proofs.Facts.{whole_bundles}
@@ -82,7 +82,7 @@ step_fault old t so_far s rest len k e wrong h =
     (fault_onwards so_far s rest (drop len rest) k (sym (take-append-drop len rest) ∙ ap (λ (l : List ℕ). l ++ drop len rest) (sym e)) here, (h.tallies.found, h.tallies.found_holds))
 
 -- or leads on, where it is no code
-pub step_taken : {T : List Finding → Type 0} (old new : LayoutReader) (t : Tally) (so_far rest : List ℕ) (len : ℕ) (end : StepEnd) → 1 ≤ len → len ≤ length rest → IsTakenOff old new (take len rest) end
+pub step_taken : {T : List Finding → Type 0} (old new : LayoutReader) (t : Tally) (so_far rest : List ℕ) (len : ℕ) (end : FeedEnd) → 1 ≤ len → len ≤ length rest → IsTakenOff old new (take len rest) end
     → ((x y : ImagePrefix) → StandsFor old x → Follows x (take len rest) y → Tallies T t x → Tallies T t y) → IsSoFar T old t so_far → Steps T old new t so_far rest end
 step_taken {T = T} old new t so_far rest len (ends.Took n) some room off tallies h =
     let same : n ≡ len = omega (arith, off.0, length-take len rest) in

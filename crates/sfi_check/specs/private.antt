@@ -27,8 +27,8 @@ use Rattle.sfi_image.specs.declared.want.Stage.TheVariants as stage
 use Rattle.sfi_image.specs.Prefixes.{ImagePrefix, prefix_bytes, HasFaultWhateverFollows}
 use Rattle.sfi_image.specs.declared.layout_reader.LayoutReader.{LayoutReader}
 use Rattle.sfi_check.specs.declared.stream_answer.StreamAnswer.TheVariants as answers
-use Rattle.sfi_check.specs.declared.ends.StepEnd.{StepEnd}
-use Rattle.sfi_check.specs.declared.ends.StepEnd.TheVariants as steps
+use Rattle.sfi_check.specs.declared.ends.FeedEnd.{FeedEnd}
+use Rattle.sfi_check.specs.declared.ends.FeedEnd.TheVariants as steps
 use Rattle.sfi_check.specs.declared.ends.PieceEnd.{PieceEnd}
 use Rattle.sfi_check.specs.declared.ends.PieceEnd.TheVariants as ways
 
@@ -144,7 +144,7 @@ abbrev pub HoldsOfSome : (List Finding → Type 0) → Type 0
 HoldsOfSome holds = (found : List Finding) × holds found
 
 -- the reader took these bytes, or they have a fault with all before them
-abbrev pub IsTakenOff : LayoutReader → LayoutReader → List ℕ → StepEnd → Type 0
+abbrev pub IsTakenOff : LayoutReader → LayoutReader → List ℕ → FeedEnd → Type 0
 IsTakenOff old new bytes (steps.Took n) =
     (n ≡ length bytes) × ((x : ImagePrefix) → StandsFor old x → Leads x bytes new) × (left new < left old)
 IsTakenOff old new bytes (steps.Fault k) =
@@ -154,7 +154,7 @@ IsTakenOff old new bytes steps.Whole = ⊥
 
 -- one step on the bytes that follow those so far
 abbrev pub Steps : (List Finding → Type 0) → LayoutReader → LayoutReader → Tally → List ℕ → List ℕ
-    → StepEnd → Type 0
+    → FeedEnd → Type 0
 Steps holds old new t so_far rest (steps.Took n) =
     (1 ≤ n) × (n ≤ length rest) × IsSoFar holds new t (so_far ++ take n rest) × (left new < left old)
 Steps holds old new t so_far rest steps.Short =

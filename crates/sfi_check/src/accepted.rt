@@ -51,7 +51,7 @@ impl<'a> Accepted<'a> {
     }
 
     /// How many sandboxes the image has, one at least.
-    pub fn sandboxes(&self) -> usize
+    pub fn sandbox_count(&self) -> usize
         ensures count { result ≡ length self.now }
         ensures clean { IsClean self.now }
         ensures safe { AllRunSafely self.now }
@@ -60,7 +60,7 @@ impl<'a> Accepted<'a> {
     }
 
     /// How many bundles the code regions have together.
-    pub fn bundles(&self) -> usize
+    pub fn bundle_count(&self) -> usize
         ensures count { result ≡ bundle_count self.now }
         ensures clean { IsClean self.now }
         ensures safe { AllRunSafely self.now }

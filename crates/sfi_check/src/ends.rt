@@ -4,7 +4,7 @@ use sfi_image::LayoutFault;
 
 /// How one step ends.
 #[derive(Clone, Copy)]
-pub(crate) enum StepEnd {
+pub(crate) enum FeedEnd {
     /// It took this number of bytes.
     Took(usize),
     /// More bytes are wanted than there are.

@@ -60,7 +60,7 @@ impl Feed {
         }
     }
 
-    // Keeps the bytes that are left of a piece in `held`.
+    /// Keeps the bytes that are left of a piece in `held`.
     fn hold(&mut self, bytes: &[u8])
         requires { length bytes.now < 28 }
         ensures reader { self.new.reader ≡ self.old.reader }
@@ -74,7 +74,7 @@ impl Feed {
         self.count = bytes.len();
     }
 
-    // Takes a piece that begins with the held bytes.
+    /// Takes a piece that begins with the held bytes.
     fn take_all<F: FindingSink, const BLOCKS: bool>(&mut self, bytes: &[u8], sink: &mut F)
         requires fault { self.old.fault ≡ None }
         requires long { length self.old.held ≡ 64 }
@@ -98,7 +98,7 @@ impl Feed {
         }
     }
 
-    // How many bytes what comes next has, which begins with the held bytes; or how many may be held.
+    /// How many bytes what comes next has, which begins with the held bytes; or how many may be held.
     fn wanted(&self) -> usize
         requires front { (x : ImagePrefix) × StandsFor self.now.reader x }
         requires cut { IsCut self.now.reader self.now.count }
@@ -112,8 +112,8 @@ impl Feed {
         }
     }
 
-    // Takes bytes from the front of `bytes`, and says how many: where some are held, as many as
-    // make what comes next whole with these, and else all.
+    /// Takes bytes from the front of `bytes`, and says how many: where some are held, as many as
+    /// make what comes next whole with these, and else all.
     fn top_up<F: FindingSink, const BLOCKS: bool>(&mut self, bytes: &[u8], sink: &mut F) -> usize
         requires some { 0 < length bytes.now }
         requires fed { (first : F) × (before : List ℕ)
@@ -139,7 +139,7 @@ impl Feed {
         more
     }
 
-    // Takes the bytes that come next, and hands the findings in them to the sink.
+    /// Takes the bytes that come next, and hands the findings in them to the sink.
     pub(crate) fn feed_into<F: FindingSink, const BLOCKS: bool>(
         &mut self,
         bytes: &[u8],

@@ -50,7 +50,7 @@ impl SfiFinding {
     ghost use Rattle.sfi_check.specs.ForC.{finding_for_c, no_finding};
 
     /// The finding for C.
-    pub fn of(finding: Finding) -> SfiFinding
+    pub fn from_finding(finding: Finding) -> SfiFinding
         ensures { result ≡ finding_for_c finding }
     {
         SfiFinding {
@@ -90,7 +90,7 @@ pub struct SfiVerdict {
     pub first: SfiFinding,
 }
 
-// The verdict on an accepted image with these numbers of sandboxes and bundles.
+/// The verdict on an accepted image with these numbers of sandboxes and bundles.
 fn acceptance(sandboxes: u32, bundles: u32) -> SfiVerdict
     ensures { result ≡ acceptance sandboxes bundles }
 {
@@ -104,19 +104,19 @@ fn acceptance(sandboxes: u32, bundles: u32) -> SfiVerdict
     }
 }
 
-// The verdict on an image with this number of findings and this first one.
+/// The verdict on an image with this number of findings and this first one.
 fn refusal(findings: u32, first: Finding) -> SfiVerdict
     ensures { result ≡ refusal findings first }
 {
     SfiVerdict {
         status: Status::Refused.number(),
         findings,
-        first: SfiFinding::of(first),
+        first: SfiFinding::from_finding(first),
         ..acceptance(0, 0)
     }
 }
 
-// The verdict on bytes that are no image, by the number of the layout's fault.
+/// The verdict on bytes that are no image, by the number of the layout's fault.
 fn no_image(layout_fault: u32) -> SfiVerdict
     ensures { result ≡ no_image layout_fault }
 {
@@ -127,7 +127,7 @@ fn no_image(layout_fault: u32) -> SfiVerdict
     }
 }
 
-// The verdict that says what `answer` says.
+/// The verdict that says what `answer` says.
 fn verdict_for_c(answer: StreamAnswer) -> SfiVerdict
     requires { answer ≢ StreamAnswer.ReadFault }
     ensures { result ≡ verdict_for_c answer }
@@ -142,7 +142,7 @@ fn verdict_for_c(answer: StreamAnswer) -> SfiVerdict
 
 impl SfiVerdict {
     /// The verdict by the answer on an image's bytes, all of which were read.
-    pub fn of(answer: StreamAnswer) -> SfiVerdict
+    pub fn from_answer(answer: StreamAnswer) -> SfiVerdict
         requires { answer ≢ StreamAnswer.ReadFault }
         ensures { (bytes : List ℕ) → IsVerdictOn bytes true answer → IsVerdictForC bytes result }
     {

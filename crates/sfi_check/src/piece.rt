@@ -5,7 +5,7 @@ ghost use Rattle.sfi_image.specs.Keeping.{StandsFor};
 ghost use Rattle.sfi_check.specs.Feeds.{IsSoFar};
 ghost use Rattle.sfi_check.specs.private.{IsTakenOff, Steps, Goes, verdict_of};
 
-use crate::ends::{PieceEnd, StepEnd};
+use crate::ends::{FeedEnd, PieceEnd};
 use crate::sink::scan_counted;
 use crate::stream_answer::StreamAnswer;
 use crate::tally::Tally;
@@ -15,26 +15,26 @@ use sfi_scan::{BundlePlace, FindingSink};
 
 /// Hands these bytes to the reader.
 #[inline(always)]
-fn take_bytes(reader: &mut LayoutReader, bytes: &[u8]) -> StepEnd
+fn take_bytes(reader: &mut LayoutReader, bytes: &[u8]) -> FeedEnd
     requires { (x : ImagePrefix) × StandsFor reader.old x × IsLengthOf (length bytes.now) (want_of x) }
     ensures { IsTakenOff reader.old reader.new bytes.now result }
 {
     match reader.take(bytes) {
-        Some(fault) => StepEnd::Fault(fault),
-        None => StepEnd::Took(bytes.len()),
+        Some(fault) => FeedEnd::Fault(fault),
+        None => FeedEnd::Took(bytes.len()),
     }
 }
 
 /// Hands the bundles that come next to the reader, as many as there are before the next gate, and
 /// scans them.
 #[inline(always)]
-fn take_code<F: FindingSink, const BLOCKS: bool>(
+fn feed_code<F: FindingSink, const BLOCKS: bool>(
     reader: &mut LayoutReader,
     tally: &mut Tally,
     sink: &mut F,
     place: &BundlePlace,
     rest: &[u8],
-) -> StepEnd
+) -> FeedEnd
     requires so_far { (first : F) × (so_far : List ℕ)
         × IsSoFar (λ found. F.takes first found sink.old) reader.old tally.old so_far }
     requires next { (x : ImagePrefix) → StandsFor reader.old x → Want.Bundle place.now ≡ want_of x }
@@ -47,26 +47,26 @@ fn take_code<F: FindingSink, const BLOCKS: bool>(
         .stretch_length()
         .min(rest.len() - rest.len() % BUNDLE_BYTES);
     if len == 0 {
-        return StepEnd::Short;
+        return FeedEnd::Short;
     }
     let code = &rest[..len];
     if let Some(fault) = reader.take(code) {
-        return StepEnd::Fault(fault);
+        return FeedEnd::Fault(fault);
     }
     let owed = tally.owed_at(place);
     tally.add_bundles(place.sandbox, (len / BUNDLE_BYTES) as u32);
     tally.owed = scan_counted::<F, BLOCKS>(place, code, owed, tally, sink);
-    StepEnd::Took(len)
+    FeedEnd::Took(len)
 }
 
 /// Hands what comes next to the reader, if its bytes are there, and scans it if it is code.
 #[inline(always)]
-fn step<F: FindingSink, const BLOCKS: bool>(
+fn feed_next<F: FindingSink, const BLOCKS: bool>(
     reader: &mut LayoutReader,
     tally: &mut Tally,
     sink: &mut F,
     rest: &[u8],
-) -> StepEnd
+) -> FeedEnd
     requires { (first : F) × (so_far : List ℕ)
         × IsSoFar (λ found. F.takes first found sink.old) reader.old tally.old so_far }
     ensures { (first : F) (so_far : List ℕ)
@@ -77,18 +77,18 @@ fn step<F: FindingSink, const BLOCKS: bool>(
     match reader.wants() {
         Want::Field(len) => {
             if rest.len() < len {
-                return StepEnd::Short;
+                return FeedEnd::Short;
             }
             take_bytes(reader, &rest[..len])
         }
-        Want::Bundle(place) => take_code::<F, BLOCKS>(reader, tally, sink, &place, rest),
+        Want::Bundle(place) => feed_code::<F, BLOCKS>(reader, tally, sink, &place, rest),
         Want::Init(most) => {
             if rest.is_empty() {
-                return StepEnd::Short;
+                return FeedEnd::Short;
             }
             take_bytes(reader, &rest[..rest.len().min(most)])
         }
-        Want::End => StepEnd::Whole,
+        Want::End => FeedEnd::Whole,
         Want::Nothing => unreachable!(),
     }
 }
@@ -109,11 +109,11 @@ pub(crate) fn take_piece<F: FindingSink, const BLOCKS: bool>(
 {
     let mut at = 0;
     loop {
-        match step::<F, BLOCKS>(reader, tally, sink, &piece[at..]) {
-            StepEnd::Took(len) => at += len,
-            StepEnd::Short => return PieceEnd::More(at),
-            StepEnd::Whole => return PieceEnd::Whole(at),
-            StepEnd::Fault(fault) => return PieceEnd::Fault(fault),
+        match feed_next::<F, BLOCKS>(reader, tally, sink, &piece[at..]) {
+            FeedEnd::Took(len) => at += len,
+            FeedEnd::Short => return PieceEnd::More(at),
+            FeedEnd::Whole => return PieceEnd::Whole(at),
+            FeedEnd::Fault(fault) => return PieceEnd::Fault(fault),
         }
     }
 }

@@ -14,7 +14,7 @@ use sfi_scan::{FindingSink, IN_BLOCKS};
 const PIECE: usize = 4096;
 
 /// Reads bytes to the front of the piece, `most` of them at most.
-fn read_front<S: ByteSource>(
+fn read_next_bytes<S: ByteSource>(
     source: &mut S,
     piece: &mut [u8; PIECE],
     most: usize,
@@ -49,7 +49,7 @@ pub fn check_stream_into<S: ByteSource, F: FindingSink>(
         }
         // With the held bytes that is a whole piece, so few bundles lie across the end of one.
         let most = PIECE - feed.count;
-        match read_front(source, &mut piece, most) {
+        match read_next_bytes(source, &mut piece, most) {
             Ok(0) => return feed.answer(),
             Ok(count) => feed.feed_into::<F, IN_BLOCKS>(&piece[..count], sink),
             Err(_) => return StreamAnswer::ReadFault,

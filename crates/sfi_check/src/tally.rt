@@ -22,7 +22,7 @@ pub struct Tally {
 }
 
 /// The first finding of all: `first`, or where there was none, the first of `found`.
-fn first_of(first: Option<Finding>, found: &BundleFindings) -> Option<Finding>
+fn earliest_finding(first: Option<Finding>, found: &BundleFindings) -> Option<Finding>
     ensures { (before : List Finding) → first ≡ slice_get before 0
         → result ≡ slice_get (before ++ found.now) 0 }
 {
@@ -67,7 +67,7 @@ impl Tally {
         let count = found.count() as u32;
         if count > 0 {
             self.count = self.count.wrapping_add(count);
-            self.first = first_of(self.first, found);
+            self.first = earliest_finding(self.first, found);
         }
     }
 }

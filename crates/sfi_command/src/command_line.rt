@@ -10,7 +10,7 @@ ghost use Rattle.sfi_command.specs.Command.{build, check, convert, count_rule, d
 ghost use Rattle.sfi_command.specs.Command.{SpellPlaces};
 ghost use Rattle.sfi_command.specs.private.{IsCommandOf, IsFaultOfNamed, IsInputFault, ArePlacesFault, IsPlaceFault};
 
-use crate::commands::{QUANTUM_MOST, ROUNDS_MOST, SANDBOX_MOST, program};
+use crate::commands::{QUANTUM_MOST, ROUNDS_MOST, SANDBOX_MOST, sfi_program};
 use crate::escaped::escaped;
 use crate::job::{Job, JobFault, usage_fault};
 use crate::places::{parse_places, place_that};
@@ -26,7 +26,7 @@ error: '--raw' and '--report' cannot be used together
 For more information, try '--help'.
 ";
 
-// The error's text, which may cite a word as it was given.
+/// The error's text, which may cite a word as it was given.
 fn shown(alloc: Global, error: &Error) -> Result<String, AllocError> {
     let text = error.to_string(alloc)?;
     escaped(alloc, text.as_str())
@@ -106,7 +106,7 @@ fn input_of(alloc: Global, found: &ArgMatches<'_>) -> Result<Vec<u8>, JobFault>
 }
 
 /// The places that the uses of `--at` spell, in their order.
-fn places_of(alloc: Global, found: &ArgMatches<'_>) -> Result<Vec<Place>, JobFault>
+fn asked_places(alloc: Global, found: &ArgMatches<'_>) -> Result<Vec<Place>, JobFault>
     ensures places { IfOk result (λ places.
         SpellPlaces (texts_of (codes "at") (rows_of (found_of found.now))) places.items) }
     ensures fault { IfErr result
@@ -119,7 +119,7 @@ fn places_of(alloc: Global, found: &ArgMatches<'_>) -> Result<Vec<Place>, JobFau
 }
 
 /// The place that the option `--at` spells.
-fn place_of(alloc: Global, found: &ArgMatches<'_>) -> Result<Place, JobFault>
+fn asked_place(alloc: Global, found: &ArgMatches<'_>) -> Result<Place, JobFault>
     ensures place { IfOk result (IsPlaceOf (first_of (codes "at") (rows_of (found_of found.now)))) }
     ensures fault { IfErr result
         (IsPlaceFault (first_of (codes "at") (rows_of (found_of found.now)))) }
@@ -131,28 +131,28 @@ fn place_of(alloc: Global, found: &ArgMatches<'_>) -> Result<Place, JobFault>
 }
 
 /// The build that these options ask for.
-fn build_of(alloc: Global, found: &ArgMatches<'_>) -> Result<Job, JobFault>
+fn asked_build(alloc: Global, found: &ArgMatches<'_>) -> Result<Job, JobFault>
     ensures job { IfOk result (Names (Some (codes "build", rows_of (found_of found.now)))) }
     ensures fault { IfErr result
         (IsFaultOfNamed (Some (codes "build", rows_of (found_of found.now)))) }
 {
-    let places = places_of(alloc, found)?;
+    let places = asked_places(alloc, found)?;
     let raw = is_given(found, "raw");
     Ok(Job::Build { raw, places })
 }
 
 /// The map that these options ask for.
-fn map_of(alloc: Global, found: &ArgMatches<'_>) -> Result<Job, JobFault>
+fn asked_map(alloc: Global, found: &ArgMatches<'_>) -> Result<Job, JobFault>
     ensures job { IfOk result (Names (Some (codes "map", rows_of (found_of found.now)))) }
     ensures fault { IfErr result
         (IsFaultOfNamed (Some (codes "map", rows_of (found_of found.now)))) }
 {
-    let places = places_of(alloc, found)?;
+    let places = asked_places(alloc, found)?;
     Ok(Job::Map { places })
 }
 
 /// The run that these options ask for.
-fn run_of(alloc: Global, found: &ArgMatches<'_>) -> Result<Job, JobFault>
+fn asked_run(alloc: Global, found: &ArgMatches<'_>) -> Result<Job, JobFault>
     ensures job { IfOk result (Names (Some (codes "run", rows_of (found_of found.now)))) }
     ensures fault { IfErr result
         (IsFaultOfNamed (Some (codes "run", rows_of (found_of found.now)))) }
@@ -189,7 +189,7 @@ fn budget_of(found: &ArgMatches<'_>) -> Option<u64>
 }
 
 /// The run in a process that these options ask for.
-fn exec_of(alloc: Global, found: &ArgMatches<'_>) -> Result<Job, JobFault>
+fn asked_exec(alloc: Global, found: &ArgMatches<'_>) -> Result<Job, JobFault>
     ensures job { IfOk result (Names (Some (codes "exec", rows_of (found_of found.now)))) }
     ensures fault { IfErr result
         (IsFaultOfNamed (Some (codes "exec", rows_of (found_of found.now)))) }
@@ -206,7 +206,7 @@ fn exec_of(alloc: Global, found: &ArgMatches<'_>) -> Result<Job, JobFault>
 
 /// The check that these options ask for. A report wants the whole image,
 /// which a check of its own bytes doesn't keep.
-fn check_of(alloc: Global, found: &ArgMatches<'_>) -> Result<Job, JobFault>
+fn asked_check(alloc: Global, found: &ArgMatches<'_>) -> Result<Job, JobFault>
     ensures job { IfOk result (Names (Some (codes "check", rows_of (found_of found.now)))) }
     ensures fault { IfErr result
         (IsFaultOfNamed (Some (codes "check", rows_of (found_of found.now)))) }
@@ -220,12 +220,12 @@ fn check_of(alloc: Global, found: &ArgMatches<'_>) -> Result<Job, JobFault>
 }
 
 /// The move that these options ask for.
-fn move_of(alloc: Global, found: &ArgMatches<'_>) -> Result<Job, JobFault>
+fn asked_move(alloc: Global, found: &ArgMatches<'_>) -> Result<Job, JobFault>
     ensures job { IfOk result (Names (Some (codes "move", rows_of (found_of found.now)))) }
     ensures fault { IfErr result
         (IsFaultOfNamed (Some (codes "move", rows_of (found_of found.now)))) }
 {
-    let place = place_of(alloc, found)?;
+    let place = asked_place(alloc, found)?;
     let Some(sandbox) = count_of(found, "sandbox", 0, SANDBOX_MOST) else {
         return Err(no_command(alloc));
     };
@@ -243,16 +243,16 @@ fn job_named(alloc: Global, name: &str, found: &ArgMatches<'_>) -> Result<Job, J
     ensures fault { IfErr result (IsFaultOfNamed (Some (name.now, rows_of (found_of found.now)))) }
 {
     match name {
-        "check" => check_of(alloc, found),
+        "check" => asked_check(alloc, found),
         "dis" => Ok(Job::Dis),
-        "build" => build_of(alloc, found),
-        "map" => map_of(alloc, found),
-        "run" => run_of(alloc, found),
-        "exec" => exec_of(alloc, found),
+        "build" => asked_build(alloc, found),
+        "map" => asked_map(alloc, found),
+        "run" => asked_run(alloc, found),
+        "exec" => asked_exec(alloc, found),
         "convert" => Ok(Job::Convert {
             raw: is_given(found, "raw"),
         }),
-        "move" => move_of(alloc, found),
+        "move" => asked_move(alloc, found),
         "translate" => Ok(Job::Translate {
             whole: is_given(found, "whole"),
         }),
@@ -269,7 +269,7 @@ pub fn job_of(alloc: Global, words: &[String]) -> Result<Job, JobFault>
     ensures job { IfOk result (Asks (map string_bytes words.now)) }
     ensures fault { IfErr result (IsFaultOf (map string_bytes words.now)) }
 {
-    let program = program(alloc)?;
+    let program = sfi_program(alloc)?;
     let matches = match program.try_get_matches_from(words) {
         Ok(matches) => matches,
         Err(error) => return Err(usage(alloc, error)),

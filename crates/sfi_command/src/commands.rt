@@ -269,7 +269,7 @@ fn command_of<'a>(alloc: Global, row: &CommandRow<'a>) -> Result<Command<'a>, Al
 }
 
 /// The program without its subcommands.
-fn program_alone<'a>(alloc: Global) -> Command<'a>
+fn program_without_subcommands<'a>(alloc: Global) -> Command<'a>
     ensures { app_of result ≡ program }
 {
     command_named(alloc, "sfi", help::PROGRAM, help::PROGRAM_NOTES)
@@ -278,10 +278,10 @@ fn program_alone<'a>(alloc: Global) -> Command<'a>
 }
 
 /// The program with a subcommand for each row.
-fn program_with<'a>(alloc: Global, rows: &[CommandRow<'a>]) -> Result<Command<'a>, AllocError>
+fn program_of_rows<'a>(alloc: Global, rows: &[CommandRow<'a>]) -> Result<Command<'a>, AllocError>
     ensures { IfOk result (λ c. app_of c ≡ with_all program (map shape_of_row rows.now)) }
 {
-    let mut program = program_alone(alloc);
+    let mut program = program_without_subcommands(alloc);
     for row in rows {
         program = program.subcommand(command_of(alloc, row)?)?;
     }
@@ -292,7 +292,7 @@ fn program_with<'a>(alloc: Global, rows: &[CommandRow<'a>]) -> Result<Command<'a
 fn program_on_input<'a>(alloc: Global) -> Result<Command<'a>, AllocError>
     ensures { IfOk result (λ c. app_of c ≡ on_input) }
 {
-    program_with(alloc, COMMANDS)
+    program_of_rows(alloc, COMMANDS)
 }
 
 /// The subcommand that reads a file.
@@ -303,7 +303,7 @@ fn exec_command<'a>(alloc: Global) -> Result<Command<'a>, AllocError>
 }
 
 /// The program with its subcommands.
-pub(crate) fn program<'a>(alloc: Global) -> Result<Command<'a>, AllocError>
+pub(crate) fn sfi_program<'a>(alloc: Global) -> Result<Command<'a>, AllocError>
     ensures { IfOk result (λ c. app_of c ≡ sfi) }
 {
     program_on_input(alloc)?.subcommand(exec_command(alloc)?)

@@ -2,7 +2,7 @@
 
 use std::alloc::{AllocError, Global};
 
-// A control character would move a terminal's cursor, or change its colours.
+/// A control character would move a terminal's cursor, or change its colours.
 fn push_escape(out: &mut String, c: char) -> Result<(), AllocError> {
     out.push_str("\\u{")?;
     write!(out, "{:x}", c as u32)?;

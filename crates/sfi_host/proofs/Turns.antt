@@ -2,7 +2,7 @@
 use Rattle.std.proofs.Math.Nat.{min-le_left}
 use Rattle.sfi_host.proofs.Prelude.{◌≡◌, ◌≢◌, ℕ, zero, suc, ◌+◌, ◌^◌, ◌-◌, ◌≤◌, ⊎_elim, List, [], ◌∷◌, Option, Some, None, set, slice_get, refl, sym, ap, ◌∙◌, subst, arith, cases_eq, option_map, Outcome, State, Status, Ready, Stopped, Slot, state_of, one_more, Turn, Way, Exit, Answer, Host, Machine, Moved, moved, moved_if, slot_after_step, after_answer, call_of, status_after, StepResult, Continue, RunEnds, and_more, turned, Joined, joined, and_plan, turn_and, status_at}
 use Rattle.rv_step.specs.declared.outcome.Outcome.TheVariants as outcome
-use Rattle.sfi_host.specs.Waiting.{TurnsAreCounted, WaitsThroughTurns, PlansStopNone, silent}
+use Rattle.sfi_host.specs.Waiting.{TurnStepsAreBounded, WaitsThroughTurns, PlansStopNone, silent}
 use Rattle.sfi_host.proofs.OwnSteps.{get_set_same, get_set_other, set_itself}
 use Rattle.sfi_host.proofs.Plans.{joined_cons, joined_nil}
 use Rattle.sfi_host.proofs.SlotSteps.{calls_by}
@@ -85,8 +85,8 @@ module _ {S : Type 0} (machine : Machine) (host : Host S) (t : Turn) (slots : Li
       let m = turned machine host t.sandbox t.steps old s in
       ap (λ (j : Joined S). j.slots) (joined_cons machine host t [] slots s (Some old) at) ∙ one_set m.next m
 
-pub turns_are_counted : {S : Type 0} → TurnsAreCounted S
-turns_are_counted machine host t slots s old at =
+pub turn_steps_are_bounded : {S : Type 0} → TurnStepsAreBounded S
+turn_steps_are_bounded machine host t slots s old at =
     let new = (turned machine host t.sandbox t.steps old s).slot in
     let goes = turn_goes machine host t.sandbox t.steps old s in (
       new,

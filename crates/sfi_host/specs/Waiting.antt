@@ -119,8 +119,8 @@ WritesAreReplies =
 
 -- A turn adds to its sandbox's count of steps at most as many as it allows, and leaves a sandbox
 -- that has stopped as it is.
-abbrev pub TurnsAreCounted : Type 0 → Type 0
-TurnsAreCounted S =
+abbrev pub TurnStepsAreBounded : Type 0 → Type 0
+TurnStepsAreBounded S =
     (machine : Machine) (host : Host S) (t : Turn) (slots : List Slot) (s : S) (old : Slot)
     → slice_get slots t.sandbox ≡ Some old
     → (new : Slot)

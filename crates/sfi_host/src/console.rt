@@ -64,7 +64,7 @@ impl Console {
         Some(session.output())
     }
 
-    // Appends the caller's word to the mailbox of the sandbox that a0 names.
+    /// Appends the caller's word to the mailbox of the sandbox that a0 names.
     fn post<M: Memory>(&mut self, guest: &mut Guest<'_, M>) -> GateAnswer
         requires has_data { HasData M.bytes guest.old }
         requires known { (asked M.bytes guest.old).caller < length self.old.sessions }

@@ -14,7 +14,7 @@ use crate::sandbox::Sandbox;
 use rv_mem::Memory;
 use std::alloc::{AllocError, Global};
 
-// The bytes that a memory has in a region; it has one at each of its addresses.
+/// The bytes that a memory has in a region; it has one at each of its addresses.
 fn region_bytes<M: Memory>(alloc: Global, region: Region, from: &M) -> Result<Vec<u8>, AllocError>
     requires { IsWhole (span_of region) (bytes_in (span_of region) (M.bytes from.now)) }
     ensures { IfOk result (λ bytes. bytes_at (bytes_in (span_of region) (M.bytes from.now))
@@ -28,7 +28,7 @@ fn region_bytes<M: Memory>(alloc: Global, region: Region, from: &M) -> Result<Ve
     Ok(bytes)
 }
 
-// Adds a region's bytes, as another memory has them.
+/// Adds a region's bytes, as another memory has them.
 fn copy_region<M: Memory>(
     alloc: Global,
     region: Region,
@@ -47,7 +47,7 @@ fn copy_region<M: Memory>(
     }
 }
 
-// Adds a sandbox's code and data, as another memory has them.
+/// Adds a sandbox's code and data, as another memory has them.
 fn copy_sandbox<M: Memory>(
     alloc: Global,
     sandbox: &Sandbox,
@@ -64,7 +64,7 @@ fn copy_sandbox<M: Memory>(
 
 /// Copies the code and data of all sandboxes of a world but that of one number to an empty memory, which
 /// has these bytes and no others then.
-pub(crate) fn copy_others<M: Memory>(
+pub(crate) fn copy_other_sandboxes<M: Memory>(
     alloc: Global,
     sandboxes: &[Sandbox],
     but: usize,
@@ -87,7 +87,7 @@ pub(crate) fn copy_others<M: Memory>(
 
 /// Copies the code and data of all sandboxes of a world to an empty memory, which has the world's bytes
 /// then.
-pub(crate) fn copy_all<M: Memory>(
+pub(crate) fn copy_all_sandboxes<M: Memory>(
     alloc: Global,
     sandboxes: &[Sandbox],
     from: &M,
@@ -98,6 +98,6 @@ pub(crate) fn copy_all<M: Memory>(
     requires empty { M.bytes to.old ≡ empty }
     ensures { OnOk result (M.bytes to.new ≡ M.bytes from.now) }
 {
-    copy_others(alloc, sandboxes, sandboxes.len(), from, to)?;
+    copy_other_sandboxes(alloc, sandboxes, sandboxes.len(), from, to)?;
     Ok(())
 }

@@ -4,7 +4,7 @@ ghost use Rattle.sfi_host.specs.Plans.{JoinedFollows, JointFollows, PlansFollow,
 ghost use Rattle.sfi_host.specs.Waiting.{ToCallIsJoint, ReplyIsAnswer, WritesAreReplies};
 ghost use Rattle.sfi_host.specs.WorldSteps.{JoinedWorldSteps, JointWorldSteps};
 ghost use Rattle.sfi_host.specs.Plans.{JoinedIsSolo, JointIsSolo};
-ghost use Rattle.sfi_host.specs.Waiting.{TurnsAreCounted, WaitsThroughTurns, PlansStopNone};
+ghost use Rattle.sfi_host.specs.Waiting.{TurnStepsAreBounded, WaitsThroughTurns, PlansStopNone};
 
 /// What a sandbox comes to among others is what it comes to alone with the replies that it got.
 /// `S` is a host's state.
@@ -62,10 +62,11 @@ pub fn later_is_at_once<S>()
     ensures writes { WritesAreReplies }
 {}
 
-/// What a host may rest on that bounds the turns it gives. `S` is a host's state.
-pub fn turns_are_counted<S>()
+/// How many steps a turn counts at most, and which sandboxes turns and plans leave as they are. `S`
+/// is a host's state.
+pub fn turns_are_bounded<S>()
     // A turn counts no more steps than it allows, and none of a sandbox that has stopped.
-    ensures counted { TurnsAreCounted S }
+    ensures bounded { TurnStepsAreBounded S }
 
     // A turn up to the next call counts no step of a sandbox that waits.
     ensures waits { WaitsThroughTurns }

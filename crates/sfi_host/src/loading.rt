@@ -14,8 +14,8 @@ use sfi_formats::Format;
 use std::alloc::{AllocError, Global};
 use std::sync::ArcSlice;
 
-// Adds a sandbox's code and data. All regions lie apart and end within the addresses,
-// so only memory may run out.
+/// Adds a sandbox's code and data. All regions lie apart and end within the addresses,
+/// so only memory may run out.
 fn add_part<M: Memory>(memory: &mut M, part: &ModulePart) -> Result<(), AllocError>
     requires { (format : Format) × IsRightPart (part_of format part.now) }
     ensures { (format : Format)
@@ -36,7 +36,7 @@ fn add_part<M: Memory>(memory: &mut M, part: &ModulePart) -> Result<(), AllocErr
     Ok(())
 }
 
-// A sandbox that has done nothing yet.
+/// A sandbox that has done nothing yet.
 fn first_sandbox(alloc: Global, format: Format, part: &ModulePart) -> Result<Sandbox, AllocError>
     requires { IsRightPart (part_of format part.now) }
     ensures { IfOk result (λ s. seat_of s ≡ first_seat (part_of format part.now)) }

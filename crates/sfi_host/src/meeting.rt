@@ -17,8 +17,8 @@ use crate::sandbox::Sandbox;
 use sfi_formats::Format;
 use sfi_image::{Span, with_guards};
 
-// Whether an address lies in both spans.
-fn meet(one: Span, other: Span) -> bool
+/// Whether an address lies in both spans.
+fn have_common_address(one: Span, other: Span) -> bool
     requires one { one.base + one.size < 2 ^ 64 }
     requires other { other.base + other.size < 2 ^ 64 }
     ensures { IsTrue result ↔ ((a : ℕ) × Holds one a × Holds other a) }
@@ -26,7 +26,7 @@ fn meet(one: Span, other: Span) -> bool
     one.base.max(other.base) < (one.base + one.size).min(other.base + other.size)
 }
 
-// The addresses of a code region.
+/// The addresses of a code region.
 fn code_span(base: u32, size: u32) -> Span
     ensures { result ≡ record { base = base; size = size } }
 {
@@ -36,7 +36,7 @@ fn code_span(base: u32, size: u32) -> Span
     }
 }
 
-// The addresses of a part's code.
+/// The addresses of a part's code.
 fn code_of(part: &ModulePart) -> Span
     requires { (format : Format) × IsRightPart (part_of format part.now) }
     ensures { (format : Format) → result ≡ code_region (part_of format part.now) }
@@ -44,8 +44,8 @@ fn code_of(part: &ModulePart) -> Span
     code_span(part.code_base, part.code.len() as u32)
 }
 
-// Whether the sandbox and the part take up an address both.
-fn meets(sandbox: &Sandbox, format: Format, part: &ModulePart) -> bool
+/// Whether the sandbox and the part take up an address both.
+fn meets_part(sandbox: &Sandbox, format: Format, part: &ModulePart) -> bool
     requires room { 4096 ≤ sandbox.now.data.base }
     requires right { IsRightPart (part_of format part.now) }
     ensures { IsTrue result
@@ -55,19 +55,19 @@ fn meets(sandbox: &Sandbox, format: Format, part: &ModulePart) -> bool
     let guarded = with_guards(sandbox.data.base, sandbox.data.size);
     let part_code = code_of(part);
     let part_guarded = with_guards(part.data_base, part.data_size);
-    if meet(code, part_code) {
+    if have_common_address(code, part_code) {
         return true;
     }
-    if meet(code, part_guarded) {
+    if have_common_address(code, part_guarded) {
         return true;
     }
-    if meet(guarded, part_code) {
+    if have_common_address(guarded, part_code) {
         return true;
     }
-    meet(guarded, part_guarded)
+    have_common_address(guarded, part_guarded)
 }
 
-// Whether the sandbox meets one of the parts.
+/// Whether the sandbox meets one of the parts.
 fn meets_some(sandbox: &Sandbox, format: Format, parts: &[ModulePart]) -> bool
     requires room { 4096 ≤ sandbox.now.data.base }
     requires right { IsRightLayout (parts_of format parts.now) }
@@ -79,7 +79,7 @@ fn meets_some(sandbox: &Sandbox, format: Format, parts: &[ModulePart]) -> bool
         → Meet (seat_of sandbox.now).bounds (bounds_of p) → ⊥) }
 {
     for part in parts {
-        if meets(sandbox, format, part) {
+        if meets_part(sandbox, format, part) {
             return true;
         }
     }

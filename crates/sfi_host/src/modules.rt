@@ -43,7 +43,7 @@ pub struct ModulePart {
 
 impl ModulePart {
     /// A copy of a part of an image, and its program.
-    fn of(alloc: Global, part: &SandboxPart<'_>) -> Result<ModulePart, AllocError>
+    fn from_part(alloc: Global, part: &SandboxPart<'_>) -> Result<ModulePart, AllocError>
         requires { (format : Format) × IsRightPart (view format part.now) }
         ensures part { (format : Format)
             → IfOk result (λ p. part_of format p ≡ view format part.now) }
@@ -65,8 +65,8 @@ impl ModulePart {
     }
 }
 
-// Copies of all parts of an image, and their programs.
-fn parts_of(alloc: Global, parts: &[SandboxPart<'_>]) -> Result<Vec<ModulePart>, AllocError>
+/// Copies of all parts of an image, and their programs.
+fn copy_parts(alloc: Global, parts: &[SandboxPart<'_>]) -> Result<Vec<ModulePart>, AllocError>
     requires { (format : Format) × IsRightLayout (views format parts.now) }
     ensures parts { (format : Format)
         → IfOk result (λ all. parts_of format all.items ≡ views format parts.now) }
@@ -74,12 +74,12 @@ fn parts_of(alloc: Global, parts: &[SandboxPart<'_>]) -> Result<Vec<ModulePart>,
 {
     let mut all = Vec::with_capacity(alloc, parts.len())?;
     for part in parts {
-        all.push(ModulePart::of(alloc, part)?)?;
+        all.push(ModulePart::from_part(alloc, part)?)?;
     }
     Ok(all)
 }
 
-// One more owner of each program.
+/// One more owner of each program.
 fn share_programs(alloc: Global, parts: &[ModulePart]) -> Result<Vec<Arc<Program>>, AllocError>
     ensures { IfOk result (λ all. programs_of all.items ≡ map program_in parts.now) }
 {
@@ -113,11 +113,11 @@ impl Model for Module {
 
 impl Module {
     /// The module of an image. An error means that memory ran out.
-    pub fn of(alloc: Global, accepted: &Accepted<'_>) -> Result<Module, AllocError>
+    pub fn from_accepted(alloc: Global, accepted: &Accepted<'_>) -> Result<Module, AllocError>
         ensures { IfOk result (λ m. m ≡ accepted.now) }
     {
         let image = accepted.image();
-        let parts = parts_of(alloc, image.parts())?;
+        let parts = copy_parts(alloc, image.parts())?;
         Ok(Module {
             format: image.format(),
             parts,

@@ -33,7 +33,7 @@ impl Region {
         self.clear_from(memory, front.len() as u32, &[0; PIECE]);
     }
 
-    // Fills it with zeros, of which some are handed in, from one of its places on.
+    /// Fills it with zeros, of which some are handed in, from one of its places on.
     fn clear_from<M: Memory>(self, memory: &mut M, from: u32, zeros: &[u8])
         requires zeros { zeros.now ≡ replicate 256 0 }
         requires whole { IsWhole (span_of self) (bytes_in (span_of self) (M.bytes memory.old)) }

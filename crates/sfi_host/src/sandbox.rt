@@ -46,7 +46,7 @@ pub const A1_REGISTER: u8 = 11;
 // x1: the return address (as above).
 const RETURN_REGISTER: u8 = 1;
 
-// Gives the typed registers, where code is in words, what they hold at an entry there.
+/// Gives the typed registers, where code is in words, what they hold at an entry there.
 fn set_typed(format: Format, data_at: Region, pc: u32, cpu: &mut Cpu)
     requires pc { cpu.old.pc ≡ pc }
     requires hart { IsHart cpu.old }
@@ -87,7 +87,7 @@ pub(crate) fn fresh_cpu(format: Format, code_at: Region, data_at: Region, pc: u3
     cpu
 }
 
-// Puts the arguments into the registers from a0 on.
+/// Puts the arguments into the registers from a0 on.
 fn set_arguments(cpu: &mut Cpu, arguments: &[u32; 8])
     requires hart { IsHart cpu.old }
     ensures put { cpu.new ≡ with_registers cpu.old a0_register arguments.now }
@@ -98,7 +98,7 @@ fn set_arguments(cpu: &mut Cpu, arguments: &[u32; 8])
     }
 }
 
-// The address of the first gate of service 0; 0 where none is listed.
+/// The address of the first gate of service 0; 0 where none is listed.
 fn exit_gate(gates: &[Gate]) -> u32
     ensures { result ≡ exit_gate gates.now }
 {

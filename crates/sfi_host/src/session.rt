@@ -78,7 +78,7 @@ impl Session {
         self.output.as_slice()
     }
 
-    // The bytes that the caller hands over are appended to its output.
+    /// The bytes that the caller hands over are appended to its output.
     fn put<M: Memory>(&mut self, guest: &mut Guest<'_, M>) -> GateAnswer
         requires has_data { HasData M.bytes guest.old }
         ensures same_reference { SameMemory guest.old guest.new }
@@ -98,7 +98,7 @@ impl Session {
         GateAnswer::Replied
     }
 
-    // The next bytes of the input are written where the caller says.
+    /// The next bytes of the input are written where the caller says.
     fn get<M: Memory>(&mut self, input: &[u8], guest: &mut Guest<'_, M>) -> GateAnswer
         requires has_data { HasData M.bytes guest.old }
         ensures same_reference { SameMemory guest.old guest.new }
@@ -117,7 +117,7 @@ impl Session {
         GateAnswer::Replied
     }
 
-    // The oldest message leaves the mailbox.
+    /// The oldest message leaves the mailbox.
     fn take<M: Memory>(&mut self, guest: &mut Guest<'_, M>) -> GateAnswer
         requires has_data { HasData M.bytes guest.old }
         ensures same_reference { SameMemory guest.old guest.new }

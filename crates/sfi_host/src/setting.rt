@@ -20,7 +20,7 @@ use sfi_formats::{
     OFFSET_REGISTER, SLACK, STACK_POINTER,
 };
 
-// Puts values into the registers from x0 on.
+/// Puts values into the registers from x0 on.
 fn set_all(cpu: &mut Cpu, registers: &[u32; 32])
     requires hart { IsHart cpu.old }
     ensures put { cpu.new ≡ with_registers cpu.old 0 registers.now }
@@ -55,7 +55,7 @@ pub fn registers_of(cpu: &Cpu) -> [u32; 32]
     registers
 }
 
-// Whether the address lies in the region, or at most `SLACK` bytes outside it.
+/// Whether the address lies in the region, or at most `SLACK` bytes outside it.
 fn is_near(region: Region, at: u32) -> bool
     ensures { IsTrue result ↔ LiesNear (span_of region) at }
 {
@@ -65,14 +65,14 @@ fn is_near(region: Region, at: u32) -> bool
 }
 
 impl Sandbox {
-    // Whether a unit of the sandbox's code begins at the address.
+    /// Whether a unit of the sandbox's code begins at the address.
     fn begins_at(&self, pc: u32) -> bool
         ensures { IsTrue result ↔ IsUnitAt (seat_of self.now).bounds pc }
     {
         self.code.holds(pc) && pc % self.format.unit() == 0
     }
 
-    // Whether the reserved registers hold the values of the sandbox.
+    /// Whether the reserved registers hold the values of the sandbox.
     fn holds_reserved(&self, cpu: &Cpu) -> bool
         requires code_size { 16 ≤ self.now.code.size }
         requires data_size { 16 ≤ self.now.data.size }
@@ -84,7 +84,7 @@ impl Sandbox {
             && cpu.reg(Reg::numbered(DATA_MASK_REGISTER)) == self.data.size - 1
     }
 
-    // Whether the typed registers of code in words hold what their types say.
+    /// Whether the typed registers of code in words hold what their types say.
     fn holds_typed_words(&self, cpu: &Cpu) -> bool
         ensures { IsTrue result ↔ HoldsTypedWords (seat_of self.now).bounds cpu.now }
     {
@@ -98,7 +98,7 @@ impl Sandbox {
             && cpu.reg(Reg::numbered(OFFSET_REGISTER)) < self.data.size
     }
 
-    // Whether the stack pointer lies in the data, where the format has one.
+    /// Whether the stack pointer lies in the data, where the format has one.
     fn holds_stack(&self, cpu: &Cpu) -> bool
         ensures { IsTrue result ↔ (has_stack self.now.format ≡ true
             → Holds (span_of self.now.data) (register cpu.now stack_pointer)) }
@@ -109,7 +109,7 @@ impl Sandbox {
         self.data.holds(cpu.reg(Reg::numbered(STACK_POINTER)))
     }
 
-    // Whether the typed registers hold what their types say, where code is in words.
+    /// Whether the typed registers hold what their types say, where code is in words.
     fn holds_words(&self, cpu: &Cpu) -> bool
         ensures { IsTrue result ↔ (has_words self.now.format ≡ true
             → HoldsTypedWords (seat_of self.now).bounds cpu.now) }

@@ -13,15 +13,15 @@ use crate::status::Status;
 use crate::turn::{Pause, run_quietly};
 use rv_mem::Memory;
 
-// Whether the address is one of the stops.
+/// Whether the address is one of the stops.
 fn is_stop(stops: &[u32], pc: u32) -> bool
     ensures { IsTrue result ↔ Contains stops.now pc }
 {
     stops.contains(&pc)
 }
 
-// Whether further steps of the sandbox do anything.
-fn goes_on(pause: Pause, sandbox: &Sandbox) -> bool
+/// Whether further steps of the sandbox do anything.
+fn may_step_on(pause: Pause, sandbox: &Sandbox) -> bool
     ensures { OnFalse result
         (((left : ℕ) × (pause ≡ Pause.Call left)) ⊎ (sandbox.now.status ≢ Status.Ready)) }
 {
@@ -51,7 +51,7 @@ pub(crate) fn run_until<M: Memory>(
         if is_stop(stops, sandbox.cpu.pc()) {
             return;
         }
-        if !goes_on(pause, sandbox) {
+        if !may_step_on(pause, sandbox) {
             return;
         }
     }

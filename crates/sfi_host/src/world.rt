@@ -1,4 +1,4 @@
-//! Worlds.
+//! A world: the sandboxes of images in one memory, and their turns.
 ghost use Rattle.std.specs.Prelude.{◌≡◌, ◌≢◌, ◌↔◌, ◌<◌, ℕ, [], ◌∷◌, length, map, slice_get, slice_set, IfOk, IfSome, IsTrue, IsSome, Some, None};
 ghost use Rattle.std.specs.Bool.{OnTrue, OnFalse};
 ghost use Rattle.std.specs.FinMap.{empty};
@@ -47,7 +47,7 @@ use std::alloc::{AllocError, Global};
 use std::marker::Model;
 use std::sync::Arc;
 
-/// The sandboxes of an accepted image, in one memory. Contracts see the memory's bytes and what
+/// The sandboxes of accepted images, in one memory. Contracts see the memory's bytes and what
 /// there is of each sandbox beside them; the type keeps that each is safe,
 /// whatever it does and whatever the others do.
 #[derive(Drop)]
@@ -99,7 +99,7 @@ impl<M: Memory> World<M> {
         // the premise of the laws on steps and neighbours.
         ensures safe { IfOk result (λ w. IsSafeWorld w) }
     {
-        let module = Module::of(alloc, accepted)?;
+        let module = Module::from_accepted(alloc, accepted)?;
         module.instance(alloc, memory)
     }
 
@@ -151,7 +151,7 @@ impl<M: Memory> World<M> {
         // one of its gates if it exited (`done` and `memory` say that the host answered so), an
         // ebreak, or a load or store that touches its guard zones. No other trap stops a sandbox.
         // Of one that `World::stop` stopped it says nothing; no plan stops one so
-        // (`laws::turns_are_counted`).
+        // (`laws::turns_are_bounded`: `stops_none`).
         ensures stops { HaveStoppedThemselves self.new }
 
         // No byte has changed that lies in no sandbox's data.
@@ -204,7 +204,7 @@ impl<M: Memory> World<M> {
         self.waiting(turn.sandbox)
     }
 
-    // A turn up to the next call. Each sandbox lies where it lay.
+    /// A turn up to the next call. Each sandbox lies where it lay.
     fn take_quiet_turn(&mut self, turn: Turn)
         ensures ran { (machine : Machine) → IsMachine machine
             → slots_of self.new ≡ (to_call machine (turn ∷ []) (slots_of self.old)).slots }
@@ -276,7 +276,7 @@ impl<M: Memory> World<M> {
         true
     }
 
-    // One turn: what the plan of that turn alone comes to. Each sandbox lies where it lay.
+    /// One turn: what the plan of that turn alone comes to. Each sandbox lies where it lay.
     fn take_turn<G: Gates>(&mut self, turn: Turn, gates: &mut G) -> StepResult
         ensures safe { IsSafeWorld self.new }
         ensures bounds { bounds_in self.new ≡ bounds_in self.old }
@@ -310,7 +310,7 @@ impl<M: Memory> World<M> {
         let _ = &self.memory;
     }
 
-    // Sandbox `i`.
+    /// Sandbox `i`.
     fn find(&self, i: u32) -> Option<&Sandbox>
         ensures { option_map (λ s. slot_in self.now.bytes s.now) result
             ≡ slice_get (slots_of self.now) i }

@@ -113,7 +113,7 @@ impl<'a> ImageCursor<'a> {
         Ok(Some(view))
     }
 
-    // Reads the sandbox that comes next.
+    /// Reads the sandbox that comes next.
     fn take_part(&mut self) -> Result<PartView<'a>, LayoutFault>
         requires { (bytes : List ℕ) × (format : Format) × (n : ℕ) × (ps : List Part)
             × HasRead bytes (AfterCount format n ps) self.old }
@@ -135,7 +135,7 @@ impl<'a> ImageCursor<'a> {
         })
     }
 
-    // Hands the next `len` bytes to the reader, and returns them.
+    /// Hands the next `len` bytes to the reader, and returns them.
     fn take(&mut self, len: usize) -> Result<&'a [u8], LayoutFault>
         requires { MayTake self.old.reader len }
         ensures { (bytes : List ℕ) (x : ImagePrefix) → HasRead bytes x self.old
@@ -152,7 +152,7 @@ impl<'a> ImageCursor<'a> {
         Ok(front)
     }
 
-    // Reads the seven fields of the sandbox that comes next.
+    /// Reads the seven fields of the sandbox that comes next.
     fn take_fields(&mut self) -> Result<Fields, LayoutFault>
         requires { (bytes : List ℕ) × (format : Format) × (n : ℕ) × (ps : List Part)
             × HasRead bytes (AfterCount format n ps) self.old }
@@ -167,7 +167,7 @@ impl<'a> ImageCursor<'a> {
         Ok(fields)
     }
 
-    // Reads the sandbox's gates: their bytes.
+    /// Reads the sandbox's gates: their bytes.
     fn take_gates(&mut self, fields: &Fields) -> Result<&'a [u8], LayoutFault>
         requires { (bytes : List ℕ) × (n : ℕ) × (ps : List Part)
             × HasRead bytes (after_gates n ps fields.now []) self.old }
@@ -184,7 +184,7 @@ impl<'a> ImageCursor<'a> {
         Ok(&all[..all.len() - self.rest.len()])
     }
 
-    // Reads all of the sandbox's code.
+    /// Reads all of the sandbox's code.
     fn take_code(&mut self, fields: &Fields) -> Result<&'a [u8], LayoutFault>
         requires { (bytes : List ℕ) × (n : ℕ) × (ps : List Part) × (gs : List Gate)
             × HasRead bytes (InCode n ps fields.now gs []) self.old }
@@ -197,7 +197,7 @@ impl<'a> ImageCursor<'a> {
         self.take(fields.code_size as usize)
     }
 
-    // Reads the sandbox's first data bytes.
+    /// Reads the sandbox's first data bytes.
     fn take_init(&mut self, fields: &Fields) -> Result<&'a [u8], LayoutFault>
         requires { (bytes : List ℕ) × (n : ℕ) × (ps : List Part) × (gs : List Gate)
             × (code : List ℕ) × HasRead bytes (after_init n ps fields.now gs code []) self.old }

@@ -66,7 +66,7 @@ pub fn has_guard_room(base: u32, size: u32) -> bool
     base + u64::from(size) + GUARD <= TOP
 }
 
-// Whether the address is a bundle start of the code region.
+/// Whether the address is a bundle start of the code region.
 pub(crate) fn is_bundle_start(fields: &Fields, at: u32) -> bool
     ensures { IsTrue result ↔ IsBundleStart (code_span fields.now) at }
 {
@@ -76,7 +76,7 @@ pub(crate) fn is_bundle_start(fields: &Fields, at: u32) -> bool
     at - fields.code_base < fields.code_size
 }
 
-// The span of the code region.
+/// The span of the code region.
 fn code_span(fields: &Fields) -> Span
     ensures { result ≡ code_span fields.now }
 {
@@ -97,8 +97,8 @@ pub fn with_guards(base: u32, size: u32) -> Span
     }
 }
 
-// The spans of a sandbox with these fields, or the first test that they fail. `before` are the
-// spans of the sandboxes before it.
+/// The spans of a sandbox with these fields, or the first test that they fail. `before` are the
+/// spans of the sandboxes before it.
 pub(crate) fn spans_after(before: &[Span], fields: &Fields) -> Result<OwnSpans, LayoutFault>
     requires bounded { All IsBounded before.now }
     requires apart { AllPairs AreApart before.now }

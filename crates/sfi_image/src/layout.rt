@@ -19,7 +19,7 @@ use crate::span::Span;
 use sfi_formats::{Format, SANDBOX_COUNT_MOST};
 use std::alloc::Global;
 
-// The length as a number of 32 bits, or the greatest such number if it has more.
+/// The length as a number of 32 bits, or the greatest such number if it has more.
 fn capped(len: usize) -> u32
     ensures value { result ≡ capped len }
     ensures word { IsWord result }
@@ -31,7 +31,7 @@ fn capped(len: usize) -> u32
     }
 }
 
-// Returns `number`. It reminds the prover that a u32 behind a reference is below 2 ^ 32.
+/// Returns `number`. It reminds the prover that a u32 behind a reference is below 2 ^ 32.
 fn word(number: u32) -> u32
     ensures value { result ≡ number }
     ensures word { IsWord result }
@@ -39,8 +39,8 @@ fn word(number: u32) -> u32
     number
 }
 
-// The seven fields of a sandbox. A length that its field can't hold is above each limit,
-// and so is the greatest number.
+/// The seven fields of a sandbox. A length that its field can't hold is above each limit,
+/// and so is the greatest number.
 fn fields_of_part(format: Format, part: &SandboxPart<'_>) -> Fields
     ensures value { result ≡ capped_fields (view format part.now) }
     ensures words { AreFieldWords result }
@@ -57,7 +57,7 @@ fn fields_of_part(format: Format, part: &SandboxPart<'_>) -> Fields
     }
 }
 
-// Whether each gate may follow those before it.
+/// Whether each gate may follow those before it.
 fn are_gates(fields: &Fields, gates: &[Gate]) -> bool
     ensures right { OnTrue result (AreGates (code_span fields.now) gates.now) }
     ensures words { OnTrue result (All AreGateWords gates.now) }
@@ -73,7 +73,7 @@ fn are_gates(fields: &Fields, gates: &[Gate]) -> bool
     true
 }
 
-// The spans of a sandbox, or its fault, after sandboxes with the spans `before`.
+/// The spans of a sandbox, or its fault, after sandboxes with the spans `before`.
 fn part_spans(
     format: Format,
     before: &[Span],
@@ -96,7 +96,7 @@ fn part_spans(
     Ok(own)
 }
 
-// Tests that the sandboxes have a right layout. The error is the fault of the first that is wrong.
+/// Tests that the sandboxes have a right layout. The error is the fault of the first that is wrong.
 pub(crate) fn check_layout(
     alloc: Global,
     format: Format,

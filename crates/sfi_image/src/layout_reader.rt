@@ -7,11 +7,11 @@ ghost use Rattle.sfi_image.specs.Prefixes.ImagePrefix.{Empty};
 ghost use Rattle.sfi_image.specs.Keeping.{StandsFor, HasStopped, Leads, left};
 ghost use Rattle.sfi_image.specs.private.{IsReader, MayTake, Takes, as_want, count_below, first_or, is_first, next_part, next_init, next_code, next_gate};
 
+use crate::arrays::{GateArray, SpanArray};
 use crate::bundle::BundlePlace;
 use crate::fault::LayoutFault;
 use crate::fields::{Fields, spans_after};
 use crate::gates::is_next_gate;
-use crate::kept::{KeptGates, KeptSpans};
 use crate::reading::{
     FIELDS_BYTES, GATE_BYTES, MAGIC_BYTES, NUMBER_BYTES, fields_at, format_at, gate_at, number_at,
 };
@@ -30,11 +30,11 @@ pub struct LayoutReader {
     /// How many of these sandboxes have had their fields read.
     pub begun: u32,
     /// The spans of the sandboxes whose fields were read: two for each.
-    pub spans: KeptSpans,
+    pub spans: SpanArray,
     /// The fields of the last sandbox; before the first, only the image's format in them.
     pub fields: Fields,
     /// The addresses of the last sandbox's gates that were read.
-    pub gates: KeptGates,
+    pub gates: GateArray,
     /// How many of these gates lie before the next bundle.
     pub passed: usize,
     /// How many bytes of the last sandbox's code were read.
@@ -43,8 +43,8 @@ pub struct LayoutReader {
     pub init_read: u32,
 }
 
-// What comes after `begun` sandboxes of `count`.
-fn next_part(begun: u32, count: u32) -> Stage
+/// What comes after `begun` sandboxes of `count`.
+fn stage_after(begun: u32, count: u32) -> Stage
     ensures { result ≡ next_part begun count }
 {
     if begun == count {
@@ -54,20 +54,20 @@ fn next_part(begun: u32, count: u32) -> Stage
     }
 }
 
-// What comes after `read` first data bytes of `len`. It is out of line, since few bundles are the
-// last of their code region.
+/// What comes after `read` first data bytes of `len`. It is out of line, since few bundles are the
+/// last of their code region.
 #[inline(never)]
 fn next_init(read: u32, len: u32, begun: u32, count: u32) -> Stage
     ensures { result ≡ next_init read len begun count }
 {
     if read == len {
-        next_part(begun, count)
+        stage_after(begun, count)
     } else {
         Stage::Init
     }
 }
 
-// What comes after `read` bytes of a code region of `size`.
+/// What comes after `read` bytes of a code region of `size`.
 #[inline]
 fn next_code(read: u32, size: u32, len: u32, begun: u32, count: u32) -> Stage
     ensures { result ≡ next_code read size len begun count }
@@ -79,7 +79,7 @@ fn next_code(read: u32, size: u32, len: u32, begun: u32, count: u32) -> Stage
     }
 }
 
-// What comes after `read` gates of `gate_count`.
+/// What comes after `read` gates of `gate_count`.
 fn next_gate(read: u32, gate_count: u32) -> Stage
     ensures { result ≡ next_gate read gate_count }
 {
@@ -90,7 +90,7 @@ fn next_gate(read: u32, gate_count: u32) -> Stage
     }
 }
 
-// Whether the address after the first `passed` ones is `address`.
+/// Whether the address after the first `passed` ones is `address`.
 #[inline]
 fn is_first_after(addresses: &[u32], passed: usize, address: u32) -> bool
     ensures { result ≡ is_first (drop passed addresses.now) address }
@@ -101,7 +101,7 @@ fn is_first_after(addresses: &[u32], passed: usize, address: u32) -> bool
     }
 }
 
-// How many of the addresses, which ascend, lie before `end`; the first `passed` are known to.
+/// How many of the addresses, which ascend, lie before `end`; the first `passed` are known to.
 #[inline]
 fn passed_before(addresses: &[u32], passed: usize, end: u64) -> usize
     ensures { result ≡ passed + count_below end (drop passed addresses.now) }
@@ -113,7 +113,7 @@ fn passed_before(addresses: &[u32], passed: usize, end: u64) -> usize
     count
 }
 
-// The address after `read` bytes of the code region at `base`.
+/// The address after `read` bytes of the code region at `base`.
 #[inline]
 fn address_after(base: u32, read: u32) -> u64
     ensures { result ≡ base + read }
@@ -121,7 +121,7 @@ fn address_after(base: u32, read: u32) -> u64
     u64::from(base) + u64::from(read)
 }
 
-// The address after the first `passed` ones, or `other` where there is none.
+/// The address after the first `passed` ones, or `other` where there is none.
 #[inline]
 fn first_after(addresses: &[u32], passed: usize, other: u64) -> u64
     ensures { result ≡ first_or other (drop passed addresses.now) }
@@ -141,7 +141,7 @@ impl LayoutReader {
             next: Stage::Magic,
             count: 0,
             begun: 0,
-            spans: KeptSpans::new(),
+            spans: SpanArray::new(),
             fields: Fields {
                 format: Format::Sfi1,
                 code_base: 0,
@@ -152,14 +152,14 @@ impl LayoutReader {
                 gate_count: 0,
                 init_len: 0,
             },
-            gates: KeptGates::new(),
+            gates: GateArray::new(),
             passed: 0,
             code_read: 0,
             init_read: 0,
         }
     }
 
-    // The image's format, after its magic.
+    /// The image's format, after its magic.
     pub(crate) fn format(&self) -> Format
         ensures { result ≡ self.now.fields.format }
     {
@@ -192,7 +192,7 @@ impl LayoutReader {
         }
     }
 
-    // What comes next where no bundle does. It is out of line, since most that is read is bundles.
+    /// What comes next where no bundle does. It is out of line, since most that is read is bundles.
     #[inline(never)]
     fn wants_no_bundle(&self) -> OtherWant
         requires { self.now.next ≢ Stage.Code }
@@ -250,7 +250,7 @@ impl LayoutReader {
         self.advance(bytes)
     }
 
-    // Takes bytes as `take` does, if their length may be taken in this state.
+    /// Takes bytes as `take` does, if their length may be taken in this state.
     #[inline]
     pub(crate) fn advance(&mut self, bytes: &[u8]) -> Option<LayoutFault>
         requires { MayTake self.old (length bytes.now) }
@@ -267,7 +267,7 @@ impl LayoutReader {
         }
     }
 
-    // Takes bytes as `advance` does, where no bundle comes next. It is out of line.
+    /// Takes bytes as `advance` does, where no bundle comes next. It is out of line.
     #[inline(never)]
     fn advance_by_no_bundle(&mut self, bytes: &[u8]) -> Option<LayoutFault>
         requires next { self.old.next ≢ Stage.Code }
@@ -288,7 +288,7 @@ impl LayoutReader {
         }
     }
 
-    // Takes the magic: its fault, if it is that of no format.
+    /// Takes the magic: its fault, if it is that of no format.
     #[inline(never)]
     fn take_magic(&mut self, bytes: &[u8]) -> Option<LayoutFault>
         requires reader { IsReader self.old }
@@ -306,7 +306,7 @@ impl LayoutReader {
         None
     }
 
-    // Takes the number of sandboxes: its fault, if that is 0 or too large.
+    /// Takes the number of sandboxes: its fault, if that is 0 or too large.
     #[inline(never)]
     fn take_count(&mut self, bytes: &[u8]) -> Option<LayoutFault>
         requires reader { IsReader self.old }
@@ -326,7 +326,7 @@ impl LayoutReader {
         None
     }
 
-    // Takes a sandbox's seven fields: the first fault that their tests find, if any.
+    /// Takes a sandbox's seven fields: the first fault that their tests find, if any.
     #[inline(never)]
     fn take_fields(&mut self, bytes: &[u8]) -> Option<LayoutFault>
         requires reader { IsReader self.old }
@@ -355,7 +355,7 @@ impl LayoutReader {
         None
     }
 
-    // Takes a gate: its fault, if it may not follow the gates before it.
+    /// Takes a gate: its fault, if it may not follow the gates before it.
     #[inline(never)]
     fn take_gate(&mut self, bytes: &[u8]) -> Option<LayoutFault>
         requires reader { IsReader self.old }
@@ -375,7 +375,7 @@ impl LayoutReader {
         None
     }
 
-    // Takes whole bundles of a sandbox's code. It is out of line, since one call takes many.
+    /// Takes whole bundles of a sandbox's code. It is out of line, since one call takes many.
     #[inline(never)]
     fn take_code(&mut self, code: &[u8])
         requires reader { IsReader self.old }
@@ -397,7 +397,7 @@ impl LayoutReader {
         );
     }
 
-    // Takes some of a sandbox's first data bytes.
+    /// Takes some of a sandbox's first data bytes.
     #[inline(never)]
     fn take_init(&mut self, bytes: &[u8])
         requires reader { IsReader self.old }

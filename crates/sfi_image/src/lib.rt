@@ -9,41 +9,41 @@
 //!
 //! [`parse_image`] reads an image from all of its bytes, by an [`ImageCursor`], which steps from
 //! sandbox to sandbox and takes no memory; [`sandbox_of`] goes to the sandbox of a number. [`LayoutReader`] reads its layout from pieces, in order,
-//! as a [`ByteSource`] hands them out, and takes none either; [`Reading`] makes a source of any
+//! as a [`ByteSource`] hands them out, and takes none either; [`ReaderSource`] makes a source of any
 //! reader.
 #![tactic(auto)]
 
+mod arrays;
 mod bundle;
+mod byte_source;
 mod cursor;
 mod fault;
 mod fields;
 mod gates;
 mod image;
-mod kept;
 mod layout;
 mod layout_reader;
 mod lookup;
 mod part;
 mod reading;
 mod reserved;
-mod source;
 mod span;
 mod want;
 mod writing;
 
+pub use arrays::{GateArray, SpanArray};
 pub use bundle::BundlePlace;
+pub use byte_source::{ByteSource, ReadFault, ReaderSource};
 pub use cursor::{ImageCursor, PartView};
 pub use fault::{ImageFault, LayoutFault};
 pub use fields::{Fields, has_guard_room, is_region, with_guards};
 pub use image::Image;
-pub use kept::{KeptGates, KeptSpans};
 pub use layout_reader::LayoutReader;
 pub use lookup::sandbox_of;
 pub use part::{Gate, SandboxPart};
 pub use reading::parse_image;
 pub use reserved::Reserved;
 pub use sfi_formats::Format;
-pub use source::{ByteSource, ReadFault, Reading};
 pub use span::{Span, are_all_apart};
 pub use want::{Stage, Want};
 pub use writing::{write_image, write_image_as};

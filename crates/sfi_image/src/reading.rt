@@ -29,7 +29,7 @@ pub(crate) const FIELDS_BYTES: usize = 28;
 // How many bytes a gate has.
 pub(crate) const GATE_BYTES: usize = 8;
 
-// The number at the front, and the bytes after it.
+/// The number at the front, and the bytes after it.
 pub(crate) fn number_at(bytes: &[u8]) -> (u32, &[u8])
     requires { NUMBER_BYTES ≤ length bytes.now }
     ensures front { bytes.now ≡ number result.0 ++ result.1.now }
@@ -40,7 +40,7 @@ pub(crate) fn number_at(bytes: &[u8]) -> (u32, &[u8])
     (LittleEndian::read_u32(front), rest)
 }
 
-// The seven fields at the front, and the bytes after them.
+/// The seven fields at the front, and the bytes after them.
 pub(crate) fn fields_at(format: Format, bytes: &[u8]) -> (Fields, &[u8])
     requires { FIELDS_BYTES ≤ length bytes.now }
     ensures front { bytes.now ≡ fields result.0 ++ result.1.now }
@@ -68,7 +68,7 @@ pub(crate) fn fields_at(format: Format, bytes: &[u8]) -> (Fields, &[u8])
     (fields, rest)
 }
 
-// The gate at the front, and the bytes after it.
+/// The gate at the front, and the bytes after it.
 pub(crate) fn gate_at(bytes: &[u8]) -> (Gate, &[u8])
     requires { GATE_BYTES ≤ length bytes.now }
     ensures front { bytes.now ≡ gate result.0 ++ result.1.now }
@@ -80,14 +80,14 @@ pub(crate) fn gate_at(bytes: &[u8]) -> (Gate, &[u8])
     (Gate { address, service }, rest)
 }
 
-// Whether the bytes are the magic of the format.
+/// Whether the bytes are the magic of the format.
 fn is_magic(format: Format, front: &[u8]) -> bool
     ensures { IsTrue result ↔ (front.now ≡ magic format) }
 {
     front == format.magic().as_slice()
 }
 
-// The format of an image that begins with these bytes.
+/// The format of an image that begins with these bytes.
 pub(crate) fn format_at(front: &[u8]) -> Option<Format>
     ensures found { IfSome result (λ format. front.now ≡ magic format) }
     ensures none { IfNone result ((format : Format) → front.now ≢ magic format) }
@@ -103,7 +103,7 @@ pub(crate) fn format_at(front: &[u8]) -> Option<Format>
     }
 }
 
-// The sandbox of a view, with a list of its gates.
+/// The sandbox of a view, with a list of its gates.
 fn part_of_view<'a>(alloc: Global, found: PartView<'a>) -> Result<SandboxPart<'a>, ImageFault>
     requires { (p : Part) × IsViewOf found p }
     ensures part { IfOk result (λ q. (p : Part) → IsViewOf found.entry p → view p.format q ≡ p) }
@@ -124,7 +124,7 @@ fn part_of_view<'a>(alloc: Global, found: PartView<'a>) -> Result<SandboxPart<'a
     })
 }
 
-// The image that the bytes are, or their fault.
+/// The image that the bytes are, or their fault.
 fn image_at<'a>(alloc: Global, bytes: &'a [u8]) -> Result<Image<'a>, ImageFault>
     ensures { Reads (IsImage bytes.entry.now) (IsFault bytes.entry.now) result }
 {

@@ -25,7 +25,7 @@ pub struct Reserved {
 
 impl Reserved {
     /// The values for a sandbox of an image of this format.
-    pub fn of(format: Format, part: &SandboxPart<'_>) -> Self
+    pub fn of_sandbox(format: Format, part: &SandboxPart<'_>) -> Self
         requires { IsRightPart (view format part.now) }
         ensures { result ≡ reserved_of (view format part.now) }
     {

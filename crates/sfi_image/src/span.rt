@@ -14,7 +14,7 @@ pub struct Span {
     pub size: u64,
 }
 
-// Whether no address lies in both spans.
+/// Whether no address lies in both spans.
 fn are_apart(one: Span, other: Span) -> bool
     requires one { IsBounded one }
     requires other { IsBounded other }
@@ -23,7 +23,7 @@ fn are_apart(one: Span, other: Span) -> bool
     one.base + one.size <= other.base || other.base + other.size <= one.base
 }
 
-// Whether the span lies apart from each of the others.
+/// Whether the span lies apart from each of the others.
 fn is_apart_from_all(one: Span, others: &[Span]) -> bool
     requires one { IsBounded one }
     requires others { All IsBounded others.now }

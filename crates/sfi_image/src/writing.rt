@@ -20,7 +20,7 @@ use sfi_formats::Format;
 use std::alloc::{AllocError, Global};
 
 #[tactic(auto, unfolding(crate::specs::Spelling::number))]
-// Appends the number in four bytes.
+/// Appends the number in four bytes.
 fn push_number(bytes: &mut Vec<u8>, n: u32) -> Result<(), AllocError>
     ensures { OnOk result (bytes.new.items ≡ bytes.old.items ++ number n) }
 {
@@ -31,7 +31,7 @@ fn push_number(bytes: &mut Vec<u8>, n: u32) -> Result<(), AllocError>
 }
 
 #[tactic(auto, using(std::proofs::Common::append_assoc), unfolding(crate::specs::Spelling::gate))]
-// Appends the gate.
+/// Appends the gate.
 fn push_gate(bytes: &mut Vec<u8>, one: Gate) -> Result<(), AllocError>
     ensures { OnOk result (bytes.new.items ≡ bytes.old.items ++ gate one) }
 {
@@ -40,7 +40,7 @@ fn push_gate(bytes: &mut Vec<u8>, one: Gate) -> Result<(), AllocError>
     Ok(())
 }
 
-// Appends the gates.
+/// Appends the gates.
 fn push_gates(bytes: &mut Vec<u8>, gates: &[Gate]) -> Result<(), AllocError>
     ensures { OnOk result (bytes.new.items ≡ bytes.old.items ++ flat_map gate gates.now) }
 {
@@ -51,7 +51,7 @@ fn push_gates(bytes: &mut Vec<u8>, gates: &[Gate]) -> Result<(), AllocError>
 }
 
 #[tactic(auto, using(std::proofs::Common::append_assoc), unfolding(crate::specs::Spelling::fields))]
-// Appends the seven fields of a sandbox.
+/// Appends the seven fields of a sandbox.
 fn push_fields(bytes: &mut Vec<u8>, one: &SandboxPart<'_>) -> Result<(), AllocError>
     requires { (format : Format) × IsRightPart (view format one.now) }
     ensures { (format : Format) → OnOk result
@@ -68,7 +68,7 @@ fn push_fields(bytes: &mut Vec<u8>, one: &SandboxPart<'_>) -> Result<(), AllocEr
 }
 
 #[tactic(auto, using(std::proofs::Common::append_assoc), unfolding(crate::specs::Spelling::part))]
-// Appends the sandbox.
+/// Appends the sandbox.
 fn push_part(bytes: &mut Vec<u8>, one: &SandboxPart<'_>) -> Result<(), AllocError>
     requires { (format : Format) × IsRightPart (view format one.now) }
     ensures { (format : Format) → OnOk result
@@ -81,8 +81,8 @@ fn push_part(bytes: &mut Vec<u8>, one: &SandboxPart<'_>) -> Result<(), AllocErro
     Ok(())
 }
 
-// The bytes of sandboxes with a right layout.
-fn write_right(
+/// Writes the image of sandboxes whose layout is right.
+fn write_valid_parts(
     alloc: Global,
     format: Format,
     parts: &[SandboxPart<'_>],
@@ -99,13 +99,13 @@ fn write_right(
     Ok(bytes)
 }
 
-// The image of these sandboxes, or their fault.
+/// The image of these sandboxes, or their fault.
 fn image_of(alloc: Global, format: Format, parts: &[SandboxPart<'_>]) -> Result<Vec<u8>, ImageFault>
     ensures { Reads (λ bytes. IsImage bytes.items (views format parts.now))
         (HaveFault (views format parts.now)) result }
 {
     check_layout(alloc, format, parts)?;
-    Ok(write_right(alloc, format, parts)?)
+    Ok(write_valid_parts(alloc, format, parts)?)
 }
 
 /// Writes an image of this format, or refuses with what reading it would find first. A length above

@@ -154,7 +154,7 @@ fn pairs_before(values: u8x64) -> usize
 /// The byte that each pair of a block's bytes spells, if both are digits, by what `values_of` gives
 /// for them.
 #[inline(always)]
-fn joined(values: u8x64) -> [u8; BLOCK / 2]
+fn joined_digits(values: u8x64) -> [u8; BLOCK / 2]
     requires { length values ≡ 64 }
     ensures size { length result ≡ 32 }
     ensures each { (k : ℕ) → k < 32 → 240 ≤ slice_index values (2 * k)
@@ -178,7 +178,7 @@ pub(crate) fn decode_block(block: &[u8], out: &mut [u8]) -> usize
         (slice_index block.now (2 * k + 1)) (slice_index out.new k) }
 {
     let values = values_of(u8x64::from_slice(block));
-    out.copy_from_slice(&joined(values));
+    out.copy_from_slice(&joined_digits(values));
     pairs_before(values)
 }
 

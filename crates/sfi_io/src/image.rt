@@ -39,7 +39,7 @@ pub fn image_bytes(alloc: Global, input: &[u8]) -> Result<Vec<u8>, HexStop>
 
 /// Reads the first bytes, four or a few more, or all where there are fewer: enough to say whether the
 /// input begins as an image. Every error of the reader is a failure: none is tried again.
-pub fn read_front<R: Read>(alloc: Global, reader: &mut R) -> Result<Vec<u8>, ReadStop>
+pub fn read_first_bytes<R: Read>(alloc: Global, reader: &mut R) -> Result<Vec<u8>, ReadStop>
     ensures front { IfOk result
         (λ front. Consumes (R.remaining reader.old) (R.remaining reader.new) front.items) }
     ensures begins { IfOk result (λ front. IfSome (R.remaining reader.old)

@@ -9,6 +9,6 @@ mod streams;
 mod text;
 
 pub use hexadecimal::{HexFault, HexStop, bytes_of};
-pub use image::{begins_as_image, image_bytes, read_front};
+pub use image::{begins_as_image, image_bytes, read_first_bytes};
 pub use streams::{INPUT_LIMIT, Input, ReadStop, read_input, write_out};
 pub use text::{HexReader, TextStop};

@@ -8,7 +8,7 @@ use rv_word::{Instr, Reg};
 use sfi_formats::{BUNDLE_SIZE, CODE_BASE_REGISTER, DATA_BASE_REGISTER};
 use sfi_rewrite::PlacedName;
 
-// The address of what the name names; none where that is unknown.
+/// The address of what the name names; none where that is unknown.
 pub(crate) fn address_of(at: Bases, name: PlacedName) -> Option<u32>
     requires near { IsNear at name }
     ensures is { result ≡ address_of at name }
@@ -21,7 +21,7 @@ pub(crate) fn address_of(at: Bases, name: PlacedName) -> Option<u32>
     }
 }
 
-// The address to which a jump to the name goes; none where the name is no place of the code.
+/// The address to which a jump to the name goes; none where the name is no place of the code.
 fn target_of(at: Bases, name: PlacedName) -> Option<u32>
     requires near { IsNear at name }
     ensures is { result ≡ target_of at name }
@@ -33,7 +33,7 @@ fn target_of(at: Bases, name: PlacedName) -> Option<u32>
     }
 }
 
-// How far the name's address is from the base of its region; none where the name is unknown.
+/// How far the name's address is from the base of its region; none where the name is unknown.
 fn offset_of(at: Bases, name: PlacedName) -> Option<u32>
     requires near { IsNear at name }
     ensures is { result ≡ offset_of at name }
@@ -46,9 +46,9 @@ fn offset_of(at: Bases, name: PlacedName) -> Option<u32>
     }
 }
 
-// The register that holds the base of the region of what the name names; none where that is
-// unknown.
-fn base_of(name: PlacedName) -> Option<Reg>
+/// The register that holds the base of the region of what the name names; none where that is
+/// unknown.
+fn base_register_of(name: PlacedName) -> Option<Reg>
     ensures is { result ≡ base_of name }
 {
     match name {
@@ -70,7 +70,7 @@ pub fn address_at(at: Bases, names: &[PlacedName], place: usize) -> Option<u32>
     }
 }
 
-// How far that is from the base of its region.
+/// How far that is from the base of its region.
 fn offset_at(at: Bases, names: &[PlacedName], place: usize) -> Option<u32>
     requires { AreNear at names.now }
     ensures is { result ≡ of_name (offset_of at) (slice_get names.now place) }
@@ -81,7 +81,7 @@ fn offset_at(at: Bases, names: &[PlacedName], place: usize) -> Option<u32>
     }
 }
 
-// The number that the lui and the addi of `la` hold of name `place`.
+/// The number that the lui and the addi of `la` hold of name `place`.
 pub(crate) fn value_at(at: Bases, names: &[PlacedName], place: usize) -> Option<u32>
     requires { AreNear at names.now }
     ensures is { result ≡ value_at at names.now place }
@@ -93,17 +93,17 @@ pub(crate) fn value_at(at: Bases, names: &[PlacedName], place: usize) -> Option<
     }
 }
 
-// The register that holds the base of the region of what name `place` names.
+/// The register that holds the base of the region of what name `place` names.
 pub(crate) fn base_at(names: &[PlacedName], place: usize) -> Option<Reg>
     ensures is { result ≡ base_at names.now place }
 {
     match names.get(place) {
-        Some(name) => base_of(*name),
+        Some(name) => base_register_of(*name),
         None => None,
     }
 }
 
-// The address to which a jump to name `place` goes.
+/// The address to which a jump to name `place` goes.
 pub(crate) fn target_at(at: Bases, names: &[PlacedName], place: usize) -> Option<u32>
     requires { AreNear at names.now }
     ensures is { result ≡ target_at at names.now place }
@@ -115,22 +115,22 @@ pub(crate) fn target_at(at: Bases, names: &[PlacedName], place: usize) -> Option
     }
 }
 
-// The immediate of the lui for a number: bits 31:12 of the number plus 2048.
-pub(crate) fn upper(value: u32) -> u32
+/// The immediate of the lui for a number: bits 31:12 of the number plus 2048.
+pub(crate) fn upper_immediate(value: u32) -> u32
     ensures is { result ≡ upper (pos value) }
     ensures fits { result < 2 ^ 20 }
 {
     value.wrapping_add(2048) / 4096
 }
 
-// The immediate of the addi after that lui, from -2048 to 2047.
-pub(crate) fn lower(value: u32) -> i32
+/// The immediate of the addi after that lui, from -2048 to 2047.
+pub(crate) fn lower_immediate(value: u32) -> i32
     ensures { result ≡ lower (pos value) }
 {
     (value.wrapping_add(2048) % 4096) as i32 - 2048
 }
 
-// The offset from address `here` to address `there`.
+/// The offset from address `here` to address `there`.
 pub(crate) fn distance(here: u32, there: u32) -> i32
     requires back { here ≤ there + 2 ^ 20 }
     requires ahead { there ≤ here + 2 ^ 20 }
@@ -139,7 +139,7 @@ pub(crate) fn distance(here: u32, there: u32) -> i32
     (i64::from(there) - i64::from(here)) as i32
 }
 
-// The jal or branch with this offset.
+/// The jal or branch with this offset.
 pub(crate) fn with_offset(instr: Instr, offset: i32) -> Instr
     ensures { result ≡ with_offset offset instr }
 {

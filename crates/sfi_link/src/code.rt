@@ -17,7 +17,9 @@ ghost use Rattle.sfi_link.specs.private.{HasRoomFor, IsPushed, AreWritten, Links
 ghost use Rattle.sfi_link.specs.Faults.{IsUnknown, HasSlotFault, IsSlotFault};
 ghost use Rattle.sfi_rewrite.specs.declared.slot.BundleSlot.TheVariants.{Jump};
 
-use crate::address::{base_at, distance, lower, target_at, upper, value_at, with_offset};
+use crate::address::{
+    base_at, distance, lower_immediate, target_at, upper_immediate, value_at, with_offset,
+};
 use crate::bases::Bases;
 use crate::fault::LinkFault;
 use rv_comp::{Form16, write_short, write_wide};
@@ -25,7 +27,7 @@ use rv_word::{ImmOp, Instr, Reg, RegOp};
 use sfi_rewrite::{Bundle, BundleSlot, PlacedName};
 use std::alloc::AllocError;
 
-// Appends a 32-bit instruction.
+/// Appends a 32-bit instruction.
 fn push_wide(code: &mut Vec<u8>, instr: Instr) -> Result<(), AllocError>
     requires { InRange instr }
     ensures { OnOk result (code.new.items ≡ code.old.items ++ to_le_bytes w32 (spelling instr)) }
@@ -36,7 +38,7 @@ fn push_wide(code: &mut Vec<u8>, instr: Instr) -> Result<(), AllocError>
     Ok(())
 }
 
-// Appends a 16-bit form.
+/// Appends a 16-bit form.
 fn push_short(code: &mut Vec<u8>, form: Form16) -> Result<(), AllocError>
     requires { IsTrue (allowed form) }
     ensures { OnOk result (code.new.items ≡ code.old.items ++ to_le_bytes w16 (halfword_of form)) }
@@ -47,8 +49,8 @@ fn push_short(code: &mut Vec<u8>, form: Form16) -> Result<(), AllocError>
     Ok(())
 }
 
-// Appends the jal or branch to name `place`. `line` is that of the source, for a fault.
-fn push_jump(
+/// Appends the jal or branch to name `place`. `line` is that of the source, for a fault.
+fn push_named_jump(
     code: &mut Vec<u8>,
     at: Bases,
     names: &[PlacedName],
@@ -75,7 +77,7 @@ fn push_jump(
     Ok(())
 }
 
-// The number for which name `place` stands, or the fault that `line` uses a name without one.
+/// The number for which name `place` stands, or the fault that `line` uses a name without one.
 fn known_value(at: Bases, names: &[PlacedName], place: usize, line: u32) -> Result<u32, LinkFault>
     requires near { AreNear at names.now }
     ensures ok { IfOk result (λ value. value_at at names.now place ≡ Some value) }
@@ -87,7 +89,7 @@ fn known_value(at: Bases, names: &[PlacedName], place: usize, line: u32) -> Resu
     }
 }
 
-// The register with the base of the region of what name `place` names, or that fault.
+/// The register with the base of the region of what name `place` names, or that fault.
 fn known_base(names: &[PlacedName], place: usize, line: u32) -> Result<Reg, LinkFault>
     ensures ok { IfOk result (λ base. base_at names.now place ≡ Some base) }
     ensures err { IfErr result (IsUnknown (base_at names.now place) line) }
@@ -98,7 +100,7 @@ fn known_base(names: &[PlacedName], place: usize, line: u32) -> Result<Reg, Link
     }
 }
 
-// `addi rd, rd, imm`, which adds what a lui leaves of the number.
+/// `addi rd, rd, imm`, which adds what a lui leaves of the number.
 fn add_lower(rd: Reg, value: u32) -> Instr
     ensures { result ≡ OpImm Addi rd rd (lower (pos value)) }
 {
@@ -106,12 +108,12 @@ fn add_lower(rd: Reg, value: u32) -> Instr
         op: ImmOp::Addi,
         rd,
         rs1: rd,
-        imm: lower(value),
+        imm: lower_immediate(value),
     }
 }
 
-// `add rd, rd, base`.
-fn add_base(rd: Reg, base: Reg) -> Instr
+/// `add rd, rd, base`.
+fn add_base_instr(rd: Reg, base: Reg) -> Instr
     ensures { result ≡ Op Add rd rd base }
 {
     Instr::Op {
@@ -122,7 +124,7 @@ fn add_base(rd: Reg, base: Reg) -> Instr
     }
 }
 
-// Appends a slot.
+/// Appends a slot.
 fn push_slot(
     code: &mut Vec<u8>,
     at: Bases,
@@ -138,9 +140,11 @@ fn push_slot(
     match slot {
         BundleSlot::Wide(instr) => push_wide(code, instr)?,
         BundleSlot::Short(form) => push_short(code, form)?,
-        BundleSlot::Jump { instr, name, line } => push_jump(code, at, names, instr, name, line)?,
+        BundleSlot::Jump { instr, name, line } => push_named_jump(
+            code, at, names, instr, name, line,
+        )?,
         BundleSlot::Upper { rd, name, line } => {
-            let imm = upper(known_value(at, names, name, line)?);
+            let imm = upper_immediate(known_value(at, names, name, line)?);
             push_wide(code, Instr::Lui { rd, imm })?;
         }
         BundleSlot::Lower { rd, name, line } => {
@@ -149,14 +153,14 @@ fn push_slot(
         }
         BundleSlot::Region { rd, name, line } => {
             let base = known_base(names, name, line)?;
-            push_wide(code, add_base(rd, base))?;
+            push_wide(code, add_base_instr(rd, base))?;
         }
     }
     Ok(())
 }
 
-// Appends slots, one after another.
-fn push_slots(
+/// Appends slots, one after another.
+fn push_linked_slots(
     code: &mut Vec<u8>,
     at: Bases,
     names: &[PlacedName],
@@ -174,7 +178,7 @@ fn push_slots(
     Ok(())
 }
 
-// Appends the slots of bundles, one after another.
+/// Appends the slots of bundles, one after another.
 pub(crate) fn push_bundles(
     code: &mut Vec<u8>,
     at: Bases,
@@ -189,7 +193,7 @@ pub(crate) fn push_bundles(
         (IsSlotFault at names.now (at.code + length code.old.items) (slots_of bundles.now)) result }
 {
     for bundle in bundles {
-        push_slots(code, at, names, bundle.slots())?;
+        push_linked_slots(code, at, names, bundle.slots())?;
     }
     Ok(())
 }

@@ -25,8 +25,8 @@ use std::alloc::{AllocError, Global};
 
 const C_EBREAK: [u8; 2] = [0x02, 0x90];
 
-// How many bytes the slots of bundles take, no more than any format's code may have. Each bundle
-// but the last is full.
+/// How many bytes the slots of bundles take, no more than any format's code may have. Each bundle
+/// but the last is full.
 fn size_of_bundles(bundles: &[Bundle]) -> usize
     requires full { AreBundles bundles.now }
     requires fits { size_of (slots_of bundles.now) ≤ code_most Sfi2 }
@@ -41,7 +41,7 @@ fn size_of_bundles(bundles: &[Bundle]) -> usize
     }
 }
 
-// How many bytes the stubs, the code and one c.ebreak take.
+/// How many bytes the stubs, the code and one c.ebreak take.
 fn needed(part: &PlacedPart) -> usize
     requires { IsPlacedPart part.now }
     ensures { result ≡ needed part.now }
@@ -49,7 +49,7 @@ fn needed(part: &PlacedPart) -> usize
     BUNDLE_BYTES * part.gates().len() + size_of_bundles(part.bundles()) + C_EBREAK.len()
 }
 
-// The least size of a code region of the format in which `needed` bytes have room, if there is one.
+/// The least size of a code region of the format in which `needed` bytes have room, if there is one.
 fn code_size(format: Format, needed: usize) -> Option<usize>
     ensures least { IfSome result (IsCodeSize format needed) }
     ensures none { IfNone result ((size : ℕ) → HasRoom format needed size → ⊥) }
@@ -63,7 +63,7 @@ fn code_size(format: Format, needed: usize) -> Option<usize>
     Some(needed.next_power_of_two())
 }
 
-// Appends `count` copies of `copied` to the code.
+/// Appends `count` copies of `copied` to the code.
 fn push_copies(code: &mut Vec<u8>, copied: &[u8], count: usize) -> Result<(), AllocError>
     ensures { OnOk result (code.new.items ≡ code.old.items ++ repeat count copied.now) }
 {
@@ -73,8 +73,8 @@ fn push_copies(code: &mut Vec<u8>, copied: &[u8], count: usize) -> Result<(), Al
     Ok(())
 }
 
-// The bytes of the code region of sandbox `number`, whose spans are added to those of the
-// sandboxes before it in the list.
+/// The bytes of the code region of sandbox `number`, whose spans are added to those of the
+/// sandboxes before it in the list.
 pub(crate) fn linked_code(
     alloc: Global,
     given: &[Place],

@@ -25,7 +25,7 @@ use sfi_rewrite::{Placed, PlacedPart};
 use sfi_source::SourceGate;
 use std::alloc::{AllocError, Global};
 
-// The gates, whose stubs lie one after another from `address` on.
+/// The gates, whose stubs lie one after another from `address` on.
 fn gates_from(alloc: Global, address: u32, gates: &[SourceGate]) -> Result<Vec<Gate>, AllocError>
     requires few { length gates.now ≤ gates_most }
     requires room { address + bundle_size * length gates.now < 2 ^ 32 }
@@ -41,7 +41,7 @@ fn gates_from(alloc: Global, address: u32, gates: &[SourceGate]) -> Result<Vec<G
     Ok(listed)
 }
 
-// Sandbox `number`, with this code, as a part of an image.
+/// Sandbox `number`, with this code, as a part of an image.
 fn linked_part<'a>(
     alloc: Global,
     given: &[Place],
@@ -69,7 +69,7 @@ fn linked_part<'a>(
     })
 }
 
-// The code of each sandbox, or the first fault.
+/// The code of each sandbox, or the first fault.
 fn codes_of(
     alloc: Global,
     given: &[Place],
@@ -89,7 +89,7 @@ fn codes_of(
     Ok(codes)
 }
 
-// Each sandbox, all of this format, with its code.
+/// Each sandbox, all of this format, with its code.
 fn linked_parts<'a>(
     alloc: Global,
     given: &[Place],
@@ -112,8 +112,8 @@ fn linked_parts<'a>(
     Ok(parts)
 }
 
-// The image of what is placed, or its fault.
-fn image_of(alloc: Global, placed: &Placed, places: &[Place]) -> Result<Vec<u8>, LinkFault>
+/// The image of what is placed, or its fault.
+fn linked_image(alloc: Global, placed: &Placed, places: &[Place]) -> Result<Vec<u8>, LinkFault>
     ensures links { Links (λ bytes. IsLinkedImage places.now placed.now bytes.items)
         (IsLinkFault places.now placed.now) result }
     // What the type of `placed` keeps: `no_place` of the calls rests on it.
@@ -163,7 +163,7 @@ pub fn link_at(alloc: Global, placed: &Placed, places: &[Place]) -> Result<Vec<u
     ensures build { (source : List Sandbox) → ArePlacements source placed.now
         → IfOk result (λ bytes. IsBuild places.now source bytes.items) }
 {
-    image_of(alloc, placed, places)
+    linked_image(alloc, placed, places)
 }
 
 /// Links what is placed, as [`link_at`] does, with each sandbox at its usual place.

@@ -87,7 +87,7 @@ impl NameAddress {
     }
 }
 
-// What the name names; none where that is unknown.
+/// What the name names; none where that is unknown.
 fn kind_of(named: PlacedName) -> Option<NameKind>
     ensures { result ≡ kind_of named }
 {
@@ -99,8 +99,8 @@ fn kind_of(named: PlacedName) -> Option<NameKind>
     }
 }
 
-// Appends the name of sandbox `number`, if the text says what it names.
-fn push_name(
+/// Appends the name of sandbox `number`, if the text says what it names.
+fn list_name(
     alloc: Global,
     listed: &mut Vec<NameAddress>,
     number: u32,
@@ -124,8 +124,8 @@ fn push_name(
     Ok(())
 }
 
-// Appends the gates and labels of sandbox `number`.
-fn push_names(
+/// Appends the gates and labels of sandbox `number`.
+fn list_names(
     alloc: Global,
     listed: &mut Vec<NameAddress>,
     number: u32,
@@ -141,12 +141,12 @@ fn push_names(
         let Some(name) = names.text(place) else {
             continue;
         };
-        push_name(alloc, listed, number, at, name, *named)?;
+        list_name(alloc, listed, number, at, name, *named)?;
     }
     Ok(())
 }
 
-// The gates and labels of the sandboxes at these places, by what was placed of each.
+/// The gates and labels of the sandboxes at these places, by what was placed of each.
 fn listed_names(
     alloc: Global,
     given: &[Place],
@@ -164,7 +164,7 @@ fn listed_names(
             continue;
         };
         let at = bases_of(given, number as u32, part);
-        push_names(
+        list_names(
             alloc,
             &mut listed,
             number as u32,

@@ -12,7 +12,7 @@ use sfi_image::{Span, are_all_apart, has_guard_room, is_region, with_guards};
 use sfi_rewrite::PlacedPart;
 use std::alloc::AllocError;
 
-// Whether the sandbox may lie at `place` by itself, with a code region of `size` bytes.
+/// Whether the sandbox may lie at `place` by itself, with a code region of `size` bytes.
 fn is_right_place(part: &PlacedPart, size: u32, place: Place) -> bool
     ensures { IsTrue result ↔ IsRightPlace part.now size place }
 {
@@ -31,8 +31,8 @@ fn is_right_place(part: &PlacedPart, size: u32, place: Place) -> bool
     has_guard_room(place.data_base, data_size)
 }
 
-// Whether the sandbox may lie at `place`, with a code region of `size` bytes, apart from `spans`.
-// If so, its own spans are appended to these.
+/// Whether the sandbox may lie at `place`, with a code region of `size` bytes, apart from `spans`.
+/// If so, its own spans are appended to these.
 pub(crate) fn lies_beside(
     spans: &mut Vec<Span>,
     part: &PlacedPart,

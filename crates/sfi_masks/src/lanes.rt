@@ -23,7 +23,7 @@ pub(crate) fn low_and_high(bytes: &[u8]) -> (u8x16, u8x16)
 
 /// Looks up each lane in the table: lane `i` of the result is `table[lanes[i]]`.
 #[inline(always)]
-fn look_up(table: [u8; 16], lanes: u8x16) -> u8x16
+fn look_up_lanes(table: [u8; 16], lanes: u8x16) -> u8x16
     requires { (i : ℕ) → i < 16 → slice_index lanes i < 16 }
     ensures { HasLanes result (λ i. slice_index table (slice_index lanes i)) }
 {
@@ -35,12 +35,13 @@ fn look_up(table: [u8; 16], lanes: u8x16) -> u8x16
 fn classes_of_bytes(table: ByteTable, bytes: u8x16) -> u8x16
     ensures { HasLanes result (λ i. byte_classes table (slice_index bytes i)) }
 {
-    look_up(table.low, bytes & u8x16::splat(15)) & look_up(table.high, bytes >> u8x16::splat(4))
+    look_up_lanes(table.low, bytes & u8x16::splat(15))
+        & look_up_lanes(table.high, bytes >> u8x16::splat(4))
 }
 
 /// The classes of each halfword, by the table.
 #[inline(always)]
-pub(crate) fn classes_of_halves(table: HalfTable, low: u8x16, high: u8x16) -> u8x16
+pub(crate) fn classes_of_halfwords(table: HalfTable, low: u8x16, high: u8x16) -> u8x16
     ensures { HasLanes result (λ i. half_classes table (slice_index low i) (slice_index high i)) }
 {
     classes_of_bytes(table.low, low) & classes_of_bytes(table.high, high)
@@ -54,7 +55,7 @@ pub(crate) fn followed_classes(low: u8x16, high: u8x16) -> u8x16
         (λ i. followed (slice_index low i) (slice_index high i) (slice_index high ((i + 1) % 16))) }
 {
     let next = classes_of_bytes(NEXT, high).rotate_elements_left::<1>();
-    classes_of_halves(FOLLOWED, low, high) & next
+    classes_of_halfwords(FOLLOWED, low, high) & next
 }
 
 /// Which classes of [`FOLLOWED`] are free in code in words: the accesses too where their base is
@@ -64,8 +65,8 @@ pub(crate) fn free_in_words(low: u8x16, high: u8x16) -> u8x16
     ensures { HasLanes result
         (λ i. free_in_words (slice_index high i) (slice_index low ((i + 1) % 16))) }
 {
-    let odd = look_up(ON_ODD, low & u8x16::splat(15)).rotate_elements_left::<1>();
-    let even = look_up(ON_EVEN, low & u8x16::splat(15)).rotate_elements_left::<1>();
+    let odd = look_up_lanes(ON_ODD, low & u8x16::splat(15)).rotate_elements_left::<1>();
+    let even = look_up_lanes(ON_EVEN, low & u8x16::splat(15)).rotate_elements_left::<1>();
     (high & u8x16::splat(0x80))
         .simd_eq(u8x16::splat(0x80))
         .select(odd, even)
@@ -76,7 +77,7 @@ pub(crate) fn free_in_words(low: u8x16, high: u8x16) -> u8x16
 pub(crate) fn rest_classes(stack: bool, low: u8x16, high: u8x16) -> u8x16
     ensures { HasLanes result (λ i. rest stack (slice_index low i) (slice_index high i)) }
 {
-    classes_of_halves(REST, low, high) & u8x16::splat(if stack { ALL } else { PLAIN })
+    classes_of_halfwords(REST, low, high) & u8x16::splat(if stack { ALL } else { PLAIN })
 }
 
 /// The classes that each halfword may be in, by the register that its bits 11:7 name.
@@ -101,7 +102,10 @@ pub(crate) fn kept_in_words(low: u8x16, high: u8x16) -> u8x16
     let pair = high & u8x16::splat(15);
     (low & u8x16::splat(0x80))
         .simd_eq(u8x16::splat(0x80))
-        .select(look_up(WORDS_ODD, pair), look_up(WORDS_EVEN, pair))
+        .select(
+            look_up_lanes(WORDS_ODD, pair),
+            look_up_lanes(WORDS_EVEN, pair),
+        )
 }
 
 /// A bit for each halfword whose two lowest bits are 11.

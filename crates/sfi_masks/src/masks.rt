@@ -4,7 +4,7 @@ ghost use Rattle.sfi_masks.specs.Masks.{AreMasks, AreMasksInWords, is_in};
 ghost use Rattle.sfi_masks.specs.private.{AreSeen, bundles, words, of_four};
 
 use crate::lanes::{
-    bits_of, classes_of_halves, followed_classes, free_in_words, kept_classes, kept_in_words,
+    bits_of, classes_of_halfwords, followed_classes, free_in_words, kept_classes, kept_in_words,
     long_bits, low_and_high, rest_classes,
 };
 use crate::tables::{ACCESSES, ALONE, FREE};
@@ -25,14 +25,15 @@ pub struct Masks {
     pub access: u64,
 }
 
-/// The masks of 16 halfwords.
+/// The masks of a quarter of a block, two bundles: 16 halfwords, in the low bits of each mask.
+/// `stack` as in [`masks_of`].
 #[inline(always)]
 fn masks_of_quarter(stack: bool, bytes: &[u8]) -> Masks
     requires { length bytes.now ≡ 32 }
     ensures { AreSeen (bundles stack) (λ k. slice_index bytes.now k) result }
 {
     let (low, high) = low_and_high(bytes);
-    let alone = classes_of_halves(ALONE, low, high);
+    let alone = classes_of_halfwords(ALONE, low, high);
     let followed = followed_classes(low, high);
     let rest = rest_classes(stack, low, high);
     let kept = kept_classes(stack, low, high);
@@ -43,14 +44,14 @@ fn masks_of_quarter(stack: bool, bytes: &[u8]) -> Masks
     }
 }
 
-/// The masks of 16 halfwords of code in words.
+/// The masks of a quarter of a block of code in words: 16 halfwords, in the low bits of each mask.
 #[inline(always)]
 fn word_masks_of_quarter(bytes: &[u8]) -> Masks
     requires { length bytes.now ≡ 32 }
     ensures { AreSeen words (λ k. slice_index bytes.now k) result }
 {
     let (low, high) = low_and_high(bytes);
-    let alone = classes_of_halves(ALONE, low, high);
+    let alone = classes_of_halfwords(ALONE, low, high);
     let followed = followed_classes(low, high);
     let rest = rest_classes(true, low, high);
     let free = free_in_words(low, high);
@@ -64,7 +65,7 @@ fn word_masks_of_quarter(bytes: &[u8]) -> Masks
 
 /// Four numbers of 16 bits side by side, the first lowest.
 #[inline(always)]
-fn joined(a: u64, b: u64, c: u64, d: u64) -> u64
+fn four_quarters(a: u64, b: u64, c: u64, d: u64) -> u64
     requires a { a < 2 ^ 16 }
     requires b { b < 2 ^ 16 }
     requires c { c < 2 ^ 16 }
@@ -77,7 +78,7 @@ fn joined(a: u64, b: u64, c: u64, d: u64) -> u64
 /// The masks of a block. Each kind of format has code of its own, so that it isn't asked for at
 /// each vector.
 #[inline(always)]
-fn masks_in<const STACK: bool>(block: &[u8; BLOCK_BYTES]) -> Masks
+fn masks_of_block<const STACK: bool>(block: &[u8; BLOCK_BYTES]) -> Masks
     ensures { AreMasks STACK block.now result }
 {
     let first = masks_of_quarter(STACK, &block[..32]);
@@ -85,9 +86,9 @@ fn masks_in<const STACK: bool>(block: &[u8; BLOCK_BYTES]) -> Masks
     let third = masks_of_quarter(STACK, &block[64..96]);
     let fourth = masks_of_quarter(STACK, &block[96..]);
     Masks {
-        long: joined(first.long, second.long, third.long, fourth.long),
-        free: joined(first.free, second.free, third.free, fourth.free),
-        access: joined(first.access, second.access, third.access, fourth.access),
+        long: four_quarters(first.long, second.long, third.long, fourth.long),
+        free: four_quarters(first.free, second.free, third.free, fourth.free),
+        access: four_quarters(first.access, second.access, third.access, fourth.access),
     }
 }
 
@@ -97,9 +98,9 @@ pub fn masks_of(stack: bool, block: &[u8; BLOCK_BYTES]) -> Masks
     ensures { AreMasks stack block.now result }
 {
     if stack {
-        masks_in::<true>(block)
+        masks_of_block::<true>(block)
     } else {
-        masks_in::<false>(block)
+        masks_of_block::<false>(block)
     }
 }
 
@@ -113,8 +114,8 @@ pub fn word_masks_of(block: &[u8; BLOCK_BYTES]) -> Masks
     let third = word_masks_of_quarter(&block[64..96]);
     let fourth = word_masks_of_quarter(&block[96..]);
     Masks {
-        long: joined(first.long, second.long, third.long, fourth.long),
-        free: joined(first.free, second.free, third.free, fourth.free),
-        access: joined(first.access, second.access, third.access, fourth.access),
+        long: four_quarters(first.long, second.long, third.long, fourth.long),
+        free: four_quarters(first.free, second.free, third.free, fourth.free),
+        access: four_quarters(first.access, second.access, third.access, fourth.access),
     }
 }

@@ -2,7 +2,7 @@
 use Rattle.std.specs.Prelude.{ℕ, ◌≤◌, List, [], ◌∷◌, ◌++◌, length, ◌≡◌, Option, Some, None, if◌then◌else◌}
 use Rattle.std.specs.List.{All, flat_map}
 use Rattle.sfi_image.specs.Spelling.{number, IsWord}
-use Rattle.sfi_names.specs.declared.entry.Entry.{Entry}
+use Rattle.sfi_names.specs.declared.entry.NameEntry.{NameEntry}
 use Rattle.sfi_names.specs.declared.names.Names.{Names}
 use Rattle.std.specs.Str.{bytes_eq}
 
@@ -81,7 +81,7 @@ pub record IsNamesOf (n : Names) (t : Table) : Type 0 where
   pub imports_are : n.imports.now ≡ entries t.imports
 
 -- the name and the address that the reader's value stands for
-abbrev pub named : Entry → Named
+abbrev pub named : NameEntry → Named
 named e = record { address = e.address; name = e.name.now }
 
 -- ==== What a name stands for.

@@ -14,14 +14,14 @@ pub(crate) const NUMBER_BYTES: usize = 4;
 
 /// A name with its address.
 #[derive(Clone, Copy)]
-pub struct Entry<'a> {
+pub struct NameEntry<'a> {
     /// Where the function, the object or the gate lies, as the table says.
     pub address: u32,
     /// Its 1 to 255 bytes, each a visible character of ASCII.
     pub name: &'a [u8],
 }
 
-// The number at the front, and the bytes after it.
+/// The number at the front, and the bytes after it.
 pub(crate) fn number_at(bytes: &[u8]) -> (u32, &[u8])
     requires { NUMBER_BYTES ≤ length bytes.now }
     ensures front { bytes.now ≡ number result.0 ++ result.1.now }
@@ -32,7 +32,7 @@ pub(crate) fn number_at(bytes: &[u8]) -> (u32, &[u8])
     (LittleEndian::read_u32(front), rest)
 }
 
-// Appends the number in four bytes.
+/// Appends the number in four bytes.
 #[tactic(auto, unfolding(sfi_image::specs::Spelling::number))]
 pub(crate) fn push_number(bytes: &mut Vec<u8>, n: u32) -> Result<(), AllocError>
     ensures { OnOk result (bytes.new.items ≡ bytes.old.items ++ number n) }
@@ -43,7 +43,7 @@ pub(crate) fn push_number(bytes: &mut Vec<u8>, n: u32) -> Result<(), AllocError>
     Ok(())
 }
 
-impl Entry<'_> {
+impl NameEntry<'_> {
     /// Appends the entry's bytes.
     #[tactic(auto, using(std::proofs::Common::append_assoc), unfolding(crate::specs::Tables::entry))]
     pub fn push(&self, bytes: &mut Vec<u8>) -> Result<(), AllocError>
@@ -57,7 +57,7 @@ impl Entry<'_> {
     }
 }
 
-// The bytes are a name.
+/// The bytes are a name.
 fn is_name(bytes: &[u8]) -> bool
     ensures { IsTrue result ↔ IsName bytes.now }
 {
@@ -71,7 +71,7 @@ fn is_name(bytes: &[u8]) -> bool
 }
 
 /// The entry at the front of the bytes, and the bytes after it; or none, if no entry begins them.
-pub fn first_entry(bytes: &[u8]) -> Option<(Entry<'_>, &[u8])>
+pub fn first_name_entry(bytes: &[u8]) -> Option<(NameEntry<'_>, &[u8])>
     ensures found { IfSome result (λ f. IsNamed (named f.0)
         × (bytes.now ≡ entry (named f.0) ++ f.1.now)) }
     ensures none { IfNone result ((e : Named) (rest : List ℕ) → IsNamed e
@@ -89,19 +89,19 @@ pub fn first_entry(bytes: &[u8]) -> Option<(Entry<'_>, &[u8])>
     }
     let (name, rest) = rest.split_at(size);
     if is_name(name) {
-        Some((Entry { address, name }, rest))
+        Some((NameEntry { address, name }, rest))
     } else {
         None
     }
 }
 
-// The bytes are entries and nothing else.
-pub(crate) fn are_entries(bytes: &[u8]) -> bool
+/// The bytes are entries and nothing else.
+pub(crate) fn are_name_entries(bytes: &[u8]) -> bool
     ensures { IsTrue result ↔ ((es : List Named) × All IsNamed es × (bytes.now ≡ entries es)) }
 {
     let mut rest = bytes;
     while !rest.is_empty() {
-        match first_entry(rest) {
+        match first_name_entry(rest) {
             Some((_, more)) => rest = more,
             None => return false,
         }
@@ -109,13 +109,13 @@ pub(crate) fn are_entries(bytes: &[u8]) -> bool
     true
 }
 
-// The address of the first of the entries that has the name.
+/// The address of the first of the entries that has the name.
 pub(crate) fn address_named(bytes: &[u8], name: &[u8]) -> Option<u32>
     ensures { (es : List Named) → All IsNamed es → bytes.now ≡ entries es
         → result ≡ address_of name.now es }
 {
     let mut rest = bytes;
-    while let Some((entry, more)) = first_entry(rest) {
+    while let Some((entry, more)) = first_name_entry(rest) {
         if entry.name == name {
             return Some(entry.address);
         }

@@ -16,7 +16,7 @@ pub(crate) struct Footer<'a> {
     pub(crate) before: &'a [u8],
 }
 
-// The last `count` bytes, with those before them.
+/// The last `count` bytes, with those before them.
 pub(crate) fn cut_end(bytes: &[u8], count: usize) -> Option<(&[u8], &[u8])>
     ensures found { IfSome result (λ f. (bytes.now ≡ f.0.now ++ f.1.now) × (length f.1.now ≡ count)) }
     ensures none { IfNone result (length bytes.now < count) }
@@ -27,7 +27,7 @@ pub(crate) fn cut_end(bytes: &[u8], count: usize) -> Option<(&[u8], &[u8])>
     Some(bytes.split_at(bytes.len() - count))
 }
 
-// The numbers at the end of the bytes.
+/// The numbers at the end of the bytes.
 pub(crate) fn footer_of(bytes: &[u8]) -> Option<Footer<'_>>
     ensures found { IfSome result (λ f. bytes.now ≡ f.before.now
         ++ (number f.version ++ (number f.exports_bytes ++ number f.imports_bytes))) }

@@ -80,11 +80,11 @@ pub fn address_in(image: &[u8], number: u32, kind: Kind, name: &[u8]) -> Result<
     ensures only { (r : Result ℕ Missing) → IsAnswer image.now number kind name.now r
         → result ≡ r }
 {
-    look_up(image, number, kind, name)
+    find_address(image, number, kind, name)
 }
 
-// The address that a name stands for, or why there is none.
-fn look_up(image: &[u8], number: u32, kind: Kind, name: &[u8]) -> Result<u32, Missing>
+/// The address that a name stands for, or why there is none.
+fn find_address(image: &[u8], number: u32, kind: Kind, name: &[u8]) -> Result<u32, Missing>
     ensures { IsAnswer image.now number kind name.now result }
 {
     let names = read_names(image, number)?;
@@ -98,21 +98,21 @@ fn look_up(image: &[u8], number: u32, kind: Kind, name: &[u8]) -> Result<u32, Mi
     }
 }
 
-// The table of the image's sandbox `number`, or why there is none.
+/// The table of the image's sandbox `number`, or why there is none.
 fn read_names<'a>(image: &'a [u8], number: u32) -> Result<Names<'a>, Missing>
     ensures found { IfOk result (λ n. (t : Table) × HasTableOf image.entry.now number t
         × IsNamesOf n t) }
     ensures missing { IfErr result (λ m. HasNoTable image.entry.now number m) }
 {
-    match Names::at_end(init_of(image, number)?) {
+    match Names::at_end(init_bytes(image, number)?) {
         Ok(names) => Ok(names),
         Err(NamesFault::NoTable) => Err(Missing::NoTable),
         Err(NamesFault::BadTable) => Err(Missing::BadTable),
     }
 }
 
-// The first data bytes of the image's sandbox `number`, or why there are none.
-fn init_of<'a>(image: &'a [u8], number: u32) -> Result<&'a [u8], Missing>
+/// The first data bytes of the image's sandbox `number`, or why there are none.
+fn init_bytes<'a>(image: &'a [u8], number: u32) -> Result<&'a [u8], Missing>
     ensures found { IfOk result (λ d. IsInitOf image.entry.now number d.now) }
     ensures missing { IfErr result (λ m. HasNoInit image.entry.now number m) }
 {

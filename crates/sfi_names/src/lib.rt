@@ -12,7 +12,7 @@ mod footer;
 mod image;
 mod names;
 
-pub use entry::{Entry, first_entry};
+pub use entry::{NameEntry, first_name_entry};
 pub use fault::NamesFault;
 pub use image::{Kind, Missing, address_in, names_in};
 pub use names::Names;

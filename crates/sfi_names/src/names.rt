@@ -6,7 +6,7 @@ ghost use Rattle.sfi_names.specs.Tables.{EndsIn, HasTable, IsNamesOf};
 ghost use Rattle.sfi_names.specs.Tables.{address_of};
 ghost use Rattle.sfi_names.specs.Faults.{IsFault};
 
-use crate::entry::{address_named, are_entries, push_number};
+use crate::entry::{address_named, are_name_entries, push_number};
 use crate::fault::NamesFault;
 use crate::footer::{cut_end, footer_of};
 use std::alloc::AllocError;
@@ -14,7 +14,7 @@ use std::alloc::AllocError;
 /// The four bytes in which a table ends.
 const MAGIC: [u8; 4] = *b"SFIN";
 
-/// A table of names, as it lies in bytes. [`first_entry`](crate::first_entry) goes through its
+/// A table of names, as it lies in bytes. [`first_name_entry`](crate::first_name_entry) goes through its
 /// exports and imports.
 #[derive(Clone, Copy)]
 pub struct Names<'a> {
@@ -75,7 +75,7 @@ impl<'a> Names<'a> {
     }
 }
 
-// The bytes before the magic, if they end in it.
+/// The bytes before the magic, if they end in it.
 fn before_magic(bytes: &[u8]) -> Option<&[u8]>
     ensures found { IfSome result (λ b. bytes.now ≡ b.now ++ magic) }
     ensures none { IfNone result (EndsIn bytes.now magic → ⊥) }
@@ -88,7 +88,7 @@ fn before_magic(bytes: &[u8]) -> Option<&[u8]>
     }
 }
 
-// The table whose bytes before the magic end these.
+/// The table whose bytes before the magic end these.
 fn names_before(bytes: &[u8]) -> Option<Names<'_>>
     ensures found { IfSome result (λ n. (t : Table) × HasTable (bytes.now ++ magic) t
         × IsNamesOf n t) }
@@ -97,10 +97,10 @@ fn names_before(bytes: &[u8]) -> Option<Names<'_>>
     let footer = footer_of(bytes)?;
     let (before, imports) = cut_end(footer.before, footer.imports_bytes as usize)?;
     let (_, exports) = cut_end(before, footer.exports_bytes as usize)?;
-    if !are_entries(exports) {
+    if !are_name_entries(exports) {
         return None;
     }
-    if !are_entries(imports) {
+    if !are_name_entries(imports) {
         return None;
     }
     Some(Names {

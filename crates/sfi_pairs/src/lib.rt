@@ -1,8 +1,10 @@
-//! What a sandbox is confined by in its instructions: the masked pairs (Wahbe, Lucco, Anderson and
-//! Graham, "Efficient Software-Based Fault Isolation", 1993), a gate's stub, and the tests of the
-//! registers that have a part in that.
+//! The masked pairs, the two instructions that put a register into the data or the code region
+//! (Wahbe, Lucco, Anderson and Graham, "Efficient Software-Based Fault Isolation", 1993), the bytes
+//! of a gate's stub, and tests of registers: which are reserved, data registers of code in words, or
+//! withheld from a source of code in bundles.
 //!
-//! The definitions in `specs/` decide; the stub's bytes are proved to agree ([`stub_agrees`]).
+//! The definitions in `specs/`, of registers those of `sfi_formats`, decide; the stub's bytes are
+//! proved to agree ([`stub_agrees`]).
 #![tactic(auto)]
 
 mod laws;

@@ -7,7 +7,7 @@ use sfi_formats::{CODE_BASE_REGISTER, CODE_MASK_REGISTER, DATA_BASE_REGISTER, DA
 
 /// `and target, a, mask`, `or target, target, base`.
 #[inline]
-fn pair(mask: Reg, base: Reg, target: Reg, a: Reg) -> [Instr; 2]
+fn masked_pair(mask: Reg, base: Reg, target: Reg, a: Reg) -> [Instr; 2]
     ensures { result ≡ pair mask base target a }
 {
     [
@@ -32,7 +32,7 @@ pub fn data_pair(target: Reg, a: Reg) -> [Instr; 2]
     ensures { result ≡ data_pair target a }
 {
     let mask = Reg::numbered(DATA_MASK_REGISTER);
-    pair(mask, Reg::numbered(DATA_BASE_REGISTER), target, a)
+    masked_pair(mask, Reg::numbered(DATA_BASE_REGISTER), target, a)
 }
 
 /// The pair after which the target is a bundle start of the code region, with the offset of `a`'s
@@ -42,5 +42,5 @@ pub fn code_pair(target: Reg, a: Reg) -> [Instr; 2]
     ensures { result ≡ code_pair target a }
 {
     let mask = Reg::numbered(CODE_MASK_REGISTER);
-    pair(mask, Reg::numbered(CODE_BASE_REGISTER), target, a)
+    masked_pair(mask, Reg::numbered(CODE_BASE_REGISTER), target, a)
 }

@@ -3,7 +3,7 @@ use Rattle.sfi_places.specs.Moving.{FindingsArePlaceless, CleanIsPlaceless, Move
 use Rattle.sfi_places.specs.Beside.{BesideIsAsOne, BesideByPairs}
 use Rattle.sfi_places.proofs.Relaid as beside
 use Rattle.sfi_places.proofs.Moves as moves
-use Rattle.sfi_places.proofs.Moving as moving
+use Rattle.sfi_places.proofs.Placeless as moving
 
 pub findings_are_placeless : FindingsArePlaceless
 findings_are_placeless = moving.findings_are_placeless

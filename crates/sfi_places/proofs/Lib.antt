@@ -1,4 +1,4 @@
-pub mod Moving
+pub mod Placeless
 mod Writing
 mod Placing
 mod Moves

@@ -20,8 +20,8 @@ use Rattle.sfi_image.proofs.Regions.{right_words}
 use Rattle.sfi_image.proofs.Fronts.{same_front, same_number, same_list, same_part}
 use Rattle.sfi_image.proofs.Facts.{whole_bundles, code_ends, one_image, never_both, one_fault}
 use Rattle.sfi_image.proofs.Formats.{one_magic}
-use Rattle.sfi_places.specs.declared.relocation.MoveFault.{MoveFault}
-use Rattle.sfi_places.specs.declared.relocation.MoveFault.TheVariants.{NoImage, NoSandbox, NoPlace}
+use Rattle.sfi_places.specs.declared.moving.MoveFault.{MoveFault}
+use Rattle.sfi_places.specs.declared.moving.MoveFault.TheVariants.{NoImage, NoSandbox, NoPlace}
 use Rattle.sfi_image.specs.declared.cursor.PartView.{PartView}
 use Rattle.sfi_image.specs.Keeping.{IsViewOf, IsSandboxOf, IsBeyond, LiesAt, sandbox_offset}
 use Rattle.sfi_rules.specs.declared.finding.Finding.{Finding}
@@ -29,7 +29,7 @@ use Rattle.sfi_rules.specs.Findings.{AreFindings, AreFindingsFrom}
 use Rattle.sfi_safety.proofs.Places.{nothing_before}
 use Rattle.sfi_safety.specs.Clean.{IsAccepted}
 use Rattle.sfi_places.specs.Moving.{moved_one, IsMoved, IsMoveFault, OneMoves, moved_address, moved_gate, moved}
-use Rattle.sfi_places.proofs.Moving.{clean_is_placeless}
+use Rattle.sfi_places.proofs.Placeless.{clean_is_placeless}
 use Rattle.sfi_places.specs.private.{IsReplaced, GoesTo, GatesGo, CanMove}
 use Rattle.sfi_image.proofs.Seeking.{length-head, split_at, spelled, spelled_round, image_split}
 use Rattle.sfi_places.proofs.Writing.{one_of}

@@ -18,7 +18,7 @@ use Rattle.sfi_rules.specs.declared.finding.Finding.{Finding}
 use Rattle.sfi_rules.specs.Findings.{AreFindings, AreFindingsFrom}
 use Rattle.sfi_safety.proofs.Places.{nothing_before}
 use Rattle.sfi_places.specs.Moving.{moved_address, moved_gate, moved, MovedIsRight, Bases, moved_all, AcceptedMoves}
-use Rattle.sfi_places.proofs.Moving.{clean_is_placeless}
+use Rattle.sfi_places.proofs.Placeless.{clean_is_placeless}
 
 -- ==== Two clean images that lie apart are as one.
 

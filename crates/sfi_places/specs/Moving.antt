@@ -8,8 +8,8 @@ use Rattle.sfi_rules.specs.declared.finding.Finding.{Finding}
 use Rattle.sfi_rules.specs.Findings.{AreFindings}
 use Rattle.sfi_formats.specs.declared.place.Place.{Place}
 use Rattle.sfi_image.specs.Faults.{IsFault}
-use Rattle.sfi_places.specs.declared.relocation.MoveFault.{MoveFault}
-use Rattle.sfi_places.specs.declared.relocation.MoveFault.TheVariants.{NoImage, NoSandbox, NoPlace}
+use Rattle.sfi_places.specs.declared.moving.MoveFault.{MoveFault}
+use Rattle.sfi_places.specs.declared.moving.MoveFault.TheVariants.{NoImage, NoSandbox, NoPlace}
 use Rattle.sfi_image.specs.Keeping.{IsBeyond}
 
 -- ==== A sandbox of the same bytes at another place.

@@ -19,7 +19,7 @@ pub(crate) const GATES_AT: usize = 28;
 
 const GATE_BYTES: usize = 8;
 
-// Moves the address at `offset` of the image by as much as `to` is from `from`.
+/// Moves the address at `offset` of the image by as much as `to` is from `from`.
 fn write_address(image: &mut [u8], offset: usize, from: u32, to: u32)
     requires { (at : ℕ) × GoesTo from to at × LiesAt image.old offset (number at) }
     ensures { (at : ℕ) → GoesTo from to at
@@ -29,9 +29,9 @@ fn write_address(image: &mut [u8], offset: usize, from: u32, to: u32)
     LittleEndian::write_u32(&mut image[offset..], to + (address - from));
 }
 
-// Moves the addresses of `gate_count` gates, the first of which stands at `offset`, by as much as
-// `to` is from `from`.
-fn write_gates(image: &mut [u8], offset: usize, gate_count: u32, from: u32, to: u32)
+/// Moves the addresses of `gate_count` gates, the first of which stands at `offset`, by as much as
+/// `to` is from `from`.
+fn move_gates(image: &mut [u8], offset: usize, gate_count: u32, from: u32, to: u32)
     requires { (gs : List Gate) × (length gs ≡ gate_count) × GatesGo from to gs
         × LiesAt image.old offset (flat_map gate gs) }
     ensures { (gs : List Gate) → length gs ≡ gate_count → GatesGo from to gs
@@ -53,7 +53,7 @@ pub(crate) fn write_place(image: &mut [u8], offset: usize, gate_count: u32, from
     write_address(image, offset, from.code_base, to.code_base);
     write_address(image, offset + DATA_BASE_AT, from.data_base, to.data_base);
     write_address(image, offset + START_AT, from.code_base, to.code_base);
-    write_gates(
+    move_gates(
         image,
         offset + GATES_AT,
         gate_count,

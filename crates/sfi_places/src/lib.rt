@@ -8,6 +8,6 @@
 #![tactic(auto)]
 
 mod addresses;
-mod relocation;
+mod moving;
 
-pub use relocation::{MoveFault, move_sandbox};
+pub use moving::{MoveFault, move_sandbox};

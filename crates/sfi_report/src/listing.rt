@@ -48,7 +48,7 @@ fn push_rest(out: &mut String, address: u32, bytes: &[u8]) -> Result<(), AllocEr
 }
 
 /// Writes the lines of the unit of code at the address.
-fn push_unit(out: &mut String, address: u32, bytes: &[u8]) -> Result<(), AllocError>
+fn list_unit(out: &mut String, address: u32, bytes: &[u8]) -> Result<(), AllocError>
     requires { address + length bytes.now ≤ 2 ^ 32 }
     ensures { OnOk result (Adds (string_bytes out.old) (string_bytes out.new)
         (IsUnitListing address bytes.now)) }
@@ -78,8 +78,8 @@ fn push_region(out: &mut String, base: u32, size: usize) -> Result<(), AllocErro
     write!(out, " {size}")
 }
 
-/// Writes the line of the sandbox's fields.
-fn push_fields(out: &mut String, sandbox: u32, part: &SandboxPart) -> Result<(), AllocError>
+/// Writes the listing's line of the sandbox's fields.
+fn list_fields(out: &mut String, sandbox: u32, part: &SandboxPart) -> Result<(), AllocError>
     ensures { (format : Format) → OnOk result (string_bytes out.new
         ≡ string_bytes out.old ++ sandbox_line sandbox (view format part.now)) }
 {
@@ -94,8 +94,8 @@ fn push_fields(out: &mut String, sandbox: u32, part: &SandboxPart) -> Result<(),
     write!(out, " gates {gates} init {init}\n")
 }
 
-/// Writes the line of a gate.
-fn push_gate(out: &mut String, gate: &Gate) -> Result<(), AllocError>
+/// Writes the listing's line of a gate, `gate ADDRESS SERVICE`.
+fn list_gate(out: &mut String, gate: &Gate) -> Result<(), AllocError>
     ensures { OnOk result (string_bytes out.new ≡ string_bytes out.old ++ gate_line gate.now) }
 {
     out.push_str("gate ")?;
@@ -105,7 +105,7 @@ fn push_gate(out: &mut String, gate: &Gate) -> Result<(), AllocError>
 }
 
 /// Writes the lines of a sandbox.
-fn push_sandbox(
+fn list_sandbox(
     out: &mut String,
     format: Format,
     sandbox: u32,
@@ -115,16 +115,16 @@ fn push_sandbox(
     ensures { OnOk result (Adds (string_bytes out.old) (string_bytes out.new)
         (IsSandboxListing sandbox (view format part.now))) }
 {
-    push_fields(out, sandbox, part)?;
+    list_fields(out, sandbox, part)?;
     for gate in &part.gates {
-        push_gate(out, gate)?;
+        list_gate(out, gate)?;
     }
     push_names(out, part.init)?;
-    push_code(out, format, part)
+    list_code(out, format, part)
 }
 
 /// Writes the lines of a sandbox's code, unit by unit.
-fn push_code(out: &mut String, format: Format, part: &SandboxPart) -> Result<(), AllocError>
+fn list_code(out: &mut String, format: Format, part: &SandboxPart) -> Result<(), AllocError>
     requires { IsRightPart (view format part.now) }
     ensures { OnOk result (Adds (string_bytes out.old) (string_bytes out.new)
         (IsCodeListing (view format part.now))) }
@@ -133,7 +133,7 @@ fn push_code(out: &mut String, format: Format, part: &SandboxPart) -> Result<(),
     let mut at = 0;
     while at < part.code.len() {
         let end = at + unit;
-        push_unit(out, part.code_base + at as u32, &part.code[at..end])?;
+        list_unit(out, part.code_base + at as u32, &part.code[at..end])?;
         at = end;
     }
     Ok(())
@@ -164,7 +164,7 @@ pub fn listing_text(alloc: Global, image: &Image<'_>) -> Result<String, AllocErr
     let format = image.format();
     push_format(&mut out, format)?;
     for (sandbox, part) in image.parts().iter().enumerate() {
-        push_sandbox(&mut out, format, sandbox as u32, part)?;
+        list_sandbox(&mut out, format, sandbox as u32, part)?;
     }
     Ok(out)
 }

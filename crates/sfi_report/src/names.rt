@@ -7,7 +7,7 @@ ghost use Rattle.sfi_report.specs.Listing.{kind_word, name_line, interface_line,
 ghost use Rattle.sfi_report.specs.private.{Adds};
 
 use crate::digits::push_eight_digits;
-use sfi_names::{Entry, Kind, Names, first_entry};
+use sfi_names::{Kind, NameEntry, Names, first_name_entry};
 use std::alloc::{AllocError, Global};
 
 /// Writes the word for a name of this kind.
@@ -22,7 +22,7 @@ fn push_kind(out: &mut String, kind: Kind) -> Result<(), AllocError>
 }
 
 /// Writes the bytes of a name.
-fn push_name(out: &mut String, name: &[u8]) -> Result<(), AllocError>
+fn push_name_bytes(out: &mut String, name: &[u8]) -> Result<(), AllocError>
     requires { IsName name.now }
     ensures { OnOk result (string_bytes out.new ≡ string_bytes out.old ++ name.now) }
 {
@@ -33,7 +33,7 @@ fn push_name(out: &mut String, name: &[u8]) -> Result<(), AllocError>
 }
 
 /// Writes the line of a name.
-fn push_entry(out: &mut String, kind: Kind, entry: &Entry<'_>) -> Result<(), AllocError>
+fn push_name_line(out: &mut String, kind: Kind, entry: &NameEntry<'_>) -> Result<(), AllocError>
     requires { IsNamed (named entry.now) }
     ensures { OnOk result (string_bytes out.new
         ≡ string_bytes out.old ++ name_line kind (named entry.now)) }
@@ -41,7 +41,7 @@ fn push_entry(out: &mut String, kind: Kind, entry: &Entry<'_>) -> Result<(), All
     push_kind(out, kind)?;
     push_eight_digits(out, entry.address)?;
     out.push_str(" ")?;
-    push_name(out, entry.name)?;
+    push_name_bytes(out, entry.name)?;
     out.push_str("\n")
 }
 
@@ -52,15 +52,15 @@ fn push_entries(out: &mut String, kind: Kind, bytes: &[u8]) -> Result<(), AllocE
         ≡ string_bytes out.old ++ flat_map (name_line kind) es) }
 {
     let mut rest = bytes;
-    while let Some((entry, more)) = first_entry(rest) {
-        push_entry(out, kind, &entry)?;
+    while let Some((entry, more)) = first_name_entry(rest) {
+        push_name_line(out, kind, &entry)?;
         rest = more;
     }
     Ok(())
 }
 
 /// Writes the line of the version of the host's interface.
-fn push_interface(out: &mut String, version: u32) -> Result<(), AllocError>
+fn push_interface_line(out: &mut String, version: u32) -> Result<(), AllocError>
     ensures { OnOk result (string_bytes out.new
         ≡ string_bytes out.old ++ interface_line version) }
 {
@@ -75,7 +75,7 @@ pub(crate) fn push_names(out: &mut String, init: &[u8]) -> Result<(), AllocError
     let Ok(names) = Names::at_end(init) else {
         return Ok(());
     };
-    push_interface(out, names.version)?;
+    push_interface_line(out, names.version)?;
     push_entries(out, Kind::Exports, names.exports)?;
     push_entries(out, Kind::Imports, names.imports)
 }

@@ -35,7 +35,7 @@ fn push_first_instruction(out: &mut String, code: &[u8]) -> Result<(), AllocErro
 }
 
 /// Writes what stands where the rule is broken; the code begins there.
-fn push_place(out: &mut String, rule: Rule, code: &[u8]) -> Result<(), AllocError>
+fn push_place_text(out: &mut String, rule: Rule, code: &[u8]) -> Result<(), AllocError>
     requires { IsPlace rule code.now }
     ensures { OnOk result
         (Adds (string_bytes out.old) (string_bytes out.new) (IsPlaceText rule code.now)) }
@@ -48,7 +48,7 @@ fn push_place(out: &mut String, rule: Rule, code: &[u8]) -> Result<(), AllocErro
 }
 
 /// Writes the line up to what stands at the finding's address.
-fn push_front(out: &mut String, format: Format, finding: &Finding) -> Result<(), AllocError>
+fn push_finding_front(out: &mut String, format: Format, finding: &Finding) -> Result<(), AllocError>
     ensures { OnOk result
         (string_bytes out.new ≡ string_bytes out.old ++ line_front format finding.now) }
 {
@@ -73,8 +73,8 @@ fn push_finding(
 {
     let part = &parts[finding.sandbox as usize];
     let offset = (finding.address - part.code_base) as usize;
-    push_front(out, format, finding)?;
-    push_place(out, finding.rule, &part.code[offset..])?;
+    push_finding_front(out, format, finding)?;
+    push_place_text(out, finding.rule, &part.code[offset..])?;
     out.push_str("\n")
 }
 

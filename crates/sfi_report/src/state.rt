@@ -28,7 +28,7 @@ fn code_from<'a>(part: &SandboxPart<'a>, at: u32) -> &'a [u8]
 }
 
 /// Writes the line of an address, by what the code has there.
-fn push_place(out: &mut String, at: u32, code: &[u8]) -> Result<(), AllocError>
+fn push_place_line(out: &mut String, at: u32, code: &[u8]) -> Result<(), AllocError>
     ensures { OnOk result
         (Adds (string_bytes out.old) (string_bytes out.new) (IsPlaceLine at code.now)) }
 {
@@ -42,7 +42,7 @@ fn push_place(out: &mut String, at: u32, code: &[u8]) -> Result<(), AllocError>
 }
 
 /// Writes a register with its value.
-fn push_register(out: &mut String, register: Reg, value: u32) -> Result<(), AllocError>
+fn push_register_value(out: &mut String, register: Reg, value: u32) -> Result<(), AllocError>
     ensures { OnOk result
         (string_bytes out.new ≡ string_bytes out.old ++ register_text register value) }
 {
@@ -63,13 +63,13 @@ fn push_registers(out: &mut String, cpu: &Cpu) -> Result<(), AllocError>
 {
     for place in 0..31 {
         let register = Reg::numbered(place + 1);
-        push_register(out, register, cpu.reg(register))?;
+        push_register_value(out, register, cpu.reg(register))?;
     }
     Ok(())
 }
 
 /// Writes how the text of sandbox `sandbox` begins.
-fn push_front(out: &mut String, sandbox: u32) -> Result<(), AllocError>
+fn push_state_front(out: &mut String, sandbox: u32) -> Result<(), AllocError>
     ensures { OnOk result (string_bytes out.new ≡ string_bytes out.old ++ state_front sandbox) }
 {
     write!(out, "sandbox={sandbox} pc=")
@@ -91,8 +91,8 @@ pub fn state_text(
         (λ text. IsStateText sandbox (view format part.now) cpu.now (string_bytes text)) }
 {
     let mut out = String::new(alloc);
-    push_front(&mut out, sandbox)?;
-    push_place(&mut out, cpu.pc(), code_from(part, cpu.pc()))?;
+    push_state_front(&mut out, sandbox)?;
+    push_place_line(&mut out, cpu.pc(), code_from(part, cpu.pc()))?;
     push_registers(&mut out, cpu)?;
     Ok(out)
 }

@@ -53,7 +53,7 @@ impl Expansion {
     }
 
     /// The expansion of these slots.
-    pub(crate) fn of(slots: &[BundleSlot]) -> Expansion
+    pub(crate) fn from_slots(slots: &[BundleSlot]) -> Expansion
         requires { length slots.now ≤ 5 }
         ensures { result ≡ slots.now }
     {
@@ -67,7 +67,7 @@ impl Expansion {
         ensures { result ≡ map Wide pair ++ last ∷ [] }
     {
         let [first, second] = pair;
-        Expansion::of(&[BundleSlot::Wide(first), BundleSlot::Wide(second), last])
+        Expansion::from_slots(&[BundleSlot::Wide(first), BundleSlot::Wide(second), last])
     }
 
     /// The expansion of a slot that writes the stack pointer, and the pair that puts that back.
@@ -76,7 +76,7 @@ impl Expansion {
     {
         let stack_pointer = Reg::numbered(STACK_POINTER);
         let [mask, place] = data_pair(stack_pointer, stack_pointer);
-        Expansion::of(&[first, BundleSlot::Wide(mask), BundleSlot::Wide(place)])
+        Expansion::from_slots(&[first, BundleSlot::Wide(mask), BundleSlot::Wide(place)])
     }
 
     /// The expansion of one slot, with the pair that puts the stack pointer back if the slot writes
@@ -87,7 +87,7 @@ impl Expansion {
         if writes_stack {
             Expansion::with_stack_pair(first)
         } else {
-            Expansion::of(&[first])
+            Expansion::from_slots(&[first])
         }
     }
 
@@ -120,7 +120,7 @@ fn of_jump(rd: Reg, a: Reg, imm: i32) -> Expansion
         imm,
     });
     let [mask, place] = code_pair(scratch, scratch);
-    Expansion::of(&[sum, BundleSlot::Wide(mask), BundleSlot::Wide(place), last])
+    Expansion::from_slots(&[sum, BundleSlot::Wide(mask), BundleSlot::Wide(place), last])
 }
 
 /// The expansion of an instruction that stays as it is, in a 16-bit form where `rvc` asks for these
@@ -174,7 +174,7 @@ fn of_masked(rvc: bool, instr: &Instr) -> Expansion
         | Instr::Auipc { .. }
         | Instr::Fence { .. }
         | Instr::Ecall
-        | Instr::Ebreak => Expansion::of(&[alone(rvc, instr)]),
+        | Instr::Ebreak => Expansion::from_slots(&[alone(rvc, instr)]),
     }
 }
 
@@ -189,13 +189,13 @@ fn is_on_x2(instr: &Instr) -> bool
 }
 
 /// The expansion of an instruction that names no label.
-fn of_plain(format: Format, rvc: bool, instr: &Instr) -> Expansion
+fn expand_without_name(format: Format, rvc: bool, instr: &Instr) -> Expansion
     ensures { IsPlainExpansion format rvc instr.now result }
 {
     if format.has_stack() && instr.writes_register(STACK_POINTER) {
         Expansion::with_stack_pair(BundleSlot::Wide(*instr))
     } else if format.has_stack() && is_on_x2(instr) {
-        Expansion::of(&[alone(rvc, instr)])
+        Expansion::from_slots(&[alone(rvc, instr)])
     } else {
         of_masked(rvc, instr)
     }
@@ -207,8 +207,8 @@ pub(crate) fn expand(format: Format, item: &Item) -> Expansion
 {
     let line = item.line;
     match item.body {
-        Body::Plain(ref instr) => of_plain(format, item.rvc, instr),
-        Body::To(instr, name) => Expansion::of(&[BundleSlot::Jump { instr, name, line }]),
+        Body::Plain(ref instr) => expand_without_name(format, item.rvc, instr),
+        Body::To(instr, name) => Expansion::from_slots(&[BundleSlot::Jump { instr, name, line }]),
         Body::High(rd, name) => {
             Expansion::put_back(
                 BundleSlot::Upper { rd, name, line },

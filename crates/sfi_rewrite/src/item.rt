@@ -13,7 +13,7 @@ use sfi_pairs::{is_data_register, is_reserved};
 use sfi_source::{Body, Item};
 
 /// Whether a source of the format may not name the register.
-fn is_withheld(format: Format, register: Reg) -> bool
+fn is_withheld_in(format: Format, register: Reg) -> bool
     ensures { result ≡ is_withheld format register }
 {
     if format.has_words() {
@@ -32,18 +32,19 @@ fn names_withheld(format: Format, instr: &Instr) -> bool
     ensures { result ≡ names_withheld format instr.now }
 {
     match *instr {
-        Instr::Op { rd, rs1, rs2, .. } => is_withheld(format, rd)
-            || is_withheld(format, rs1)
-            || is_withheld(format, rs2),
-        Instr::OpImm { rd, rs1, .. } => is_withheld(format, rd) || is_withheld(format, rs1),
-        Instr::Load { rd, rs1, .. } => is_withheld(format, rd) || is_withheld(format, rs1),
-        Instr::Store { rs1, rs2, .. } => is_withheld(format, rs1) || is_withheld(format, rs2),
-        Instr::Branch { rs1, rs2, .. } => is_withheld(format, rs1) || is_withheld(format, rs2),
-        Instr::Jal { rd, .. } => is_withheld(format, rd),
-        Instr::Jalr { rd, rs1, .. } => is_withheld(format, rd) || is_withheld(format, rs1),
-        Instr::Lui { rd, .. } => is_withheld(format, rd),
-        Instr::Auipc { rd, .. } => is_withheld(format, rd),
-        Instr::Fence { rd, rs1, .. } => is_withheld(format, rd) || is_withheld(format, rs1),
+        Instr::Op { rd, rs1, rs2, .. } => is_withheld_in(format, rd)
+            || is_withheld_in(format, rs1)
+            || is_withheld_in(format, rs2),
+        Instr::OpImm { rd, rs1, .. } => is_withheld_in(format, rd) || is_withheld_in(format, rs1),
+        Instr::Load { rd, rs1, .. } => is_withheld_in(format, rd) || is_withheld_in(format, rs1),
+        Instr::Store { rs1, rs2, .. } => is_withheld_in(format, rs1) || is_withheld_in(format, rs2),
+        Instr::Branch { rs1, rs2, .. } => is_withheld_in(format, rs1)
+            || is_withheld_in(format, rs2),
+        Instr::Jal { rd, .. } => is_withheld_in(format, rd),
+        Instr::Jalr { rd, rs1, .. } => is_withheld_in(format, rd) || is_withheld_in(format, rs1),
+        Instr::Lui { rd, .. } => is_withheld_in(format, rd),
+        Instr::Auipc { rd, .. } => is_withheld_in(format, rd),
+        Instr::Fence { rd, rs1, .. } => is_withheld_in(format, rd) || is_withheld_in(format, rs1),
         Instr::Ecall => false,
         Instr::Ebreak => false,
     }
@@ -56,14 +57,14 @@ fn item_names_withheld(format: Format, body: &Body) -> bool
     match body {
         Body::Plain(instr) => names_withheld(format, instr),
         Body::To(instr, _) => names_withheld(format, instr),
-        Body::High(rd, _) => is_withheld(format, *rd),
-        Body::Low(rd, _) => is_withheld(format, *rd),
-        Body::Base(rd, _) => is_withheld(format, *rd),
+        Body::High(rd, _) => is_withheld_in(format, *rd),
+        Body::Low(rd, _) => is_withheld_in(format, *rd),
+        Body::Base(rd, _) => is_withheld_in(format, *rd),
     }
 }
 
 /// Whether the item is an `ecall`.
-fn is_ecall(body: &Body) -> bool
+fn is_ecall_item(body: &Body) -> bool
     ensures { result ≡ is_ecall body.now }
 {
     matches!(body, Body::Plain(Instr::Ecall))
@@ -81,7 +82,7 @@ pub(crate) fn is_call(body: &Body) -> bool
 }
 
 /// Whether the item is a jump that writes the stack pointer, or a load into it on another register.
-fn is_stack_write(format: Format, body: &Body) -> bool
+fn is_barred_stack_write(format: Format, body: &Body) -> bool
     ensures { result ≡ is_stack_write format body.now }
 {
     match body {
@@ -120,10 +121,10 @@ pub(crate) fn permit(format: Format, item: &Item) -> Result<(), RewriteFault>
     if item_names_withheld(format, &item.body) {
         return Err(RewriteFault::ReservedRegister { line: item.line });
     }
-    if is_ecall(&item.body) {
+    if is_ecall_item(&item.body) {
         return Err(RewriteFault::Ecall { line: item.line });
     }
-    if is_stack_write(format, &item.body) {
+    if is_barred_stack_write(format, &item.body) {
         return Err(RewriteFault::StackWrite { line: item.line });
     }
     if is_barred_jump(format, &item.body) {

@@ -8,7 +8,7 @@ ghost use Rattle.sfi_rewrite.specs.Rewriting.{IsPermitted, AreFaultless, UnlessM
 
 use crate::expansion::expand;
 use crate::fault::RewriteFault;
-use crate::filled::Filling;
+use crate::filling::Filling;
 use crate::item::{is_call, permit};
 use crate::place::{next_bundle, nops_before};
 use crate::slot::size_of;

@@ -11,7 +11,7 @@
 mod bundle;
 mod expansion;
 mod fault;
-mod filled;
+mod filling;
 mod item;
 mod laid_items;
 mod names;

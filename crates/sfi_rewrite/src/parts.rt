@@ -14,7 +14,7 @@ ghost use Rattle.sfi_rewrite.specs.Standing.{StandTransparent};
 ghost use Rattle.sfi_rewrite.specs.Rewriting.{IsRewritten, AreRewritten, AnswersPlaced, AnswersFault};
 
 use crate::fault::RewriteFault;
-use crate::filled::Filling;
+use crate::filling::Filling;
 use crate::laid_items::{Laid, lay_items};
 use crate::names::{has_end_label, place_names};
 use crate::place::nops_at_end;
@@ -67,7 +67,7 @@ fn place_part(alloc: Global, sandbox: u32, part: &SourcePart) -> Result<PlacedPa
     gates.extend_from_slice(part.gates())?;
     let mut bytes = Vec::new(alloc);
     bytes.extend_from_slice(part.bytes())?;
-    let bundles = code.finish();
+    let bundles = code.into_bundles();
     Ok(PlacedPart::new(
         part.format(),
         part.is_movable(),

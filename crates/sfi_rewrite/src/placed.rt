@@ -85,7 +85,7 @@ impl PlacedPart {
         self.format
     }
 
-    /// Whether it can be moved once it is built.
+    /// Whether its source says `.movable`.
     pub fn is_movable(&self) -> bool
         ensures { result ≡ self.now.movable }
     {

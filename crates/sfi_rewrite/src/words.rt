@@ -1,7 +1,7 @@
 //! Code in words: the expansions on typed registers, and how they stand in words of 4 bytes.
 
 mod expansion;
-mod filled;
+mod filling;
 mod laid_items;
 
 pub(crate) use expansion::ADDRESS_REGISTER;

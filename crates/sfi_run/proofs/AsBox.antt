@@ -10,14 +10,14 @@ use Rattle.rv_mem.specs.contracts.pages.PagesMemory.TheImpl as pages_memory
 use Rattle.rv_mem.proofs.pages.Pages.TheLaws as pages
 use Rattle.sfi_host.proofs.world.World.TheLaws as world
 use Rattle.sfi_run.specs.Held.{world_row}
-use Rattle.sfi_run.specs.contracts.parts.Parts as Parts
+use Rattle.sfi_run.specs.contracts.box_parts.BoxParts as BoxParts
 use Rattle.sfi_run.specs.contracts.held_world.HeldWorld as Held
 
 abbrev pub E : Bx
 E = record { row = world_row; laws = world.the_row_laws Pages.the_row pages_memory.ghosts pages.the_row_laws; al = record { row = Heap.the_row; laws = heap.the_row_laws; g = ghosts; d = dict; drops = impl [] tnil dnil } }
 
 abbrev pub FromParts : Slot 0
-FromParts = plain (λ _. Parts.the_row world_row Heap.the_row ghosts)
+FromParts = plain (λ _. BoxParts.the_row world_row Heap.the_row ghosts)
 
 abbrev pub FromHeld : Slot 0
 FromHeld = plain (λ _. Held.the_row)

@@ -7,14 +7,14 @@ use Rattle.std.specs.contracts.impls.GlobalAllocator.TheImpl.{ghosts, dict}
 use Rattle.std.proofs.alloc.Global.TheLaws as heap
 use Rattle.sfi_host.proofs.modules.Module.TheLaws as modules
 use Rattle.sfi_run.specs.Held.{module_row}
-use Rattle.sfi_run.specs.contracts.parts.Parts as Parts
+use Rattle.sfi_run.specs.contracts.box_parts.BoxParts as BoxParts
 use Rattle.sfi_run.specs.contracts.held_module.HeldModule as Held
 
 abbrev pub E : Bx
 E = record { row = module_row; laws = modules.the_row_laws; al = record { row = Heap.the_row; laws = heap.the_row_laws; g = ghosts; d = dict; drops = impl [] tnil dnil } }
 
 abbrev pub FromParts : Slot 0
-FromParts = plain (λ _. Parts.the_row module_row Heap.the_row ghosts)
+FromParts = plain (λ _. BoxParts.the_row module_row Heap.the_row ghosts)
 
 abbrev pub FromHeld : Slot 0
 FromHeld = plain (λ _. Held.the_row)

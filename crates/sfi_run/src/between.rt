@@ -16,8 +16,8 @@ use rv_mem::Pages;
 use sfi_host::{Status, World};
 use std::alloc::Global;
 
-// Copies data bytes of a sandbox to the first `count` of `room`.
-fn read(world: &World<Pages>, sandbox: u32, at: u32, count: usize, room: &mut [u8]) -> bool
+/// Copies data bytes of a sandbox to the first `count` of `room`.
+fn read_data(world: &World<Pages>, sandbox: u32, at: u32, count: usize, room: &mut [u8]) -> bool
     ensures there { IsTrue result ↔ ((count ≤ length room.old)
         × IsSome (data_bytes_of (slice_get (slots_of world.now) sandbox) at count)) }
     ensures done { OnTrue result (data_bytes_of (slice_get (slots_of world.now) sandbox) at count
@@ -56,13 +56,13 @@ pub extern "C" fn sfi_run_read(
     let Some(boxed) = world.take(alloc) else {
         return false;
     };
-    let done = read(&boxed, sandbox, at, count, room);
+    let done = read_data(&boxed, sandbox, at, count, room);
     world.put(boxed);
     done
 }
 
-// Writes data bytes of a sandbox.
-fn write(world: &mut World<Pages>, sandbox: u32, at: u32, bytes: &[u8]) -> bool
+/// Writes data bytes of a sandbox.
+fn write_data(world: &mut World<Pages>, sandbox: u32, at: u32, bytes: &[u8]) -> bool
     ensures there { IsTrue result
         ↔ IsSome (data_bytes_of (slice_get (slots_of world.old) sandbox) at (length bytes.now)) }
     ensures written { OnTrue result (HasWritten world.old world.new sandbox at bytes.now) }
@@ -93,13 +93,13 @@ pub extern "C" fn sfi_run_write(
     let Some(mut boxed) = world.take(alloc) else {
         return false;
     };
-    let done = write(&mut boxed, sandbox, at, bytes);
+    let done = write_data(&mut boxed, sandbox, at, bytes);
     world.put(boxed);
     done
 }
 
-// Enters a sandbox.
-fn enter(world: &mut World<Pages>, sandbox: u32, pc: u32, arguments: &[u32; 8]) -> bool
+/// Enters a sandbox.
+fn enter_sandbox(world: &mut World<Pages>, sandbox: u32, pc: u32, arguments: &[u32; 8]) -> bool
     ensures may { IsTrue result ↔ MayEnterAt (slots_of world.old) sandbox pc }
     ensures entered { OnTrue result (HasEntered world.old world.new sandbox pc arguments.now) }
     ensures refused { OnFalse result (world.new ≡ world.old) }
@@ -129,13 +129,13 @@ pub extern "C" fn sfi_run_enter(
     let Some(mut boxed) = world.take(alloc) else {
         return false;
     };
-    let done = enter(&mut boxed, sandbox, pc, arguments);
+    let done = enter_sandbox(&mut boxed, sandbox, pc, arguments);
     world.put(boxed);
     done
 }
 
-// Stops a sandbox.
-fn stop(world: &mut World<Pages>, sandbox: u32) -> bool
+/// Stops a sandbox.
+fn stop_sandbox(world: &mut World<Pages>, sandbox: u32) -> bool
     ensures may { IsTrue result
         ↔ (status_at (slots_of world.old) sandbox ≡ Some Status.Ready) }
     ensures stopped { OnTrue result (HasBeenStopped world.old world.new sandbox) }
@@ -161,7 +161,7 @@ pub extern "C" fn sfi_run_stop(alloc: Global, world: &mut SfiRunWorld, sandbox: 
     let Some(mut boxed) = world.take(alloc) else {
         return false;
     };
-    let done = stop(&mut boxed, sandbox);
+    let done = stop_sandbox(&mut boxed, sandbox);
     world.put(boxed);
     done
 }
@@ -187,7 +187,7 @@ pub extern "C" fn sfi_run_steps(alloc: Global, world: &mut SfiRunWorld, sandbox:
     steps
 }
 
-// Tells the pc and the registers of a sandbox, if there is one.
+/// Tells the pc and the registers of a sandbox, if there is one.
 fn tell_registers(world: &World<Pages>, sandbox: u32, registers: &mut SfiRunRegisters) -> bool
     ensures there { IsTrue result ↔ IsSome (hart_at (slots_of world.now) sandbox) }
     ensures done { OnTrue result ((h : Hart) → hart_at (slots_of world.now) sandbox ≡ Some h
@@ -197,7 +197,7 @@ fn tell_registers(world: &World<Pages>, sandbox: u32, registers: &mut SfiRunRegi
     let Some(cpu) = world.cpu(sandbox) else {
         return false;
     };
-    *registers = SfiRunRegisters::of(cpu);
+    *registers = SfiRunRegisters::from_cpu(cpu);
     true
 }
 
@@ -225,8 +225,12 @@ pub extern "C" fn sfi_run_registers(
     done
 }
 
-// Sets the pc and the registers of a sandbox.
-fn set_registers(world: &mut World<Pages>, sandbox: u32, registers: &SfiRunRegisters) -> bool
+/// Sets the pc and the registers of a sandbox.
+fn set_sandbox_registers(
+    world: &mut World<Pages>,
+    sandbox: u32,
+    registers: &SfiRunRegisters,
+) -> bool
     ensures may { IsTrue result ↔ MaySetAt (slots_of world.old) sandbox
         (hart_of registers.now.pc registers.now.x) }
     ensures set { OnTrue result (HasRegisters world.old world.new sandbox
@@ -259,12 +263,12 @@ pub extern "C" fn sfi_run_set_registers(
     let Some(mut boxed) = world.take(alloc) else {
         return false;
     };
-    let done = set_registers(&mut boxed, sandbox, registers);
+    let done = set_sandbox_registers(&mut boxed, sandbox, registers);
     world.put(boxed);
     done
 }
 
-// Tells where the data of a sandbox lie, if there is one.
+/// Tells where the data of a sandbox lie, if there is one.
 fn tell_data(world: &World<Pages>, sandbox: u32, region: &mut SfiRunRegion) -> bool
     ensures there { IsTrue result ↔ IsSome (data_region_at (slots_of world.now) sandbox) }
     ensures done { OnTrue result (data_region_at (slots_of world.now) sandbox
@@ -274,7 +278,7 @@ fn tell_data(world: &World<Pages>, sandbox: u32, region: &mut SfiRunRegion) -> b
     let Some(data) = world.data_region(sandbox) else {
         return false;
     };
-    *region = SfiRunRegion::of(data);
+    *region = SfiRunRegion::from_region(data);
     true
 }
 

@@ -14,8 +14,8 @@ use rv_mem::Pages;
 use sfi_host::World;
 use std::alloc::Global;
 
-// Calls a sandbox back, and writes the pc and the registers of its call.
-fn call_back(
+/// Calls a sandbox back, and writes the pc and the registers of its call.
+fn call_sandbox_back(
     world: &mut World<Pages>,
     sandbox: u32,
     pc: u32,
@@ -34,7 +34,7 @@ fn call_back(
     let Some(cpu) = world.cpu(sandbox) else {
         return false;
     };
-    let registers = SfiRunRegisters::of(cpu);
+    let registers = SfiRunRegisters::from_cpu(cpu);
     if !world.call_back(sandbox, pc, arguments) {
         return false;
     }
@@ -69,7 +69,7 @@ pub extern "C" fn sfi_run_call_back(
     let Some(mut boxed) = world.take(alloc) else {
         return false;
     };
-    let done = call_back(&mut boxed, sandbox, pc, arguments, kept);
+    let done = call_sandbox_back(&mut boxed, sandbox, pc, arguments, kept);
     world.put(boxed);
     done
 }

@@ -49,7 +49,7 @@ impl SfiRunConsole {
     {
         *self = SfiRunConsole {
             held: 1,
-            inner: HeldConsole::of(console),
+            inner: HeldConsole::from_box(console),
         };
     }
 }
@@ -86,7 +86,7 @@ pub extern "C" fn sfi_run_console_new(
     true
 }
 
-// A turn of a sandbox, each call of which the console answers.
+/// A turn of a sandbox, each call of which the console answers.
 fn turn(world: &mut World<Pages>, console: &mut Console, sandbox: u32, steps: u32) -> bool
     ensures served { OnTrue result
         (HasServed world.old world.new console.old console.new sandbox steps) }
@@ -165,8 +165,8 @@ pub extern "C" fn sfi_run_console_written(
     written
 }
 
-// Fills `room` with what a sandbox has written, from a place on.
-fn read(console: &Console, sandbox: u32, from: usize, room: &mut [u8]) -> bool
+/// Fills `room` with what a sandbox has written, from a place on.
+fn read_output(console: &Console, sandbox: u32, from: usize, room: &mut [u8]) -> bool
     ensures there { (bytes : List ℕ) → output_of console.now sandbox ≡ Some bytes
         → (IsTrue result ↔ (from + length room.old ≤ length bytes)) }
     ensures done { OnTrue result ((bytes : List ℕ) → output_of console.now sandbox ≡ Some bytes
@@ -209,7 +209,7 @@ pub extern "C" fn sfi_run_console_read(
     let Some(boxed) = console.take(alloc) else {
         return false;
     };
-    let done = read(&boxed, sandbox, from, room);
+    let done = read_output(&boxed, sandbox, from, room);
     console.put(boxed);
     done
 }

@@ -3,7 +3,7 @@ ghost use Rattle.std.specs.Prelude.{◌≡◌, Option, Some, None};
 ghost use Rattle.sfi_host.specs.Consoles.{ConsoleState};
 ghost use Rattle.sfi_run.specs.Held.{console_owns, console_coded};
 
-use crate::parts::Parts;
+use crate::box_parts::BoxParts;
 use sfi_host::Console;
 use std::alloc::Global;
 use std::marker::Model;
@@ -36,34 +36,34 @@ impl HeldConsole {
         }
     }
 
-    // Holds the console of these parts.
-    fn of_parts(parts: Parts<Console, Global>) -> HeldConsole
+    /// Holds the console of these parts.
+    fn from_parts(parts: BoxParts<Console, Global>) -> HeldConsole
         ensures { result.console ≡ Some parts.value }
     {
-        let Parts { ptr, alloc } = parts;
+        let BoxParts { ptr, alloc } = parts;
         HeldConsole {
             at: ptr.cast(),
             alloc,
         }
     }
 
-    // Takes out the parts of the console.
-    fn into_parts(self) -> Parts<Console, Global>
+    /// Takes out the parts of the console.
+    fn into_parts(self) -> BoxParts<Console, Global>
         requires { (c : ConsoleState) × (self.console ≡ Some c) }
         ensures { Some result.value ≡ self.console }
     {
         let HeldConsole { at, alloc } = self;
-        Parts {
+        BoxParts {
             ptr: at.cast(),
             alloc,
         }
     }
 
     /// The console in the box.
-    pub(crate) fn of(console: Box<Console>) -> HeldConsole
+    pub(crate) fn from_box(console: Box<Console>) -> HeldConsole
         ensures { result.console ≡ Some console.value }
     {
-        HeldConsole::of_parts(Parts::of(console))
+        HeldConsole::from_parts(BoxParts::from_box(console))
     }
 
     /// The box again, where there is a console.

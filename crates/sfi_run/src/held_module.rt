@@ -3,7 +3,7 @@ ghost use Rattle.std.specs.Prelude.{◌≡◌, List, Option, Some, None};
 ghost use Rattle.sfi_image.specs.Spelling.{Part};
 ghost use Rattle.sfi_run.specs.Held.{module_owns, module_coded};
 
-use crate::parts::Parts;
+use crate::box_parts::BoxParts;
 use sfi_host::Module;
 use std::alloc::Global;
 use std::marker::Model;
@@ -37,34 +37,34 @@ impl HeldModule {
         }
     }
 
-    // The module of these parts.
-    fn of_parts(parts: Parts<Module, Global>) -> HeldModule
+    /// The module of these parts.
+    fn from_parts(parts: BoxParts<Module, Global>) -> HeldModule
         ensures { result.parts ≡ Some parts.value }
     {
-        let Parts { ptr, alloc } = parts;
+        let BoxParts { ptr, alloc } = parts;
         HeldModule {
             at: ptr.cast(),
             alloc,
         }
     }
 
-    // The parts of the module in it.
-    fn into_parts(self) -> Parts<Module, Global>
+    /// The parts of the module in it.
+    fn into_parts(self) -> BoxParts<Module, Global>
         requires { (ps : List Part) × (self.parts ≡ Some ps) }
         ensures { Some result.value ≡ self.parts }
     {
         let HeldModule { at, alloc } = self;
-        Parts {
+        BoxParts {
             ptr: at.cast(),
             alloc,
         }
     }
 
     /// The module in the box.
-    pub(crate) fn of(boxed: Box<Module>) -> HeldModule
+    pub(crate) fn from_box(boxed: Box<Module>) -> HeldModule
         ensures { result.parts ≡ Some boxed.value }
     {
-        HeldModule::of_parts(Parts::of(boxed))
+        HeldModule::from_parts(BoxParts::from_box(boxed))
     }
 
     /// The box again, where there is a module.

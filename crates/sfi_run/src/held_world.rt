@@ -3,7 +3,7 @@ ghost use Rattle.std.specs.Prelude.{◌≡◌, Option, Some, None};
 ghost use Rattle.sfi_host.specs.Worlds.{Sandboxes};
 ghost use Rattle.sfi_run.specs.Held.{held_owns, held_coded};
 
-use crate::parts::Parts;
+use crate::box_parts::BoxParts;
 use rv_mem::Pages;
 use sfi_host::World;
 use std::alloc::Global;
@@ -38,34 +38,34 @@ impl HeldWorld {
         }
     }
 
-    // The world of these parts.
-    fn of_parts(parts: Parts<World<Pages>, Global>) -> HeldWorld
+    /// The world of these parts.
+    fn from_parts(parts: BoxParts<World<Pages>, Global>) -> HeldWorld
         ensures { result.world ≡ Some parts.value }
     {
-        let Parts { ptr, alloc } = parts;
+        let BoxParts { ptr, alloc } = parts;
         HeldWorld {
             at: ptr.cast(),
             alloc,
         }
     }
 
-    // The parts of the world in it.
-    fn into_parts(self) -> Parts<World<Pages>, Global>
+    /// The parts of the world in it.
+    fn into_parts(self) -> BoxParts<World<Pages>, Global>
         requires { (w : Sandboxes) × (self.world ≡ Some w) }
         ensures { Some result.value ≡ self.world }
     {
         let HeldWorld { at, alloc } = self;
-        Parts {
+        BoxParts {
             ptr: at.cast(),
             alloc,
         }
     }
 
     /// The world in the box.
-    pub(crate) fn of(world: Box<World<Pages>>) -> HeldWorld
+    pub(crate) fn from_box(world: Box<World<Pages>>) -> HeldWorld
         ensures { result.world ≡ Some world.value }
     {
-        HeldWorld::of_parts(Parts::of(world))
+        HeldWorld::from_parts(BoxParts::from_box(world))
     }
 
     /// The box again, where there is a world.

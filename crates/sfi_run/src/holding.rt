@@ -46,7 +46,7 @@ impl SfiRunWorld {
     {
         *self = SfiRunWorld {
             held: 1,
-            inner: HeldWorld::of(world),
+            inner: HeldWorld::from_box(world),
         };
     }
 }

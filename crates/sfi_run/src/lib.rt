@@ -5,9 +5,10 @@
 //! nothing checks it.
 #![tactic(auto)]
 
-mod adds;
 mod between;
+mod box_parts;
 mod callbacks;
+mod changes;
 mod consoles;
 mod held_console;
 mod held_module;
@@ -15,19 +16,18 @@ mod held_world;
 mod holding;
 mod modules;
 mod names;
-mod parts;
 mod resets;
 mod snapshots;
 mod turns;
 mod version;
 mod worlds;
 
-pub use adds::{sfi_run_add, sfi_run_remove};
 pub use between::{
     sfi_run_data, sfi_run_enter, sfi_run_read, sfi_run_registers, sfi_run_set_registers,
     sfi_run_steps, sfi_run_stop, sfi_run_write,
 };
 pub use callbacks::sfi_run_call_back;
+pub use changes::{sfi_run_add, sfi_run_remove};
 pub use consoles::{
     SfiRunConsole, sfi_run_console_free, sfi_run_console_new, sfi_run_console_read,
     sfi_run_console_turn, sfi_run_console_written,

@@ -15,7 +15,7 @@ ghost use Rattle.sfi_run.specs.Held.{first_world, fault_number};
 
 use crate::held_module::HeldModule;
 use crate::holding::SfiRunWorld;
-use crate::worlds::{LoadFault, instance, module_of, sfi_run_free};
+use crate::worlds::{LoadFault, module_of, new_instance, sfi_run_free};
 use sfi_check::{SfiVerdict, Status, judge};
 use sfi_host::Module;
 use std::alloc::Global;
@@ -56,7 +56,7 @@ impl SfiRunModule {
     {
         *self = SfiRunModule {
             held: 1,
-            inner: HeldModule::of(boxed),
+            inner: HeldModule::from_box(boxed),
         };
     }
 }
@@ -110,7 +110,7 @@ pub extern "C" fn sfi_run_module_new(
 {
     sfi_run_module_free(alloc, from);
     let answer = judge(image);
-    *verdict = SfiVerdict::of(answer);
+    *verdict = SfiVerdict::from_answer(answer);
     match module_of(alloc, image, answer) {
         Ok(boxed) => {
             from.put(boxed);
@@ -141,7 +141,7 @@ pub extern "C" fn sfi_run_instance(
     let Some(shared) = from.take(alloc) else {
         return false;
     };
-    let made = instance(alloc, &shared);
+    let made = new_instance(alloc, &shared);
     from.put(shared);
     let Ok(found) = made else {
         return false;

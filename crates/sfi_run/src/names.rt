@@ -6,8 +6,8 @@ ghost use Rattle.sfi_names.specs.Images.{HasTableOf, HasNoTable, IsAnswer, numbe
 
 use sfi_names::{Kind, address_in, names_in};
 
-// Writes to `address` what a name of that kind stands for.
-fn look_up(image: &[u8], sandbox: u32, kind: Kind, name: &[u8], address: &mut u32) -> u32
+/// Writes to `address` what a name of that kind stands for.
+fn tell_address(image: &[u8], sandbox: u32, kind: Kind, name: &[u8], address: &mut u32) -> u32
     ensures known { result ≤ 5 }
 
     // What each status means.
@@ -49,7 +49,7 @@ pub extern "C" fn sfi_run_export(image: &[u8], sandbox: u32, name: &[u8], addres
     ensures only_missing { (m : Missing)
         → IsAnswer image.now sandbox Kind.Exports name.now (Err m) → result ≡ number_of m }
 {
-    look_up(image, sandbox, Kind::Exports, name, address)
+    tell_address(image, sandbox, Kind::Exports, name, address)
 }
 
 /// Writes to `address` what a name stands for among the imports: the address of its gate. Returns
@@ -70,7 +70,7 @@ pub extern "C" fn sfi_run_import(image: &[u8], sandbox: u32, name: &[u8], addres
     ensures only_missing { (m : Missing)
         → IsAnswer image.now sandbox Kind.Imports name.now (Err m) → result ≡ number_of m }
 {
-    look_up(image, sandbox, Kind::Imports, name, address)
+    tell_address(image, sandbox, Kind::Imports, name, address)
 }
 
 /// Writes the version of the host's interface that the table has. Returns as [`sfi_run_export`]

@@ -9,8 +9,8 @@ use rv_mem::Pages;
 use sfi_host::World;
 use std::alloc::Global;
 
-// Takes a sandbox back to its first state.
-fn reset(world: &mut World<Pages>, sandbox: u32) -> bool
+/// Takes a sandbox back to its first state.
+fn reset_sandbox(world: &mut World<Pages>, sandbox: u32) -> bool
     ensures may { IsTrue result ↔ IsSome (slice_get (slots_of world.old) sandbox) }
     ensures reset { OnTrue result (HasBeenReset world.old world.new sandbox) }
     ensures refused { OnFalse result (world.new ≡ world.old) }
@@ -35,7 +35,7 @@ pub extern "C" fn sfi_run_reset(alloc: Global, world: &mut SfiRunWorld, sandbox:
     let Some(mut boxed) = world.take(alloc) else {
         return false;
     };
-    let done = reset(&mut boxed, sandbox);
+    let done = reset_sandbox(&mut boxed, sandbox);
     world.put(boxed);
     done
 }

@@ -111,7 +111,11 @@ impl SfiRunEvent {
     }
 
     /// The event of sandbox `sandbox`; `waiting` is what it asks, if it waits at a call.
-    pub(crate) fn of(world: &World<Pages>, sandbox: u32, waiting: Option<Request>) -> SfiRunEvent
+    pub(crate) fn from_world(
+        world: &World<Pages>,
+        sandbox: u32,
+        waiting: Option<Request>,
+    ) -> SfiRunEvent
         requires there { IsSome waiting ↔ IsAtCall (slots_of world.now) sandbox }
         requires gate { IfSome waiting (λ r. AsksAtGate (slots_of world.now) sandbox r) }
         ensures { IsEventOf (slots_of world.now) sandbox result }
@@ -141,7 +145,7 @@ impl SfiRunRegisters {
     ghost use Rattle.sfi_run.specs.Snapshots.{AreRegistersOf};
 
     /// Copies pc and the registers of `cpu`.
-    pub(crate) fn of(cpu: &Cpu) -> SfiRunRegisters
+    pub(crate) fn from_cpu(cpu: &Cpu) -> SfiRunRegisters
         ensures { AreRegistersOf cpu.now result }
     {
         SfiRunRegisters {
@@ -164,7 +168,7 @@ impl SfiRunRegion {
     ghost use Rattle.sfi_run.specs.Snapshots.{region_span};
 
     /// The same addresses, as C has them.
-    pub(crate) fn of(region: Region) -> SfiRunRegion
+    pub(crate) fn from_region(region: Region) -> SfiRunRegion
         ensures { region_span result ≡ span_of region }
     {
         SfiRunRegion {

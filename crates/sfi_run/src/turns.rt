@@ -13,34 +13,39 @@ use rv_mem::Pages;
 use sfi_host::{Later, Turn, World};
 use std::alloc::Global;
 
-// Runs a sandbox up to its next call.
-fn run(world: &mut World<Pages>, sandbox: u32, steps: u32) -> SfiRunEvent
+/// Runs a sandbox up to its next call.
+fn event_after_run(world: &mut World<Pages>, sandbox: u32, steps: u32) -> SfiRunEvent
     ensures ran { HasRunToCall world.old world.new sandbox steps }
     ensures event { IsEventOf (slots_of world.new) sandbox result }
 {
     let waiting = world.run_to_call(Turn { sandbox, steps });
-    SfiRunEvent::of(world, sandbox, waiting)
+    SfiRunEvent::from_world(world, sandbox, waiting)
 }
 
-// Runs a sandbox up to its next call or stop.
-fn run_until(world: &mut World<Pages>, sandbox: u32, stops: &[u32], steps: u32) -> SfiRunEvent
+/// Runs a sandbox up to its next call or stop.
+fn event_after_run_to_stop(
+    world: &mut World<Pages>,
+    sandbox: u32,
+    stops: &[u32],
+    steps: u32,
+) -> SfiRunEvent
     ensures ran { HasRunToStop world.old world.new sandbox steps stops.now }
     ensures event { IsEventOf (slots_of world.new) sandbox result }
 {
     let waiting = world.run_until(Turn { sandbox, steps }, stops);
-    SfiRunEvent::of(world, sandbox, waiting)
+    SfiRunEvent::from_world(world, sandbox, waiting)
 }
 
-// How a sandbox stands.
-fn look(world: &World<Pages>, sandbox: u32) -> SfiRunEvent
+/// How a sandbox stands.
+fn event_of(world: &World<Pages>, sandbox: u32) -> SfiRunEvent
     ensures { IsEventOf (slots_of world.now) sandbox result }
 {
     let waiting = world.waiting(sandbox);
-    SfiRunEvent::of(world, sandbox, waiting)
+    SfiRunEvent::from_world(world, sandbox, waiting)
 }
 
-// Gives a sandbox that waits its reply.
-fn reply(world: &mut World<Pages>, sandbox: u32, later: Later) -> bool
+/// Gives a sandbox that waits its reply.
+fn reply_to_call(world: &mut World<Pages>, sandbox: u32, later: Later) -> bool
     ensures may { IsTrue result ↔ IsAtCall (slots_of world.old) sandbox }
     ensures replied { OnTrue result (HasReplied world.old world.new sandbox later) }
     ensures refused { OnFalse result (world.new ≡ world.old) }
@@ -48,8 +53,8 @@ fn reply(world: &mut World<Pages>, sandbox: u32, later: Later) -> bool
     world.reply(sandbox, later)
 }
 
-// Enters a sandbox and runs it up to its next call. Tells how it stands then.
-fn call(
+/// Enters a sandbox and runs it up to its next call. Tells how it stands then.
+fn call_sandbox(
     world: &mut World<Pages>,
     sandbox: u32,
     pc: u32,
@@ -66,10 +71,10 @@ fn call(
 {
     if !world.enter(sandbox, pc, arguments) {
         world.stays_safe();
-        *event = look(world, sandbox);
+        *event = event_of(world, sandbox);
         return false;
     }
-    *event = run(world, sandbox, steps);
+    *event = event_after_run(world, sandbox, steps);
     true
 }
 
@@ -94,7 +99,7 @@ pub extern "C" fn sfi_run_turn(
         *event = SfiRunEvent::none();
         return event.kind;
     };
-    *event = run(&mut boxed, sandbox, steps);
+    *event = event_after_run(&mut boxed, sandbox, steps);
     world.put(boxed);
     event.kind
 }
@@ -122,7 +127,7 @@ pub extern "C" fn sfi_run_until(
         *event = SfiRunEvent::none();
         return event.kind;
     };
-    *event = run_until(&mut boxed, sandbox, stops, steps);
+    *event = event_after_run_to_stop(&mut boxed, sandbox, stops, steps);
     world.put(boxed);
     event.kind
 }
@@ -156,7 +161,7 @@ pub extern "C" fn sfi_run_call(
         *event = SfiRunEvent::none();
         return false;
     };
-    let done = call(&mut boxed, sandbox, pc, arguments, steps, event);
+    let done = call_sandbox(&mut boxed, sandbox, pc, arguments, steps, event);
     world.put(boxed);
     done
 }
@@ -179,7 +184,7 @@ pub extern "C" fn sfi_run_event(
         *event = SfiRunEvent::none();
         return event.kind;
     };
-    *event = look(&boxed, sandbox);
+    *event = event_of(&boxed, sandbox);
     world.put(boxed);
     event.kind
 }
@@ -206,12 +211,13 @@ pub extern "C" fn sfi_run_reply(
     let Some(mut boxed) = world.take(alloc) else {
         return false;
     };
-    let done = reply(&mut boxed, sandbox, Later { a0, a1, exit: None });
+    let done = reply_to_call(&mut boxed, sandbox, Later { a0, a1, exit: None });
     world.put(boxed);
     done
 }
 
-/// Stops a sandbox that waits at a call, with a number.
+/// The other reply: stops a sandbox that waits at a call, with a number. Its a0 becomes the number,
+/// a1 becomes 0, and pc stays at the call.
 #[unsafe(no_mangle)]
 pub extern "C" fn sfi_run_exit(
     alloc: Global,
@@ -236,7 +242,7 @@ pub extern "C" fn sfi_run_exit(
         a1: 0,
         exit: Some(number),
     };
-    let done = reply(&mut boxed, sandbox, later);
+    let done = reply_to_call(&mut boxed, sandbox, later);
     world.put(boxed);
     done
 }

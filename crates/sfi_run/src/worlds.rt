@@ -41,13 +41,13 @@ impl LoadFault {
     }
 }
 
-// The module of an accepted image, in its box. An error means that memory ran out.
+/// The module of an accepted image, in its box. An error means that memory ran out.
 fn boxed(alloc: Global, image: &[u8]) -> Result<Box<Module>, AllocError>
     requires { (ps : List Part) × IsAccepted image.now ps }
     ensures { IfOk result (λ b. IsAccepted image.now b.value) }
 {
     let accepted = accept(alloc, image)?;
-    let made = Module::of(alloc, &accepted)?;
+    let made = Module::from_accepted(alloc, &accepted)?;
     let Ok(boxed) = Box::new(alloc, made) else {
         return Err(AllocError);
     };
@@ -77,7 +77,7 @@ pub(crate) fn module_of(
 }
 
 /// A world of a module, in its box. An error means that memory ran out.
-pub(crate) fn instance(alloc: Global, from: &Module) -> Result<Box<World<Pages>>, AllocError>
+pub(crate) fn new_instance(alloc: Global, from: &Module) -> Result<Box<World<Pages>>, AllocError>
     ensures { IfOk result (λ b. b.value ≡ first_world from.now) }
 {
     let Ok(world) = from.instance(alloc, Pages::new(alloc)) else {
@@ -90,7 +90,7 @@ pub(crate) fn instance(alloc: Global, from: &Module) -> Result<Box<World<Pages>>
 }
 
 /// The world of the image, if that is its verdict.
-pub(crate) fn load(
+pub(crate) fn load_world(
     alloc: Global,
     image: &[u8],
     answer: StreamAnswer,
@@ -102,7 +102,7 @@ pub(crate) fn load(
     ensures fault { IfErr result (Means image.now) }
 {
     match module_of(alloc, image, answer) {
-        Ok(from) => match instance(alloc, &from) {
+        Ok(from) => match new_instance(alloc, &from) {
             Ok(world) => Ok(world),
             Err(_) => Err(LoadFault::Memory),
         },
@@ -154,8 +154,8 @@ pub extern "C" fn sfi_run_load(
 {
     sfi_run_free(alloc, world);
     let answer = judge(image);
-    *verdict = SfiVerdict::of(answer);
-    match load(alloc, image, answer) {
+    *verdict = SfiVerdict::from_answer(answer);
+    match load_world(alloc, image, answer) {
         Ok(boxed) => {
             boxed.stays_safe();
             world.put(boxed);

@@ -36,5 +36,5 @@ pub use Rattle.sfi_rules.specs.words.Rules.{left, owed_by, uses}
 pub use Rattle.sfi_scan.specs.Stretches.{AreStretchFindings, AreWordStretchFindings, IsScanned, IsWordCodeScanned, stretch_place}
 pub use Rattle.sfi_scan.specs.declared.clean.Words.{Words}
 pub use Rattle.sfi_scan.specs.private.Scanning.{AreBundlesTo}
-pub use Rattle.sfi_scan.specs.private.Words.{AreCleanWords, IsCleanWord, IsPairAt, IsSteppedWord, IsBeforeEnd, IsQuiet, IsQuietThere, is_kept, is_plain}
+pub use Rattle.sfi_scan.specs.private.Words.{AreCleanWords, IsCleanWord, IsPairAt, IsSteppedWord, IsBeforeEnd, IsQuiet, IsQuietThere, is_reserved_or_typed, is_clean_alone}
 pub use Rattle.std.proofs.Math.Facts.{Fits-lt-pow}

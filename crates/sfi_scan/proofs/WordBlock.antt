@@ -1,32 +1,32 @@
 -- What of a block of code in words breaks no rule and leaves nothing owed.
-use Rattle.sfi_scan.proofs.Prelude.{◌≡◌, ℕ, ◌+◌, ◌*◌, ◌/◌, ◌%◌, ◌<◌, Bool, true, false, not, ◌&&◌, ◌||◌, ◌==◌, ◌⊎◌, List, length, take, drop, refl, sym, ap, ◌∙◌, subst, inl, inr, arith, w16, w32, from_le_bytes, and_parts, length-take, length-drop, take-take, drop-drop, drop-take, Instr, Op, And, outline, IsWordOf, is_reserved, BundlePlace, bundle_at, IsWithinBlock, OnTrue, half_at, word_at as word_from, and_from, Outline, Computes, Loads, IsShortSpelling, is_data_register, Owed, Nothing, MaskOrUse, Code, IsCleanWord, IsSteppedWord, IsPairAt, is_kept, is_plain, IsBeforeEnd, IsQuiet, IsQuietThere}
+use Rattle.sfi_scan.proofs.Prelude.{◌≡◌, ℕ, ◌+◌, ◌*◌, ◌/◌, ◌%◌, ◌<◌, Bool, true, false, not, ◌&&◌, ◌||◌, ◌==◌, ◌⊎◌, List, length, take, drop, refl, sym, ap, ◌∙◌, subst, inl, inr, arith, w16, w32, from_le_bytes, and_parts, length-take, length-drop, take-take, drop-drop, drop-take, Instr, Op, And, outline, IsWordOf, is_reserved, BundlePlace, bundle_at, IsWithinBlock, OnTrue, half_at, word_at as word_from, and_from, Outline, Computes, Loads, IsShortSpelling, is_data_register, Owed, Nothing, MaskOrUse, Code, IsCleanWord, IsSteppedWord, IsPairAt, is_reserved_or_typed, is_clean_alone, IsBeforeEnd, IsQuiet, IsQuietThere}
 use Rattle.rv_word.specs.declared.outline.Outline.TheVariants.{Stores, Orders, Stops}
 use Rattle.rv_word.proofs.Facts.{one_spelling}
 use Rattle.sfi_masks.specs.Masks.{half_at as block_half, word_at, may_write_in_words, may_be_on_in_words, is_free_by, IsFreeHalfBy, IsFreeWordBy}
 use Rattle.sfi_rules.specs.words.Rules.{may_access}
-use Rattle.sfi_scan.specs.private.Words.{bytes_at, IsQuietWord, IsMasking, IsPlacing, IsPair, IsStepOf, IsUseOf, IsUsedStep, IsPlainHalf}
+use Rattle.sfi_scan.specs.private.Words.{bytes_at, IsQuietWord, IsMasking, IsPlacing, IsPair, IsStepOf, IsUseOf, IsUsedStep, IsCleanHalfAlone}
 use Rattle.sfi_scan.proofs.WordLook.{quiet_word, found_wide, found_halves, masking, placing, placing_code, masked, placed, stepping, code_owed, owing, plain, used}
 
 -- ---- what the masks tell to be free is plain
 
-unkept : (r : ℕ) → may_write_in_words r ≡ true → not (is_kept r) ≡ true
+unkept : (r : ℕ) → may_write_in_words r ≡ true → not (is_reserved_or_typed r) ≡ true
 unkept r may = sym (none_of (is_reserved r) (is_data_register r) (r == 30) (r == 31)) ∙ may
   where
     none_of : (p q r s : Bool) → (not p && not (q || r || s)) ≡ not (p || q || r || s)
     none_of true q r s = refl
     none_of false q r s = refl
 
-free_plain : (b : BundlePlace) (at : ℕ) (o : Outline) → is_free_by may_write_in_words may_be_on_in_words o ≡ true → is_plain b at o ≡ true
+free_plain : (b : BundlePlace) (at : ℕ) (o : Outline) → is_free_by may_write_in_words may_be_on_in_words o ≡ true → is_clean_alone b at o ≡ true
 free_plain b at (Computes rd) h = unkept rd h
 free_plain b at (Loads rd base) h =
     let both = and_parts (may_write_in_words rd) (may_be_on_in_words base) h in
-    and_from (not (is_kept rd)) (may_access base) (unkept rd both.0) both.1
+    and_from (not (is_reserved_or_typed rd)) (may_access base) (unkept rd both.0) both.1
 free_plain b at (Stores base) h = h
 free_plain b at Orders h = refl
 free_plain b at Stops h = refl
 free_plain b at o h = absurd cc
 
-half_plain : (b : BundlePlace) (at half there : ℕ) → half ≡ there → IsFreeHalfBy may_write_in_words may_be_on_in_words half → IsPlainHalf b at there
+half_plain : (b : BundlePlace) (at half there : ℕ) → half ≡ there → IsFreeHalfBy may_write_in_words may_be_on_in_words half → IsCleanHalfAlone b at there
 half_plain b at half there e x = record { instr = x.instr; spelled = subst (λ (h : ℕ). IsShortSpelling h x.instr) e x.spelled; plain = free_plain b at (outline x.instr) x.free }
 
 -- ---- the words of a block
@@ -55,7 +55,7 @@ module _ (block : List ℕ) (long : length block ≡ 128) (i : ℕ) (even : i % 
   pub use_clean : (d : ℕ) → IsUseOf d (word_at block i) → IsFreeWordBy may_write_in_words may_be_on_in_words (word_at block i) → (b : BundlePlace) → IsWithinBlock b → IsCleanWord b block i (MaskOrUse d) Nothing
   use_clean d u f =
       let same : u.0 ≡ f.instr = one_spelling (word_at block i) u.0 f.instr u.1 f.spelled in
-      word_leads (MaskOrUse d) Nothing u.0 u.1 (λ b at before. used b at 4 d u.0 before u.2 (ap (λ (x : Instr). is_plain b at (outline x)) same ∙ free_plain b at (outline f.instr) f.free))
+      word_leads (MaskOrUse d) Nothing u.0 u.1 (λ b at before. used b at 4 d u.0 before u.2 (ap (λ (x : Instr). is_clean_alone b at (outline x)) same ∙ free_plain b at (outline f.instr) f.free))
 
   pub code_masking_clean : (a : ℕ) → IsWordOf (word_at block i) (Op And 30 a 25) → (b : BundlePlace) → IsWithinBlock b → IsCleanWord b block i Nothing Code
   code_masking_clean a is = word_leads Nothing Code (Op And 30 a 25) is (λ b at before. owing b at 4 before 30 (Op And 30 a 25) Code refl refl refl)

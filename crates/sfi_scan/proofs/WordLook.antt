@@ -1,23 +1,23 @@
 -- What the look at a word tells of it.
-use Rattle.sfi_scan.proofs.Prelude.{◌≡◌, ℕ, ◌==◌, Bool, true, false, ◌&&◌, not, Some, ℤ, pos, negsuc, refl, subst, OnTrue, and_parts, Instr, Op, OpImm, Load, Store, Branch, Jal, Jalr, Lui, Auipc, Ecall, outline, BundlePlace, is_zero, not-true, destination, Computes, uses, left, Nothing, MaskOrUse, is_kept, is_plain, IsQuiet, IsBeforeEnd, ◌||◌, ap, eqb-true, And, Or, eq-eqb, or_left, is_data_register, Owed, Code, owed_by, ◌+◌, ◌≤◌, List, [], ◌++◌, length, take, drop, length-take, length-drop, append-nil, ap₂, Finding, Spells, half_at, word_at, Option, None, sym, ◌∙◌, inl, inr, arith, IfSome, IsWordThat, IsWordOf, and_from, IsHalfwordThat, access, IsAccessOf, Access, Outline, IsWordFound, IsQuietThere}
+use Rattle.sfi_scan.proofs.Prelude.{◌≡◌, ℕ, ◌==◌, Bool, true, false, ◌&&◌, not, Some, ℤ, pos, negsuc, refl, subst, OnTrue, and_parts, Instr, Op, OpImm, Load, Store, Branch, Jal, Jalr, Lui, Auipc, Ecall, outline, BundlePlace, is_zero, not-true, destination, Computes, uses, left, Nothing, MaskOrUse, is_reserved_or_typed, is_clean_alone, IsQuiet, IsBeforeEnd, ◌||◌, ap, eqb-true, And, Or, eq-eqb, or_left, is_data_register, Owed, Code, owed_by, ◌+◌, ◌≤◌, List, [], ◌++◌, length, take, drop, length-take, length-drop, append-nil, ap₂, Finding, Spells, half_at, word_at, Option, None, sym, ◌∙◌, inl, inr, arith, IfSome, IsWordThat, IsWordOf, and_from, IsHalfwordThat, access, IsAccessOf, Access, Outline, IsWordFound, IsQuietThere}
 use Rattle.std.proofs.lemmas.Bool.{not_from_true, not_from_false}
 use Rattle.rv_word.specs.Spelling.{offset_by}
 use Rattle.sfi_rules.specs.words.Rules.{may_access, is_word_start, is_pointer_step, owed_next}
-use Rattle.sfi_scan.proofs.WordQuiet.{is_kept_one, unkept, IsSafe, quiet_where, IsWrite, typed}
+use Rattle.sfi_scan.proofs.WordQuiet.{is_reserved_or_typed_one, unkept, IsSafe, quiet_where, IsWrite, typed}
 use Rattle.rv_word.specs.declared.instr.ImmOp.TheVariants.{Addi}
 use Rattle.sfi_rules.specs.declared.owed.Owed.TheVariants.{Mask, PlaceOnly}
 use Rattle.rv_word.proofs.Facts.{one_spelling}
 use Rattle.sfi_rules.specs.words.Findings.{lowest, found_at}
-use Rattle.sfi_scan.specs.private.Words.{IsPlainHalf}
+use Rattle.sfi_scan.specs.private.Words.{IsCleanHalfAlone}
 use Rattle.sfi_scan.proofs.Readings.{word_wide, word_two}
 
 -- ==== What an outline tells of an instruction of code in words.
 
 -- what an indirect jump's registers and offset tell
-pub jump_plain : (rd base n : ℕ) (z : ℤ) → is_zero z ≡ true → is_kept rd ≡ false → n ≡ base → OnTrue (n == 30) ((not (is_kept rd) && (is_zero z && (base == 30))) ≡ true)
-jump_plain rd base n z f g e = subst (λ (m : ℕ). OnTrue (n == 30) ((not (is_kept rd) && (is_zero z && (m == 30))) ≡ true)) e (by (n == 30))
+pub jump_plain : (rd base n : ℕ) (z : ℤ) → is_zero z ≡ true → is_reserved_or_typed rd ≡ false → n ≡ base → OnTrue (n == 30) ((not (is_reserved_or_typed rd) && (is_zero z && (base == 30))) ≡ true)
+jump_plain rd base n z f g e = subst (λ (m : ℕ). OnTrue (n == 30) ((not (is_reserved_or_typed rd) && (is_zero z && (m == 30))) ≡ true)) e (by (n == 30))
   where
-    by : (p : Bool) → OnTrue p ((not (is_kept rd) && (is_zero z && p)) ≡ true)
+    by : (p : Bool) → OnTrue p ((not (is_reserved_or_typed rd) && (is_zero z && p)) ≡ true)
     by false = tt
     by true = rw (f, g) refl
 
@@ -34,28 +34,28 @@ computing b at (Auipc r imm) rd e = record { safe = record { ecall = refl; acces
 computing b at i rd e = absurd cc
 
 module _ (b : BundlePlace) (at : ℕ) where
-  plain_safe : (i : Instr) → is_plain b at (outline i) ≡ true → IsSafe b at i
-  plain_safe (Load kind rd rs1 imm) h = record { ecall = refl; access = not_from_true (may_access rs1) (and_parts (not (is_kept rd)) (may_access rs1) h).1; jump = refl; target = refl }
+  plain_safe : (i : Instr) → is_clean_alone b at (outline i) ≡ true → IsSafe b at i
+  plain_safe (Load kind rd rs1 imm) h = record { ecall = refl; access = not_from_true (may_access rs1) (and_parts (not (is_reserved_or_typed rd)) (may_access rs1) h).1; jump = refl; target = refl }
   plain_safe (Store width rs1 rs2 imm) h = record { ecall = refl; access = not_from_true (may_access rs1) h; jump = refl; target = refl }
   plain_safe (Branch cond rs1 rs2 offset) h = record { ecall = refl; access = refl; jump = refl; target = not_from_true (is_word_start b.code_base b.code_size (offset_by at offset)) h }
   plain_safe (Jal rd offset) h =
-      record { ecall = refl; access = refl; jump = refl; target = not_from_true (is_word_start b.code_base b.code_size (offset_by at offset)) (and_parts (not (is_kept rd)) (is_word_start b.code_base b.code_size (offset_by at offset)) h).1 }
-  plain_safe (Jalr rd rs1 (pos n)) h = record { ecall = refl; access = refl; jump = not_from_true ((n == 0) && (rs1 == 30)) (and_parts (not (is_kept rd)) ((n == 0) && (rs1 == 30)) h).1; target = refl }
-  plain_safe (Jalr rd rs1 (negsuc n)) h = absurd (let no = (and_parts (not (is_kept rd)) false h).1 in cc)
+      record { ecall = refl; access = refl; jump = refl; target = not_from_true (is_word_start b.code_base b.code_size (offset_by at offset)) (and_parts (not (is_reserved_or_typed rd)) (is_word_start b.code_base b.code_size (offset_by at offset)) h).1 }
+  plain_safe (Jalr rd rs1 (pos n)) h = record { ecall = refl; access = refl; jump = not_from_true ((n == 0) && (rs1 == 30)) (and_parts (not (is_reserved_or_typed rd)) ((n == 0) && (rs1 == 30)) h).1; target = refl }
+  plain_safe (Jalr rd rs1 (negsuc n)) h = absurd (let no = (and_parts (not (is_reserved_or_typed rd)) false h).1 in cc)
   plain_safe Ecall h = absurd cc
   plain_safe i h = record { ecall = refl; access = refl; jump = refl; target = refl }
 
-  plain_unkept : (i : Instr) → is_plain b at (outline i) ≡ true → is_kept_one (destination i) ≡ false
-  plain_unkept (Op op rd rs1 rs2) h = not-true (is_kept rd) h
-  plain_unkept (OpImm op rd rs1 imm) h = not-true (is_kept rd) h
-  plain_unkept (Lui rd imm) h = not-true (is_kept rd) h
-  plain_unkept (Auipc rd imm) h = not-true (is_kept rd) h
-  plain_unkept (Load kind rd rs1 imm) h = not-true (is_kept rd) (and_parts (not (is_kept rd)) (may_access rs1) h).0
-  plain_unkept (Jal rd offset) h = not-true (is_kept rd) (and_parts (not (is_kept rd)) (is_word_start b.code_base b.code_size (offset_by at offset)) h).0
-  plain_unkept (Jalr rd rs1 imm) h = not-true (is_kept rd) (and_parts (not (is_kept rd)) (is_zero imm && (rs1 == 30)) h).0
+  plain_unkept : (i : Instr) → is_clean_alone b at (outline i) ≡ true → is_reserved_or_typed_one (destination i) ≡ false
+  plain_unkept (Op op rd rs1 rs2) h = not-true (is_reserved_or_typed rd) h
+  plain_unkept (OpImm op rd rs1 imm) h = not-true (is_reserved_or_typed rd) h
+  plain_unkept (Lui rd imm) h = not-true (is_reserved_or_typed rd) h
+  plain_unkept (Auipc rd imm) h = not-true (is_reserved_or_typed rd) h
+  plain_unkept (Load kind rd rs1 imm) h = not-true (is_reserved_or_typed rd) (and_parts (not (is_reserved_or_typed rd)) (may_access rs1) h).0
+  plain_unkept (Jal rd offset) h = not-true (is_reserved_or_typed rd) (and_parts (not (is_reserved_or_typed rd)) (is_word_start b.code_base b.code_size (offset_by at offset)) h).0
+  plain_unkept (Jalr rd rs1 imm) h = not-true (is_reserved_or_typed rd) (and_parts (not (is_reserved_or_typed rd)) (is_zero imm && (rs1 == 30)) h).0
   plain_unkept i h = refl
 
-  pub plain : (size : ℕ) (i : Instr) → IsBeforeEnd b at size → is_plain b at (outline i) ≡ true → IsQuiet b at size Nothing i Nothing
+  pub plain : (size : ℕ) (i : Instr) → IsBeforeEnd b at size → is_clean_alone b at (outline i) ≡ true → IsQuiet b at size Nothing i Nothing
   plain size i before h = quiet_where b at size before Nothing Nothing Nothing i (plain_safe i h) (unkept i (plain_unkept i h)) refl
 
   -- it uses the register after its step
@@ -64,7 +64,7 @@ module _ (b : BundlePlace) (at : ℕ) where
   left_used d (Store width rs1 rs2 imm) u = rw u refl
   left_used d i u = absurd cc
 
-  pub used : (size d : ℕ) (i : Instr) → IsBeforeEnd b at size → uses d i ≡ true → is_plain b at (outline i) ≡ true → IsQuiet b at size (MaskOrUse d) i Nothing
+  pub used : (size d : ℕ) (i : Instr) → IsBeforeEnd b at size → uses d i ≡ true → is_clean_alone b at (outline i) ≡ true → IsQuiet b at size (MaskOrUse d) i Nothing
   used size d i before u h = quiet_where b at size before (MaskOrUse d) Nothing Nothing i (plain_safe i h) (unkept i (plain_unkept i h)) (left_used d i u)
 
 -- ==== The words of pairs, and what owes something itself: each breaks no rule where what is owed is met.
@@ -141,30 +141,30 @@ pub quiet_owed : (b : BundlePlace) (at : ℕ) (owed o : Owed) (word : ℕ) (i : 
 quiet_owed b at owed o word i next e is quiet = subst (λ (x : Owed). IsQuietThere b at x word next) (sym e) (quiet_word b at o word i next is quiet)
 
 module _ (b : BundlePlace) (at : ℕ) (before : IsBeforeEnd b at 4) where
-  pub plain_told : (word : ℕ) (o : Outline) → IsWordThat word o → is_plain b at o ≡ true → IsQuietThere b at Nothing word Nothing
-  plain_told word o that h = record { instr = that.instr; spelled = that.spelled; quiet = plain b at 4 that.instr before (ap (is_plain b at) that.does ∙ h) }
+  pub plain_told : (word : ℕ) (o : Outline) → IsWordThat word o → is_clean_alone b at o ≡ true → IsQuietThere b at Nothing word Nothing
+  plain_told word o that h = record { instr = that.instr; spelled = that.spelled; quiet = plain b at 4 that.instr before (ap (is_clean_alone b at) that.does ∙ h) }
 
-  pub plain_by : (word : ℕ) (o : Outline) (outline : Option Outline) → IfSome outline (IsWordThat word) → outline ≡ Some o → (r : Bool) → OnTrue r (is_plain b at o ≡ true) → OnTrue r (IsQuietThere b at Nothing word Nothing)
+  pub plain_by : (word : ℕ) (o : Outline) (outline : Option Outline) → IfSome outline (IsWordThat word) → outline ≡ Some o → (r : Bool) → OnTrue r (is_clean_alone b at o ≡ true) → OnTrue r (IsQuietThere b at Nothing word Nothing)
   plain_by word o outline that is false h = tt
   plain_by word o outline that is true h = plain_told word o (subst (λ (x : Option Outline). IfSome x (IsWordThat word)) is that) h
 
-  access_plain : (i : Instr) (a : Access) → access i ≡ Some a → is_kept a.written ≡ false → may_access a.base ≡ true → is_plain b at (outline i) ≡ true
+  access_plain : (i : Instr) (a : Access) → access i ≡ Some a → is_reserved_or_typed a.written ≡ false → may_access a.base ≡ true → is_clean_alone b at (outline i) ≡ true
   access_plain (Load kind rd rs1 imm) a e f g =
       let written : a.written ≡ rd = ap written_of (sym e) in
       let base : a.base ≡ rs1 = ap base_of (sym e) in
-      and_from (not (is_kept rd)) (may_access rs1) (not_from_false (is_kept rd) (subst (λ (r : ℕ). is_kept r ≡ false) written f)) (subst (λ (r : ℕ). may_access r ≡ true) base g)
+      and_from (not (is_reserved_or_typed rd)) (may_access rs1) (not_from_false (is_reserved_or_typed rd) (subst (λ (r : ℕ). is_reserved_or_typed r ≡ false) written f)) (subst (λ (r : ℕ). may_access r ≡ true) base g)
   access_plain (Store width rs1 rs2 imm) a e f g = let base : a.base ≡ rs1 = ap base_of (sym e) in subst (λ (r : ℕ). may_access r ≡ true) base g
   access_plain i a e f g = absurd cc
 
-  pub access_told : (word : ℕ) (a : Access) → IsAccessOf word a → is_kept a.written ≡ false → may_access a.base ≡ true → IsQuietThere b at Nothing word Nothing
+  pub access_told : (word : ℕ) (a : Access) → IsAccessOf word a → is_reserved_or_typed a.written ≡ false → may_access a.base ≡ true → IsQuietThere b at Nothing word Nothing
   access_told word a that f g = record { instr = that.instr; spelled = that.spelled; quiet = plain b at 4 that.instr before (access_plain that.instr a that.accesses f g) }
 
-  pub use_told : (word d : ℕ) (i : Instr) → IsWordOf word i → uses d i ≡ true → (o : Outline) → o ≡ outline i → (r : Bool) → OnTrue r (is_plain b at o ≡ true) → OnTrue r (IsQuietThere b at (MaskOrUse d) word Nothing)
+  pub use_told : (word d : ℕ) (i : Instr) → IsWordOf word i → uses d i ≡ true → (o : Outline) → o ≡ outline i → (r : Bool) → OnTrue r (is_clean_alone b at o ≡ true) → OnTrue r (IsQuietThere b at (MaskOrUse d) word Nothing)
   use_told word d i is u o e false h = tt
-  use_told word d i is u o e true h = record { instr = i; spelled = is; quiet = used b at 4 d i before u (ap (is_plain b at) (sym e) ∙ h) }
+  use_told word d i is u o e true h = record { instr = i; spelled = is; quiet = used b at 4 d i before u (ap (is_clean_alone b at) (sym e) ∙ h) }
 
-  pub free_told : (word rd : ℕ) → IsWordThat word (Computes rd) → is_kept rd ≡ false → IsQuietThere b at Nothing word Nothing
-  free_told word rd that h = plain_told word (Computes rd) that (not_from_false (is_kept rd) h)
+  pub free_told : (word rd : ℕ) → IsWordThat word (Computes rd) → is_reserved_or_typed rd ≡ false → IsQuietThere b at Nothing word Nothing
+  free_told word rd that h = plain_told word (Computes rd) that (not_from_false (is_reserved_or_typed rd) h)
 
   -- a word that computes into a typed register, where what it owes can be told
   pub owing_told : (word rd : ℕ) (i : Instr) → IsWordThat word (Computes rd) → IsWordOf word i → (is_data_register rd || (rd == 30)) ≡ true → (own : Option Owed) → own ≡ owed_by i → IfSome own (IsQuietThere b at Nothing word)
@@ -173,9 +173,9 @@ module _ (b : BundlePlace) (at : ℕ) (before : IsBeforeEnd b at 4) where
       let same : i ≡ that.instr = one_spelling word i that.instr is that.spelled in
       record { instr = i; spelled = is; quiet = owing b at 4 before rd i next (ap outline same ∙ that.does) h (sym e) }
 
-pub half_told : (b : BundlePlace) (at half : ℕ) (o : Outline) → IsHalfwordThat half o → (r : Bool) → OnTrue r (is_plain b at o ≡ true) → OnTrue r (IsPlainHalf b at half)
+pub half_told : (b : BundlePlace) (at half : ℕ) (o : Outline) → IsHalfwordThat half o → (r : Bool) → OnTrue r (is_clean_alone b at o ≡ true) → OnTrue r (IsCleanHalfAlone b at half)
 half_told b at half o that false h = tt
-half_told b at half o that true h = record { instr = that.instr; spelled = that.spelled; plain = ap (is_plain b at) that.does ∙ h }
+half_told b at half o that true h = record { instr = that.instr; spelled = that.spelled; plain = ap (is_clean_alone b at) that.does ∙ h }
 
 -- ---- the findings of a word
 
@@ -189,7 +189,7 @@ found_wide b at owed word next whole q =
     subst (λ (l : List Finding). IsWordFound b at owed word l next) (ap (found_at b at) q.quiet.none)
     (subst (λ (o : Owed). IsWordFound b at owed word (finding b at 4 owed q.instr) o) (sym q.quiet.next_is) found)
 
-pub found_halves : (b : BundlePlace) (at : ℕ) (word : List ℕ) → length word ≡ 4 → IsBeforeEnd b at 4 → IsPlainHalf b at (half_at word 0) → IsPlainHalf b (at + 2) (half_at word 2) → IsWordFound b at Nothing word [] Nothing
+pub found_halves : (b : BundlePlace) (at : ℕ) (word : List ℕ) → length word ≡ 4 → IsBeforeEnd b at 4 → IsCleanHalfAlone b at (half_at word 0) → IsCleanHalfAlone b (at + 2) (half_at word 2) → IsWordFound b at Nothing word [] Nothing
 found_halves b at word whole before x y =
     let one : IsQuiet b at 2 Nothing x.instr Nothing = plain b at 2 x.instr (omega (arith, before)) x.plain in
     let two : IsQuiet b (at + 2) 2 Nothing y.instr Nothing = plain b (at + 2) 2 y.instr (omega (arith, before)) y.plain in
@@ -207,9 +207,9 @@ wide_told b at owed word w None whole e h = tt
 wide_told b at owed word w (Some next) whole e h = found_wide b at owed word next whole (subst (λ (v : ℕ). IsQuietThere b at owed v next) e h)
 
 pub halves_told : (b : BundlePlace) (at : ℕ) (owed : Owed) (word : List ℕ) (x y : ℕ) → owed ≡ Nothing → length word ≡ 4 → IsBeforeEnd b at 4 → x ≡ half_at word 0 → y ≡ half_at word 2
-    → IsPlainHalf b at x → IsPlainHalf b (at + 2) y → IsWordFound b at owed word [] Nothing
+    → IsCleanHalfAlone b at x → IsCleanHalfAlone b (at + 2) y → IsWordFound b at owed word [] Nothing
 halves_told b at owed word x y none whole before e f p q =
-    subst (λ (o : Owed). IsWordFound b at o word [] Nothing) (sym none) (found_halves b at word whole before (subst (IsPlainHalf b at) e p) (subst (IsPlainHalf b (at + 2)) f q))
+    subst (λ (o : Owed). IsWordFound b at o word [] Nothing) (sym none) (found_halves b at word whole before (subst (IsCleanHalfAlone b at) e p) (subst (IsCleanHalfAlone b (at + 2)) f q))
 
 -- a look that finds nothing adds nothing
 pub adds_none : (b : BundlePlace) (at : ℕ) (owed : Owed) (word : List ℕ) (old : List Finding) (next : Owed) → IsWordFound b at owed word [] next → (here : List Finding) × (old ≡ old ++ here) × (length here ≤ 2) × IsWordFound b at owed word here next

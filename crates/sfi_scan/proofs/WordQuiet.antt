@@ -1,5 +1,5 @@
 -- Which instructions of code in words break no rule, what they write, and what is owed after them.
-use Rattle.sfi_scan.proofs.Prelude.{◌≡◌, ℕ, Bool, true, false, ◌&&◌, ◌||◌, ◌==◌, not, Option, Some, None, refl, sym, ap, ◌∙◌, subst, or_parts, eqb-true, Instr, is_reserved, destination, is_data_register, Owed, Nothing, owed_by, is_kept, ◌+◌, is_some, ap₂, arith, and_right, ne_eqb, BundlePlace, left, IsQuiet, IsBeforeEnd}
+use Rattle.sfi_scan.proofs.Prelude.{◌≡◌, ℕ, Bool, true, false, ◌&&◌, ◌||◌, ◌==◌, not, Option, Some, None, refl, sym, ap, ◌∙◌, subst, or_parts, eqb-true, Instr, is_reserved, destination, is_data_register, Owed, Nothing, owed_by, is_reserved_or_typed, ◌+◌, is_some, ap₂, arith, and_right, ne_eqb, BundlePlace, left, IsQuiet, IsBeforeEnd}
 use Rattle.std.proofs.lemmas.Bool.{and_left, or_from}
 use Rattle.rv_word.specs.Outlines.{is_register}
 use Rattle.sfi_pairs.specs.Pairs.{is_masking}
@@ -24,25 +24,25 @@ record IsFree (r : ℕ) : Type 0 where
   code : (r == 30) ≡ false
   offset : (r == 31) ≡ false
 
-free : (r : ℕ) → is_kept r ≡ false → IsFree r
+free : (r : ℕ) → is_reserved_or_typed r ≡ false → IsFree r
 free r h =
     let one = or_parts (is_reserved r || is_data_register r || (r == 30)) (r == 31) h in
     let two = or_parts (is_reserved r || is_data_register r) (r == 30) one.0 in
     let three = or_parts (is_reserved r) (is_data_register r) two.0 in
     record { reserved = three.0; not_data = three.1; code = two.1; offset = one.1 }
 
-abbrev pub is_kept_one : Option ℕ → Bool
-is_kept_one None = false
-is_kept_one (Some r) = is_kept r
+abbrev pub is_reserved_or_typed_one : Option ℕ → Bool
+is_reserved_or_typed_one None = false
+is_reserved_or_typed_one (Some r) = is_reserved_or_typed r
 
 owes_none : (r : ℕ) (i : Instr) → IsFree r → owed_of (Some r) i ≡ Some Nothing
 owes_none r i f = rw (f.not_data, f.code) refl
 
 -- an instruction that writes none that is kept owes nothing
-pub unkept : (i : Instr) → is_kept_one (destination i) ≡ false → IsWrite i Nothing
+pub unkept : (i : Instr) → is_reserved_or_typed_one (destination i) ≡ false → IsWrite i Nothing
 unkept i h = by (destination i) refl h
   where
-    by : (d : Option ℕ) → destination i ≡ d → is_kept_one d ≡ false → IsWrite i Nothing
+    by : (d : Option ℕ) → destination i ≡ d → is_reserved_or_typed_one d ≡ false → IsWrite i Nothing
     by None e h = record {
       reserved = ap is_reserved_one e;
       offset = ap (λ (d : Option ℕ). is_register 31 d && not (is_masking 27 31 i)) e;

@@ -14,7 +14,7 @@ pub(crate) struct Ahead {
 }
 
 /// The instruction that these bytes begin with.
-fn first_of(bytes: &[u8]) -> Option<Instr>
+fn first_instr(bytes: &[u8]) -> Option<Instr>
     ensures { (later : List Piece) → IsLongestReading bytes.now later →
         result ≡ (ahead later).first }
 {
@@ -42,7 +42,7 @@ pub(crate) fn read_ahead(bytes: &[u8]) -> Ahead
     match read_front(bytes) {
         Front::Read(instr, size) => Ahead {
             first: Some(instr),
-            second: first_of(&bytes[size as usize..]),
+            second: first_instr(&bytes[size as usize..]),
         },
         Front::Short => none_ahead(),
         Front::Bad => none_ahead(),

@@ -10,7 +10,9 @@ ghost use Rattle.sfi_rules.specs.Findings.{AreReadingFindings};
 ghost use Rattle.sfi_scan.specs.private.Blocks.{AreStarts, AreAfterTwo, AreThreeWords, IsWithout, IsWritten, IsOfWrite, offset, words_from, IsCleanAt};
 ghost use Rattle.sfi_scan.specs.private.Blocks.{half_at, word_at, AreWordsFrom, AreBefore};
 
-use crate::clean::{Words, half_at, is_clean, is_stack_pair, is_stack_write, may_access, word_at};
+use crate::clean::{
+    Words, are_stack_pair_words, half_at, is_allowed_stack_write, is_clean, may_access, word_at,
+};
 use rv_comp::outline16;
 use rv_word::{Reg, outline32};
 use sfi_formats::BUNDLE_SIZE;
@@ -28,7 +30,7 @@ const LAST_FOUR: u64 = 0xf0f0_f0f0_f0f0_f0f0;
 
 /// Whether bit i of the mask is set.
 #[inline(always)]
-pub(crate) fn has(mask: u64, i: usize) -> bool
+pub(crate) fn has_bit(mask: u64, i: usize) -> bool
     requires { i < 64 }
     ensures { result ≡ is_in mask i }
 {
@@ -37,7 +39,7 @@ pub(crate) fn has(mask: u64, i: usize) -> bool
 
 /// The bits of `mask` that `other` hasn't.
 #[inline(always)]
-pub(crate) fn without(mask: u64, other: u64) -> u64
+pub(crate) fn bits_without(mask: u64, other: u64) -> u64
     ensures { IsWithout mask other result }
 {
     mask & !other
@@ -118,13 +120,13 @@ fn word_of(block: &[u8; BLOCK_BYTES], i: usize) -> u32
 /// The words of the two instructions directly before halfword `i`. `after` has the places after two
 /// words.
 #[inline(always)]
-fn words_before(block: &[u8; BLOCK_BYTES], after: u64, i: usize) -> Words
+fn words_before_half(block: &[u8; BLOCK_BYTES], after: u64, i: usize) -> Words
     requires place { i < 64 }
     requires after { (words : ℕ) × AreAfterTwo words after }
     ensures { (before : Before) → AreWordsFrom (block_bundle block.now (i / 8)) (offset i)
         (words_from after i (offset i)) before → AreBefore result before }
 {
-    if !has(after, i) {
+    if !has_bit(after, i) {
         return Words {
             first: 0,
             second: 0,
@@ -138,7 +140,7 @@ fn words_before(block: &[u8; BLOCK_BYTES], after: u64, i: usize) -> Words
 
 /// Whether the access at halfword `i` stays in the data and its guard zones.
 #[inline(always)]
-fn is_clean_access(stack: bool, block: &[u8; BLOCK_BYTES], after: u64, i: usize) -> bool
+fn is_clean_access_at(stack: bool, block: &[u8; BLOCK_BYTES], after: u64, i: usize) -> bool
     requires place { i < 64 }
     requires inside { i % 8 < 7 }
     requires after { (words : ℕ) × AreAfterTwo words after }
@@ -147,7 +149,7 @@ fn is_clean_access(stack: bool, block: &[u8; BLOCK_BYTES], after: u64, i: usize)
         OnTrue result (IsCleanAt b block.now true after i) }
 {
     let base = Reg::numbered((word_of(block, i) >> 15 & 0b11111) as u8);
-    may_access(stack, words_before(block, after, i), base)
+    may_access(stack, words_before_half(block, after, i), base)
 }
 
 /// The bits of `accesses` whose access stays in the data and its guard zones.
@@ -165,7 +167,7 @@ fn clean_accesses(stack: bool, block: &[u8; BLOCK_BYTES], after: u64, accesses: 
     let mut rest = accesses;
     while rest != 0 {
         let i = rest.trailing_zeros() as usize;
-        if is_clean_access(stack, block, after, i) {
+        if is_clean_access_at(stack, block, after, i) {
             clean |= 1 << i;
         }
         rest &= rest - 1;
@@ -190,7 +192,7 @@ fn is_clean_at(
     requires after { (words : ℕ) × AreAfterTwo words after }
     ensures { OnTrue result (IsCleanAt place.now block.now (is_in words i) after i) }
 {
-    let outline = if has(words, i) {
+    let outline = if has_bit(words, i) {
         outline32(word_of(block, i))
     } else {
         outline16(half_of(block, i))
@@ -203,7 +205,7 @@ fn is_clean_at(
                 &bundle,
                 stack,
                 address,
-                words_before(block, after, i),
+                words_before_half(block, after, i),
                 outline,
             )
         }
@@ -248,10 +250,10 @@ fn is_written(block: &[u8; BLOCK_BYTES], words: u64, i: usize) -> bool
     requires three { (three : ℕ) × AreThreeWords words three × (is_in three i ≡ true) }
     ensures { OnTrue result (IsWritten block.now words i) }
 {
-    if !is_stack_pair(word_of(block, i + 2), word_of(block, i + 4)) {
+    if !are_stack_pair_words(word_of(block, i + 2), word_of(block, i + 4)) {
         return false;
     }
-    is_stack_write(word_of(block, i))
+    is_allowed_stack_write(word_of(block, i))
 }
 
 /// The bits of `places` whose instruction writes the stack pointer, which the pair after it puts
@@ -280,7 +282,7 @@ fn stack_writes(stack: bool, block: &[u8; BLOCK_BYTES], words: u64, places: u64)
 /// A mask with bits in each bundle that isn't seen to be clean: at its doubtful instructions, or
 /// everywhere.
 #[inline(always)]
-fn unclean(place: &BundlePlace, stack: bool, block: &[u8; BLOCK_BYTES]) -> u64
+fn doubtful_places(place: &BundlePlace, stack: bool, block: &[u8; BLOCK_BYTES]) -> u64
     requires within { IsWithinBlock place.now }
     requires stack { stack ≡ has_stack place.now.format }
     ensures { (k : ℕ) → k < 8 → ((j : ℕ) → j < 8 → is_in result (8 * k + j) ≡ false) →
@@ -291,19 +293,19 @@ fn unclean(place: &BundlePlace, stack: bool, block: &[u8; BLOCK_BYTES]) -> u64
     if !are_starts(starts, masks.long) {
         return u64::MAX;
     }
-    let left = without(starts, masks.free);
+    let left = bits_without(starts, masks.free);
     if left == 0 {
         return 0;
     }
     let words = starts & masks.long;
     let after = after_two(words);
     let accesses = clean_accesses(stack, block, after, left & words & masks.access);
-    let others = without(left, accesses);
-    let rest = without(
+    let others = bits_without(left, accesses);
+    let rest = bits_without(
         others,
         clean_others(place, stack, block, words, after, others),
     );
-    without(rest, stack_writes(stack, block, words, rest))
+    bits_without(rest, stack_writes(stack, block, words, rest))
 }
 
 /// A bit for each bundle in which `places` has no bit.
@@ -334,9 +336,9 @@ pub fn clean_bundles(place: &BundlePlace, block: &[u8; BLOCK_BYTES]) -> u8
         AreReadingFindings (bundle_at place.now i) (block_bundle block.now i) [] }
 {
     let places = if place.format.has_stack() {
-        unclean(place, true, block)
+        doubtful_places(place, true, block)
     } else {
-        unclean(place, false, block)
+        doubtful_places(place, false, block)
     };
     bundles_without(places)
 }

@@ -130,7 +130,7 @@ fn is_clean_access(stack: bool, words: Words, access: Access) -> bool
 
 /// Whether an indirect jump, after these words, breaks no rule.
 #[inline(always)]
-fn is_clean_jump(
+fn is_clean_indirect_jump(
     place: &BundlePlace,
     stack: bool,
     words: Words,
@@ -176,7 +176,9 @@ pub(crate) fn is_clean(
         Outline::Jumps { rd, offset } => {
             !is_protected(stack, rd) && is_bundle_start(place, offset_by(address, offset))
         }
-        Outline::JumpsTo { rd, base, imm } => is_clean_jump(place, stack, words, rd, base, imm),
+        Outline::JumpsTo { rd, base, imm } => is_clean_indirect_jump(
+            place, stack, words, rd, base, imm,
+        ),
         Outline::Orders | Outline::Stops => true,
         Outline::Calls => false,
     }
@@ -184,7 +186,7 @@ pub(crate) fn is_clean(
 
 /// Whether the halfword is a form that breaks no rule there.
 #[inline(always)]
-fn is_clean_half(
+fn is_clean_short(
     place: &BundlePlace,
     stack: bool,
     bytes: &[u8; BUNDLE_BYTES],
@@ -214,7 +216,7 @@ fn is_clean_half(
 /// Whether the word at this place of the bundle is an instruction that breaks no rule there. Most
 /// compute, load or store, so these are tested first.
 #[inline(always)]
-fn is_clean_word(
+fn is_clean_wide(
     place: &BundlePlace,
     stack: bool,
     bytes: &[u8; BUNDLE_BYTES],
@@ -245,7 +247,7 @@ fn is_clean_word(
 }
 
 /// Whether the word is an instruction that computes into the stack pointer, or loads into it by it.
-pub(crate) fn is_stack_write(word: u32) -> bool
+pub(crate) fn is_allowed_stack_write(word: u32) -> bool
     ensures { OnTrue result (IsStackWrite word) }
 {
     match outline32(word) {
@@ -260,7 +262,7 @@ pub(crate) fn is_stack_write(word: u32) -> bool
 
 /// Whether the words are the pair on the stack pointer.
 #[inline(always)]
-pub(crate) fn is_stack_pair(first: u32, second: u32) -> bool
+pub(crate) fn are_stack_pair_words(first: u32, second: u32) -> bool
     ensures { OnTrue result (AreStackPair first second) }
 {
     let stack = Reg::numbered(STACK);
@@ -281,10 +283,10 @@ fn is_stack_written(bytes: &[u8; BUNDLE_BYTES], at: usize) -> bool
     ensures pair { OnTrue result
         (AreStackPair (word_at bytes.now (at + 4)) (word_at bytes.now (at + 8))) }
 {
-    if !is_stack_pair(word_at(bytes, at + 4), word_at(bytes, at + 8)) {
+    if !are_stack_pair_words(word_at(bytes, at + 4), word_at(bytes, at + 8)) {
         return false;
     }
-    is_stack_write(word_at(bytes, at))
+    is_allowed_stack_write(word_at(bytes, at))
 }
 
 /// Whether the bundle is seen to break no rule but perhaps that of a gate's bundle. It is compiled
@@ -305,7 +307,7 @@ fn looks_clean(place: &BundlePlace, stack: bool, bytes: &[u8; BUNDLE_BYTES]) -> 
     while at < BUNDLE_BYTES {
         let halfword = half_at(bytes, at);
         if halfword & 0b11 != 0b11 {
-            if !is_clean_half(place, stack, bytes, at, from, halfword) {
+            if !is_clean_short(place, stack, bytes, at, from, halfword) {
                 return false;
             }
             at += 2;
@@ -313,7 +315,7 @@ fn looks_clean(place: &BundlePlace, stack: bool, bytes: &[u8; BUNDLE_BYTES]) -> 
         } else if stack && at <= 4 && is_stack_written(bytes, at) {
             at += 12;
         } else {
-            if at > 12 || !is_clean_word(place, stack, bytes, at, from, word_at(bytes, at)) {
+            if at > 12 || !is_clean_wide(place, stack, bytes, at, from, word_at(bytes, at)) {
                 return false;
             }
             at += 4;

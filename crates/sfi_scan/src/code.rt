@@ -8,7 +8,7 @@ ghost use Rattle.sfi_rules.specs.Findings.{AreReadingFindings};
 ghost use Rattle.sfi_scan.specs.Stretches.{IsStretch, IsScanned, IsStretchScanned, stretch_place};
 ghost use Rattle.sfi_scan.specs.private.Scanning.{IsInBytesOfBlock, IsBlockScanned, IsBlockStart, IsFrontScanned};
 
-use crate::block::{bundle_at, clean_bundles, has};
+use crate::block::{bundle_at, clean_bundles, has_bit};
 use crate::findings::BundleFindings;
 use crate::scan::scan_bundle;
 use crate::sink::FindingSink;
@@ -39,7 +39,7 @@ pub(crate) fn place_after(place: &BundlePlace, before: usize) -> BundlePlace
 
 /// Scans a bundle, and hands its findings to the sink.
 #[inline(always)]
-fn scan_one<F: FindingSink>(
+fn scan_one_bundle<F: FindingSink>(
     place: &BundlePlace,
     bundle: &[u8; BUNDLE_BYTES],
     sink: &mut F,
@@ -57,7 +57,7 @@ fn scan_one<F: FindingSink>(
 
 /// Scans the block's bundles from number `from` on that aren't seen to be clean, in order.
 #[inline(never)]
-fn scan_unseen<F: FindingSink>(
+fn scan_doubtful_bundles<F: FindingSink>(
     place: &BundlePlace,
     block: &[u8; BLOCK_BYTES],
     from: usize,
@@ -75,8 +75,8 @@ fn scan_unseen<F: FindingSink>(
     let (bundles, _) = block.as_chunks::<BUNDLE_BYTES>();
     let mut i = from;
     while i < bundles.len() {
-        if !has(u64::from(clean), i) {
-            scan_one(&bundle_at(place, i), &bundles[i], sink, findings);
+        if !has_bit(u64::from(clean), i) {
+            scan_one_bundle(&bundle_at(place, i), &bundles[i], sink, findings);
         }
         i += 1;
     }
@@ -98,7 +98,7 @@ fn scan_block<F: FindingSink>(
 {
     let clean = clean_bundles(place, block);
     if clean != u8::MAX {
-        scan_unseen(place, block, from, clean, sink, findings);
+        scan_doubtful_bundles(place, block, from, clean, sink, findings);
     }
 }
 
@@ -156,7 +156,7 @@ pub(crate) fn block_start<const BLOCKS: bool>(
 /// Scans a stretch from byte `at` on: the rest of a block, or else the next bundle. Answers the
 /// offset after it.
 #[inline(always)]
-fn scan_front<F: FindingSink, const BLOCKS: bool>(
+fn scan_next_bundles<F: FindingSink, const BLOCKS: bool>(
     place: &BundlePlace,
     code: &[u8],
     at: usize,
@@ -175,7 +175,7 @@ fn scan_front<F: FindingSink, const BLOCKS: bool>(
         return start + BLOCK_BYTES;
     }
     let bundle = bytes_from::<BUNDLE_BYTES>(code, at);
-    scan_one(&place_after(place, at), bundle, sink, findings);
+    scan_one_bundle(&place_after(place, at), bundle, sink, findings);
     at + BUNDLE_BYTES
 }
 
@@ -188,7 +188,7 @@ pub fn scan_code<F: FindingSink, const BLOCKS: bool>(place: &BundlePlace, code: 
     let mut findings = BundleFindings::new();
     let mut at = 0;
     while at < code.len() {
-        at = scan_front::<F, BLOCKS>(place, code, at, sink, &mut findings);
+        at = scan_next_bundles::<F, BLOCKS>(place, code, at, sink, &mut findings);
     }
 }
 

@@ -1,13 +1,10 @@
 //! The scan: the places of an image where the rules of `sfi_rules` are broken.
 //!
-//! Code is read in bundles, 16 aligned bytes each (Yee and others, 2009, "Native Client"). An
-//! access and an indirect jump stand after a masked pair in the same bundle (Wahbe and others,
-//! 1993, "Efficient Software-Based Fault Isolation"). In the second format an access on the stack
-//! pointer x2 needs no pair; instead a write to x2 is of such a pair, or has one directly after it,
-//! which puts x2 back into the data.
-//!
-//! In the third format code is in words, which are scanned 16 bytes at a time, with what is owed
-//! before them ([`scan_words`]).
+//! [`scan_stretch`] scans code that lies together. With [`IN_BLOCKS`] it looks at eight bundles at
+//! once (`block.rt`), then at each bundle that this leaves (`clean.rt`), and reads what neither sees
+//! to be clean instruction by instruction (`scan.rt`, `rules.rt`). Code in words, the third format,
+//! is scanned alike by `words.rt` and the modules in `words/`: first eight bundles at once, then
+//! word by word, with what is owed before each ([`scan_word_code`]).
 #![tactic(auto)]
 
 mod ahead;

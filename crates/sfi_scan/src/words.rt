@@ -49,7 +49,7 @@ pub fn scan_words(
 
 /// Scans 16 bytes, and hands their findings to the sink. Answers what is owed after them.
 #[inline(always)]
-fn scan_one<F: FindingSink>(
+fn scan_bundle_of_words<F: FindingSink>(
     place: &BundlePlace,
     bundle: &[u8; BUNDLE_BYTES],
     owed: Owed,
@@ -69,7 +69,7 @@ fn scan_one<F: FindingSink>(
 /// Looks at the next block of the stretch from byte `at` on, or at its last one where fewer than
 /// eight bundles are left. If it is clean: the offset after it, and what is owed there.
 #[inline(always)]
-fn look_at_front(
+fn look_at_next_block(
     place: &BundlePlace,
     code: &[u8],
     at: usize,
@@ -90,7 +90,7 @@ fn look_at_front(
 /// Looks at blocks of the stretch from byte `at` on, until one isn't seen to be clean: the offset
 /// of that, and what is owed there. It is compiled once for all sinks.
 #[inline(never)]
-fn clean_blocks(
+fn skip_clean_blocks(
     place: &BundlePlace,
     code: &[u8],
     at: usize,
@@ -103,7 +103,7 @@ fn clean_blocks(
     let mut end = at;
     let mut left = owed;
     while end < code.len() {
-        let Some((to, next)) = look_at_front(place, code, end, left, findings) else {
+        let Some((to, next)) = look_at_next_block(place, code, end, left, findings) else {
             return (end, left);
         };
         end = to;
@@ -112,10 +112,10 @@ fn clean_blocks(
     (end, left)
 }
 
-/// The answer of `clean_blocks`, if scanning in blocks; else byte `at` itself, and what is owed
+/// The answer of `skip_clean_blocks`, if scanning in blocks; else byte `at` itself, and what is owed
 /// there.
 #[inline(always)]
-fn clean_front<const BLOCKS: bool>(
+fn skip_clean_code<const BLOCKS: bool>(
     place: &BundlePlace,
     code: &[u8],
     at: usize,
@@ -126,7 +126,7 @@ fn clean_front<const BLOCKS: bool>(
     ensures { (k : ℕ) → at ≡ bundle_size * k → IsRunClean place.now owed code.now k result.0 result.1 }
 {
     if BLOCKS {
-        clean_blocks(place, code, at, owed, findings)
+        skip_clean_blocks(place, code, at, owed, findings)
     } else {
         (at, owed)
     }
@@ -135,7 +135,7 @@ fn clean_front<const BLOCKS: bool>(
 /// The offset up to which a stretch is scanned bundle by bundle from byte `at` on: the end of the
 /// block there, which wasn't seen to be clean, or else of the next bundle.
 #[inline(always)]
-fn unseen_end<const BLOCKS: bool>(place: &BundlePlace, code: &[u8], at: usize) -> usize
+fn doubtful_end<const BLOCKS: bool>(place: &BundlePlace, code: &[u8], at: usize) -> usize
     requires { (n : ℕ) × (k : ℕ) × IsStretch place.now code.now n × (at ≡ bundle_size * k) × (k < n) }
     ensures ahead { at < result }
     ensures inside { result ≤ length code.now }
@@ -168,7 +168,7 @@ fn scan_bundles<F: FindingSink>(
     let mut left = owed;
     while end < stop {
         let bundle = bytes_from::<BUNDLE_BYTES>(code, end);
-        left = scan_one(&place_after(place, end), bundle, left, sink, findings);
+        left = scan_bundle_of_words(&place_after(place, end), bundle, left, sink, findings);
         end += BUNDLE_BYTES;
     }
     (end, left)
@@ -178,7 +178,7 @@ fn scan_bundles<F: FindingSink>(
 /// by bundle up to the end of the next block. Answers the offset after that, and what is owed
 /// there.
 #[inline(always)]
-fn scan_front<F: FindingSink, const BLOCKS: bool>(
+fn scan_next_words<F: FindingSink, const BLOCKS: bool>(
     place: &BundlePlace,
     code: &[u8],
     at: usize,
@@ -190,11 +190,11 @@ fn scan_front<F: FindingSink, const BLOCKS: bool>(
     ensures { (k : ℕ) → at ≡ bundle_size * k
         → IsWordFrontScanned F.takes place.now owed code.now k result.0 result.1 sink.old sink.new }
 {
-    let (end, left) = clean_front::<BLOCKS>(place, code, at, owed, findings);
+    let (end, left) = skip_clean_code::<BLOCKS>(place, code, at, owed, findings);
     if end == code.len() {
         return (end, left);
     }
-    let stop = unseen_end::<BLOCKS>(place, code, end);
+    let stop = doubtful_end::<BLOCKS>(place, code, end);
     scan_bundles(place, code, end, stop, left, sink, findings)
 }
 
@@ -213,7 +213,7 @@ pub(crate) fn scan_words_as<F: FindingSink, const BLOCKS: bool>(
     let mut left = owed;
     let mut at = 0;
     while at < code.len() {
-        let (end, next) = scan_front::<F, BLOCKS>(place, code, at, left, sink, &mut findings);
+        let (end, next) = scan_next_words::<F, BLOCKS>(place, code, at, left, sink, &mut findings);
         at = end;
         left = next;
     }

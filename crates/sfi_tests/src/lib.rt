@@ -1,4 +1,5 @@
-//! Worked examples: runs of the commands over texts, and what they must print.
+//! Tests of the crates `sfi_`: rows of commands with their input and what they must print, and calls
+//! of the libraries.
 #![tactic(auto)]
 
 #[cfg(test)]

@@ -1,5 +1,5 @@
 -- Each token is what a part of a statement asks for, or isn't.
-use Rattle.sfi_text.proofs.Prelude.{◌≡◌, ℕ, Bool, true, false, List, [], ◌∷◌, length, take, drop, ◌⊎◌, inl, inr, refl, sym, ap, ◌∙◌, subst, arith, ℤ, pos, negsuc, codes, ◌≤ℤ◌, cases_lt, cases_eq, false≢true, bytes_eq, bytes_eq-Decides, ints, modulo, IsBetween, IsDataSize, NumberKind, BranchOffset, JumpOffset, DataSize, Part, Rd, Rs1, Rs2, Number, Name, Mode, ImageFormat, Comma, Open, Close, Keyword, IsBlank, is_mark, IsMark, IsNumber, IsToken, Takes, IsStuck, begins_name, IsName, begins_label, IsLabel, IsNumberOf, keyword_name, OperandValues, Stands, SaysFormat, mode_name, body_of, token_len, operands}
+use Rattle.sfi_text.proofs.Prelude.{◌≡◌, ℕ, Bool, true, false, List, [], ◌∷◌, length, take, drop, ◌⊎◌, inl, inr, refl, sym, ap, ◌∙◌, subst, arith, ℤ, pos, negsuc, codes, ◌≤ℤ◌, cases_lt, cases_eq, false≢true, bytes_eq, bytes_eq-Decides, ints, modulo, IsBetween, IsDataSize, NumberKind, BranchOffset, JumpOffset, DataSize, OperandPart, Rd, Rs1, Rs2, Number, Name, Mode, ImageFormat, Comma, Open, Close, Keyword, IsBlank, is_mark, IsMark, IsNumber, IsToken, Takes, IsStuck, begins_name, IsName, begins_label, IsLabel, IsNumberOf, keyword_name, OperandValues, Stands, SaysFormat, mode_name, body_of, token_len, operands}
 use Rattle.sfi_text.specs.private.Reading.{candidate, IsInReach}
 use Rattle.sfi_formats.specs.declared.format.Format.{Format}
 use Rattle.sfi_formats.specs.declared.format.Format.TheVariants.{Sfi1, Sfi2, Sfiw}
@@ -106,7 +106,7 @@ written_or_not kind token is_token =
 
 -- ---- parts
 
-abbrev StandsOrNot : Part → List ℕ → Type 0
+abbrev StandsOrNot : OperandPart → List ℕ → Type 0
 StandsOrNot part token = ((o : OperandValues) × Stands o part token) ⊎ ((o : OperandValues) → Stands o part token → ⊥)
 
 no_mode : (token : List ℕ) → (token ≡ mode_name true → ⊥) → (token ≡ mode_name false → ⊥) → (rvc : Bool) → token ≡ mode_name rvc → ⊥
@@ -162,7 +162,7 @@ format_or_not token is_token =
 text_or_not : (text token : List ℕ) → ((o : OperandValues) × (token ≡ text)) ⊎ ((o : OperandValues) → token ≡ text → ⊥)
 text_or_not text token = elim (decided_same token text) [ inl is ↦ inl (operands 0 0 0 (pos 0), is) | inr not ↦ inr (λ o h. not h) ]
 
-pub stands_or_not : (part : Part) (token : List ℕ) → IsToken token → StandsOrNot part token
+pub stands_or_not : (part : OperandPart) (token : List ℕ) → IsToken token → StandsOrNot part token
 stands_or_not Rd token is_token =
     elim (register_or_not token) [
       | inl found ↦ inl (operands found.0 0 0 (pos 0), found.1)

@@ -1,5 +1,5 @@
 -- A line states one thing, or nothing for one cause.
-use Rattle.sfi_text.proofs.Prelude.{◌≡◌, ℕ, List, [], ◌∷◌, ◌⊎◌, inl, inr, refl, sym, ap, ◌∙◌, subst, ℤ, Result, Ok, Err, IfOk, IfErr, MatchResult, flat_map, IfOk-weaker, Instr, TextCause, Mnemonic, Part, Nop, Ret, DataWidth, Keyword, IsBlank, AreTokens, LeadsTo, name_of, form_of, OperandValues, Departs, mnemonic_of, operands_of, Spells, OperandsDepart, Reads, AgreesOn, FollowsName, directive_form, directive_states, pseudo_form, pseudo_states, branch_form, branch_states, jal_form, jal_states, data_kind, data_bytes, Writes, AreMore, IsRow, IsData, StatesAfter, InstrDeparts, RefusedWith, Stated, within, bytes, plain, stated, IsRightStatement}
+use Rattle.sfi_text.proofs.Prelude.{◌≡◌, ℕ, List, [], ◌∷◌, ◌⊎◌, inl, inr, refl, sym, ap, ◌∙◌, subst, ℤ, Result, Ok, Err, IfOk, IfErr, MatchResult, flat_map, IfOk-weaker, Instr, TextCause, Mnemonic, OperandPart, Nop, Ret, DataWidth, Keyword, IsBlank, AreTokens, LeadsTo, name_of, form_of, OperandValues, Departs, mnemonic_of, operands_of, Spells, OperandsDepart, Reads, AgreesOn, FollowsName, directive_form, directive_states, pseudo_form, pseudo_states, branch_form, branch_states, jal_form, jal_states, data_kind, data_bytes, Writes, AreMore, IsRow, IsData, StatesAfter, InstrDeparts, RefusedWith, Stated, within, bytes, plain, stated, IsRightStatement}
 use Rattle.sfi_text.specs.declared.keyword.Directive.{Directive}
 use Rattle.sfi_text.specs.declared.keyword.Pseudo.{Pseudo}
 use Rattle.sfi_text.specs.declared.statement.Statement.{Statement}
@@ -36,7 +36,7 @@ plain_departs mnemonic.Jal text e (no_branch, no_jal) h = absurd (no_jal refl)
 plain_departs name text e nowhere h = h
 
 -- what is read off a text is what its tokens state, and the other way round
-module _ (form : List Part) (states : OperandValues → Stated) (text : List ℕ) (s : Stated) where
+module _ (form : List OperandPart) (states : OperandValues → Stated) (text : List ℕ) (s : Stated) where
   row_states : ReadsRow form states text s → (tokens : List (List ℕ)) × AreTokens text tokens × IsRow form states tokens s
   row_states (o, reads, e) = let t = tokens_of o form text reads in (t.0, t.1, (o, t.2, e))
 
@@ -106,7 +106,7 @@ branch_agrees cond a b h = cc
 jal_agrees : (a b : OperandValues) → AgreesOn jal_form a b → jal_states a ≡ jal_states b
 jal_agrees a b h = cc
 
-row_one : (form : List Part) (states : OperandValues → Stated) → ((a b : OperandValues) → AgreesOn form a b → states a ≡ states b) → (text : List ℕ) (s t : Stated) → ReadsRow form states text s → ReadsRow form states text t → s ≡ t
+row_one : (form : List OperandPart) (states : OperandValues → Stated) → ((a b : OperandValues) → AgreesOn form a b → states a ≡ states b) → (text : List ℕ) (s t : Stated) → ReadsRow form states text s → ReadsRow form states text t → s ≡ t
 row_one form states agrees text s t (o, reads, e) (p, read, f) = e ∙ agrees o p (agree o p form text reads read) ∙ sym f
 
 plain_one : (name : Mnemonic) (text : List ℕ) (s t : Stated) → ReadsPlain name text s → ReadsPlain name text t → s ≡ t
@@ -121,7 +121,7 @@ reads_one (keyword.Pseudo name) text s t h j = row_one (pseudo_form name) (pseud
 reads_one (keyword.Directive name) text s t h j = row_one (directive_form name) (directive_states name) (directive_agrees name) text s t h j
 reads_one (keyword.Numbers width) text s t (b, h, e) (c, j, f) = e ∙ ap (λ v. within (bytes v)) (list_one width text b c h j) ∙ sym f
 
-row_not : (form : List Part) (states : OperandValues → Stated) (text : List ℕ) (s : Stated) (e : TextCause) → ReadsRow form states text s → Departs form text e → ⊥
+row_not : (form : List OperandPart) (states : OperandValues → Stated) (text : List ℕ) (s : Stated) (e : TextCause) → ReadsRow form states text s → Departs form text e → ⊥
 row_not form states text s e (o, reads, is) departs = departs_reads form text e o departs reads
 
 plain_not : (name : Mnemonic) (text : List ℕ) (s : Stated) (e : TextCause) → ReadsPlain name text s → OperandsDepart name text e → ⊥

@@ -1,5 +1,5 @@
 -- What a text means: one instruction in range at most, or one cause of a refusal.
-use Rattle.sfi_text.proofs.Prelude.{◌≡◌, ℕ, List, [], ◌∷◌, inl, inr, refl, sym, ap, ◌∙◌, subst, ℤ, pos, codes, IsNumber, Bool, true, false, Result, IfOk, IfOk-weaker, Instr, TextCause, Mnemonic, Part, Rd, Rs1, Rs2, Number, Name, Mode, ImageFormat, SaysFormat, Takes, IsBlank, LeadsTo, AreTokens, name_of, form_of, OperandValues, Stands, HasForm, mode_name, Reads, SameAt, AgreesOn, FollowsName, FollowsToken, mnemonic_of, operands_of, Means, negsuc, InRange, Follows, OneMeaning, MeaningsAreInRange, ◌⊎◌, Ok, Err, IfErr, IsName, Refused, Differs, Departs, OperandsDepart, RefusedAt, OneCause, MeantIsNotRefused}
+use Rattle.sfi_text.proofs.Prelude.{◌≡◌, ℕ, List, [], ◌∷◌, inl, inr, refl, sym, ap, ◌∙◌, subst, ℤ, pos, codes, IsNumber, Bool, true, false, Result, IfOk, IfOk-weaker, Instr, TextCause, Mnemonic, OperandPart, Rd, Rs1, Rs2, Number, Name, Mode, ImageFormat, SaysFormat, Takes, IsBlank, LeadsTo, AreTokens, name_of, form_of, OperandValues, Stands, HasForm, mode_name, Reads, SameAt, AgreesOn, FollowsName, FollowsToken, mnemonic_of, operands_of, Means, negsuc, InRange, Follows, OneMeaning, MeaningsAreInRange, ◌⊎◌, Ok, Err, IfErr, IsName, Refused, Differs, Departs, OperandsDepart, RefusedAt, OneCause, MeantIsNotRefused}
 use Rattle.sfi_text.proofs.NameTables.{register_unique, name_unique, name_is_name}
 use Rattle.sfi_text.proofs.Numbers.{number_unique}
 use Rattle.sfi_text.proofs.Taking.{takes_unique, blank_takes_none, One, either_one, fixed_one, token_one, front_at, front_one}
@@ -34,7 +34,7 @@ format_unique token Sfiw Sfi1 h k = absurd (words_no_number token (pos 1) h k)
 format_unique token Sfiw Sfi2 h k = absurd (words_no_number token (pos 2) h k)
 
 -- a token gives one operand
-operand_unique : (a b : OperandValues) (part : Part) (token : List ℕ) → Stands a part token → Stands b part token → SameAt part a b
+operand_unique : (a b : OperandValues) (part : OperandPart) (token : List ℕ) → Stands a part token → Stands b part token → SameAt part a b
 operand_unique a b Rd token h k = register_unique token _ _ h k
 operand_unique a b Rs1 token h k = register_unique token _ _ h k
 operand_unique a b Rs2 token h k = register_unique token _ _ h k
@@ -45,24 +45,24 @@ operand_unique a b ImageFormat token h k = format_unique token a.format b.format
 operand_unique a b _ token h k = tt
 
 -- two statements that are read off one text have the same operands
-pub agree : (a b : OperandValues) (form : List Part) (text : List ℕ) → Reads a form text → Reads b form text → AgreesOn form a b
+pub agree : (a b : OperandValues) (form : List OperandPart) (text : List ℕ) → Reads a form text → Reads b form text → AgreesOn form a b
 agree a b [] text h k = tt
 agree a b (part ∷ form) text (t, r, takes, stands, reads) (u, s, other, stood, read) =
     let same = takes_unique other takes in
     (operand_unique a b part t stands (subst (Stands b part) same.0 stood), agree a b form r reads (subst (Reads b form) same.1 read))
 
-reads_by : (a b : OperandValues) (form : List Part) (text : List ℕ) → AgreesOn form a b → Reads b form text → Reads a form text
+reads_by : (a b : OperandValues) (form : List OperandPart) (text : List ℕ) → AgreesOn form a b → Reads b form text → Reads a form text
 reads_by a b [] text e h = h
 reads_by a b (part ∷ form) text e (t, r, takes, stands, reads) = (t, r, takes, stands_by_operand a b part t e.0 stands, reads_by a b form r e.1 reads)
 
 -- the tokens that are read, and what is read from the tokens
-pub tokens_of : (o : OperandValues) (form : List Part) (text : List ℕ) → Reads o form text → (tokens : List (List ℕ)) × AreTokens text tokens × HasForm o form tokens
+pub tokens_of : (o : OperandValues) (form : List OperandPart) (text : List ℕ) → Reads o form text → (tokens : List (List ℕ)) × AreTokens text tokens × HasForm o form tokens
 tokens_of o [] text h = ([], (text, refl, h), tt)
 tokens_of o (part ∷ form) text (t, r, takes, stands, reads) =
     let more = tokens_of o form r reads in
     (t ∷ more.0, (more.1.0, (r, takes, more.1.1), more.1.2), (stands, more.2))
 
-pub from_tokens : (o : OperandValues) (form : List Part) (tokens : List (List ℕ)) (text : List ℕ) → AreTokens text tokens → HasForm o form tokens → Reads o form text
+pub from_tokens : (o : OperandValues) (form : List OperandPart) (tokens : List (List ℕ)) (text : List ℕ) → AreTokens text tokens → HasForm o form tokens → Reads o form text
 from_tokens o [] [] text (rest, leads, blank) h = subst IsBlank (sym leads) blank
 from_tokens o [] (t ∷ tokens) text leads h = absurd h
 from_tokens o (part ∷ form) [] text leads h = absurd h
@@ -166,20 +166,20 @@ in_range text i h =
 -- ==== A text is refused for one cause at most, and for none where it means an instruction; what an answer says of it.
 
 -- the first token can't stand at this part, or what follows departs from the others
-abbrev AtPart : Part → List Part → List ℕ → List ℕ → TextCause → Type 0
+abbrev AtPart : OperandPart → List OperandPart → List ℕ → List ℕ → TextCause → Type 0
 AtPart part form token rest e = Differs part token e ⊎ ((o : OperandValues) × Stands o part token × Departs form rest e)
 
-part_one : (part : Part) (form : List Part) → ((text : List ℕ) → One (Departs form text)) → (token rest : List ℕ) → One (AtPart part form token rest)
+part_one : (part : OperandPart) (form : List OperandPart) → ((text : List ℕ) → One (Departs form text)) → (token rest : List ℕ) → One (AtPart part form token rest)
 part_one part form one token rest =
     either_one _ _ (λ e f h k. h.1 ∙ sym k.1) (λ e f h k. one rest e f h.2 k.2) (λ e f differs h. differs.0 h.0 h.1)
 
 -- a text departs from a form for one cause
-pub departs_one : (form : List Part) (text : List ℕ) → One (Departs form text)
+pub departs_one : (form : List OperandPart) (text : List ℕ) → One (Departs form text)
 departs_one [] text = token_one text (λ token rest e. e ≡ cause.Operands) (λ token rest e f h k. h ∙ sym k)
 departs_one (part ∷ form) text = front_one text (AtPart part form) (part_one part form (λ rest. departs_one form rest))
 
 -- and one whose tokens stand at the form for none
-pub departs_reads : (form : List Part) (text : List ℕ) (e : TextCause) (o : OperandValues) → Departs form text e → Reads o form text → ⊥
+pub departs_reads : (form : List OperandPart) (text : List ℕ) (e : TextCause) (o : OperandValues) → Departs form text e → Reads o form text → ⊥
 departs_reads [] text e o (inl s) blank = s.0.something blank
 departs_reads [] text e o (inr (t, r, takes, d)) blank = blank_takes_none text t r blank takes
 departs_reads (part ∷ form) text e o (inl s) (t, r, takes, stands, reads) = s.0.nothing t r takes

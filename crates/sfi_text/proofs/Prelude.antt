@@ -24,8 +24,8 @@ pub use Rattle.sfi_text.specs.Tokens.{Takes, IsBlank, is_mark, IsMark, IsNumber,
 pub use Rattle.sfi_text.specs.declared.cause.TextCause.{TextCause}
 pub use Rattle.sfi_text.specs.declared.form.NumberKind.{NumberKind}
 pub use Rattle.sfi_text.specs.declared.form.NumberKind.TheVariants.{Immediate, ShiftAmount, BranchOffset, JumpOffset, Upper, DataSize}
-pub use Rattle.sfi_text.specs.declared.form.Part.{Part}
-pub use Rattle.sfi_text.specs.declared.form.Part.TheVariants.{Rd, Rs1, Rs2, Number, Name, Mode, ImageFormat, Comma, Open, Close}
+pub use Rattle.sfi_text.specs.declared.form.OperandPart.{OperandPart}
+pub use Rattle.sfi_text.specs.declared.form.OperandPart.TheVariants.{Rd, Rs1, Rs2, Number, Name, Mode, ImageFormat, Comma, Open, Close}
 pub use Rattle.sfi_text.specs.declared.keyword.DataWidth.{DataWidth}
 pub use Rattle.sfi_text.specs.declared.keyword.Keyword.{Keyword}
 pub use Rattle.sfi_text.specs.declared.keyword.Pseudo.TheVariants.{Nop, Ret, Li}

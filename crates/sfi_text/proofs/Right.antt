@@ -1,5 +1,5 @@
 -- What a line states is in range.
-use Rattle.sfi_text.proofs.Prelude.{rules, ◌≡◌, ℕ, ◌^◌, ◌<◌, ◌≤◌, Bool, true, false, cond, List, [], ◌∷◌, length, inl, inr, refl, sym, ap, ◌∙◌, subst, arith, ℤ, pos, negsuc, unsigned_abs, ◌==◌, All, flat_map, ints, Instr, IsImm12, Mnemonic, Part, Nop, Li, DataWidth, Keyword, IsDataSize, IsStraight, name_of, form_of, IsNumberOf, OperandValues, HasForm, AllSuit, mnemonic_of, operands_of, Spells, is_small, add_lower, constant, data_bytes, directive_form, directive_states, pseudo_form, pseudo_states, branch_form, branch_states, jal_form, jal_states, position_of_keyword, IsRow, After, Stated, within, plain, IsRightStatement, position_of_stated}
+use Rattle.sfi_text.proofs.Prelude.{rules, ◌≡◌, ℕ, ◌^◌, ◌<◌, ◌≤◌, Bool, true, false, cond, List, [], ◌∷◌, length, inl, inr, refl, sym, ap, ◌∙◌, subst, arith, ℤ, pos, negsuc, unsigned_abs, ◌==◌, All, flat_map, ints, Instr, IsImm12, Mnemonic, OperandPart, Nop, Li, DataWidth, Keyword, IsDataSize, IsStraight, name_of, form_of, IsNumberOf, OperandValues, HasForm, AllSuit, mnemonic_of, operands_of, Spells, is_small, add_lower, constant, data_bytes, directive_form, directive_states, pseudo_form, pseudo_states, branch_form, branch_states, jal_form, jal_states, position_of_keyword, IsRow, After, Stated, within, plain, IsRightStatement, position_of_stated}
 use Rattle.sfi_source.specs.Source.{upper, lower}
 use Rattle.sfi_text.specs.declared.keyword.DataWidth.TheVariants.{Word, Half, Byte}
 use Rattle.sfi_text.specs.declared.keyword.Directive.{Directive}
@@ -20,7 +20,7 @@ use Rattle.sfi_text.proofs.Forms.{stands_suits, fits_in_range, full_fence_in_ran
 use Rattle.sfi_text.proofs.Numbers.{upper_below, lower_imm}
 
 -- operands that tokens give fit their form
-form_fits : (o : OperandValues) (form : List Part) (tokens : List (List ℕ)) → HasForm o form tokens → AllSuit o form
+form_fits : (o : OperandValues) (form : List OperandPart) (tokens : List (List ℕ)) → HasForm o form tokens → AllSuit o form
 form_fits o [] tokens h = tt
 form_fits o (part ∷ form) [] h = absurd h
 form_fits o (part ∷ form) (t ∷ tokens) h = (stands_suits o part t h.0, form_fits o form tokens h.1)
@@ -115,7 +115,7 @@ branch_right cond o h = (branch_in_range cond o.rs1 o.rs2 h.0 h.1.1.0, refl, h.1
 jal_right : (o : OperandValues) → AllSuit o jal_form → IsRightStatement (jal_states o)
 jal_right o h = (jal_in_range o.rd h.0, refl, h.1.1.0)
 
-row_right : (form : List Part) (states : OperandValues → Stated) → ((o : OperandValues) → AllSuit o form → IsRightStatement (states o)) → (tokens : List (List ℕ)) (s : Stated) → IsRow form states tokens s → IsRightStatement s
+row_right : (form : List OperandPart) (states : OperandValues → Stated) → ((o : OperandValues) → AllSuit o form → IsRightStatement (states o)) → (tokens : List (List ℕ)) (s : Stated) → IsRow form states tokens s → IsRightStatement s
 row_right form states right tokens s (o, has, e) = subst IsRightStatement (sym e) (right o (form_fits o form tokens has))
 
 -- an instruction by itself
@@ -148,7 +148,7 @@ after_right (keyword.Directive name) ts s h = row_right (directive_form name) (d
 after_right (keyword.Numbers width) ts s (numbers, are, e) = subst IsRightStatement (sym e) (list_right width numbers)
 
 -- a statement may stand where its keyword may
-row_position : (place : Position) (form : List Part) (states : OperandValues → Stated) → ((o : OperandValues) → place ≡ position_of_stated (states o)) → (tokens : List (List ℕ)) (s : Stated) → IsRow form states tokens s → place ≡ position_of_stated s
+row_position : (place : Position) (form : List OperandPart) (states : OperandValues → Stated) → ((o : OperandValues) → place ≡ position_of_stated (states o)) → (tokens : List (List ℕ)) (s : Stated) → IsRow form states tokens s → place ≡ position_of_stated s
 row_position place form states same tokens s (o, has, e) = same o ∙ ap position_of_stated (sym e)
 
 directive_place : (d : Directive) (o : OperandValues) → position_of_keyword (keyword.Directive d) ≡ position_of_stated (directive_states d o)

@@ -1,5 +1,5 @@
 -- What a text means is right: by its lines, from nothing.
-use Rattle.sfi_text.proofs.Prelude.{◌≡◌, ◌≤◌, refl, sym, ap, subst, ◌∙◌, ℕ, ◌+◌, inl, inr, Bool, true, List, [], ◌∷◌, ◌++◌, Option, None, Some, map, length, length-append, arith, All, AllByRecursion, same_Some, none-some, Instr, InRange, Keyword, Takes, IsLabel, Part, Name, Number, OperandValues, IsRow, AreTokens, position_of_keyword, makes_gate, directive_states, StatesAfter, Stated, format, sandbox, within, StatedWithin, gate, exported, imported, movable, compressed, data_part, bytes, plain, jump, address, IsRightWithin, IsRightStatement, position_of_stated, meaning, place_of, met, IsStraight, Sandbox, IsBody, IsSandbox, AreOf, format_of, Begun, SharedNames, SoFar, format_or_sfi1, with_label, with_names, with_gate, with_export, with_import, nothing, last_sandbox, sandboxes, IsFree, Labels, Fits, MayCome, GoesOn, Does, with_stated, BeginsWithName, LabelsLead, IsTaken, LeadsAfter, RestLeads, Leads, uncommented, lines, LinesLead, MeansSource, with_bodies, address_bodies, address_count, IsShortLabel, false}
+use Rattle.sfi_text.proofs.Prelude.{◌≡◌, ◌≤◌, refl, sym, ap, subst, ◌∙◌, ℕ, ◌+◌, inl, inr, Bool, true, List, [], ◌∷◌, ◌++◌, Option, None, Some, map, length, length-append, arith, All, AllByRecursion, same_Some, none-some, Instr, InRange, Keyword, Takes, IsLabel, OperandPart, Name, Number, OperandValues, IsRow, AreTokens, position_of_keyword, makes_gate, directive_states, StatesAfter, Stated, format, sandbox, within, StatedWithin, gate, exported, imported, movable, compressed, data_part, bytes, plain, jump, address, IsRightWithin, IsRightStatement, position_of_stated, meaning, place_of, met, IsStraight, Sandbox, IsBody, IsSandbox, AreOf, format_of, Begun, SharedNames, SoFar, format_or_sfi1, with_label, with_names, with_gate, with_export, with_import, nothing, last_sandbox, sandboxes, IsFree, Labels, Fits, MayCome, GoesOn, Does, with_stated, BeginsWithName, LabelsLead, IsTaken, LeadsAfter, RestLeads, Leads, uncommented, lines, LinesLead, MeansSource, with_bodies, address_bodies, address_count, IsShortLabel, false}
 use Rattle.rv_word.specs.Spelling.{IsReg}
 use Rattle.sfi_source.specs.declared.item.Body.TheVariants.{Plain, To}
 use Rattle.sfi_formats.specs.declared.format.Format.{Format}
@@ -169,7 +169,7 @@ gate_place (format value) name h = absurd (none-some name h)
 gate_place (sandbox size) name h = absurd (none-some name h)
 
 -- the tokens of operands of which a name is the first begin with it
-name_begins : (form : List Part) (states : OperandValues → Stated) (text name : List ℕ) (s : Stated) (tokens : List (List ℕ))
+name_begins : (form : List OperandPart) (states : OperandValues → Stated) (text name : List ℕ) (s : Stated) (tokens : List (List ℕ))
     → ((o : OperandValues) → gate_in (states o) ≡ Some o.name) → AreTokens text tokens → IsRow (Name ∷ form) states tokens s → gate_in s ≡ Some name
     → (rest : List ℕ) × BeginsWithName text name rest
 name_begins form states text name s [] names are (o, has, is) h = absurd has

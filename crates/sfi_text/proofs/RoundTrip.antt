@@ -1,5 +1,5 @@
 -- A printed instruction reads back, word by word.
-use Rattle.sfi_text.proofs.Prelude.{◌≡◌, ℕ, ◌≤◌, Bool, true, false, ◌||◌, List, [], ◌∷◌, ◌++◌, length, length-append, ◌⊎◌, inl, inr, ⊎_elim, refl, sym, ap, ◌∙◌, subst, arith, AllByRecursion, nat_tests, false≢true, is_space, IsBlank, is_mark, IsToken, Takes, token_len, ◌<◌, ◌^◌, suc, ℤ, pos, negsuc, codes, ints, Mnemonic, NumberKind, Upper, IsNumber, continues_name, name_of, IsNumberOf, number_text, nat_lt, ◌&&◌, flat_map, and_parts, Instr, InRange, Part, Rd, Rs1, Rs2, Number, Name, Mode, ImageFormat, Comma, Open, Close, form_of, OperandValues, Stands, SaysFormat, mode_name, Reads, AllSuit, slot, mnemonic_of, operands_of, Means, format_name, part_text, operands_text, printed, PrintedReadsBack}
+use Rattle.sfi_text.proofs.Prelude.{◌≡◌, ℕ, ◌≤◌, Bool, true, false, ◌||◌, List, [], ◌∷◌, ◌++◌, length, length-append, ◌⊎◌, inl, inr, ⊎_elim, refl, sym, ap, ◌∙◌, subst, arith, AllByRecursion, nat_tests, false≢true, is_space, IsBlank, is_mark, IsToken, Takes, token_len, ◌<◌, ◌^◌, suc, ℤ, pos, negsuc, codes, ints, Mnemonic, NumberKind, Upper, IsNumber, continues_name, name_of, IsNumberOf, number_text, nat_lt, ◌&&◌, flat_map, and_parts, Instr, InRange, OperandPart, Rd, Rs1, Rs2, Number, Name, Mode, ImageFormat, Comma, Open, Close, form_of, OperandValues, Stands, SaysFormat, mode_name, Reads, AllSuit, slot, mnemonic_of, operands_of, Means, format_name, part_text, operands_text, printed, PrintedReadsBack}
 use Rattle.sfi_text.proofs.Lexing.{all_by, is_word, token_bytes, token_within, token_at_mark, numeral_passes}
 use Rattle.sfi_text.specs.Tokens.{x_name}
 use Rattle.sfi_text.specs.private.Reading.{IsInReach}
@@ -112,16 +112,16 @@ printed_number other z h = decimal_number z (kind_in_reach other z h)
 
 -- ==== A printed instruction reads back, part by part.
 
-abbrev is_mark_part : Part → Bool
+abbrev is_mark_part : OperandPart → Bool
 is_mark_part part = nat_lt 6 (slot part)
 
 -- the form begins with a mark, if with anything
-abbrev may_follow : List Part → Bool
+abbrev may_follow : List OperandPart → Bool
 may_follow [] = true
 may_follow (part ∷ form) = is_mark_part part
 
 -- no two words stand side by side
-abbrev is_spaced : List Part → Bool
+abbrev is_spaced : List OperandPart → Bool
 is_spaced [] = true
 is_spaced (part ∷ form) = (is_mark_part part || may_follow form) && is_spaced form
 
@@ -129,7 +129,7 @@ form_is_spaced : (m : Mnemonic) → is_spaced (form_of m) ≡ true
 form_is_spaced (mnemonic.Op op) = refl
 form_is_spaced _ = refl
 
-operands_end : (o : OperandValues) (form : List Part) → may_follow form ≡ true → Ends (flat_map (part_text o) form)
+operands_end : (o : OperandValues) (form : List OperandPart) → may_follow form ≡ true → Ends (flat_map (part_text o) form)
 operands_end o [] h = tt
 operands_end o (Comma ∷ form) h = refl
 operands_end o (Open ∷ form) h = refl
@@ -137,9 +137,9 @@ operands_end o (Close ∷ form) h = refl
 operands_end o _ h = cc
 
 -- after blanks the printed operands of a form read as those operands
-module _ (o : OperandValues) (form : List Part) (gap : List ℕ) (blank : IsBlank gap) where
+module _ (o : OperandValues) (form : List OperandPart) (gap : List ℕ) (blank : IsBlank gap) where
   -- a printed word, and then what follows it
-  word_reads : (part : Part) → IsToken (part_text o part) → Stands o part (part_text o part) → may_follow form ≡ true → Reads o form (flat_map (part_text o) form) → Reads o (part ∷ form) (gap ++ (part_text o part ++ flat_map (part_text o) form))
+  word_reads : (part : OperandPart) → IsToken (part_text o part) → Stands o part (part_text o part) → may_follow form ≡ true → Reads o form (flat_map (part_text o) form) → Reads o (part ∷ form) (gap ++ (part_text o part ++ flat_map (part_text o) form))
   word_reads part is_token stands follows reads =
       (part_text o part, flat_map (part_text o) form, takes_word gap (part_text o part) _ blank is_token (operands_end o form follows), stands, reads)
 
@@ -157,7 +157,7 @@ format_token Sfi1 = inr (inl (pos 1, format_says Sfi1))
 format_token Sfi2 = inr (inl (pos 2, format_says Sfi2))
 format_token Sfiw = inl (refl, (refl, (refl, (refl, (refl, tt)))))
 
-pub reads_printed : (o : OperandValues) (form : List Part) (gap : List ℕ) → IsBlank gap → is_spaced form ≡ true → AllSuit o form → Reads o form (gap ++ flat_map (part_text o) form)
+pub reads_printed : (o : OperandValues) (form : List OperandPart) (gap : List ℕ) → IsBlank gap → is_spaced form ≡ true → AllSuit o form → Reads o form (gap ++ flat_map (part_text o) form)
 reads_printed o [] gap blank spaced fits = subst IsBlank (sym (append-nil gap)) blank
 reads_printed o (Comma ∷ form) gap blank spaced fits =
     (codes ",", codes " " ++ flat_map (part_text o) form, takes_mark gap 44 _ blank refl, refl, reads_printed o form (codes " ") (refl, tt) spaced fits.1)
@@ -189,11 +189,11 @@ reads_printed o (ImageFormat ∷ form) gap blank spaced fits =
     word_reads o form gap blank ImageFormat (format_token o.format) (format_says o.format) parts.0 (reads_printed o form [] tt parts.1 fits.1)
 
 -- after the name stand nothing, or a space and the operands
-after_name_ends : (o : OperandValues) (form : List Part) → Ends (operands_text o form)
+after_name_ends : (o : OperandValues) (form : List OperandPart) → Ends (operands_text o form)
 after_name_ends o [] = tt
 after_name_ends o (part ∷ form) = refl
 
-after_name_reads : (o : OperandValues) (form : List Part) → is_spaced form ≡ true → AllSuit o form → Reads o form (operands_text o form)
+after_name_reads : (o : OperandValues) (form : List OperandPart) → is_spaced form ≡ true → AllSuit o form → Reads o form (operands_text o form)
 after_name_reads o [] spaced fits = tt
 after_name_reads o (part ∷ form) spaced fits = reads_printed o (part ∷ form) (codes " ") (refl, tt) spaced fits
 

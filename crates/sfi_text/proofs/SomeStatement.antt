@@ -1,5 +1,5 @@
 -- The text after a keyword states something, or is refused.
-use Rattle.sfi_text.proofs.Prelude.{◌≡◌, ◌≢◌, ℕ, zero, suc, ◌≤◌, true, List, [], ◌∷◌, length, ◌⊎◌, inl, inr, refl, sym, arith, rules, ℤ, pos, negsuc, IsTrue, codes, flat_map, ints, Instr, IsBetween, TextCause, Mnemonic, NumberKind, Part, Rd, Rs1, Rs2, Number, Name, Mode, ImageFormat, Comma, Open, Close, Nop, DataWidth, Keyword, IsBlank, form_of, data_bytes, OperandValues, Departs, part_cause, mnemonic_of, operands, operands_of, full_fence, IsBareFence, OperandsDepart, Reads, SameAt, AgreesOn, AllSuit, FollowsName, slot, is_fresh, has_no_repeat, directive_form, directive_states, pseudo_form, pseudo_states, branch_form, branch_states, jal_form, jal_states, data_kind, StatesAfter, LeadsByMore, NumberDeparts, ListDeparts, InstrDeparts, RefusedWith, Stated, within, plain, bytes}
+use Rattle.sfi_text.proofs.Prelude.{◌≡◌, ◌≢◌, ℕ, zero, suc, ◌≤◌, true, List, [], ◌∷◌, length, ◌⊎◌, inl, inr, refl, sym, arith, rules, ℤ, pos, negsuc, IsTrue, codes, flat_map, ints, Instr, IsBetween, TextCause, Mnemonic, NumberKind, OperandPart, Rd, Rs1, Rs2, Number, Name, Mode, ImageFormat, Comma, Open, Close, Nop, DataWidth, Keyword, IsBlank, form_of, data_bytes, OperandValues, Departs, part_cause, mnemonic_of, operands, operands_of, full_fence, IsBareFence, OperandsDepart, Reads, SameAt, AgreesOn, AllSuit, FollowsName, slot, is_fresh, has_no_repeat, directive_form, directive_states, pseudo_form, pseudo_states, branch_form, branch_states, jal_form, jal_states, data_kind, StatesAfter, LeadsByMore, NumberDeparts, ListDeparts, InstrDeparts, RefusedWith, Stated, within, plain, bytes}
 use Rattle.sfi_text.specs.declared.keyword.Directive.{Directive}
 use Rattle.sfi_text.specs.declared.keyword.Pseudo.{Pseudo}
 use Rattle.sfi_text.specs.private.Lines.{ReadsNumber, ReadsList, MoreDepartsAfter, ReadsRow, ReadsInstr, ReadsAfter}
@@ -17,7 +17,7 @@ use Rattle.sfi_text.proofs.Deciding.{next, written_or_not, stands_or_not}
 -- ---- the operands of a form
 
 -- the operands, with the first's at this part
-abbrev put : Part → OperandValues → OperandValues → OperandValues
+abbrev put : OperandPart → OperandValues → OperandValues → OperandValues
 put Rd first o = record o { rd = first.rd }
 put Rs1 first o = record o { rs1 = first.rs1 }
 put Rs2 first o = record o { rs2 = first.rs2 }
@@ -27,13 +27,13 @@ put Mode first o = record o { compressed = first.compressed }
 put ImageFormat first o = record o { format = first.format }
 put _ first o = o
 
-put_same : (part : Part) (first o : OperandValues) → SameAt part (put part first o) first
+put_same : (part : OperandPart) (first o : OperandValues) → SameAt part (put part first o) first
 put_same Comma first o = tt
 put_same Open first o = tt
 put_same Close first o = tt
 put_same _ first o = refl
 
-put_others : (part p : Part) (first o : OperandValues) → slot p ≢ slot part → SameAt p (put part first o) o
+put_others : (part p : OperandPart) (first o : OperandValues) → slot p ≢ slot part → SameAt p (put part first o) o
 put_others part Comma first o h = tt
 put_others part Open first o h = tt
 put_others part Close first o h = tt
@@ -46,19 +46,19 @@ put_others Mode Mode first o h = absurd (h refl)
 put_others ImageFormat ImageFormat first o h = absurd (h refl)
 put_others _ _ first o h = refl
 
-same_self : (part : Part) (o : OperandValues) → SameAt part o o
+same_self : (part : OperandPart) (o : OperandValues) → SameAt part o o
 same_self Comma o = tt
 same_self Open o = tt
 same_self Close o = tt
 same_self _ o = refl
 
 -- the operands that the text gives at the form, which keep the old ones elsewhere
-record Filled (old : OperandValues) (form : List Part) (text : List ℕ) : Type 0 where
+record Filled (old : OperandValues) (form : List OperandPart) (text : List ℕ) : Type 0 where
   all : OperandValues
   reads : Reads all form text
-  keeps : (p : Part) → IsTrue (is_fresh p form) → SameAt p all old
+  keeps : (p : OperandPart) → IsTrue (is_fresh p form) → SameAt p all old
 
-fill_or_depart : (old : OperandValues) (form : List Part) (text : List ℕ) → has_no_repeat form ≡ true → Filled old form text ⊎ ((e : TextCause) × Departs form text e)
+fill_or_depart : (old : OperandValues) (form : List OperandPart) (text : List ℕ) → has_no_repeat form ≡ true → Filled old form text ⊎ ((e : TextCause) × Departs form text e)
 fill_or_depart old [] text fresh =
     elim (next text) [
       | inl (token, rest, takes) ↦ inr (cause.Operands, inr (token, rest, takes, refl))
@@ -85,14 +85,14 @@ fill_or_depart old (part ∷ form) text fresh =
       ]
     ]
 
-read_or_depart : (form : List Part) (text : List ℕ) → has_no_repeat form ≡ true → ((o : OperandValues) × Reads o form text) ⊎ ((e : TextCause) × Departs form text e)
+read_or_depart : (form : List OperandPart) (text : List ℕ) → has_no_repeat form ≡ true → ((o : OperandValues) × Reads o form text) ⊎ ((e : TextCause) × Departs form text e)
 read_or_depart form text fresh =
     elim (fill_or_depart (operands 0 0 0 (pos 0)) form text fresh) [
       | inl filled ↦ inl (filled.all, filled.reads)
       | inr departs ↦ inr departs
     ]
 
-row_or_depart : (form : List Part) (states : OperandValues → Stated) (text : List ℕ) → has_no_repeat form ≡ true → ((s : Stated) × ReadsRow form states text s) ⊎ ((e : TextCause) × Departs form text e)
+row_or_depart : (form : List OperandPart) (states : OperandValues → Stated) (text : List ℕ) → has_no_repeat form ≡ true → ((s : Stated) × ReadsRow form states text s) ⊎ ((e : TextCause) × Departs form text e)
 row_or_depart form states text fresh =
     elim (read_or_depart form text fresh) [
       | inl (o, reads) ↦ inl (states o, (o, reads, refl))

@@ -17,8 +17,8 @@ use Rattle.sfi_text.specs.declared.keyword.Keyword.{Keyword}
 use Rattle.sfi_text.specs.declared.keyword.Keyword.TheVariants as keyword
 use Rattle.sfi_text.specs.declared.form.NumberKind.{NumberKind}
 use Rattle.sfi_text.specs.declared.form.NumberKind.TheVariants.{DataSize, Service, Word, Half, Byte, ZeroCount}
-use Rattle.sfi_text.specs.declared.form.Part.{Part}
-use Rattle.sfi_text.specs.declared.form.Part.TheVariants.{Rd, Rs1, Rs2, Number, Name, Mode, ImageFormat, Comma}
+use Rattle.sfi_text.specs.declared.form.OperandPart.{OperandPart}
+use Rattle.sfi_text.specs.declared.form.OperandPart.TheVariants.{Rd, Rs1, Rs2, Number, Name, Mode, ImageFormat, Comma}
 use Rattle.sfi_text.specs.Operands.{name_of, OperandValues}
 use Rattle.sfi_text.specs.SoFar.{constant, Stated, format, sandbox, within, gate, exported, imported, movable, compressed, data_part, bytes, plain, jump, address}
 
@@ -34,7 +34,7 @@ directive_name directive.Export = codes ".export"
 directive_name directive.Import = codes ".import"
 directive_name directive.Movable = codes ".movable"
 
-abbrev pub directive_form : Directive → List Part
+abbrev pub directive_form : Directive → List OperandPart
 directive_form directive.Format = ImageFormat ∷ []
 directive_form directive.Sandbox = Number DataSize ∷ []
 directive_form directive.Gate = Name ∷ Number Service ∷ []
@@ -69,7 +69,7 @@ pseudo_name Beqz = codes "beqz"
 pseudo_name Bnez = codes "bnez"
 pseudo_name La = codes "la"
 
-abbrev pub pseudo_form : Pseudo → List Part
+abbrev pub pseudo_form : Pseudo → List OperandPart
 pseudo_form Nop = []
 pseudo_form Ret = []
 pseudo_form Li = Rd ∷ Comma ∷ Number Word ∷ []
@@ -94,13 +94,13 @@ pseudo_states Bnez o = within (jump (instr.Branch Bne o.rs1 0 (pos 0)) o.name)
 pseudo_states La o = within (address o.rd o.name)
 
 -- the instructions that go to a name in a source
-abbrev pub branch_form : List Part
+abbrev pub branch_form : List OperandPart
 branch_form = Rs1 ∷ Comma ∷ Rs2 ∷ Comma ∷ Name ∷ []
 
 abbrev pub branch_states : Cond → OperandValues → Stated
 branch_states cond o = within (jump (instr.Branch cond o.rs1 o.rs2 (pos 0)) o.name)
 
-abbrev pub jal_form : List Part
+abbrev pub jal_form : List OperandPart
 jal_form = Rd ∷ Comma ∷ Name ∷ []
 
 abbrev pub jal_states : OperandValues → Stated

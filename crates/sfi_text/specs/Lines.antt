@@ -7,8 +7,8 @@ use Rattle.sfi_text.specs.declared.cause.TextCause.TheVariants as cause
 use Rattle.sfi_text.specs.declared.mnemonic.Mnemonic.{Mnemonic}
 use Rattle.sfi_text.specs.declared.mnemonic.Mnemonic.TheVariants as mnemonic
 use Rattle.sfi_text.specs.declared.form.NumberKind.{NumberKind}
-use Rattle.sfi_text.specs.declared.form.Part.{Part}
-use Rattle.sfi_text.specs.declared.form.Part.TheVariants.{Number, Comma}
+use Rattle.sfi_text.specs.declared.form.OperandPart.{OperandPart}
+use Rattle.sfi_text.specs.declared.form.OperandPart.TheVariants.{Number, Comma}
 use Rattle.sfi_text.specs.declared.keyword.DataWidth.{DataWidth}
 use Rattle.sfi_text.specs.declared.keyword.Keyword.{Keyword}
 use Rattle.sfi_text.specs.declared.keyword.Keyword.TheVariants as keyword
@@ -20,7 +20,7 @@ use Rattle.sfi_text.specs.SoFar.{data_bytes, Stated, within, bytes, plain}
 use Rattle.sfi_text.specs.Keywords.{directive_form, directive_states, pseudo_form, pseudo_states, branch_form, branch_states, jal_form, jal_states, data_kind, keyword_name}
 
 -- `tokens` stand at the parts of `form`, and their operands state `s`
-abbrev pub IsRow : List Part → (OperandValues → Stated) → List (List ℕ) → Stated → Type 0
+abbrev pub IsRow : List OperandPart → (OperandValues → Stated) → List (List ℕ) → Stated → Type 0
 IsRow form states tokens s = (o : OperandValues) × HasForm o form tokens × (s ≡ states o)
 
 -- an instruction's name with `tokens` after it states `s`: a branch and a jal go to a name, and any

@@ -17,8 +17,8 @@ use Rattle.sfi_formats.specs.Limits.{data_most, service_most, name_most}
 use Rattle.sfi_source.specs.Source.{IsDataSize}
 use Rattle.sfi_text.specs.declared.form.NumberKind.{NumberKind}
 use Rattle.sfi_text.specs.declared.form.NumberKind.TheVariants.{Immediate, ShiftAmount, BranchOffset, JumpOffset, Upper, FenceFields, DataSize, Service, Word, Half, Byte, ZeroCount}
-use Rattle.sfi_text.specs.declared.form.Part.{Part}
-use Rattle.sfi_text.specs.declared.form.Part.TheVariants.{Rd, Rs1, Rs2, Number, Comma, Open, Close, Name, Mode, ImageFormat}
+use Rattle.sfi_text.specs.declared.form.OperandPart.{OperandPart}
+use Rattle.sfi_text.specs.declared.form.OperandPart.TheVariants.{Rd, Rs1, Rs2, Number, Comma, Open, Close, Name, Mode, ImageFormat}
 use Rattle.sfi_text.specs.declared.cause.TextCause.{TextCause}
 use Rattle.sfi_text.specs.declared.cause.TextCause.TheVariants as cause
 use Rattle.sfi_formats.specs.declared.format.Format.{Format}
@@ -122,7 +122,7 @@ abbrev pub immediate_kind : ImmOp → NumberKind
 immediate_kind op = if is_shift op then ShiftAmount else Immediate
 
 -- the operands after the name, and the marks between them
-abbrev pub form_of : Mnemonic → List Part
+abbrev pub form_of : Mnemonic → List OperandPart
 form_of (mnemonic.Op op) = Rd ∷ Comma ∷ Rs1 ∷ Comma ∷ Rs2 ∷ []
 form_of (mnemonic.OpImm op) = Rd ∷ Comma ∷ Rs1 ∷ Comma ∷ Number (immediate_kind op) ∷ []
 form_of (mnemonic.Load kind) = Rd ∷ Comma ∷ Number Immediate ∷ Open ∷ Rs1 ∷ Close ∷ []
@@ -160,7 +160,7 @@ SaysFormat token Sfi2 = IsNumber token (pos 2)
 SaysFormat token Sfiw = token ≡ codes "words"
 
 -- `token` stands at this part of a statement with the operands `o`
-abbrev pub Stands : OperandValues → Part → List ℕ → Type 0
+abbrev pub Stands : OperandValues → OperandPart → List ℕ → Type 0
 Stands o Rd token = IsRegister token o.rd
 Stands o Rs1 token = IsRegister token o.rs1
 Stands o Rs2 token = IsRegister token o.rs2
@@ -173,7 +173,7 @@ Stands o Open token = token ≡ codes "("
 Stands o Close token = token ≡ codes ")"
 
 -- `tokens` stand at the parts of `form`, one at each
-abbrev pub HasForm : OperandValues → List Part → List (List ℕ) → Type 0
+abbrev pub HasForm : OperandValues → List OperandPart → List (List ℕ) → Type 0
 HasForm o [] [] = Unit {0}
 HasForm o (part ∷ form) (token ∷ tokens) = Stands o part token × HasForm o form tokens
 HasForm o _ _ = ⊥
@@ -183,7 +183,7 @@ abbrev pub label_cause : List ℕ → TextCause
 label_cause token = if is_too_long token then cause.Limit else cause.Operands
 
 -- the cause for which `token` is refused at this part
-abbrev pub part_cause : Part → List ℕ → TextCause
+abbrev pub part_cause : OperandPart → List ℕ → TextCause
 part_cause Rd token = cause.Register
 part_cause Rs1 token = cause.Register
 part_cause Rs2 token = cause.Register
@@ -205,11 +205,11 @@ abbrev pub Beyond : List ℕ → TextCause → Type 0
 Beyond text e = (token : List ℕ) × (rest : List ℕ) × Takes text token rest × (e ≡ cause.Operands)
 
 -- `token` can't stand at this part, and `e` is the cause
-abbrev pub Differs : Part → List ℕ → TextCause → Type 0
+abbrev pub Differs : OperandPart → List ℕ → TextCause → Type 0
 Differs part token e = ((o : OperandValues) → Stands o part token → ⊥) × (e ≡ part_cause part token)
 
 -- `text` doesn't give the operands of `form`: `e` is the cause of its first token that departs
-abbrev pub Departs : List Part → List ℕ → TextCause → Type 0
+abbrev pub Departs : List OperandPart → List ℕ → TextCause → Type 0
 Departs [] text e = Unformed text e ⊎ Beyond text e
 Departs (part ∷ form) text e =
     Unformed text e

@@ -15,8 +15,8 @@ use Rattle.std.specs.Fmt.{signed_decimal, digits}
 use Rattle.sfi_formats.specs.declared.format.Format.{Format}
 use Rattle.sfi_text.specs.declared.form.NumberKind.{NumberKind}
 use Rattle.sfi_text.specs.declared.form.NumberKind.TheVariants.{Upper}
-use Rattle.sfi_text.specs.declared.form.Part.{Part}
-use Rattle.sfi_text.specs.declared.form.Part.TheVariants.{Rd, Rs1, Rs2, Number, Name, Mode, ImageFormat, Comma, Open, Close}
+use Rattle.sfi_text.specs.declared.form.OperandPart.{OperandPart}
+use Rattle.sfi_text.specs.declared.form.OperandPart.TheVariants.{Rd, Rs1, Rs2, Number, Name, Mode, ImageFormat, Comma, Open, Close}
 
 -- ==== What the text of one instruction means.
 
@@ -113,7 +113,7 @@ format_name Sfi2 = codes "2"
 format_name Sfiw = codes "words"
 
 -- registers are x0 to x31, and a space follows a comma
-abbrev pub part_text : OperandValues → Part → List ℕ
+abbrev pub part_text : OperandValues → OperandPart → List ℕ
 part_text o Rd = x_name o.rd
 part_text o Rs1 = x_name o.rs1
 part_text o Rs2 = x_name o.rs2
@@ -126,7 +126,7 @@ part_text o Open = codes "("
 part_text o Close = codes ")"
 
 -- the operands after a space, or nothing where there are none
-abbrev pub operands_text : OperandValues → List Part → List ℕ
+abbrev pub operands_text : OperandValues → List OperandPart → List ℕ
 operands_text o [] = []
 operands_text o (part ∷ form) = codes " " ++ flat_map (part_text o) (part ∷ form)
 

@@ -44,7 +44,7 @@ fn rounded(number: i64) -> u32
 }
 
 /// The immediate of the lui for the number: bits 31:12 of the number plus 2048.
-fn upper(number: i64) -> u32
+fn upper_immediate(number: i64) -> u32
     requires { IsNumberOf NumberKind.Word number }
     ensures { result ≡ upper number }
 {
@@ -52,7 +52,7 @@ fn upper(number: i64) -> u32
 }
 
 /// What the addi after that lui adds: -2048 to 2047.
-fn lower(number: i64) -> i32
+fn lower_immediate(number: i64) -> i32
     requires { IsNumberOf NumberKind.Word number }
     ensures { result ≡ lower number }
 {
@@ -77,9 +77,9 @@ pub fn constant<'a>(rd: Reg, number: i64) -> SandboxStatement<'a>
     }
     let lui = Instr::Lui {
         rd,
-        imm: upper(number),
+        imm: upper_immediate(number),
     };
-    let imm = lower(number);
+    let imm = lower_immediate(number);
     if imm == 0 {
         SandboxStatement::One(lui)
     } else {
@@ -96,7 +96,11 @@ pub fn constant<'a>(rd: Reg, number: i64) -> SandboxStatement<'a>
 }
 
 /// Appends the bytes of a number, the lowest first.
-pub fn push_number(bytes: &mut Vec<u8>, width: DataWidth, number: i64) -> Result<(), AllocError>
+pub fn push_number_bytes(
+    bytes: &mut Vec<u8>,
+    width: DataWidth,
+    number: i64,
+) -> Result<(), AllocError>
     ensures { OnOk result (bytes.new.items ≡ bytes.old.items ++ data_bytes width number) }
 {
     match width {

@@ -7,7 +7,7 @@ ghost use Rattle.sfi_text.specs.Lines.{NumberDeparts, MoreDeparts, ListDeparts};
 ghost use Rattle.sfi_text.specs.private.Lines.{ReadsNumber, ReadsMore, ReadsList, ReadsOne, ReadsAnother, MoreDepartsAfter};
 
 use crate::cause::TextCause;
-use crate::constant::push_number;
+use crate::constant::push_number_bytes;
 use crate::form::NumberKind;
 use crate::keyword::DataWidth;
 use crate::lexer::{NextToken, next_token};
@@ -37,7 +37,7 @@ fn read_one<'a>(bytes: &mut Vec<u8>, width: DataWidth, text: &'a str) -> Result<
         (e ≡ cause.Memory) ⊎ NumberDeparts (data_kind width) text.now e) }
 {
     match read_first(width.kind(), text) {
-        Ok((number, rest)) => match push_number(bytes, width, number) {
+        Ok((number, rest)) => match push_number_bytes(bytes, width, number) {
             Ok(()) => Ok(rest),
             Err(_) => Err(TextCause::Memory),
         },

@@ -113,8 +113,8 @@ impl Draft {
         }
     }
 
-    /// Gives the name to a label that stands here.
-    pub fn label(&mut self, alloc: Global, name: &str) -> Result<(), TextCause>
+    /// Places a label here. No other label or gate has its name.
+    pub fn place_label(&mut self, alloc: Global, name: &str) -> Result<(), TextCause>
         ensures labelled { OnOk result (self.new ≡ with_label name.now self.old) }
         ensures memory { IfErr result (λ e. e ≡ cause.Memory) }
     {
@@ -250,7 +250,7 @@ impl Draft {
     }
 
     /// Adds what the line of this number states.
-    pub fn state(
+    pub fn apply_statement(
         &mut self,
         alloc: Global,
         line: u32,

@@ -40,7 +40,7 @@ pub enum NumberKind {
 
 /// What may stand at a place of a statement.
 #[derive(Clone, Copy)]
-pub enum Part {
+pub enum OperandPart {
     Rd,
     Rs1,
     Rs2,
@@ -58,58 +58,72 @@ pub enum Part {
 
 impl Mnemonic {
     /// The operands that stand after the name, and the marks between them.
-    pub fn form(self) -> &'static [Part]
+    pub fn form(self) -> &'static [OperandPart]
         ensures { result.now ≡ form_of self }
     {
         match self {
-            Mnemonic::Op(_) => &[Part::Rd, Part::Comma, Part::Rs1, Part::Comma, Part::Rs2],
+            Mnemonic::Op(_) => &[
+                OperandPart::Rd,
+                OperandPart::Comma,
+                OperandPart::Rs1,
+                OperandPart::Comma,
+                OperandPart::Rs2,
+            ],
             Mnemonic::OpImm(ImmOp::Slli | ImmOp::Srli | ImmOp::Srai) => &[
-                Part::Rd,
-                Part::Comma,
-                Part::Rs1,
-                Part::Comma,
-                Part::Number(NumberKind::ShiftAmount),
+                OperandPart::Rd,
+                OperandPart::Comma,
+                OperandPart::Rs1,
+                OperandPart::Comma,
+                OperandPart::Number(NumberKind::ShiftAmount),
             ],
             Mnemonic::OpImm(_) => &[
-                Part::Rd,
-                Part::Comma,
-                Part::Rs1,
-                Part::Comma,
-                Part::Number(NumberKind::Immediate),
+                OperandPart::Rd,
+                OperandPart::Comma,
+                OperandPart::Rs1,
+                OperandPart::Comma,
+                OperandPart::Number(NumberKind::Immediate),
             ],
             Mnemonic::Load(_) | Mnemonic::Jalr => &[
-                Part::Rd,
-                Part::Comma,
-                Part::Number(NumberKind::Immediate),
-                Part::Open,
-                Part::Rs1,
-                Part::Close,
+                OperandPart::Rd,
+                OperandPart::Comma,
+                OperandPart::Number(NumberKind::Immediate),
+                OperandPart::Open,
+                OperandPart::Rs1,
+                OperandPart::Close,
             ],
             Mnemonic::Store(_) => &[
-                Part::Rs2,
-                Part::Comma,
-                Part::Number(NumberKind::Immediate),
-                Part::Open,
-                Part::Rs1,
-                Part::Close,
+                OperandPart::Rs2,
+                OperandPart::Comma,
+                OperandPart::Number(NumberKind::Immediate),
+                OperandPart::Open,
+                OperandPart::Rs1,
+                OperandPart::Close,
             ],
             Mnemonic::Branch(_) => &[
-                Part::Rs1,
-                Part::Comma,
-                Part::Rs2,
-                Part::Comma,
-                Part::Number(NumberKind::BranchOffset),
+                OperandPart::Rs1,
+                OperandPart::Comma,
+                OperandPart::Rs2,
+                OperandPart::Comma,
+                OperandPart::Number(NumberKind::BranchOffset),
             ],
-            Mnemonic::Jal => &[Part::Rd, Part::Comma, Part::Number(NumberKind::JumpOffset)],
+            Mnemonic::Jal => &[
+                OperandPart::Rd,
+                OperandPart::Comma,
+                OperandPart::Number(NumberKind::JumpOffset),
+            ],
             Mnemonic::Lui | Mnemonic::Auipc => {
-                &[Part::Rd, Part::Comma, Part::Number(NumberKind::Upper)]
+                &[
+                    OperandPart::Rd,
+                    OperandPart::Comma,
+                    OperandPart::Number(NumberKind::Upper),
+                ]
             }
             Mnemonic::Fence => &[
-                Part::Number(NumberKind::FenceFields),
-                Part::Comma,
-                Part::Rd,
-                Part::Comma,
-                Part::Rs1,
+                OperandPart::Number(NumberKind::FenceFields),
+                OperandPart::Comma,
+                OperandPart::Rd,
+                OperandPart::Comma,
+                OperandPart::Rs1,
             ],
             Mnemonic::Ecall | Mnemonic::Ebreak => &[],
         }

@@ -4,7 +4,7 @@ ghost use Rattle.sfi_text.specs.Keywords.{directive_name, directive_form, pseudo
 ghost use Rattle.sfi_text.specs.private.Reading.{hash, candidate, mnemonic_in};
 ghost use Rattle.sfi_text.specs.Operands.{name_of};
 
-use crate::form::{NumberKind, Part};
+use crate::form::{NumberKind, OperandPart};
 use crate::mnemonic::Mnemonic;
 use crate::statement::Position;
 use rv_word::{Cond, ImmOp, LoadKind, RegOp, StoreWidth};
@@ -74,19 +74,19 @@ impl Directive {
     }
 
     /// The operands that stand after the name.
-    pub fn form(self) -> &'static [Part]
+    pub fn form(self) -> &'static [OperandPart]
         ensures { result.now ≡ directive_form self }
     {
         match self {
-            Directive::Format => &[Part::ImageFormat],
-            Directive::Sandbox => &[Part::Number(NumberKind::DataSize)],
+            Directive::Format => &[OperandPart::ImageFormat],
+            Directive::Sandbox => &[OperandPart::Number(NumberKind::DataSize)],
             Directive::Gate | Directive::Import => {
-                &[Part::Name, Part::Number(NumberKind::Service)]
+                &[OperandPart::Name, OperandPart::Number(NumberKind::Service)]
             }
-            Directive::Export => &[Part::Name],
-            Directive::Option => &[Part::Mode],
+            Directive::Export => &[OperandPart::Name],
+            Directive::Option => &[OperandPart::Mode],
             Directive::Data | Directive::Movable => &[],
-            Directive::Zero => &[Part::Number(NumberKind::ZeroCount)],
+            Directive::Zero => &[OperandPart::Number(NumberKind::ZeroCount)],
         }
     }
 }
@@ -111,17 +111,25 @@ impl Pseudo {
     }
 
     /// The operands that stand after the name, and the marks between them.
-    pub fn form(self) -> &'static [Part]
+    pub fn form(self) -> &'static [OperandPart]
         ensures { result.now ≡ pseudo_form self }
     {
         match self {
             Pseudo::Nop | Pseudo::Ret => &[],
-            Pseudo::Li => &[Part::Rd, Part::Comma, Part::Number(NumberKind::Word)],
-            Pseudo::Mv => &[Part::Rd, Part::Comma, Part::Rs1],
-            Pseudo::Jr => &[Part::Rs1],
-            Pseudo::J | Pseudo::Call => &[Part::Name],
-            Pseudo::Beqz | Pseudo::Bnez => &[Part::Rs1, Part::Comma, Part::Name],
-            Pseudo::La => &[Part::Rd, Part::Comma, Part::Name],
+            Pseudo::Li => &[
+                OperandPart::Rd,
+                OperandPart::Comma,
+                OperandPart::Number(NumberKind::Word),
+            ],
+            Pseudo::Mv => &[OperandPart::Rd, OperandPart::Comma, OperandPart::Rs1],
+            Pseudo::Jr => &[OperandPart::Rs1],
+            Pseudo::J | Pseudo::Call => &[OperandPart::Name],
+            Pseudo::Beqz | Pseudo::Bnez => &[
+                OperandPart::Rs1,
+                OperandPart::Comma,
+                OperandPart::Name,
+            ],
+            Pseudo::La => &[OperandPart::Rd, OperandPart::Comma, OperandPart::Name],
         }
     }
 }
@@ -275,7 +283,7 @@ impl Keyword {
     }
 
     /// The keyword of this name; `None` for any other text.
-    pub fn of(name: &str) -> Option<Keyword>
+    pub fn from_name(name: &str) -> Option<Keyword>
         ensures some { IfSome result (λ k. keyword_name k ≡ name.now) }
         ensures none { IfNone result ((k : Keyword) → keyword_name k ≡ name.now → ⊥) }
     {
@@ -339,11 +347,11 @@ impl Keyword {
 
 impl Mnemonic {
     /// The mnemonic of this name; `None` for any other text, a pseudo-instruction's name too.
-    pub fn of(name: &str) -> Option<Mnemonic>
+    pub fn from_name(name: &str) -> Option<Mnemonic>
         ensures some { IfSome result (λ m. name_of m ≡ name.now) }
         ensures none { IfNone result ((m : Mnemonic) → name_of m ≡ name.now → ⊥) }
     {
-        match Keyword::of(name) {
+        match Keyword::from_name(name) {
             Some(keyword) => keyword.mnemonic(),
             None => None,
         }

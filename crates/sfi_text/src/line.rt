@@ -12,7 +12,7 @@ ghost use Rattle.sfi_text.specs.private.Lines.{stated, IsRightStatement};
 
 use crate::cause::TextCause;
 use crate::data::read_list;
-use crate::form::Part;
+use crate::form::OperandPart;
 use crate::keyword::{Directive, Keyword, Pseudo};
 use crate::mnemonic::Mnemonic;
 use crate::parse::{after_name, name_cause};
@@ -29,24 +29,30 @@ pub fn read_keyword(token: &str) -> Result<Keyword, TextCause>
     ensures ok { IfOk result (λ k. keyword_name k ≡ token.now) }
     ensures cause { IfErr result (λ e. NameRefused token.now e) }
 {
-    match Keyword::of(token) {
+    match Keyword::from_name(token) {
         Some(keyword) => Ok(keyword),
         None => Err(name_cause(token)),
     }
 }
 
 /// What stands after a branch's name in a source.
-fn branch_form() -> &'static [Part]
+fn branch_form() -> &'static [OperandPart]
     ensures { result.now ≡ branch_form }
 {
-    &[Part::Rs1, Part::Comma, Part::Rs2, Part::Comma, Part::Name]
+    &[
+        OperandPart::Rs1,
+        OperandPart::Comma,
+        OperandPart::Rs2,
+        OperandPart::Comma,
+        OperandPart::Name,
+    ]
 }
 
 /// What stands after `jal` in a source.
-fn jal_form() -> &'static [Part]
+fn jal_form() -> &'static [OperandPart]
     ensures { result.now ≡ jal_form }
 {
-    &[Part::Rd, Part::Comma, Part::Name]
+    &[OperandPart::Rd, OperandPart::Comma, OperandPart::Name]
 }
 
 /// The branch that the rest of a line states after its name.

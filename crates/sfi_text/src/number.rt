@@ -43,7 +43,7 @@ fn magnitude(text: &str) -> Option<u64>
 }
 
 /// The number that a token writes, if 32 bits can hold it, with or without a sign.
-pub fn number(text: &str) -> Option<i64>
+pub fn parse_number(text: &str) -> Option<i64>
     ensures some { IfSome result (λ z. IsNumber text.now z × IsInReach z) }
     ensures none { IfNone result ((z : ℤ) → IsNumber text.now z → IsInReach z → ⊥) }
 {

@@ -55,7 +55,7 @@ impl<'a> Operands<'a> {
     }
 
     /// The instruction's operands.
-    pub fn of(instr: &Instr) -> Self
+    pub fn from_instr(instr: &Instr) -> Self
         ensures { values_of result ≡ operands_of instr.now }
     {
         match *instr {

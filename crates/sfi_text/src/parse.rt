@@ -17,7 +17,7 @@ use crate::read::read_operands;
 use rv_word::Instr;
 
 /// Whether the token is a name, and no number or mark.
-fn is_name(token: &str) -> bool
+fn is_name_token(token: &str) -> bool
     requires { IsToken token.now }
     ensures { IsTrue result ↔ IsName token.now }
 {
@@ -33,7 +33,7 @@ pub fn name_cause(token: &str) -> TextCause
     ensures { (IsName token.now × (result ≡ cause.Word))
         ⊎ ((IsName token.now → ⊥) × (result ≡ cause.Operands)) }
 {
-    if is_name(token) {
+    if is_name_token(token) {
         TextCause::Word
     } else {
         TextCause::Operands
@@ -78,7 +78,7 @@ fn after_token(token: &str, rest: &str) -> Result<Instr, TextCause>
     ensures ok { IfOk result (λ i. FollowsToken token.now rest.now i) }
     ensures cause { IfErr result (λ e. RefusedAt token.now rest.now e) }
 {
-    match Mnemonic::of(token) {
+    match Mnemonic::from_name(token) {
         Some(name) => after_name(name, rest),
         None => Err(name_cause(token)),
     }

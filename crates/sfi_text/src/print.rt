@@ -7,7 +7,7 @@ ghost use Rattle.sfi_text.specs.private.Reading.{values_of};
 ghost use Rattle.sfi_text.specs.Statement.{mnemonic_of, Means};
 ghost use Rattle.sfi_text.specs.Statement.{part_text, format_name, number_text, printed, statement_text};
 
-use crate::form::{NumberKind, Part};
+use crate::form::{NumberKind, OperandPart};
 use crate::mnemonic::Mnemonic;
 use crate::operands::Operands;
 use rv_word::{Instr, Reg};
@@ -44,8 +44,9 @@ fn push_register(out: &mut String, register: Reg) -> Result<(), AllocError>
     write!(out, "x{number}")
 }
 
-/// Appends a number of this kind to the text.
-fn push_number(out: &mut String, kind: NumberKind, number: i64) -> Result<(), AllocError>
+/// Appends a number of this kind to the text: in hexadecimal if it is `Upper` and not negative, else
+/// in decimal.
+fn push_number_text(out: &mut String, kind: NumberKind, number: i64) -> Result<(), AllocError>
     ensures { OnOk result (string_bytes out.new ≡ string_bytes out.old ++ number_text kind number) }
 {
     match kind {
@@ -69,31 +70,31 @@ fn format_name(format: Format) -> &'static str
 }
 
 /// Appends one of the operands, or a mark, to the text.
-fn push_part(out: &mut String, o: &Operands, part: Part) -> Result<(), AllocError>
+fn push_operand_part(out: &mut String, o: &Operands, part: OperandPart) -> Result<(), AllocError>
     ensures { OnOk result
         (string_bytes out.new ≡ string_bytes out.old ++ part_text (values_of o.now) part) }
 {
     match part {
-        Part::Rd => push_register(out, o.rd),
-        Part::Rs1 => push_register(out, o.rs1),
-        Part::Rs2 => push_register(out, o.rs2),
-        Part::Number(kind) => push_number(out, kind, o.number),
-        Part::Name => out.push_str(o.name),
-        Part::Mode => out.push_str(if o.compressed { "rvc" } else { "norvc" }),
-        Part::ImageFormat => out.push_str(format_name(o.format)),
-        Part::Comma => out.push_str(", "),
-        Part::Open => out.push_str("("),
-        Part::Close => out.push_str(")"),
+        OperandPart::Rd => push_register(out, o.rd),
+        OperandPart::Rs1 => push_register(out, o.rs1),
+        OperandPart::Rs2 => push_register(out, o.rs2),
+        OperandPart::Number(kind) => push_number_text(out, kind, o.number),
+        OperandPart::Name => out.push_str(o.name),
+        OperandPart::Mode => out.push_str(if o.compressed { "rvc" } else { "norvc" }),
+        OperandPart::ImageFormat => out.push_str(format_name(o.format)),
+        OperandPart::Comma => out.push_str(", "),
+        OperandPart::Open => out.push_str("("),
+        OperandPart::Close => out.push_str(")"),
     }
 }
 
 /// Appends the operands of this form to the text.
-fn push_operands(out: &mut String, o: &Operands, form: &[Part]) -> Result<(), AllocError>
+fn push_operands(out: &mut String, o: &Operands, form: &[OperandPart]) -> Result<(), AllocError>
     ensures { OnOk result (string_bytes out.new
         ≡ string_bytes out.old ++ flat_map (part_text (values_of o.now)) form.now) }
 {
     for part in form {
-        push_part(out, o, *part)?;
+        push_operand_part(out, o, *part)?;
     }
     Ok(())
 }
@@ -115,7 +116,7 @@ fn push_statement(out: &mut String, name: Mnemonic, o: &Operands) -> Result<(), 
 pub fn push_instr(out: &mut String, instr: &Instr) -> Result<(), AllocError>
     ensures { OnOk result (string_bytes out.new ≡ string_bytes out.old ++ printed instr.now) }
 {
-    let operands = Operands::of(instr);
+    let operands = Operands::from_instr(instr);
     push_statement(out, Mnemonic::of_instr(instr), &operands)
 }
 

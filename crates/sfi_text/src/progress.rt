@@ -126,7 +126,7 @@ fn line_start(text: &str) -> LineStart<'_>
 }
 
 /// Whether a text begins with a name that a label or a gate has already.
-fn is_taken(draft: &Draft, text: &str) -> bool
+fn is_name_taken(draft: &Draft, text: &str) -> bool
     ensures { IsTrue result ↔ IsTaken draft.now text.now }
 {
     match label_name(text) {
@@ -163,8 +163,9 @@ impl Progress {
         }
     }
 
-    /// Gives the name to a label that stands here.
-    fn label(&mut self, alloc: Global, name: &str) -> Result<(), TextCause>
+    /// Adds a label that stands here, or refuses it: no sandbox is begun, its name is too long, or a
+    /// label or gate has the name already.
+    fn add_label(&mut self, alloc: Global, name: &str) -> Result<(), TextCause>
         ensures labels { OnOk result (Labels name.now self.old self.new) }
         ensures cause { IfErr result (λ e. (e ≡ cause.Memory) ⊎ RefusesLabel name.now self.old e) }
     {
@@ -174,7 +175,7 @@ impl Progress {
                 if name.len() > NAME_MOST_BYTES {
                     Err(TextCause::Limit)
                 } else if draft.is_free(name) {
-                    draft.label(alloc, name)
+                    draft.place_label(alloc, name)
                 } else {
                     Err(TextCause::LabelTwice)
                 }
@@ -183,14 +184,14 @@ impl Progress {
     }
 
     /// Reads the labels at the front of a line, and returns what stands after them.
-    fn labels<'a>(&mut self, alloc: Global, line: &'a str) -> Result<NextToken<'a>, TextCause>
+    fn read_labels<'a>(&mut self, alloc: Global, line: &'a str) -> Result<NextToken<'a>, TextCause>
         ensures passes { IfOk result (λ next. PassesTo self.old line.now self.new next) }
         ensures cause { IfErr result (λ e. (e ≡ cause.Memory) ⊎ LabelRefused self.old line.now e) }
     {
         let mut text = line;
         loop {
             match line_start(text) {
-                LineStart::Label(name, rest) => match self.label(alloc, name) {
+                LineStart::Label(name, rest) => match self.add_label(alloc, name) {
                     Ok(()) => text = rest,
                     Err(e) => return Err(e),
                 },
@@ -204,7 +205,7 @@ impl Progress {
         ensures { IsTrue result ↔ IsGateTwice keyword self.now text.now }
     {
         match &self.begun {
-            Some(draft) => keyword.makes_gate() && is_taken(draft, text),
+            Some(draft) => keyword.makes_gate() && is_name_taken(draft, text),
             None => false,
         }
     }
@@ -241,7 +242,7 @@ impl Progress {
     }
 
     /// Does what the line of this number states, which may come here.
-    fn state(
+    fn apply_statement(
         &mut self,
         alloc: Global,
         line: u32,
@@ -259,7 +260,7 @@ impl Progress {
             }
             Statement::Sandbox { data_size } => self.begin(alloc, *data_size),
             Statement::Within(what) => match &mut self.begun {
-                Some(draft) => draft.state(alloc, line, what),
+                Some(draft) => draft.apply_statement(alloc, line, what),
                 None => Err(TextCause::Directive),
             },
         }
@@ -287,7 +288,7 @@ impl Progress {
             return Err(TextCause::LabelTwice);
         }
         let statement = read_statement(alloc, keyword, text)?;
-        self.state(alloc, line, &statement)
+        self.apply_statement(alloc, line, &statement)
     }
 
     /// Does what the statement of `token` and the rest after it states.
@@ -312,7 +313,7 @@ impl Progress {
         ensures leads { OnOk result (Leads line self.old text.now self.new) }
         ensures cause { IfErr result (λ e. (e ≡ cause.Memory) ⊎ LineRefused self.old text.now e) }
     {
-        match self.labels(alloc, text)? {
+        match self.read_labels(alloc, text)? {
             NextToken::End => Ok(()),
             NextToken::Stuck => Err(TextCause::Word),
             NextToken::Token(token, rest) => self.statement(alloc, line, token, rest),

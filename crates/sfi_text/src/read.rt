@@ -13,9 +13,9 @@ ghost use Rattle.sfi_text.specs.private.Reading.{values_of};
 ghost use Rattle.sfi_text.specs.private.Reading.{Reads, SameAt, has_no_repeat, is_fresh, KeepsOthers};
 
 use crate::cause::TextCause;
-use crate::form::{NumberKind, Part};
+use crate::form::{NumberKind, OperandPart};
 use crate::lexer::{NextToken, next_token};
-use crate::number::number;
+use crate::number::parse_number;
 use crate::operands::Operands;
 use crate::register::register;
 use rv_word::Reg;
@@ -53,7 +53,7 @@ pub fn read_number(token: &str, kind: NumberKind) -> Result<i64, TextCause>
     ensures err { OnErr result ((z : ℤ) → IsNumber token.now z → IsNumberOf kind z → ⊥) }
     ensures cause { IfErr result (λ e. e ≡ cause.Number) }
 {
-    match number(token) {
+    match parse_number(token) {
         Some(z) => {
             if kind.holds(z) {
                 Ok(z)
@@ -131,7 +131,7 @@ fn read_format(token: &str) -> Result<Format, TextCause>
     if token == "words" {
         return Ok(Format::Sfiw);
     }
-    match number(token) {
+    match parse_number(token) {
         Some(1) => Ok(Format::Sfi1),
         Some(2) => Ok(Format::Sfi2),
         Some(_) => Err(TextCause::Number),
@@ -141,7 +141,7 @@ fn read_format(token: &str) -> Result<Format, TextCause>
 
 impl<'a> Operands<'a> {
     /// Sets the operand that the token gives at this part.
-    fn put(&mut self, part: Part, token: &'a str) -> Result<(), TextCause>
+    fn put(&mut self, part: OperandPart, token: &'a str) -> Result<(), TextCause>
         requires { IsToken token.now }
         ensures stands { OnOk result (Stands (values_of self.new) part token.now) }
         ensures others { OnOk result (KeepsOthers part (values_of self.old) (values_of self.new)) }
@@ -149,26 +149,30 @@ impl<'a> Operands<'a> {
         ensures cause { IfErr result (λ e. e ≡ part_cause part token.now) }
     {
         match part {
-            Part::Rd => self.rd = read_register(token)?,
-            Part::Rs1 => self.rs1 = read_register(token)?,
-            Part::Rs2 => self.rs2 = read_register(token)?,
-            Part::Number(kind) => self.number = read_number(token, kind)?,
-            Part::Name => self.name = read_label(token)?,
-            Part::Mode => self.compressed = read_mode(token)?,
-            Part::ImageFormat => self.format = read_format(token)?,
-            Part::Comma => read_mark(token, ",")?,
-            Part::Open => read_mark(token, "(")?,
-            Part::Close => read_mark(token, ")")?,
+            OperandPart::Rd => self.rd = read_register(token)?,
+            OperandPart::Rs1 => self.rs1 = read_register(token)?,
+            OperandPart::Rs2 => self.rs2 = read_register(token)?,
+            OperandPart::Number(kind) => self.number = read_number(token, kind)?,
+            OperandPart::Name => self.name = read_label(token)?,
+            OperandPart::Mode => self.compressed = read_mode(token)?,
+            OperandPart::ImageFormat => self.format = read_format(token)?,
+            OperandPart::Comma => read_mark(token, ",")?,
+            OperandPart::Open => read_mark(token, "(")?,
+            OperandPart::Close => read_mark(token, ")")?,
         }
         Ok(())
     }
 }
 
 /// Sets the operands of this form, which are all of the text; the range of each is tested.
-fn fill<'a>(form: &[Part], text: &'a str, operands: &mut Operands<'a>) -> Result<(), TextCause>
+fn set_operands<'a>(
+    form: &[OperandPart],
+    text: &'a str,
+    operands: &mut Operands<'a>,
+) -> Result<(), TextCause>
     requires { IsTrue (has_no_repeat form.now) }
     ensures reads { OnOk result (Reads (values_of operands.new) form.now text.now) }
-    ensures others { OnOk result ((p : Part) → IsTrue (is_fresh p form.now)
+    ensures others { OnOk result ((p : OperandPart) → IsTrue (is_fresh p form.now)
         → SameAt p (values_of operands.new) (values_of operands.old)) }
     ensures cause { IfErr result (λ e. Departs form.now text.now e) }
 {
@@ -182,7 +186,7 @@ fn fill<'a>(form: &[Part], text: &'a str, operands: &mut Operands<'a>) -> Result
             NextToken::End => Err(TextCause::Operands),
             NextToken::Stuck => Err(TextCause::Word),
             NextToken::Token(token, rest) => match operands.put(*part, token) {
-                Ok(()) => fill(more, rest, operands),
+                Ok(()) => set_operands(more, rest, operands),
                 Err(e) => Err(e),
             },
         },
@@ -190,13 +194,13 @@ fn fill<'a>(form: &[Part], text: &'a str, operands: &mut Operands<'a>) -> Result
 }
 
 /// Reads the operands of this form, which are all of the text.
-pub fn read_operands<'a>(form: &[Part], text: &'a str) -> Result<Operands<'a>, TextCause>
+pub fn read_operands<'a>(form: &[OperandPart], text: &'a str) -> Result<Operands<'a>, TextCause>
     requires { IsTrue (has_no_repeat form.now) }
     ensures reads { IfOk result (λ o. Reads (values_of o) form.now text.now) }
     ensures cause { IfErr result (λ e. Departs form.now text.now e) }
 {
     let mut operands = Operands::none();
-    match fill(form, text, &mut operands) {
+    match set_operands(form, text, &mut operands) {
         Ok(()) => Ok(operands),
         Err(e) => Err(e),
     }

@@ -16,13 +16,13 @@ const NAMES: &[&str; 65] = &[
 ];
 
 /// The names of the registers.
-fn names() -> &'static [&'static str; 65]
+fn register_names() -> &'static [&'static str; 65]
     ensures { map (λ name. name.now) result.now ≡ register_names }
 {
     NAMES
 }
 
-/// By the hash of a name, the place in `names` that alone can have the name.
+/// By the hash of a name, the place in `register_names` that alone can have the name.
 const PLACES: &[u8; 256] = &[
     13, 14, 15, 16, 17, 18, 19, 0, 0, 0, 0, 0, 0, 0, 0, 34, 0, 0, 0, 0, 0, 0, 0, 0, 0, 0, 0, 0, 0,
     0, 0, 0, 0, 0, 20, 21, 22, 23, 24, 25, 26, 27, 28, 29, 0, 0, 64, 0, 0, 0, 0, 0, 36, 42, 43, 44,
@@ -35,7 +35,7 @@ const PLACES: &[u8; 256] = &[
     0, 0, 0, 0, 0, 37, 38, 39, 60, 61, 62, 63, 0, 0, 10, 11, 12,
 ];
 
-/// The place in `names` that alone can have this name. The two numbers were found by trial: by
+/// The place in `register_names` that alone can have this name. The two numbers were found by trial: by
 /// them no two names have one hash.
 #[tactic(auto, using(crate::proofs::NameTables::register_at_hash))]
 fn name_place(name: &str) -> usize
@@ -45,16 +45,16 @@ fn name_place(name: &str) -> usize
     PLACES[hash(0, 37, name)] as usize
 }
 
-/// The name at this place of `names`.
+/// The name at this place of `register_names`.
 #[tactic(auto, using(crate::proofs::NameTables::at_place))]
 fn name_at(place: usize) -> &'static str
     requires { place < 65 }
     ensures { result.now ≡ name_at place }
 {
-    names()[place]
+    register_names()[place]
 }
 
-/// The register whose name stands at this place of `names`.
+/// The register whose name stands at this place of `register_names`.
 fn register_at(place: usize) -> Reg
     ensures { result ≡ register_at place }
 {

@@ -55,7 +55,7 @@ fn add_zero(rd: Reg, rs1: Reg) -> Instr
 }
 
 /// A jump to the address in a register.
-fn jump_to(rs1: Reg) -> Instr
+fn jump_to_address(rs1: Reg) -> Instr
     ensures { result ≡ instr.Jalr 0 rs1 (pos 0) }
 {
     Instr::Jalr {
@@ -101,10 +101,10 @@ impl Pseudo {
     {
         match self {
             Pseudo::Nop => Statement::Within(SandboxStatement::One(add_zero(x0(), x0()))),
-            Pseudo::Ret => Statement::Within(SandboxStatement::One(jump_to(ra()))),
+            Pseudo::Ret => Statement::Within(SandboxStatement::One(jump_to_address(ra()))),
             Pseudo::Li => Statement::Within(constant(o.rd, o.number)),
             Pseudo::Mv => Statement::Within(SandboxStatement::One(add_zero(o.rd, o.rs1))),
-            Pseudo::Jr => Statement::Within(SandboxStatement::One(jump_to(o.rs1))),
+            Pseudo::Jr => Statement::Within(SandboxStatement::One(jump_to_address(o.rs1))),
             Pseudo::J => jal_to(x0(), o.name),
             Pseudo::Call => jal_to(ra(), o.name),
             Pseudo::Beqz => branch_to(Cond::Beq, o.rs1, x0(), o.name),

@@ -9,7 +9,7 @@ use Rattle.sfi_answers.specs.declared.fault.Stop.TheVariants as stop
 use Rattle.sfi_io.specs.Hexadecimal.{GivesBytes, IsInput, IsHexFault, IsHexStop, IsNoHexadecimal, GivesImage, GivesNoImage, limit}
 use Rattle.sfi_io.specs.declared.hexadecimal.HexStop.{HexStop}
 use Rattle.sfi_io.specs.declared.hexadecimal.HexStop.TheVariants as hex
-use Rattle.sfi_tool.specs.declared.process.ExecFault.{ExecFault}
+use Rattle.sfi_tool.specs.declared.execution.ExecFault.{ExecFault}
 use Rattle.sfi_io.specs.declared.streams.Input.TheVariants.{Whole}
 use Rattle.sfi_host.specs.Consoles.{ConsoleState, new_console}
 use Rattle.sfi_host.specs.Joint.{Machine, IsMachine}

@@ -57,7 +57,7 @@ fn job_answer(alloc: Global, job: &Job, text: &[u8]) -> Result<Answer, Stop>
 /// first byte that is no digit, and then the layout; of a source, that it is no UTF-8, and then its own
 /// faults. The one error is that an allocation was refused.
 #[tactic(auto, using(crate::proofs::Jobs::too_large, crate::proofs::Jobs::not_done, crate::proofs::Jobs::not_refused))]
-pub fn answer(alloc: Global, job: &Job, text: &[u8]) -> Result<Answer, AllocError>
+pub fn answer_job(alloc: Global, job: &Job, text: &[u8]) -> Result<Answer, AllocError>
     requires { is_raw job.now ≡ false }
 
     // What each answer means.

@@ -5,7 +5,7 @@ ghost use Rattle.sfi_host.specs.Consoles.{ConsoleState};
 ghost use Rattle.sfi_host.specs.Worlds.{slots_of};
 ghost use Rattle.sfi_tool.specs.private.{AreStreamed, AreWithin, IsAsked, Streamed, left_by, left_of};
 
-use crate::serving::{Interruption, serve};
+use crate::serving::{Interruption, serve_call};
 use rv_mem::Memory;
 use sfi_host::{Console, Request, Status, Turn, World};
 use std::io::{Read, Write};
@@ -41,7 +41,7 @@ fn turn_steps(left: u64) -> u32
 }
 
 /// Runs a sandbox up to its next call, and says what that asks, if there is a step left for it.
-fn run_to_call<M: Memory>(world: &mut World<M>, sandbox: u32, budget: u64) -> Option<Request>
+fn run_to_request<M: Memory>(world: &mut World<M>, sandbox: u32, budget: u64) -> Option<Request>
     requires { AreWithin budget (slots_of world.old) }
     ensures streamed { (c : ConsoleState) (known told : Option (List ℕ)) → Streamed sandbox
         (slots_of world.old) c (slots_of world.new) c known known told told }
@@ -61,7 +61,7 @@ fn run_to_call<M: Memory>(world: &mut World<M>, sandbox: u32, budget: u64) -> Op
 }
 
 /// Runs a sandbox up to its next call, and answers that, if there is a step left for it.
-fn run_on<M: Memory, R: Read, W: Write>(
+fn run_and_serve_call<M: Memory, R: Read, W: Write>(
     world: &mut World<M>,
     console: &mut Console,
     sandbox: u32,
@@ -77,14 +77,14 @@ fn run_on<M: Memory, R: Read, W: Write>(
         (W.contents writer.old) (W.contents writer.new)) }
     ensures within { IfOk result (λ u. AreWithin budget (slots_of world.new)) }
 {
-    let Some(request) = run_to_call(world, sandbox, budget) else {
+    let Some(request) = run_to_request(world, sandbox, budget) else {
         return Ok(());
     };
-    serve(world, request, console, buffer, reader, writer)
+    serve_call(world, request, console, buffer, reader, writer)
 }
 
 /// Runs a sandbox until it has stopped or its steps are used up.
-fn run_sandbox<M: Memory, R: Read, W: Write>(
+fn execute_sandbox<M: Memory, R: Read, W: Write>(
     world: &mut World<M>,
     console: &mut Console,
     sandbox: u32,
@@ -106,13 +106,13 @@ fn run_sandbox<M: Memory, R: Read, W: Write>(
         if steps_left(world, sandbox, budget) == 0 {
             return Ok(());
         }
-        run_on(world, console, sandbox, budget, buffer, reader, writer)?;
+        run_and_serve_call(world, console, sandbox, budget, buffer, reader, writer)?;
     }
     Err(Interruption::TooLong)
 }
 
-/// Runs the first sandboxes, one after another.
-pub(crate) fn run_sandboxes<M: Memory, R: Read, W: Write>(
+/// Runs the sandboxes below `count`, one after another.
+pub(crate) fn execute_sandboxes<M: Memory, R: Read, W: Write>(
     world: &mut World<M>,
     console: &mut Console,
     count: u32,
@@ -128,7 +128,7 @@ pub(crate) fn run_sandboxes<M: Memory, R: Read, W: Write>(
         (W.contents writer.old) (W.contents writer.new)) }
 {
     for sandbox in 0..count {
-        run_sandbox(world, console, sandbox, budget, buffer, reader, writer)?;
+        execute_sandbox(world, console, sandbox, budget, buffer, reader, writer)?;
     }
     Ok(())
 }

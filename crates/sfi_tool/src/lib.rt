@@ -3,8 +3,8 @@
 
 mod answering;
 mod executing;
+mod execution;
 mod piece;
-mod process;
 mod run_lines;
 mod running;
 mod serving;
@@ -12,8 +12,8 @@ mod states;
 mod stopping;
 mod tool;
 
-pub use answering::answer;
-pub use process::{ExecFault, exec};
+pub use answering::answer_job;
+pub use execution::{ExecFault, exec};
 pub use sfi_answers::Answer;
 pub use sfi_command::{Job, JobFault, VERSION, job_of};
 pub use sfi_io::write_out;

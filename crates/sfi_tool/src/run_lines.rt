@@ -24,7 +24,7 @@ fn cause_name(cause: Cause) -> &'static str
     }
 }
 
-/// Writes what a sandbox may still do.
+/// Writes a sandbox's status, as the line of a run has it.
 pub(crate) fn push_status(out: &mut String, status: Status) -> Result<(), AllocError>
     ensures { OnOk result (string_bytes out.new ≡ string_bytes out.old ++ status_text status) }
 {

@@ -52,7 +52,7 @@ pub(crate) fn take_rounds<M: Memory>(
 
 /// The lines of the sandboxes of an image, and with a report the states of those that have not
 /// exited.
-fn said<M: Memory>(
+fn run_text<M: Memory>(
     alloc: Global,
     accepted: &Accepted<'_>,
     report: bool,
@@ -74,7 +74,7 @@ fn said<M: Memory>(
 
 /// Runs the sandboxes of an accepted image, and says what became of each: with a report, its pc and
 /// registers, too.
-fn run_text(
+fn run_and_report(
     alloc: Global,
     accepted: &Accepted<'_>,
     rounds: u32,
@@ -85,11 +85,11 @@ fn run_text(
     ensures { IfOk result
         (λ text. IsRunText report rounds quantum input.now accepted.now (string_bytes text)) }
 {
-    let count = accepted.sandboxes() as u32;
+    let count = accepted.sandbox_count() as u32;
     let mut world = World::load(alloc, accepted, Pages::new(alloc))?;
     let mut console = Console::new(alloc, count, input)?;
     take_rounds(alloc, rounds, quantum, count, &mut world, &mut console)?;
-    said(alloc, accepted, report, count, &world, &console)
+    run_text(alloc, accepted, report, count, &world, &console)
 }
 
 /// The verdict on the image with these bytes where it has findings, and else what became of its
@@ -107,7 +107,7 @@ pub(crate) fn run_answer(
     match check(alloc, bytes) {
         Ok(accepted) => Ok(Answer::lines(
             0,
-            run_text(alloc, &accepted, rounds, quantum, input, report)?,
+            run_and_report(alloc, &accepted, rounds, quantum, input, report)?,
         )),
         Err(refusal) => refusal_answer(alloc, false, bytes, refusal),
     }

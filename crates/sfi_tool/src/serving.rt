@@ -1,4 +1,4 @@
-//! One call of a sandbox whose put and get are those of a process.
+//! One call of a sandbox, whose put writes to a process's output and whose get reads its input.
 
 ghost use Rattle.std.specs.Prelude.{◌≡◌, ◌≢◌, ◌≤◌, ℕ, List, Option, IfOk, Some, None, length, take};
 ghost use Rattle.std.specs.Bool.{OnTrue, OnFalse};
@@ -20,8 +20,10 @@ pub(crate) const MOST_HANDED: usize = 65536;
 /// a0 after a call that is refused.
 const FAILED: u32 = 0xffffffff;
 
+/// The service that writes.
 const PUT: u32 = 1;
 
+/// The service that reads.
 const GET: u32 = 2;
 
 /// Why sandboxes that ran didn't come to their end.
@@ -51,7 +53,7 @@ fn take_handed<M: Memory>(world: &World<M>, request: Request, buffer: &mut [u8])
 }
 
 /// Has a host answer a call.
-fn answer_call<M: Memory, G: Gates>(
+fn let_host_answer<M: Memory, G: Gates>(
     world: &mut World<M>,
     request: Request,
     gates: &mut G,
@@ -71,7 +73,11 @@ fn answer_call<M: Memory, G: Gates>(
 }
 
 /// Gives a caller this a0, and lets it go on.
-fn reply<M: Memory>(world: &mut World<M>, request: Request, a0: u32) -> Result<(), Interruption>
+fn reply_with<M: Memory>(
+    world: &mut World<M>,
+    request: Request,
+    a0: u32,
+) -> Result<(), Interruption>
     requires { Waits (slots_of world.old) request.sandbox request }
     ensures { IfOk result
         (λ u. GoesOnWith request a0 (slots_of world.old) (slots_of world.new)) }
@@ -81,11 +87,11 @@ fn reply<M: Memory>(world: &mut World<M>, request: Request, a0: u32) -> Result<(
         a1: request.a1,
         exit: None,
     };
-    answer_call(world, request, &mut later)
+    let_host_answer(world, request, &mut later)
 }
 
 /// Writes what a put hands over.
-fn put<M: Memory, W: Write>(
+fn serve_put<M: Memory, W: Write>(
     world: &mut World<M>,
     request: Request,
     buffer: &mut [u8],
@@ -99,12 +105,12 @@ fn put<M: Memory, W: Write>(
         (W.contents writer.old) (W.contents writer.new)) }
 {
     if !take_handed(world, request, buffer) {
-        return reply(world, request, FAILED);
+        return reply_with(world, request, FAILED);
     }
     if !write_out(writer, &buffer[..request.a1 as usize]) {
         return Err(Interruption::Write);
     }
-    reply(world, request, request.a1)
+    reply_with(world, request, request.a1)
 }
 
 /// Reads once, for a get, after all that was put has been written.
@@ -128,7 +134,7 @@ fn read_piece<R: Read, W: Write>(
 }
 
 /// Gives a get the next piece of the input.
-fn get<M: Memory, R: Read, W: Write>(
+fn serve_get<M: Memory, R: Read, W: Write>(
     world: &mut World<M>,
     request: Request,
     buffer: &mut [u8],
@@ -143,13 +149,13 @@ fn get<M: Memory, R: Read, W: Write>(
         (W.contents writer.old) (W.contents writer.new)) }
 {
     if !take_handed(world, request, buffer) {
-        return reply(world, request, FAILED);
+        return reply_with(world, request, FAILED);
     }
     let count = read_piece(&mut buffer[..request.a1 as usize], reader, writer)?;
     let mut piece = Piece {
         bytes: &buffer[..count],
     };
-    answer_call(world, request, &mut piece)
+    let_host_answer(world, request, &mut piece)
 }
 
 /// Has a console answer a call.
@@ -164,11 +170,12 @@ fn ask_console<M: Memory>(
     ensures { (known told : Option (List ℕ)) → IfOk result (λ u. IsServed request.sandbox
         (slots_of world.old) console.old (slots_of world.new) console.new known known told told) }
 {
-    answer_call(world, request, console)
+    let_host_answer(world, request, console)
 }
 
-/// Answers a call.
-pub(crate) fn serve<M: Memory, R: Read, W: Write>(
+/// Answers a call: a put goes to the writer, a get reads from the reader, and the console answers
+/// each other service.
+pub(crate) fn serve_call<M: Memory, R: Read, W: Write>(
     world: &mut World<M>,
     request: Request,
     console: &mut Console,
@@ -183,8 +190,8 @@ pub(crate) fn serve<M: Memory, R: Read, W: Write>(
         (W.contents writer.old) (W.contents writer.new)) }
 {
     match request.service {
-        PUT => put(world, request, buffer, writer),
-        GET => get(world, request, buffer, reader, writer),
+        PUT => serve_put(world, request, buffer, writer),
+        GET => serve_get(world, request, buffer, reader, writer),
         _ => ask_console(world, request, console),
     }
 }

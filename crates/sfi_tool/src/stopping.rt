@@ -14,40 +14,40 @@ use sfi_image::SandboxPart;
 use std::alloc::{AllocError, Global};
 
 /// The status where the budget was used up.
-const OVER: u8 = 124;
+const BUDGET_USED: u8 = 124;
 
 /// The status of a trap.
 const TRAPPED: u8 = 126;
 
 /// The status with which `exec` ends after a sandbox that has `status`.
-fn end_status(status: Status) -> u8
+fn exit_status(status: Status) -> u8
     ensures { result ≡ end_status status }
 {
     match status {
-        Status::Ready | Status::Stopped => OVER,
+        Status::Ready | Status::Stopped => BUDGET_USED,
         Status::Exited(number) => (number % 256) as u8,
         Status::Trapped(_, _) => TRAPPED,
     }
 }
 
 /// The status of sandbox `sandbox`; 0 where there is none.
-fn status_of<M: Memory>(world: &World<M>, sandbox: u32) -> u8
+fn exit_status_of<M: Memory>(world: &World<M>, sandbox: u32) -> u8
     ensures { result ≡ status_of (slice_get (slots_of world.now) sandbox) }
 {
     match world.status(sandbox) {
-        Some(status) => end_status(status),
+        Some(status) => exit_status(status),
         None => 0,
     }
 }
 
-/// The first status of the first sandboxes that isn't 0, or 0.
-pub(crate) fn status_among<M: Memory>(world: &World<M>, count: u32) -> u8
+/// The status of the first of the sandboxes below `count` whose status isn't 0; 0 where all are.
+pub(crate) fn first_nonzero_status<M: Memory>(world: &World<M>, count: u32) -> u8
     ensures { result ≡ status_among count (slots_of world.now) }
 {
     let mut first = 0;
     for sandbox in 0..count {
         if first == 0 {
-            first = status_of(world, sandbox);
+            first = exit_status_of(world, sandbox);
         }
     }
     first
@@ -91,7 +91,7 @@ fn push_stop_line_of<M: Memory>(
     }
 }
 
-/// The lines of the first sandboxes, in order.
+/// The lines of the sandboxes below `count`, in order.
 fn stop_lines<M: Memory>(alloc: Global, count: u32, world: &World<M>) -> Result<String, AllocError>
     ensures { IfOk result
         (λ text. string_bytes text ≡ stop_lines count (slots_of world.now)) }

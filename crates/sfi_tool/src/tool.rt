@@ -8,7 +8,7 @@ ghost use Rattle.sfi_command.specs.declared.job.Job.TheVariants.{Check};
 ghost use Rattle.sfi_tool.specs.Says.{WritesAnswer, MeetsFault, OnlyAppends, HasInputFault, Says};
 ghost use Rattle.sfi_tool.specs.private.{Runs};
 
-use crate::answering::answer;
+use crate::answering::answer_job;
 use sfi_answers::{Answer, TOO_LARGE_LINE, image_answer, raw_answer};
 use sfi_command::{HEX_LINE, Job, JobFault, job_of};
 use sfi_io::{Input, ReadStop, read_input, write_out};
@@ -69,13 +69,13 @@ fn run_check<R: Read, W: Write>(alloc: Global, raw: bool, reader: &mut R, writer
 }
 
 /// Runs a job on what was read.
-fn run_on<W: Write>(alloc: Global, job: &Job, text: &[u8], writer: &mut W) -> u8
+fn run_job_on_text<W: Write>(alloc: Global, job: &Job, text: &[u8], writer: &mut W) -> u8
     requires { is_raw job.now ≡ false }
     ensures runs { Runs job.now (Some text.now) (W.contents writer.old) (W.contents writer.new)
         result }
     ensures memory { result ≡ 4 → writer.new ≡ writer.old }
 {
-    match answer(alloc, job, text) {
+    match answer_job(alloc, job, text) {
         Ok(answer) => status_after_writing(writer, answer.status, &answer.output),
         Err(_) => 4,
     }
@@ -96,7 +96,7 @@ fn run_job<R: Read, W: Write>(alloc: Global, job: &Job, reader: &mut R, writer: 
         return run_check(alloc, false, reader, writer);
     }
     match read_input(alloc, reader) {
-        Ok(Input::Whole(text)) => run_on(alloc, job, &text, writer),
+        Ok(Input::Whole(text)) => run_job_on_text(alloc, job, &text, writer),
         Ok(Input::TooLarge) => status_after_writing(writer, 2, TOO_LARGE_LINE.as_bytes()),
         Err(ReadStop::Memory) => 4,
         Err(ReadStop::Failed) => 5,

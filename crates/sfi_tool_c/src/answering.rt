@@ -8,7 +8,7 @@ use crate::output::write_front;
 use crate::words::{WordsFault, words_of};
 use sfi_answers::{Answer, bytes_answer};
 use sfi_command::{HEX_LINE, Job, JobFault, job_of};
-use sfi_tool::answer;
+use sfi_tool::answer_job;
 use std::alloc::{AllocError, Global};
 
 const NO_TEXT: &str = "error: the words are not UTF-8, or the last one is not ended\n";
@@ -22,7 +22,7 @@ fn answer_to(alloc: Global, job: &Job, input: &[u8]) -> Result<Answer, AllocErro
 {
     match job {
         Job::Check { raw: true, report } => bytes_answer(alloc, *report, input),
-        _ => answer(alloc, job, input),
+        _ => answer_job(alloc, job, input),
     }
 }
 

@@ -23,7 +23,7 @@ impl From<AllocError> for WordsFault {
 }
 
 /// Appends a copy of `word`.
-fn push_word(alloc: Global, words: &mut Vec<String>, word: &str) -> Result<(), AllocError>
+fn push_copy(alloc: Global, words: &mut Vec<String>, word: &str) -> Result<(), AllocError>
     ensures { OnOk result (map string_bytes words.new.items
         ≡ map string_bytes words.old.items ++ word.now ∷ []) }
 {
@@ -44,7 +44,7 @@ pub(crate) fn words_of(alloc: Global, bytes: &[u8]) -> Result<Vec<String>, Words
             let Ok(word) = std::str::from_utf8(&bytes[from..at]) else {
                 return Err(WordsFault::NoWords);
             };
-            push_word(alloc, &mut words, word)?;
+            push_copy(alloc, &mut words, word)?;
             from = at + 1;
         }
     }

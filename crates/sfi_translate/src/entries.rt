@@ -8,27 +8,27 @@ use sfi_formats::Format;
 use sfi_image::SandboxPart;
 use std::alloc::{AllocError, Global};
 
-/// The entries of a sandbox's code.
+/// The units of a sandbox's code at which the translation has an `ENTRY` line.
 #[derive(Drop)]
-pub(crate) struct Entries {
+pub(crate) struct ChosenUnits {
     base: u32,
     has_words: bool,
     /// For each unit, by its number, whether it is an entry.
     chosen: Vec<bool>,
 }
 
-impl Entries {
+impl ChosenUnits {
     /// The start, where a function of the text begins, each target of a call, of a jump backwards
     /// or of one into another function, what follows a call, and what the code or the first data
     /// name.
-    pub(crate) fn of(
+    pub(crate) fn of_sandbox(
         alloc: Global,
         format: Format,
         part: &SandboxPart<'_>,
     ) -> Result<Self, AllocError> {
         let mut chosen = Vec::new(alloc);
         chosen.resize(part.code.len() / 4, false)?;
-        let mut entries = Entries {
+        let mut entries = ChosenUnits {
             base: part.code_base,
             has_words: format.has_words(),
             chosen,
@@ -40,7 +40,7 @@ impl Entries {
     }
 
     /// The number of the unit that begins at the address, if one does.
-    fn place_of(&self, address: u32) -> Option<usize> {
+    fn unit_number(&self, address: u32) -> Option<usize> {
         let offset = address.wrapping_sub(self.base);
         let (place, rest) = if self.has_words {
             (offset / 4, offset % 4)
@@ -56,7 +56,7 @@ impl Entries {
 
     /// Whether the unit at that address is an entry.
     pub(crate) fn has(&self, address: u32) -> bool {
-        match self.place_of(address) {
+        match self.unit_number(address) {
             Some(place) => place < self.chosen.len() && self.chosen[place],
             None => false,
         }
@@ -64,7 +64,7 @@ impl Entries {
 
     /// Chooses the unit at an address, if one is there.
     fn add(&mut self, address: u32) {
-        if let Some(place) = self.place_of(address) {
+        if let Some(place) = self.unit_number(address) {
             if place < self.chosen.len() {
                 self.chosen[place] = true;
             }
@@ -92,7 +92,7 @@ impl Entries {
             if at >= next {
                 if let Front::Read(instr, size) = read_front(&part.code[at..]) {
                     self.add_of_instr(here, here.wrapping_add(size), &instr);
-                    self.add_of_pair(before, &instr);
+                    self.add_sum_with_upper(before, &instr);
                     next = at.saturating_add(size as usize);
                     before = upper_of(&instr);
                 }
@@ -131,8 +131,10 @@ impl Entries {
         }
     }
 
-    /// Adds the address that a lui and the addi after it make.
-    fn add_of_pair(&mut self, before: Option<(u8, u32)>, instr: &Instr) {
+    /// Adds the sum of the number that a lui wrote (`before`: its register, the number) and the
+    /// constant of `instr`, if that computes with a constant on this register: an addi makes this
+    /// address. Of other computations it adds a unit too many, which does no harm.
+    fn add_sum_with_upper(&mut self, before: Option<(u8, u32)>, instr: &Instr) {
         if let Some((register, upper)) = before {
             if let Instr::OpImm { rs1, imm, .. } = *instr {
                 let read = rs1.number();

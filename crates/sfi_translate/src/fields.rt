@@ -25,7 +25,7 @@ pub(crate) fn push_opening(
 
 /// Appends a name.
 #[tactic(auto, unfolding(crate::specs::Translation::name_field))]
-pub(crate) fn push_name(out: &mut String, name: &str) -> Result<(), AllocError>
+pub(crate) fn push_name_field(out: &mut String, name: &str) -> Result<(), AllocError>
     ensures { OnOk result (string_bytes out.new ≡ string_bytes out.old ++ name_field name.now) }
 {
     out.push_str(",")?;
@@ -34,7 +34,7 @@ pub(crate) fn push_name(out: &mut String, name: &str) -> Result<(), AllocError>
 
 /// Appends a number that is never negative.
 #[tactic(auto, unfolding(crate::specs::Translation::number_field))]
-pub(crate) fn push_number(out: &mut String, number: usize) -> Result<(), AllocError>
+pub(crate) fn push_number_field(out: &mut String, number: usize) -> Result<(), AllocError>
     ensures { OnOk result (string_bytes out.new ≡ string_bytes out.old ++ number_field number) }
 {
     write!(out, ",{number}")
@@ -42,7 +42,7 @@ pub(crate) fn push_number(out: &mut String, number: usize) -> Result<(), AllocEr
 
 /// Appends a register's number.
 #[tactic(auto, unfolding(crate::specs::Translation::number_field))]
-pub(crate) fn push_register(out: &mut String, register: Reg) -> Result<(), AllocError>
+pub(crate) fn push_register_field(out: &mut String, register: Reg) -> Result<(), AllocError>
     ensures { OnOk result (string_bytes out.new ≡ string_bytes out.old ++ number_field register) }
 {
     let number = register.number();
@@ -59,7 +59,7 @@ pub(crate) fn push_signed(out: &mut String, number: i32) -> Result<(), AllocErro
 
 /// Appends an address.
 #[tactic(auto, unfolding(crate::specs::Translation::address_field))]
-pub(crate) fn push_address(out: &mut String, at: u32) -> Result<(), AllocError>
+pub(crate) fn push_address_field(out: &mut String, at: u32) -> Result<(), AllocError>
     ensures { OnOk result (string_bytes out.new ≡ string_bytes out.old ++ address_field at) }
 {
     out.push_str(",")?;

@@ -5,7 +5,8 @@ ghost use Rattle.rv_word.specs.declared.instr.Instr.TheVariants as instr;
 ghost use Rattle.sfi_translate.specs.Translation.{opening, name_field, number_field, signed_field, address_field, closing, far, line_text};
 
 use crate::fields::{
-    push_address, push_closing, push_name, push_number, push_opening, push_register, push_signed,
+    push_address_field, push_closing, push_name_field, push_number_field, push_opening,
+    push_register_field, push_signed,
 };
 use rv_word::{Instr, Reg};
 use sfi_text::{branch_name, immediate_name, load_name, op_name, store_name};
@@ -15,16 +16,16 @@ use std::alloc::AllocError;
 pub(crate) const FUNCTION_MOST: u32 = 16384;
 
 /// Appends two registers.
-fn push_two(out: &mut String, first: Reg, second: Reg) -> Result<(), AllocError>
+fn push_two_registers(out: &mut String, first: Reg, second: Reg) -> Result<(), AllocError>
     ensures { OnOk result (string_bytes out.new
         ≡ string_bytes out.old ++ number_field first ++ number_field second) }
 {
-    push_register(out, first)?;
-    push_register(out, second)
+    push_register_field(out, first)?;
+    push_register_field(out, second)
 }
 
 /// Appends the line of a form with a name, two registers and a number.
-fn push_immediate(
+fn push_immediate_line(
     out: &mut String,
     name: &str,
     first: Reg,
@@ -34,15 +35,15 @@ fn push_immediate(
     ensures { OnOk result (string_bytes out.new ≡ string_bytes out.old ++ name_field name.now
         ++ number_field first ++ number_field second ++ signed_field number ++ closing) }
 {
-    push_name(out, name)?;
-    push_two(out, first, second)?;
+    push_name_field(out, name)?;
+    push_two_registers(out, first, second)?;
     push_signed(out, number)?;
     push_closing(out)
 }
 
 /// What stands after the form of a jump.
 #[tactic(auto, unfolding(crate::specs::Translation::far))]
-fn far(at: u32, to: u32) -> &'static str
+fn jump_suffix(at: u32, to: u32) -> &'static str
     ensures { result.now ≡ far at to }
 {
     if at / FUNCTION_MOST == to / FUNCTION_MOST {
@@ -54,16 +55,22 @@ fn far(at: u32, to: u32) -> &'static str
 
 /// Appends the opening of a jump's line.
 #[tactic(auto, unfolding(crate::specs::Translation::opening))]
-fn push_jump(out: &mut String, form: &str, at: u32, size: u32, to: u32) -> Result<(), AllocError>
+fn push_jump_opening(
+    out: &mut String,
+    form: &str,
+    at: u32,
+    size: u32,
+    to: u32,
+) -> Result<(), AllocError>
     ensures { OnOk result (string_bytes out.new
         ≡ string_bytes out.old ++ opening (form.now ++ far at to) at size) }
 {
     out.push_str(form)?;
-    push_opening(out, far(at, to), at, size)
+    push_opening(out, jump_suffix(at, to), at, size)
 }
 
 /// Appends the line of a lui or an auipc.
-fn push_upper(
+fn push_upper_line(
     out: &mut String,
     form: &str,
     at: u32,
@@ -75,13 +82,18 @@ fn push_upper(
         ++ opening form.now at size ++ number_field rd ++ number_field number ++ closing) }
 {
     push_opening(out, form, at, size)?;
-    push_register(out, rd)?;
-    push_number(out, number as usize)?;
+    push_register_field(out, rd)?;
+    push_number_field(out, number as usize)?;
     push_closing(out)
 }
 
 /// Appends the line of an instruction without fields.
-fn push_plain(out: &mut String, form: &str, at: u32, size: u32) -> Result<(), AllocError>
+fn push_line_without_fields(
+    out: &mut String,
+    form: &str,
+    at: u32,
+    size: u32,
+) -> Result<(), AllocError>
     ensures { OnOk result
         (string_bytes out.new ≡ string_bytes out.old ++ opening form.now at size ++ closing) }
 {
@@ -91,7 +103,7 @@ fn push_plain(out: &mut String, form: &str, at: u32, size: u32) -> Result<(), Al
 
 /// Appends the line of an instruction of that size at that address.
 #[tactic(auto, unfolding(crate::specs::Translation::line_text))]
-pub(crate) fn push_line(
+pub(crate) fn push_instruction_line(
     out: &mut String,
     at: u32,
     size: u32,
@@ -103,18 +115,18 @@ pub(crate) fn push_line(
     match *instr {
         Instr::Op { op, rd, rs1, rs2 } => {
             push_opening(out, "OP", at, size)?;
-            push_name(out, op_name(op))?;
-            push_register(out, rd)?;
-            push_two(out, rs1, rs2)?;
+            push_name_field(out, op_name(op))?;
+            push_register_field(out, rd)?;
+            push_two_registers(out, rs1, rs2)?;
             push_closing(out)
         }
         Instr::OpImm { op, rd, rs1, imm } => {
             push_opening(out, "OPI", at, size)?;
-            push_immediate(out, immediate_name(op), rd, rs1, imm)
+            push_immediate_line(out, immediate_name(op), rd, rs1, imm)
         }
         Instr::Load { kind, rd, rs1, imm } => {
             push_opening(out, "LOAD", at, size)?;
-            push_immediate(out, load_name(kind), rd, rs1, imm)
+            push_immediate_line(out, load_name(kind), rd, rs1, imm)
         }
         Instr::Store {
             width,
@@ -123,7 +135,7 @@ pub(crate) fn push_line(
             imm,
         } => {
             push_opening(out, "STORE", at, size)?;
-            push_immediate(out, store_name(width), rs1, rs2, imm)
+            push_immediate_line(out, store_name(width), rs1, rs2, imm)
         }
         Instr::Branch {
             cond,
@@ -132,29 +144,29 @@ pub(crate) fn push_line(
             offset,
         } => {
             let to = at.wrapping_add_signed(offset);
-            push_jump(out, "BRANCH", at, size, to)?;
-            push_name(out, branch_name(cond))?;
-            push_two(out, rs1, rs2)?;
-            push_address(out, to)?;
+            push_jump_opening(out, "BRANCH", at, size, to)?;
+            push_name_field(out, branch_name(cond))?;
+            push_two_registers(out, rs1, rs2)?;
+            push_address_field(out, to)?;
             push_closing(out)
         }
         Instr::Jal { rd, offset } => {
             let to = at.wrapping_add_signed(offset);
-            push_jump(out, "JAL", at, size, to)?;
-            push_register(out, rd)?;
-            push_address(out, to)?;
+            push_jump_opening(out, "JAL", at, size, to)?;
+            push_register_field(out, rd)?;
+            push_address_field(out, to)?;
             push_closing(out)
         }
         Instr::Jalr { rd, rs1, imm } => {
             push_opening(out, "JALR", at, size)?;
-            push_two(out, rd, rs1)?;
+            push_two_registers(out, rd, rs1)?;
             push_signed(out, imm)?;
             push_closing(out)
         }
-        Instr::Lui { rd, imm } => push_upper(out, "LUI", at, size, rd, imm),
-        Instr::Auipc { rd, imm } => push_upper(out, "AUIPC", at, size, rd, imm),
-        Instr::Fence { .. } => push_plain(out, "FENCE", at, size),
-        Instr::Ecall => push_plain(out, "ECALL", at, size),
-        Instr::Ebreak => push_plain(out, "EBREAK", at, size),
+        Instr::Lui { rd, imm } => push_upper_line(out, "LUI", at, size, rd, imm),
+        Instr::Auipc { rd, imm } => push_upper_line(out, "AUIPC", at, size, rd, imm),
+        Instr::Fence { .. } => push_line_without_fields(out, "FENCE", at, size),
+        Instr::Ecall => push_line_without_fields(out, "ECALL", at, size),
+        Instr::Ebreak => push_line_without_fields(out, "EBREAK", at, size),
     }
 }

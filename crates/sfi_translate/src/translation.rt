@@ -6,9 +6,9 @@ ghost use Rattle.sfi_translate.specs.Translation.{address_line};
 ghost use Rattle.sfi_translate.specs.Translation.{function_line, function_text, entry_text, head_text, sandbox_line, gate_line, data_line, last_line, IsUnitText, IsCodeText, IsSandboxText, IsTranslation};
 ghost use Rattle.sfi_translate.specs.private.{Adds, IsReadingText};
 
-use crate::entries::Entries;
-use crate::fields::{push_address, push_address_line, push_closing, push_number};
-use crate::lines::{FUNCTION_MOST, push_line};
+use crate::entries::ChosenUnits;
+use crate::fields::{push_address_field, push_address_line, push_closing, push_number_field};
+use crate::lines::{FUNCTION_MOST, push_instruction_line};
 use rv_comp::{Front, read_front};
 use sfi_formats::Format;
 use sfi_image::{Gate, Image, SandboxPart};
@@ -25,7 +25,7 @@ fn push_function_line(out: &mut String, sandbox: u32, at: u32) -> Result<(), All
         (string_bytes out.new ≡ string_bytes out.old ++ function_line sandbox at) }
 {
     write!(out, "FUNCTION({sandbox}")?;
-    push_address(out, at)?;
+    push_address_field(out, at)?;
     push_closing(out)
 }
 
@@ -47,7 +47,7 @@ fn push_function(out: &mut String, sandbox: u32, offset: usize, at: u32) -> Resu
 
 /// Appends the line of an entry, if the unit is one.
 #[tactic(auto, unfolding(crate::specs::Translation::entry_text))]
-fn push_entry(out: &mut String, chosen: bool, at: u32) -> Result<(), AllocError>
+fn push_entry_line(out: &mut String, chosen: bool, at: u32) -> Result<(), AllocError>
     ensures { OnOk result (string_bytes out.new ≡ string_bytes out.old ++ entry_text chosen at) }
 {
     if chosen {
@@ -78,7 +78,7 @@ fn push_reading(out: &mut String, address: u32, bytes: &[u8]) -> Result<(), Allo
         let rest = &bytes[at..];
         match read_front(rest) {
             Front::Read(instr, size) => {
-                push_line(out, address + at as u32, size, &instr)?;
+                push_instruction_line(out, address + at as u32, size, &instr)?;
                 at += size as usize;
             }
             Front::Short | Front::Bad => return Ok(()),
@@ -88,7 +88,7 @@ fn push_reading(out: &mut String, address: u32, bytes: &[u8]) -> Result<(), Allo
 }
 
 /// Appends the lines of the unit of that offset, at the address.
-fn push_unit(
+fn push_unit_lines(
     out: &mut String,
     sandbox: u32,
     offset: usize,
@@ -101,18 +101,18 @@ fn push_unit(
         (IsUnitText sandbox offset at bytes.now)) }
 {
     push_function(out, sandbox, offset, at)?;
-    push_entry(out, chosen, at)?;
+    push_entry_line(out, chosen, at)?;
     push_head(out, at)?;
     push_reading(out, at, bytes)
 }
 
 /// Appends the lines of a sandbox's code, unit by unit.
-fn push_code(
+fn push_code_lines(
     out: &mut String,
     format: Format,
     sandbox: u32,
     part: &SandboxPart,
-    entries: &Entries,
+    entries: &ChosenUnits,
 ) -> Result<(), AllocError>
     requires { IsRightPart (view format part.now) }
     ensures { OnOk result (Adds (string_bytes out.old) (string_bytes out.new)
@@ -124,14 +124,14 @@ fn push_code(
         let end = at + unit;
         let here = part.code_base + at as u32;
         let chosen = entries.has(here);
-        push_unit(out, sandbox, at, here, &part.code[at..end], chosen)?;
+        push_unit_lines(out, sandbox, at, here, &part.code[at..end], chosen)?;
         at = end;
     }
     Ok(())
 }
 
-/// Appends the line of a sandbox's fields.
-fn push_fields(
+/// Appends the line of a sandbox's fields, `SANDBOX(..)`.
+fn push_sandbox_line(
     out: &mut String,
     format: Format,
     sandbox: u32,
@@ -141,66 +141,67 @@ fn push_fields(
         ≡ string_bytes out.old ++ sandbox_line sandbox (view format part.now)) }
 {
     write!(out, "SANDBOX({sandbox}")?;
-    push_number(out, format.unit() as usize)?;
-    push_address(out, part.code_base)?;
-    push_number(out, part.code.len())?;
-    push_address(out, part.data_base)?;
-    push_number(out, part.data_size as usize)?;
-    push_address(out, part.start)?;
-    push_number(out, part.gates.len())?;
-    push_number(out, part.init.len())?;
+    push_number_field(out, format.unit() as usize)?;
+    push_address_field(out, part.code_base)?;
+    push_number_field(out, part.code.len())?;
+    push_address_field(out, part.data_base)?;
+    push_number_field(out, part.data_size as usize)?;
+    push_address_field(out, part.start)?;
+    push_number_field(out, part.gates.len())?;
+    push_number_field(out, part.init.len())?;
     push_closing(out)
 }
 
-/// Appends the line of a gate.
-fn push_gate(out: &mut String, gate: &Gate) -> Result<(), AllocError>
+/// Appends the translation's line of a gate, `GATE(ADDRESS, SERVICE)`, which
+/// `include/sfi_native.h` reads.
+fn push_gate_line(out: &mut String, gate: &Gate) -> Result<(), AllocError>
     ensures { OnOk result (string_bytes out.new ≡ string_bytes out.old ++ gate_line gate.now) }
 {
     out.push_str("GATE(")?;
     push_eight_digits(out, gate.address)?;
-    push_number(out, gate.service as usize)?;
+    push_number_field(out, gate.service as usize)?;
     push_closing(out)
 }
 
 /// Appends the line of a sandbox's first data.
-fn push_data(out: &mut String, sandbox: u32, bytes: &[u8]) -> Result<(), AllocError>
+fn push_data_line(out: &mut String, sandbox: u32, bytes: &[u8]) -> Result<(), AllocError>
     ensures { OnOk result
         (string_bytes out.new ≡ string_bytes out.old ++ data_line sandbox bytes.now) }
 {
     write!(out, "DATA({sandbox}")?;
     for byte in bytes {
-        push_number(out, *byte as usize)?;
+        push_number_field(out, *byte as usize)?;
     }
-    push_number(out, 0)?;
+    push_number_field(out, 0)?;
     push_closing(out)
 }
 
 /// Appends the line after a sandbox's code.
-fn push_last(out: &mut String) -> Result<(), AllocError>
+fn push_last_line(out: &mut String) -> Result<(), AllocError>
     ensures { OnOk result (string_bytes out.new ≡ string_bytes out.old ++ last_line) }
 {
     out.push_str("LAST\n")
 }
 
 /// Appends the lines of a sandbox.
-fn push_sandbox(
+fn push_sandbox_lines(
     out: &mut String,
     format: Format,
     sandbox: u32,
     part: &SandboxPart,
-    entries: &Entries,
+    entries: &ChosenUnits,
 ) -> Result<(), AllocError>
     requires { IsRightPart (view format part.now) }
     ensures { OnOk result (Adds (string_bytes out.old) (string_bytes out.new)
         (IsSandboxText sandbox (view format part.now))) }
 {
-    push_fields(out, format, sandbox, part)?;
+    push_sandbox_line(out, format, sandbox, part)?;
     for gate in &part.gates {
-        push_gate(out, gate)?;
+        push_gate_line(out, gate)?;
     }
-    push_data(out, sandbox, part.init)?;
-    push_code(out, format, sandbox, part, entries)?;
-    push_last(out)
+    push_data_line(out, sandbox, part.init)?;
+    push_code_lines(out, format, sandbox, part, entries)?;
+    push_last_line(out)
 }
 
 /// The translation of an image, as `include/sfi_native.h` reads it: for each sandbox a line of its
@@ -215,8 +216,8 @@ pub fn translation_text(alloc: Global, image: &Image<'_>) -> Result<String, Allo
     let mut out = String::new(alloc);
     let format = image.format();
     for (sandbox, part) in image.parts().iter().enumerate() {
-        let entries = Entries::of(alloc, format, part)?;
-        push_sandbox(&mut out, format, sandbox as u32, part, &entries)?;
+        let entries = ChosenUnits::of_sandbox(alloc, format, part)?;
+        push_sandbox_lines(&mut out, format, sandbox as u32, part, &entries)?;
     }
     Ok(out)
 }

@@ -6,7 +6,7 @@ ghost use Rattle.sfi_host.specs.Changing.{AreChanges};
 ghost use Rattle.sfi_host.specs.Loading.{AreEntered, HaveFirstData};
 ghost use Rattle.sfi_host.specs.Worlds.{IsSafeWorld};
 
-use crate::copying::copy_all;
+use crate::copying::copy_all_sandboxes;
 use crate::modules::Module;
 use crate::program::Program;
 use crate::sandbox::Sandbox;
@@ -27,8 +27,8 @@ pub enum AddError {
     Memory,
 }
 
-// The number of the first of some sandboxes more; `None` where their numbers would need more than
-// 32 bits.
+/// The number of the first of some sandboxes more; `None` where their numbers would need more than
+/// 32 bits.
 fn first_number(there: usize, more: usize) -> Option<u32>
     requires { 0 < more }
     ensures number { IfSome result (λ first. first ≡ there) }
@@ -41,7 +41,7 @@ fn first_number(there: usize, more: usize) -> Option<u32>
     Some(there as u32)
 }
 
-// Appends sandboxes and their programs, or neither if an allocation is refused.
+/// Appends sandboxes and their programs, or neither if an allocation is refused.
 fn append_both(
     sandboxes: &mut Vec<Sandbox>,
     programs: &mut Vec<Arc<Program>>,
@@ -103,7 +103,7 @@ impl<M: Memory> World<M> {
         }
     }
 
-    // Adds sandboxes that meet none of the world's.
+    /// Adds sandboxes that meet none of the world's.
     fn extend(&mut self, alloc: Global, module: &Module, memory: M) -> Result<(), AllocError>
         requires apart { MeetsSome self.old module.now → ⊥ }
         requires empty { M.bytes memory ≡ empty }
@@ -116,7 +116,7 @@ impl<M: Memory> World<M> {
         ensures safe { IsSafeWorld self.new }
     {
         let mut memory = memory;
-        copy_all(alloc, &self.sandboxes, &self.memory, &mut memory)?;
+        copy_all_sandboxes(alloc, &self.sandboxes, &self.memory, &mut memory)?;
         let sandboxes = module.load(alloc, &mut memory)?;
         let programs = module.programs(alloc)?;
         append_both(&mut self.sandboxes, &mut self.programs, sandboxes, programs)?;

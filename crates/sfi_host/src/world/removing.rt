@@ -5,7 +5,7 @@ ghost use Rattle.sfi_host.specs.Adding.{without, RestIsSame, AreChangesToRest};
 ghost use Rattle.sfi_host.specs.Owning.{AreOwned};
 ghost use Rattle.sfi_host.specs.Worlds.{slots_of, IsSafeWorld};
 
-use crate::copying::copy_others;
+use crate::copying::copy_other_sandboxes;
 use crate::world::World;
 use rv_mem::Memory;
 use std::alloc::{AllocError, Global};
@@ -52,7 +52,7 @@ impl<M: Memory> World<M> {
         }
     }
 
-    // Goes on without one of the sandboxes.
+    /// Goes on without one of the sandboxes.
     fn leave_out(&mut self, alloc: Global, place: usize, memory: M) -> Result<(), AllocError>
         requires there { place < length self.old.seats }
         requires empty { M.bytes memory ≡ empty }
@@ -64,7 +64,7 @@ impl<M: Memory> World<M> {
         ensures safe { IsSafeWorld self.new }
     {
         let mut memory = memory;
-        copy_others(alloc, &self.sandboxes, place, &self.memory, &mut memory)?;
+        copy_other_sandboxes(alloc, &self.sandboxes, place, &self.memory, &mut memory)?;
         self.sandboxes.remove(place);
         self.programs.remove(place);
         self.memory = memory;

@@ -2,7 +2,7 @@
 use super::images::{C_EBREAK, C_NOP, EBREAK, HEAD, SFI1, SFI2, SFIW, bytes_of};
 use sfi_check::{Feed, Refusal, StreamAnswer, check, check_stream};
 use sfi_formats::Format;
-use sfi_image::Reading;
+use sfi_image::ReaderSource;
 use sfi_scan::{Finding, Rule};
 use std::alloc::Global;
 use std::test::Fail;
@@ -283,7 +283,7 @@ fn fed(bytes: &[u8]) -> StreamAnswer {
 // All three checks find this in an image of one sandbox and 16 bundles, and nothing else.
 fn is_found(alloc: Global, bytes: &[u8], finding: Option<Finding>) -> bool {
     let mut reader = bytes;
-    let mut source = Reading::new(&mut reader);
+    let mut source = ReaderSource::new(&mut reader);
     let streamed = check_stream(&mut source);
     if fed(bytes) != streamed {
         return false;

@@ -1,6 +1,6 @@
 //! Images made of pieces, and images cut short.
 use sfi_check::{Refusal, StreamAnswer, check, check_stream};
-use sfi_image::{LayoutFault, Reading};
+use sfi_image::{LayoutFault, ReaderSource};
 use std::alloc::{AllocError, Global};
 use std::test::Fail;
 
@@ -59,7 +59,7 @@ pub(super) fn bytes_of(alloc: Global, pieces: &[(&str, usize)]) -> Result<Vec<u8
 // Both checks answer that the bytes are cut short.
 fn is_short(alloc: Global, bytes: &[u8]) -> bool {
     let mut reader = bytes;
-    let mut source = Reading::new(&mut reader);
+    let mut source = ReaderSource::new(&mut reader);
     check_stream(&mut source) == StreamAnswer::Layout(LayoutFault::Short)
         && matches!(
             check(alloc, bytes),

@@ -45,7 +45,7 @@ fn push_mask_after(slots: &mut Expansion, written: Reg)
 }
 
 /// The base on which an access on `a` is made: a data register itself, x26 for x0, or else x29.
-fn base_of(a: Reg) -> Reg
+fn access_base(a: Reg) -> Reg
     ensures { result ≡ base_of a }
 {
     if is_data_register(a) {
@@ -88,7 +88,7 @@ fn confined(rvc: bool, instr: &Instr) -> BundleSlot
 {
     match *instr {
         Instr::Load { kind, rd, rs1, imm } => {
-            let rs1 = base_of(rs1);
+            let rs1 = access_base(rs1);
             alone(rvc, &Instr::Load { kind, rd, rs1, imm })
         }
         Instr::Store {
@@ -97,7 +97,7 @@ fn confined(rvc: bool, instr: &Instr) -> BundleSlot
             rs2,
             imm,
         } => {
-            let rs1 = base_of(rs1);
+            let rs1 = access_base(rs1);
             alone(
                 rvc,
                 &Instr::Store {
@@ -188,7 +188,7 @@ fn around(rvc: bool, step: bool, instr: &Instr) -> Expansion
 }
 
 /// The expansion of an instruction that names no label.
-fn of_plain(rvc: bool, step: bool, instr: &Instr) -> Expansion
+fn expand_without_name_in_words(rvc: bool, step: bool, instr: &Instr) -> Expansion
     ensures { IsPlainExpansion rvc step instr.now result }
 {
     if is_move(instr) && !step {
@@ -201,7 +201,7 @@ fn of_plain(rvc: bool, step: bool, instr: &Instr) -> Expansion
 fn of_part(part: BundleSlot, rd: Reg) -> Expansion
     ensures { result ≡ part ∷ mask_after (Some rd) }
 {
-    let mut slots = Expansion::of(&[part]);
+    let mut slots = Expansion::from_slots(&[part]);
     push_mask_after(&mut slots, rd);
     slots
 }
@@ -215,7 +215,7 @@ fn is_small(imm: i32) -> bool
 
 /// Whether the instruction is a load, other than into x0, or a store on the register with an offset
 /// from -1020 to 1020.
-fn is_use(register: Reg, instr: &Instr) -> bool
+fn is_access_on(register: Reg, instr: &Instr) -> bool
     ensures { result ≡ is_use register instr.now }
 {
     match *instr {
@@ -242,7 +242,7 @@ fn is_step_to(body: &Body, next: &Body) -> bool
                 },
             ),
             Body::Plain(instr),
-        ) => is_data_register(*rd) && rs1.number() == rd.number() && is_use(*rd, instr),
+        ) => is_data_register(*rd) && rs1.number() == rd.number() && is_access_on(*rd, instr),
         _ => false,
     }
 }
@@ -258,13 +258,17 @@ fn is_step_before_use(item: &Item, later: &[Item]) -> bool
 }
 
 /// The expansion of an item that stands before `later`.
-pub(crate) fn expand(item: &Item, later: &[Item]) -> Expansion
+pub(crate) fn expand_in_words(item: &Item, later: &[Item]) -> Expansion
     ensures { IsExpansion item.now later.now result }
 {
     let line = item.line;
     match item.body {
-        Body::Plain(ref instr) => of_plain(item.rvc, is_step_before_use(item, later), instr),
-        Body::To(instr, name) => Expansion::of(&[BundleSlot::Jump { instr, name, line }]),
+        Body::Plain(ref instr) => expand_without_name_in_words(
+            item.rvc,
+            is_step_before_use(item, later),
+            instr,
+        ),
+        Body::To(instr, name) => Expansion::from_slots(&[BundleSlot::Jump { instr, name, line }]),
         Body::High(rd, name) => of_part(BundleSlot::Upper { rd, name, line }, rd),
         Body::Low(rd, name) => of_part(BundleSlot::Lower { rd, name, line }, rd),
         Body::Base(rd, name) => of_part(BundleSlot::Region { rd, name, line }, rd),

@@ -9,14 +9,14 @@ use crate::fault::RewriteFault;
 use crate::item::permit;
 use crate::laid_items::Laid;
 use crate::slot::BundleSlot;
-use crate::words::expansion::expand;
-use crate::words::filled::WordFilling;
+use crate::words::expansion::expand_in_words;
+use crate::words::filling::WordFilling;
 use sfi_formats::Format;
 use sfi_source::Item;
 use std::alloc::{AllocError, Global};
 
 /// Adds slots to the code of sandbox `sandbox`, each where it has room.
-fn push_slots(
+fn fill_slots(
     sandbox: u32,
     slots: &[BundleSlot],
     code: &mut WordFilling,
@@ -45,7 +45,7 @@ fn end_before(label: bool, code: &mut WordFilling) -> Result<(), AllocError>
 }
 
 /// Adds an item that stands before `later` to the code of sandbox `sandbox`.
-fn lay_item(
+fn lay_item_in_words(
     sandbox: u32,
     item: &Item,
     later: &[Item],
@@ -57,9 +57,9 @@ fn lay_item(
     ensures refused { IfErr result
         (UnlessMemory (HasNoRoom sandbox item.now later.now code.old)) }
 {
-    let expansion = expand(item, later);
+    let expansion = expand_in_words(item, later);
     end_before(item.labelled, code)?;
-    push_slots(sandbox, expansion.slots(), code)
+    fill_slots(sandbox, expansion.slots(), code)
 }
 
 /// The items after item `number`.
@@ -86,12 +86,12 @@ pub(crate) fn lay_in_words(
         labels.push(code.place())?;
         permit(Format::Sfiw, item)?;
         let later = items_after(items, number);
-        lay_item(sandbox, item, later, &mut code)?;
+        lay_item_in_words(sandbox, item, later, &mut code)?;
     }
     labels.push(code.place())?;
     code.end_word()?;
     Ok(Laid {
-        code: code.finish(),
+        code: code.into_words(),
         labels,
     })
 }

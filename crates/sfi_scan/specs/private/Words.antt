@@ -23,22 +23,22 @@ use Rattle.sfi_rules.specs.declared.owed.Owed.TheVariants.{Nothing}
 -- ==== The first look at a word of code in words.
 
 -- the register is reserved or typed
-abbrev pub is_kept : ℕ → Bool
-is_kept r = is_reserved r || is_data_register r || (r == code_register) || (r == offset_register)
+abbrev pub is_reserved_or_typed : ℕ → Bool
+is_reserved_or_typed r = is_reserved r || is_data_register r || (r == code_register) || (r == offset_register)
 
 -- an instruction with this outline at the address, before which nothing is owed, breaks none of V3
 -- to V7 and V10 to V12, and leaves nothing owed
-abbrev pub is_plain : BundlePlace → ℕ → Outline → Bool
-is_plain b at (Computes rd) = not (is_kept rd)
-is_plain b at (Loads rd base) = not (is_kept rd) && may_access base
-is_plain b at (Stores base) = may_access base
-is_plain b at (Branches offset) = is_word_start b.code_base b.code_size (offset_by at offset)
-is_plain b at (Jumps rd offset) =
-    not (is_kept rd) && is_word_start b.code_base b.code_size (offset_by at offset)
-is_plain b at (JumpsTo rd base imm) = not (is_kept rd) && (is_zero imm && (base == code_register))
-is_plain b at Orders = true
-is_plain b at Calls = false
-is_plain b at Stops = true
+abbrev pub is_clean_alone : BundlePlace → ℕ → Outline → Bool
+is_clean_alone b at (Computes rd) = not (is_reserved_or_typed rd)
+is_clean_alone b at (Loads rd base) = not (is_reserved_or_typed rd) && may_access base
+is_clean_alone b at (Stores base) = may_access base
+is_clean_alone b at (Branches offset) = is_word_start b.code_base b.code_size (offset_by at offset)
+is_clean_alone b at (Jumps rd offset) =
+    not (is_reserved_or_typed rd) && is_word_start b.code_base b.code_size (offset_by at offset)
+is_clean_alone b at (JumpsTo rd base imm) = not (is_reserved_or_typed rd) && (is_zero imm && (base == code_register))
+is_clean_alone b at Orders = true
+is_clean_alone b at Calls = false
+is_clean_alone b at Stops = true
 
 -- `size` bytes from address `at` on end before the code region does
 abbrev pub IsBeforeEnd : BundlePlace → ℕ → ℕ → Type 0
@@ -61,10 +61,10 @@ pub record IsQuietThere (b : BundlePlace) (at : ℕ) (owed : Owed) (word : ℕ) 
   pub quiet : IsQuiet b at 4 owed instr next
 
 -- the halfword spells an instruction that is plain at the address
-pub record IsPlainHalf (b : BundlePlace) (at half : ℕ) : Type 0 where
+pub record IsCleanHalfAlone (b : BundlePlace) (at half : ℕ) : Type 0 where
   pub instr : Instr
   pub spelled : IsShortSpelling half instr
-  pub plain : is_plain b at (outline instr) ≡ true
+  pub plain : is_clean_alone b at (outline instr) ≡ true
 
 -- ==== The first look at a block of eight bundles of code in words, of whose 64 halfwords a mask
 -- has a bit each. A word goes by its first halfword.

@@ -9,10 +9,10 @@ ghost use Rattle.sfi_rules.specs.Readings.{IsWithinBlock};
 ghost use Rattle.sfi_rules.specs.declared.owed.Owed.TheVariants.{Nothing};
 ghost use Rattle.sfi_scan.specs.private.Words.{IsToldFree, IsQuietWord, IsSteppedWord, IsSeen, IsCleanWord, AreCleanWords, IsMasking, IsPlacing, IsPair, IsPairAt, IsStepOf, IsOffset, is_dropped, IsUseOf, IsUsedStep};
 
-use crate::block::{EVEN, bundle_at, without};
+use crate::block::{EVEN, bits_without, bundle_at};
 use crate::clean::word_at;
 use crate::findings::BundleFindings;
-use crate::words::look::is_plain_word;
+use crate::words::look::is_clean_jump_word;
 use crate::words::word::scan_word;
 use rv_word::{Reg, access32};
 use sfi_masks::{BLOCK_BYTES, Masks, word_masks_of};
@@ -49,13 +49,13 @@ fn not_free(masks: Masks) -> u64
     ensures words { (i : ℕ) → i < 64 → is_in result i ≡ true → i % 2 ≡ 0 }
     ensures free { (n : ℕ) → n < 32 → is_in result (2 * n) ≡ false → IsToldFree masks (2 * n) }
 {
-    let short = without(masks.free, masks.long);
-    without(EVEN, masks.free & (masks.long | short >> 1))
+    let short = bits_without(masks.free, masks.long);
+    bits_without(EVEN, masks.free & (masks.long | short >> 1))
 }
 
-/// Whether the word is `and x31, a, x27`.
+/// Whether the word is `and x31, a, x27` for some `a`.
 #[inline(always)]
-fn is_masking(word: u32) -> bool
+fn is_any_data_masking_word(word: u32) -> bool
     ensures { OnTrue result (IsMasking word) }
 {
     word & !OPERAND == MASKING
@@ -63,7 +63,7 @@ fn is_masking(word: u32) -> bool
 
 /// Whether the word is `or d, x31, x26`, where d is a data register.
 #[inline(always)]
-fn is_placing(word: u32) -> bool
+fn is_any_data_placing_word(word: u32) -> bool
     ensures { OnTrue result (IsPlacing word) }
 {
     if word & !DESTINATION != PLACING {
@@ -74,11 +74,11 @@ fn is_placing(word: u32) -> bool
 
 /// Whether the words are a pair: of data, or `and x30, a, x25` and `or x30, x30, x24`.
 #[inline(always)]
-fn is_pair(first: u32, second: u32) -> bool
+fn are_pair_words(first: u32, second: u32) -> bool
     ensures { OnTrue result (IsPair first second) }
 {
-    if is_masking(first) {
-        return is_placing(second);
+    if is_any_data_masking_word(first) {
+        return is_any_data_placing_word(second);
     }
     if first & !OPERAND != CODE_MASKING {
         return false;
@@ -98,7 +98,7 @@ fn pairs_in(block: &[u8; BLOCK_BYTES], words: u64) -> u64
         let i = rest.trailing_zeros() as usize;
         let first = word_at(block, 2 * i);
         let second = word_at(block, 2 * i + 4);
-        if is_pair(first, second) {
+        if are_pair_words(first, second) {
             pairs |= 1 << i;
         }
         rest &= rest - 1;
@@ -180,7 +180,7 @@ fn used_steps(block: &[u8; BLOCK_BYTES], free: u64, words: u64) -> u64
     ensures apart { (i : ℕ) → is_in result i ≡ true → is_in words (i + 2) ≡ false }
 {
     let mut steps = 0;
-    let mut rest = without(words & free >> 2, words >> 2);
+    let mut rest = bits_without(words & free >> 2, words >> 2);
     while rest != 0 {
         let i = rest.trailing_zeros() as usize;
         let word = word_at(block, 2 * i);
@@ -195,7 +195,7 @@ fn used_steps(block: &[u8; BLOCK_BYTES], free: u64, words: u64) -> u64
 
 /// Whether the word at halfword `i` jumps or branches and breaks no rule.
 #[inline(always)]
-fn is_plain_at(place: &BundlePlace, block: &[u8; BLOCK_BYTES], i: usize) -> bool
+fn is_clean_jump_at(place: &BundlePlace, block: &[u8; BLOCK_BYTES], i: usize) -> bool
     requires within { IsWithinBlock place.now }
     requires word { i % 2 ≡ 0 }
     requires inside { i < 64 }
@@ -203,12 +203,12 @@ fn is_plain_at(place: &BundlePlace, block: &[u8; BLOCK_BYTES], i: usize) -> bool
 {
     let bundle = bundle_at(place, i / 8);
     let address = place.address + 2 * i as u32;
-    is_plain_word(&bundle, address, word_at(block, 2 * i))
+    is_clean_jump_word(&bundle, address, word_at(block, 2 * i))
 }
 
 /// The bits of `words` that jump or branch and break no rule.
 #[inline(always)]
-fn plain_words(place: &BundlePlace, block: &[u8; BLOCK_BYTES], words: u64) -> u64
+fn clean_jumps(place: &BundlePlace, block: &[u8; BLOCK_BYTES], words: u64) -> u64
     requires within { IsWithinBlock place.now }
     requires words { (i : ℕ) → i < 64 → is_in words i ≡ true → i % 2 ≡ 0 }
     ensures { (i : ℕ) → is_in result i ≡ true → IsCleanWord place.now block.now i Nothing Nothing }
@@ -217,7 +217,7 @@ fn plain_words(place: &BundlePlace, block: &[u8; BLOCK_BYTES], words: u64) -> u6
     let mut rest = words;
     while rest != 0 {
         let i = rest.trailing_zeros() as usize;
-        if is_plain_at(place, block, i) {
+        if is_clean_jump_at(place, block, i) {
             plain |= 1 << i;
         }
         rest &= rest - 1;
@@ -228,7 +228,7 @@ fn plain_words(place: &BundlePlace, block: &[u8; BLOCK_BYTES], words: u64) -> u6
 /// The bits of `words` that aren't seen to be clean, by themselves or with the next word. `free`
 /// has the free instructions of 32 bits.
 #[inline(always)]
-fn unseen(place: &BundlePlace, block: &[u8; BLOCK_BYTES], words: u64, free: u64) -> u64
+fn doubtful_words(place: &BundlePlace, block: &[u8; BLOCK_BYTES], words: u64, free: u64) -> u64
     requires within { IsWithinBlock place.now }
     requires words { (i : ℕ) → i < 64 → is_in words i ≡ true → i % 2 ≡ 0 }
     requires quiet { (n : ℕ) → n < 32 → is_in words (2 * n) ≡ false → IsQuietWord block.now (2 * n) }
@@ -239,14 +239,14 @@ fn unseen(place: &BundlePlace, block: &[u8; BLOCK_BYTES], words: u64, free: u64)
         IsSeen place.now block.now result (2 * n) }
 {
     let pairs = pairs_in(block, words);
-    let others = without(words, pairs | pairs << 2);
-    let rest = without(others, used_steps(block, free, others));
-    without(rest, plain_words(place, block, rest))
+    let others = bits_without(words, pairs | pairs << 2);
+    let rest = bits_without(others, used_steps(block, free, others));
+    bits_without(rest, clean_jumps(place, block, rest))
 }
 
 /// What is owed after the word at halfword `i`, if it breaks no rule with `owed` before it.
 #[inline(never)]
-fn after_word(
+fn after_scanned_word(
     place: &BundlePlace,
     block: &[u8; BLOCK_BYTES],
     i: usize,
@@ -271,7 +271,7 @@ fn after_word(
 
 /// The first set bit of `words` from bit `at` on, or 64.
 #[inline(always)]
-fn first_from(words: u64, at: usize) -> usize
+fn first_word_from(words: u64, at: usize) -> usize
     requires { at < 64 }
     ensures from { at ≤ result }
     ensures end { result ≤ 64 }
@@ -285,10 +285,10 @@ fn first_from(words: u64, at: usize) -> usize
     at + ahead.trailing_zeros() as usize
 }
 
-/// The next word to look at: `at` if something is owed, else the first set bit of `words` from
-/// there on.
+/// The halfword at which the next word to look at begins: `at` if something is owed, else the first
+/// set bit of `words` from there on, or 64 where there is none.
 #[inline(always)]
-fn next_of(words: u64, at: usize, owed: Owed) -> usize
+fn next_word_from(words: u64, at: usize, owed: Owed) -> usize
     requires { at < 64 }
     ensures from { at ≤ result }
     ensures end { result ≤ 64 }
@@ -297,7 +297,7 @@ fn next_of(words: u64, at: usize, owed: Owed) -> usize
     ensures skipped { (result ≡ at) ⊎ (owed ≡ Nothing) }
 {
     if matches!(owed, Owed::Nothing) {
-        first_from(words, at)
+        first_word_from(words, at)
     } else {
         at
     }
@@ -324,11 +324,11 @@ fn after_words(
     let mut left = owed;
     let mut at = 2 * from;
     while at < 64 {
-        let i = next_of(words, at, left);
+        let i = next_word_from(words, at, left);
         if i == 64 {
             return Some(left);
         }
-        left = after_word(place, block, i, left, findings)?;
+        left = after_scanned_word(place, block, i, left, findings)?;
         at = i + 2;
     }
     Some(left)
@@ -366,6 +366,6 @@ pub(crate) fn look_at_block(
     // A copy, so that the place isn't put together in memory where it isn't needed.
     let there = *place;
     let free = masks.free & masks.long;
-    let left = unseen(&there, block, words, free);
+    let left = doubtful_words(&there, block, words, free);
     after_words(&there, block, left, from, owed, findings)
 }

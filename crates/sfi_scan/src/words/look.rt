@@ -15,12 +15,12 @@ ghost use Rattle.sfi_rules.specs.Readings.{IsWithin};
 ghost use Rattle.sfi_rules.specs.declared.owed.Owed.TheVariants.{Nothing, MaskOrUse};
 ghost use Rattle.sfi_rules.specs.words.Findings.{IsWordFound};
 ghost use Rattle.sfi_scan.specs.private.Blocks.{is_zero};
-ghost use Rattle.sfi_scan.specs.private.Words.{is_kept, is_plain, IsQuietThere, IsBeforeEnd, IsPlainHalf};
+ghost use Rattle.sfi_scan.specs.private.Words.{is_reserved_or_typed, is_clean_alone, IsQuietThere, IsBeforeEnd, IsCleanHalfAlone};
 
 use crate::clean::{half_at, word_at};
 use crate::rules::offset_by;
 use crate::words::owed::owed_by;
-use crate::words::rules::{is_word_start, may_access, uses};
+use crate::words::rules::{is_access_base, is_use_after_step, is_word_start};
 use rv_comp::outline16;
 use rv_word::{
     Outline, Reg, RegOp, access32, computes32, decode32, op_word, outline_of, outline32,
@@ -33,8 +33,8 @@ use sfi_rules::{BundlePlace, Owed};
 
 /// Whether the register is reserved or typed: a write of it has rules of its own.
 #[inline(always)]
-fn is_kept(reg: Reg) -> bool
-    ensures { result ≡ is_kept reg }
+fn is_reserved_or_typed(reg: Reg) -> bool
+    ensures { result ≡ is_reserved_or_typed reg }
 {
     is_reserved(reg)
         || is_data_register(reg)
@@ -42,15 +42,16 @@ fn is_kept(reg: Reg) -> bool
         || reg.number() == OFFSET_REGISTER
 }
 
-/// Whether an indirect jump breaks no rule, and leaves nothing owed.
+/// Whether `jalr rd, imm(base)` of code in words, before which nothing is owed, is seen to break no
+/// rule: `imm` is 0, `base` is x30, and `rd` is neither reserved nor typed.
 #[inline(always)]
-fn is_plain_jump(rd: Reg, base: Reg, imm: i32) -> bool
-    ensures { OnTrue result ((not (is_kept rd) && (is_zero imm && (base == 30))) ≡ true) }
+fn is_clean_indirect_jump_in_words(rd: Reg, base: Reg, imm: i32) -> bool
+    ensures { OnTrue result ((not (is_reserved_or_typed rd) && (is_zero imm && (base == 30))) ≡ true) }
 {
     if imm != 0 {
         return false;
     }
-    if is_kept(rd) {
+    if is_reserved_or_typed(rd) {
         return false;
     }
     base.number() == CODE_REGISTER
@@ -59,19 +60,19 @@ fn is_plain_jump(rd: Reg, base: Reg, imm: i32) -> bool
 /// Whether an instruction with this outline, before which nothing is owed, breaks no rule but
 /// perhaps at the region's end, and leaves nothing owed.
 #[inline(always)]
-fn is_plain(place: &BundlePlace, address: u32, outline: Outline) -> bool
+fn is_clean_alone(place: &BundlePlace, address: u32, outline: Outline) -> bool
     requires { IsWithin place.now }
-    ensures { OnTrue result (is_plain place.now address outline ≡ true) }
+    ensures { OnTrue result (is_clean_alone place.now address outline ≡ true) }
 {
     match outline {
-        Outline::Computes { rd } => !is_kept(rd),
-        Outline::Loads { rd, base } => !is_kept(rd) && may_access(base),
-        Outline::Stores { base } => may_access(base),
+        Outline::Computes { rd } => !is_reserved_or_typed(rd),
+        Outline::Loads { rd, base } => !is_reserved_or_typed(rd) && is_access_base(base),
+        Outline::Stores { base } => is_access_base(base),
         Outline::Branches { offset } => is_word_start(place, offset_by(address, offset)),
         Outline::Jumps { rd, offset } => {
-            !is_kept(rd) && is_word_start(place, offset_by(address, offset))
+            !is_reserved_or_typed(rd) && is_word_start(place, offset_by(address, offset))
         }
-        Outline::JumpsTo { rd, base, imm } => is_plain_jump(rd, base, imm),
+        Outline::JumpsTo { rd, base, imm } => is_clean_indirect_jump_in_words(rd, base, imm),
         Outline::Orders | Outline::Stops => true,
         Outline::Calls => false,
     }
@@ -93,7 +94,7 @@ fn rs1_of(word: u32) -> Reg {
 
 /// Whether the word is `and x31, a, x27`.
 #[inline(always)]
-fn is_masking(a: Reg, word: u32) -> bool
+fn is_data_masking_word(a: Reg, word: u32) -> bool
     ensures { OnTrue result (IsWordOf word (Op And 31 a 27)) }
 {
     let target = Reg::numbered(OFFSET_REGISTER);
@@ -102,7 +103,7 @@ fn is_masking(a: Reg, word: u32) -> bool
 
 /// Whether the word is `or d, x31, x26`, and d is a data register.
 #[inline(always)]
-fn is_placing(d: Reg, word: u32) -> bool
+fn is_data_placing_word(d: Reg, word: u32) -> bool
     ensures word { OnTrue result (IsWordOf word (Op Or d 31 26)) }
     ensures data { OnTrue result (is_data_register d ≡ true) }
 {
@@ -135,10 +136,10 @@ fn after_kept(word: u32) -> Option<Owed>
         IfSome result (IsQuietThere b at Nothing word) }
 {
     let rd = rd_of(word);
-    if is_masking(rs1_of(word), word) {
+    if is_data_masking_word(rs1_of(word), word) {
         return Some(Owed::Nothing);
     }
-    if is_placing(rd, word) {
+    if is_data_placing_word(rd, word) {
         return Some(Owed::Nothing);
     }
     if is_data_register(rd) || rd.number() == CODE_REGISTER {
@@ -150,14 +151,14 @@ fn after_kept(word: u32) -> Option<Owed>
 /// Whether a word with this outline breaks no rule, and leaves nothing owed, where nothing is owed
 /// before it.
 #[inline(always)]
-fn is_plain_by(place: &BundlePlace, address: u32, outline: Option<Outline>) -> bool
+fn is_known_clean_alone(place: &BundlePlace, address: u32, outline: Option<Outline>) -> bool
     requires within { IsWithin place.now }
     requires before_end { IsBeforeEnd place.now address 4 }
     ensures { (word : ℕ) → IfSome outline (IsWordThat word) →
         OnTrue result (IsQuietThere place.now address Nothing word Nothing) }
 {
     match outline {
-        Some(outline) => is_plain(place, address, outline),
+        Some(outline) => is_clean_alone(place, address, outline),
         None => false,
     }
 }
@@ -165,15 +166,15 @@ fn is_plain_by(place: &BundlePlace, address: u32, outline: Option<Outline>) -> b
 /// Whether the word jumps or branches, breaks no rule, and leaves nothing owed, where nothing is
 /// owed before it. A call for each opcode, so that the compiler drops outlines that it cannot have.
 #[inline(always)]
-pub(crate) fn is_plain_word(place: &BundlePlace, address: u32, word: u32) -> bool
+pub(crate) fn is_clean_jump_word(place: &BundlePlace, address: u32, word: u32) -> bool
     requires within { IsWithin place.now }
     requires before_end { IsBeforeEnd place.now address 4 }
     ensures { OnTrue result (IsQuietThere place.now address Nothing word Nothing) }
 {
     match word & 0b111_1111 {
-        0b110_0011 => is_plain_by(place, address, outline32(word)),
-        0b110_0111 => is_plain_by(place, address, outline32(word)),
-        0b110_1111 => is_plain_by(place, address, outline32(word)),
+        0b110_0011 => is_known_clean_alone(place, address, outline32(word)),
+        0b110_0111 => is_known_clean_alone(place, address, outline32(word)),
+        0b110_1111 => is_known_clean_alone(place, address, outline32(word)),
         _ => false,
     }
 }
@@ -187,7 +188,7 @@ fn after_outline(place: &BundlePlace, address: u32, word: u32) -> Option<Owed>
     let Some(outline) = outline32(word) else {
         return None;
     };
-    if !is_plain(place, address, outline) {
+    if !is_clean_alone(place, address, outline) {
         return None;
     }
     Some(Owed::Nothing)
@@ -202,10 +203,10 @@ fn after_other(place: &BundlePlace, address: u32, word: u32) -> Option<Owed>
 {
     match access32(word) {
         Some(access) => {
-            if is_kept(access.written) {
+            if is_reserved_or_typed(access.written) {
                 return None;
             }
-            if !may_access(access.base) {
+            if !is_access_base(access.base) {
                 return None;
             }
             Some(Owed::Nothing)
@@ -222,7 +223,7 @@ fn after_nothing(place: &BundlePlace, address: u32, word: u32) -> Option<Owed>
     ensures { IfSome result (IsQuietThere place.now address Nothing word) }
 {
     if computes32(word) {
-        if is_kept(rd_of(word)) {
+        if is_reserved_or_typed(rd_of(word)) {
             return after_kept(word);
         }
         return Some(Owed::Nothing);
@@ -231,18 +232,18 @@ fn after_nothing(place: &BundlePlace, address: u32, word: u32) -> Option<Owed>
 }
 
 /// Whether the word is `and x31, d, x27`.
-fn is_masking_of(d: u8, word: u32) -> bool
+fn is_data_masking_word_of(d: u8, word: u32) -> bool
     ensures { OnTrue result (IsWordOf word (Op And 31 d 27)) }
 {
     let a = rs1_of(word);
     if a.number() != d {
         return false;
     }
-    is_masking(a, word)
+    is_data_masking_word(a, word)
 }
 
 /// Whether the word is `or d, x31, x26`, and d is a data register.
-fn is_placing_of(d: u8, word: u32) -> bool
+fn is_data_placing_word_of(d: u8, word: u32) -> bool
     ensures word { OnTrue result (IsWordOf word (Op Or d 31 26)) }
     ensures data { OnTrue result (is_data_register d ≡ true) }
 {
@@ -250,11 +251,11 @@ fn is_placing_of(d: u8, word: u32) -> bool
     if rd.number() != d {
         return false;
     }
-    is_placing(rd, word)
+    is_data_placing_word(rd, word)
 }
 
 /// Whether the word is `or x30, x30, x24`.
-fn is_placing_code(word: u32) -> bool
+fn is_code_placing_word(word: u32) -> bool
     ensures { OnTrue result (IsWordOf word (Op Or 30 30 24)) }
 {
     let code = Reg::numbered(CODE_REGISTER);
@@ -262,7 +263,7 @@ fn is_placing_code(word: u32) -> bool
 }
 
 /// Whether the word loads or stores on register d after its step, and breaks no rule.
-fn is_use(place: &BundlePlace, address: u32, d: u8, word: u32) -> bool
+fn is_clean_use(place: &BundlePlace, address: u32, d: u8, word: u32) -> bool
     requires within { IsWithin place.now }
     requires before_end { IsBeforeEnd place.now address 4 }
     ensures { OnTrue result (IsQuietThere place.now address (MaskOrUse d) word Nothing) }
@@ -270,10 +271,10 @@ fn is_use(place: &BundlePlace, address: u32, d: u8, word: u32) -> bool
     let Some(instr) = decode32(word) else {
         return false;
     };
-    if !uses(d, &instr) {
+    if !is_use_after_step(d, &instr) {
         return false;
     }
-    is_plain(place, address, outline_of(instr))
+    is_clean_alone(place, address, outline_of(instr))
 }
 
 /// What is owed after a word before which `owed`, which isn't nothing, is owed.
@@ -286,28 +287,28 @@ fn after_owed(place: &BundlePlace, address: u32, owed: Owed, word: u32) -> Optio
     match owed {
         Owed::Nothing => None,
         Owed::Mask(d) => {
-            if !is_masking_of(d, word) {
+            if !is_data_masking_word_of(d, word) {
                 return None;
             }
             Some(Owed::PlaceOnly(d))
         }
         Owed::PlaceOnly(d) => {
-            if !is_placing_of(d, word) {
+            if !is_data_placing_word_of(d, word) {
                 return None;
             }
             Some(Owed::Nothing)
         }
         Owed::MaskOrUse(d) => {
-            if is_masking_of(d, word) {
+            if is_data_masking_word_of(d, word) {
                 return Some(Owed::PlaceOnly(d));
             }
-            if !is_use(place, address, d, word) {
+            if !is_clean_use(place, address, d, word) {
                 return None;
             }
             Some(Owed::Nothing)
         }
         Owed::Code => {
-            if !is_placing_code(word) {
+            if !is_code_placing_word(word) {
                 return None;
             }
             Some(Owed::Nothing)
@@ -318,12 +319,12 @@ fn after_owed(place: &BundlePlace, address: u32, owed: Owed, word: u32) -> Optio
 /// Whether the halfword is a form that breaks no rule there, where nothing is owed, and leaves
 /// nothing owed.
 #[inline(always)]
-fn is_plain_half(place: &BundlePlace, address: u32, halfword: u16) -> bool
+fn is_clean_half_alone(place: &BundlePlace, address: u32, halfword: u16) -> bool
     requires { IsWithin place.now }
-    ensures { OnTrue result (IsPlainHalf place.now address halfword) }
+    ensures { OnTrue result (IsCleanHalfAlone place.now address halfword) }
 {
     match outline16(halfword) {
-        Some(outline) => is_plain(place, address, outline),
+        Some(outline) => is_clean_alone(place, address, outline),
         None => false,
     }
 }
@@ -338,10 +339,10 @@ fn after_halves(place: &BundlePlace, address: u32, word: &[u8], owed: Owed) -> O
 {
     match owed {
         Owed::Nothing => {
-            if !is_plain_half(place, address, half_at(word, 0)) {
+            if !is_clean_half_alone(place, address, half_at(word, 0)) {
                 return None;
             }
-            if !is_plain_half(place, address + 2, half_at(word, 2)) {
+            if !is_clean_half_alone(place, address + 2, half_at(word, 2)) {
                 return None;
             }
             Some(Owed::Nothing)
@@ -352,7 +353,7 @@ fn after_halves(place: &BundlePlace, address: u32, word: &[u8], owed: Owed) -> O
 
 /// What is owed after a 32-bit instruction, where it is seen to break no rule.
 #[inline(always)]
-fn after_word(place: &BundlePlace, address: u32, owed: Owed, word: u32) -> Option<Owed>
+fn look_at_wide_word(place: &BundlePlace, address: u32, owed: Owed, word: u32) -> Option<Owed>
     requires within { IsWithin place.now }
     requires before_end { IsBeforeEnd place.now address 4 }
     ensures { IfSome result (IsQuietThere place.now address owed word) }
@@ -367,7 +368,12 @@ fn after_word(place: &BundlePlace, address: u32, owed: Owed, word: u32) -> Optio
 
 /// What is owed after the word, where it is seen to break no rule. It isn't the region's last.
 #[inline(always)]
-pub(crate) fn look(place: &BundlePlace, address: u32, word: &[u8], owed: Owed) -> Option<Owed>
+pub(crate) fn look_at_word(
+    place: &BundlePlace,
+    address: u32,
+    word: &[u8],
+    owed: Owed,
+) -> Option<Owed>
     requires within { IsWithin place.now }
     requires before_end { IsBeforeEnd place.now address 4 }
     requires whole { length word.now ≡ 4 }
@@ -377,5 +383,5 @@ pub(crate) fn look(place: &BundlePlace, address: u32, word: &[u8], owed: Owed) -
     if wide & 0b11 != 0b11 {
         return after_halves(place, address, word, owed);
     }
-    after_word(place, address, owed, wide)
+    look_at_wide_word(place, address, owed, wide)
 }

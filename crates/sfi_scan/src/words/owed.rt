@@ -6,14 +6,16 @@ ghost use Rattle.sfi_rules.specs.words.Findings.{fails_data, fails_code, is_data
 
 use crate::before::is_masking;
 use crate::rules::is_jump;
-use crate::words::rules::{is_pointer_step, masks, places, places_code, uses};
+use crate::words::rules::{
+    is_code_placing, is_data_masking, is_data_placing, is_pointer_step, is_use_after_step,
+};
 use rv_word::Instr;
 use sfi_formats::{CODE_MASK_REGISTER, CODE_REGISTER};
 use sfi_pairs::is_data_register;
 use sfi_rules::Owed;
 
 /// Whether what is owed follows a write of a data register.
-fn is_of_data(owed: Owed) -> bool
+fn is_owed_by_data(owed: Owed) -> bool
     ensures { result ≡ is_of_data owed }
 {
     matches!(
@@ -23,36 +25,36 @@ fn is_of_data(owed: Owed) -> bool
 }
 
 /// Whether what is owed follows a write of the code register.
-fn is_of_code(owed: Owed) -> bool
+fn is_owed_by_code(owed: Owed) -> bool
     ensures { result ≡ is_of_code owed }
 {
     matches!(owed, Owed::Code)
 }
 
 /// What is still owed after the instruction; none where it isn't an instruction that was owed.
-fn left(owed: Owed, instr: &Instr) -> Option<Owed>
+fn owed_still(owed: Owed, instr: &Instr) -> Option<Owed>
     ensures { result ≡ left owed instr.now }
 {
     match owed {
         Owed::Nothing => Some(Owed::Nothing),
-        Owed::Mask(d) => masks(d, instr).then_some(Owed::PlaceOnly(d)),
-        Owed::PlaceOnly(d) => places(d, instr).then_some(Owed::Nothing),
+        Owed::Mask(d) => is_data_masking(d, instr).then_some(Owed::PlaceOnly(d)),
+        Owed::PlaceOnly(d) => is_data_placing(d, instr).then_some(Owed::Nothing),
         Owed::MaskOrUse(d) => {
-            if masks(d, instr) {
+            if is_data_masking(d, instr) {
                 Some(Owed::PlaceOnly(d))
             } else {
-                uses(d, instr).then_some(Owed::Nothing)
+                is_use_after_step(d, instr).then_some(Owed::Nothing)
             }
         }
-        Owed::Code => places_code(instr).then_some(Owed::Nothing),
+        Owed::Code => is_code_placing(instr).then_some(Owed::Nothing),
     }
 }
 
 /// What must come after this write of data register `d`; none where nothing can make it right.
-fn by_data(d: u8, instr: &Instr) -> Option<Owed>
+fn owed_by_data(d: u8, instr: &Instr) -> Option<Owed>
     ensures { result ≡ owed_by_data d instr.now }
 {
-    if places(d, instr) {
+    if is_data_placing(d, instr) {
         Some(Owed::Nothing)
     } else if is_jump(instr) {
         None
@@ -64,10 +66,10 @@ fn by_data(d: u8, instr: &Instr) -> Option<Owed>
 }
 
 /// What must come after this write of the code register; none where nothing can make it right.
-fn by_code(instr: &Instr) -> Option<Owed>
+fn owed_by_code(instr: &Instr) -> Option<Owed>
     ensures { result ≡ owed_by_code instr.now }
 {
-    if places_code(instr) {
+    if is_code_placing(instr) {
         Some(Owed::Nothing)
     } else if is_masking(CODE_MASK_REGISTER, CODE_REGISTER, instr) {
         Some(Owed::Code)
@@ -84,9 +86,9 @@ pub(crate) fn owed_by(instr: &Instr) -> Option<Owed>
         None => Some(Owed::Nothing),
         Some(rd) => {
             if is_data_register(rd) {
-                by_data(rd.number(), instr)
+                owed_by_data(rd.number(), instr)
             } else if rd.number() == CODE_REGISTER {
-                by_code(instr)
+                owed_by_code(instr)
             } else {
                 Some(Owed::Nothing)
             }
@@ -98,7 +100,7 @@ pub(crate) fn owed_by(instr: &Instr) -> Option<Owed>
 pub(crate) fn owed_next(owed: Owed, instr: &Instr) -> Owed
     ensures { result ≡ owed_next owed instr.now }
 {
-    match left(owed, instr) {
+    match owed_still(owed, instr) {
         None | Some(Owed::Nothing) => match owed_by(instr) {
             None => Owed::Nothing,
             Some(own) => own,
@@ -111,7 +113,7 @@ pub(crate) fn owed_next(owed: Owed, instr: &Instr) -> Owed
 pub(crate) fn fails_data(owed: Owed, instr: &Instr) -> bool
     ensures { result ≡ fails_data owed instr.now }
 {
-    (is_of_data(owed) && left(owed, instr).is_none())
+    (is_owed_by_data(owed) && owed_still(owed, instr).is_none())
         || (writes_data(instr) && owed_by(instr).is_none())
 }
 
@@ -119,7 +121,7 @@ pub(crate) fn fails_data(owed: Owed, instr: &Instr) -> bool
 pub(crate) fn fails_code(owed: Owed, instr: &Instr) -> bool
     ensures { result ≡ fails_code owed instr.now }
 {
-    (is_of_code(owed) && left(owed, instr).is_none())
+    (is_owed_by_code(owed) && owed_still(owed, instr).is_none())
         || (instr.writes_register(CODE_REGISTER) && owed_by(instr).is_none())
 }
 

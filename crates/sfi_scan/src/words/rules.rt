@@ -19,14 +19,14 @@ use sfi_rules::{BundlePlace, Owed, Rule};
 const SLACK: i32 = sfi_formats::SLACK as i32;
 
 /// Whether the instruction is `or x30, x30, x24`.
-pub(crate) fn places_code(instr: &Instr) -> bool
+pub(crate) fn is_code_placing(instr: &Instr) -> bool
     ensures { result ≡ is_placing 24 30 instr.now }
 {
     is_placing(CODE_BASE_REGISTER, CODE_REGISTER, instr)
 }
 
 /// Whether the instruction is `or d, x31, x26`, which puts an address of the data into `d`.
-pub(crate) fn places(d: u8, instr: &Instr) -> bool
+pub(crate) fn is_data_placing(d: u8, instr: &Instr) -> bool
     ensures { result ≡ places d instr.now }
 {
     match *instr {
@@ -45,7 +45,7 @@ pub(crate) fn places(d: u8, instr: &Instr) -> bool
 }
 
 /// Whether the instruction is `and x31, d, x27`, which masks `d` to an offset in the data.
-pub(crate) fn masks(d: u8, instr: &Instr) -> bool
+pub(crate) fn is_data_masking(d: u8, instr: &Instr) -> bool
     ensures { result ≡ masks d instr.now }
 {
     match *instr {
@@ -86,7 +86,7 @@ pub(crate) fn is_pointer_step(d: u8, instr: &Instr) -> bool
 }
 
 /// Whether the instruction is an access on data register `d` that may follow a step of it.
-pub(crate) fn uses(d: u8, instr: &Instr) -> bool
+pub(crate) fn is_use_after_step(d: u8, instr: &Instr) -> bool
     ensures { result ≡ uses d instr.now }
 {
     match *instr {
@@ -108,7 +108,7 @@ fn is_at_gate(place: &BundlePlace, address: u32) -> bool
 }
 
 /// Whether the instruction breaks V3: an `ecall` at no listed gate.
-fn breaks_ecall(place: &BundlePlace, address: u32, instr: &Instr) -> bool
+fn breaks_ecall_in_words(place: &BundlePlace, address: u32, instr: &Instr) -> bool
     ensures { result ≡ breaks_ecall (is_at_gate place.now address) instr.now }
 {
     match instr {
@@ -118,24 +118,24 @@ fn breaks_ecall(place: &BundlePlace, address: u32, instr: &Instr) -> bool
 }
 
 /// Whether an access may have this base register: a data register, or the data base.
-pub(crate) fn may_access(base: Reg) -> bool
+pub(crate) fn is_access_base(base: Reg) -> bool
     ensures { result ≡ may_access base }
 {
     is_data_register(base) || base.number() == DATA_BASE_REGISTER
 }
 
 /// Whether the instruction breaks V5: an access on another base register.
-fn breaks_access(instr: &Instr) -> bool
+fn breaks_access_in_words(instr: &Instr) -> bool
     ensures { result ≡ breaks_access instr.now }
 {
     match *instr {
-        Instr::Load { rs1, .. } | Instr::Store { rs1, .. } => !may_access(rs1),
+        Instr::Load { rs1, .. } | Instr::Store { rs1, .. } => !is_access_base(rs1),
         _ => false,
     }
 }
 
 /// Whether the instruction breaks V6: a `jalr` with an offset, or not on the code register.
-fn breaks_jump(instr: &Instr) -> bool
+fn breaks_jump_in_words(instr: &Instr) -> bool
     ensures { result ≡ breaks_jump instr.now }
 {
     match *instr {
@@ -153,7 +153,7 @@ pub(crate) fn is_word_start(place: &BundlePlace, address: u32) -> bool
 }
 
 /// Whether the instruction breaks V7: a jump or branch to no word start of the code region.
-fn breaks_target(place: &BundlePlace, address: u32, instr: &Instr) -> bool
+fn breaks_target_in_words(place: &BundlePlace, address: u32, instr: &Instr) -> bool
     requires { IsWithin place.now }
     ensures { result ≡
         breaks_target place.now.code_base place.now.code_size address instr.now }
@@ -190,7 +190,7 @@ fn breaks_last(place: &BundlePlace, address: u32, size: u32, owed: Owed, instr: 
 }
 
 /// The lowest rule that the instruction of `size` bytes at `address` breaks, if any.
-pub(crate) fn lowest_rule(
+pub(crate) fn lowest_rule_in_words(
     place: &BundlePlace,
     address: u32,
     size: u32,
@@ -207,15 +207,15 @@ pub(crate) fn lowest_rule(
       size = size;
     }) }
 {
-    if breaks_ecall(place, address, instr) {
+    if breaks_ecall_in_words(place, address, instr) {
         Some(Rule::V3)
     } else if breaks_reserved(instr) {
         Some(Rule::V4)
-    } else if breaks_access(instr) {
+    } else if breaks_access_in_words(instr) {
         Some(Rule::V5)
-    } else if breaks_jump(instr) {
+    } else if breaks_jump_in_words(instr) {
         Some(Rule::V6)
-    } else if breaks_target(place, address, instr) {
+    } else if breaks_target_in_words(place, address, instr) {
         Some(Rule::V7)
     } else if breaks_last(place, address, size, owed, instr) {
         Some(Rule::V8)

@@ -7,15 +7,15 @@ ghost use Rattle.sfi_rules.specs.words.Rules.{owed_next};
 ghost use Rattle.sfi_scan.specs.private.Scanning.{IsInside};
 
 use crate::findings::BundleFindings;
-use crate::words::look::look;
+use crate::words::look::look_at_word;
 use crate::words::owed::owed_next;
-use crate::words::rules::lowest_rule;
+use crate::words::rules::lowest_rule_in_words;
 use rv_comp::{Front, read_front};
 use rv_word::Instr;
 use sfi_rules::{BundlePlace, Finding, Owed, Rule};
 
 /// Appends the finding that `rule` is broken at `address`.
-fn push(place: &BundlePlace, address: u32, rule: Rule, found: &mut BundleFindings)
+fn add_finding(place: &BundlePlace, address: u32, rule: Rule, found: &mut BundleFindings)
     requires { length found.old < 8 }
     ensures { found.new ≡ found.old ++ found_at place.now address (Some rule) }
 {
@@ -48,8 +48,8 @@ fn scan_instruction(
       size = size;
     })) }
 {
-    if let Some(rule) = lowest_rule(place, address, size, owed, instr) {
-        push(place, address, rule, found);
+    if let Some(rule) = lowest_rule_in_words(place, address, size, owed, instr) {
+        add_finding(place, address, rule, found);
     }
     owed_next(owed, instr)
 }
@@ -57,7 +57,7 @@ fn scan_instruction(
 /// Adds the findings of the word at `address`, instruction by instruction, and answers what is owed
 /// after it.
 #[inline(never)]
-fn scan_unseen(
+fn scan_word_exactly(
     place: &BundlePlace,
     address: u32,
     word: &[u8],
@@ -74,7 +74,7 @@ fn scan_unseen(
     let (first, size) = match read_front(word) {
         Front::Read(first, size) => (first, size),
         Front::Short | Front::Bad => {
-            push(place, address, Rule::V1, found);
+            add_finding(place, address, Rule::V1, found);
             return Owed::Nothing;
         }
     };
@@ -87,11 +87,11 @@ fn scan_unseen(
             scan_instruction(place, address + 2, size, owed, &second, found)
         }
         Front::Short => {
-            push(place, address + 2, Rule::V2, found);
+            add_finding(place, address + 2, Rule::V2, found);
             Owed::Nothing
         }
         Front::Bad => {
-            push(place, address + 2, Rule::V1, found);
+            add_finding(place, address + 2, Rule::V1, found);
             Owed::Nothing
         }
     }
@@ -115,9 +115,9 @@ pub(crate) fn scan_word(
         × IsWordFound place.now address owed word.now here result }
 {
     if address - place.code_base < place.code_size - 4 {
-        if let Some(next) = look(place, address, word, owed) {
+        if let Some(next) = look_at_word(place, address, word, owed) {
             return next;
         }
     }
-    scan_unseen(place, address, word, owed, found)
+    scan_word_exactly(place, address, word, owed, found)
 }

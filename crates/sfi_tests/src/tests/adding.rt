@@ -39,7 +39,7 @@ fn try_case(rt: &impl Abort, alloc: Global, case: &Case) -> Result<(), Fail> {
     assert_eq!(rt; turned(&mut world, alloc)?, trapped);
     let bytes = image_of(alloc, lines)?;
     let accepted = check(alloc, bytes.as_slice()).expect(rt, "accepted");
-    let module = Module::of(alloc, &accepted)?;
+    let module = Module::from_accepted(alloc, &accepted)?;
     let answer = world.add(alloc, &module, Segments::new(alloc));
     assert_eq!(rt; answer, *wanted);
     assert_eq!(rt; world.len(), if answer.is_ok() { 2 } else { 1 });
@@ -68,7 +68,7 @@ fn what_is_removed_leaves_its_room(rt: HostRuntime) -> Result<(), Fail> {
     let mut world = smallest_world(&rt, alloc)?;
     let bytes = image_of(alloc, "put 8 00000002\nput 16 00218001\nput 24 00000002")?;
     let accepted = check(alloc, bytes.as_slice()).expect(&rt, "accepted");
-    let module = Module::of(alloc, &accepted)?;
+    let module = Module::from_accepted(alloc, &accepted)?;
     assert_eq!(rt; world.add(alloc, &module, Segments::new(alloc)), Ok(1));
     let missing = world.remove(alloc, 2, Segments::new(alloc));
     assert_eq!(rt; missing, Err(RemoveError::Missing));

@@ -110,7 +110,7 @@ fn is_written(world: &mut World<Segments>) -> bool {
         && !world.write(1, DATA, &[4])
 }
 
-// Reading has the same limits. What isn't read stays as it was.
+// ReaderSource has the same limits. What isn't read stays as it was.
 fn is_read(world: &World<Segments>) -> bool {
     let mut bytes = [9, 9, 9];
     !world.read(0, DATA + 254, &mut bytes)

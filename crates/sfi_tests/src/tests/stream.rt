@@ -2,7 +2,7 @@
 use super::rows::image_of;
 use super::{Outcome, words_of};
 use sfi_check::{StreamAnswer, check_stream};
-use sfi_image::{ByteSource, ReadFault, Reading};
+use sfi_image::{ByteSource, ReadFault, ReaderSource};
 use sfi_tool::run_tool;
 use std::alloc::{AllocError, Global};
 use std::io::{self, ErrorKind, Read};
@@ -52,7 +52,7 @@ pub(super) fn run_in_pieces(
 fn try_reads(rt: &impl Abort, bytes: &[u8], step: usize, enough: usize) {
     for calls in 0..=enough {
         let mut reader = Pieces::new(bytes, step, calls);
-        let mut source = Reading::new(&mut reader);
+        let mut source = ReaderSource::new(&mut reader);
         let answer = if calls < enough {
             StreamAnswer::ReadFault
         } else {
@@ -80,7 +80,7 @@ fn failing_streams(rt: HostRuntime) -> Result<(), Fail> {
 fn failed_reads(rt: HostRuntime) -> Result<(), Fail> {
     let alloc = rt.alloc();
     let mut reader = Pieces::new(b"", 1, 0);
-    let mut source = Reading::new(&mut reader);
+    let mut source = ReaderSource::new(&mut reader);
     assert_eq!(rt; source.read_some(&mut [0]), Err(ReadFault));
     assert!(rt; source.failed());
     let text = format!(in alloc; "{}", ReadFault)?;

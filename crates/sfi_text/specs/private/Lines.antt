@@ -8,7 +8,7 @@ use Rattle.sfi_text.specs.Keywords.{data_kind, directive_form, directive_states,
 use Rattle.sfi_text.specs.SoFar.{data_bytes, Stated, within, bytes, plain, StatedWithin, address, compressed, data_part, exported, format, gate, imported, movable, jump, sandbox, Begun, SoFar}
 use Rattle.sfi_text.specs.Lines.{Writes, LeadsByMore, MoreDeparts}
 use Rattle.sfi_text.specs.declared.cause.TextCause.{TextCause}
-use Rattle.sfi_text.specs.declared.form.Part.{Part}
+use Rattle.sfi_text.specs.declared.form.OperandPart.{OperandPart}
 use Rattle.sfi_text.specs.declared.keyword.Keyword.{Keyword}
 use Rattle.sfi_text.specs.declared.mnemonic.Mnemonic.{Mnemonic}
 use Rattle.rv_word.specs.declared.instr.Instr.{Instr}
@@ -69,7 +69,7 @@ MoreDepartsAfter kind text e =
     × MoreDeparts kind last e
 
 -- `text` gives the operands of `form`, which state `s`
-abbrev pub ReadsRow : List Part → (OperandValues → Stated) → List ℕ → Stated → Type 0
+abbrev pub ReadsRow : List OperandPart → (OperandValues → Stated) → List ℕ → Stated → Type 0
 ReadsRow form states text s = (o : OperandValues) × Reads o form text × (s ≡ states o)
 
 -- an instruction's name with `text` after it states `s`: a branch and a jal go to a name, and any

@@ -16,8 +16,8 @@ use Rattle.sfi_text.specs.declared.operands.Operands.{Operands}
 use Rattle.sfi_text.specs.Operands.{OperandValues, Stands, IsNumberOf, form_of, name_of}
 use Rattle.sfi_formats.specs.Limits.{name_most}
 use Rattle.rv_word.specs.declared.instr.Instr.{Instr}
-use Rattle.sfi_text.specs.declared.form.Part.{Part}
-use Rattle.sfi_text.specs.declared.form.Part.TheVariants.{Rd, Rs1, Rs2, Number, Name, Mode, ImageFormat, Comma, Open, Close}
+use Rattle.sfi_text.specs.declared.form.OperandPart.{OperandPart}
+use Rattle.sfi_text.specs.declared.form.OperandPart.TheVariants.{Rd, Rs1, Rs2, Number, Name, Mode, ImageFormat, Comma, Open, Close}
 use Rattle.sfi_text.specs.Statement.{mnemonic_of, operands_of, full_fence}
 
 -- ==== What the lexer's answer says of the front of a text.
@@ -114,14 +114,14 @@ values_of o =
 -- ==== How the parser reads a statement part by part.
 
 -- the tokens of `text` stand at the parts of `form`, one at each
-abbrev pub Reads : OperandValues → List Part → List ℕ → Type 0
+abbrev pub Reads : OperandValues → List OperandPart → List ℕ → Type 0
 Reads o [] text = IsBlank text
 Reads o (part ∷ form) text =
     (token : List ℕ) × (rest : List ℕ) × Takes text token rest
     × Stands o part token × Reads o form rest
 
 -- `a` and `b` agree in the operand of this part; a mark has none
-abbrev pub SameAt : Part → OperandValues → OperandValues → Type 0
+abbrev pub SameAt : OperandPart → OperandValues → OperandValues → Type 0
 SameAt Rd a b = a.rd ≡ b.rd
 SameAt Rs1 a b = a.rs1 ≡ b.rs1
 SameAt Rs2 a b = a.rs2 ≡ b.rs2
@@ -132,11 +132,11 @@ SameAt ImageFormat a b = a.format ≡ b.format
 SameAt _ a b = Unit {0}
 
 -- `a` and `b` agree in the operands of `form`
-abbrev pub AgreesOn : List Part → OperandValues → OperandValues → Type 0
+abbrev pub AgreesOn : List OperandPart → OperandValues → OperandValues → Type 0
 AgreesOn form a b = AllByRecursion (λ part. SameAt part a b) form
 
 -- which operand a part gives, by number; marks, which give none, come after 6
-abbrev pub slot : Part → ℕ
+abbrev pub slot : OperandPart → ℕ
 slot Rd = 0
 slot Rs1 = 1
 slot Rs2 = 2
@@ -149,7 +149,7 @@ slot Open = 8
 slot Close = 9
 
 -- the operand of `o` at this part is one that can stand there
-abbrev pub Suits : OperandValues → Part → Type 0
+abbrev pub Suits : OperandValues → OperandPart → Type 0
 Suits o Rd = o.rd < 32
 Suits o Rs1 = o.rs1 < 32
 Suits o Rs2 = o.rs2 < 32
@@ -158,15 +158,15 @@ Suits o Name = IsLabel o.name × (length o.name ≤ name_most)
 Suits o _ = Unit {0}
 
 -- each operand that the form names is one that can stand there
-abbrev pub AllSuit : OperandValues → List Part → Type 0
+abbrev pub AllSuit : OperandValues → List OperandPart → Type 0
 AllSuit o form = AllByRecursion (λ part. Suits o part) form
 
 -- the part's operand is not among those of the form
-abbrev pub is_fresh : Part → List Part → Bool
+abbrev pub is_fresh : OperandPart → List OperandPart → Bool
 is_fresh part form = list_all (λ p. not (slot p == slot part)) form
 
 -- no operand stands at two parts of the form
-abbrev pub has_no_repeat : List Part → Bool
+abbrev pub has_no_repeat : List OperandPart → Bool
 has_no_repeat [] = true
 has_no_repeat (part ∷ form) = (nat_lt 6 (slot part) || is_fresh part form) && has_no_repeat form
 
@@ -180,8 +180,8 @@ abbrev pub FollowsName : List ℕ → Mnemonic → Instr → Type 0
 FollowsName rest name i = (mnemonic_of i ≡ name) × Follows rest i
 
 -- `new` has the operands of `old`, but for the operand of this part
-abbrev pub KeepsOthers : Part → OperandValues → OperandValues → Type 0
-KeepsOthers part old new = (p : Part) → slot p ≢ slot part → SameAt p new old
+abbrev pub KeepsOthers : OperandPart → OperandValues → OperandValues → Type 0
+KeepsOthers part old new = (p : OperandPart) → slot p ≢ slot part → SameAt p new old
 
 -- the name of the instruction `i` is `token`, and `rest` gives its operands
 abbrev pub FollowsToken : List ℕ → List ℕ → Instr → Type 0

@@ -10,5 +10,5 @@ only_found word None found none i spelled = absurd (none i spelled)
 
 pub returns-clause-only : goal.returns-clause-only
 returns-clause-only c i spelled =
-    only_found _ c.instr.result c.instr.ensures.found c.instr.ensures.none i
-    (subst (λ (w : ℕ). IsWordOf w i) c.of.ensures.sum spelled)
+    only_found _ c.to_instr.result c.to_instr.ensures.found c.to_instr.ensures.none i
+    (subst (λ (w : ℕ). IsWordOf w i) c.from_word.ensures.sum spelled)

@@ -10,6 +10,6 @@ returns-in_ok-accepted_line-in-Ok c =
       parts = c.in-Ok.accepted;
       accepted = c.in-Ok.ensures.accepted;
       status_is = c.lines.ensures.status;
-      text_is = c.lines.ensures.output ∙ c.in_ok-accepted_line-in-Ok.ensures ∙ rw (c.sandboxes.ensures.count, c.bundles.ensures.count) refl;
+      text_is = c.lines.ensures.output ∙ c.in_ok-accepted_line-in-Ok.ensures ∙ rw (c.sandbox_count.ensures.count, c.bundle_count.ensures.count) refl;
     }))
     c.in-Ok.ensures.only_findings c.in-Ok.ensures.only_layout

@@ -8,7 +8,7 @@ use Rattle.sfi_answers.proofs.image.image_answer.Goals as goal
 pub returns-then-begins_as_image-clause-says : goal.returns-then-begins_as_image-clause-says
 returns-then-begins_as_image-clause-says g c =
     IfOk-weaker c.held_answer.result _ _
-    (λ a h less. of_front (g.R.Read.remaining c.args.reader.now) (g.R.Read.remaining c.read_front.new.reader) _ c.in_ok-front.front.items c.as_slice.result.now
+    (λ a h less. of_front (g.R.Read.remaining c.args.reader.now) (g.R.Read.remaining c.read_first_bytes.new.reader) _ c.in_ok-front.front.items c.as_slice.result.now
     BeginsAsImage (λ input. (on_image (check false)).says input a.status a.output.items) c.in_ok-front.ensures.front c.as_slice.ensures.value c.chain-whole.ensures.bytes
     (all_begin (g.R.Read.remaining c.args.reader.now) c.in_ok-front.front.items c.deref.result.now c.begins_as_image.result c.deref.ensures.value c.begins_as_image.ensures c.in_ok-front.ensures.begins c.if-begins_as_image.true) (h less))
     c.held_answer.ensures.says
@@ -16,7 +16,7 @@ returns-then-begins_as_image-clause-says g c =
 pub returns-then-begins_as_image-clause-fault : goal.returns-then-begins_as_image-clause-fault
 returns-then-begins_as_image-clause-fault g c =
     IfOk-weaker c.held_answer.result _ _
-    (λ a h two. of_front (g.R.Read.remaining c.args.reader.now) (g.R.Read.remaining c.read_front.new.reader) _ c.in_ok-front.front.items c.as_slice.result.now
+    (λ a h two. of_front (g.R.Read.remaining c.args.reader.now) (g.R.Read.remaining c.read_first_bytes.new.reader) _ c.in_ok-front.front.items c.as_slice.result.now
     BeginsAsImage (on_image (check false)).has_fault c.in_ok-front.ensures.front c.as_slice.ensures.value c.chain-whole.ensures.bytes
     (all_begin (g.R.Read.remaining c.args.reader.now) c.in_ok-front.front.items c.deref.result.now c.begins_as_image.result c.deref.ensures.value c.begins_as_image.ensures c.in_ok-front.ensures.begins c.if-begins_as_image.true) (h two))
     c.held_answer.ensures.fault
@@ -24,7 +24,7 @@ returns-then-begins_as_image-clause-fault g c =
 pub returns-clause-fault : goal.returns-clause-fault
 returns-clause-fault g c =
     IfOk-weaker c.text_answer.result _ _
-    (λ a h two. of_front (g.R.Read.remaining c.args.reader.now) (g.R.Read.remaining c.read_front.new.reader) _ c.in_ok-front.front.items c.as_slice.result.now
+    (λ a h two. of_front (g.R.Read.remaining c.args.reader.now) (g.R.Read.remaining c.read_first_bytes.new.reader) _ c.in_ok-front.front.items c.as_slice.result.now
     (λ input. ¬ BeginsAsImage input) (on_image (check false)).has_fault c.in_ok-front.ensures.front c.as_slice.ensures.value c.chain-whole.ensures.bytes
     (none_begins (g.R.Read.remaining c.args.reader.now) c.in_ok-front.front.items c.deref.result.now c.begins_as_image.result c.deref.ensures.value c.begins_as_image.ensures c.in_ok-front.ensures.begins c.if-begins_as_image.false) (h two))
     c.text_answer.ensures.fault

@@ -4,8 +4,8 @@ use Rattle.sfi_c.proofs.finding.write_findings.Goals as goal
 
 pub loop-i-preserved : goal.loop-i-preserved
 loop-i-preserved c =
-    written_one_more finding_for_c c.args.found.now c.args.array.now c.loop-i.array c.loop-i.i c.of.result c.in-Some.finding (omega arith) (omega arith) c.loop-i.invariant
-    (c.of.ensures ∙ ap finding_for_c (sym (get_or_from_slice_get c.args.found.now c.loop-i.i c.in-Some.finding c.in-Some.finding (sym c.in-Some.ensures))))
+    written_one_more finding_for_c c.args.found.now c.args.array.now c.loop-i.array c.loop-i.i c.from_finding.result c.in-Some.finding (omega arith) (omega arith) c.loop-i.invariant
+    (c.from_finding.ensures ∙ ap finding_for_c (sym (get_or_from_slice_get c.args.found.now c.loop-i.i c.in-Some.finding c.in-Some.finding (sym c.in-Some.ensures))))
 
 pub returns : goal.returns
 returns c =

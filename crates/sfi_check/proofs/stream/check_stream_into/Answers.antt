@@ -24,9 +24,9 @@ returns-in-Ok-eq0-clause-judged g c =
     let i = c.loop-feed.invariant.between in
     let most = 4096 - c.loop-feed.feed.count in
     let few = few_held c.loop-feed.feed i.bytes (fed_held c.loop-feed.feed i.bytes c.in_default.is i.fed) in
-    let read : g.S.ByteSource.reads c.loop-feed.source most (Some []) c.read_front.new.source =
-    subst (λ (k : ℕ). g.S.ByteSource.reads c.loop-feed.source most (Some (take k c.read_front.new.piece)) c.read_front.new.source) c.in-Ok-eq0.field-0-test c.in-Ok-eq0.ensures.some in
-    ends_here i c.read_front.new.source most c.answer.result read (omega arith) (omega arith) c.answer.ensures.judged c.answer.ensures.handed
+    let read : g.S.ByteSource.reads c.loop-feed.source most (Some []) c.read_next_bytes.new.source =
+    subst (λ (k : ℕ). g.S.ByteSource.reads c.loop-feed.source most (Some (take k c.read_next_bytes.new.piece)) c.read_next_bytes.new.source) c.in-Ok-eq0.field-0-test c.in-Ok-eq0.ensures.some in
+    ends_here i c.read_next_bytes.new.source most c.answer.result read (omega arith) (omega arith) c.answer.ensures.judged c.answer.ensures.handed
 
 pub feed_into-requires : goal.feed_into-requires
 feed_into-requires g c = let i = c.loop-feed.invariant.between in (c.args.sink.now, i.bytes, i.fed)
@@ -35,14 +35,14 @@ pub loop-feed-preserved : goal.loop-feed-preserved
 loop-feed-preserved g c =
     let i = c.loop-feed.invariant.between in
     let most = 4096 - c.loop-feed.feed.count in
-    let more = take c.in-Ok.count c.read_front.new.piece in
+    let more = take c.in-Ok.count c.read_next_bytes.new.piece in
     let bound = c.in-Ok.ensures.bound in
     let not_zero = c.in-Ok.count-test.1 in
-    let some : 0 < length more = omega (arith, length-take c.in-Ok.count c.read_front.new.piece, c.read_front.array_long) in
+    let some : 0 < length more = omega (arith, length-take c.in-Ok.count c.read_next_bytes.new.piece, c.read_next_bytes.array_long) in
     record {
-      between = reads_on i c.read_front.new.source most more c.feed_into.new.self c.in-Ok.ensures.some (omega arith) some (c.feed_into.ensures.fed c.args.sink.now i.bytes i.fed);
-      live = g.met.S.ByteSource.stays c.loop-feed.source c.read_front.new.source most more c.in-Ok.ensures.some ∙ c.loop-feed.invariant.live;
+      between = reads_on i c.read_next_bytes.new.source most more c.feed_into.new.self c.in-Ok.ensures.some (omega arith) some (c.feed_into.ensures.fed c.args.sink.now i.bytes i.fed);
+      live = g.met.S.ByteSource.stays c.loop-feed.source c.read_next_bytes.new.source most more c.in-Ok.ensures.some ∙ c.loop-feed.invariant.live;
     }
 
 pub returns-in-Err-clause-judged : goal.returns-in-Err-clause-judged
-returns-in-Err-clause-judged g c = fails c.loop-feed.invariant.between c.read_front.new.source (4096 - c.loop-feed.feed.count) c.in-Err.ensures.fault (omega arith)
+returns-in-Err-clause-judged g c = fails c.loop-feed.invariant.between c.read_next_bytes.new.source (4096 - c.loop-feed.feed.count) c.in-Err.ensures.fault (omega arith)

@@ -24,11 +24,11 @@ returns-then-is_stop g c = record {
       (subst (λ (x : ℕ). Contains c.args.stops.now x) c.pc.ensures.value (c.if-is_stop.ensures.0 refl));
 }
 
-pub returns-then-not-goes_on : goal.returns-then-not-goes_on
-returns-then-not-goes_on g c = record {
+pub returns-then-not-may_step_on : goal.returns-then-not-may_step_on
+returns-then-not-may_step_on g c = record {
   stays = stays_so c.args.stops.now _ _ c.loop-done.done _ _ c.loop-done.invariant.1 _ _ c.run_quietly-pause.ensures.stays c.run_quietly-pause.result c.run_quietly-pause.ensures.over c.run_quietly-pause.ensures.call;
   until = at_end c.args.stops.now _ _ c.loop-done.done _ _ c.loop-done.invariant.1 _ _ c.run_quietly-pause.ensures.stays c.run_quietly-pause.result c.run_quietly-pause.ensures.over c.run_quietly-pause.ensures.call
-      (λ h. let t = c.if-is_stop.ensures.1 (subst (λ (x : ℕ). Contains c.args.stops.now x) (sym c.pc.ensures.value) h) in absurd (cc)) c.args.steps c.loop-done-test.true c.if-not-goes_on.ensures;
+      (λ h. let t = c.if-is_stop.ensures.1 (subst (λ (x : ℕ). Contains c.args.stops.now x) (sym c.pc.ensures.value) h) in absurd (cc)) c.args.steps c.loop-done-test.true c.if-not-may_step_on.ensures;
 }
 
 pub returns : goal.returns

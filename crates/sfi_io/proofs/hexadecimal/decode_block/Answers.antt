@@ -13,5 +13,5 @@ returns-clause-each c k lt =
     let first = subst (λ (l : List ℕ). hex_digit_value (slice_index l (2 * k)) ≡ Some (slice_index values.result (2 * k) - 240)) whole (values.ensures.each (2 * k) (omega (arith, near)) high) in
     let second = subst (λ (l : List ℕ). hex_digit_value (slice_index l (2 * k + 1)) ≡ Some (slice_index values.result (2 * k + 1) - 240)) whole (values.ensures.each (2 * k + 1) (omega (arith, near)) low) in
     let byte = byte_of_values _ _ _ _ (c.type_inv.block (2 * k)).fits (c.type_inv.block (2 * k + 1)).fits first second in
-    let written = ap (λ (l : List ℕ). slice_index l k) c.copy_from_slice.ensures.after ∙ c.joined.ensures.each k near high low in
+    let written = ap (λ (l : List ℕ). slice_index l k) c.copy_from_slice.ensures.after ∙ c.joined_digits.ensures.each k near high low in
     subst (λ (n : ℕ). IsByteOf (slice_index block (2 * k)) (slice_index block (2 * k + 1)) n) (sym written) byte

@@ -12,8 +12,8 @@ bases_of-at-requires-clause-fits c =
     let q = linked_at c.args.given.now 0 k k c.args.placed.now c.requires.linked.0 p (omega arith) c.loop-number-test.true c.index-placed-number.is c.requires.linked.1 in
     start_fits c.args.given.now k p _ q.1.code.size.has_room q.1.lies
 
-pub push_names-requires : goal.push_names-requires
-push_names-requires c =
+pub list_names-requires : goal.list_names-requires
+list_names-requires c =
     let k = c.loop-number.number in
     let p = c.index-placed-number.result in
     let q = linked_at c.args.given.now 0 k k c.args.placed.now c.requires.linked.0 p (omega arith) c.loop-number-test.true c.index-placed-number.is c.requires.linked.1 in
@@ -31,7 +31,7 @@ loop-number-preserved c =
     let s = c.in-Some.sandbox.now in
     let own = entries_in k (bases_of given k p) (Some s) p.names in
     let rest = map_from given (k + 1) source (drop (k + 1) c.args.placed.now) in
-    let here : c.push_names.new.listed.items ≡ listed ++ own = c.in_ok-push_names.ensures ∙ (λ i. listed ++ entries_of k (c.bases_of-at.ensures.is i) (map (λ e. e.0) (c.names.ensures i)) 0 (c.names-in-loop-number.ensures i)) in
+    let here : c.list_names.new.listed.items ≡ listed ++ own = c.in_ok-list_names.ensures ∙ (λ i. listed ++ entries_of k (c.bases_of-at.ensures.is i) (map (λ e. e.0) (c.names.ensures i)) 0 (c.names-in-loop-number.ensures i)) in
     let named : own ++ rest ≡ map_from given k source (p ∷ drop (k + 1) c.args.placed.now) = ap (λ o. entries_in k (bases_of given k p) o p.names ++ rest) (sym (slice_get_read source _ k s refl there.3.0 there.1)) in
     let next = named ∙ ap (λ x. map_from given k source (x ∷ drop (k + 1) c.args.placed.now)) c.index-placed-number.is ∙ sym (at_drop_more (map_from given k source) c.args.placed.now k p c.loop-number-test.true) in
     ap (λ l. l ++ rest) here ∙ append_assoc listed own rest ∙ ap (λ l. listed ++ l) next ∙ c.loop-number.invariant

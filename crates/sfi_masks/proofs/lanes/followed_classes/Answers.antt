@@ -5,4 +5,4 @@ use Rattle.sfi_masks.proofs.lanes.followed_classes.Goals as goal
 
 pub returns : goal.returns
 unfolding followed
-returns c = zipped bit_and c.classes_of_halves.result _ _ _ c.classes_of_halves.ensures (rotated c.classes_of_bytes.result _ c.classes_of_bytes.ensures)
+returns c = zipped bit_and c.classes_of_halfwords.result _ _ _ c.classes_of_halfwords.ensures (rotated c.classes_of_bytes.result _ c.classes_of_bytes.ensures)

@@ -15,5 +15,5 @@ mask_is c = elim c.if-stack.branch [
 pub returns : goal.returns
 unfolding rest
 returns c =
-    same_lanes _ _ _ (zipped bit_and c.classes_of_halves.result _ _ _ c.classes_of_halves.ensures (splat c.if-stack.result))
+    same_lanes _ _ _ (zipped bit_and c.classes_of_halfwords.result _ _ _ c.classes_of_halfwords.ensures (splat c.if-stack.result))
     (λ i h. ap (λ m. bit_and (half_classes REST (slice_index c.args.low i) (slice_index c.args.high i)) m) (mask_is c))

@@ -10,4 +10,4 @@ returns c =
     let e = c.word_masks_of_quarter-fourth in
     let block = c.args.block.now in
     are_masks words block a.result b.result d.result e.result c.fits-block
-    (are_quarters words block a.result b.result d.result e.result a.ensures b.ensures d.ensures e.ensures) _ c.joined.ensures c.joined-2.ensures c.joined-3.ensures
+    (are_quarters words block a.result b.result d.result e.result a.ensures b.ensures d.ensures e.ensures) _ c.four_quarters.ensures c.four_quarters-2.ensures c.four_quarters-3.ensures

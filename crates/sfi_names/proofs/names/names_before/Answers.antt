@@ -21,23 +21,23 @@ returns-in_err-exports-clause-none c =
     rw (c.from_residual-in_err-exports.ensures)
     (no_exports c.args.bytes.now f.before.now f.version f.exports_bytes f.imports_bytes cut c.in_ok-before.before.now c.in_ok-before.imports.now imports.0 imports.1 c.in_err-exports.ensures.none)
 
-pub returns-then-not-are_entries-clause-none : goal.returns-then-not-are_entries-clause-none
-returns-then-not-are_entries-clause-none c =
+pub returns-then-not-are_name_entries-clause-none : goal.returns-then-not-are_name_entries-clause-none
+returns-then-not-are_name_entries-clause-none c =
     let f = c.in_ok-footer.footer in
     let words = c.in_ok-footer.ensures.words in
     let cut : IsCut c.args.bytes.now f.before.now f.version f.exports_bytes f.imports_bytes = record { bytes_are = c.in_ok-footer.ensures.found; version = words.0; exports = words.1; imports = words.2 } in
     let parts = joined f.before.now c.in_ok-before.before.now c.in_ok-exports.field-0-0.now c.in_ok-exports.exports.now c.in_ok-before.imports.now f.exports_bytes f.imports_bytes c.in_ok-before.ensures.found c.in_ok-exports.ensures.found in
     wrong_exports c.args.bytes.now f.before.now f.version f.exports_bytes f.imports_bytes cut c.in_ok-exports.field-0-0.now c.in_ok-exports.exports.now c.in_ok-before.imports.now parts
-    (λ are. let yes : c.are_entries.result ≡ true = c.are_entries.ensures.1 are in let no = c.if-not-are_entries.true in absurd cc)
+    (λ are. let yes : c.are_name_entries.result ≡ true = c.are_name_entries.ensures.1 are in let no = c.if-not-are_name_entries.true in absurd cc)
 
-pub returns-then-not-are_entries-2-clause-none : goal.returns-then-not-are_entries-2-clause-none
-returns-then-not-are_entries-2-clause-none c =
+pub returns-then-not-are_name_entries-2-clause-none : goal.returns-then-not-are_name_entries-2-clause-none
+returns-then-not-are_name_entries-2-clause-none c =
     let f = c.in_ok-footer.footer in
     let words = c.in_ok-footer.ensures.words in
     let cut : IsCut c.args.bytes.now f.before.now f.version f.exports_bytes f.imports_bytes = record { bytes_are = c.in_ok-footer.ensures.found; version = words.0; exports = words.1; imports = words.2 } in
     let parts = joined f.before.now c.in_ok-before.before.now c.in_ok-exports.field-0-0.now c.in_ok-exports.exports.now c.in_ok-before.imports.now f.exports_bytes f.imports_bytes c.in_ok-before.ensures.found c.in_ok-exports.ensures.found in
     wrong_imports c.args.bytes.now f.before.now f.version f.exports_bytes f.imports_bytes cut c.in_ok-exports.field-0-0.now c.in_ok-exports.exports.now c.in_ok-before.imports.now parts
-    (λ are. let yes : c.are_entries-2.result ≡ true = c.are_entries-2.ensures.1 are in let no = c.if-not-are_entries-2.true in absurd cc)
+    (λ are. let yes : c.are_name_entries-2.result ≡ true = c.are_name_entries-2.ensures.1 are in let no = c.if-not-are_name_entries-2.true in absurd cc)
 
 pub returns-clause-found : goal.returns-clause-found
 returns-clause-found c =
@@ -46,4 +46,4 @@ returns-clause-found c =
     let cut : IsCut c.args.bytes.now f.before.now f.version f.exports_bytes f.imports_bytes = record { bytes_are = c.in_ok-footer.ensures.found; version = words.0; exports = words.1; imports = words.2 } in
     let parts = joined f.before.now c.in_ok-before.before.now c.in_ok-exports.field-0-0.now c.in_ok-exports.exports.now c.in_ok-before.imports.now f.exports_bytes f.imports_bytes c.in_ok-before.ensures.found c.in_ok-exports.ensures.found in
     found c.args.bytes.now f.before.now f.version f.exports_bytes f.imports_bytes cut c.in_ok-exports.field-0-0.now c.in_ok-exports.exports.now c.in_ok-before.imports.now parts _ refl refl refl
-    (c.are_entries.ensures.0 c.if-not-are_entries.false) (c.are_entries-2.ensures.0 c.if-not-are_entries-2.false)
+    (c.are_name_entries.ensures.0 c.if-not-are_name_entries.false) (c.are_name_entries-2.ensures.0 c.if-not-are_name_entries-2.false)

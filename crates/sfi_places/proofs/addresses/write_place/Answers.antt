@@ -25,8 +25,8 @@ write_address-requires-3 c =
     let second = two p c.args.from.code_base c.args.from.data_base c.args.to.code_base c.args.to.data_base c.args.offset lies.before lies.after lies.offset_is c.write_address.new.image first c.write_address-2.new.image (c.write_address-2.ensures p.data_base can.data_goes) in
     (p.start, can.start, start_lies p c.args.from.code_base c.args.from.data_base c.args.to.code_base c.args.to.data_base c.args.offset lies.before lies.after lies.offset_is c.write_address-2.new.image second)
 
-pub write_gates-requires : goal.write_gates-requires
-write_gates-requires c =
+pub move_gates-requires : goal.move_gates-requires
+move_gates-requires c =
     let p = c.requires.0 in
     let can = c.requires.1 in
     let lies = c.requires.2 in
@@ -40,5 +40,5 @@ returns c = λ p can before after e is.
     let first = one p c.args.from.code_base c.args.from.data_base c.args.to.code_base c.args.to.data_base c.args.offset before after e c.args.image.now is c.write_address.new.image (c.write_address.ensures p.code_base can.code) in
     let second = two p c.args.from.code_base c.args.from.data_base c.args.to.code_base c.args.to.data_base c.args.offset before after e c.write_address.new.image first c.write_address-2.new.image (c.write_address-2.ensures p.data_base can.data_goes) in
     let third = three p c.args.from.code_base c.args.from.data_base c.args.to.code_base c.args.to.data_base c.args.offset before after e c.write_address-2.new.image second c.write_address-3.new.image (c.write_address-3.ensures p.start can.start) in
-    four p c.args.from.code_base c.args.from.data_base c.args.to.code_base c.args.to.data_base c.args.offset before after e c.write_address-3.new.image third c.write_gates.new.image (c.write_gates.ensures p.gates can.count_is can.gates)
+    four p c.args.from.code_base c.args.from.data_base c.args.to.code_base c.args.to.data_base c.args.offset before after e c.write_address-3.new.image third c.move_gates.new.image (c.move_gates.ensures p.gates can.count_is can.gates)
     ∙ ap (λ (l : List ℕ). before ++ l) (placed p c.args.from.code_base c.args.from.data_base c.args.to.code_base c.args.to.data_base c.args.offset before after e can.code_is can.data_is)

@@ -16,14 +16,14 @@ made c =
       end =
           end_of c.args.part.now c.args.part.now.format c.has_end_label.result c.in_ok-laid.laid.code c.fill_end.new.code c.has_end_label.ensures
           (subst (λ f. HasEnd f c.in_ok-laid.laid.code (IsTrue c.has_end_label.result) c.fill_end.new.code) c.format-2.ensures c.in_ok-fill_end.ensures);
-      code = ap slots_of c.new.ensures.bundles ∙ c.finish-bundles.ensures.code;
+      code = ap slots_of c.new.ensures.bundles ∙ c.into_bundles-bundles.ensures.code;
       format = c.new.ensures.format ∙ c.format-3.ensures;
       movable = c.new.ensures.movable ∙ c.is_movable.ensures;
       data_size = c.new.ensures.data_size ∙ c.data_size.ensures;
       gates = c.new.ensures.gates ∙ copied c.new-gates.result.items c.extend_from_slice.new.self.items c.gates.result.now c.args.part.now.gates c.in_ok-extend_from_slice.ensures.items c.new-gates.ensures.items c.gates.ensures;
       bytes = c.new.ensures.bytes ∙ copied c.new-bytes.result.items c.extend_from_slice-2.new.self.items c.bytes.result.now c.args.part.now.bytes c.in_ok-extend_from_slice-2.ensures.items c.new-bytes.ensures.items c.bytes.ensures;
       names = subst (λ v. AllZip (IsPlacedName c.args.part.now.format c.args.part.now.items) (named c.args.part.now) v) (sym c.new.ensures.names) c.in_ok-names.ensures;
-      bundles = subst AreBundles (sym c.new.ensures.bundles) c.finish-bundles.ensures.bundles;
+      bundles = subst AreBundles (sym c.new.ensures.bundles) c.into_bundles-bundles.ensures.bundles;
     })
 
 pub returns-clause-rewritten : goal.returns-clause-rewritten

@@ -6,4 +6,4 @@ use Rattle.sfi_run.proofs.turns.sfi_run_call.Goals as goal
 pub returns-clause-may : goal.returns-clause-may
 returns-clause-may c w e =
     let same : c.deref_mut.result.now ≡ w = same_Some c.deref_mut.result.now w (ap Some c.deref_mut.ensures.value ∙ c.in-Some.ensures.taken ∙ e) in
-    subst (λ (x : Sandboxes). IsTrue c.call-done.result ↔ MayEnterAt (slots_of x) c.args.sandbox c.args.pc) same c.call-done.ensures.may
+    subst (λ (x : Sandboxes). IsTrue c.call_sandbox-done.result ↔ MayEnterAt (slots_of x) c.args.sandbox c.args.pc) same c.call_sandbox-done.ensures.may

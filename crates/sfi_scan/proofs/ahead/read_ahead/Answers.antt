@@ -4,8 +4,8 @@ use Rattle.sfi_scan.proofs.ahead.read_ahead.Goals as goal
 
 pub returns-in-Read : goal.returns-in-Read
 returns-in-Read c =
-    both_read c.args.bytes.now c.in-Read.instr c.in-Read.size c.first_of.result c.in-Read.ensures.front
-    (λ later h. c.first_of.ensures later (subst (λ (r : List ℕ). IsLongestReading r later) (sym (tail_is c.in-Read.size c.args.bytes.now)) h))
+    both_read c.args.bytes.now c.in-Read.instr c.in-Read.size c.first_instr.result c.in-Read.ensures.front
+    (λ later h. c.first_instr.ensures later (subst (λ (r : List ℕ). IsLongestReading r later) (sym (tail_is c.in-Read.size c.args.bytes.now)) h))
 
 pub returns-in-Short : goal.returns-in-Short
 returns-in-Short c = λ later h. c.none_ahead.ensures ∙ none_read c.args.bytes.now (stuck_of c.args.bytes.now Short (inl refl) c.in-Short.ensures.only) later h

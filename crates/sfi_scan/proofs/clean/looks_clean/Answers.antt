@@ -9,7 +9,7 @@ loop-at-init c = looks_first c.args.place.now c.args.bytes.now
 pub loop-at-preserved-then-halfword-ne3 : goal.loop-at-preserved-then-halfword-ne3
 loop-at-preserved-then-halfword-ne3 c =
     looks_half c.args.place.now c.args.bytes.now c.loop-at.at c.loop-at.from c.half_at-halfword.result c.told-bytes c.loop-at-test.true (sym c.if-is_last_bundle.ensures) c.loop-at.invariant
-    c.half_at-halfword.ensures c.if-not-is_clean_half.ensures
+    c.half_at-halfword.ensures c.if-not-is_clean_short.ensures
 
 pub loop-at-preserved-then-is_stack_written : goal.loop-at-preserved-then-is_stack_written
 loop-at-preserved-then-is_stack_written c =
@@ -19,7 +19,7 @@ loop-at-preserved-then-is_stack_written c =
 pub loop-at-preserved : goal.loop-at-preserved
 loop-at-preserved c =
     looks_word c.args.place.now c.args.bytes.now c.loop-at.at c.loop-at.from c.word_at.result c.told-bytes (let high = c.if-at-gt12.false in omega arith) (sym c.if-is_last_bundle.ensures) c.loop-at.invariant
-    c.word_at.ensures c.if-not-is_clean_word.ensures
+    c.word_at.ensures c.if-not-is_clean_wide.ensures
 
 pub returns : goal.returns
 returns c = at_last c.args.place.now c.args.bytes.now c.loop-at.at c.loop-at.invariant.before [] c.told-bytes c.loop-at-test.false c.loop-at.invariant.so_far

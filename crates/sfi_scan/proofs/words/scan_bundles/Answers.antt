@@ -23,8 +23,8 @@ place_after-requires g c =
     let inside = c.requires.inside in
     (bundle_ahead (c.loop-end.invariant run.1 run.3) run.2 (omega (arith, inside, c.loop-end-test.true))).0
 
-pub scan_one-left-requires : goal.scan_one-left-requires
-scan_one-left-requires g c =
+pub scan_bundle_of_words-left-requires : goal.scan_bundle_of_words-left-requires
+scan_bundle_of_words-left-requires g c =
     let run = c.requires.stretch in
     let inside = c.requires.inside in
     let w = c.loop-end.invariant run.1 run.3 in
@@ -44,15 +44,15 @@ loop-end-preserved g c = λ k at.
     let code = c.args.code.now in
     let end = c.loop-end.end in
     let before = c.loop-end.sink in
-    let new = c.scan_one-left.new.sink in
-    let next = c.scan_one-left.result in
+    let new = c.scan_bundle_of_words-left.new.sink in
+    let next = c.scan_bundle_of_words-left.result in
     let run = c.requires.stretch in
     let inside = c.requires.inside in
     let w = c.loop-end.invariant k at in
     let m = k + w.bundles in
     let enough = (bundle_ahead w run.2 (omega (arith, inside, c.loop-end-test.true))).1 in
     let one = bundle_front (λ (x : BundlePlace) (l : List ℕ) (n : ℕ). IsWordCodeScanned takes x c.loop-end.left l n next before new) (λ x xs ys n. words_scanned_same takes x c.loop-end.left xs ys n next before new)
-    b c.place_after.result code c.bytes_from-bundle.result.now end m w.end_is (c.place_after.ensures m w.end_is) c.bytes_from-bundle.ensures enough c.scan_one-left.ensures in
+    b c.place_after.result code c.bytes_from-bundle.result.now end m w.end_is (c.place_after.ensures m w.end_is) c.bytes_from-bundle.ensures enough c.scan_bundle_of_words-left.ensures in
     walk_on b w w.end_is one
     (λ n places bytes told. words_scanned_more takes g.met.F.FindingSink.more (stretch_place b m) (stretch_place b k) c.args.owed (drop (16 * m) code) (drop (16 * k) code) w.bundles n c.loop-end.left next c.args.sink.now before new places bytes w.told told.1)
 

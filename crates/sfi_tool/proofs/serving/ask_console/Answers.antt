@@ -5,5 +5,5 @@ use Rattle.sfi_tool.proofs.serving.ask_console.Goals as goal
 
 pub returns : goal.returns
 returns g c = λ known told.
-    IfOk-weaker c.answer_call.result _ _ (λ u answered. other_served (slots_of c.args.world.now) (slots_of c.answer_call.new.world) c.args.request c.requires.waits c.args.console.now c.answer_call.new.gates
-    c.requires.put c.requires.get answered known told) c.answer_call.ensures
+    IfOk-weaker c.let_host_answer.result _ _ (λ u answered. other_served (slots_of c.args.world.now) (slots_of c.let_host_answer.new.world) c.args.request c.requires.waits c.args.console.now c.let_host_answer.new.gates
+    c.requires.put c.requires.get answered known told) c.let_host_answer.ensures

@@ -6,25 +6,25 @@ use Rattle.std.proofs.Math.Path.{subst}
 use Rattle.std.proofs.lemmas.List.Elements.{All-same, AllWithin-upto}
 use Rattle.sfi_tool_c.specs.CommandAnswers.{ended, HasNoZero}
 use Rattle.sfi_tool_c.proofs.words.words_of.Goals as goal
-use Rattle.sfi_tool_c.proofs.words.words_of.Goals.{then-bytes-at-eq0+in-Ok+in_ok-push_word, else-bytes-at-eq0}
+use Rattle.sfi_tool_c.proofs.words.words_of.Goals.{then-bytes-at-eq0+in-Ok+in_ok-push_copy, else-bytes-at-eq0}
 use Rattle.sfi_tool_c.proofs.Spelling.{between, next_word, unbroken_more, unbroken_word, unbroken_byte, utf8_more, around_zero, spells_none_bad, spells_none_unended}
 
 pub loop-at-preserved : goal.loop-at-preserved
 loop-at-preserved c = elim c.if-bytes-at-eq0.branch [
-  | then-bytes-at-eq0+in-Ok+in_ok-push_word w ↦
+  | then-bytes-at-eq0+in-Ok+in_ok-push_copy w ↦
       let zero : get_or c.args.bytes.now c.loop-at.at 0 ≡ 0 = grind (arith, w.if-bytes-at-eq0.true) in (
         omega (arith, w.from-is),
         next_word c.args.bytes.now c.loop-at.from c.loop-at.at c.if-bytes-at-eq0.from
             (map (string_bytes {Z = Global}) c.loop-at.words.items) (map (string_bytes {Z = Global}) c.if-bytes-at-eq0.words.items) w.in-Ok.word.now
             c.loop-at.invariant.0 (omega (arith, c.loop-at-test.true)) c.loop-at.invariant.1 w.in-Ok.ensures.cases.0 zero w.from-is
-            (ap (λ v. map (string_bytes {Z = Global}) v.items) w.words-is ∙ w.in_ok-push_word.ensures),
+            (ap (λ v. map (string_bytes {Z = Global}) v.items) w.words-is ∙ w.in_ok-push_copy.ensures),
         unbroken_more (map (string_bytes {Z = Global}) c.loop-at.words.items) (map (string_bytes {Z = Global}) c.if-bytes-at-eq0.words.items)
             w.in-Ok.word.now _ c.loop-at.invariant.2 (unbroken_word c.args.bytes.now c.loop-at.from c.loop-at.at c.loop-at.invariant.3)
-            w.in-Ok.ensures.cases.0 (ap (λ v. map (string_bytes {Z = Global}) v.items) w.words-is ∙ w.in_ok-push_word.ensures),
+            w.in-Ok.ensures.cases.0 (ap (λ v. map (string_bytes {Z = Global}) v.items) w.words-is ∙ w.in_ok-push_copy.ensures),
         λ k d low high. absurd (omega (arith, low, high, w.from-is)),
         utf8_more (map (string_bytes {Z = Global}) c.loop-at.words.items) (map (string_bytes {Z = Global}) c.if-bytes-at-eq0.words.items)
             w.in-Ok.word.now _ c.loop-at.invariant.4 w.in-Ok.ensures.cases.1
-            w.in-Ok.ensures.cases.0 (ap (λ v. map (string_bytes {Z = Global}) v.items) w.words-is ∙ w.in_ok-push_word.ensures),
+            w.in-Ok.ensures.cases.0 (ap (λ v. map (string_bytes {Z = Global}) v.items) w.words-is ∙ w.in_ok-push_copy.ensures),
       )
   | else-bytes-at-eq0 w ↦ (
     omega (arith, w.from-is, c.loop-at.invariant.0),

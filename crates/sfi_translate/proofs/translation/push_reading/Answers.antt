@@ -9,8 +9,8 @@ loop-at-init c = at_first c.args.address c.args.bytes.now (string_bytes c.args.o
 pub loop-at-preserved : goal.loop-at-preserved
 loop-at-preserved c =
     let at = c.loop-at.at in
-    next c.args.address c.args.bytes.now at c.in-Read.size c.in-Read.instr (take (length c.args.bytes.now - at) (drop at c.args.bytes.now)) (string_bytes c.args.out.now) (string_bytes c.loop-at.out) (string_bytes c.push_line.new.out)
-    (take_rest c.args.bytes.now at) c.loop-at.invariant c.in-Read.ensures.front (λ j m s. c.in-Read.ensures.only (Read j m) s) c.in_ok-push_line-in-Read.ensures
+    next c.args.address c.args.bytes.now at c.in-Read.size c.in-Read.instr (take (length c.args.bytes.now - at) (drop at c.args.bytes.now)) (string_bytes c.args.out.now) (string_bytes c.loop-at.out) (string_bytes c.push_instruction_line.new.out)
+    (take_rest c.args.bytes.now at) c.loop-at.invariant c.in-Read.ensures.front (λ j m s. c.in-Read.ensures.only (Read j m) s) c.in_ok-push_instruction_line-in-Read.ensures
 
 pub returns-in-Short : goal.returns-in-Short
 returns-in-Short c =

@@ -15,7 +15,7 @@ invariant_of-self-2 g c =
     (added_in m (g.M.Memory.bytes c.load.new.memory) c.self.inside.sandboxes.items c.in_ok-sandboxes.sandboxes.items c.append_both.new.sandboxes.items
     (programs_of c.self.inside.programs.items) (programs_of c.in_ok-programs.programs.items) (programs_of c.append_both.new.programs.items) c.args.module.now c.self.invariant
     c.load.ensures.runs.clean.layout c.load.ensures.runs.safe c.load.ensures.runs.calls c.args.self.now c.self.view_is c.requires.apart (g.met.M.Memory.in_range c.load.new.memory)
-    (c.in_ok-sandboxes.ensures.bytes ∙ ap (λ (b : Bytes). with_parts b c.args.module.now) c.in_ok-copy_all.ensures)
+    (c.in_ok-sandboxes.ensures.bytes ∙ ap (λ (b : Bytes). with_parts b c.args.module.now) c.in_ok-copy_all_sandboxes.ensures)
     c.in_ok-sandboxes.ensures.seats c.in_ok-append_both.ensures.sandboxes c.in_ok-programs.ensures
     (ap programs_of c.in_ok-append_both.ensures.programs ∙ map-append arc_value c.self.inside.programs.items c.in_ok-programs.programs.items)).kept
 
@@ -25,7 +25,7 @@ returns-clause-entered g c =
     (added_in m (g.M.Memory.bytes c.load.new.memory) c.self.inside.sandboxes.items c.in_ok-sandboxes.sandboxes.items c.append_both.new.sandboxes.items
     (programs_of c.self.inside.programs.items) (programs_of c.in_ok-programs.programs.items) (programs_of c.append_both.new.programs.items) c.args.module.now c.self.invariant
     c.load.ensures.runs.clean.layout c.load.ensures.runs.safe c.load.ensures.runs.calls c.args.self.now c.self.view_is c.requires.apart (g.met.M.Memory.in_range c.load.new.memory)
-    (c.in_ok-sandboxes.ensures.bytes ∙ ap (λ (b : Bytes). with_parts b c.args.module.now) c.in_ok-copy_all.ensures)
+    (c.in_ok-sandboxes.ensures.bytes ∙ ap (λ (b : Bytes). with_parts b c.args.module.now) c.in_ok-copy_all_sandboxes.ensures)
     c.in_ok-sandboxes.ensures.seats c.in_ok-append_both.ensures.sandboxes c.in_ok-programs.ensures
     (ap programs_of c.in_ok-append_both.ensures.programs ∙ map-append arc_value c.self.inside.programs.items c.in_ok-programs.programs.items)).entered
 
@@ -35,7 +35,7 @@ returns-clause-first_data g c =
     (added_in m (g.M.Memory.bytes c.load.new.memory) c.self.inside.sandboxes.items c.in_ok-sandboxes.sandboxes.items c.append_both.new.sandboxes.items
     (programs_of c.self.inside.programs.items) (programs_of c.in_ok-programs.programs.items) (programs_of c.append_both.new.programs.items) c.args.module.now c.self.invariant
     c.load.ensures.runs.clean.layout c.load.ensures.runs.safe c.load.ensures.runs.calls c.args.self.now c.self.view_is c.requires.apart (g.met.M.Memory.in_range c.load.new.memory)
-    (c.in_ok-sandboxes.ensures.bytes ∙ ap (λ (b : Bytes). with_parts b c.args.module.now) c.in_ok-copy_all.ensures)
+    (c.in_ok-sandboxes.ensures.bytes ∙ ap (λ (b : Bytes). with_parts b c.args.module.now) c.in_ok-copy_all_sandboxes.ensures)
     c.in_ok-sandboxes.ensures.seats c.in_ok-append_both.ensures.sandboxes c.in_ok-programs.ensures
     (ap programs_of c.in_ok-append_both.ensures.programs ∙ map-append arc_value c.self.inside.programs.items c.in_ok-programs.programs.items)).first_data
 
@@ -45,7 +45,7 @@ returns-clause-earlier g c =
     (added_in m (g.M.Memory.bytes c.load.new.memory) c.self.inside.sandboxes.items c.in_ok-sandboxes.sandboxes.items c.append_both.new.sandboxes.items
     (programs_of c.self.inside.programs.items) (programs_of c.in_ok-programs.programs.items) (programs_of c.append_both.new.programs.items) c.args.module.now c.self.invariant
     c.load.ensures.runs.clean.layout c.load.ensures.runs.safe c.load.ensures.runs.calls c.args.self.now c.self.view_is c.requires.apart (g.met.M.Memory.in_range c.load.new.memory)
-    (c.in_ok-sandboxes.ensures.bytes ∙ ap (λ (b : Bytes). with_parts b c.args.module.now) c.in_ok-copy_all.ensures)
+    (c.in_ok-sandboxes.ensures.bytes ∙ ap (λ (b : Bytes). with_parts b c.args.module.now) c.in_ok-copy_all_sandboxes.ensures)
     c.in_ok-sandboxes.ensures.seats c.in_ok-append_both.ensures.sandboxes c.in_ok-programs.ensures
     (ap programs_of c.in_ok-append_both.ensures.programs ∙ map-append arc_value c.self.inside.programs.items c.in_ok-programs.programs.items)).earlier
 
@@ -55,7 +55,7 @@ returns-clause-changes g c =
     (added_in m (g.M.Memory.bytes c.load.new.memory) c.self.inside.sandboxes.items c.in_ok-sandboxes.sandboxes.items c.append_both.new.sandboxes.items
     (programs_of c.self.inside.programs.items) (programs_of c.in_ok-programs.programs.items) (programs_of c.append_both.new.programs.items) c.args.module.now c.self.invariant
     c.load.ensures.runs.clean.layout c.load.ensures.runs.safe c.load.ensures.runs.calls c.args.self.now c.self.view_is c.requires.apart (g.met.M.Memory.in_range c.load.new.memory)
-    (c.in_ok-sandboxes.ensures.bytes ∙ ap (λ (b : Bytes). with_parts b c.args.module.now) c.in_ok-copy_all.ensures)
+    (c.in_ok-sandboxes.ensures.bytes ∙ ap (λ (b : Bytes). with_parts b c.args.module.now) c.in_ok-copy_all_sandboxes.ensures)
     c.in_ok-sandboxes.ensures.seats c.in_ok-append_both.ensures.sandboxes c.in_ok-programs.ensures
     (ap programs_of c.in_ok-append_both.ensures.programs ∙ map-append arc_value c.self.inside.programs.items c.in_ok-programs.programs.items)).changes
 
@@ -65,6 +65,6 @@ returns-clause-safe g c =
     (added_in m (g.M.Memory.bytes c.load.new.memory) c.self.inside.sandboxes.items c.in_ok-sandboxes.sandboxes.items c.append_both.new.sandboxes.items
     (programs_of c.self.inside.programs.items) (programs_of c.in_ok-programs.programs.items) (programs_of c.append_both.new.programs.items) c.args.module.now c.self.invariant
     c.load.ensures.runs.clean.layout c.load.ensures.runs.safe c.load.ensures.runs.calls c.args.self.now c.self.view_is c.requires.apart (g.met.M.Memory.in_range c.load.new.memory)
-    (c.in_ok-sandboxes.ensures.bytes ∙ ap (λ (b : Bytes). with_parts b c.args.module.now) c.in_ok-copy_all.ensures)
+    (c.in_ok-sandboxes.ensures.bytes ∙ ap (λ (b : Bytes). with_parts b c.args.module.now) c.in_ok-copy_all_sandboxes.ensures)
     c.in_ok-sandboxes.ensures.seats c.in_ok-append_both.ensures.sandboxes c.in_ok-programs.ensures
     (ap programs_of c.in_ok-append_both.ensures.programs ∙ map-append arc_value c.self.inside.programs.items c.in_ok-programs.programs.items)).kept.0

@@ -13,15 +13,15 @@ returns-in_err-permit-clause-refused c =
     (first_faultless c.args.items.now c.loop-number.number c.loop-number.code c.loop-number.invariant.permitted c.loop-number.invariant.first
     (record { aligned = c.loop-number.invariant.aligned; fits = c.loop-number.invariant.fits })) c.in_err-permit.ensures.refused))
 
-pub returns-in_err-lay_item-clause-refused : goal.returns-in_err-lay_item-clause-refused
-returns-in_err-lay_item-clause-refused c =
-    let p = err_from_is_err_and c.from_residual-in_err-lay_item.result c.from_residual-in_err-lay_item.ensures.1 in
+pub returns-in_err-lay_item_in_words-clause-refused : goal.returns-in_err-lay_item_in_words-clause-refused
+returns-in_err-lay_item_in_words-clause-refused c =
+    let p = err_from_is_err_and c.from_residual-in_err-lay_item_in_words.result c.from_residual-in_err-lay_item_in_words.ensures.1 in
     rw (p.1, p.2)
-    (unless_weaker (HasNoRoom c.args.sandbox c.index-items-number.result c.items_after-later.result.now c.loop-number.code) (IsItemFault true Sfiw c.args.sandbox c.args.items.now) c.in_err-lay_item.field-0.0
+    (unless_weaker (HasNoRoom c.args.sandbox c.index-items-number.result c.items_after-later.result.now c.loop-number.code) (IsItemFault true Sfiw c.args.sandbox c.args.items.now) c.in_err-lay_item_in_words.field-0.0
     (λ f none. no_room_fault c.args.sandbox c.args.items.now c.loop-number.number c.index-items-number.result c.items_after-later.result.now c.loop-number.code f
     (stands_at c.args.items.now c.loop-number.number c.index-items-number.result c.loop-number-test.true c.index-items-number.is) c.items_after-later.ensures
     c.loop-number.invariant.permitted c.in_ok-permit.ensures.permitted c.loop-number.invariant.first
-    (record { aligned = c.loop-number.invariant.aligned; fits = c.loop-number.invariant.fits }) none) c.in_err-lay_item.ensures.refused)
+    (record { aligned = c.loop-number.invariant.aligned; fits = c.loop-number.invariant.fits }) none) c.in_err-lay_item_in_words.ensures.refused)
 
 pub loop-number-preserved : goal.loop-number-preserved
 loop-number-preserved c =
@@ -30,10 +30,10 @@ loop-number-preserved c =
       within = omega (arith, c.loop-number-test.true);
       permitted = next_permitted Sfiw c.args.items.now c.loop-number.number c.index-items-number.result at c.loop-number.invariant.permitted c.in_ok-permit.ensures.permitted;
       first =
-          next_first c.args.items.now c.loop-number.number c.index-items-number.result c.items_after-later.result.now c.loop-number.code c.lay_item.new.code at c.items_after-later.ensures
-          c.loop-number.invariant.first c.in_ok-lay_item.ensures.laid;
-      aligned = c.in_ok-lay_item.ensures.room.aligned;
-      fits = c.in_ok-lay_item.ensures.room.fits;
+          next_first c.args.items.now c.loop-number.number c.index-items-number.result c.items_after-later.result.now c.loop-number.code c.lay_item_in_words.new.code at c.items_after-later.ensures
+          c.loop-number.invariant.first c.in_ok-lay_item_in_words.ensures.laid;
+      aligned = c.in_ok-lay_item_in_words.ensures.room.aligned;
+      fits = c.in_ok-lay_item_in_words.ensures.room.fits;
       count = label_count c.loop-number.labels.items c.push.new.self.items c.loop-number.number c.place.result c.loop-number.invariant.count c.in_ok-push.ensures.items;
       labels =
           label_push true Sfiw c.args.items.now c.loop-number.labels.items c.push.new.self.items c.loop-number.number c.place.result c.loop-number.invariant.count c.loop-number.invariant.labels
@@ -42,8 +42,8 @@ loop-number-preserved c =
 
 pub returns-clause-faultless : goal.returns-clause-faultless
 returns-clause-faultless c =
-    all_faultless c.args.items.now c.loop-number.number c.loop-number.code c.finish.result (omega (arith, c.loop-number-test.false)) c.loop-number.invariant.within c.loop-number.invariant.permitted c.loop-number.invariant.first
-    (record { aligned = c.loop-number.invariant.aligned; fits = c.loop-number.invariant.fits }) (c.finish.ensures ∙ ap (λ w. w.words) c.in_ok-end_word.ensures)
+    all_faultless c.args.items.now c.loop-number.number c.loop-number.code c.into_words.result (omega (arith, c.loop-number-test.false)) c.loop-number.invariant.within c.loop-number.invariant.permitted c.loop-number.invariant.first
+    (record { aligned = c.loop-number.invariant.aligned; fits = c.loop-number.invariant.fits }) (c.into_words.ensures ∙ ap (λ w. w.words) c.in_ok-end_word.ensures)
 
 pub returns-clause-labels : goal.returns-clause-labels
 returns-clause-labels c =

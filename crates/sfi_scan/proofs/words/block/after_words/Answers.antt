@@ -8,20 +8,20 @@ loop-at-init c = let inside = c.requires.inside in (0, omega arith, omega (arith
 pub returns-then-i-eq64 : goal.returns-then-i-eq64
 returns-then-i-eq64 c =
     let inv = c.loop-at.invariant in
-    let next = c.next_of-i.ensures in
+    let next = c.next_word_from-i.ensures in
     let from = c.args.from in
     let inside = c.requires.inside in
-    let end : c.next_of-i.result ≡ 64 = c.if-i-eq64.true in
-    let here : c.next_of-i.result ≡ 2 * (from + (32 - from)) = omega (arith, end, inside) in
-    reached c.args.place.now c.args.block.now c.args.owed c.args.words from c.requires.within c.requires.others c.loop-at.left inv.0 (32 - from) c.loop-at.at c.next_of-i.result inv.1 here next.from next.end next.none next.one next.skipped inv.3
+    let end : c.next_word_from-i.result ≡ 64 = c.if-i-eq64.true in
+    let here : c.next_word_from-i.result ≡ 2 * (from + (32 - from)) = omega (arith, end, inside) in
+    reached c.args.place.now c.args.block.now c.args.owed c.args.words from c.requires.within c.requires.others c.loop-at.left inv.0 (32 - from) c.loop-at.at c.next_word_from-i.result inv.1 here next.from next.end next.none next.one next.skipped inv.3
 
 pub loop-at-preserved : goal.loop-at-preserved
 loop-at-preserved c =
     let b = c.args.place.now in
     let block = c.args.block.now in
     let inv = c.loop-at.invariant in
-    let next = c.next_of-i.ensures in
-    let i = c.next_of-i.result in
+    let next = c.next_word_from-i.ensures in
+    let i = c.next_word_from-i.result in
     let from = c.args.from in
     let other = c.if-i-eq64.false in
     let end = next.end in

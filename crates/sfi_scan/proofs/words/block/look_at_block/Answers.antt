@@ -9,10 +9,10 @@ returns-then-is_nothing c =
     (λ n lt none. inl (told_quiet c.args.block.now c.word_masks_of-masks.result n c.told-block c.word_masks_of-masks.ensures lt (c.not_free-words.ensures.free n lt none) c.args.place.now c.requires.within))
     c.if-words-eq0.true (OnTrue_at c.if-is_nothing.true c.is_nothing.ensures)
 
-pub unseen-left-requires-clause-quiet : goal.unseen-left-requires-clause-quiet
-unseen-left-requires-clause-quiet c n lt none = told_quiet c.args.block.now c.word_masks_of-masks.result n c.told-block c.word_masks_of-masks.ensures lt (c.not_free-words.ensures.free n lt none)
+pub doubtful_words-left-requires-clause-quiet : goal.doubtful_words-left-requires-clause-quiet
+doubtful_words-left-requires-clause-quiet c n lt none = told_quiet c.args.block.now c.word_masks_of-masks.result n c.told-block c.word_masks_of-masks.ensures lt (c.not_free-words.ensures.free n lt none)
 
-pub unseen-left-requires-clause-free : goal.unseen-left-requires-clause-free
-unseen-left-requires-clause-free c i lt even h =
+pub doubtful_words-left-requires-clause-free : goal.doubtful_words-left-requires-clause-free
+doubtful_words-left-requires-clause-free c i lt even h =
     let m = c.word_masks_of-masks.result in
     c.word_masks_of-masks.ensures.word i (omega (arith, even)) lt (in_rest m.free m.long i h) (in_rest_other m.free m.long i h)

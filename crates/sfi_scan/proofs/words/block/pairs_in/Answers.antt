@@ -3,7 +3,7 @@ use Rattle.sfi_scan.proofs.Marks.{in_lowest, in_rest, in_more, in_zero}
 use Rattle.sfi_scan.proofs.WordBlock.{next_is, pair_at}
 use Rattle.sfi_scan.proofs.WordMarks.{two_words}
 use Rattle.sfi_scan.proofs.words.block.pairs_in.Goals as goal
-use Rattle.sfi_scan.proofs.words.block.pairs_in.Goals.{then-is_pair, else-is_pair}
+use Rattle.sfi_scan.proofs.words.block.pairs_in.Goals.{then-are_pair_words, else-are_pair_words}
 
 pub loop-rest-init : goal.loop-rest-init
 loop-rest-init c = (
@@ -33,11 +33,11 @@ loop-rest-preserved c =
     let there = c.loop-rest.invariant.0 i low.0 low.1 in
     let even = c.requires i low.0 there.first in (
       λ j lt h. c.loop-rest.invariant.0 j lt (in_rest c.loop-rest.rest (c.loop-rest.rest - 1) j h),
-      elim c.if-is_pair.branch [
-        | then-is_pair w ↦ λ j h.
+      elim c.if-are_pair_words.branch [
+        | then-are_pair_words w ↦ λ j h.
             in_more w64 (IsPairAt c.args.block.now) c.loop-rest.pairs i low.0
-            (pair_at c.args.block.now i c.word_at-first.result c.word_at-second.result even there.below c.word_at-first.ensures (c.word_at-second.ensures ∙ next_is c.args.block.now i) (OnTrue_at w.if-is_pair.true c.is_pair.ensures))
+            (pair_at c.args.block.now i c.word_at-first.result c.word_at-second.result even there.below c.word_at-first.ensures (c.word_at-second.ensures ∙ next_is c.args.block.now i) (OnTrue_at w.if-are_pair_words.true c.are_pair_words.ensures))
             c.loop-rest.invariant.1 j (sym (ap (λ m. is_in m j) w.pairs-is) ∙ h)
-        | else-is_pair w ↦ λ j h. c.loop-rest.invariant.1 j (sym (ap (λ m. is_in m j) w.pairs-is) ∙ h)
+        | else-are_pair_words w ↦ λ j h. c.loop-rest.invariant.1 j (sym (ap (λ m. is_in m j) w.pairs-is) ∙ h)
       ],
     )

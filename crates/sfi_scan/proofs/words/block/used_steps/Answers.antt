@@ -7,7 +7,7 @@ use Rattle.sfi_scan.proofs.words.block.used_steps.Goals.{then-is_used_step, else
 
 pub loop-rest-init : goal.loop-rest-init
 loop-rest-init c = (
-  λ i lt h. before_access c.args.free c.args.words c.without-rest.result i c.ranges.free.fits c.without-rest.ensures lt h,
+  λ i lt h. before_access c.args.free c.args.words c.bits_without-rest.result i c.ranges.free.fits c.bits_without-rest.ensures lt h,
   λ i h. absurd (let no = sym (in_zero i) ∙ h in cc),
 )
 

@@ -17,5 +17,5 @@ statement_leads (Err e) line old middle new text front token rest passes takes l
 
 pub returns-in-Token-clause-leads : goal.returns-in-Token-clause-leads
 returns-in-Token-clause-leads c =
-    let p = c.in_ok-labels.ensures.passes in
-    statement_leads c.statement.result _ _ c.labels.new.self _ _ p.0 _ _ p.1 (subst (λ n. IsNext p.0 n) c.in-Token.is p.2) c.statement.ensures.leads
+    let p = c.in_ok-read_labels.ensures.passes in
+    statement_leads c.statement.result _ _ c.read_labels.new.self _ _ p.0 _ _ p.1 (subst (λ n. IsNext p.0 n) c.in-Token.is p.2) c.statement.ensures.leads

@@ -1,5 +1,0 @@
-use Rattle.rv_word.proofs.Cut.{no_store, if_none}
-use Rattle.rv_word.proofs.parts.Parts.store.Goals as goal
-
-pub returns-in_err-of-clause-none : goal.returns-in_err-of-clause-none
-returns-in_err-of-clause-none c = if_none _ _ (no_store c.args.self c.requires.fits c.requires.opcode c.in_err-of.ensures.none)

@@ -1,0 +1,5 @@
+use Rattle.rv_word.proofs.Cut.{no_store, if_none}
+use Rattle.rv_word.proofs.word_fields.WordFields.store.Goals as goal
+
+pub returns-in_err-from_funct3-clause-none : goal.returns-in_err-from_funct3-clause-none
+returns-in_err-from_funct3-clause-none c = if_none _ _ (no_store c.args.self c.requires.fits c.requires.opcode c.in_err-from_funct3.ensures.none)

@@ -1,5 +1,0 @@
-use Rattle.sfi_host.proofs.Prelude.{◌≡◌, ◌+◌, drop, gate_at}
-use Rattle.sfi_host.proofs.calls.place_of.Given as goal
-
-abbrev pub invariant-loop-place : goal.invariant-loop-place
-invariant-loop-place l = l.place + gate_at (drop l.place l.gates) l.address ≡ gate_at l.gates l.address

@@ -1,0 +1,105 @@
+//! Moving a sandbox of an image.
+ghost use Rattle.std.specs.Prelude.{◌≡◌, ℕ, ◌↔◌, List, Ok, Err, OnOk, IfOk, IfErr};
+ghost use Rattle.sfi_image.specs.Spelling.{Part, part, fields_of};
+ghost use Rattle.std.specs.Bool.{OnTrue, OnFalse};
+ghost use Rattle.sfi_image.specs.Faults.{IsFault};
+ghost use Rattle.sfi_image.specs.Parts.{IsImage};
+ghost use Rattle.sfi_safety.specs.Clean.{IsAccepted};
+ghost use Rattle.sfi_image.specs.Keeping.{IsSandboxOf, sandbox_offset};
+ghost use Rattle.sfi_places.specs.Moving.{moved_one, IsMoved, IsMoveFault};
+
+use crate::addresses::{GATES_AT, write_place};
+use sfi_formats::{Place, REGION_LEAST};
+use sfi_image::{Fields, LayoutFault, is_region, sandbox_of};
+
+/// Why a sandbox can't be moved.
+#[derive(Clone, Copy, PartialEq, Eq, Debug)]
+pub enum MoveFault {
+    /// The bytes are no image.
+    NoImage(LayoutFault),
+    /// The image has fewer sandboxes.
+    NoSandbox,
+    /// The place is wrong: a base is no multiple of its region's size, the data have no room for a
+    /// guard zone, or a region or guard zone meets one of this or another sandbox.
+    NoPlace,
+}
+
+impl From<LayoutFault> for MoveFault {
+    ghost use Rattle.std.specs.Prelude.{◌≡◌};
+    ghost use Rattle.sfi_places.specs.declared.moving.MoveFault.TheVariants.{NoImage};
+
+    ghost from_gives = { λ k f. f ≡ NoImage k };
+
+    fn from(fault: LayoutFault) -> MoveFault {
+        MoveFault::NoImage(fault)
+    }
+}
+
+/// The fields of the image's sandbox `number`, and the offset of its first byte.
+fn fields_of_sandbox(image: &[u8], number: u32) -> Result<(Fields, usize), MoveFault>
+    ensures found { IfOk result (λ f. (p : Part) × (h : IsSandboxOf image.now number p)
+        × (f.0 ≡ fields_of p) × (f.1 ≡ sandbox_offset h.parts number)) }
+    ensures missing { IfErr result (λ e. (to : Place) → IsMoveFault image.now number to e) }
+{
+    let Some((view, end)) = sandbox_of(image, number)? else {
+        return Err(MoveFault::NoSandbox);
+    };
+    let length = view.gates.len() + view.code.len() + view.init.len();
+    Ok((view.fields, end - length - GATES_AT))
+}
+
+/// Whether the bytes are an image.
+fn is_image(bytes: &[u8]) -> bool
+    ensures image { OnTrue result ((ps : List Part) × IsImage bytes.now ps) }
+    ensures fault { OnFalse result ((k : LayoutFault) × IsFault bytes.now k) }
+{
+    sandbox_of(bytes, 0).is_ok()
+}
+
+/// Moves the sandbox to the place, if that is right.
+fn try_move(image: &mut [u8], number: u32, code_base: u32, data_base: u32) -> Result<(), MoveFault>
+    ensures moved { OnOk result (IsMoved image.old number
+        (record { code_base = code_base; data_base = data_base }) image.new) }
+    ensures fault { IfErr result (IsMoveFault image.old number
+        (record { code_base = code_base; data_base = data_base })) }
+    ensures unmoved { IfErr result (λ e. image.new ≡ image.old) }
+{
+    let (fields, offset) = fields_of_sandbox(image, number)?;
+    let most = fields.format.code_most();
+    if !is_region(code_base, fields.code_size, REGION_LEAST, most) {
+        return Err(MoveFault::NoPlace);
+    }
+    let to = Place {
+        code_base,
+        data_base,
+    };
+    let from = Place {
+        code_base: fields.code_base,
+        data_base: fields.data_base,
+    };
+    write_place(image, offset, fields.gate_count, from, to);
+    if is_image(image) {
+        return Ok(());
+    }
+    write_place(image, offset, fields.gate_count, to, from);
+    Err(MoveFault::NoPlace)
+}
+
+/// Moves the image's sandbox `number`, counted from 0, to the place: of the image's bytes only
+/// its two bases, its start and its gates' addresses change. It takes no memory.
+pub fn move_sandbox(image: &mut [u8], number: u32, to: Place) -> Result<(), MoveFault>
+    // What each answer means.
+    ensures moved { OnOk result (IsMoved image.old number to image.new) }
+    ensures fault { IfErr result (IsMoveFault image.old number to) }
+    ensures unmoved { IfErr result (λ e. image.new ≡ image.old) }
+
+    // Which bytes get each answer.
+    ensures only_moved { (now : List ℕ) → IsMoved image.old number to now → result ≡ Ok tt }
+    ensures only_fault { (e : MoveFault) → IsMoveFault image.old number to e → result ≡ Err e }
+
+    // The verdict doesn't change.
+    ensures accepted { OnOk result ((ps : List Part) → IsImage image.old ps
+        → IsAccepted image.old ps ↔ IsAccepted image.new (moved_one number to ps)) }
+{
+    try_move(image, number, to.code_base, to.data_base)
+}

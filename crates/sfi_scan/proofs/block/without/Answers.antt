@@ -1,5 +1,0 @@
-use Rattle.sfi_scan.proofs.Starts.{without_is}
-use Rattle.sfi_scan.proofs.block.without.Goals as goal
-
-pub returns : goal.returns
-returns c = without_is c.args.mask c.args.other c.ranges.other.fits

@@ -1,6 +1,0 @@
-use Rattle.sfi_scan.proofs.Prelude.{refl}
-use Rattle.sfi_scan.proofs.BlockPairs.{masking_told}
-use Rattle.sfi_scan.proofs.words.block.is_masking.Goals as goal
-
-pub returns : goal.returns
-returns c = masking_told c.args.word c.ranges.word.fits _ refl

@@ -1,5 +1,0 @@
-use Rattle.sfi_scan.proofs.WordLook.{plain_by}
-use Rattle.sfi_scan.proofs.words.look.is_plain_by.Goals as goal
-
-pub returns-in-Some : goal.returns-in-Some
-returns-in-Some c word that = plain_by c.args.place.now c.args.address c.requires.before_end word c.in-Some.outline _ that c.in-Some.is c.is_plain.result c.is_plain.ensures

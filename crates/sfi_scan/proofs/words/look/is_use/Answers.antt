@@ -1,6 +1,0 @@
-use Rattle.sfi_scan.proofs.Prelude.{sym}
-use Rattle.sfi_scan.proofs.WordLook.{use_told}
-use Rattle.sfi_scan.proofs.words.look.is_use.Goals as goal
-
-pub returns : goal.returns
-returns c = use_told c.args.place.now c.args.address c.requires.before_end c.args.word c.args.d c.in-Some.instr c.in-Some.ensures.found (sym c.if-not-uses.ensures) c.outline_of.result c.outline_of.ensures c.is_plain.result c.is_plain.ensures

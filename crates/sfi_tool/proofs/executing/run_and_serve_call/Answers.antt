@@ -1,0 +1,16 @@
+use Rattle.std.proofs.lemmas.Result.{IfOk-weaker}
+use Rattle.sfi_tool.proofs.Prelude.{slots_of}
+use Rattle.sfi_tool.proofs.Calls.{served_on, served_within}
+use Rattle.sfi_tool.proofs.executing.run_and_serve_call.Goals as goal
+
+pub returns-clause-streamed : goal.returns-clause-streamed
+returns-clause-streamed g c = IfOk-weaker c.serve_call.result _ _ (λ u served.
+    served_on c.args.budget c.args.sandbox (slots_of c.args.world.now) (slots_of c.run_to_request.new.world) (slots_of c.serve_call.new.world) c.in-Some.request c.args.console.now c.serve_call.new.console
+    (g.R.Read.remaining c.args.reader.now) (g.R.Read.remaining c.serve_call.new.reader) (g.W.Write.contents c.args.writer.now) (g.W.Write.contents c.serve_call.new.writer)
+    (c.run_to_request.ensures.streamed c.args.console.now (g.R.Read.remaining c.args.reader.now) (g.W.Write.contents c.args.writer.now)) c.in-Some.ensures.asked served) c.serve_call.ensures
+
+pub returns-clause-within : goal.returns-clause-within
+returns-clause-within g c = IfOk-weaker c.serve_call.result _ _ (λ u served.
+    served_within c.args.budget c.args.sandbox (slots_of c.run_to_request.new.world) (slots_of c.serve_call.new.world) c.in-Some.request c.args.console.now c.serve_call.new.console
+    (g.R.Read.remaining c.args.reader.now) (g.R.Read.remaining c.serve_call.new.reader) (g.W.Write.contents c.args.writer.now) (g.W.Write.contents c.serve_call.new.writer)
+    c.in-Some.ensures.asked served c.run_to_request.ensures.within) c.serve_call.ensures

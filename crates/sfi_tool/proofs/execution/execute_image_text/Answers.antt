@@ -1,0 +1,12 @@
+use Rattle.sfi_tool.proofs.Prelude.{◌∙◌, subst, sym}
+use Rattle.sfi_answers.specs.Answers.{IsAcceptedImage}
+use Rattle.sfi_tool.proofs.Jobs.{no_bytes, same_fault}
+use Rattle.sfi_tool.proofs.execution.execute_image_text.Goals as goal
+
+pub returns-in-Ok-clause-not_accepted : goal.returns-in-Ok-clause-not_accepted
+returns-in-Ok-clause-not_accepted g c = λ e h.
+    c.execute_image.ensures.not_accepted e (subst IsAcceptedImage (sym (c.deref.ensures.value ∙ c.in-Ok.ensures.only_bytes h.0 h.1)) h.2)
+
+pub returns-in-Err-clause-not_accepted : goal.returns-in-Err-clause-not_accepted
+returns-in-Err-clause-not_accepted g c = λ e h.
+    no_bytes c.in-Err.stop h.0 (λ m. c.say_stop.ensures (same_fault c.say_stop.result _ e) (c.from.ensures ∙ m)) (c.in-Err.ensures.only_bytes h.0 h.1)

@@ -1,0 +1,213 @@
+//! The command `exec`, over readers and writers.
+
+ghost use Rattle.std.specs.Prelude.{◌≡◌, ◌≢◌, Err, IfOk, IfSome, OnOk};
+ghost use Rattle.std.specs.Io.KnownBytes.{Appends};
+ghost use Rattle.sfi_answers.specs.Answers.{GivesImageThat};
+ghost use Rattle.sfi_answers.specs.Answers.{IsAcceptedImage, Refuses};
+ghost use Rattle.sfi_answers.specs.declared.fault.Stop.TheVariants as stops;
+ghost use Rattle.sfi_tool.specs.Executing.{ExecutesKnown, IsNotAccepted};
+ghost use Rattle.sfi_tool.specs.declared.execution.ExecFault.TheVariants.{NotAccepted};
+ghost use Rattle.sfi_tool.specs.private.{Ran, RanImage};
+
+use crate::executing::execute_sandboxes;
+use crate::serving::{Interruption, MOST_HANDED};
+use crate::stopping::{first_nonzero_status, stop_text};
+use rv_mem::Pages;
+use sfi_answers::{Stop, TOO_LARGE_LINE, refusal_answer, stop_answer};
+use sfi_check::{Accepted, Refusal, check};
+use sfi_host::{Console, World};
+use sfi_io::{INPUT_LIMIT, Input, ReadStop, image_bytes, read_input, write_out};
+use std::alloc::{AllocError, Global};
+use std::io::{Read, Write};
+
+/// Why a run of an image's sandboxes didn't come to its end.
+#[derive(Clone, Copy, Debug, Drop, PartialEq, Eq)]
+pub enum ExecFault {
+    /// The image can't be run. What was said tells why: the verdict on an image with findings, or the
+    /// line of a fault.
+    NotAccepted,
+    /// An allocation was refused.
+    Memory,
+    /// The image or the input can't be read.
+    Read,
+    /// The output, or what is said, can't be written.
+    Write,
+    /// A sandbox took 18446744073709551615 turns, which none lives to see.
+    TooLong,
+}
+
+impl From<AllocError> for Interruption {
+    ghost use Rattle.sfi_tool.specs.declared.serving.Interruption.TheVariants.{Memory};
+
+    ghost from_gives = { λ _ e. e ≡ Memory };
+
+    fn from(_e: AllocError) -> Interruption {
+        Interruption::Memory
+    }
+}
+
+impl From<Interruption> for ExecFault {
+    ghost from_gives = { λ _ e. e ≢ NotAccepted };
+
+    fn from(fault: Interruption) -> ExecFault {
+        match fault {
+            Interruption::Memory => ExecFault::Memory,
+            Interruption::Read => ExecFault::Read,
+            Interruption::Write => ExecFault::Write,
+            Interruption::TooLong => ExecFault::TooLong,
+        }
+    }
+}
+
+/// Writes a whole text to where errors are told; `Interruption::Write` if that fails.
+fn write_message<E: Write>(errors: &mut E, text: &[u8]) -> Result<(), Interruption>
+    ensures { OnOk result (Appends (E.contents errors.old) (E.contents errors.new) text.now) }
+{
+    if write_out(errors, text) {
+        Ok(())
+    } else {
+        Err(Interruption::Write)
+    }
+}
+
+/// Runs the sandboxes of an accepted image. What they put before a fault is written, too.
+fn execute_accepted<R: Read, W: Write, E: Write>(
+    alloc: Global,
+    accepted: &Accepted<'_>,
+    budget: u64,
+    reader: &mut R,
+    writer: &mut W,
+    errors: &mut E,
+) -> Result<u8, Interruption>
+    ensures { IfOk result (Ran budget accepted.now (R.remaining reader.old) (R.remaining reader.new)
+        (W.contents writer.old) (W.contents writer.new) (E.contents errors.old)
+        (E.contents errors.new)) }
+{
+    let count = accepted.sandbox_count() as u32;
+    let mut world = World::load(alloc, accepted, Pages::new(alloc))?;
+    let mut console = Console::new(alloc, count, &[])?;
+    let mut buffer = vec![in alloc; 0u8; MOST_HANDED]?;
+    let ran = execute_sandboxes(
+        &mut world,
+        &mut console,
+        count,
+        budget,
+        &mut buffer,
+        reader,
+        writer,
+    );
+    if writer.flush().is_err() {
+        return Err(Interruption::Write);
+    }
+    ran?;
+    let text = stop_text(alloc, accepted.image().parts(), &world)?;
+    write_message(errors, text.as_bytes())?;
+    Ok(first_nonzero_status(&world, count))
+}
+
+/// Says why there is no run.
+fn say_stop<E: Write>(alloc: Global, stop: Stop, errors: &mut E) -> ExecFault
+    ensures { result ≡ NotAccepted → stop ≢ stops.Memory }
+{
+    match stop_answer(alloc, stop) {
+        Ok(answer) => match write_message(errors, &answer.output) {
+            Ok(()) => ExecFault::NotAccepted,
+            Err(fault) => ExecFault::from(fault),
+        },
+        Err(_) => ExecFault::Memory,
+    }
+}
+
+/// Says the verdict on an image that is refused.
+fn say_refusal<E: Write>(alloc: Global, bytes: &[u8], refusal: Refusal, errors: &mut E) -> ExecFault
+    requires { Refuses bytes.now refusal }
+    ensures { result ≡ NotAccepted → ¬ IsAcceptedImage bytes.now }
+{
+    match refusal_answer(alloc, false, bytes, refusal) {
+        Ok(answer) => match write_message(errors, &answer.output) {
+            Ok(()) => ExecFault::NotAccepted,
+            Err(fault) => ExecFault::from(fault),
+        },
+        Err(stop) => say_stop(alloc, stop, errors),
+    }
+}
+
+/// Says that the text passes the limit.
+fn say_too_large<E: Write>(errors: &mut E) -> ExecFault {
+    match write_message(errors, TOO_LARGE_LINE.as_bytes()) {
+        Ok(()) => ExecFault::NotAccepted,
+        Err(fault) => ExecFault::from(fault),
+    }
+}
+
+/// Runs the sandboxes of the image with these bytes, if it is accepted.
+fn execute_image<R: Read, W: Write, E: Write>(
+    alloc: Global,
+    bytes: &[u8],
+    budget: u64,
+    reader: &mut R,
+    writer: &mut W,
+    errors: &mut E,
+) -> Result<u8, ExecFault>
+    ensures ran { IfOk result (λ status. RanImage budget (R.remaining reader.old)
+        (R.remaining reader.new) (W.contents writer.old) (W.contents writer.new)
+        (E.contents errors.old) (E.contents errors.new) status bytes.now) }
+    ensures not_accepted { result ≡ Err NotAccepted → ¬ IsAcceptedImage bytes.now }
+    ensures untouched { result ≡ Err NotAccepted
+        → (reader.new ≡ reader.old) × (writer.new ≡ writer.old) }
+{
+    match check(alloc, bytes) {
+        Ok(accepted) => Ok(execute_accepted(alloc, &accepted, budget, reader, writer, errors)?),
+        Err(refusal) => Err(say_refusal(alloc, bytes, refusal, errors)),
+    }
+}
+
+/// Runs the sandboxes of the image that the text is or spells.
+fn execute_image_text<R: Read, W: Write, E: Write>(
+    alloc: Global,
+    text: &[u8],
+    budget: u64,
+    reader: &mut R,
+    writer: &mut W,
+    errors: &mut E,
+) -> Result<u8, ExecFault>
+    ensures ran { IfOk result (λ status. GivesImageThat (RanImage budget (R.remaining reader.old)
+        (R.remaining reader.new) (W.contents writer.old) (W.contents writer.new)
+        (E.contents errors.old) (E.contents errors.new) status) text.now) }
+    ensures not_accepted { result ≡ Err NotAccepted → IsNotAccepted text.now }
+    ensures untouched { result ≡ Err NotAccepted
+        → (reader.new ≡ reader.old) × (writer.new ≡ writer.old) }
+{
+    if text.len() > INPUT_LIMIT {
+        return Err(say_too_large(errors));
+    }
+    match image_bytes(alloc, text) {
+        Ok(bytes) => execute_image(alloc, &bytes, budget, reader, writer, errors),
+        Err(stop) => Err(say_stop(alloc, Stop::from(stop), errors)),
+    }
+}
+
+/// Runs the sandboxes of the image that a reader gives, one after another.
+pub fn exec<I: Read, R: Read, W: Write, E: Write>(
+    alloc: Global,
+    budget: u64,
+    image: &mut I,
+    reader: &mut R,
+    writer: &mut W,
+    errors: &mut E,
+) -> Result<u8, ExecFault>
+    ensures executes { IfOk result (ExecutesKnown budget (I.remaining image.old)
+        (R.remaining reader.old) (R.remaining reader.new) (W.contents writer.old)
+        (W.contents writer.new) (E.contents errors.old) (E.contents errors.new)) }
+    ensures not_accepted { result ≡ Err NotAccepted
+        → IfSome (I.remaining image.old) IsNotAccepted }
+    ensures untouched { result ≡ Err NotAccepted
+        → (reader.new ≡ reader.old) × (writer.new ≡ writer.old) }
+{
+    match read_input(alloc, image) {
+        Ok(Input::Whole(text)) => execute_image_text(alloc, &text, budget, reader, writer, errors),
+        Ok(Input::TooLarge) => Err(say_too_large(errors)),
+        Err(ReadStop::Memory) => Err(ExecFault::Memory),
+        Err(ReadStop::Failed) => Err(ExecFault::Read),
+    }
+}

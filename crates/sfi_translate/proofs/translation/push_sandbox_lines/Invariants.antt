@@ -1,0 +1,6 @@
+use Rattle.sfi_translate.proofs.Prelude.{◌≡◌, ◌++◌, take, string_bytes, flat_map, gate_line}
+use Rattle.sfi_translate.proofs.translation.push_sandbox_lines.Given as goal
+
+-- the gates so far are written
+abbrev pub invariant-loop-gate : goal.invariant-loop-gate
+invariant-loop-gate l = string_bytes l.out ≡ string_bytes l.initial.out ++ flat_map gate_line (take l.gate-index l.gate-items)
