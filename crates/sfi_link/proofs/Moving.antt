@@ -1,10 +1,10 @@
 -- The code of a sandbox that can be moved is the same at each place, and makes the addresses of that.
-use Rattle.sfi_link.proofs.Prelude.{◌≡◌, ℕ, ◌+◌, ◌-◌, ◌*◌, List, [], ◌∷◌, ◌++◌, length, replicate, Option, Some, None, Bool, true, false, refl, sym, ap, ◌∙◌, subst, arith, ints, pos, ◌-ℤ◌, slice_get, Instr, Lui, OpImm, Addi, upper, lower, BundleSlot, Wide, Short, Jump, Upper, Lower, Region, PlacedName, slot_size, slots_of, c_ebreak, Bases, bases_of, of_name, target_of, value_at, with_offset, resolved, made_of, IsSlot, AreSlots}
+use Rattle.sfi_link.proofs.Prelude.{◌≡◌, ℕ, ◌+◌, ◌-◌, ◌*◌, List, [], ◌∷◌, ◌++◌, length, replicate, Option, Some, None, Bool, true, false, refl, sym, ap, ◌∙◌, subst, arith, ints, pos, ◌-ℤ◌, slice_get, Instr, Lui, OpImm, Addi, upper, lower, BundleSlot, Wide, Short, Jump, Upper, Lower, Region, PlacedName, Place, Placement, slot_size, slots_of, c_ebreak, Bases, bases_of, of_name, target_of, value_at, with_offset, resolved, made_of, IsSlot, AreSlots}
 use Rattle.std.specs.Prelude.{if◌then◌else◌}
 use Rattle.sfi_rewrite.specs.declared.placed.PlacedName.TheVariants as name
 use Rattle.std.proofs.lemmas.Option.{same_Some}
 use Rattle.sfi_formats.specs.Formats.{code_base_register, data_base_register}
-use Rattle.sfi_link.specs.Code.{address_at, offset_of, stub_size}
+use Rattle.sfi_link.specs.Code.{address_at, address_of, base_of, offset_of, stub_size}
 use Rattle.sfi_link.specs.Laws.{MovableCodeIsPlaceless, MovableAddressesAddUp}
 
 -- two places of a sandbox that can be moved, with as many stubs
@@ -107,17 +107,34 @@ add_up held from base offset distance first address is whole register number = a
     ∙ ap (λ (r : ℕ). held r + distance) (same_Some from base register)
     ∙ ap (λ (n : ℕ). held base + n) (same_Some distance offset number))
 
-pub adds_up : MovableAddressesAddUp
-adds_up given number p (name.Gate k) held base offset in_code in_data register distance =
+one_adds_up : (given : List Place) (number : ℕ) (p : Placement) (n : PlacedName) (held : ℕ → ℕ) (base offset : ℕ)
+    → held code_base_register ≡ (bases_of given number p).code → held data_base_register ≡ (bases_of given number p).«data»
+    → base_of n ≡ Some base → offset_of (bases_of given number p) n ≡ Some offset
+    → address_of (bases_of given number p) n ≡ Some (held base + offset)
+one_adds_up given number p (name.Gate k) held base offset in_code in_data register distance =
     let at = bases_of given number p in
     add_up held code_base_register base offset (stub_size * k) at.code (at.code + stub_size * k) in_code refl register distance
-adds_up given number p (name.Code place) held base offset in_code in_data register distance =
+one_adds_up given number p (name.Code place) held base offset in_code in_data register distance =
     let at = bases_of given number p in
     add_up held code_base_register base offset (at.start + place - at.code) at.code (at.start + place) in_code (again at.code (stub_size * length p.gates) place) register distance
   where
     again : (c s place : ℕ) → c + s + place ≡ c + (c + s + place - c)
     again c s place = omega arith
-adds_up given number p (name.Data to) held base offset in_code in_data register distance =
+one_adds_up given number p (name.Data to) held base offset in_code in_data register distance =
     let at = bases_of given number p in
     add_up held data_base_register base offset to at.«data» (at.«data» + to) in_data refl register distance
-adds_up given number p name.Unknown held base offset in_code in_data register distance = cc
+one_adds_up given number p name.Unknown held base offset in_code in_data register distance = cc
+
+some_adds_up : (given : List Place) (number : ℕ) (p : Placement) (o : Option PlacedName) (held : ℕ → ℕ) (base offset : ℕ)
+    → held code_base_register ≡ (bases_of given number p).code → held data_base_register ≡ (bases_of given number p).«data»
+    → of_name base_of o ≡ Some base → of_name (offset_of (bases_of given number p)) o ≡ Some offset
+    → of_name (address_of (bases_of given number p)) o ≡ Some (held base + offset)
+some_adds_up given number p None held base offset in_code in_data register distance = absurd cc
+some_adds_up given number p (Some n) held base offset in_code in_data register distance =
+    one_adds_up given number p n held base offset in_code in_data register distance
+
+pub adds_up : MovableAddressesAddUp
+adds_up given number p place held base value moves in_code in_data register number_is =
+    let at = bases_of given number p in
+    some_adds_up given number p (slice_get p.names place) held base value in_code in_data register
+    (sym (chosen at.movable (of_name (offset_of at) (slice_get p.names place)) (address_at at p.names place) moves) ∙ number_is)

@@ -7,8 +7,7 @@ use Rattle.sfi_formats.specs.Formats.{code_base_register, data_base_register}
 use Rattle.sfi_rules.specs.Findings.{AreFindings}
 use Rattle.sfi_rewrite.specs.Placement.{Placement}
 use Rattle.sfi_rewrite.specs.Placed.{IsPlacedPart, IsPlaced}
-use Rattle.sfi_rewrite.specs.declared.placed.PlacedName.{PlacedName}
-use Rattle.sfi_link.specs.Code.{bases_of, base_of, offset_of, address_of}
+use Rattle.sfi_link.specs.Code.{bases_of, base_at, value_at, address_at}
 use Rattle.sfi_link.specs.declared.fault.LinkFault.{LinkFault}
 use Rattle.sfi_link.specs.declared.fault.LinkFault.TheVariants as fault
 use Rattle.sfi_link.specs.Linked.{IsLinkedCode, IsLinked, AreLinked, IsLinkedImage}
@@ -39,15 +38,18 @@ MovableCodeIsPlaceless =
     (given others : List Place) (number : ℕ) (p : Placement) (code : List ℕ) → p.movable ≡ true
     → IsLinkedCode given number p code → IsLinkedCode others number p code
 
--- In such a sandbox `la` makes the name's address at each place: what its lui and addi hold and what the
--- register that it adds holds there, where x24 and x26 hold the bases, add up to that.
+-- In such a sandbox the number that the lui and addi of `la` hold of a name, and what the register that its
+-- add names holds, where x24 and x26 hold the bases, add up to the name's address. (That lui and addi put
+-- the number together is `ConstantsAddUp` of sfi_text. In the stack pointer of the second format and in data
+-- registers a mask follows each of the three: of these this says nothing.)
 abbrev pub MovableAddressesAddUp : Type 0
 MovableAddressesAddUp =
-    (given : List Place) (number : ℕ) (p : Placement) (name : PlacedName) (held : ℕ → ℕ)
-    (base offset : ℕ) → held code_base_register ≡ (bases_of given number p).code
-    → held data_base_register ≡ (bases_of given number p).«data» → base_of name ≡ Some base
-    → offset_of (bases_of given number p) name ≡ Some offset
-    → address_of (bases_of given number p) name ≡ Some (held base + offset)
+    (given : List Place) (number : ℕ) (p : Placement) (place : ℕ) (held : ℕ → ℕ) (base value : ℕ)
+    → p.movable ≡ true → held code_base_register ≡ (bases_of given number p).code
+    → held data_base_register ≡ (bases_of given number p).«data»
+    → base_at p.names place ≡ Some base
+    → value_at (bases_of given number p) p.names place ≡ Some value
+    → address_at (bases_of given number p) p.names place ≡ Some (held base + value)
 
 -- what is placed has at most one image
 abbrev pub OneImage : Type 0
