@@ -38,7 +38,8 @@ UnitsAreWhole =
     → unit p.format * number + unit p.format ≤ length p.code
     → IsLongestReading (unit_bytes p number) reading → rest_of (unit_bytes p number) reading ≡ []
 
--- where the machine has a line, the text has it
+-- where the machine has a line, the text has it (that it is the only one of its address, and in its
+-- function, is by `IsTextOfFirst`)
 abbrev pub LinesAreInText : Type 0
 LinesAreInText =
     (sandbox : ℕ) (p : Part) (text : List ℕ) (at : ℕ) (i : Instr) (n : ℕ)
@@ -55,7 +56,8 @@ pub record IsAsImage (s : State) (left : ℕ) (g : Going) : Type 0 where
       → (o ≢ Next) × IsStep g.state (record { outcome = o; state = g.state })
 
 -- whatever entries its text has, a turn of the translation of a sandbox without a finding is steps of
--- the machine, after each of its steps
+-- the machine, after each of its steps. It doesn't say that a step follows: where the text has no line there
+-- is none, and `sfi_step` says SFI_FETCH.
 abbrev pub TranslatedRunsAsImage : Type 0
 TranslatedRunsAsImage =
     (sandbox : ℕ) (p : Part) (entries : ℕ → Bool) (s : State) (left moves : ℕ) (g : Going)

@@ -19,8 +19,8 @@ use Rattle.sfi_translate.specs.Translation.{function_most, head_bytes}
 
 -- ---- where a turn is
 
--- within a function, at the label of the line of that address; before a step of `sfi_step`, whatever is
--- left; in the loop of `sfi_turn`, where it has ended if no step is left; or ended by a call or a trap
+-- within a function, at the label of the line of that address; before a step of `sfi_step`, for which one is
+-- always left; in the loop of `sfi_turn`, where it has ended if no step is left; or ended by a call or a trap
 pub data ControlPoint : Type 0 where
   Label : ℕ → ControlPoint
   Slow : ControlPoint
@@ -34,7 +34,7 @@ pub record Going : Type 0 where
   pub state : State
   pub left : ℕ
 
--- the steps that are left where a head lets a turn go on: one for each line up to the next head, and
+-- the fewest steps left with which a head lets a turn go on: one for each line up to the next head, and
 -- one for a slow step there
 abbrev pub most : ℕ
 most = head_bytes / 2 + 1
