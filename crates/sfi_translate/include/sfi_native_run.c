@@ -1,8 +1,12 @@
 /* The calls of sfi_run.h on a translated image: sfi_native_run.h says how it is compiled. Nothing of this file is proved. */
+#if defined(SFI_GUARDED) && !defined(_GNU_SOURCE)
+#define _GNU_SOURCE
+#endif
 #include "sfi_native_run.h"
 
 #include "sfi_native_console.c"
 #include "sfi_native.h"
+#include "sfi_native_data.h"
 
 enum { SERVICE_EXIT = 0, CALL_SIZE = 4, SLACK = 1020 }; /* SLACK: docs/IMAGE.md, typed registers */
 enum { MAGIC_SIZE = 4, COUNT_SIZE = 4, FIELDS_SIZE = 28, GATE_SIZE = 8 }; /* docs/IMAGE.md, the layout */
@@ -139,7 +143,7 @@ uint32_t sfi_run_version(void) {
 
 void sfi_run_free(struct sfi_run_world *world) {
     for (uint32_t number = 0; number < SFI_SANDBOXES && world->held; number++)
-        free(sandbox_at(world, number)->hart.data);
+        sfi_free_data(&sfi_sandboxes[number], sandbox_at(world, number)->hart.data);
     if (world->held)
         free(world->at);
     world->held = 0;
@@ -157,7 +161,7 @@ static void make_first(struct native_sandbox *it) {
 
 static bool make_sandbox(const struct sfi_sandbox *s, struct native_sandbox *it) {
     it->text = s;
-    it->hart.data = calloc(1, s->data_size);
+    it->hart.data = sfi_new_data(s);
     if (it->hart.data == NULL)
         return false;
     make_first(it);
