@@ -1,6 +1,6 @@
 #!/usr/bin/env python3
 """Makes what `sfi translate --whole` prints before the lines of a translation, of the console examples/translate/sfi_console.c
-and the headers sfi_native.h and sfi_services.h. The file includes itself where the first header reads the lines.
+and the headers that it includes. The file includes itself where sfi_native.h reads the lines.
 
     tools/whole_translation.py [--write]    compares it with what stands in the crate sfi_answers, or writes it there
 """
@@ -10,11 +10,12 @@ import sys
 
 TOP = os.path.dirname(os.path.dirname(os.path.abspath(__file__)))
 HEADERS = os.path.join(TOP, "crates/sfi_translate/include")
+INCLUDED = ("sfi_native.h", "sfi_native_x86_64.h", "sfi_native_data.h", "sfi_services.h")
 CONSOLE = os.path.join(TOP, "examples/translate/sfi_console.c")
 MADE = os.path.join(TOP, "crates/sfi_answers/src/whole_program.rt")
 BEGINNING = """\
 #ifndef SFI_NATIVE_H
-/* What a translated image's lines mean, and the console of `sfi run`: crates/sfi_translate/include/sfi_native.h and
+/* What a translated image's lines mean, and the console of `sfi run`: headers of crates/sfi_translate/include, and
    examples/translate/sfi_console.c, which have the comments. The lines begin after the last #else. */
 """
 OWN_NAME = """\
@@ -42,7 +43,7 @@ def without_comments(text):
 def front():
     """The headers and the console, in a file that reads itself again for its lines."""
     whole = read(CONSOLE)
-    for header in ("sfi_native.h", "sfi_services.h"):
+    for header in INCLUDED:
         include = f'#include "{header}"\n'
         assert whole.count(include) == 1
         whole = whole.replace(include, read(os.path.join(HEADERS, header)))

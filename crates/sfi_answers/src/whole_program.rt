@@ -1,13 +1,19 @@
 //! What stands before the lines of a whole program. `tools/whole_translation.py` makes this file.
 
 pub(crate) const WHOLE_FRONT: &str = r#"#ifndef SFI_NATIVE_H
-/* What a translated image's lines mean, and the console of `sfi run`: crates/sfi_translate/include/sfi_native.h and
+/* What a translated image's lines mean, and the console of `sfi run`: headers of crates/sfi_translate/include, and
    examples/translate/sfi_console.c, which have the comments. The lines begin after the last #else. */
 #ifndef SFI_TEXT
 #ifdef __FILE_NAME__
 #define SFI_TEXT __FILE_NAME__
 #else
 #define SFI_TEXT __FILE__
+#endif
+#endif
+#ifndef SFI_TESTED
+#define SFI_GUARDED
+#ifndef _GNU_SOURCE
+#define _GNU_SOURCE
 #endif
 #endif
 #include <stdio.h>
@@ -28,6 +34,12 @@ typedef int32_t sfi_i32;
 #endif
 #else
 #define SFI_RARE(condition) (condition)
+#endif
+#if defined(__GNUC__) && defined(__x86_64__) && defined(__LP64__) && defined(__ELF__) && !defined(SFI_PORTABLE)
+#define SFI_ASSEMBLY
+#endif
+#if !defined(SFI_ASSEMBLY) || !defined(__linux__)
+#undef SFI_GUARDED
 #endif
 #define SFI_SIGNED(v) ((sfi_i32)(v))
 #define SFI_add(a, b) ((a) + (b))
@@ -102,8 +114,8 @@ static inline void sfi_begin(const struct sfi_sandbox *s, struct sfi_hart *h, sf
 }
 enum { SFI_NEXT, SFI_CALL, SFI_LOAD, SFI_STORE, SFI_BREAK, SFI_FETCH };
 enum { SFI_PART = 16384 };
-enum { SFI_HEAD = 128 };
-enum { SFI_MOST = SFI_HEAD / 2 + 1 };
+#define SFI_HEAD 128
+#define SFI_MOST (SFI_HEAD / 2 + 1)
 static int sfi_step(const struct sfi_sandbox *s, struct sfi_hart *h, sfi_u32 *at) {
     const sfi_u32 offset = h->pc - s->code;
     *at = h->pc;
@@ -154,28 +166,6 @@ static int sfi_turn(const struct sfi_sandbox *s, struct sfi_hart *h, sfi_u32 *at
             return how;
     }
 }
-#define SFI_REGISTERS(X) X(3) X(8) X(10) X(11) X(12) X(13) X(14) X(15) X(29) X(31)
-#define SFI_GET(k) r##k = h->x[k],
-#define SFI_PUT(k) h->x[k] = r##k;
-#define r1 h->x[1]
-#define r2 h->x[2]
-#define r4 h->x[4]
-#define r5 h->x[5]
-#define r6 h->x[6]
-#define r7 h->x[7]
-#define r9 h->x[9]
-#define r16 h->x[16]
-#define r17 h->x[17]
-#define r18 h->x[18]
-#define r19 h->x[19]
-#define r20 h->x[20]
-#define r21 h->x[21]
-#define r22 h->x[22]
-#define r23 h->x[23]
-#define r28 h->x[28]
-#define r30 h->x[30]
-#define SFI_IS_FIXED(k) ((k) == 0 || ((k) >= 24 && (k) <= 27))
-#define W(k, value) r##k = SFI_IS_FIXED(k) ? r##k : (value);
 #define ENTRY(at)
 #define HEAD(at)
 #define END(at)
@@ -197,7 +187,13 @@ static int sfi_turn(const struct sfi_sandbox *s, struct sfi_hart *h, sfi_u32 *at
     static const struct sfi_row *sfi_rows##s(void); static const struct sfi_native_gate sfi_gates##s[gates + 1] = {
 #define GATE(address, service) { 0x##address##u, service },
 #define DATA(s, ...) { 0, 0 } }; static const uint8_t sfi_first##s[] = { __VA_ARGS__ };
-#define FUNCTION(s, first) static sfi_function sfi_f##s##_##first;
+#ifdef SFI_ASSEMBLY
+#define SFI_FUNCTION(s, first) sfi_run##s
+#define FUNCTION(s, first) extern sfi_function SFI_FUNCTION(s, first) __attribute__((visibility("hidden")));
+#else
+#define SFI_FUNCTION(s, first) sfi_f##s##_##first
+#define FUNCTION(s, first) static sfi_function SFI_FUNCTION(s, first);
+#endif
 #define LAST
 #include SFI_TEXT
 #undef SANDBOX
@@ -208,7 +204,7 @@ static int sfi_turn(const struct sfi_sandbox *s, struct sfi_hart *h, sfi_u32 *at
 #define SANDBOX(s, unit, code, code_size, data, data_size, start, gates, init) static sfi_function *const sfi_functions##s[] = {
 #define GATE(address, service)
 #define DATA(...)
-#define FUNCTION(s, first) sfi_f##s##_##first,
+#define FUNCTION(s, first) SFI_FUNCTION(s, first),
 #define LAST };
 #include SFI_TEXT
 #undef SANDBOX
@@ -278,11 +274,234 @@ enum { SFI_SANDBOXES = sizeof sfi_sandboxes / sizeof sfi_sandboxes[0] };
 #undef FENCE
 #undef ECALL
 #undef EBREAK
+#undef GATE
+#undef DATA
+#ifdef SFI_ASSEMBLY
+#define SFI_HELD(low, wide) "%" #low ",%" #low ",%" #wide
+#define SFI_SPILLED(k) "4*" #k "(%rsp),%eax,%rax"
+#define SFI_CONSTANT(value) "$" value ",%eax,%rax"
+#define SFI_REGISTERS(X) X(2, ebp) X(3, r9d) X(8, r11d) X(11, r8d) X(12, r10d) X(13, r12d) X(14, esi) X(15, ebx) X(29, r13d) \
+    X(31, edx)
+#define SFI_R0 SFI_CONSTANT("0")
+#define SFI_R1 SFI_SPILLED(1)
+#define SFI_R2 SFI_HELD(ebp, rbp)
+#define SFI_R3 SFI_HELD(r9d, r9)
+#define SFI_R4 SFI_SPILLED(4)
+#define SFI_R5 SFI_SPILLED(5)
+#define SFI_R6 SFI_SPILLED(6)
+#define SFI_R7 SFI_SPILLED(7)
+#define SFI_R8 SFI_HELD(r11d, r11)
+#define SFI_R9 SFI_SPILLED(9)
+#define SFI_R10 SFI_HELD(edi, rdi)
+#define SFI_R11 SFI_HELD(r8d, r8)
+#define SFI_R12 SFI_HELD(r10d, r10)
+#define SFI_R13 SFI_HELD(r12d, r12)
+#define SFI_R14 SFI_HELD(esi, rsi)
+#define SFI_R15 SFI_HELD(ebx, rbx)
+#define SFI_R16 SFI_SPILLED(16)
+#define SFI_R17 SFI_SPILLED(17)
+#define SFI_R18 SFI_SPILLED(18)
+#define SFI_R19 SFI_SPILLED(19)
+#define SFI_R20 SFI_SPILLED(20)
+#define SFI_R21 SFI_SPILLED(21)
+#define SFI_R22 SFI_SPILLED(22)
+#define SFI_R23 SFI_SPILLED(23)
+#define SFI_R24 SFI_CONSTANT(".Lsfi_code")
+#define SFI_R25 SFI_CONSTANT(".Lsfi_code_size-.Lsfi_unit")
+#define SFI_R26 SFI_CONSTANT(".Lsfi_data")
+#define SFI_R27 SFI_CONSTANT(".Lsfi_data_size-1")
+#define SFI_R28 SFI_SPILLED(28)
+#define SFI_R29 SFI_HELD(r13d, r13)
+#define SFI_R30 SFI_SPILLED(30)
+#define SFI_R31 SFI_HELD(edx, rdx)
+#define SFI_IS_FIXED(k) "(0x0f000001>>" #k "&1)"
+#define SFI_AS_add "sfi_add "
+#define SFI_AS_sub "sfi_compute sub,"
+#define SFI_AS_xor "sfi_compute xor,"
+#define SFI_AS_or "sfi_compute or,"
+#define SFI_AS_and "sfi_compute and,"
+#define SFI_AS_sll "sfi_shift shl,"
+#define SFI_AS_srl "sfi_shift shr,"
+#define SFI_AS_sra "sfi_shift sar,"
+#define SFI_AS_slt "sfi_compare l,"
+#define SFI_AS_sltu "sfi_compare b,"
+#define SFI_AS_mul "sfi_compute imul,"
+#define SFI_AS_mulh "sfi_multiply 1,1,"
+#define SFI_AS_mulhsu "sfi_multiply 1,0,"
+#define SFI_AS_mulhu "sfi_multiply 0,0,"
+#define SFI_AS_div "sfi_divide 1,0,"
+#define SFI_AS_divu "sfi_divide 0,0,"
+#define SFI_AS_rem "sfi_divide 1,1,"
+#define SFI_AS_remu "sfi_divide 0,1,"
+#define SFI_AS_addi "sfi_add_number "
+#define SFI_AS_slti "sfi_compare l,"
+#define SFI_AS_sltiu "sfi_compare b,"
+#define SFI_AS_xori "sfi_compute xor,"
+#define SFI_AS_ori "sfi_compute or,"
+#define SFI_AS_andi "sfi_compute and,"
+#define SFI_AS_slli "sfi_compute shl,"
+#define SFI_AS_srli "sfi_compute shr,"
+#define SFI_AS_srai "sfi_compute sar,"
+#define SFI_AS_lb "1,movsbl,"
+#define SFI_AS_lh "2,movswl,"
+#define SFI_AS_lw "4,movl,"
+#define SFI_AS_lbu "1,movzbl,"
+#define SFI_AS_lhu "2,movzwl,"
+#define SFI_AS_sb "1,%cl,"
+#define SFI_AS_sh "2,%cx,"
+#define SFI_AS_sw "4,%ecx,"
+#define SFI_AS_beq "jne,"
+#define SFI_AS_bne "je,"
+#define SFI_AS_blt "jge,"
+#define SFI_AS_bge "jl,"
+#define SFI_AS_bltu "jae,"
+#define SFI_AS_bgeu "jb,"
+#define SFI_TEXT_OF(it) SFI_TEXT_OF_(it)
+#define SFI_TEXT_OF_(it) #it
+#define SFI_SHIFT_16 "4"
+#define SFI_SHIFT_4 "2"
+#define SFI_SIGNED_32(number) "((" number "+0x80000000)&0xffffffff)-0x80000000"
+#define SFI_FRAME(place) place "(%rsp)"
+#define SFI_KEPT SFI_FRAME("128")
+#define SFI_FAR_STEPS SFI_FRAME("132")
+#define SFI_HART SFI_FRAME("136")
+#define SFI_PUT(k, register) " mov %" #register ",4*" #k "(%rdi)\n"
+#define SFI_GET(k, register) " mov 4*" #k "(%rdi),%" #register "\n"
+#define SFI_COPY(from, to) " .irp k,0,1,2,3,4,5,6,7\n movups 16*\\k(" from "),%xmm0; movups %xmm0,16*\\k(" to ")\n .endr\n"
+typedef char sfi_hart_is_as_here[__builtin_offsetof(struct sfi_hart, pc) == 128 && __builtin_offsetof(struct sfi_hart, left) == 132 &&
+    __builtin_offsetof(struct sfi_hart, data) == 136 ? 1 : -1];
+#ifdef SFI_GUARDED
+#define SFI_MAY_GUARD "1"
+#else
+#define SFI_MAY_GUARD "0"
+#endif
+__asm__(".pushsection .text.sfi_native,\"ax\"\n .set .Lsfi_rows,0; .set .Lsfi_head," SFI_TEXT_OF(SFI_HEAD) "; .set .Lsfi_most," SFI_TEXT_OF(SFI_MOST) "\n"
+    " .pushsection .rodata.sfi_entries,\"a\"; .balign 8\n.Lsfi_entries:\n .popsection\n"
+    " .pushsection .rodata.sfi_fixups,\"a\"; .balign 8\nsfi_fixups:\n .popsection\n"
+    ".macro sfi_move from,to\n .ifnc \\from,\\to; mov \\from,\\to; .endif\n.endm\n"
+    ".macro sfi_line at\n"
+    ".Lsfi_at_\\at:\n .set .Lsfi_number_\\at,.Lsfi_number\n"
+    " .if 0x\\at%.Lsfi_unit==0; .pushsection .rodata.sfi_entries; .long .Lsfi_at_\\at-.Lsfi_entries,.Lsfi_number; .popsection\n"
+    " .set .Lsfi_rows,.Lsfi_rows+1; .endif\n"
+    " .subsection 1\n.Lsfi_slow_\\at: mov $0x\\at,%eax; mov $.Lsfi_number,%ecx; jmp .Lsfi_leave\n .previous\n"
+    " .set .Lsfi_number,.Lsfi_number+1\n.endm\n"
+    ".macro sfi_compute op,d,w,q,a,aw,aq,b,bw,bq\n"
+    " .ifc \\w,\\b; mov \\a,%eax; \\op \\b,%eax; mov %eax,\\d\n"
+    " .else; sfi_move \\a,\\w; \\op \\b,\\w; sfi_move \\w,\\d; .endif\n.endm\n"
+    ".macro sfi_add d,w,q,a,aw,aq,b,bw,bq\n"
+    " .ifc \\bw,%eax; sfi_compute add,\\d,\\w,\\q,\\a,\\aw,\\aq,\\b,\\bw,\\bq\n"
+    " .else; sfi_move \\a,\\aw; lea (\\aq,\\bq),\\w; sfi_move \\w,\\d; .endif\n.endm\n"
+    ".macro sfi_add_number d,w,q,a,aw,aq,b,bw,bq\n"
+    " .ifc \\a,$0; mov \\b,\\w\n .else; sfi_move \\a,\\aw; lea .Lsfi_constant(\\aq),\\w; .endif; sfi_move \\w,\\d\n.endm\n"
+    ".macro sfi_shift op,d,w,q,a,aw,aq,b,bw,bq\n"
+    " mov \\b,%ecx; sfi_move \\a,\\w; \\op %cl,\\w; sfi_move \\w,\\d\n.endm\n"
+    ".macro sfi_compare is,d,w,q,a,aw,aq,b,bw,bq\n"
+    " sfi_move \\a,\\aw; xor %ecx,%ecx; cmp \\b,\\aw; set\\is %cl; mov %ecx,\\d\n.endm\n"
+    ".macro sfi_multiply a_has_sign,b_has_sign,d,w,q,a,aw,aq,b,bw,bq\n"
+    " mov \\a,%eax; mov \\b,%ecx; .if \\a_has_sign; movslq %eax,%rax; .endif; .if \\b_has_sign; movslq %ecx,%rcx; .endif\n"
+    " imul %rcx,%rax; shr $32,%rax; mov %eax,\\d\n.endm\n"
+    ".macro sfi_divide has_sign,is_rest,d,w,q,a,aw,aq,b,bw,bq\n"
+    " mov \\a,%eax; mov \\b,%ecx; mov %edx," SFI_KEPT "; xor %edx,%edx; test %ecx,%ecx; je 1f\n"
+    " .if \\has_sign; cmp $-1,%ecx; je 2f; cltd; idiv %ecx; .else; div %ecx; .endif\n"
+    " .if \\is_rest; mov %edx,%eax; .endif; jmp 3f\n"
+    "1: .if \\is_rest; .else; mov $-1,%eax; .endif; jmp 3f\n"
+    "2: .if \\is_rest; xor %eax,%eax; .else; neg %eax; .endif\n"
+    "3: mov " SFI_KEPT ",%edx; mov %eax,\\d\n.endm\n"
+    ".macro sfi_access at,width,aq,n,before,after\n"
+    " .if .Lsfi_is_guarded; .pushsection .rodata.sfi_fixups; .long 1f-.,.Lsfi_slow_\\at-.; .popsection\n"
+    "1: \\before\\()\\n(%r15,\\aq)\\after\n"
+    " .else; lea " SFI_SIGNED_32("\\n-.Lsfi_data") "(\\aq),%eax; cmp $.Lsfi_data_size-\\width,%eax; ja .Lsfi_slow_\\at\n"
+    " \\before\\()(%r15,%rax)\\after\n .endif\n.endm\n"
+    ".macro sfi_load at,width,op,d,w,q,a,aw,aq,n\n sfi_line \\at\n sfi_move \\a,\\aw\n"
+    " sfi_access \\at,\\width,\\aq,\\n,\"\\op \",\",\\w\"\n sfi_move \\w,\\d\n.endm\n"
+    ".macro sfi_store at,width,low,a,aw,aq,b,bw,bq,n\n sfi_line \\at\n sfi_move \\a,\\aw\n"
+    " .ifc \\low\\b,%ecx\\bw; sfi_access \\at,\\width,\\aq,\\n,\"mov \\b,\"\n"
+    " .else; mov \\b,%ecx; sfi_access \\at,\\width,\\aq,\\n,\"mov \\low,\"\n .endif\n.endm\n"
+    ".macro sfi_offset a,aw,aq,n\n sfi_move \\a,\\aw; lea " SFI_SIGNED_32("\\n-.Lsfi_code") "(\\aq),%ecx\n.endm\n"
+    ".macro sfi_go at,to\n add $.Lsfi_number_\\to-.Lsfi_number,%r14d\n"
+    " .if 0x\\to<=0x\\at||(0x\\to^0x\\at)>=.Lsfi_head\n"
+    " cmp $.Lsfi_number_\\to+.Lsfi_most,%r14d; jb .Lsfi_slow_\\to\n .endif\n jmp .Lsfi_at_\\to\n.endm\n"
+    ".macro sfi_branch at,past,a,aw,aq,b,bw,bq,to\n"
+    " sfi_line \\at\n sfi_move \\a,\\aw; cmp \\b,\\aw; \\past 1f\n sfi_go \\at,\\to\n1:\n.endm\n"
+    ".macro sfi_enter\n ror $.Lsfi_shift,%ecx; cmp $.Lsfi_code_size/.Lsfi_unit,%ecx; jae 1f\n"
+    " cmp $.Lsfi_number+.Lsfi_most,%r14d; jb 1f\n"
+    " lea .Lsfi_entries(%rip),%rax; sub $.Lsfi_number,%r14d; add 8*.Lsfi_first+4(%rax,%rcx,8),%r14d\n"
+    " movslq 8*.Lsfi_first(%rax,%rcx,8),%rcx; add %rax,%rcx; notrack jmp *%rcx\n"
+    " .subsection 1\n1: rol $.Lsfi_shift,%ecx; lea " SFI_SIGNED_32(".Lsfi_code") "(%rcx),%eax; and $-2,%eax\n"
+    " mov $.Lsfi_number,%ecx; jmp .Lsfi_leave\n .previous\n.endm\n"
+    ".Lsfi_leave: sub %ecx,%r14d; or " SFI_FAR_STEPS ",%r14d; mov %edi,4*10(%rsp); mov " SFI_HART ",%rdi\n"
+    SFI_COPY("%rsp", "%rdi") SFI_REGISTERS(SFI_PUT) " mov %eax,128(%rdi); mov %r14d,132(%rdi); mov $1,%eax\n"
+    " add $152,%rsp; pop %r15; pop %r14; pop %r13; pop %r12; pop %rbp; pop %rbx; ret\n .popsection\n");
+#define SANDBOX(s, unit, code, code_size, data, data_size, start, gates, init) __asm__(".pushsection .text.sfi_native,\"ax\"\n" \
+    " .set .Lsfi_unit," #unit "; .set .Lsfi_shift," SFI_SHIFT_##unit "; .set .Lsfi_code,0x" #code "; .set .Lsfi_code_size," #code_size "\n" \
+    " .set .Lsfi_data,0x" #data "; .set .Lsfi_data_size," #data_size "; .set .Lsfi_number,0; .set .Lsfi_first,.Lsfi_rows\n" \
+    " .set .Lsfi_is_guarded," SFI_MAY_GUARD "&&" #data_size "%4096==0&&0x" #data ">=8192&&0x" #data "+" #data_size "<=0xffffe000\n" \
+    "sfi_run" #s ": endbr64; push %rbx; push %rbp; push %r12; push %r13; push %r14; push %r15; sub $152,%rsp\n" \
+    SFI_COPY("%rdi", "%rsp") SFI_REGISTERS(SFI_GET) " mov %rdi," SFI_HART "; mov 136(%rdi),%r15; mov 132(%rdi),%r14d\n" \
+    " .if .Lsfi_is_guarded; mov $.Lsfi_data,%eax; sub %rax,%r15; .endif\n" \
+    " mov %r14d,%eax; and $0x80000000,%eax; mov %eax," SFI_FAR_STEPS "; and $0x7fffffff,%r14d\n" \
+    " mov 128(%rdi),%ecx; sub $.Lsfi_code,%ecx; mov 4*10(%rdi),%edi\n sfi_enter\n"
+#define GATE(address, service)
+#define DATA(...)
+#define FUNCTION(s, first)
+#define ENTRY(at)
+#define HEAD(at) " cmp $.Lsfi_number+.Lsfi_most,%r14d; jb .Lsfi_slow_" #at "\n"
+#define END(at)
+#define LAST " mov $.Lsfi_code+.Lsfi_code_size,%eax; mov $.Lsfi_number,%ecx; jmp .Lsfi_leave\n" \
+    " .if .Lsfi_rows-.Lsfi_first-.Lsfi_code_size/.Lsfi_unit; .error \"a unit has no line\"; .endif\n .popsection\n");
+#define SFI_UNLESS_FIXED(rd, text) " .if " SFI_IS_FIXED(rd) "; .else\n " text "\n .endif\n"
+#define SFI_LINE(at) "sfi_line " #at "\n"
+#define OP(at, size, kind, rd, rs1, rs2) SFI_LINE(at) SFI_UNLESS_FIXED(rd, SFI_AS_##kind SFI_R##rd "," SFI_R##rs1 "," SFI_R##rs2)
+#define OPI(at, size, kind, rd, rs1, number) SFI_LINE(at) " .set .Lsfi_constant," #number "\n" \
+    SFI_UNLESS_FIXED(rd, SFI_AS_##kind SFI_R##rd "," SFI_R##rs1 "," SFI_CONSTANT(#number))
+#define LOAD(at, size, kind, rd, rs1, number) " .if " SFI_IS_FIXED(rd) "\n" \
+    "sfi_load " #at "," SFI_AS_##kind "%eax,%eax,%rax," SFI_R##rs1 "," #number "\n .else\n" \
+    "sfi_load " #at "," SFI_AS_##kind SFI_R##rd "," SFI_R##rs1 "," #number "\n .endif\n"
+#define STORE(at, size, kind, rs1, rs2, number) "sfi_store " #at "," SFI_AS_##kind SFI_R##rs1 "," SFI_R##rs2 "," #number "\n"
+#define BRANCH(at, size, kind, rs1, rs2, to) "sfi_branch " #at "," SFI_AS_##kind SFI_R##rs1 "," SFI_R##rs2 "," #to "\n"
+#define BRANCH_FAR BRANCH
+#define SFI_WRITE(rd, value) SFI_UNLESS_FIXED(rd, "sfi_add_number " SFI_R##rd "," SFI_R0 "," SFI_CONSTANT(value))
+#define JAL(at, size, rd, to) SFI_LINE(at) SFI_WRITE(rd, "0x" #at "+" #size) "sfi_go " #at "," #to "\n"
+#define JAL_FAR JAL
+#define JALR(at, size, rd, rs1, number) SFI_LINE(at) "sfi_offset " SFI_R##rs1 "," #number "\n" \
+    SFI_WRITE(rd, "0x" #at "+" #size) "sfi_enter\n"
+#define LUI(at, size, rd, number) SFI_LINE(at) SFI_WRITE(rd, "(" #number "<<12)")
+#define AUIPC(at, size, rd, number) SFI_LINE(at) SFI_WRITE(rd, "((0x" #at "+(" #number "<<12))&0xffffffff)")
+#define FENCE(at, size) SFI_LINE(at)
+#define ECALL(at, size) SFI_LINE(at) " jmp .Lsfi_slow_" #at "\n"
+#define EBREAK(at, size) ECALL(at, size)
+#include SFI_TEXT
+__asm__(".pushsection .rodata.sfi_fixups,\"a\"\nsfi_fixups_end:\n .popsection\n");
+#else
+#define SFI_REGISTERS(X) X(3) X(8) X(10) X(11) X(12) X(13) X(14) X(15) X(29) X(31)
+#define SFI_GET(k) r##k = h->x[k],
+#define SFI_PUT(k) h->x[k] = r##k;
+#define r1 h->x[1]
+#define r2 h->x[2]
+#define r4 h->x[4]
+#define r5 h->x[5]
+#define r6 h->x[6]
+#define r7 h->x[7]
+#define r9 h->x[9]
+#define r16 h->x[16]
+#define r17 h->x[17]
+#define r18 h->x[18]
+#define r19 h->x[19]
+#define r20 h->x[20]
+#define r21 h->x[21]
+#define r22 h->x[22]
+#define r23 h->x[23]
+#define r28 h->x[28]
+#define r30 h->x[30]
+#define SFI_IS_FIXED(k) ((k) == 0 || ((k) >= 24 && (k) <= 27))
+#define W(k, value) r##k = SFI_IS_FIXED(k) ? r##k : (value);
+#define GATE(address, service)
+#define DATA(...)
 #define SANDBOX(s, unit, code, code_size, data, data_size, start, gates, init) enum { sfi_unit##s = unit }; static const sfi_u32 \
     sfi_code##s = 0x##code##u, sfi_code_size##s = code_size, sfi_data##s = 0x##data##u, sfi_data_size##s = data_size;
 #define SFI_QUARTER(place) ((sfi_u32)((place) - part_) / 4)
 #define SFI_TURNED(place) ((place) / unit_ | (place) << (unit_ == 4 ? 30 : 28))
-#define FUNCTION(s, first) static int sfi_f##s##_##first(struct sfi_hart *restrict const h) { enum { unit_ = sfi_unit##s }; \
+#define FUNCTION(s, first) static int SFI_FUNCTION(s, first)(struct sfi_hart *restrict const h) { enum { unit_ = sfi_unit##s }; \
     const sfi_u32 part_ = 0x##first##u / SFI_PART * SFI_PART, code_ = sfi_code##s, code_size_ = sfi_code_size##s, \
         data_ = sfi_data##s, data_size_ = sfi_data_size##s; \
     sfi_u32 r0 = 0, r24 = code_, r25 = code_size_ - unit_, r26 = data_, r27 = data_size_ - 1, SFI_REGISTERS(SFI_GET) pc_ = h->pc; \
@@ -330,6 +549,88 @@ enum { SFI_SANDBOXES = sizeof sfi_sandboxes / sizeof sfi_sandboxes[0] };
 #pragma GCC pop_options
 #else
 #include SFI_TEXT
+#endif
+#endif
+#endif
+#ifndef SFI_NATIVE_DATA_H
+#define SFI_NATIVE_DATA_H
+#include <stdlib.h>
+#ifdef SFI_GUARDED
+#include <signal.h>
+#include <sys/mman.h>
+#include <ucontext.h>
+#ifndef REG_RIP
+#error "SFI_GUARDED wants _GNU_SOURCE defined before the first header"
+#endif
+enum { SFI_ZONE = 4096 };
+struct sfi_fixup { int32_t access, onward; };
+extern const struct sfi_fixup sfi_fixups[] __attribute__((visibility("hidden")));
+extern const struct sfi_fixup sfi_fixups_end[] __attribute__((visibility("hidden")));
+static uintptr_t sfi_onward(uintptr_t address) {
+    const struct sfi_fixup *low = sfi_fixups, *high = sfi_fixups_end;
+    while (low < high) {
+        const struct sfi_fixup *middle = low + (high - low) / 2;
+        if ((uintptr_t)&middle->access + (uintptr_t)(intptr_t)middle->access < address)
+            low = middle + 1;
+        else
+            high = middle;
+    }
+    if (low == sfi_fixups_end || (uintptr_t)&low->access + (uintptr_t)(intptr_t)low->access != address)
+        return 0;
+    return (uintptr_t)&low->onward + (uintptr_t)(intptr_t)low->onward;
+}
+static struct sigaction sfi_other_handler;
+static void sfi_on_fault(int number, siginfo_t *info, void *context) {
+    greg_t *rip = &((ucontext_t *)context)->uc_mcontext.gregs[REG_RIP];
+    const uintptr_t onward = sfi_onward((uintptr_t)*rip);
+    if (onward != 0)
+        *rip = (greg_t)onward;
+    else if (sfi_other_handler.sa_flags & SA_SIGINFO)
+        sfi_other_handler.sa_sigaction(number, info, context);
+    else if (sfi_other_handler.sa_handler != SIG_DFL && sfi_other_handler.sa_handler != SIG_IGN)
+        sfi_other_handler.sa_handler(number);
+    else {
+        sigaction(number, &sfi_other_handler, NULL);
+        if (info->si_code <= 0)
+            raise(number);
+    }
+}
+static int sfi_handle_faults(void) {
+    struct sigaction now, own = { .sa_flags = SA_SIGINFO | SA_ONSTACK };
+    own.sa_sigaction = sfi_on_fault;
+    if (sigaction(SIGSEGV, NULL, &now))
+        return -1;
+    if ((now.sa_flags & SA_SIGINFO) && now.sa_sigaction == sfi_on_fault)
+        return 0;
+    sfi_other_handler = now;
+    return sigaction(SIGSEGV, &own, NULL);
+}
+static size_t sfi_room_of(const struct sfi_sandbox *s) {
+    return ((size_t)s->data_size + SFI_ZONE - 1) / SFI_ZONE * SFI_ZONE;
+}
+static uint8_t *sfi_new_data(const struct sfi_sandbox *s) {
+    const size_t room = sfi_room_of(s);
+    uint8_t *const zone = mmap(NULL, room + 2 * SFI_ZONE, PROT_NONE, MAP_PRIVATE | MAP_ANONYMOUS | MAP_NORESERVE, -1, 0);
+    if (zone == MAP_FAILED)
+        return NULL;
+    if (mprotect(zone + SFI_ZONE, room, PROT_READ | PROT_WRITE) || sfi_handle_faults()) {
+        munmap(zone, room + 2 * SFI_ZONE);
+        return NULL;
+    }
+    return zone + SFI_ZONE;
+}
+static void sfi_free_data(const struct sfi_sandbox *s, uint8_t *data) {
+    if (data != NULL)
+        munmap(data - SFI_ZONE, sfi_room_of(s) + 2 * SFI_ZONE);
+}
+#else
+static uint8_t *sfi_new_data(const struct sfi_sandbox *s) {
+    return calloc(1, s->data_size);
+}
+static void sfi_free_data(const struct sfi_sandbox *s, uint8_t *data) {
+    (void)s;
+    free(data);
+}
 #endif
 #endif
 #ifndef SFI_SERVICES_H
@@ -474,7 +775,7 @@ static void begin(sfi_u32 number) {
     struct running *it = &running[number];
     strcpy(it->state, "ready");
     it->is_ready = 1;
-    it->hart.data = calloc(1, s->data_size);
+    it->hart.data = sfi_new_data(s);
     sessions[number].output = malloc(SFI_OUTPUT_MOST);
     if (it->hart.data == NULL || sessions[number].output == NULL)
         exit(4);
@@ -532,6 +833,7 @@ int main(int count, char **words) {
         for (size_t k = 0; k < sessions[number].written; k++)
             printf("%02x", sessions[number].output[k]);
         printf("\n");
+        sfi_free_data(&sfi_sandboxes[number], it->hart.data);
     }
     return 0;
 }
