@@ -13,7 +13,7 @@ use Rattle.sfi_safety.specs.Places.{IsCleanPart, AreCleanBundles, IsGood}
 use Rattle.sfi_safety.proofs.Facts as bundles
 use Rattle.sfi_word_safety.specs.Code.{IsCleanInWords, IsGoodInWords}
 use Rattle.sfi_word_safety.proofs.Facts as words
-use Rattle.sfi_translate.specs.Machine.{Going, Loop, AreTranslatedSteps}
+use Rattle.sfi_translate.specs.Machine.{Cut, Going, Loop, AreTranslatedSteps}
 use Rattle.sfi_translate.specs.Laws.{UnitsAreWhole, LinesAreInText, IsReached, IsAsImage, TranslatedRunsAsImage}
 use Rattle.sfi_translate.proofs.LinesStand.{in_text}
 use Rattle.sfi_translate.proofs.Moves.{as_image, run_good}
@@ -44,12 +44,12 @@ units_are_whole sandbox p number reading clean within longest =
 
 -- ---- a turn
 
-module _ (sandbox : ℕ) (p : Part) (entries : ℕ → Bool) (s : State) (left moves : ℕ) (g : Going) (clean : IsCleanPart sandbox p) (reached : IsReached p s) (fits : left < 2 ^ 32)
-    (are : AreTranslatedSteps p entries moves (record { place = Loop; state = s; left = left }) g) where
+module _ (sandbox : ℕ) (p : Part) (cut : Cut) (s : State) (left moves : ℕ) (g : Going) (clean : IsCleanPart sandbox p) (reached : IsReached p s) (fits : left < 2 ^ 32)
+    (are : AreTranslatedSteps p cut moves (record { place = Loop; state = s; left = left }) g) where
   of_good : (Good : State → Type 0) → ((t : State) (turn : Turn) → Good t → IsTurn p t turn → IsSafeState p t × IsSafeTurn p t turn × IfSome (after_turn turn) Good) → ((t : State) → Good t → KeepsAll p t) → Good reached.first → IsAsImage s left g
   of_good Good keeps kept first =
       let good = run_good p Good keeps reached.turns (Some reached.first) first reached.run in
-      as_image p clean.right clean.apart Good keeps kept entries s left fits moves g (subst (λ (o : Option State). IfSome o Good) reached.after good) reached.state reached.has_data are
+      as_image p clean.right clean.apart Good keeps kept cut s left fits moves g (subst (λ (o : Option State). IfSome o Good) reached.after good) reached.state reached.has_data are
 
   in_bundles_as : AreCleanBundles sandbox p → IsAsImage s left g
   in_bundles_as each =
@@ -60,5 +60,5 @@ module _ (sandbox : ℕ) (p : Part) (entries : ℕ → Bool) (s : State) (left m
       of_good (IsGoodInWords p) (λ t turn good h. words.turn_keeps p t turn each good h) (λ t good. good.kept) (words.entry_is_good p reached.first each reached.entry)
 
 pub translated_runs_as_image : TranslatedRunsAsImage
-translated_runs_as_image sandbox p entries s left moves g clean reached fits are =
-    in_any sandbox p (IsAsImage s left g) clean (in_bundles_as sandbox p entries s left moves g clean reached fits are) (in_words_as sandbox p entries s left moves g clean reached fits are)
+translated_runs_as_image sandbox p cut s left moves g clean reached fits are =
+    in_any sandbox p (IsAsImage s left g) clean (in_bundles_as sandbox p cut s left moves g clean reached fits are) (in_words_as sandbox p cut s left moves g clean reached fits are)

@@ -13,7 +13,7 @@ use Rattle.sfi_image.specs.Parts.{IsRightPart}
 use Rattle.sfi_image.specs.Spelling.{AreApart, code_region, guarded_region}
 use Rattle.sfi_safe_runs.specs.Runs.{Turn, Steps, IsTurn, IsRun, after_step, after_turn}
 use Rattle.sfi_safe_runs.specs.Safety.{after_turns, KeepsAll, IsSafeState, IsSafeTurn}
-use Rattle.sfi_translate.specs.Machine.{ControlPoint, Label, Slow, Loop, Stopped, Going, one_less, after_line, is_done, fixed, line_done, row_step, step_done, from_loop, IsLine, IsTranslatedStepAt, AreTranslatedSteps}
+use Rattle.sfi_translate.specs.Machine.{Cut, ControlPoint, Label, Slow, Loop, Stopped, Going, one_less, after_line, is_done, fixed, line_done, row_step, step_done, from_loop, IsLine, IsTranslatedStepAt, AreTranslatedSteps}
 use Rattle.sfi_translate.specs.Laws.{HasData, IsAsImage}
 use Rattle.sfi_translate.proofs.LinesStand.{stands, two_or_four, between_heads}
 use Rattle.sfi_translate.proofs.Counting.{IsEnough, loop_enough, line_enough}
@@ -43,7 +43,7 @@ record IsSoFar (p : Part) (IsGood : State → Type 0) (s : State) (left : ℕ) (
 
 module _ (p : Part) (right : IsRightPart p) (apart : AreApart (code_region p) (guarded_region p)) (IsGood : State → Type 0)
     (keeps : (s : State) (turn : Turn) → IsGood s → IsTurn p s turn → IsSafeState p s × IsSafeTurn p s turn × IfSome (after_turn turn) IsGood)
-    (kept : (s : State) → IsGood s → KeepsAll p s) (entries : ℕ → Bool) (s : State) (left : ℕ) (fits : left < 2 ^ 32) where
+    (kept : (s : State) → IsGood s → KeepsAll p s) (cut : Cut) (s : State) (left : ℕ) (fits : left < 2 ^ 32) where
   abbrev SoFar : Going → Type 0
   SoFar g = IsSoFar p IsGood s left g
 
@@ -86,30 +86,30 @@ module _ (p : Part) (right : IsRightPart p) (apart : AreApart (code_region p) (g
 
     -- as a hart does the line
     abbrev done_by : Hart → Going
-    done_by h = record { place = after_line p entries i n h (one_less g.left); state = record { hart = fixed p (effect i n h g.state.memory).state.hart; memory = (effect i n h g.state.memory).state.memory }; left = one_less g.left }
+    done_by h = record { place = after_line p cut i n h (one_less g.left); state = record { hart = fixed p (effect i n h g.state.memory).state.hart; memory = (effect i n h g.state.memory).state.memory }; left = one_less g.left }
 
     done_here : is_done p i g.state.hart ≡ true → SoFar (done_by g.state.hart)
     done_here done =
         let next = done_next p right g.state.memory so.has_data i n g.state.hart done in
         let less = less_is g.left some_here (bound g so) in
         let state = step_keeps_state g.state after so.state step_here in
-        let k = stepped g so after step_here next some_here (after_line p entries i n g.state.hart (one_less g.left))
-        (line_enough p entries n g.state.hart g.left (one_less g.left) (two_or_four p right g.state.hart.pc i n line) so.state.hart.even (between_heads p right g.state.hart.pc i n line) enough less i g.state.memory next state.hart.even) in
-        subst (λ (h : Hart). SoFar (record { place = after_line p entries i n g.state.hart (one_less g.left); state = record { hart = h; memory = after.state.memory }; left = one_less g.left }))
+        let k = stepped g so after step_here next some_here (after_line p cut i n g.state.hart (one_less g.left))
+        (line_enough p cut n g.state.hart g.left (one_less g.left) (two_or_four p right g.state.hart.pc i n line) so.state.hart.even (between_heads p right g.state.hart.pc i n line) enough less i g.state.memory next state.hart.even) in
+        subst (λ (h : Hart). SoFar (record { place = after_line p cut i n g.state.hart (one_less g.left); state = record { hart = h; memory = after.state.memory }; left = one_less g.left }))
         (sym (taken_as after.state k.good state)) k
 
     by_test : (b : Bool) → is_done p i g.state.hart ≡ b → SoFar (cond b (done_by g.state.hart) (record g { place = Slow }))
     by_test true e = done_here e
     by_test false e = moved g so Slow some_here
 
-    line_here : SoFar (line_done p entries g.state.hart.pc i n g)
+    line_here : SoFar (line_done p cut g.state.hart.pc i n g)
     line_here =
         subst (λ (h : Hart). SoFar (cond (is_done p i h) (done_by h) (record g { place = Slow })))
         (sym (taken_as g.state so.good so.state)) (by_test (is_done p i g.state.hart) refl)
 
-  line_moves : (g : Going) → SoFar g → (at : ℕ) → g.state.hart.pc ≡ at → 65 ≤ g.left + at % 128 / 2 → (i : Instr) (n : ℕ) → IsLine p at i n → SoFar (line_done p entries at i n g)
+  line_moves : (g : Going) → SoFar g → (at : ℕ) → g.state.hart.pc ≡ at → 65 ≤ g.left + at % 128 / 2 → (i : Instr) (n : ℕ) → IsLine p at i n → SoFar (line_done p cut at i n g)
   line_moves g so at is =
-      subst (λ (a : ℕ). 65 ≤ g.left + a % 128 / 2 → (i : Instr) (n : ℕ) → IsLine p a i n → SoFar (line_done p entries a i n g)) is (line_here g so)
+      subst (λ (a : ℕ). 65 ≤ g.left + a % 128 / 2 → (i : Instr) (n : ℕ) → IsLine p a i n → SoFar (line_done p cut a i n g)) is (line_here g so)
 
   -- ---- a slow step
 
@@ -132,7 +132,7 @@ module _ (p : Part) (right : IsRightPart p) (apart : AreApart (code_region p) (g
 
   -- ---- any move
 
-  one_move : (g k : Going) (so : SoFar g) (q : ControlPoint) → g.place ≡ q → IsTranslatedStepAt q p entries g k → SoFar k
+  one_move : (g k : Going) (so : SoFar g) (q : ControlPoint) → g.place ≡ q → IsTranslatedStepAt q p cut g k → SoFar k
   one_move g k so (Label at) e move =
       let here : IsEnough (Label at) g.state g.left = subst (λ (q : ControlPoint). IsEnough q g.state g.left) e so.enough in
       subst SoFar (sym move.3) (line_moves g so at here.0 here.1 move.0 move.1 move.2)
@@ -140,14 +140,14 @@ module _ (p : Part) (right : IsRightPart p) (apart : AreApart (code_region p) (g
       let r = row_step p move.0 move.1 g.state in
       subst SoFar (sym move.3) (slow_moves g so (subst (λ (q : ControlPoint). IsEnough q g.state g.left) e so.enough) r (row_here g so move.0 move.1 move.2) r.outcome refl)
   one_move g k so Loop e move =
-      subst SoFar (sym move.1) (moved g so (from_loop p entries g.state.hart.pc g.left) (loop_enough g.state g.left move.0 p entries))
+      subst SoFar (sym move.1) (moved g so (from_loop p cut g.state.hart.pc g.left) (loop_enough g.state g.left move.0 p cut))
   one_move g k so (Stopped o) e move = absurd move
 
-  after_moves : (n : ℕ) (g k : Going) → SoFar g → AreTranslatedSteps p entries n g k → SoFar k
+  after_moves : (n : ℕ) (g k : Going) → SoFar g → AreTranslatedSteps p cut n g k → SoFar k
   after_moves zero g k so h = subst SoFar (sym h) so
   after_moves (suc n) g k so h = after_moves n h.0 k (one_move g h.0 so g.place refl h.1) h.2
 
-  pub as_image : (n : ℕ) (g : Going) → IsGood s → IsState s → HasData p s.memory → AreTranslatedSteps p entries n (record { place = Loop; state = s; left = left }) g → IsAsImage s left g
+  pub as_image : (n : ℕ) (g : Going) → IsGood s → IsState s → HasData p s.memory → AreTranslatedSteps p cut n (record { place = Loop; state = s; left = left }) g → IsAsImage s left g
   as_image n g good state has moves =
       let so = after_moves n _ g (record { good = good; state = state; has_data = has; steps = 0; lead = refl; counted = omega arith; enough = tt }) moves in
       record { steps = so.steps; lead = so.lead; counted = so.counted; stopped = λ o e. subst (λ (q : ControlPoint). IsEnough q g.state g.left) e so.enough }

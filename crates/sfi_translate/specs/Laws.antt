@@ -14,7 +14,7 @@ use Rattle.sfi_safe_runs.specs.Runs.{InData, Turn, IsEntry, IsRun}
 use Rattle.sfi_safe_runs.specs.Safety.{after_turns}
 use Rattle.sfi_safety.specs.Places.{IsCleanPart}
 use Rattle.sfi_translate.specs.Translation.{line_text, IsCodeText}
-use Rattle.sfi_translate.specs.Machine.{Going, Loop, Stopped, IsLine, AreTranslatedSteps}
+use Rattle.sfi_translate.specs.Machine.{Cut, Going, Loop, Stopped, IsLine, AreTranslatedSteps}
 
 -- a byte is at each address of the data
 abbrev pub HasData : Part → Bytes → Type 0
@@ -55,12 +55,12 @@ pub record IsAsImage (s : State) (left : ℕ) (g : Going) : Type 0 where
   pub stopped : (o : Outcome) → g.place ≡ Stopped o
       → (o ≢ Next) × IsStep g.state (record { outcome = o; state = g.state })
 
--- whatever entries its text has, a turn of the translation of a sandbox without a finding is steps of
--- the machine, after each of its steps. It doesn't say that a step follows: where the text has no line there
--- is none, and `sfi_step` says SFI_FETCH.
+-- However its code is cut, and whatever entries it has, a turn of the translation of a sandbox without a
+-- finding is steps of the machine, after each of its steps. It doesn't say that a step follows: where the
+-- text has no line there is none, and `sfi_step` says SFI_FETCH.
 abbrev pub TranslatedRunsAsImage : Type 0
 TranslatedRunsAsImage =
-    (sandbox : ℕ) (p : Part) (entries : ℕ → Bool) (s : State) (left moves : ℕ) (g : Going)
+    (sandbox : ℕ) (p : Part) (cut : Cut) (s : State) (left moves : ℕ) (g : Going)
     → IsCleanPart sandbox p → IsReached p s → left < 2 ^ 32
-    → AreTranslatedSteps p entries moves (record { place = Loop; state = s; left = left }) g
+    → AreTranslatedSteps p cut moves (record { place = Loop; state = s; left = left }) g
     → IsAsImage s left g

@@ -1,6 +1,6 @@
--- What the lines of a sandbox's translation do, as include/sfi_native.h reads them, if the sandbox has no
--- finding: then each unit is read whole, so that the line after one of n bytes is that of the address n
--- further on (law UnitsAreWhole).
+-- What the lines of a sandbox's translation do, as a header reads them, if the sandbox has no finding: then
+-- each unit is read whole, so that the line after one of n bytes is that of the address n further on (law
+-- UnitsAreWhole).
 use Rattle.std.specs.Prelude.{◌≡◌, ℕ, zero, suc, ◌+◌, ◌-◌, ◌*◌, ◌/◌, ◌%◌, ◌^◌, ◌<◌, ◌≤◌, ◌==◌, nat_le, nat_lt, ◌||◌, ◌&&◌, not, Bool, true, false, List, [], ◌∷◌, ◌++◌, length, slice_set, if◌then◌else◌}
 use Rattle.rv_word.specs.declared.instr.Instr.{Instr}
 use Rattle.rv_word.specs.declared.instr.Instr.TheVariants.{Load, Store, Branch, Jal, Jalr, Ecall, Ebreak}
@@ -15,7 +15,18 @@ use Rattle.sfi_formats.specs.Formats.{unit}
 use Rattle.sfi_image.specs.Spelling.{Part}
 use Rattle.sfi_rules.specs.Readings.{Piece, IsLongestReading}
 use Rattle.sfi_report.specs.Listing.{unit_bytes}
-use Rattle.sfi_translate.specs.Translation.{function_most, head_bytes}
+use Rattle.sfi_translate.specs.Translation.{head_bytes}
+
+-- ---- how the code is cut
+
+-- how a header cuts the code of a sandbox into functions, and where they can be entered: C
+-- (include/sfi_native.h) by 16384 bytes (`function_most`), at the lines ENTRY; assembly by 2 ^ 32 bytes, so
+-- that all code is one function, at each unit
+pub record Cut : Type 0 where
+  -- the bytes of code that one function holds: those whose addresses have the same quotient by it
+  pub function_size : ℕ
+  -- whether the unit at an address is an entry
+  pub entries : ℕ → Bool
 
 -- ---- where a turn is
 
@@ -54,43 +65,43 @@ abbrev pub onto : ℕ → ℕ → ControlPoint
 onto to left = if to % head_bytes == 0 then at_head to left else Label to
 
 -- past a line: out to the loop after the last line, and where another function begins
-abbrev pub falls : Part → ℕ → ℕ → ControlPoint
-falls p to left =
+abbrev pub falls : Part → Cut → ℕ → ℕ → ControlPoint
+falls p cut to left =
     if to == (p.code_base + length p.code) % 2 ^ 32 then Loop
-    else if (to - p.code_base) % function_most == 0 then Loop else onto to left
+    else if (to - p.code_base) % cut.function_size == 0 then Loop else onto to left
 
 -- by a jump: into another function through the loop; backwards, or past a head, with its test
-abbrev pub jumps : ℕ → ℕ → ℕ → ControlPoint
-jumps from to left =
-    if not ((from / function_most) == (to / function_most)) then Loop
+abbrev pub jumps : Cut → ℕ → ℕ → ℕ → ControlPoint
+jumps cut from to left =
+    if not ((from / cut.function_size) == (to / cut.function_size)) then Loop
     else if nat_le to from || not ((from / head_bytes) == (to / head_bytes)) then at_head to left
     else Label to
 
 -- to an address that no line names, in the function that `from` belongs to: at the entry of its unit, by
--- whose number C's switch knows it
-abbrev pub enters : Part → (ℕ → Bool) → ℕ → ℕ → ℕ → ControlPoint
-enters p entries from to left =
+-- whose number C's switch and the table of assembly know it
+abbrev pub enters : Part → Cut → ℕ → ℕ → ℕ → ControlPoint
+enters p cut from to left =
     let start = to - to % unit p.format in
     if not (to % unit p.format == 0) then Slow
-    else if not ((from / function_most) == (to / function_most)) then Loop
-    else if entries start then onto start left else Slow
+    else if not ((from / cut.function_size) == (to / cut.function_size)) then Loop
+    else if cut.entries start then onto start left else Slow
 
 -- after the line of that instruction, of n bytes, which a hart has done from its pc on
-abbrev pub after_line : Part → (ℕ → Bool) → Instr → ℕ → Hart → ℕ → ControlPoint
-after_line p entries (Branch cond rs1 rs2 offset) n h left =
+abbrev pub after_line : Part → Cut → Instr → ℕ → Hart → ℕ → ControlPoint
+after_line p cut (Branch cond rs1 rs2 offset) n h left =
     if is_taken cond (register h rs1) (register h rs2)
-    then jumps h.pc (offset_by h.pc offset) left else falls p (address_after h.pc n) left
-after_line p entries (Jal rd offset) n h left = jumps h.pc (offset_by h.pc offset) left
-after_line p entries (Jalr rd rs1 imm) n h left =
+    then jumps cut h.pc (offset_by h.pc offset) left else falls p cut (address_after h.pc n) left
+after_line p cut (Jal rd offset) n h left = jumps cut h.pc (offset_by h.pc offset) left
+after_line p cut (Jalr rd rs1 imm) n h left =
     if nat_lt left most then Slow
-    else enters p entries h.pc (even_of (offset_by (register h rs1) imm)) left
-after_line p entries i n h left = falls p (address_after h.pc n) left
+    else enters p cut h.pc (even_of (offset_by (register h rs1) imm)) left
+after_line p cut i n h left = falls p cut (address_after h.pc n) left
 
 -- from the loop
-abbrev pub from_loop : Part → (ℕ → Bool) → ℕ → ℕ → ControlPoint
-from_loop p entries pc left =
+abbrev pub from_loop : Part → Cut → ℕ → ℕ → ControlPoint
+from_loop p cut pc left =
     if nat_le most left && (nat_le p.code_base pc && nat_lt pc (p.code_base + length p.code))
-    then enters p entries pc pc left else Slow
+    then enters p cut pc pc left else Slow
 
 -- ---- what is done
 
@@ -116,12 +127,12 @@ fixed p h = record {
 }
 
 -- the line of that instruction, of n bytes, at that address
-abbrev pub line_done : Part → (ℕ → Bool) → ℕ → Instr → ℕ → Going → Going
-line_done p entries at i n g =
+abbrev pub line_done : Part → Cut → ℕ → Instr → ℕ → Going → Going
+line_done p cut at i n g =
     let h = with_pc (fixed p g.state.hart) at in
     let after = (effect i n h g.state.memory).state in
     if is_done p i h then (record {
-      place = after_line p entries i n h (one_less g.left);
+      place = after_line p cut i n h (one_less g.left);
       state = record { hart = fixed p after.hart; memory = after.memory };
       left = one_less g.left;
     }) else (record {
@@ -167,22 +178,22 @@ pub record IsLine (p : Part) (at : ℕ) (i : Instr) (n : ℕ) : Type 0 where
   pub at_is : at ≡ p.code_base + unit p.format * number + bytes_of before
 
 -- what may follow at that place
-abbrev pub IsTranslatedStepAt : ControlPoint → Part → (ℕ → Bool) → Going → Going → Type 0
-IsTranslatedStepAt (Label at) p entries g k =
-    (i : Instr) × (n : ℕ) × IsLine p at i n × (k ≡ line_done p entries at i n g)
-IsTranslatedStepAt Slow p entries g k =
+abbrev pub IsTranslatedStepAt : ControlPoint → Part → Cut → Going → Going → Type 0
+IsTranslatedStepAt (Label at) p cut g k =
+    (i : Instr) × (n : ℕ) × IsLine p at i n × (k ≡ line_done p cut at i n g)
+IsTranslatedStepAt Slow p cut g k =
     (i : Instr) × (n : ℕ) × IsLine p g.state.hart.pc i n
     × (k ≡ step_done (row_step p i n g.state).outcome (row_step p i n g.state).state g.left)
-IsTranslatedStepAt Loop p entries g k =
-    (0 < g.left) × (k ≡ record g { place = from_loop p entries g.state.hart.pc g.left })
-IsTranslatedStepAt (Stopped o) p entries g k = ⊥
+IsTranslatedStepAt Loop p cut g k =
+    (0 < g.left) × (k ≡ record g { place = from_loop p cut g.state.hart.pc g.left })
+IsTranslatedStepAt (Stopped o) p cut g k = ⊥
 
--- one such step; `entries` says of an address whether it has an ENTRY in the text
-abbrev pub IsTranslatedStep : Part → (ℕ → Bool) → Going → Going → Type 0
-IsTranslatedStep p entries g k = IsTranslatedStepAt g.place p entries g k
+-- one such step
+abbrev pub IsTranslatedStep : Part → Cut → Going → Going → Type 0
+IsTranslatedStep p cut g k = IsTranslatedStepAt g.place p cut g k
 
 -- some such steps, one after another
-abbrev pub AreTranslatedSteps : Part → (ℕ → Bool) → ℕ → Going → Going → Type 0
-AreTranslatedSteps p entries zero g k = k ≡ g
-AreTranslatedSteps p entries (suc n) g k =
-    (between : Going) × IsTranslatedStep p entries g between × AreTranslatedSteps p entries n between k
+abbrev pub AreTranslatedSteps : Part → Cut → ℕ → Going → Going → Type 0
+AreTranslatedSteps p cut zero g k = k ≡ g
+AreTranslatedSteps p cut (suc n) g k =
+    (between : Going) × IsTranslatedStep p cut g between × AreTranslatedSteps p cut n between k
