@@ -2,9 +2,10 @@
 """How fast translated images are: the programs of examples/c and four kernels (kernels.c), by `sfi translate` and gcc
 -O2, beside the same C by gcc -O2 alone, the kernels by wasm2c, too.
 
-    bench/translated.py [--program PATH] [--rounds N] [--interpreted] [--peers] [NAME ..]
+    bench/translated.py [--program PATH] [--rounds N] [--option OPTION ..] [--interpreted] [--peers] [NAME ..]
 
-It wants sfi-cc's tools, and for wasm2c clang, wasm-ld and wabt. A program
+It wants sfi-cc's tools, and for wasm2c clang, wasm-ld and wabt. OPTION is one of gcc for the
+translations, such as -DSFI_PORTABLE. A program
 runs again and again over an input that is built in (repeat.c); it ends where the checksums differ. Processor seconds
 of the native program, each the least of N alternated runs, and of the others the ratios to it; then the text's bytes
 for an instruction. With --interpreted, so of the same images by `sfi run`, which takes long. With --peers, so of the
@@ -122,7 +123,7 @@ def image_in(folder, image_format):
     return os.path.join(folder, f"{image_format}.hex")
 
 
-def translated(program, image_format, folder, options):
+def translated(program, image_format, folder, options, for_gcc):
     """The words that run a translated program, and its translation."""
     image = image_in(folder, image_format)
     call(SFI_CC, "--program", program, "--format", image_format, *options, "-o", image)
@@ -130,7 +131,7 @@ def translated(program, image_format, folder, options):
     text = call(program, "translate", "--whole", input=digits)
     lines = call(program, "translate", input=digits)
     source, path = measure.written(os.path.join(folder, "image.c"), text), os.path.join(folder, f"translated.{image_format}")
-    call("gcc", "-O2", source, "-o", path)
+    call("gcc", "-O2", *for_gcc, source, "-o", path)
     return [path, *TURNS], lines
 
 
@@ -157,7 +158,7 @@ def measured(program, name, given, folder):
     options = sources(name, folder)
     ways, texts = {"native": (native(folder, options), os.devnull)}, {}
     for image_format in FORMATS:
-        words, texts[image_format] = translated(program, image_format, folder, options)
+        words, texts[image_format] = translated(program, image_format, folder, options, given.option)
         ways[image_format] = words, os.devnull
     if name in KERNELS and shutil.which("wasm2c") and shutil.which("clang"):
         ways["wasm2c"] = by_wasm2c(folder, options), os.devnull
@@ -193,6 +194,7 @@ def main():
     parser.add_argument("names", nargs="*", default=[*CASES, *KERNELS])
     parser.add_argument("--program", default=measure.PROGRAM)
     parser.add_argument("--rounds", type=int, default=3)
+    parser.add_argument("--option", action="append", default=[])
     parser.add_argument("--interpreted", action="store_true")
     parser.add_argument("--peers", action="store_true")
     given = parser.parse_args()

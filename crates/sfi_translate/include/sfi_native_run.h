@@ -10,11 +10,14 @@
  * and what a caller owes are those of sfi_run.h, with these differences:
  *
  * - Nothing is checked: SFI_TEXT is what `sfi translate` printed of the accepted image whose bytes SFI_IMAGE lists, on the
- *   word of whoever compiled it. The text is proved; this file, sfi_native.h and the C compiler are trusted.
+ *   word of whoever compiled it. The text is proved; this file, sfi_native.h, what it includes and the C compiler are trusted.
  * - Only that image is loaded, and named: of other bytes sfi_run_load, sfi_run_module_new, sfi_run_export, sfi_run_import and
  *   sfi_run_api return SFI_NATIVE_OTHER_IMAGE, and the verdict has this status and else zeros.
  * - sfi_run_load, sfi_run_instance and sfi_run_free take memory by calloc and give it back by free: the data's bytes, and 256
  *   bytes a sandbox. A module keeps none: sfi_run_module_new takes as much as a load, and gives it back.
+ * - Compiled with -DSFI_GUARDED for Linux on x86-64 the data are pages of their own between two guard zones, accesses take no
+ *   test, and a load handles SIGSEGV: a fault that is no sandbox's goes to the handler before. A handler that is set later has
+ *   to hand on what isn't its own.
  * - sfi_run_until takes a step at a time, from a table, as slowly as sfi_run_turn of libsfi_run.
  * - A world keeps its sandboxes: none can be added, since they would meet those that are there, and sfi_run_remove returns
  *   SFI_NATIVE_STAYS.
