@@ -1,9 +1,16 @@
 /* Does lines of a translation (forms.py): for each `struct given` on standard input a `struct found`. */
+#ifdef SFI_GUARDED
+#define _GNU_SOURCE
+#endif
 #include <stdio.h>
 #include <stdlib.h>
 #include "sfi_native.h"
+#include "sfi_native_data.h"
 
-enum { FUNCTION_WAY, STEP_WAY, TURN_WAY, MANY_WAY, DATA_SIZE = 256 };
+#ifndef DATA_SIZE
+#define DATA_SIZE 256
+#endif
+enum { FUNCTION_WAY, STEP_WAY, TURN_WAY, MANY_WAY };
 
 struct given {
     sfi_u32 way, pc, left, x[32];
@@ -15,12 +22,18 @@ struct found {
     uint8_t data[DATA_SIZE];
 };
 
+/* Data that a sanitizer watches, or between guard zones. */
+static uint8_t *new_data(const struct sfi_sandbox *s) {
+    uint8_t *const data = sfi_new_data(s);
+    if (data == NULL)
+        exit(4);
+    return data;
+}
+
 static void do_lines(const struct given *given, struct found *found) {
     const struct sfi_sandbox *s = &sfi_sandboxes[0];
     struct sfi_hart hart = {.pc = given->pc, .left = given->left};
-    hart.data = malloc(DATA_SIZE); /* one that a sanitizer watches */
-    if (hart.data == NULL)
-        exit(4);
+    hart.data = new_data(s);
     memcpy(hart.x, given->x, sizeof hart.x);
     memcpy(hart.data, given->data, DATA_SIZE);
     found->at = 0;
@@ -34,7 +47,7 @@ static void do_lines(const struct given *given, struct found *found) {
     found->left = hart.left;
     memcpy(found->x, hart.x, sizeof found->x);
     memcpy(found->data, hart.data, DATA_SIZE);
-    free(hart.data);
+    sfi_free_data(s, hart.data);
 }
 
 static sfi_u32 number(void) {
@@ -50,15 +63,29 @@ static sfi_u32 word(const struct sfi_sandbox *s) {
     return kind == 0 ? some % 600 - 300 : kind == 1 ? s->data + some % 8 - 4 : kind == 2 ? s->data + DATA_SIZE - 4 + some % 8 : some;
 }
 
+/* Whether an access is at an address that no guarded access of accepted code has. */
+static int is_far(const struct sfi_sandbox *s, const struct sfi_hart *h) {
+#ifdef SFI_GUARDED
+    const struct sfi_row row = s->rows()[(h->pc - s->code) / 2];
+    const sfi_u32 place = h->x[row.rs1] + (sfi_u32)row.number - s->data + SFI_ZONE;
+    return row.kind >= SFI_KIND_lb && row.kind <= SFI_KIND_sw && place > s->data_size + 2 * SFI_ZONE - 4;
+#else
+    (void)s, (void)h;
+    return 0;
+#endif
+}
+
 /* In how many of so many random states (left) the line at pc does something else in its function than in sfi_step. */
 static sfi_u32 differing(const struct given *given) {
-    static uint8_t stepped_data[DATA_SIZE], done_data[DATA_SIZE];
     const struct sfi_sandbox *s = &sfi_sandboxes[0];
+    uint8_t *const stepped_data = new_data(s), *const done_data = new_data(s);
     sfi_u32 count = 0, at;
     for (sfi_u32 k = 0; k < given->left; k++) {
         struct sfi_hart stepped = {.pc = given->pc, .left = SFI_MOST, .data = stepped_data}, done;
         for (int r = 1; r < 32; r++)
             stepped.x[r] = r >= 24 && r <= 27 ? given->x[r] : word(s);
+        if (is_far(s, &stepped))
+            continue;
         stepped_data[number() % DATA_SIZE] = (uint8_t)number();
         done = stepped;
         done.data = memcpy(done_data, stepped_data, DATA_SIZE);
@@ -67,6 +94,8 @@ static sfi_u32 differing(const struct given *given) {
         count += !(is_next || is_left) || stepped.pc != done.pc || stepped.left != done.left ||
             memcmp(stepped.x, done.x, sizeof done.x) || memcmp(stepped_data, done_data, DATA_SIZE);
     }
+    sfi_free_data(s, stepped_data);
+    sfi_free_data(s, done_data);
     return count;
 }
 

@@ -1,8 +1,9 @@
 #!/usr/bin/env python3
 """Whether lines mean in sfi_native.h what the manual says of their instructions: lines of all kinds are done once by the C
 function and once by sfi_step, from random registers and data, and random code is run by sfi_turn, beside fuzz/machine.py; and
-some lines whose values the manual states. By gcc and clang, without optimization, with it, and under sanitizers. Then the
-header gets one mistake after another, and the comparison has to see each.
+some lines whose values the manual states. By gcc and clang, without optimization, with it, and under sanitizers. On x86-64
+the same of its instructions (sfi_native_x86_64.h), and of accesses between guard zones (sfi_native_data.h). Then the headers
+get one mistake after another (form_mistakes.py), and the comparison has to see each.
 
     examples/translate/forms.py [--states N] [--many N] [--lines N] [--seed SEED]
 
@@ -10,7 +11,9 @@ For each of N lines of a kind N states beside the manual's machine, and many mor
 """
 import argparse
 import os
+import platform
 import random
+import re
 import resource
 import shutil
 import struct
@@ -23,15 +26,18 @@ HERE = os.path.dirname(os.path.abspath(__file__))
 TOP = os.path.dirname(os.path.dirname(HERE))
 sys.path[:0] = [os.path.join(TOP, "fuzz"), os.path.join(TOP, "bench"), os.path.join(TOP, "tools")]
 
+import form_mistakes
 import layout
 import lines
 import machine
 
-HEADER = os.path.join(TOP, "crates/sfi_translate/include/sfi_native.h")
-CODE, CODE_SIZE, DATA, DATA_SIZE, PLACE, MASK = 0x01000000, 65536, 0x01800000, 256, 8, 0xFFFFFFFF
+INCLUDE = os.path.join(TOP, "crates/sfi_translate/include")
+HEADERS = ["sfi_native.h", "sfi_native_x86_64.h", "sfi_native_data.h"]
+CODE, CODE_SIZE, DATA, PLACE, MASK = 0x01000000, 65536, 0x01800000, 8, 0xFFFFFFFF
+DATA_SIZE, GUARDED_SIZE, ZONE = 256, 4096, 4096
 RESERVED = (24, 25, 26, 27)
 FREE = [number for number in range(32) if number not in RESERVED]
-GIVEN, FOUND = "<35I256s", "<36I256s"
+GIVEN, FOUND = "<35I", "<36I"  # and the data
 FUNCTION_WAY, STEP_WAY, TURN_WAY, MANY_WAY = range(4)
 LEAST_LEFT = 65  # SFI_MOST: with this many steps left no jump goes on
 NEXT, CALL, LOAD, STORE, BREAK = range(5)
@@ -39,45 +45,13 @@ OUTCOMES = {0: CALL, machine.BREAK: BREAK, machine.LOAD: LOAD, machine.STORE: ST
 OTHERS = ["jal", "jalr", "lui", "auipc", "fence", "ecall", "ebreak"]
 KINDS = lines.COMPUTATIONS + lines.IMMEDIATES + lines.LOADS + lines.STORES + lines.BRANCHES + OTHERS
 GOING_ON = lines.COMPUTATIONS + lines.IMMEDIATES + lines.BRANCHES + ["jal", "lui", "auipc", "fence"]  # these don't end a turn
-LEVELS = [("gcc", "-O0"), ("gcc", "-O2"), ("clang", "-O0"), ("clang", "-O2"),
-          ("gcc", "-O1", "-fsanitize=undefined,address", "-fno-sanitize-recover=all")]
+SANITIZED = ("gcc", "-O1", "-fsanitize=undefined,address", "-fno-sanitize-recover=all")
+PORTABLE = [it + ("-DSFI_PORTABLE",) for it in (("gcc", "-O0"), ("gcc", "-O2"), ("clang", "-O0"), ("clang", "-O2"), SANITIZED)]
+ASSEMBLY = [("gcc", "-O2"), ("clang", "-O2"), SANITIZED]
+GUARDED = [it + ("-DSFI_GUARDED", f"-DDATA_SIZE={GUARDED_SIZE}") for it in (("gcc", "-O2"), ("clang", "-O2"))]
 LEAST, ONES = 0x80000000, MASK
 VECTORS = [  # of crates/rv_tests: kind, x11, x12, and x10 afterwards
     ("div", 7, 0, ONES), ("rem", 7, 0, 7), ("div", LEAST, ONES, LEAST), ("rem", LEAST, ONES, 0), ("mulhsu", ONES, ONES, ONES)]
-MISTAKES = {  # what the header says, and what it says then
-    "a shift fills with zeros": ("(SFI_SIGNED(a) >> ((b) & 31u))", "((a) >> ((b) & 31u))"),
-    "a comparison forgets signs": ("(sfi_u32)(SFI_SIGNED(a) < SFI_SIGNED(b))", "(sfi_u32)((a) < (b))"),
-    "a product has both signs": ("(int64_t)(uint64_t)(b)) >> 32", "SFI_SIGNED(b)) >> 32"),
-    "a quotient by 0 is 0": ("return b == 0 ? ~0u :", "return b == 0 ? 0u :"),
-    "a remainder by 0 is 0": ("((b) == 0 ? (a) :", "((b) == 0 ? 0u :"),
-    "a branch is taken where numbers are equal": ("SFI_blt(a, b) (SFI_SIGNED(a) < ", "SFI_blt(a, b) (SFI_SIGNED(a) <= "),
-    "a byte is loaded without its sign": ("typedef int8_t sfi_lb;", "typedef uint8_t sfi_lb;"),
-    "a store is too wide": ("typedef uint8_t sfi_sb;", "typedef uint16_t sfi_sb;"),
-    "the last word can't be reached": ("if (SFI_RARE(e_ > data_size_", "if (SFI_RARE(e_ >= data_size_"),
-    "a step reaches a byte too far": ("if (place > s->data_size - sizeof stored)", "if (place > s->data_size - sizeof stored + 1)"),
-    "a trap's address is the offset": ("{ *at = a + number; return SFI_LOAD; }", "{ *at = place; return SFI_LOAD; }"),
-    "a jump lands on an odd address": ("pc_ = (r##rs1 + (sfi_u32)(number)) & ~1u;", "pc_ = r##rs1 + (sfi_u32)(number);"),
-    "a jump links to itself": ("#define JAL(at, size, rd, to) L##at: W(rd, 0x##at##u + size)", "#define JAL(at, size, rd, to) L##at: W(rd, 0x##at##u)"),
-    "a jump reads what it has written": ("L##at: pc_ = (r##rs1 + (sfi_u32)(number)) & ~1u; W(rd, 0x##at##u + size)",
-                                         "L##at: W(rd, 0x##at##u + size) pc_ = (r##rs1 + (sfi_u32)(number)) & ~1u;"),
-    "auipc forgets the pc": ("W(rd, 0x##at##u + ((sfi_u32)(number) << 12))", "W(rd, (sfi_u32)(number) << 12)"),
-    "a branch isn't counted": ("#define BRANCH_FAR(at, size, kind, rs1, rs2, to) L##at: SFI_DONE(at, size)", "#define BRANCH_FAR(at, size, kind, rs1, rs2, to) L##at:"),
-    "an ecall is counted": ("#define ECALL(at, size) L##at: SFI_SLOWLY(at)", "#define ECALL(at, size) L##at: sum_--; SFI_SLOWLY(at)"),
-    "two short lines are one step": ("sum_ -= 1 - (SFI_QUARTER(0x##at##u + size) - SFI_QUARTER(0x##at##u));", ""),
-    "a jump takes the steps between with it": ("#define SFI_MOVE(from, to) sum_ += (uint64_t)SFI_QUARTER(to) - SFI_QUARTER(from);", "#define SFI_MOVE(from, to)"),
-    "a jump is from its own line": ("{ SFI_MOVE(0x##at##u + size, 0x##to##u) pc_", "{ SFI_MOVE(0x##at##u, 0x##to##u) pc_"),
-    "a mask's sum carries": ("(r##rs1 & ~r##rs2) + r##rs2", "r##rs1 + r##rs2"),
-    "a step within a unit is the unit's": ("(place) / unit_ | (place) << (unit_ == 4 ? 30 : 28)", "(place) / unit_"),
-    "a function takes another's steps for its own": ("(place) / unit_ | (place) << (unit_ == 4 ? 30 : 28)", "(place) % SFI_PART / unit_ | (place) << (unit_ == 4 ? 30 : 28)"),
-    "the sum has 32 bits": ("uint64_t sum_ = (uint64_t)h->left", "sfi_u32 sum_ = h->left"),
-    "x0 is written": ("((k) == 0 || ((k) >= 24", "(((k) >= 24"),
-    "a step writes x0": ("if (writes)", "if (1)"),
-    "a turn does a step too many": ("enum { SFI_MOST = SFI_HEAD / 2 + 1 };", "enum { SFI_MOST = 8 };"),
-    "a head lets all go on": ("#define HEAD(at) if (SFI_IS_SHORT(0x##at##u)) SFI_SLOWLY(at)", "#define HEAD(at)"),
-    "a jump back isn't looked at": ("(0x##to##u <= 0x##at##u || ", "("),
-    "a function's end is forgotten": ("#define END(at) pc_ = 0x##at##u; goto out;", "#define END(at) goto out;"),
-    "x25 is that of bundles": ("r25 = code_size_ - unit_,", "r25 = code_size_ - 16u,"),
-}
 
 
 class Line:
@@ -90,8 +64,9 @@ class Line:
             rs1 = pick.choice([rs1, 26, 31])
         elif kind == "or":
             rs2 = pick.choice([rs2, 26, 27])
-        elif pick.random() < 0.3:
-            rd = rs1 if rs1 in FREE else rd
+        elif pick.random() < 0.45:
+            same = pick.choice([rs1, rs1, rs2])
+            rd = same if same in FREE else rd
         if kind in lines.BRANCHES or kind == "jal":
             number = pick.choice(targets) - at
         self.number = number
@@ -123,10 +98,14 @@ class Line:
             return rs1, rs2, number
         return (rd, number) if kind in ("jal", "lui", "auipc") else ()
 
+    def is_access(self):
+        return self.kind in lines.LOADS + lines.STORES
+
     def text(self):
         """The line, and what stands before it."""
         head = f"HEAD({self.at:08x})\n" if self.at % lines.HEAD_BYTES == 0 else ""
-        return f"ENTRY({self.at:08x})\n{head}{lines.line_of(self.at, self.size, self.kind, self.operands)}\n"
+        entry = f"ENTRY({self.at:08x})\n" if self.at % 4 == 0 else ""
+        return f"{entry}{head}{lines.line_of(self.at, self.size, self.kind, self.operands)}\n"
 
     def alone(self):
         """The same, and ebreaks after it."""
@@ -153,32 +132,48 @@ def made_run(pick, count):
     return [Line(pick, *it, 4) for it in zip(kinds, addresses, near)]
 
 
-def text_of(made, shown=Line.alone):
+def text_of(made, shown=Line.alone, size=DATA_SIZE):
     """A translation with these lines; each function has one."""
-    text = [f"SANDBOX(0,4,{CODE:08x},{CODE_SIZE},{DATA:08x},{DATA_SIZE},{CODE:08x},0,0)\nDATA(0,0)\n"]
+    text = [f"SANDBOX(0,4,{CODE:08x},{CODE_SIZE},{DATA:08x},{size},{CODE:08x},0,0)\nDATA(0,0)\n"]
     for begin in range(CODE, CODE + CODE_SIZE, lines.FUNCTION_MOST):
         text += [f"END({begin:08x})\n"] * (begin > CODE) + [f"FUNCTION(0,{begin:08x})\n"]
         text += [shown(it) for it in made if begin <= it.at < begin + lines.FUNCTION_MOST] or [f"EBREAK({begin:08x},4)\n"]
     return "".join(text) + "LAST\n"
 
 
-def part():
-    return layout.Part(3, CODE, CODE_SIZE, DATA, DATA_SIZE, CODE, {}, bytes(CODE_SIZE), b"", 0)
+def filled(text):
+    """The same with an ebreak in each unit that has no line: a table of entries has one of each."""
+    made, unit = [], CODE
+    for line in text.splitlines(keepends=True):
+        place = re.match(r"([A-Z_]+)\((?:0,)?([0-9a-f]{8})", line)
+        at = CODE + CODE_SIZE if line == "LAST\n" else int(place[2], 16) if place else unit
+        made += [f"EBREAK({it:08x},4)\n" for it in range(unit, at, 4)] + [line]
+        unit = max(unit, at & ~3)
+        if place and place[1] not in ("FUNCTION", "END", "ENTRY", "HEAD"):
+            unit = max(unit, (at & ~3) + 4)
+    return "".join(made)
 
 
-def word(pick):
-    near = [0, 1, 2, 31, 32, ONES, LEAST, LEAST - 1, DATA, DATA + DATA_SIZE - 1, DATA + DATA_SIZE - 4, DATA - 1, CODE, CODE + 4]
+def part(size=DATA_SIZE):
+    return layout.Part(3, CODE, CODE_SIZE, DATA, size, CODE, {}, bytes(CODE_SIZE), b"", 0)
+
+
+def word(pick, size):
+    near = [0, 1, 2, 31, 32, ONES, LEAST, LEAST - 1, DATA, DATA + size - 1, DATA + size - 4, DATA - 1, CODE, CODE + 4]
     return pick.choice([pick.choice(near), pick.getrandbits(32), pick.randrange(-300, 300) & MASK])
 
 
-def state(pick, line):
-    """Registers that make its access fall in the data, at an end of them, or anywhere."""
-    x = [0] + [word(pick) for _ in range(31)]
-    x[24:28] = part().reserved()
+def state(pick, line, size=DATA_SIZE):
+    """Registers that make its access fall in the data, at an end of them, or anywhere; in a guard zone, where data have one."""
+    x = [0] + [word(pick, size) for _ in range(31)]
+    x[24:28] = part(size).reserved()
+    is_guarded = size == GUARDED_SIZE
     if line.kind in lines.BRANCHES and line.instruction.rs2 in FREE[1:] and pick.random() < 0.3:
         x[line.instruction.rs2] = x[line.instruction.rs1]
-    if line.kind in lines.LOADS + lines.STORES and line.instruction.rs1 in FREE[1:] and pick.random() < 0.8:
-        x[line.instruction.rs1] = DATA + pick.choice([0, 1, 252, 253, 254, 255, 256, -1, pick.randrange(256)]) - line.number & MASK
+    if line.is_access() and line.instruction.rs1 in FREE[1:] and (is_guarded or pick.random() < 0.8):
+        places = [0, 1, size - 4, size - 3, size - 2, size - 1, size, -1, pick.randrange(size)]
+        places += [-ZONE, -2, -3, -4, size + 1, size + ZONE - 4, pick.randrange(-ZONE, 0)] if is_guarded else []
+        x[line.instruction.rs1] = DATA + pick.choice(places) - line.number & MASK
     return x
 
 
@@ -191,23 +186,35 @@ def expected(given, line, x, data):
     return outcome, it.pc & MASK, 0 if stop else 1, it.x, bytes(it.data)
 
 
-def cases(pick, made, states):
+def packed(way, at, left, x, data):
+    """What the C program reads."""
+    return struct.pack(GIVEN, way, at, left, *x) + data
+
+
+def cases(pick, made, states, size=DATA_SIZE):
     """For each line, way and state: what the C program reads, and what it is to write."""
-    given = part()
+    given = part(size)
     for line in made:
         for _ in range(states):
-            x, data = state(pick, line), pick.randbytes(DATA_SIZE)
+            x, data = state(pick, line, size), pick.randbytes(size)
             left = LEAST_LEFT if line.kind == "jalr" else pick.choice([LEAST_LEFT, 66, 1000, ONES])
             (how, at), pc, steps, after, left_data = expected(given, line, x, data)
             rest = (pc, left - steps, *after, left_data)
             for way, told in ((FUNCTION_WAY, (None if how == NEXT else 1, 0)), (STEP_WAY, (how, at))):
-                yield line, struct.pack(GIVEN, way, line.at, left, *x, data), told + rest
+                yield line, packed(way, line.at, left, x, data), told + rest
 
 
-def many(made, states):
+def many(made, states, size=DATA_SIZE):
     """For each line so many states, in the same shape: its function is to do in each what sfi_step does."""
-    x = [0] * 24 + list(part().reserved()) + [0] * 4
-    return [(line, struct.pack(GIVEN, MANY_WAY, line.at, states, *x, bytes(DATA_SIZE)), (0,)) for line in made]
+    x = [0] * 24 + list(part(size).reserved()) + [0] * 4
+    return [(line, packed(MANY_WAY, line.at, states, x, bytes(size)), (0,)) for line in made]
+
+
+def made_ahead(pick):
+    """Short lines to a jump ahead past a head, and short lines after it."""
+    places = [(CODE + 2 * number, "addi", 2) for number in range(62)] + [(CODE + 124, "jal", 4)]
+    places += [(CODE + 132 + 2 * number, "addi", 2) for number in range(62)]
+    return [Line(pick, kind, at, [CODE + 132], size) for at, kind, size in places]
 
 
 def turns(pick, made, count):
@@ -223,7 +230,7 @@ def turns(pick, made, count):
             done += not stop
         if it.pc in decoded:
             told = (OUTCOMES[stop.cause], stop.at) if stop else (NEXT, None)
-            yield line, struct.pack(GIVEN, TURN_WAY, line.at, left, *x, data), told + (it.pc, left - done, *it.x, bytes(it.data))
+            yield line, packed(TURN_WAY, line.at, left, x, data), told + (it.pc, left - done, *it.x, bytes(it.data))
 
 
 def vectors():
@@ -237,7 +244,7 @@ def vectors():
         x[24:28], x[11], x[12] = part().reserved(), x11, x12
         after = x[:10] + [x10] + x[11:]
         for way, told in ((FUNCTION_WAY, (None, 0)), (STEP_WAY, (NEXT, line.at))):
-            tried.append((line, struct.pack(GIVEN, way, line.at, 99, *x, bytes(DATA_SIZE)),
+            tried.append((line, packed(way, line.at, 99, x, bytes(DATA_SIZE)),
                           told + (line.at + 4, 98, *after, bytes(DATA_SIZE))))
     return made, tried
 
@@ -247,18 +254,24 @@ def landings():
     it, to a line that is no entry, into another function, and out of the code."""
     made = [Line(random.Random(0), kind, CODE + PLACE * number, [CODE + 4], 2 * (2 - number)) for number, kind in enumerate(("jalr", "addi"))]
     made[0].operands, made[1].operands, tried = ["0", "0", "11"], ["10", "10", "1"], []
-    for to, how, steps in ((CODE + 8, 1, 2), (CODE + 10, 1, 1), (CODE + 4, 1, 1), (CODE + lines.FUNCTION_MOST + 8, 0, 1), (0, 0, 1), (2, 1, 1)):
+    for to, how, steps, left in ((CODE + 8, 1, 2, 99), (CODE + 8, 1, 1, LEAST_LEFT), (CODE + 10, 1, 1, 99), (CODE + 4, 1, 1, 99),
+                                 (CODE + lines.FUNCTION_MOST + 8, 0, 1, 99), (0, 0, 1, 99), (2, 1, 1, 99)):
         x = [0] * 32
         x[24:28], x[11] = part().reserved(), to
         after = x[:10] + [steps - 1] + x[11:]
-        tried.append((made[0], struct.pack(GIVEN, FUNCTION_WAY, CODE, 99, *x, bytes(DATA_SIZE)),
-                      (how, 0, to + 2 * (steps - 1), 99 - steps, *after, bytes(DATA_SIZE))))
+        tried.append((made[0], packed(FUNCTION_WAY, CODE, left, x, bytes(DATA_SIZE)),
+                      (how, 0, to + 2 * (steps - 1), left - steps, *after, bytes(DATA_SIZE))))
     return made, tried
 
 
-def compiled(folder, compiler, header, text):
-    """The program of a text by a header; None where that can't be compiled."""
-    for name, content in (("sfi_native.h", header), ("image.inc", text)):
+def in_assembly(tried):
+    """The same cases, where a function answers 1 in each."""
+    return [(line, given, (1, *wanted[1:]) if given[0] == FUNCTION_WAY else wanted) for line, given, wanted in tried]
+
+
+def compiled(folder, compiler, headers, text):
+    """The program of a text by these headers; None where that can't be compiled."""
+    for name, content in {**headers, "image.inc": text}.items():
         with open(os.path.join(folder, name), "w", encoding="ascii") as file:
             file.write(content)
     program = os.path.join(folder, "forms")
@@ -279,44 +292,78 @@ def differing(program, tried):
     """The lines of the cases in which the program answers something else, or how it ended."""
     given = b"".join(it for _, it, _ in tried)
     done = subprocess.run([program], input=given, stdout=subprocess.PIPE, preexec_fn=limit_time, check=False)
-    size = struct.calcsize(FOUND)
+    found = f"{FOUND}{len(tried[0][1]) - struct.calcsize(GIVEN)}s"
+    size = struct.calcsize(found)
     if done.returncode or len(done.stdout) != size * len(tried):
         return [f"the program ended with status {done.returncode}"]
     return [line.text() for number, (line, _, wanted) in enumerate(tried)
-            if not is_answer(wanted, struct.unpack_from(FOUND, done.stdout, size * number))]
+            if not is_answer(wanted, struct.unpack_from(found, done.stdout, size * number))]
 
 
 class Tally:
-    """Sets of lines, each a text and its cases, and how many comparisons have passed, failed and been skipped."""
+    """How many comparisons by these headers have passed, failed and been skipped."""
 
-    def __init__(self, sets):
-        self.sets, self.passed, self.failed, self.skipped = sets, 0, 0, 0
+    def __init__(self, folder, headers):
+        self.folder, self.headers, self.passed, self.failed, self.skipped = folder, headers, 0, 0, 0
 
     def count(self, is_passed):
         self.passed, self.failed = self.passed + is_passed, self.failed + (not is_passed)
 
-    def try_level(self, folder, compiler, header):
+    def skip(self, what, why):
+        print(f"skipped: {what}: {why}")
+        self.skipped += 1
+
+    def try_level(self, compiler, sets):
+        """Compares by a compiler sets of lines, each a text and its cases."""
         if not shutil.which(compiler[0]):
-            print(f"skipped: lines by {' '.join(compiler)}: {compiler[0]} isn't there")
-            self.skipped += 1
+            self.skip(f"lines by {' '.join(compiler)}", f"{compiler[0]} isn't there")
             return
-        for text, cases_of in self.sets:
-            program = compiled(folder, compiler, header, text)
+        for text, cases_of in sets:
+            program = compiled(self.folder, compiler, self.headers, text)
             wrong = differing(program, cases_of) if program else ["it isn't compiled\n"]
             print(f"{' '.join(compiler)}: {len(cases_of)} compared, {len(wrong)} differ")
             print("".join(f"FAILED {it}" for it in wrong[:3]), end="")
             self.count(not wrong)
 
-    @staticmethod
-    def is_seen(folder, header, text, cases_of):
-        program = compiled(folder, ("gcc", "-O1"), header, text)
+    def is_seen(self, compiler, headers, text, cases_of):
+        program = compiled(self.folder, compiler, headers, text)
         beside_manual = [it for it in cases_of if it[2] != (0,)]
         return program is not None and bool(differing(program, beside_manual))
 
-    def try_mistake(self, folder, header, what, old, new):
-        is_seen = old in header and any(self.is_seen(folder, header.replace(old, new), *it) for it in self.sets)
-        print(f"a mistake, {what}: " + ("seen" if is_seen else "FAILED, not seen" if old in header else "FAILED, not in the header"))
+    def try_mistake(self, compiler, sets, what, changes):
+        headers = dict(self.headers)
+        is_there = True
+        for old, new in zip(changes[::2], changes[1::2]):
+            is_there = is_there and any(old in it for it in headers.values())
+            headers = {name: it.replace(old, new) for name, it in headers.items()}
+        is_seen = is_there and any(self.is_seen(compiler, headers, *it) for it in sets)
+        print(f"a mistake, {what}: " + ("seen" if is_seen else "FAILED, not seen" if is_there else "FAILED, not in the header"))
         self.count(is_seen)
+
+    def try_all(self, levels, sets, options, mistakes):
+        """Sets of lines by each compiler, and mistakes by gcc with these options."""
+        for compiler in levels:
+            self.try_level(compiler, sets)
+        for what, changes in mistakes.items() if shutil.which("gcc") else ():
+            self.try_mistake(("gcc", *options), sets, what, changes)
+
+
+def has_assembly():
+    return platform.machine() in ("x86_64", "AMD64") and sys.platform == "linux" and sys.maxsize > MASK
+
+
+def sets_of(pick, given):
+    """Sets of lines: of each kind, some with the manual's values, indirect jumps, and random code."""
+    made, run, ahead = made_lines(pick, given.lines), made_run(pick, 600), made_ahead(pick)
+    return [(text_of(made), list(cases(pick, made, given.states)) + many(made, given.many)), *((text_of(it), tried) for it, tried in (vectors(), landings())),
+            *((text_of(it, Line.text), list(turns(pick, it, 100 * given.states))) for it in (run, ahead))]
+
+
+def guarded_sets(pick, given):
+    """A set of loads and stores on data between guard zones, each at a base that lies there, as in accepted code."""
+    size, bases = GUARDED_SIZE, [26, *FREE[1:]]
+    made = [it for it in made_lines(pick, 2 * given.lines) if it.is_access() and it.instruction.rs1 in bases]
+    return [(filled(text_of(made, size=size)), in_assembly(cases(pick, made, given.states, size)) + many(made, given.many, size))]
 
 
 def main():
@@ -327,16 +374,19 @@ def main():
     parser.add_argument("--seed", type=int, default=0)
     given = parser.parse_args()
     pick = random.Random(given.seed)
-    made, run = made_lines(pick, given.lines), made_run(pick, 600)
-    tally = Tally([(text_of(made), list(cases(pick, made, given.states)) + many(made, given.many)), *((text_of(it), tried) for it, tried in (vectors(), landings())),
-                   (text_of(run, Line.text), list(turns(pick, run, 100 * given.states)))])
-    with open(HEADER, encoding="ascii") as file:
-        header = file.read()
+    headers = {}
+    for name in HEADERS:
+        with open(os.path.join(INCLUDE, name), encoding="ascii") as file:
+            headers[name] = file.read()
     with tempfile.TemporaryDirectory() as folder:
-        for compiler in LEVELS:
-            tally.try_level(folder, compiler, header)
-        for what, (old, new) in MISTAKES.items() if shutil.which("gcc") else ():
-            tally.try_mistake(folder, header, what, old, new)
+        tally, sets = Tally(folder, headers), sets_of(pick, given)
+        tally.try_all(PORTABLE, sets, ("-O1", "-DSFI_PORTABLE"), form_mistakes.NATIVE)
+        if has_assembly():
+            in_units = [(filled(text), in_assembly(cases_of)) for text, cases_of in sets]
+            tally.try_all(ASSEMBLY, in_units, ("-O1",), form_mistakes.X86_64)
+            tally.try_all(GUARDED, guarded_sets(pick, given), ("-O1", *GUARDED[0][2:]), form_mistakes.GUARDED)
+        else:
+            tally.skip("lines in instructions of x86-64", "this machine has others")
     print(f"{tally.passed} passed, {tally.failed} failed" + (f", {tally.skipped} skipped" if tally.skipped else ""))
     return 1 if tally.failed else 0
 
