@@ -99,5 +99,6 @@ def folder_of(compiler):
         with open(path, encoding="utf-8") as file:
             own.append(file.read())
     words = [version(compiler), identity(NEWLIB_SOURCE.where()), identity(GCC_SOURCE.where()), *own, *OPTIONS,
-             *sorted(LEFT_OUT), *FOLDERS, *POSIX, *WITHOUT_FUNCTIONS, str(VARIANTS), str(RESERVED_IN_WORDS)]
+             *sorted(LEFT_OUT), *FOLDERS, *POSIX, *WITHOUT_FUNCTIONS, str(VARIANTS), str(RESERVED_IN_WORDS),
+             os.path.basename(softfloat.folder_of(compiler))]
     return kept("newlib", words, lambda folder: compile_all(compiler, folder))

@@ -24,6 +24,13 @@ MODES += [f"-D__LIBGCC_{mode}F_{what}" for mode, name, digits, end in (("S", "FL
           for what in (f"MANT_DIG__={digits}", f"FUNC_EXT__={end}", f"MAX__=__{name}_MAX__", f"MIN__=__{name}_MIN__",
                        f"EPSILON__=__{name}_EPSILON__")]
 MODES += [f"-D__LIBGCC_HAS_{mode}F_MODE__" for mode in "SDT"]
+# GCC's header makes the product of two words by four `mul`. This machine has `mulhu`.
+LONGLONG = """\
+#include_next "longlong.h"
+#undef umul_ppmm
+#define umul_ppmm(high, low, a, b) \\
+    do { unsigned long long product_ = (unsigned long long)(a) * (b); (high) = product_ >> 32; (low) = product_; } while (0)
+"""
 EMPTY_HEADERS = ("tconfig.h", "tsystem.h", "coretypes.h", "tm.h", "libgcc_tm.h")
 
 
@@ -53,9 +60,9 @@ def compile_all(compiler, tree, folder):
     room = os.path.join(folder, "room")
     stubs = os.path.join(room, "stubs")
     os.makedirs(stubs)
-    for name in EMPTY_HEADERS:
-        with open(os.path.join(stubs, name), "w", encoding="utf-8"):
-            pass
+    for name, text in {**dict.fromkeys(EMPTY_HEADERS, ""), "longlong.h": LONGLONG}.items():
+        with open(os.path.join(stubs, name), "w", encoding="utf-8") as file:
+            file.write(text)
 
     def compile_one(job):
         path, name, options = job
@@ -71,5 +78,5 @@ def folder_of(compiler):
     """The folder of assembly that a compiler made of these functions; None where the sources aren't there."""
     if GCC_SOURCE.where() is None:
         return None
-    words = [version(compiler), identity(GCC_SOURCE.where()), *LIBGCC2, SOFT_FP.pattern, *MODES, str(RESERVED_IN_WORDS)]
+    words = [version(compiler), identity(GCC_SOURCE.where()), *LIBGCC2, SOFT_FP.pattern, *MODES, LONGLONG, str(RESERVED_IN_WORDS)]
     return kept("softfloat", words, lambda folder: compile_all(compiler, unpacked(GCC_SOURCE, *PARTS), folder))
