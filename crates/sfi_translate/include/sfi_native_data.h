@@ -46,23 +46,25 @@ static void sfi_on_fault(int number, siginfo_t *info, void *context) {
         sfi_other_handler.sa_sigaction(number, info, context);
     else if (sfi_other_handler.sa_handler != SIG_DFL && sfi_other_handler.sa_handler != SIG_IGN)
         sfi_other_handler.sa_handler(number);
-    else {  /* as if no handler were there: the fault comes again */
+    else if (sfi_other_handler.sa_handler == SIG_DFL || info->si_code > 0) {  /* as if no handler were there: a fault comes again */
         sigaction(number, &sfi_other_handler, NULL);
         if (info->si_code <= 0)
             raise(number);
     }
 }
 
-/* Handles SIGSEGV, if it doesn't yet. What isn't a sandbox's goes to the handler before. */
+/* Handles SIGSEGV, from the first call on. What isn't a sandbox's goes to the handler before. It comes before none that was there
+   later, since that may lead to it: then a fault of neither would go round. */
 static int sfi_handle_faults(void) {
-    struct sigaction now, own = { .sa_flags = SA_SIGINFO | SA_ONSTACK };
+    static int is_handled;
+    struct sigaction own = { .sa_flags = SA_SIGINFO | SA_ONSTACK };
     own.sa_sigaction = sfi_on_fault;
-    if (sigaction(SIGSEGV, NULL, &now))
-        return -1;
-    if ((now.sa_flags & SA_SIGINFO) && now.sa_sigaction == sfi_on_fault)
+    if (is_handled)
         return 0;
-    sfi_other_handler = now;
-    return sigaction(SIGSEGV, &own, NULL);
+    if (sigaction(SIGSEGV, NULL, &sfi_other_handler) || sigaction(SIGSEGV, &own, NULL))
+        return -1;
+    is_handled = 1;
+    return 0;
 }
 
 static size_t sfi_room_of(const struct sfi_sandbox *s) {
