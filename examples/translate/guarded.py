@@ -13,6 +13,7 @@ import corpus
 import layout
 import lines
 
+PAGE = 4096
 FORMATS = {1: b".format 1\n", 2: b".format 2\n", 3: b".format words\n"}
 SIZES = [4096, 4096, 8192, 65536]
 BOXES = 16  # the most that an image has
@@ -29,6 +30,16 @@ def with_data(image, size):
         at = part.code_offset - 8 * len(part.gates) - FIELDS
         struct.pack_into("<I", changed, at + 12, size)
     return bytes(changed)
+
+
+def grown(image):
+    """The same with more data in each sandbox, unless it has a page of them or they don't lie where they can be more."""
+    larger = with_data(image, PAGE)
+    try:
+        layout.parts(larger)
+    except layout.Fault:
+        return image
+    return larger if all(it.data_size < PAGE for it in layout.parts(image)) else image
 
 
 def random_image(pick):

@@ -1,13 +1,16 @@
 #!/usr/bin/env python3
 """Whether a translated plug-in does for a host what an interpreted one does: hosts of examples/run are linked with
-sfi_native_run.c and with libsfi_run, and print the same, and random calls answer what the model of fuzz/worlds.py answers.
+sfi_native_run.c and with libsfi_run, and print the same, and random calls answer what the model of fuzz/worlds.py answers. Each
+with accesses that are tested, or guarded (-DSFI_GUARDED). Faults of a host's own stay its own.
 
     examples/translate/hosts.py [--program SFI] [--library libsfi_run.a] [--rounds N] [--seconds S] [SEED ..]
 
 Each round is the life of one random image's world, as in fuzz/calls.py. It wants gcc.
 """
 import os
+import resource
 import shutil
+import signal
 import subprocess
 import sys
 import tempfile
@@ -20,6 +23,7 @@ sys.path[:0] = [os.path.join(TOP, "fuzz"), os.path.join(TOP, "bench"), os.path.j
 import calls
 import corpus
 import fuzzing
+import guarded
 import measure
 import worlds
 
@@ -27,6 +31,7 @@ RUN = os.path.join(TOP, "examples", "run")
 NATIVE = os.path.join(TOP, "crates/sfi_translate/include")
 OPTIONS = ["-std=c11", "-D_POSIX_C_SOURCE=200809L", "-O2", "-Wall", "-Wextra", "-Werror", "-I", NATIVE,
            "-I", os.path.join(TOP, "crates/sfi_run/include"), "-I", os.path.join(TOP, "crates/sfi_c/include")]
+GUARDS = ([], ["-DSFI_GUARDED"])
 OTHER_IMAGE = 16
 ON = b"""
 .sandbox 256
@@ -49,6 +54,11 @@ HOSTS = [  # a host, a source of its plug-in, and the host's words
     ("console", "../hanoi.s", ["3", "997"]),
     ("console", "../echo.s", ["7", "13", "48656c6c6f"]), ("console", "../sort.s", ["200", "1000", "0903"]),
     ("threads", ON, ["3000"])]
+FAULTING = [  # instructions that access a guard zone, below the data and above them
+    b".sandbox 4096\nli a0, 4095\nli a1, 0\nlw a2, -1(a1)\n", b".sandbox 4096\nli a0, 4095\nsw a0, -2(a0)\n",
+    b".sandbox 8192\nli a0, 8188\nlw zero, 4(a0)\n"]
+
+FAULTS = [("info",), ("plain",), ("none",), ("ignore",), ("raise",), ("ignore-raise",), ("info", "another"), ("none", "another")]
 
 
 class OneImage(worlds.Model):
@@ -65,13 +75,13 @@ class OneImage(worlds.Model):
         return OTHER_IMAGE, (OTHER_IMAGE, 0, 0, 0, 0, 0, 0, 0)
 
 
-def translated(sfi, image, folder):
-    """The options and files that make the calls of sfi_run.h those of a translated image."""
+def translated(sfi, image, folder, guards):
+    """The options and files that make the calls of sfi_run.h those of a translated image, its accesses guarded or not."""
     text, listed = os.path.join(folder, "plugin.inc"), os.path.join(folder, "plugin.bytes")
     with open(text, "wb") as file:
         subprocess.run([sfi, "translate"], input=image.hex().encode(), stdout=file, check=True)
     measure.written(listed, ",".join(map(str, image)).encode())
-    return [f'-DSFI_TEXT="{text}"', f'-DSFI_IMAGE="{listed}"', os.path.join(NATIVE, "sfi_native_run.c")]
+    return [*guards, f'-DSFI_TEXT="{text}"', f'-DSFI_IMAGE="{listed}"', os.path.join(NATIVE, "sfi_native_run.c")]
 
 
 def built(program, *words):
@@ -79,8 +89,12 @@ def built(program, *words):
     return program
 
 
+def limit_time():
+    resource.setrlimit(resource.RLIMIT_CPU, (60, 60))  # seconds: a fault may come again and again
+
+
 def answer(words):
-    done = subprocess.run(words, stdout=subprocess.PIPE, stderr=subprocess.DEVNULL, check=False)
+    done = subprocess.run(words, stdout=subprocess.PIPE, stderr=subprocess.DEVNULL, preexec_fn=limit_time, check=False)
     return done.stdout, done.returncode
 
 
@@ -95,11 +109,12 @@ def try_hosts(sfi, library, folder, tally):
     heap = os.path.join(TOP, "crates/sfi_run/c/heap.c")
     interpreted = {name: built(os.path.join(folder, name), "-pthread", os.path.join(RUN, name + ".c"), heap, library)
                    for name in sorted({name for name, _, _ in HOSTS})}
-    for name, source, words in HOSTS:
-        for line in corpus.FORMAT_LINES:
+    for number, (name, source, words) in enumerate(HOSTS):
+        for place, line in enumerate(corpus.FORMAT_LINES):
             image = image_of(sfi, source, line)
             path = measure.written(os.path.join(folder, "plugin.image"), image)
-            host = built(os.path.join(folder, "host"), "-pthread", os.path.join(RUN, name + ".c"), *translated(sfi, image, folder))
+            plugin = translated(sfi, image, folder, GUARDS[(number + place) % 2])
+            host = built(os.path.join(folder, "host"), "-pthread", os.path.join(RUN, name + ".c"), *plugin)
             wanted, found = (answer([it, path, *words]) for it in (interpreted[name], host))
             tally.see(f"{name} {source if isinstance(source, str) else 'on.s'} {' '.join(words)[:20]}", wanted, found, image)
 
@@ -121,21 +136,48 @@ def try_documented(sfi, folder, tally):
                    check=True)
     image = measure.contents(path)
     host = built(os.path.join(folder, "host"), measure.written(os.path.join(folder, "host.c"), block("The host in C")),
-                 *translated(sfi, image, folder))
+                 *translated(sfi, image, folder, []))
     found = subprocess.run([host], cwd=folder, stdout=subprocess.PIPE, check=False).stdout
     tally.see("the host of EMBEDDING.md", b"hello 42\n", found, image)
 
 
 def try_python(sfi, folder, tally):
-    """The console of the bindings for Python, on a shared library of a translated image."""
+    """The console of the bindings for Python, on shared libraries of a translated image."""
     image = image_of(sfi, "../primes.s", b"")
     path = measure.written(os.path.join(folder, "plugin.image"), image)
-    library = built(os.path.join(folder, "plugin.so"), "-shared", "-fPIC", *translated(sfi, image, folder))
-    environment = {**os.environ, "PYTHONPATH": os.path.join(TOP, "bindings/python"), "SFI_RUN_LIBRARY": library}
     script = os.path.join(TOP, "bindings/python/examples/console.py")
-    done = subprocess.run([sys.executable, script, path, "40", "97"], env=environment, stdout=subprocess.PIPE, check=False)
     wanted = fuzzing.output([sfi, "run", "--rounds", "40", "--quantum", "97"], image.hex().encode())
-    tally.see("the console in Python", wanted, done.stdout.decode(), image)
+    for guards in GUARDS:
+        library = built(os.path.join(folder, "plugin.so"), "-shared", "-fPIC", *translated(sfi, image, folder, guards))
+        environment = {**os.environ, "PYTHONPATH": os.path.join(TOP, "bindings/python"), "SFI_RUN_LIBRARY": library}
+        done = subprocess.run([sys.executable, script, path, "40", "97"], env=environment, stdout=subprocess.PIPE, check=False)
+        tally.see(f"the console in Python {' '.join(guards)}", wanted, done.stdout.decode(), image)
+
+
+def fault_answer(sfi, image, how):
+    """What the host faults.c is to print, and its status: the plug-in's trap is that of `sfi run`."""
+    cause, at = fuzzing.output([sfi, "run"], image.hex().encode()).split("trap=")[1].split()[:2]
+    turn = f"kind=4 cause={dict(Load=4, Store=5)[cause]} {at} faults={{}} told={{}}\n"
+    first = turn.format(0, 0)
+    if how in ("info", "plain"):
+        return (first + turn.format(1, int(how == "info"))).encode(), 0
+    if how == "ignore-raise":
+        return (first + "it goes on\n" + first).encode(), 0
+    return first.encode(), -signal.SIGSEGV
+
+
+def try_faults(sfi, folder, tally):
+    """A host whose own faults go to its handler, or end it, and none of the plug-in's."""
+    for number, source in enumerate(FAULTING):
+        image = image_of(sfi, source, corpus.FORMAT_LINES[number])
+        path = measure.written(os.path.join(folder, "plugin.image"), image)
+        for guards in GUARDS:
+            plugin = translated(sfi, image, folder, guards)
+            host = built(os.path.join(folder, "host"), os.path.join(HERE, "faults.c"), *plugin, "-ldl")
+            other = built(os.path.join(folder, "other.so"), "-shared", "-fPIC", *plugin)
+            for how, *rest in FAULTS:
+                tally.see(f"a host's own fault, {how} {' '.join(guards + rest)}", fault_answer(sfi, image, how),
+                          answer([host, path, how] + [other] * len(rest)), image)
 
 
 def try_world(sfi, judge, folder, pick, tally):
@@ -144,7 +186,9 @@ def try_world(sfi, judge, folder, pick, tally):
     image = None
     while image is None:
         image = corpus.accepted(pick, sfi) if pick.random() < 0.7 else corpus.repaired(findings, corpus.odd(pick))
-    library = built(os.path.join(folder, f"{tally.case.replace(' ', '')}.so"), "-shared", "-fPIC", *translated(sfi, image, folder))
+    guards = GUARDS[pick.random() < 0.7]
+    image = guarded.grown(image) if guards else image
+    library = built(os.path.join(folder, f"{tally.case.replace(' ', '')}.so"), "-shared", "-fPIC", *translated(sfi, image, folder, guards))
 
     def images(own):
         return image if own.random() < 0.8 else corpus.mutant(own, image)
@@ -173,6 +217,7 @@ def main(words=None):
             try_hosts(sfi, os.path.abspath(given.library), folder, tally)
             try_documented(sfi, folder, tally)
             try_python(sfi, folder, tally)
+            try_faults(sfi, folder, tally)
     return tally.end()
 
 
