@@ -590,21 +590,27 @@ static void sfi_on_fault(int number, siginfo_t *info, void *context) {
         sfi_other_handler.sa_sigaction(number, info, context);
     else if (sfi_other_handler.sa_handler != SIG_DFL && sfi_other_handler.sa_handler != SIG_IGN)
         sfi_other_handler.sa_handler(number);
-    else {
+    else if (sfi_other_handler.sa_handler == SIG_DFL || info->si_code > 0) {
         sigaction(number, &sfi_other_handler, NULL);
         if (info->si_code <= 0)
             raise(number);
     }
 }
 static int sfi_handle_faults(void) {
-    struct sigaction now, own = { .sa_flags = SA_SIGINFO | SA_ONSTACK };
+    static int is_handled;
+    struct sigaction before, own = { .sa_flags = SA_SIGINFO | SA_ONSTACK };
     own.sa_sigaction = sfi_on_fault;
-    if (sigaction(SIGSEGV, NULL, &now))
-        return -1;
-    if ((now.sa_flags & SA_SIGINFO) && now.sa_sigaction == sfi_on_fault)
+    if (is_handled)
         return 0;
-    sfi_other_handler = now;
-    return sigaction(SIGSEGV, &own, NULL);
+    if (sigaction(SIGSEGV, NULL, &before))
+        return -1;
+    if (!(before.sa_flags & SA_SIGINFO) || before.sa_sigaction != sfi_on_fault) {
+        sfi_other_handler = before;
+        if (sigaction(SIGSEGV, &own, NULL))
+            return -1;
+    }
+    is_handled = 1;
+    return 0;
 }
 static size_t sfi_room_of(const struct sfi_sandbox *s) {
     return ((size_t)s->data_size + SFI_ZONE - 1) / SFI_ZONE * SFI_ZONE;

@@ -53,16 +53,21 @@ static void sfi_on_fault(int number, siginfo_t *info, void *context) {
     }
 }
 
-/* Handles SIGSEGV, from the first call on. What isn't a sandbox's goes to the handler before. It comes before none that was there
-   later, since that may lead to it: then a fault of neither would go round. */
+/* Handles SIGSEGV, from the first call on. What isn't a sandbox's goes to the handler that was there then. Where another one
+   is set later it stays: it may hand on to this one, and a fault of neither would go round. */
 static int sfi_handle_faults(void) {
     static int is_handled;
-    struct sigaction own = { .sa_flags = SA_SIGINFO | SA_ONSTACK };
+    struct sigaction before, own = { .sa_flags = SA_SIGINFO | SA_ONSTACK };
     own.sa_sigaction = sfi_on_fault;
     if (is_handled)
         return 0;
-    if (sigaction(SIGSEGV, NULL, &sfi_other_handler) || sigaction(SIGSEGV, &own, NULL))
+    if (sigaction(SIGSEGV, NULL, &before))
         return -1;
+    if (!(before.sa_flags & SA_SIGINFO) || before.sa_sigaction != sfi_on_fault) {  /* it may be another thread's call's */
+        sfi_other_handler = before;
+        if (sigaction(SIGSEGV, &own, NULL))
+            return -1;
+    }
     is_handled = 1;
     return 0;
 }
