@@ -5,7 +5,8 @@
    to say is crates/sfi_translate/specs/Machine.antt.
 
    Within the code %rsp holds the frame, %r15 the data, %r14d the steps left plus the number of the line, so that a line
-   which goes on to the next needs no count. %eax and %ecx hold nothing from one line to the next. */
+   which goes on to the next needs no count (`left`, `one_less`). %eax and %ecx hold nothing from one line to the next.
+   Names in `` are those of Machine.antt, whose `Cut` here has 2^32 bytes for a function, and each unit as an entry. */
 
 /* ---- registers: where one is, in which register it is computed, and that register's 64 bits, of which the upper half is 0.
    Those that compiled code names most have a register of the machine, in words also those that hold addresses. */
@@ -46,7 +47,7 @@
 #define SFI_R29 SFI_HELD(r13d, r13)
 #define SFI_R30 SFI_SPILLED(30)
 #define SFI_R31 SFI_HELD(edx, rdx)
-/* whether a register has one value, whatever is written: x0, and x24 to x27 */
+/* whether a register has one value, whatever is written: x0, and x24 to x27 (`fixed`) */
 #define SFI_IS_FIXED(k) "(0x0f000001>>" #k "&1)"
 
 /* ---- kinds: `result_of`, `extended`, `is_taken` (crates/rv_step/specs/Step.antt) */
@@ -116,15 +117,16 @@ __asm__(".pushsection .text.sfi_native,\"ax\"\n .set .Lsfi_rows,0; .set .Lsfi_he
     " .pushsection .rodata.sfi_entries,\"a\"; .balign 8\n.Lsfi_entries:\n .popsection\n"
     " .pushsection .rodata.sfi_fixups,\"a\"; .balign 8\nsfi_fixups:\n .popsection\n"
     ".macro sfi_move from,to\n .ifnc \\from,\\to; mov \\from,\\to; .endif\n.endm\n"
-/* A line: its label and number, its unit's entry (where the code is, from there, and the number), and what leaves it to
-   sfi_step. */
+/* A line (`IsLine`): its label and number, its unit's entry (where the code is, from the first entry, and the number), and
+   what leaves it to sfi_step (`Slow`). */
     ".macro sfi_line at\n"
     ".Lsfi_at_\\at:\n .set .Lsfi_number_\\at,.Lsfi_number\n"
     " .if 0x\\at%.Lsfi_unit==0; .pushsection .rodata.sfi_entries; .long .Lsfi_at_\\at-.Lsfi_entries,.Lsfi_number; .popsection\n"
     " .set .Lsfi_rows,.Lsfi_rows+1; .endif\n"
     " .subsection 1\n.Lsfi_slow_\\at: mov $0x\\at,%eax; mov $.Lsfi_number,%ecx; jmp .Lsfi_leave\n .previous\n"
     " .set .Lsfi_number,.Lsfi_number+1\n.endm\n"
-/* ---- computations: d becomes that of a and b; w and q, aw and aq are where they are computed */
+/* ---- computations (`line_done`): d becomes that of a and b, and is computed in w; aw has a, and q, aq and bq are the 64 bits
+   of w, aw and bw */
     ".macro sfi_compute op,d,w,q,a,aw,aq,b,bw,bq\n"
     " .ifc \\w,\\b; mov \\a,%eax; \\op \\b,%eax; mov %eax,\\d\n"
     " .else; sfi_move \\a,\\w; \\op \\b,\\w; sfi_move \\w,\\d; .endif\n.endm\n"
@@ -148,8 +150,8 @@ __asm__(".pushsection .text.sfi_native,\"ax\"\n .set .Lsfi_rows,0; .set .Lsfi_he
     "1: .if \\is_rest; .else; mov $-1,%eax; .endif; jmp 3f\n"
     "2: .if \\is_rest; xor %eax,%eax; .else; neg %eax; .endif\n"
     "3: mov " SFI_KEPT ",%edx; mov %eax,\\d\n.endm\n"
-/* ---- accesses: the data lie at %r15, where they are guarded as if address 0 did. An access that is guarded and faults goes
-   on where its line's fixup says; otherwise it is tested. */
+/* ---- accesses (`is_tested`, `is_done`): the data begin at %r15; where they are guarded, address 0 would lie there. An access
+   that is guarded and faults goes on where its fixup says. Others are tested. */
     ".macro sfi_access at,width,aq,n,before,after\n"
     " .if .Lsfi_is_guarded; .pushsection .rodata.sfi_fixups; .long 1f-.,.Lsfi_slow_\\at-.; .popsection\n"
     "1: \\before\\()\\n(%r15,\\aq)\\after\n"
@@ -160,21 +162,22 @@ __asm__(".pushsection .text.sfi_native,\"ax\"\n .set .Lsfi_rows,0; .set .Lsfi_he
     ".macro sfi_store at,width,low,a,aw,aq,b,bw,bq,n\n sfi_line \\at\n sfi_move \\a,\\aw\n"
     " .ifc \\low\\b,%ecx\\bw; sfi_access \\at,\\width,\\aq,\\n,\"mov \\b,\"\n"
     " .else; mov \\b,%ecx; sfi_access \\at,\\width,\\aq,\\n,\"mov \\low,\"\n .endif\n.endm\n"
-/* ---- jumps */
+/* ---- jumps (`jumps`, and `at_head` at what they lead to) */
     ".macro sfi_offset a,aw,aq,n\n sfi_move \\a,\\aw; lea " SFI_SIGNED_32("\\n-.Lsfi_code") "(\\aq),%ecx\n.endm\n"
     ".macro sfi_go at,to\n add $.Lsfi_number_\\to-.Lsfi_number,%r14d\n"
     " .if 0x\\to<=0x\\at||(0x\\to^0x\\at)>=.Lsfi_head\n"
     " cmp $.Lsfi_number_\\to+.Lsfi_most,%r14d; jb .Lsfi_slow_\\to\n .endif\n jmp .Lsfi_at_\\to\n.endm\n"
     ".macro sfi_branch at,past,a,aw,aq,b,bw,bq,to\n"
     " sfi_line \\at\n sfi_move \\a,\\aw; cmp \\b,\\aw; \\past 1f\n sfi_go \\at,\\to\n1:\n.endm\n"
-/* to the place, from the code's first, in %ecx; what has too few steps left and what no line stands at is left to sfi_step */
+/* to the place, from the code's first, in %ecx (`enters`): what has too few steps left, and where no unit begins, is left to
+   sfi_step. By `ror` a place within a unit is a large number. */
     ".macro sfi_enter\n ror $.Lsfi_shift,%ecx; cmp $.Lsfi_code_size/.Lsfi_unit,%ecx; jae 1f\n"
     " cmp $.Lsfi_number+.Lsfi_most,%r14d; jb 1f\n"
     " lea .Lsfi_entries(%rip),%rax; sub $.Lsfi_number,%r14d; add 8*.Lsfi_first+4(%rax,%rcx,8),%r14d\n"
     " movslq 8*.Lsfi_first(%rax,%rcx,8),%rcx; add %rax,%rcx; notrack jmp *%rcx\n"
     " .subsection 1\n1: rol $.Lsfi_shift,%ecx; lea " SFI_SIGNED_32(".Lsfi_code") "(%rcx),%eax; and $-2,%eax\n"
     " mov $.Lsfi_number,%ecx; jmp .Lsfi_leave\n .previous\n.endm\n"
-/* out of the code to the address in %eax, from before the line of the number in %ecx */
+/* out of the code to the address in %eax, from before the line of the number in %ecx (`Going`) */
     ".Lsfi_leave: sub %ecx,%r14d; or " SFI_FAR_STEPS ",%r14d; mov %edi,4*10(%rsp); mov " SFI_HART ",%rdi\n"
     SFI_COPY("%rsp", "%rdi") SFI_REGISTERS(SFI_PUT) " mov %eax,128(%rdi); mov %r14d,132(%rdi); mov $1,%eax\n"
     " add $152,%rsp; pop %r15; pop %r14; pop %r13; pop %r12; pop %rbp; pop %rbx; ret\n .popsection\n");
