@@ -280,17 +280,17 @@ enum { SFI_SANDBOXES = sizeof sfi_sandboxes / sizeof sfi_sandboxes[0] };
 #define SFI_HELD(low, wide) "%" #low ",%" #low ",%" #wide
 #define SFI_SPILLED(k) "4*" #k "(%rsp),%eax,%rax"
 #define SFI_CONSTANT(value) "$" value ",%eax,%rax"
-#define SFI_REGISTERS(X) X(2, ebp) X(3, r9d) X(8, r11d) X(11, r8d) X(12, r10d) X(13, r12d) X(14, esi) X(15, ebx) X(29, r13d) \
+#define SFI_REGISTERS(X) X(2, ebp) X(3, r9d) X(4, r11d) X(11, r8d) X(12, r10d) X(13, r12d) X(14, esi) X(15, ebx) X(29, r13d) \
     X(31, edx)
 #define SFI_R0 SFI_CONSTANT("0")
 #define SFI_R1 SFI_SPILLED(1)
 #define SFI_R2 SFI_HELD(ebp, rbp)
 #define SFI_R3 SFI_HELD(r9d, r9)
-#define SFI_R4 SFI_SPILLED(4)
+#define SFI_R4 SFI_HELD(r11d, r11)
 #define SFI_R5 SFI_SPILLED(5)
 #define SFI_R6 SFI_SPILLED(6)
 #define SFI_R7 SFI_SPILLED(7)
-#define SFI_R8 SFI_HELD(r11d, r11)
+#define SFI_R8 SFI_SPILLED(8)
 #define SFI_R9 SFI_SPILLED(9)
 #define SFI_R10 SFI_HELD(edi, rdi)
 #define SFI_R11 SFI_HELD(r8d, r8)
