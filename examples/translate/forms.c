@@ -4,7 +4,6 @@
 #endif
 #include <stdio.h>
 #include <stdlib.h>
-#include "sfi_native.h"
 #include "sfi_native_data.h"
 
 #ifndef DATA_SIZE

@@ -13,7 +13,6 @@
 #endif
 #include <stdio.h>
 #include <stdlib.h>
-#include "sfi_native.h"
 #include "sfi_native_data.h"
 #include "sfi_services.h"
 

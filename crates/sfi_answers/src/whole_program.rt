@@ -18,6 +18,14 @@ pub(crate) const WHOLE_FRONT: &str = r#"#ifndef SFI_NATIVE_H
 #endif
 #include <stdio.h>
 #include <stdlib.h>
+#ifndef SFI_NATIVE_DATA_H
+#define SFI_NATIVE_DATA_H
+#include <stdlib.h>
+#if defined(SFI_GUARDED) && defined(__linux__)
+#include <signal.h>
+#include <sys/mman.h>
+#include <ucontext.h>
+#endif
 #ifndef SFI_NATIVE_H
 #define SFI_NATIVE_H
 #include <stdint.h>
@@ -38,7 +46,7 @@ typedef int32_t sfi_i32;
 #if defined(__GNUC__) && defined(__x86_64__) && defined(__LP64__) && defined(__ELF__) && !defined(SFI_PORTABLE)
 #define SFI_ASSEMBLY
 #endif
-#if !defined(SFI_ASSEMBLY) || !defined(__linux__)
+#if !defined(SFI_NATIVE_DATA_H) || !defined(SFI_ASSEMBLY) || !defined(__linux__)
 #undef SFI_GUARDED
 #endif
 #define SFI_SIGNED(v) ((sfi_i32)(v))
@@ -362,8 +370,8 @@ enum { SFI_SANDBOXES = sizeof sfi_sandboxes / sizeof sfi_sandboxes[0] };
 #define SFI_SHIFT_4 "2"
 #define SFI_SIGNED_32(number) "((" number "+0x80000000)&0xffffffff)-0x80000000"
 #define SFI_FRAME(place) place "(%rsp)"
-#define SFI_KEPT SFI_FRAME("128")
-#define SFI_FAR_STEPS SFI_FRAME("132")
+#define SFI_KEPT_EDX SFI_FRAME("128")
+#define SFI_UPPER_BIT SFI_FRAME("132")
 #define SFI_HART SFI_FRAME("136")
 #define SFI_PUT(k, register) " mov %" #register ",4*" #k "(%rdi)\n"
 #define SFI_GET(k, register) " mov 4*" #k "(%rdi),%" #register "\n"
@@ -375,14 +383,14 @@ typedef char sfi_hart_is_as_here[__builtin_offsetof(struct sfi_hart, pc) == 128 
 #else
 #define SFI_MAY_GUARD "0"
 #endif
-__asm__(".pushsection .text.sfi_native,\"ax\"\n .set .Lsfi_rows,0; .set .Lsfi_head," SFI_TEXT_OF(SFI_HEAD) "; .set .Lsfi_most," SFI_TEXT_OF(SFI_MOST) "\n"
+__asm__(".pushsection .text.sfi_native,\"ax\"\n .set .Lsfi_entry_count,0; .set .Lsfi_head_bytes," SFI_TEXT_OF(SFI_HEAD) "; .set .Lsfi_least_steps," SFI_TEXT_OF(SFI_MOST) "\n"
     " .pushsection .rodata.sfi_entries,\"a\"; .balign 8\n.Lsfi_entries:\n .popsection\n"
     " .pushsection .rodata.sfi_fixups,\"a\"; .balign 8\nsfi_fixups:\n .popsection\n"
     ".macro sfi_move from,to\n .ifnc \\from,\\to; mov \\from,\\to; .endif\n.endm\n"
     ".macro sfi_line at\n"
     ".Lsfi_at_\\at:\n .set .Lsfi_number_\\at,.Lsfi_number\n"
     " .if 0x\\at%.Lsfi_unit==0; .pushsection .rodata.sfi_entries; .long .Lsfi_at_\\at-.Lsfi_entries,.Lsfi_number; .popsection\n"
-    " .set .Lsfi_rows,.Lsfi_rows+1; .endif\n"
+    " .set .Lsfi_entry_count,.Lsfi_entry_count+1; .endif\n"
     " .subsection 1\n.Lsfi_slow_\\at: mov $0x\\at,%eax; mov $.Lsfi_number,%ecx; jmp .Lsfi_leave\n .previous\n"
     " .set .Lsfi_number,.Lsfi_number+1\n.endm\n"
     ".macro sfi_compute op,d,w,q,a,aw,aq,b,bw,bq\n"
@@ -402,12 +410,12 @@ __asm__(".pushsection .text.sfi_native,\"ax\"\n .set .Lsfi_rows,0; .set .Lsfi_he
     " mov \\a,%eax; mov \\b,%ecx; .if \\a_has_sign; movslq %eax,%rax; .endif; .if \\b_has_sign; movslq %ecx,%rcx; .endif\n"
     " imul %rcx,%rax; shr $32,%rax; mov %eax,\\d\n.endm\n"
     ".macro sfi_divide has_sign,is_rest,d,w,q,a,aw,aq,b,bw,bq\n"
-    " mov \\a,%eax; mov \\b,%ecx; mov %edx," SFI_KEPT "; xor %edx,%edx; test %ecx,%ecx; je 1f\n"
+    " mov \\a,%eax; mov \\b,%ecx; mov %edx," SFI_KEPT_EDX "; xor %edx,%edx; test %ecx,%ecx; je 1f\n"
     " .if \\has_sign; cmp $-1,%ecx; je 2f; cltd; idiv %ecx; .else; div %ecx; .endif\n"
     " .if \\is_rest; mov %edx,%eax; .endif; jmp 3f\n"
     "1: .if \\is_rest; .else; mov $-1,%eax; .endif; jmp 3f\n"
     "2: .if \\is_rest; xor %eax,%eax; .else; neg %eax; .endif\n"
-    "3: mov " SFI_KEPT ",%edx; mov %eax,\\d\n.endm\n"
+    "3: mov " SFI_KEPT_EDX ",%edx; mov %eax,\\d\n.endm\n"
     ".macro sfi_access at,width,aq,n,before,after\n"
     " .if .Lsfi_is_guarded; .pushsection .rodata.sfi_fixups; .long 1f-.,.Lsfi_slow_\\at-.; .popsection\n"
     "1: \\before\\()\\n(%r15,\\aq)\\after\n"
@@ -420,36 +428,36 @@ __asm__(".pushsection .text.sfi_native,\"ax\"\n .set .Lsfi_rows,0; .set .Lsfi_he
     " .else; mov \\b,%ecx; sfi_access \\at,\\width,\\aq,\\n,\"mov \\low,\"\n .endif\n.endm\n"
     ".macro sfi_offset a,aw,aq,n\n sfi_move \\a,\\aw; lea " SFI_SIGNED_32("\\n-.Lsfi_code") "(\\aq),%ecx\n.endm\n"
     ".macro sfi_go at,to\n add $.Lsfi_number_\\to-.Lsfi_number,%r14d\n"
-    " .if 0x\\to<=0x\\at||(0x\\to^0x\\at)>=.Lsfi_head\n"
-    " cmp $.Lsfi_number_\\to+.Lsfi_most,%r14d; jb .Lsfi_slow_\\to\n .endif\n jmp .Lsfi_at_\\to\n.endm\n"
+    " .if 0x\\to<=0x\\at||(0x\\to^0x\\at)>=.Lsfi_head_bytes\n"
+    " cmp $.Lsfi_number_\\to+.Lsfi_least_steps,%r14d; jb .Lsfi_slow_\\to\n .endif\n jmp .Lsfi_at_\\to\n.endm\n"
     ".macro sfi_branch at,past,a,aw,aq,b,bw,bq,to\n"
     " sfi_line \\at\n sfi_move \\a,\\aw; cmp \\b,\\aw; \\past 1f\n sfi_go \\at,\\to\n1:\n.endm\n"
-    ".macro sfi_enter\n ror $.Lsfi_shift,%ecx; cmp $.Lsfi_code_size/.Lsfi_unit,%ecx; jae 1f\n"
-    " cmp $.Lsfi_number+.Lsfi_most,%r14d; jb 1f\n"
-    " lea .Lsfi_entries(%rip),%rax; sub $.Lsfi_number,%r14d; add 8*.Lsfi_first+4(%rax,%rcx,8),%r14d\n"
-    " movslq 8*.Lsfi_first(%rax,%rcx,8),%rcx; add %rax,%rcx; notrack jmp *%rcx\n"
-    " .subsection 1\n1: rol $.Lsfi_shift,%ecx; lea " SFI_SIGNED_32(".Lsfi_code") "(%rcx),%eax; and $-2,%eax\n"
+    ".macro sfi_enter\n and $-2,%ecx; ror $.Lsfi_shift,%ecx; cmp $.Lsfi_code_size/.Lsfi_unit,%ecx; jae 1f\n"
+    " cmp $.Lsfi_number+.Lsfi_least_steps,%r14d; jb 1f\n"
+    " lea .Lsfi_entries(%rip),%rax; sub $.Lsfi_number,%r14d; add 8*.Lsfi_first_entry+4(%rax,%rcx,8),%r14d\n"
+    " movslq 8*.Lsfi_first_entry(%rax,%rcx,8),%rcx; add %rax,%rcx; notrack jmp *%rcx\n"
+    " .subsection 1\n1: rol $.Lsfi_shift,%ecx; lea " SFI_SIGNED_32(".Lsfi_code") "(%rcx),%eax\n"
     " mov $.Lsfi_number,%ecx; jmp .Lsfi_leave\n .previous\n.endm\n"
-    ".Lsfi_leave: sub %ecx,%r14d; or " SFI_FAR_STEPS ",%r14d; mov %edi,4*10(%rsp); mov " SFI_HART ",%rdi\n"
+    ".Lsfi_leave: sub %ecx,%r14d; or " SFI_UPPER_BIT ",%r14d; mov %edi,4*10(%rsp); mov " SFI_HART ",%rdi\n"
     SFI_COPY("%rsp", "%rdi") SFI_REGISTERS(SFI_PUT) " mov %eax,128(%rdi); mov %r14d,132(%rdi); mov $1,%eax\n"
     " add $152,%rsp; pop %r15; pop %r14; pop %r13; pop %r12; pop %rbp; pop %rbx; ret\n .popsection\n");
 #define SANDBOX(s, unit, code, code_size, data, data_size, start, gates, init) __asm__(".pushsection .text.sfi_native,\"ax\"\n" \
     " .set .Lsfi_unit," #unit "; .set .Lsfi_shift," SFI_SHIFT_##unit "; .set .Lsfi_code,0x" #code "; .set .Lsfi_code_size," #code_size "\n" \
-    " .set .Lsfi_data,0x" #data "; .set .Lsfi_data_size," #data_size "; .set .Lsfi_number,0; .set .Lsfi_first,.Lsfi_rows\n" \
+    " .set .Lsfi_data,0x" #data "; .set .Lsfi_data_size," #data_size "; .set .Lsfi_number,0; .set .Lsfi_first_entry,.Lsfi_entry_count\n" \
     " .set .Lsfi_is_guarded," SFI_MAY_GUARD "&&" #data_size "%4096==0&&0x" #data ">=8192&&0x" #data "+" #data_size "<=0xffffe000\n" \
     "sfi_run" #s ": endbr64; push %rbx; push %rbp; push %r12; push %r13; push %r14; push %r15; sub $152,%rsp\n" \
     SFI_COPY("%rdi", "%rsp") SFI_REGISTERS(SFI_GET) " mov %rdi," SFI_HART "; mov 136(%rdi),%r15; mov 132(%rdi),%r14d\n" \
     " .if .Lsfi_is_guarded; mov $.Lsfi_data,%eax; sub %rax,%r15; .endif\n" \
-    " mov %r14d,%eax; and $0x80000000,%eax; mov %eax," SFI_FAR_STEPS "; and $0x7fffffff,%r14d\n" \
+    " mov %r14d,%eax; and $0x80000000,%eax; mov %eax," SFI_UPPER_BIT "; and $0x7fffffff,%r14d\n" \
     " mov 128(%rdi),%ecx; sub $.Lsfi_code,%ecx; mov 4*10(%rdi),%edi\n sfi_enter\n"
 #define GATE(address, service)
 #define DATA(...)
 #define FUNCTION(s, first)
 #define ENTRY(at)
-#define HEAD(at) " cmp $.Lsfi_number+.Lsfi_most,%r14d; jb .Lsfi_slow_" #at "\n"
+#define HEAD(at) " cmp $.Lsfi_number+.Lsfi_least_steps,%r14d; jb .Lsfi_slow_" #at "\n"
 #define END(at)
-#define LAST " mov $.Lsfi_code+.Lsfi_code_size,%eax; mov $.Lsfi_number,%ecx; jmp .Lsfi_leave\n" \
-    " .if .Lsfi_rows-.Lsfi_first-.Lsfi_code_size/.Lsfi_unit; .error \"a unit has no line\"; .endif\n .popsection\n");
+#define LAST " mov $(.Lsfi_code+.Lsfi_code_size)&0xffffffff,%eax; mov $.Lsfi_number,%ecx; jmp .Lsfi_leave\n" \
+    " .if .Lsfi_entry_count-.Lsfi_first_entry-.Lsfi_code_size/.Lsfi_unit; .error \"a unit has no line\"; .endif\n .popsection\n");
 #define SFI_UNLESS_FIXED(rd, text) " .if " SFI_IS_FIXED(rd) "; .else\n " text "\n .endif\n"
 #define SFI_LINE(at) "sfi_line " #at "\n"
 #define OP(at, size, kind, rd, rs1, rs2) SFI_LINE(at) SFI_UNLESS_FIXED(rd, SFI_AS_##kind SFI_R##rd "," SFI_R##rs1 "," SFI_R##rs2)
@@ -462,10 +470,11 @@ __asm__(".pushsection .text.sfi_native,\"ax\"\n .set .Lsfi_rows,0; .set .Lsfi_he
 #define BRANCH(at, size, kind, rs1, rs2, to) "sfi_branch " #at "," SFI_AS_##kind SFI_R##rs1 "," SFI_R##rs2 "," #to "\n"
 #define BRANCH_FAR BRANCH
 #define SFI_WRITE(rd, value) SFI_UNLESS_FIXED(rd, "sfi_add_number " SFI_R##rd "," SFI_R0 "," SFI_CONSTANT(value))
-#define JAL(at, size, rd, to) SFI_LINE(at) SFI_WRITE(rd, "0x" #at "+" #size) "sfi_go " #at "," #to "\n"
+#define SFI_AFTER(at, size) "((0x" #at "+" #size ")&0xffffffff)"
+#define JAL(at, size, rd, to) SFI_LINE(at) SFI_WRITE(rd, SFI_AFTER(at, size)) "sfi_go " #at "," #to "\n"
 #define JAL_FAR JAL
 #define JALR(at, size, rd, rs1, number) SFI_LINE(at) "sfi_offset " SFI_R##rs1 "," #number "\n" \
-    SFI_WRITE(rd, "0x" #at "+" #size) "sfi_enter\n"
+    SFI_WRITE(rd, SFI_AFTER(at, size)) "sfi_enter\n"
 #define LUI(at, size, rd, number) SFI_LINE(at) SFI_WRITE(rd, "(" #number "<<12)")
 #define AUIPC(at, size, rd, number) SFI_LINE(at) SFI_WRITE(rd, "((0x" #at "+(" #number "<<12))&0xffffffff)")
 #define FENCE(at, size) SFI_LINE(at)
@@ -553,13 +562,7 @@ __asm__(".pushsection .rodata.sfi_fixups,\"a\"\nsfi_fixups_end:\n .popsection\n"
 #endif
 #endif
 #endif
-#ifndef SFI_NATIVE_DATA_H
-#define SFI_NATIVE_DATA_H
-#include <stdlib.h>
 #ifdef SFI_GUARDED
-#include <signal.h>
-#include <sys/mman.h>
-#include <ucontext.h>
 #ifndef REG_RIP
 #error "SFI_GUARDED wants _GNU_SOURCE defined before the first header"
 #endif
@@ -568,49 +571,58 @@ struct sfi_fixup { int32_t access, onward; };
 extern const struct sfi_fixup sfi_fixups[] __attribute__((visibility("hidden")));
 extern const struct sfi_fixup sfi_fixups_end[] __attribute__((visibility("hidden")));
 static uintptr_t sfi_onward(uintptr_t address) {
-    const struct sfi_fixup *low = sfi_fixups, *high = sfi_fixups_end;
+    size_t low = 0, high = ((uintptr_t)sfi_fixups_end - (uintptr_t)sfi_fixups) / sizeof *sfi_fixups;
     while (low < high) {
-        const struct sfi_fixup *middle = low + (high - low) / 2;
-        if ((uintptr_t)&middle->access + (uintptr_t)(intptr_t)middle->access < address)
+        const size_t middle = low + (high - low) / 2;
+        const struct sfi_fixup *it = &sfi_fixups[middle];
+        const uintptr_t access = (uintptr_t)&it->access + (uintptr_t)(intptr_t)it->access;
+        if (access == address)
+            return (uintptr_t)&it->onward + (uintptr_t)(intptr_t)it->onward;
+        if (access < address)
             low = middle + 1;
         else
             high = middle;
     }
-    if (low == sfi_fixups_end || (uintptr_t)&low->access + (uintptr_t)(intptr_t)low->access != address)
-        return 0;
-    return (uintptr_t)&low->onward + (uintptr_t)(intptr_t)low->onward;
+    return 0;
 }
 static struct sigaction sfi_other_handler;
+static void sfi_hand_on(int number, siginfo_t *info, void *context) {
+    const struct sigaction other = sfi_other_handler;
+    const int is_sent = info->si_code <= 0;
+    if (other.sa_handler == SIG_IGN && is_sent)
+        return;
+    if (other.sa_handler == SIG_DFL || other.sa_handler == SIG_IGN) {
+        sigaction(number, &other, NULL);
+        if (is_sent)
+            raise(number);
+        return;
+    }
+    if (other.sa_flags & (int)SA_RESETHAND)
+        sfi_other_handler.sa_handler = SIG_DFL;
+    if (other.sa_flags & SA_SIGINFO)
+        other.sa_sigaction(number, info, context);
+    else
+        other.sa_handler(number);
+}
 static void sfi_on_fault(int number, siginfo_t *info, void *context) {
     greg_t *rip = &((ucontext_t *)context)->uc_mcontext.gregs[REG_RIP];
-    const uintptr_t onward = sfi_onward((uintptr_t)*rip);
+    const uintptr_t onward = info->si_code > 0 ? sfi_onward((uintptr_t)*rip) : 0;
     if (onward != 0)
         *rip = (greg_t)onward;
-    else if (sfi_other_handler.sa_flags & SA_SIGINFO)
-        sfi_other_handler.sa_sigaction(number, info, context);
-    else if (sfi_other_handler.sa_handler != SIG_DFL && sfi_other_handler.sa_handler != SIG_IGN)
-        sfi_other_handler.sa_handler(number);
-    else if (sfi_other_handler.sa_handler == SIG_DFL || info->si_code > 0) {
-        sigaction(number, &sfi_other_handler, NULL);
-        if (info->si_code <= 0)
-            raise(number);
-    }
+    else
+        sfi_hand_on(number, info, context);
 }
 static int sfi_handle_faults(void) {
-    static int is_handled;
-    struct sigaction before, own = { .sa_flags = SA_SIGINFO | SA_ONSTACK };
+    enum { NOT_YET, BEGUN, DONE };
+    static int state;
+    struct sigaction own = { .sa_flags = SA_SIGINFO | SA_ONSTACK | SA_NODEFER };
     own.sa_sigaction = sfi_on_fault;
-    if (is_handled)
-        return 0;
-    if (sigaction(SIGSEGV, NULL, &before))
-        return -1;
-    if (!(before.sa_flags & SA_SIGINFO) || before.sa_sigaction != sfi_on_fault) {
-        sfi_other_handler = before;
-        if (sigaction(SIGSEGV, &own, NULL))
-            return -1;
-    }
-    is_handled = 1;
-    return 0;
+    int before = NOT_YET;
+    if (__atomic_compare_exchange_n(&state, &before, BEGUN, 0, __ATOMIC_ACQ_REL, __ATOMIC_ACQUIRE))
+        __atomic_store_n(&state, sigaction(SIGSEGV, &own, &sfi_other_handler) ? NOT_YET : DONE, __ATOMIC_RELEASE);
+    while ((before = __atomic_load_n(&state, __ATOMIC_ACQUIRE)) == BEGUN)
+        ;
+    return before == DONE ? 0 : -1;
 }
 static size_t sfi_room_of(const struct sfi_sandbox *s) {
     return ((size_t)s->data_size + SFI_ZONE - 1) / SFI_ZONE * SFI_ZONE;

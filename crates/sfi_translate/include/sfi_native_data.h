@@ -1,14 +1,18 @@
-/* The data of a sandbox: a part of hosts of sfi_native.h, which include this file after it. By SFI_GUARDED, where sfi_native.h
-   leaves it defined, data lie between two guard zones, and an access there, which nothing tests, faults: its handler goes on
-   where the access is left to sfi_step, which traps. Nothing of this file is proved. */
+/* sfi_native.h and the data of a sandbox, for hosts. By SFI_GUARDED, on x86-64 Linux, data lie between two guard zones, and an
+   access there faults: the handler of SIGSEGV goes on where the access is left to sfi_step, which traps. So accesses take no
+   test, where data are whole pages that don't begin below 8192 nor end above 2^32 - 8192. A thread that takes turns may not
+   block SIGSEGV. Code that has handled it once stays loaded. Nothing of this file is proved. */
 #ifndef SFI_NATIVE_DATA_H
 #define SFI_NATIVE_DATA_H
 #include <stdlib.h>
-
-#ifdef SFI_GUARDED
+#if defined(SFI_GUARDED) && defined(__linux__)
 #include <signal.h>
 #include <sys/mman.h>
 #include <ucontext.h>
+#endif
+#include "sfi_native.h"
+
+#ifdef SFI_GUARDED
 #ifndef REG_RIP
 #error "SFI_GUARDED wants _GNU_SOURCE defined before the first header"
 #endif
@@ -22,54 +26,65 @@ extern const struct sfi_fixup sfi_fixups_end[] __attribute__((visibility("hidden
 
 /* Where a fault of the instruction at that address goes on, or 0 where that is no access of a sandbox. */
 static uintptr_t sfi_onward(uintptr_t address) {
-    const struct sfi_fixup *low = sfi_fixups, *high = sfi_fixups_end;
+    size_t low = 0, high = ((uintptr_t)sfi_fixups_end - (uintptr_t)sfi_fixups) / sizeof *sfi_fixups;
     while (low < high) {
-        const struct sfi_fixup *middle = low + (high - low) / 2;
-        if ((uintptr_t)&middle->access + (uintptr_t)(intptr_t)middle->access < address)
+        const size_t middle = low + (high - low) / 2;
+        const struct sfi_fixup *it = &sfi_fixups[middle];
+        const uintptr_t access = (uintptr_t)&it->access + (uintptr_t)(intptr_t)it->access;
+        if (access == address)
+            return (uintptr_t)&it->onward + (uintptr_t)(intptr_t)it->onward;
+        if (access < address)
             low = middle + 1;
         else
             high = middle;
     }
-    if (low == sfi_fixups_end || (uintptr_t)&low->access + (uintptr_t)(intptr_t)low->access != address)
-        return 0;
-    return (uintptr_t)&low->onward + (uintptr_t)(intptr_t)low->onward;
+    return 0;
 }
 
 static struct sigaction sfi_other_handler;  /* of whoever handled SIGSEGV before */
 
-static void sfi_on_fault(int number, siginfo_t *info, void *context) {
-    greg_t *rip = &((ucontext_t *)context)->uc_mcontext.gregs[REG_RIP];
-    const uintptr_t onward = sfi_onward((uintptr_t)*rip);
-    if (onward != 0)
-        *rip = (greg_t)onward;
-    else if (sfi_other_handler.sa_flags & SA_SIGINFO)
-        sfi_other_handler.sa_sigaction(number, info, context);
-    else if (sfi_other_handler.sa_handler != SIG_DFL && sfi_other_handler.sa_handler != SIG_IGN)
-        sfi_other_handler.sa_handler(number);
-    else if (sfi_other_handler.sa_handler == SIG_DFL || info->si_code > 0) {  /* as if no handler were there: a fault comes again */
-        sigaction(number, &sfi_other_handler, NULL);
-        if (info->si_code <= 0)
+/* What would happen without this handler. */
+static void sfi_hand_on(int number, siginfo_t *info, void *context) {
+    const struct sigaction other = sfi_other_handler;
+    const int is_sent = info->si_code <= 0;
+    if (other.sa_handler == SIG_IGN && is_sent)
+        return;
+    if (other.sa_handler == SIG_DFL || other.sa_handler == SIG_IGN) {  /* a fault comes again */
+        sigaction(number, &other, NULL);
+        if (is_sent)
             raise(number);
+        return;
     }
+    if (other.sa_flags & (int)SA_RESETHAND)
+        sfi_other_handler.sa_handler = SIG_DFL;
+    if (other.sa_flags & SA_SIGINFO)
+        other.sa_sigaction(number, info, context);
+    else
+        other.sa_handler(number);
 }
 
-/* Handles SIGSEGV, from the first call on. What isn't a sandbox's goes to the handler that was there then. Where another one
-   is set later it stays: it may hand on to this one, and a fault of neither would go round. */
+static void sfi_on_fault(int number, siginfo_t *info, void *context) {
+    greg_t *rip = &((ucontext_t *)context)->uc_mcontext.gregs[REG_RIP];
+    const uintptr_t onward = info->si_code > 0 ? sfi_onward((uintptr_t)*rip) : 0;
+    if (onward != 0)
+        *rip = (greg_t)onward;
+    else
+        sfi_hand_on(number, info, context);
+}
+
+/* Handles SIGSEGV, from the first call on. What isn't a sandbox's fault goes to the handler that was there then. It is set once:
+   one that is set later may hand on to it, and a fault of neither would go round. SA_NODEFER: another handler may jump away. */
 static int sfi_handle_faults(void) {
-    static int is_handled;
-    struct sigaction before, own = { .sa_flags = SA_SIGINFO | SA_ONSTACK };
+    enum { NOT_YET, BEGUN, DONE };
+    static int state;
+    struct sigaction own = { .sa_flags = SA_SIGINFO | SA_ONSTACK | SA_NODEFER };
     own.sa_sigaction = sfi_on_fault;
-    if (is_handled)
-        return 0;
-    if (sigaction(SIGSEGV, NULL, &before))
-        return -1;
-    if (!(before.sa_flags & SA_SIGINFO) || before.sa_sigaction != sfi_on_fault) {  /* it may be another thread's call's */
-        sfi_other_handler = before;
-        if (sigaction(SIGSEGV, &own, NULL))
-            return -1;
-    }
-    is_handled = 1;
-    return 0;
+    int before = NOT_YET;
+    if (__atomic_compare_exchange_n(&state, &before, BEGUN, 0, __ATOMIC_ACQ_REL, __ATOMIC_ACQUIRE))
+        __atomic_store_n(&state, sigaction(SIGSEGV, &own, &sfi_other_handler) ? NOT_YET : DONE, __ATOMIC_RELEASE);
+    while ((before = __atomic_load_n(&state, __ATOMIC_ACQUIRE)) == BEGUN)
+        ;  /* another thread's call */
+    return before == DONE ? 0 : -1;
 }
 
 static size_t sfi_room_of(const struct sfi_sandbox *s) {

@@ -5,7 +5,6 @@
 #include "sfi_native_run.h"
 
 #include "sfi_native_console.c"
-#include "sfi_native.h"
 #include "sfi_native_data.h"
 
 enum { SERVICE_EXIT = 0, CALL_SIZE = 4, SLACK = 1020 }; /* SLACK: docs/IMAGE.md, typed registers */

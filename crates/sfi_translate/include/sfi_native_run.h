@@ -15,9 +15,11 @@
  *   sfi_run_api return SFI_NATIVE_OTHER_IMAGE, and the verdict has this status and else zeros.
  * - sfi_run_load, sfi_run_instance and sfi_run_free take memory by calloc and give it back by free: the data's bytes, and 256
  *   bytes a sandbox. A module keeps none: sfi_run_module_new takes as much as a load, and gives it back.
- * - Compiled with -DSFI_GUARDED for Linux on x86-64 the data are pages of their own between two guard zones, accesses take no
- *   test, and a load handles SIGSEGV: a fault that is no sandbox's goes to the handler before. A handler that is set later has
- *   to hand on what isn't its own.
+ * - Compiled with -DSFI_GUARDED for Linux on x86-64 the data are pages of their own between two guard zones, accesses of most
+ *   images take no test (sfi_native_data.h says which), and the first load handles SIGSEGV: what is no sandbox's fault goes to
+ *   the handler before. A handler that is set later has to hand on what isn't its own. SIGSEGV may not be blocked where turns
+ *   are taken, nor a shared library with plug-ins be unloaded. sfi_native_data.h and the kernel are trusted, too.
+ * - On x86-64 the text is assembled, so that -masm=intel, and -flto with two plug-ins, want -DSFI_PORTABLE.
  * - sfi_run_until takes a step at a time, from a table, as slowly as sfi_run_turn of libsfi_run.
  * - A world keeps its sandboxes: none can be added, since they would meet those that are there, and sfi_run_remove returns
  *   SFI_NATIVE_STAYS.
