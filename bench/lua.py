@@ -22,8 +22,7 @@ from compiled import EXAMPLES, mean
 
 sys.path.insert(0, EXAMPLES)
 import programs
-
-TURNS = ["--rounds", "10000", "--quantum", "1000000"]
+from translated import TURNS
 
 
 def lua_image(given, folder):
@@ -41,7 +40,7 @@ def translated(given, image, folder):
     source, path = os.path.join(folder, "lua.c"), os.path.join(folder, "lua")
     with open(source, "wb") as file:
         subprocess.run([given.program, "translate", "--whole"], input=image, stdout=file, check=True)
-    _, seconds = measure.run(["/usr/bin/env", "gcc", "-O2", *given.option, source, "-o", path], os.devnull)
+    _, seconds = measure.run(["gcc", "-O2", *given.option, source, "-o", path], os.devnull)
     return path, seconds
 
 
@@ -73,10 +72,11 @@ def main():
     with tempfile.TemporaryDirectory() as folder:
         image = lua_image(given, folder)
         path, seconds = translated(given, image, folder)
+        image = measure.written(os.path.join(folder, "image"), image)
         print(f"gcc -O2 {' '.join(given.option)}: {seconds:.1f} s of processor time\n\n| script | lua5.4, s | translated | sfi run |\n|---|---|---|---|")
         rows = []
         for script in given.scripts:
-            least, ratios = measured(given, script, measure.written(os.path.join(folder, "image"), image), path)
+            least, ratios = measured(given, script, image, path)
             rows.append(ratios)
             print(f"| {os.path.basename(script)} | {least:.4f} | {ratios[0]:.2f} | {ratios[1]:.1f} |", flush=True)
         print(f"| mean | | {mean([row[0] for row in rows]):.2f} | {mean([row[1] for row in rows]):.1f} |")

@@ -85,7 +85,7 @@ GUARDED = {  # of sfi_native_x86_64.h and sfi_native_data.h
     "an access is at its base": ("\\\\before\\\\()\\\\n(%r15,\\\\aq)", "\\\\before\\\\()(%r15,\\\\aq)"),
     "a load into x0 isn't done": X86_64["a load into x0 isn't tested"],
     "no fault is handled": (" || sfi_handle_faults()", ""),
-    "the first fixup alone is found": ("low = middle + 1;", "low = sfi_fixups_end;"),
+    "the first fixup alone is found": ("low = middle + 1;", "low = high;"),
     "nothing guards the data's end": ("mprotect(zone + SFI_ZONE, room, ", "mprotect(zone + SFI_ZONE, room + SFI_ZONE, "),
     "nothing guards the data's beginning": ("mprotect(zone + SFI_ZONE, room, ", "mprotect(zone, room + SFI_ZONE, "),
 }
