@@ -453,27 +453,39 @@ __moddi3:
 	.section	.text.__clzsi2,"ax",@progbits
 	.globl	__clzsi2
 __clzsi2:
-	li	a4,5
+	srli	a4,a0,16
+	li	a5,32
+	beq	a4,zero,.L120
+	mv	a0,a4
 	li	a5,16
-	li	a2,32
-.L121:
-	srl	a3,a0,a5
-	addi	a4,a4,-1
-	beq	a3,zero,.L120
-	sub	a2,a2,a5
-	mv	a0,a3
 .L120:
-	srai	a5,a5,1
-	bne	a4,zero,.L121
-	sub	a0,a2,a0
+	srli	a4,a0,8
+	beq	a4,zero,.L121
+	addi	a5,a5,-8
+	mv	a0,a4
+.L121:
+	srli	a4,a0,4
+	beq	a4,zero,.L122
+	addi	a5,a5,-4
+	mv	a0,a4
+.L122:
+	srli	a4,a0,2
+	beq	a4,zero,.L123
+	addi	a5,a5,-2
+	mv	a0,a4
+.L123:
+	srli	a4,a0,1
+	sub	a5,a5,a4
+	snez	a0,a0
+	sub	a0,a5,a0
 	ret
 	.section	.text.__clzdi2,"ax",@progbits
 	.globl	__clzdi2
 __clzdi2:
-	beq	a1,zero,.L127
+	beq	a1,zero,.L136
 	mv	a0,a1
 	tail	__clzsi2
-.L127:
+.L136:
 	addi	sp,sp,-16
 	sw	ra,12(sp)
 	call	__clzsi2
@@ -484,10 +496,7 @@ __clzdi2:
 	.section	.text.__ctzsi2,"ax",@progbits
 	.globl	__ctzsi2
 __ctzsi2:
-	bne	a0,zero,.L137
-	li	a0,32
-	ret
-.L137:
+	beq	a0,zero,.L141
 	neg	a5,a0
 	addi	sp,sp,-16
 	and	a0,a5,a0
@@ -498,18 +507,27 @@ __ctzsi2:
 	sub	a0,a5,a0
 	addi	sp,sp,16
 	jr	ra
+.L141:
+	li	a0,32
+	ret
 	.section	.text.__ctzdi2,"ax",@progbits
 	.globl	__ctzdi2
 __ctzdi2:
 	addi	sp,sp,-16
 	sw	ra,12(sp)
-	bne	a0,zero,.L145
-	li	a0,64
-	bne	a1,zero,.L146
+	beq	a0,zero,.L147
+	neg	a5,a0
+	and	a0,a5,a0
+	call	__clzsi2
+	li	a5,31
+	sub	a0,a5,a0
+.L146:
 	lw	ra,12(sp)
 	addi	sp,sp,16
 	jr	ra
-.L146:
+.L147:
+	li	a0,64
+	beq	a1,zero,.L146
 	neg	a0,a1
 	and	a0,a0,a1
 	call	__clzsi2
@@ -518,22 +536,10 @@ __ctzdi2:
 	sub	a0,a5,a0
 	addi	sp,sp,16
 	jr	ra
-.L145:
-	neg	a5,a0
-	and	a0,a5,a0
-	call	__clzsi2
-	lw	ra,12(sp)
-	li	a5,31
-	sub	a0,a5,a0
-	addi	sp,sp,16
-	jr	ra
 	.section	.text.__ffssi2,"ax",@progbits
 	.globl	__ffssi2
 __ffssi2:
-	bne	a0,zero,.L154
-	li	a0,0
-	ret
-.L154:
+	beq	a0,zero,.L155
 	neg	a5,a0
 	addi	sp,sp,-16
 	and	a0,a5,a0
@@ -544,37 +550,37 @@ __ffssi2:
 	sub	a0,a5,a0
 	addi	sp,sp,16
 	jr	ra
+.L155:
+	li	a0,0
+	ret
 	.section	.text.__ffsdi2,"ax",@progbits
 	.globl	__ffsdi2
 __ffsdi2:
 	or	a5,a0,a1
-	bne	a5,zero,.L168
-	li	a0,0
-	ret
-.L168:
+	beq	a5,zero,.L166
 	addi	sp,sp,-16
 	sw	ra,12(sp)
-	bne	a0,zero,.L169
-	li	a0,65
-	bne	a1,zero,.L170
+	beq	a0,zero,.L163
+	neg	a5,a0
+	and	a0,a5,a0
+	call	__clzsi2
+	li	a5,32
+	sub	a0,a5,a0
+.L160:
 	lw	ra,12(sp)
 	addi	sp,sp,16
 	jr	ra
-.L170:
+.L166:
+	li	a0,0
+	ret
+.L163:
+	li	a0,65
+	beq	a1,zero,.L160
 	neg	a0,a1
 	and	a0,a0,a1
 	call	__clzsi2
 	lw	ra,12(sp)
 	li	a5,64
-	sub	a0,a5,a0
-	addi	sp,sp,16
-	jr	ra
-.L169:
-	neg	a5,a0
-	and	a0,a5,a0
-	call	__clzsi2
-	lw	ra,12(sp)
-	li	a5,32
 	sub	a0,a5,a0
 	addi	sp,sp,16
 	jr	ra
@@ -596,14 +602,14 @@ __clrsbdi2:
 	addi	sp,sp,-16
 	sw	ra,12(sp)
 	srai	a5,a1,31
-	beq	a1,a5,.L177
+	beq	a1,a5,.L179
 	xor	a0,a1,a5
 	call	__clzsi2
 	lw	ra,12(sp)
 	addi	a0,a0,-1
 	addi	sp,sp,16
 	jr	ra
-.L177:
+.L179:
 	xor	a0,a1,a0
 	call	__clzsi2
 	lw	ra,12(sp)
@@ -615,66 +621,66 @@ __clrsbdi2:
 __popcountsi2:
 	mv	a5,a0
 	li	a0,0
-	beq	a5,zero,.L181
-.L180:
+	beq	a5,zero,.L183
+.L182:
 	addi	a4,a5,-1
 	and	a5,a5,a4
 	addi	a0,a0,1
-	bne	a5,zero,.L180
+	bne	a5,zero,.L182
 	ret
-.L181:
+.L183:
 	ret
 	.section	.text.__popcountdi2,"ax",@progbits
 	.globl	__popcountdi2
 __popcountdi2:
 	mv	a5,a0
 	li	a0,0
-	beq	a5,zero,.L184
-.L185:
+	beq	a5,zero,.L186
+.L187:
 	addi	a4,a5,-1
 	and	a5,a5,a4
 	addi	a0,a0,1
-	bne	a5,zero,.L185
-.L184:
-	beq	a1,zero,.L183
+	bne	a5,zero,.L187
+.L186:
+	beq	a1,zero,.L185
 	li	a5,0
-.L187:
+.L189:
 	addi	a4,a1,-1
 	and	a1,a1,a4
 	addi	a5,a5,1
-	bne	a1,zero,.L187
+	bne	a1,zero,.L189
 	add	a0,a0,a5
-.L183:
+.L185:
 	ret
 	.section	.text.__paritysi2,"ax",@progbits
 	.globl	__paritysi2
 __paritysi2:
-	beq	a0,zero,.L197
+	beq	a0,zero,.L199
 	li	a5,0
-.L196:
+.L198:
 	addi	a4,a0,-1
 	and	a0,a0,a4
 	addi	a5,a5,1
-	bne	a0,zero,.L196
+	bne	a0,zero,.L198
 	andi	a0,a5,1
 	ret
-.L197:
+.L199:
 	li	a0,0
 	ret
 	.section	.text.__paritydi2,"ax",@progbits
 	.globl	__paritydi2
 __paritydi2:
 	xor	a5,a0,a1
-	beq	a0,a1,.L202
+	beq	a0,a1,.L204
 	li	a0,0
-.L201:
+.L203:
 	addi	a4,a5,-1
 	and	a5,a5,a4
 	addi	a0,a0,1
-	bne	a5,zero,.L201
+	bne	a5,zero,.L203
 	andi	a0,a0,1
 	ret
-.L202:
+.L204:
 	li	a0,0
 	ret
 	.section	.text.__bswapsi2,"ax",@progbits
@@ -727,30 +733,30 @@ __cxa_pure_virtual:
 _Znwj:
 	addi	sp,sp,-16
 	sw	ra,12(sp)
-	bne	a0,zero,.L208
+	bne	a0,zero,.L210
 	li	a0,1
-.L208:
+.L210:
 	call	malloc
-	beq	a0,zero,.L211
+	beq	a0,zero,.L213
 	lw	ra,12(sp)
 	addi	sp,sp,16
 	jr	ra
-.L211:
+.L213:
 	ebreak
 	.section	.text._Znaj,"ax",@progbits
 	.globl	_Znaj
 _Znaj:
 	addi	sp,sp,-16
 	sw	ra,12(sp)
-	bne	a0,zero,.L213
+	bne	a0,zero,.L215
 	li	a0,1
-.L213:
+.L215:
 	call	malloc
-	beq	a0,zero,.L216
+	beq	a0,zero,.L218
 	lw	ra,12(sp)
 	addi	sp,sp,16
 	jr	ra
-.L216:
+.L218:
 	ebreak
 	.section	.text._ZdlPv,"ax",@progbits
 	.globl	_ZdlPv

@@ -210,12 +210,15 @@ s64 __moddi3(s64 dividend, s64 divisor) {
 
 __attribute__((noinline)) int __clzsi2(u32 number) {
     int count = 32;
-    for (int half = 16; half; half >>= 1)
-        if (number >> half) {
-            number >>= half;
-            count -= half;
-        }
-    return count - number;
+    if (number >> 16)
+        number >>= 16, count -= 16;
+    if (number >> 8)
+        number >>= 8, count -= 8;
+    if (number >> 4)
+        number >>= 4, count -= 4;
+    if (number >> 2)
+        number >>= 2, count -= 2;
+    return count - (number >> 1) - (number != 0);
 }
 
 int __clzdi2(u64 number) {
