@@ -22,6 +22,7 @@ LEFT_OUT = {f"libc/{name}.c" for name in (
     "misc/init", "misc/fini",  # what runs before main is the converter's
     "stdlib/assert")}  # in system.c, without printf
 LEFT_OUT |= {"libm/math/w_pow.c", "libm/math/wf_pow.c"}  # in pow.c, with the right signs
+LEFT_OUT |= {"libm/math/e_sqrt.c", "libm/math/ef_sqrt.c"}  # in sqrt.c, in fewer steps
 # Files that are compiled several times: the name of each, the file, and its options.
 VARIANTS = [("vfiprintf", "libc/stdio/vfprintf.c", ["-DINTEGER_ONLY"]),
             ("svfprintf", "libc/stdio/vfprintf.c", ["-DSTRING_ONLY"]),
@@ -70,7 +71,7 @@ def compile_all(compiler, folder):
     headers(tree, include)
     own = [word for word in OPTIONS if not (is_clang(compiler) and word in OF_GCC)]
     options = [*own, "-isystem", include, *(word for part in SEARCHED for word in ("-I", f"{tree}/{part}"))]
-    glue = [(os.path.join(GLUE, f"{name}.c"), f"sandbox-{name}", []) for name in ("system", "heap", "pow")]
+    glue = [(os.path.join(GLUE, f"{name}.c"), f"sandbox-{name}", []) for name in ("system", "heap", "pow", "sqrt")]
 
     def compile_one(job):
         path, name, more = job
