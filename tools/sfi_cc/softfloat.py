@@ -1,5 +1,5 @@
 """Floating point: the functions of GCC's libgcc that compilers call where the machine has none. They are compiled from
-GCC's sources, once for each compiler, and kept."""
+GCC's sources, but for three in doubles.c, once for each compiler, and kept."""
 import glob
 import os
 import re
@@ -11,8 +11,9 @@ from kept import kept
 from sources import GCC_SOURCE, identity, unpacked
 
 PARTS = ("libgcc/soft-fp", "libgcc/config/riscv", "libgcc/libgcc2.c", "libgcc/libgcc2.h", "include/longlong.h")
+OWN = os.path.join(os.path.dirname(os.path.abspath(__file__)), "doubles.c")  # adddf3, subdf3 and muldf3, in fewer steps
 # Of numbers of 32, 64 and 128 bits: those of arithmetic, comparisons, and from and to integers and each other.
-SOFT_FP = re.compile(r"(add|sub|mul|div)[sdt]f3|(neg|eq|ge|le|unord)[sdt]f2|fix(uns)?[sdt]f[sd]i|float(un)?[sd]i[sdt]f|"
+SOFT_FP = re.compile(r"(add|sub|mul)[st]f3|div[sdt]f3|(neg|eq|ge|le|unord)[sdt]f2|fix(uns)?[sdt]f[sd]i|float(un)?[sd]i[sdt]f|"
                      r"(extend(sfdf|sftf|dftf)|trunc(dfsf|tfsf|tfdf))2")
 LIBGCC2 = [f"{name}" for mode in "sdt" for name in (f"mul{mode}c3", f"div{mode}c3", f"powi{mode}f2")]
 CALLED = re.compile(rb"\b__\w*([sdt]f[23]|[sdt]c3|[sdt]f[sd]i|[sd]i[sdt]f)\b")  # what the assembly of floats speaks of
@@ -44,7 +45,7 @@ def speaks_of_floats(assemblies):
 
 
 def jobs(tree, stubs):
-    """The files of GCC to compile, each with the name of its function and its options."""
+    """The files to compile, each with the name of its function and its options."""
     folders = ["-I", stubs, "-I", f"{tree}/libgcc/config/riscv", "-I", f"{tree}/libgcc/soft-fp", "-I",
                f"{tree}/libgcc", "-I", f"{tree}/include"]
     for path in sorted(glob.glob(f"{tree}/libgcc/soft-fp/*.c")):
@@ -53,6 +54,7 @@ def jobs(tree, stubs):
             yield path, name, ["-w", *MODES[:1], *folders]
     for name in LIBGCC2:
         yield f"{tree}/libgcc/libgcc2.c", name, ["-w", *MODES, f"-DL_{name}", *folders]
+    yield OWN, "doubles", []
 
 
 def compile_all(compiler, tree, folder):
@@ -78,5 +80,8 @@ def folder_of(compiler):
     """The folder of assembly that a compiler made of these functions; None where the sources aren't there."""
     if GCC_SOURCE.where() is None:
         return None
-    words = [version(compiler), identity(GCC_SOURCE.where()), *LIBGCC2, SOFT_FP.pattern, *MODES, LONGLONG, str(RESERVED_IN_WORDS)]
+    with open(OWN, encoding="utf-8") as file:
+        own = file.read()
+    words = [version(compiler), identity(GCC_SOURCE.where()), *LIBGCC2, SOFT_FP.pattern, *MODES, LONGLONG, own,
+             str(RESERVED_IN_WORDS)]
     return kept("softfloat", words, lambda folder: compile_all(compiler, unpacked(GCC_SOURCE, *PARTS), folder))

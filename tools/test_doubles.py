@@ -1,0 +1,203 @@
+"""Tests of sums, differences, products and square roots of doubles, sfi_cc/doubles.c and sfi_cc/newlib/sqrt.c:
+`tools/unit_tests.py tools`. The wanted bits are those of this machine's own floating point. They are skipped where a
+compiler, GCC's sources or the program isn't there."""
+import os
+import subprocess
+import unittest
+
+from test_floats import SOURCES
+from testing import COMPILERS, SFI, SFI_CC, TOOLS, Folder, needs
+
+DOUBLES, ROOTS = TOOLS / "sfi_cc" / "doubles.c", TOOLS / "sfi_cc" / "newlib" / "sqrt.c"
+
+# Pairs of numbers: `edge` has each of some exponents with each of some digits, `choose` takes random ones of eight kinds.
+NUMBERS = r'''
+typedef unsigned long long bits;
+#define DIGITS (1ull << 52)
+static const bits digits[] = {0, 1, DIGITS / 2, DIGITS - 1, DIGITS - 2, DIGITS / 2 - 1, DIGITS / 2 + 1, 0x6a09e667f3bcd,
+    0x5555555555555, 1ull << 32, 0xffffffff, 2, 3};
+static const short exponents[] = {0, 1, 2, 1022, 1023, 1024, 2046, 2047, 53, 54, 1054, 1055, 1075, 1076, 1077, 1078, 52,
+    500, 511, 512, 970, 1500, 1535, 1536};
+static bits state = 88172645463325252ull;
+static bits next(void) { return state ^= state << 13, state ^= state >> 7, state ^= state << 17; }
+static bits edge(int place, int of_digits) {
+    int sign = place & 1;
+    place /= 2;
+    return (bits)sign << 63 | (bits)exponents[place / of_digits] << 52 | digits[place % of_digits];
+}
+static bits with(bits number, unsigned exponent) { return (number & ~(0x7ffull << 52)) | (bits)(exponent & 0x7ff) << 52; }
+static bits few(bits number, int count) { return number & (~0ull << 52 - count); }
+static void choose(int kind, bits *a, bits *b) {
+    bits x = next(), y = next(), z = next();
+    unsigned exponent = z & 0x7ff, near = 1000 + (z >> 16 & 63), from = z >> 22 & 63, count = (z >> 28) % 52;
+    *a = x, *b = y;
+    switch (kind & 7) {
+    case 0: return;                                                              /* any bits */
+    case 1: *a = with(x, near), *b = with(y, near - from); return;               /* distances from 0 to 63 */
+    case 2: *a = with(x, near), *b = *a ^ 1ull << 63 ^ y >> 12 >> count; return; /* cancellations */
+    case 3: *a = with(few(x, count), near), *b = with(few(y, from % 52), near - from + 32); return; /* halves */
+    case 4: *a = with(x >> 12 >> count, z >> 62), *b = with(y, near); return;    /* the least numbers */
+    case 5: *a = with(x, exponent), *b = with(y, 1023 + from - 60 - exponent); return; /* products that are as small */
+    case 6: *a = with(x, exponent | 1024), *b = with(y, 3069 + from % 8 - 4 - (exponent | 1024)); return; /* or large */
+    case 7: *a = with(x | DIGITS - 1 >> count, near), *b = with(y | DIGITS - 1 >> from % 52, near - from % 3); return;
+    }
+}
+'''
+
+# Compares the C functions, compiled for this machine, with the machine's own. Prints how many answers are right.
+NATIVE = NUMBERS + r'''
+#include <math.h>
+#include <stdio.h>
+#include <stdlib.h>
+#include <string.h>
+bits sum(bits a, bits b), difference(bits a, bits b), product(bits a, bits b);
+double root(double a);
+float short_root(float a);
+static long right;
+static double value(bits number) { double answer; memcpy(&answer, &number, 8); return answer; }
+static bits of(double number) { bits answer; memcpy(&answer, &number, 8); return answer; }
+static void compare(char sign, bits a, bits b, bits found, double wanted) {
+    bits exact = isnan(wanted) ? 0x7ff8000000000000 : of(wanted);
+    if (found != exact) {
+        printf("%llx %c %llx: %llx in place of %llx\n", a, sign, b, found, exact);
+        exit(1);
+    }
+    right++;
+}
+static void try(bits a, bits b) {
+    volatile double x = value(a), y = value(b);
+    compare('+', a, b, sum(a, b), x + y), compare('-', a, b, difference(a, b), x - y);
+    compare('*', a, b, product(a, b), x * y);
+}
+static void try_root(bits a) {
+    union { unsigned bits; float value; } number = {a};
+    double long_root = root(value(a)), root_of_float = short_root(number.value);
+    compare('r', a, 0, isnan(long_root) ? 0x7ff8000000000000 : of(long_root), sqrt(value(a)));
+    compare('f', a, 0, isnan(root_of_float) ? 0x7ff8000000000000 : of(root_of_float), sqrtf(number.value));
+}
+int main(int count, char **words) {
+    int edges = sizeof exponents / sizeof *exponents * (sizeof digits / sizeof *digits) * 2;
+    for (int k = 0; k < edges; k++) {
+        bits a = edge(k, sizeof digits / sizeof *digits);
+        for (int j = 0; j < edges; j++)
+            try(a, edge(j, sizeof digits / sizeof *digits));
+        try_root(a), try_root(a + 1), try_root(a - 1);
+    }
+    for (long k = atol(words[1]); k > 0; k--) {
+        bits a, b, small = next() >> 38, square = of((double)(small * small));
+        choose(k, &a, &b);
+        try(a, b), try(b, a), try_root(a), try_root(b), try_root(a >> 1), try_root(square), try_root(square - 1);
+        square = of((a >> 11 | 1) * (double)(a >> 11 | 1)); /* near the square of what is halfway between two doubles */
+        try_root(square), try_root(square - 1), try_root(square + 1);
+    }
+    printf("%ld right\n", right);
+    return 0;
+}
+'''
+NAMES = {"__adddf3": "sum", "__subdf3": "difference", "__muldf3": "product", "__ieee754_sqrt": "root",
+         "__ieee754_sqrtf": "short_root"}
+
+# Puts what comes of pairs of numbers, mixed. In a sandbox the one NaN has to be that of libgcc.
+MIXED = NUMBERS + r'''
+#ifdef NATIVE
+#include <math.h>
+#include <unistd.h>
+static int put(const void *from, unsigned count) { return write(1, from, count); }
+#define __ieee754_sqrt sqrt
+#define __ieee754_sqrtf sqrtf
+#else
+#include "gates.h"
+double __ieee754_sqrt(double);
+float __ieee754_sqrtf(float);
+#endif
+static bits mixed;
+static void say(double number) {
+    union { double value; bits all; } answer = {number};
+#ifdef NATIVE
+    if (number != number)
+        answer.all = 0x7ff8000000000000;
+#endif
+    mixed = (mixed << 7 | mixed >> 57) ^ answer.all;
+}
+static void try(bits a, bits b) {
+    volatile bits first = a, second = b; /* what the compiler doesn't know it doesn't compute */
+    union { bits all; double value; } x = {first}, y = {second};
+    say(x.value + y.value), say(x.value - y.value), say(x.value * y.value);
+}
+static void try_root(bits a) {
+    volatile bits first = a;
+    union { bits all; double value; } x = {first};
+    union { unsigned all; float value; } y = {first >> 32};
+    say(__ieee754_sqrt(x.value));
+    if (y.value == y.value)
+        say(__ieee754_sqrtf(y.value));
+}
+static void end(void) {
+    unsigned char bytes[8];
+    for (int k = 0; k < 8; k++)
+        bytes[k] = mixed >> 8 * k;
+    put(bytes, 8);
+}
+int main(void) {
+    for (int k = 0; k < 64; k++) { /* 8 exponents, 4 digits */
+        bits a = edge(k, 4), b;
+        for (int j = 0; j < 64; j++)
+            try(a, edge(j, 4));
+        try_root(a);
+        for (int kind = 0; kind < 32; kind++)
+            choose(kind, &a, &b), try(a, b), try_root(a);
+        end();
+    }
+    return 0;
+}
+'''
+
+# What has to be found: in a file, a text, and what takes its place.
+MISTAKES = {
+    "a product forgets its last digits": (DOUBLES, "high, low, rest, last);", "high, low, rest, 0);"),
+    "a sum that carries forgets its last digit": (DOUBLES, " | (rest & 1)", ""),
+    "a far number loses its last digits": (DOUBLES, " | (by_low << 1 << (31 - distance) ? 1 : 0)", ""),
+    "halves go up": (DOUBLES, "low &= ~1u;", ";"),
+    "a borrow is lost": (DOUBLES, " + (kept < (rest != 0))", ""),
+    "a number below the least normal one forgets its last digits": (DOUBLES, "(u32)behind | rest | beyond", "0"),
+    "sums become too large without being infinite": (DOUBLES, "++exponent == INFINITE", "++exponent < 0"),
+    "a root isn't rounded": (ROOTS, "root += (", "root += 0 * ("),
+    "roots go up too early": (ROOTS, "root * root + root -", "root * root + root / 2 -"),
+}
+
+
+class Doubles(Folder):
+    def program(self, text, *more):
+        """The program of a text and of files beside it, for this machine."""
+        path = self.path("native")
+        names = [f"-D{name}={own}" for name, own in NAMES.items()] if more else ["-DNATIVE"]
+        subprocess.run(["gcc", "-O2", "-w", *names, self.write("native.c", text), *map(str, more), "-lm", "-o", path], check=True)
+        return path
+
+    def against_the_machine(self, doubles, roots, count):
+        return subprocess.run([self.program(NATIVE, doubles, roots), str(count)], capture_output=True, check=False).stdout.decode()
+
+    @needs("gcc")
+    def test_natively(self):
+        self.assertRegex(self.against_the_machine(DOUBLES, ROOTS, 1000000), r"^\d+ right\n$")
+
+    @needs("gcc")
+    def test_mistakes_are_found(self):
+        for mistake, (file, old, new) in MISTAKES.items():
+            text = file.read_text(encoding="utf-8")
+            self.assertEqual(text.count(old), 1, mistake)
+            changed = self.write("changed.c", text.replace(old, new))
+            files = [changed if it == file else it for it in (DOUBLES, ROOTS)]
+            self.assertRegex(self.against_the_machine(*files, 300000), " in place of ", mistake)
+
+    @needs("gcc")
+    @unittest.skipUnless(SOURCES and os.path.exists(SFI), "GCC's sources or the program isn't there")
+    def test_in_a_sandbox(self):
+        wanted = subprocess.run([self.program(MIXED)], stdout=subprocess.PIPE, check=True).stdout.hex()
+        path = self.write("mixed.c", MIXED)
+        for compiler in COMPILERS:
+            for image_format in ("2", "words"):
+                words = [SFI_CC, "--program", SFI, "--cc", compiler, "-w", path, str(ROOTS), "--format", image_format]
+                image = subprocess.run(words, stdout=subprocess.PIPE, check=True).stdout
+                run = subprocess.run([SFI, "run", "--rounds", "20", "--quantum", "1000000"], input=image, stdout=subprocess.PIPE, check=True)
+                self.assertRegex(run.stdout.decode(), f"exit=0 .*out={wanted}\n$", f"{compiler} {image_format}")
