@@ -1,9 +1,9 @@
 /* Products, sums and differences of doubles, rounded to nearest, ties to even (IEEE 754), in place of those of libgcc's
    soft-fp, which take nearly twice as many steps. A NaN is always the one that libgcc gives on RISC-V.
 
-   The digits of a number are 53, of which `high` has 21 and `low` 32. `rest` has those behind them: its first bit is a half
-   of the last digit, and its last bit is set where any digit behind is. The first digit isn't stored, but where the exponent
-   is 0, of a number below the smallest normal one, it is: these have the exponent 1 and the first digit 0. */
+   The digits of a number are 53, of which `high` has 21 and `low` 32; the first one is 1 and isn't stored. `rest` has the 32
+   behind them: its first bit is a half of the last digit. What is not usual (zeros, numbers below the smallest normal one,
+   infinities, NaNs) has functions of its own. */
 typedef unsigned u32;
 typedef unsigned long long u64;
 typedef u64 number; /* a double's bits, which are in the same registers as the double */
@@ -55,9 +55,10 @@ static number rounded(u32 sign, int exponent, u32 high, u32 low, u32 rest, u32 b
 /* One of any other exponent. */
 OUT_OF_LINE number far_away(u32 sign, int exponent, u64 digits, u32 rest, u32 beyond) {
     int shift = exponent < -52 ? 54 : 1 - exponent;
-    u64 behind = digits << (64 - shift);
-    if (exponent >= (int)INFINITE)
+    u64 behind;
+    if (exponent > 0)
         return infinite(sign);
+    behind = digits << (64 - shift);
     digits >>= shift;
     return rounded(sign, 1, digits >> 32, digits, behind >> 32, (u32)behind | rest | beyond);
 }
@@ -73,7 +74,7 @@ OUT_OF_LINE number special_product(number left, number right) {
         return special_product(right, left);
     if (by_size >= INFINITE << 21)
         return by_size > INFINITE << 21 || !size ? not_a_number() : infinite(sign);
-    if (!size || by_size <= 52 << 21)
+    if (!size || by_size >> 21 <= 52)
         return joined(sign, 0);
     by_high = (by_high & ~SIGN) | sign;
     for (high &= ~SIGN; !(high & FIRST); by_high -= FIRST)
