@@ -109,18 +109,22 @@ number __muldf3(number left, number right) {
 
 number __adddf3(number left, number right);
 
+/* A sum where a number is below the smallest normal one. Both times 2^64 are normal, and no digit is lost on the way back. */
+OUT_OF_LINE number small_sum(number first, number second) {
+    const number up = 1087ull << 52, down = 959ull << 52;
+    return __muldf3(__adddf3(__muldf3(first, up), __muldf3(second, up)), down);
+}
+
 /* A sum where the first number, of the larger exponent, is infinite or not a number, or the second is 0 or below the smallest
-   normal one. Both times 2^64 are normal, and no digit is lost on the way back. */
+   normal one. */
 OUT_OF_LINE number special_sum(number first, number second) {
-    const number infinity = (number)INFINITE << 53, up = 1087ull << 52, down = 959ull << 52;
+    const number infinity = (number)INFINITE << 53;
     number size = first << 1, by_size = second << 1;
     if (size > infinity || by_size > infinity || (by_size == infinity && first != second))
         return not_a_number();
     if (!by_size)
         return size ? first : first & second;
-    if (size >> 53 > 64)
-        return first;
-    return __muldf3(__adddf3(__muldf3(first, up), __muldf3(second, up)), down);
+    return size >> 53 > 64 ? first : small_sum(first, second);
 }
 
 /* A difference of two numbers of almost the same size, which is exact. */
@@ -144,46 +148,23 @@ OUT_OF_LINE number cancelled(u64 digits, u32 sign, int exponent) {
     return rounded(sign, exponent - shift, digits >> 32, digits, 0, 0);
 }
 
-number __adddf3(number left, number right) {
-    u32 first = left >> 32, low = left, second = right >> 32, by_low = right, sign, high, by_high, rest = 0, kept;
-    int exponent = exponent_of(first), by_exponent = exponent_of(second), distance;
-    if (exponent < by_exponent) {
-        SWAP(first, second);
-        SWAP(low, by_low);
-        SWAP(exponent, by_exponent);
+/* What two numbers come to whose digits are those of one exponent: of equal signs, or of different ones. */
+
+static number added(u32 sign, int exponent, u32 high, u32 low, u32 by_high, u32 by_low, u32 rest) {
+    low += by_low;
+    high += by_high + (low < by_low);
+    if (high >= FIRST << 1) {
+        rest = low << 31 | rest >> 1 | (rest & 1);
+        low = low >> 1 | high << 31;
+        high >>= 1;
+        if (RARE(++exponent == INFINITE))
+            return infinite(sign);
     }
-    if (RARE(!by_exponent || exponent == INFINITE))
-        return special_sum(joined(first, low), joined(second, by_low));
-    sign = first & SIGN;
-    high = digits_of(first), by_high = digits_of(second);
-    distance = exponent - by_exponent;
-    if (distance) {
-        if (distance < 32) {
-            rest = by_low << (-distance & 31);
-            by_low = by_low >> distance | by_high << (-distance & 31);
-            by_high >>= distance;
-        } else {
-            if (distance > 54)
-                return joined(first, low);
-            distance &= 31;
-            rest = by_low >> distance | by_high << 1 << (31 - distance) | (by_low << 1 << (31 - distance) ? 1 : 0);
-            by_low = by_high >> distance;
-            by_high = 0;
-        }
-    }
-    if ((int)(first ^ second) >= 0) {
-        low += by_low;
-        high += by_high + (low < by_low);
-        if (high >= FIRST << 1) {
-            rest = low << 31 | rest >> 1 | (rest & 1);
-            low = low >> 1 | high << 31;
-            high >>= 1;
-            if (RARE(++exponent == INFINITE))
-                return infinite(sign);
-        }
-        return rounded(sign, exponent, high, low, rest, 0);
-    }
-    kept = low - by_low;
+    return rounded(sign, exponent, high, low, rest, 0);
+}
+
+static number subtracted(u32 sign, int exponent, u32 high, u32 low, u32 by_high, u32 by_low, u32 rest) {
+    u32 kept = low - by_low;
     high -= by_high + (low < by_low) + (kept < (rest != 0));
     low = kept - (rest != 0);
     rest = -rest;
@@ -201,6 +182,35 @@ number __adddf3(number left, number right) {
             return cancelled(joined(high, low), sign, exponent);
     }
     return rounded(sign, exponent, high, low, rest, 0);
+}
+
+number __adddf3(number left, number right) {
+    u32 first = left >> 32, low = left, second = right >> 32, by_low = right, high, by_high, rest = 0;
+    int exponent = exponent_of(first), by_exponent = exponent_of(second), distance;
+    if (exponent < by_exponent) {
+        SWAP(first, second);
+        SWAP(low, by_low);
+        SWAP(exponent, by_exponent);
+    }
+    if (RARE(!by_exponent || exponent == INFINITE))
+        return special_sum(joined(first, low), joined(second, by_low));
+    high = digits_of(first), by_high = digits_of(second);
+    distance = exponent - by_exponent;
+    if (distance >= 32) {
+        if (distance > 54)
+            return joined(first, low);
+        distance &= 31;
+        rest = by_low >> distance | by_high << 1 << (31 - distance) | (by_low << 1 << (31 - distance) ? 1 : 0);
+        by_low = by_high >> distance;
+        by_high = 0;
+    } else if (distance) {
+        rest = by_low << (-distance & 31);
+        by_low = by_low >> distance | by_high << (-distance & 31);
+        by_high >>= distance;
+    }
+    if ((int)(first ^ second) >= 0)
+        return added(first & SIGN, exponent, high, low, by_high, by_low, rest);
+    return subtracted(first & SIGN, exponent, high, low, by_high, by_low, rest);
 }
 
 number __subdf3(number left, number right) {
