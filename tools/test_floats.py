@@ -65,7 +65,7 @@ class Floats(Folder):
         self.assertEqual(sorted(name.rsplit("-", 1)[0] for name in os.listdir(os.path.join(home, "sfi-cc"))),
                          sorted({"library", "python", "runtime", "softfloat"} | ({GCC_SOURCE.name} if os.path.isfile(SOURCES) else set())))
         names = [os.path.basename(path) for path in glob.glob(os.path.join(home, "sfi-cc", "softfloat-*", "*"))]
-        self.assertTrue({"doubles.asm", "divdf3.asm", "divtc3.asm", "fixunssfdi.asm"} <= set(names))
+        self.assertTrue({"doubles.asm", "divsf3.asm", "divtc3.asm", "fixunssfdi.asm"} <= set(names))
         self.assertEqual([name for name in names if not name.endswith(".asm")], [])
 
     @needs(GCC)
@@ -84,7 +84,7 @@ class Floats(Folder):
             self.assertEqual(softfloat.speaks_of_floats([self.file]), wanted, text)
 
     def test_every_function(self):
-        """libgcc's own list for a machine of 32 bits without floating point: 57 of soft-fp, of which doubles.c has three, and
+        """libgcc's own list for a machine of 32 bits without floating point: 57 of soft-fp, of which eight are sfi-cc's own, and
         those of libgcc2."""
         arithmetic = [f"{name}{mode}f3" for name in ("add", "sub", "mul", "div") for mode in "sdt"]
         others = [f"{name}{mode}f2" for name in ("neg", "eq", "ge", "le", "unord") for mode in "sdt"]
@@ -93,6 +93,7 @@ class Floats(Folder):
         names = arithmetic + others + numbers + ["extendsfdf2", "extendsftf2", "extenddftf2", "truncdfsf2", "trunctfsf2",
                                                  "trunctfdf2"]
         self.assertEqual(len(names), 57)
-        self.assertEqual([name for name in names if not softfloat.SOFT_FP.fullmatch(name)], ["adddf3", "subdf3", "muldf3"])
+        self.assertEqual([name for name in names if not softfloat.SOFT_FP.fullmatch(name)], 
+                         ["adddf3", "subdf3", "muldf3", "divdf3", "floatsidf", "floatdidf", "floatunsidf", "floatundidf"])
         self.assertEqual([name for name in ("fixdfti", "extendhfsf2", "floattidf", "addxf3")
                           if softfloat.SOFT_FP.fullmatch(name)], [])

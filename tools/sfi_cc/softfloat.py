@@ -1,5 +1,5 @@
 """Floating point: the functions of GCC's libgcc that compilers call where the machine has none. They are compiled from
-GCC's sources, but for three in doubles.c, once for each compiler, and kept."""
+GCC's sources, but for eight in files beside this one, once for each compiler, and kept."""
 import glob
 import os
 import re
@@ -11,9 +11,11 @@ from kept import kept
 from sources import GCC_SOURCE, identity, unpacked
 
 PARTS = ("libgcc/soft-fp", "libgcc/config/riscv", "libgcc/libgcc2.c", "libgcc/libgcc2.h", "include/longlong.h")
-OWN = os.path.join(os.path.dirname(os.path.abspath(__file__)), "doubles.c")  # adddf3, subdf3 and muldf3, in fewer steps
+FOLDER = os.path.dirname(os.path.abspath(__file__))
+OWN = ("doubles", "double_quotients", "double_conversions")  # eight functions of doubles, in fewer steps
+OWN_HEADER = "doubles.h"
 # Of numbers of 32, 64 and 128 bits: those of arithmetic, comparisons, and from and to integers and each other.
-SOFT_FP = re.compile(r"(add|sub|mul)[st]f3|div[sdt]f3|(neg|eq|ge|le|unord)[sdt]f2|fix(uns)?[sdt]f[sd]i|float(un)?[sd]i[sdt]f|"
+SOFT_FP = re.compile(r"(add|sub|mul|div)[st]f3|(neg|eq|ge|le|unord)[sdt]f2|fix(uns)?[sdt]f[sd]i|float(un)?[sd]i[st]f|"
                      r"(extend(sfdf|sftf|dftf)|trunc(dfsf|tfsf|tfdf))2")
 LIBGCC2 = [f"{name}" for mode in "sdt" for name in (f"mul{mode}c3", f"div{mode}c3", f"powi{mode}f2")]
 CALLED = re.compile(rb"\b__\w*([sdt]f[23]|[sdt]c3|[sdt]f[sd]i|[sd]i[sdt]f)\b")  # what the assembly of floats speaks of
@@ -54,7 +56,8 @@ def jobs(tree, stubs):
             yield path, name, ["-w", *MODES[:1], *folders]
     for name in LIBGCC2:
         yield f"{tree}/libgcc/libgcc2.c", name, ["-w", *MODES, f"-DL_{name}", *folders]
-    yield OWN, "doubles", []
+    for name in OWN:
+        yield os.path.join(FOLDER, f"{name}.c"), name, []
 
 
 def compile_all(compiler, tree, folder):
@@ -80,8 +83,10 @@ def folder_of(compiler):
     """The folder of assembly that a compiler made of these functions; None where the sources aren't there."""
     if GCC_SOURCE.where() is None:
         return None
-    with open(OWN, encoding="utf-8") as file:
-        own = file.read()
-    words = [version(compiler), identity(GCC_SOURCE.where()), *LIBGCC2, SOFT_FP.pattern, *MODES, LONGLONG, own,
+    own = []
+    for name in (OWN_HEADER, *(f"{name}.c" for name in OWN)):
+        with open(os.path.join(FOLDER, name), encoding="utf-8") as file:
+            own.append(file.read())
+    words = [version(compiler), identity(GCC_SOURCE.where()), *LIBGCC2, SOFT_FP.pattern, *MODES, LONGLONG, *own,
              str(RESERVED_IN_WORDS)]
     return kept("softfloat", words, lambda folder: compile_all(compiler, unpacked(GCC_SOURCE, *PARTS), folder))
