@@ -93,7 +93,7 @@ class Floats(Folder):
         names = arithmetic + others + numbers + ["extendsfdf2", "extendsftf2", "extenddftf2", "truncdfsf2", "trunctfsf2",
                                                  "trunctfdf2"]
         self.assertEqual(len(names), 57)
-        self.assertEqual([name for name in names if not softfloat.SOFT_FP.fullmatch(name)], 
+        self.assertEqual([name for name in names if not softfloat.SOFT_FP.fullmatch(name)],
                          ["adddf3", "subdf3", "muldf3", "divdf3", "floatsidf", "floatdidf", "floatunsidf", "floatundidf"])
         self.assertEqual([name for name in ("fixdfti", "extendhfsf2", "floattidf", "addxf3")
                           if softfloat.SOFT_FP.fullmatch(name)], [])

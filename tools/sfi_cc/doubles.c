@@ -70,25 +70,28 @@ OUT_OF_LINE number special_sum(number first, number second) {
     return size >> 53 > 64 ? first : small_sum(first, second);
 }
 
-/* A difference of two numbers of almost the same size, which is exact. */
+/* A difference of two numbers of almost the same size, which is exact. Mostly, few digits are missing. */
 OUT_OF_LINE number cancelled(u64 digits, u32 sign, int exponent) {
-    u32 high = digits >> 32, upper = high ? high : (u32)digits;
-    int shift = high ? 20 : 52; /* less the place of the first digit that isn't 0 */
-    if (!digits)
-        return 0;
-    if (upper >> 16)
-        upper >>= 16, shift -= 16;
-    if (upper >> 8)
-        upper >>= 8, shift -= 8;
-    if (upper >> 4)
-        upper >>= 4, shift -= 4;
-    if (upper >> 2)
-        upper >>= 2, shift -= 2;
-    shift -= upper >> 1;
-    if (shift >= exponent)
-        shift = exponent - 1;
-    digits <<= shift;
-    return rounded(sign, exponent - shift, digits >> 32, digits, 0, 0);
+    if (RARE(!(digits >> 32))) {
+        if (!digits)
+            return 0;
+        digits <<= 21, exponent -= 21;
+    }
+    if (!(digits >> 49)) {
+        if (!(digits >> 37))
+            digits <<= 16, exponent -= 16;
+        if (!(digits >> 45))
+            digits <<= 8, exponent -= 8;
+        if (!(digits >> 49))
+            digits <<= 4, exponent -= 4;
+    }
+    if (!(digits >> 51))
+        digits <<= 2, exponent -= 2;
+    if (!(digits >> 52))
+        digits <<= 1, exponent--;
+    if (RARE(exponent < 1))
+        return far_away(sign, exponent, digits, 0, 0);
+    return rounded(sign, exponent, digits >> 32, digits, 0, 0);
 }
 
 /* What two numbers come to whose digits are those of one exponent: of equal signs, or of different ones. */
