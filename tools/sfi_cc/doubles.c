@@ -70,21 +70,19 @@ OUT_OF_LINE number special_sum(number first, number second) {
     return size >> 53 > 64 ? first : small_sum(first, second);
 }
 
-/* A difference of two numbers of almost the same size, which is exact. Mostly, few digits are missing. */
+/* A difference of two numbers of almost the same size, which is exact. */
 OUT_OF_LINE number cancelled(u64 digits, u32 sign, int exponent) {
-    if (RARE(!(digits >> 32))) {
+    if (!(digits >> 32)) {
         if (!digits)
             return 0;
         digits <<= 21, exponent -= 21;
     }
-    if (!(digits >> 49)) {
-        if (!(digits >> 37))
-            digits <<= 16, exponent -= 16;
-        if (!(digits >> 45))
-            digits <<= 8, exponent -= 8;
-        if (!(digits >> 49))
-            digits <<= 4, exponent -= 4;
-    }
+    if (!(digits >> 37))
+        digits <<= 16, exponent -= 16;
+    if (!(digits >> 45))
+        digits <<= 8, exponent -= 8;
+    if (!(digits >> 49))
+        digits <<= 4, exponent -= 4;
     if (!(digits >> 51))
         digits <<= 2, exponent -= 2;
     if (!(digits >> 52))
