@@ -30,7 +30,7 @@ static uint8_t *new_data(const struct sfi_sandbox *s) {
 }
 
 static void do_lines(const struct given *given, struct found *found) {
-    const struct sfi_sandbox *s = &sfi_sandboxes[0];
+    const struct sfi_sandbox *s = &sfi_sandboxes[SFI_SANDBOXES - 1];
     struct sfi_hart hart = {.pc = given->pc, .left = given->left};
     hart.data = new_data(s);
     memcpy(hart.x, given->x, sizeof hart.x);
@@ -76,7 +76,7 @@ static int is_far(const struct sfi_sandbox *s, const struct sfi_hart *h) {
 
 /* In how many of so many random states (left) the line at pc does something else in its function than in sfi_step. */
 static sfi_u32 differing(const struct given *given) {
-    const struct sfi_sandbox *s = &sfi_sandboxes[0];
+    const struct sfi_sandbox *s = &sfi_sandboxes[SFI_SANDBOXES - 1];
     uint8_t *const stepped_data = new_data(s), *const done_data = new_data(s);
     sfi_u32 count = 0, at;
     for (sfi_u32 k = 0; k < given->left; k++) {

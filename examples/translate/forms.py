@@ -10,6 +10,7 @@ get one mistake after another (form_mistakes.py), and the comparison has to see 
 For each of N lines of a kind N states beside the manual's machine, and many more in which the function does what sfi_step does.
 """
 import argparse
+import itertools
 import os
 import platform
 import random
@@ -35,6 +36,8 @@ INCLUDE = os.path.join(TOP, "crates/sfi_translate/include")
 HEADERS = ["sfi_native.h", "sfi_native_x86_64.h", "sfi_native_data.h"]
 CODE, CODE_SIZE, DATA, PLACE, MASK = 0x01000000, 65536, 0x01800000, 8, 0xFFFFFFFF
 DATA_SIZE, GUARDED_SIZE, ZONE = 256, 4096, 4096
+OTHER = "".join(["SANDBOX(1,16,00f00000,256,01400000,256,00f00000,0,0)\nDATA(1,0)\nFUNCTION(1,00f00000)\n",
+                 *(f"EBREAK({it:08x},4)\n" for it in range(0x00F00000, 0x00F00100, 16)), "LAST\n"])
 RESERVED = (24, 25, 26, 27)
 FREE = [number for number in range(32) if number not in RESERVED]
 GIVEN, FOUND = "<35I", "<36I"  # and the data
@@ -57,7 +60,7 @@ VECTORS = [  # of crates/rv_tests: kind, x11, x12, and x10 afterwards
 class Line:
     """A line: the instruction as fuzz/machine.py has it, and the operands as `sfi dis` lists them."""
 
-    def __init__(self, pick, kind, at, targets, size=None):
+    def __init__(self, pick, kind, at, targets, size=None, registers=None):
         rd, rs1, rs2, number = pick.choice(FREE), pick.randrange(32), pick.randrange(32), self.number_of(pick, kind)
         self.at, self.kind, self.size = at, kind, size or (4 if kind == "ecall" else pick.choice([2, 4]))
         if kind in lines.LOADS + lines.STORES:
@@ -65,8 +68,9 @@ class Line:
         elif kind == "or":
             rs2 = pick.choice([rs2, 26, 27])
         elif pick.random() < 0.45:
-            same = pick.choice([rs1, rs1, rs2])
+            same = pick.choice([rs1, rs2])
             rd = same if same in FREE else rd
+        rd, rs1, rs2 = registers or (rd, rs1, rs2)
         if kind in lines.BRANCHES or kind == "jal":
             number = pick.choice(targets) - at
         self.number = number
@@ -82,7 +86,7 @@ class Line:
             return pick.choice([0, 1, 0xFFFFF, 0x80000, pick.getrandbits(20)])
         if kind in ("slli", "srli", "srai"):
             return pick.randrange(32)
-        return pick.choice([0, -1, 2047, -2048, pick.randrange(-2048, 2048)])
+        return pick.choice([0, -1, 2047, -2048, pick.randrange(1, 64), pick.randrange(-2048, 2048)])
 
     @staticmethod
     def listed(kind, rd, rs1, rs2, number):
@@ -122,6 +126,13 @@ def made_lines(pick, count):
     return [Line(pick, kind, at, [it + 4 for it in addresses]) for kind, at in zip(kinds, addresses)]
 
 
+def made_operands(pick):
+    """Computations and accesses on registers of all classes, the same and others: x0, in memory, %ecx, of one value, %edx."""
+    registers = itertools.product((0, 5, 8, 31), *2 * [(0, 5, 6, 8, 26, 31)])
+    forms = itertools.product(lines.COMPUTATIONS + lines.IMMEDIATES + lines.LOADS + lines.STORES, registers)
+    return [Line(pick, kind, CODE + PLACE * place, [], registers=it) for place, (kind, it) in enumerate(forms)]
+
+
 def made_run(pick, count):
     """So many lines, one after another, across the end of a function. A third has no jump."""
     begin = CODE + lines.FUNCTION_MOST - 4 * (count // 2)
@@ -129,7 +140,16 @@ def made_run(pick, count):
     kinds = [pick.choice(lines.COMPUTATIONS if 3 * place < count else GOING_ON if pick.random() < 0.97 else KINDS)
              for place in range(count)]
     near = [addresses[max(0, place - 9):place + 9] if pick.random() < 0.6 else addresses for place in range(count)]
-    return [Line(pick, *it, 4) for it in zip(kinds, addresses, near)]
+    made = [Line(pick, *it, 4) for it in zip(kinds, addresses, near)]
+    for place in range(0, count // 3, 8):
+        made[place:place + 2] = masked(pick, addresses[place])
+    return made
+
+
+def masked(pick, at):
+    """A mask of an offset, and the data base set in it, or in another register."""
+    offset, address, other = pick.choice(FREE[1:]), pick.choice(FREE[1:]), pick.randrange(32)
+    return [Line(pick, "and", at, [], 4, (offset, other, 27)), Line(pick, "or", at + 4, [], 4, (address, pick.choice([offset, offset, other]), 26))]
 
 
 def text_of(made, shown=Line.alone, size=DATA_SIZE):
@@ -142,8 +162,8 @@ def text_of(made, shown=Line.alone, size=DATA_SIZE):
 
 
 def filled(text):
-    """The same with an ebreak in each unit that has no line: a table of entries has one of each."""
-    made, unit = [], CODE
+    """The same after another sandbox, with an ebreak in each unit that has no line: a table of entries has one of each."""
+    made, unit = [OTHER], CODE
     for line in text.splitlines(keepends=True):
         place = re.match(r"([A-Z_]+)\((?:0,)?([0-9a-f]{8})", line)
         at = CODE + CODE_SIZE if line == "LAST\n" else int(place[2], 16) if place else unit
@@ -254,13 +274,13 @@ def landings():
     it, to a line that is no entry, into another function, and out of the code."""
     made = [Line(random.Random(0), kind, CODE + PLACE * number, [CODE + 4], 2 * (2 - number)) for number, kind in enumerate(("jalr", "addi"))]
     made[0].operands, made[1].operands, tried = ["0", "0", "11"], ["10", "10", "1"], []
-    for to, how, steps, left in ((CODE + 8, 1, 2, 99), (CODE + 8, 1, 1, LEAST_LEFT), (CODE + 10, 1, 1, 99), (CODE + 4, 1, 1, 99),
+    for to, how, steps, left in ((CODE + 8, 1, 2, 99), (CODE + 9, 1, 2, 99), (CODE + 8, 1, 1, LEAST_LEFT), (CODE + 10, 1, 1, 99), (CODE + 4, 1, 1, 99),
                                  (CODE + lines.FUNCTION_MOST + 8, 0, 1, 99), (0, 0, 1, 99), (2, 1, 1, 99)):
         x = [0] * 32
         x[24:28], x[11] = part().reserved(), to
         after = x[:10] + [steps - 1] + x[11:]
         tried.append((made[0], packed(FUNCTION_WAY, CODE, left, x, bytes(DATA_SIZE)),
-                      (how, 0, to + 2 * (steps - 1), left - steps, *after, bytes(DATA_SIZE))))
+                      (how, 0, (to & ~1) + 2 * (steps - 1), left - steps, *after, bytes(DATA_SIZE))))
     return made, tried
 
 
@@ -382,6 +402,8 @@ def main():
         tally, sets = Tally(folder, headers), sets_of(pick, given)
         tally.try_all(PORTABLE, sets, ("-O1", "-DSFI_PORTABLE"), form_mistakes.NATIVE)
         if has_assembly():
+            operands = made_operands(pick)
+            sets.append((text_of(operands), list(cases(pick, operands, 2))))
             in_units = [(filled(text), in_assembly(cases_of)) for text, cases_of in sets]
             tally.try_all(ASSEMBLY, in_units, ("-O1",), form_mistakes.X86_64)
             tally.try_all(GUARDED, guarded_sets(pick, given), ("-O1", *GUARDED[0][2:]), form_mistakes.GUARDED)

@@ -5,11 +5,11 @@
        ./image --rounds N --quantum Q --input HEX
 
    `sfi translate --whole` prints both in one, made by tools/whole_translation.py. */
-#ifndef SFI_TESTED
+#if !defined(SFI_TESTED) && !defined(SFI_GUARDED)
 #define SFI_GUARDED
-#ifndef _GNU_SOURCE
-#define _GNU_SOURCE
 #endif
+#if defined(SFI_GUARDED) && !defined(_GNU_SOURCE)
+#define _GNU_SOURCE
 #endif
 #include <stdio.h>
 #include <stdlib.h>
