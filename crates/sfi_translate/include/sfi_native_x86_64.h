@@ -99,9 +99,9 @@
 #define SFI_SHIFT_4 "2"
 #define SFI_SIGNED_32(number) "((" number "+0x80000000)&0xffffffff)-0x80000000"
 #define SFI_FRAME(place) place "(%rsp)"
-#define SFI_KEPT_ECX SFI_FRAME("4*8")  /* places of registers that the machine's have: %ecx, while it is in use, */
-#define SFI_KEPT_EDX SFI_FRAME("4*31")  /* %edx, */
-#define SFI_FACTOR SFI_FRAME("4*14")  /* and a number of 64 bits */
+#define SFI_KEPT_ECX SFI_FRAME("4*8")  /* x8 and x31, while something else is in their registers, */
+#define SFI_KEPT_EDX SFI_FRAME("4*31")
+#define SFI_FACTOR SFI_FRAME("4*14")  /* and a factor of 64 bits, in the free places of x14 and x15 */
 #define SFI_UPPER_BIT SFI_FRAME("128")  /* the upper bit of the steps left, which %r14d doesn't count with */
 #define SFI_HART SFI_FRAME("136")
 #define SFI_ENTRIES SFI_FRAME("144")
@@ -120,8 +120,8 @@ __asm__(".pushsection .text.sfi_native,\"ax\"\n .set .Lsfi_entry_count,0; .set .
     " .pushsection .rodata.sfi_entries,\"a\"; .balign 16\n.Lsfi_entries:\n .popsection\n"
     " .pushsection .rodata.sfi_fixups,\"a\"; .balign 8\nsfi_fixups:\n .popsection\n"
     ".macro sfi_move from,to\n .ifnc \\from,\\to; mov \\from,\\to; .endif\n.endm\n"
-/* A line (`IsLine`): its label and number, its unit's entry (where the code is, from the first entry, and the number), and
-   what leaves it to sfi_step (`Slow`). */
+/* A line (`IsLine`): its label and number, its unit's entry (how far its code is from there, and its number and the least steps
+   that it wants left), and what leaves it to sfi_step (`Slow`). */
     ".macro sfi_line at\n.Lsfi_at_\\at: sfi_counted \\at\n.endm\n"
     ".macro sfi_counted at\n .set .Lsfi_number_\\at,.Lsfi_number\n"
     " .if 0x\\at%.Lsfi_unit==0; .pushsection .rodata.sfi_entries\n"
