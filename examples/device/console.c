@@ -83,6 +83,8 @@ void host_fault(uint32_t cause, uint32_t pc) {
 
 static void print_state(const struct sandbox *sandbox) {
     switch (sandbox->state) {
+    case EMPTY:
+        break;
     case READY:
         print("ready");
         break;

@@ -51,12 +51,14 @@ struct frame {
     uint32_t called;                        /* and at a call without a trap */
 };
 
-enum state { READY, EXITED, TRAPPED };
+/* EMPTY: no code is there for it. All else of it is 0 then, so that it has no region, and can't be run or entered. */
+enum state { EMPTY, READY, EXITED, TRAPPED };
 
 struct letter {
     uint32_t sender, word;
 };
 
+/* Its part tells of the code that is in its place. Who puts other code there empties it before, as `empty` does. */
 struct sandbox {
     struct part part;
     struct frame frame;
@@ -100,10 +102,16 @@ bool move_sandbox(uint8_t *image, uint32_t length, uint32_t number, uint32_t cod
 
 /* image.c */
 uint32_t little_endian(const uint8_t *bytes);
+bool are_same(const uint8_t *one, const uint8_t *other, uint32_t length);
 /* Has the image judged, and reads it, with what run.sh asks for and the input, from these addresses. */
 void read_image(struct world *world, uint32_t arguments, uint32_t image, uint32_t input);
-/* Makes a sandbox that has stopped ready at pc, the first address of one of its bundles, or words, with
-   arguments in a0 to a7, and in ra its first gate of service 0. Its data stay. False, and nothing is changed, where it is ready or pc isn't such. */
+/* Leaves nothing of a sandbox. */
+void empty(struct sandbox *sandbox);
+/* Makes a sandbox whose code and data are in their places ready at its start. */
+void enter_start(struct sandbox *sandbox, const struct part *part);
+/* Makes a sandbox that has stopped ready at pc, the first address of one of its bundles, or words, with arguments in a0
+   to a7, in ra its first gate of service 0, and in x2 room above the stack as its image asks for. Its data stay. False,
+   and nothing is changed, where it is ready or empty, pc isn't such, or its code isn't in place any more. */
 bool enter_again(struct sandbox *sandbox, uint32_t pc, const uint32_t arguments[ENTRY_ARGUMENTS]);
 
 /* paging.c: all of this before there is a page table */
@@ -171,7 +179,9 @@ void stop_by_trap(struct sandbox *sandbox, uint32_t cause);
 uint32_t enter(struct frame *frame);
 extern const uint32_t switch_instructions;      /* how many of its own lie between the two counts */
 
-/* place.c, of mcu */
+/* place.c, of mcu: whether memory holds the code that was judged, where code may be. On `virt` nobody can write code
+   once `load` is over */
+__attribute__((weak)) bool is_code_in_place(const struct part *part);
 void place(uint32_t number, const struct part *part);   /* refuses a sandbox for which there is no place */
 void close_guards(uint32_t number, const struct part *part);    /* write_protection then closes them */
 

@@ -22,6 +22,35 @@ try_enter() { # where the code of sandbox 0 is
         "$(run --rounds 2 --enter "0:$code:" <"$room/image.hex"; echo "status $?")"
 }
 
+# A function that exits with its stack pointer, and is the start, too. Its first data bytes end in a table of names.
+room_source() { # the table's import: a number of 4 bytes, a name's length, the name; the table's last 4 bytes
+    printf '.sandbox 256\n.gate exit 0\n mv a0, sp\n call exit\n.data\n .byte %s\n .byte 1, 0, 0, 0\n' "${1// /, }"
+    printf ' .byte 0, 0, 0, 0\n .byte 10, 0, 0, 0\n .byte %s\n' "${2// /, }"
+}
+
+# A function has the room above its stack that its image asks for, and the start has none.
+try_room() { # where the code of sandbox 0 is
+    local what wanted bytes end top format room_name="46 114 111 111 109" magic="83 70 73 78"
+    while IFS=: read -r what wanted bytes end; do
+        room_source "$bytes" "$end" >"$room/room.s"
+        for format in $formats; do
+            build "$room/room.s" "$format" >"$room/image.hex"
+            top=$(run <"$room/image.hex" | sed 's/.* exit=\([0-9]*\) .*/\1/')
+            report "room above the stack: $what, format $format, at the start" 240 "$((top % 256))"
+            report "room above the stack: $what, format $format" "sandbox=0 exit=$((top - wanted)) out=" \
+                "$(run --enter "0:$(printf %x $((16#$1 + 16))):" <"$room/image.hex")"
+        done
+    done <<END
+64 bytes:64:64 0 0 0 5 $room_name:$magic
+all but 16 bytes:240:240 0 0 0 5 $room_name:$magic
+more than there is:0:241 0 0 0 5 $room_name:$magic
+2^32 - 1 bytes:0:255 255 255 255 5 $room_name:$magic
+another name:0:64 0 0 0 5 46 114 111 111 110:$magic
+a longer name:0:64 0 0 0 6 $room_name 115:$magic
+no table:0:64 0 0 0 5 $room_name:83 70 73 79
+END
+}
+
 try_services() {
     build "$cases/counter.s" 1 >"$room/image.hex"
     report "services of a vendor's own" "sandbox=0 exit=42 out=" \
@@ -60,6 +89,7 @@ try_pcs() { # image
 
 try_vendor() { # where the code of sandbox 0 is, the interrupt's number
     try_enter "$1"
+    try_room "$1"
     try_services
     try_interrupts "$2" "$1"
     build "$cases/outside.s" 1 >"$room/image.hex"

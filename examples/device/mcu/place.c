@@ -15,15 +15,11 @@ static bool data_is_free(const struct part *part) {
 }
 
 /* Sandboxes run the bytes that flash has, and the image's are those that were checked. */
-static bool code_is_in_place(const struct part *part) {
-    const uint8_t *placed = (const uint8_t *)CODE_AS_DATA(part->code_base);
+bool is_code_in_place(const struct part *part) {
     if (part->code_base < FLASH_CODE || part->code_size > FLASH_ARGUMENTS - FLASH_CODE ||
         part->code_base > FLASH_ARGUMENTS - part->code_size)
         return false;
-    for (uint32_t k = 0; k < part->code_size; k++)
-        if (placed[k] != part->code[k])
-            return false;
-    return true;
+    return are_same((const uint8_t *)CODE_AS_DATA(part->code_base), part->code, part->code_size);
 }
 
 /* Locked entries hold in M-mode, where host and sandboxes run, and the first entry that fits decides:
@@ -40,7 +36,7 @@ void close_guards(uint32_t number, const struct part *part) {
 void place(uint32_t number, const struct part *part) {
     if (!data_is_free(part))
         refuse_sandbox(number, "there is no memory for its data and guard zones");
-    if (!code_is_in_place(part))
+    if (!is_code_in_place(part))
         refuse_sandbox(number, "its code isn't in the flash");
     memset((uint8_t *)part->data_base, 0, part->data_size);
     memcpy((uint8_t *)part->data_base, part->first, part->first_count);

@@ -62,20 +62,32 @@ def verdict_of(image):
 
 
 class Device:
-    """A chip that runs the host. Each command is answered by a line; others tell of slots that are rolled back."""
+    """A chip that runs the host. Each command is answered by a line; others tell of slots that are rolled back. MEMORY names
+    a file that keeps the memory of `virt` when the power is cut."""
 
-    def __init__(self, out, chip="virt"):
+    def __init__(self, out, chip="virt", memory=None):
         made = subprocess.run(["make", "-s", "-C", str(HERE), f"CHIP={chip}", f"OUT={out}", f"CHECKER={CHECKER}"],
                               stdout=subprocess.PIPE, stderr=subprocess.STDOUT, check=False)
         if made.returncode:
             raise RuntimeError(made.stdout.decode())
-        command = ["qemu-system-riscv32", "-M", CHIPS[chip], "-bios", "none", "-display", "none", "-monitor", "none",
-                   "-serial", "stdio", "-kernel", f"{out}/checked"]
-        self.qemu = subprocess.Popen(command, stdin=subprocess.PIPE, stdout=subprocess.PIPE, bufsize=0)
+        self.command = ["qemu-system-riscv32", "-M", CHIPS[chip], "-bios", "none", "-display", "none", "-monitor", "none",
+                        "-serial", "stdio", "-kernel", f"{out}/checked"]
+        if memory:
+            self.command += ["-machine", "memory-backend=kept", "-object",
+                             f"memory-backend-file,id=kept,size=128M,mem-path={memory},share=on"]
+        self.power_on()
+
+    def power_on(self):
+        self.qemu = subprocess.Popen(self.command, stdin=subprocess.PIPE, stdout=subprocess.PIPE, bufsize=0)
         self.lines = queue.Queue()
         self.reader = threading.Thread(target=self.read, daemon=True)
         self.reader.start()
         self.wait_for("slots")
+
+    def cut_power(self):
+        """At once, whatever the chip does; then it begins anew."""
+        self.close()
+        self.power_on()
 
     def read(self):
         for line in iter(self.qemu.stdout.readline, b""):
@@ -99,13 +111,14 @@ class Device:
             if text in line:
                 return line
 
-    def ask(self, *words, seconds=120):
-        """The answer to a command, or queue.Empty; lines that tell of a rolled back slot may come before it."""
+    def ask(self, *words, seconds=120, told=lambda line: None):
+        """The answer to a command, or queue.Empty. Lines may come before it that tell of a rolled back slot: `told` gets each."""
         self.qemu.stdin.write(" ".join(str(word) for word in words).encode() + b"\n")
         while True:
             line = self.next_line(seconds)
             if ": version=" not in line or not (" no report: " in line or " older version: " in line):
                 return line
+            told(line)
 
     def update(self, slot, image, piece=PIECE):
         """The line after the last piece."""

@@ -19,8 +19,8 @@ enum outcome serve(struct world *all, struct call *call) {
     case PUT: call->a0 = put(&all->sandboxes[call->caller], call); break;
     case YIELD: return YIELDED;
     case REPORT:
-        slots[call->caller].trial_turns = 0;
-        call->a0 = slots[call->caller].versions[slots[call->caller].current].number;
+        current_of(call->caller)->trial_turns = 0;
+        call->a0 = current_of(call->caller)->number;
         break;
     default: call->a0 = FAILED;
     }

@@ -5,6 +5,7 @@
        start SLOT              the current version anew
        kill SLOT
        call SLOT PC A0 A1      a function of a plug-in that has stopped; its data stay
+       remove SLOT             its versions; another slot's plug-in may then have their place
        show SLOT
        sums                    of what no plug-in may change: the host, code in its place, each slot's data
        watchdog                how often it was fed between pieces, and the most instructions between two feeds
@@ -69,6 +70,8 @@ static void item(const char *what, uint32_t number) {
 }
 
 static void print_state(const struct sandbox *sandbox) {
+    if (sandbox->state == EMPTY)
+        return print(" empty");
     if (sandbox->state == READY)
         return print(" ready");
     if (sandbox->state == EXITED)
@@ -80,13 +83,12 @@ static void print_state(const struct sandbox *sandbox) {
 }
 
 void print_slot(uint32_t number, const char *what) {
-    const struct slot *slot = &slots[number];
     const struct sandbox *sandbox = &world.sandboxes[number];
     item("slot=", number);
     print(" ");
     print(what);
-    item(": version=", slot->versions[slot->current].number);
-    if (slot->trial_turns > 0)
+    item(": version=", current_of(number)->number);
+    if (current_of(number)->trial_turns > 0)
         print(" on trial");
     print_state(sandbox);
     item(" put=", sandbox->output_length);
@@ -108,7 +110,7 @@ static void answer(bool is_done, uint32_t number, const char *what) {
 static void await_update(uint32_t number, bool moves) {
     uint32_t length;
     if (number >= SLOTS || !take_number(&length) || !is_over() || length == 0 || length > IMAGE_MOST ||
-        slots[number].trial_turns > 0)
+        current_of(number)->trial_turns > 0)
         return print("no\n");
     drop_next(number);
     update.slot = number;
@@ -168,8 +170,7 @@ static void take_piece(void) {
 static void call_function(void) {
     uint32_t number, pc, arguments[ENTRY_ARGUMENTS] = {0};
     bool is_right = take_slot(&number) && take_number(&pc) && take_number(&arguments[0]) &&
-                    take_number(&arguments[1]) && is_over() && slots[number].trial_turns == 0 &&
-                    enter_again(&world.sandboxes[number], pc, arguments);
+                    take_number(&arguments[1]) && is_over() && call_slot(number, pc, arguments);
     answer(is_right, number, "called");
 }
 
@@ -180,17 +181,16 @@ static uint32_t sum_of(const uint8_t *bytes, uint32_t length) {
     return sum;
 }
 
-/* The code of each plug-in is compared with the image that was judged. */
+/* The code of each plug-in is compared with the image that was judged: `none` where a slot is empty. */
 static void print_sums(void) {
     extern const uint8_t start[], text_end[];
     print("host=");
     print_hex(sum_of(start, (uint32_t)text_end - (uint32_t)start), 8);
     for (uint32_t number = 0; number < SLOTS; number++) {
-        const struct part *part = &world.sandboxes[number].part;
-        bool is_as_judged = sum_of((const uint8_t *)CODE_AS_DATA(part->code_base), part->code_size) ==
-                            sum_of(part->code, part->code_size);
-        print(is_as_judged ? " code data=" : " changed data=");
-        print_hex(sum_of((const uint8_t *)part->data_base, part->data_size), 8);
+        const struct sandbox *sandbox = &world.sandboxes[number];
+        print(sandbox->state == EMPTY ? " none" : is_code_in_place(&sandbox->part) ? " code" : " changed");
+        print(" data=");
+        print_hex(sum_of(data_of(number), SLOT_DATA), 8);
     }
     print("\n");
 }
@@ -211,12 +211,14 @@ static void obey(void) {
     else if (takes("piece"))
         take_piece();
     else if (takes("start"))
-        answer(take_slot(&number) && is_over() && slots[number].trial_turns == 0 && start_slot(number), number,
+        answer(take_slot(&number) && is_over() && current_of(number)->trial_turns == 0 && start_slot(number), number,
                "started");
     else if (takes("kill"))
         answer(take_slot(&number) && is_over() && kill_slot(number), number, "killed");
     else if (takes("call"))
         call_function();
+    else if (takes("remove"))
+        answer(take_slot(&number) && is_over() && remove_slot(number), number, "removed");
     else if (takes("show"))
         answer(take_slot(&number) && is_over(), number, "is");
     else if (takes("sums"))

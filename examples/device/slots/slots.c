@@ -3,7 +3,7 @@
    before it is started again. */
 #include "slots.h"
 
-static const struct arguments arguments = {.turn_ticks = TURN_TICKS / 100};
+static const struct arguments asked = {.turn_ticks = TURN_TICKS / 100};
 struct world world;
 struct slot slots[SLOTS];
 
@@ -36,6 +36,10 @@ static uint32_t data_at(uint32_t number) {
     return CHIP_RAM + number * (SLOT_DATA + 2 * GUARD_ZONE);
 }
 
+uint8_t *data_of(uint32_t number) {
+    return (uint8_t *)data_at(number);
+}
+
 /* Of a plug-in that is moved. The first of these places are left to images that name theirs themselves. */
 static uint32_t code_at(uint32_t number) {
     return FLASH_CODE + (FLASH_ARGUMENTS - FLASH_CODE) / SLOT_CODE / 2 * SLOT_CODE + number * SLOT_CODE;
@@ -45,16 +49,27 @@ static uint8_t *bytes_of(uint32_t number, uint32_t version) {
     return (uint8_t *)(FLASH_IMAGE + (number * VERSIONS + version) * IMAGE_MOST);
 }
 
-static uint32_t next_of(const struct slot *slot) {
-    return (slot->current + 1) % VERSIONS;
+static uint32_t next_of(uint32_t number) {
+    return (slots[number].current + 1) % VERSIONS;
+}
+
+struct version *current_of(uint32_t number) {
+    return &slots[number].versions[slots[number].current];
 }
 
 uint8_t *update_memory(uint32_t number) {
-    return bytes_of(number, next_of(&slots[number]));
+    return bytes_of(number, next_of(number));
+}
+
+/* After this its place is anyone's: nothing is left of it that could be run, started or entered. */
+static void drop(uint32_t number, uint32_t version) {
+    if (version == slots[number].current)
+        empty(&world.sandboxes[number]);
+    slots[number].versions[version] = (struct version){0};
 }
 
 void drop_next(uint32_t number) {
-    slots[number].versions[next_of(&slots[number])].number = 0;
+    drop(number, next_of(number));
 }
 
 static bool is_its_place(uint32_t number, const struct part *part) {
@@ -75,16 +90,17 @@ static bool is_apart(uint32_t number, const struct part *part) {
 
 /* The locked entries hold until the next reset, so each slot's data have one place. */
 void start_slots(void) {
-    world.arguments = &arguments;
+    world.arguments = &asked;
     world.count = SLOTS;
     for (uint32_t number = 0; number < SLOTS; number++) {
         struct part *part = &world.sandboxes[number].part;
         *part = (struct part){.data_base = data_at(number), .data_size = SLOT_DATA};
-        world.sandboxes[number].state = EXITED;
         close_guards(number, part);
     }
     write_protection();
     test_guards(&world);
+    for (uint32_t number = 0; number < SLOTS; number++)
+        empty(&world.sandboxes[number]);
 }
 
 /* ---- Starting and stopping */
@@ -100,18 +116,15 @@ static void place_code(const struct part *part) {
 }
 
 bool start_slot(uint32_t number) {
-    static const uint32_t none[ENTRY_ARGUMENTS];
-    struct sandbox *sandbox = &world.sandboxes[number];
-    const struct version *version = &slots[number].versions[slots[number].current];
+    const struct version *version = current_of(number);
     if (version->number == 0)
         return false;
-    memset(sandbox, 0, sizeof *sandbox);
-    sandbox->state = EXITED; /* has no turn until all of it is placed */
+    empty(&world.sandboxes[number]); /* has no turn until all of it is placed */
     place_code(&version->part);
-    sandbox->part = version->part;
-    memset((uint8_t *)data_at(number), 0, SLOT_DATA);
-    memcpy((uint8_t *)data_at(number), version->part.first, version->part.first_count);
-    return enter_again(sandbox, version->part.start, none);
+    memset(data_of(number), 0, SLOT_DATA);
+    memcpy(data_of(number), version->part.first, version->part.first_count);
+    enter_start(&world.sandboxes[number], &version->part);
+    return true;
 }
 
 bool kill_slot(uint32_t number) {
@@ -124,23 +137,35 @@ bool kill_slot(uint32_t number) {
     return true;
 }
 
+bool call_slot(uint32_t number, uint32_t pc, const uint32_t arguments[ENTRY_ARGUMENTS]) {
+    return current_of(number)->trial_turns == 0 && enter_again(&world.sandboxes[number], pc, arguments);
+}
+
+bool remove_slot(uint32_t number) {
+    if (current_of(number)->number == 0 || current_of(number)->trial_turns > 0)
+        return false;
+    for (uint32_t version = 0; version < VERSIONS; version++)
+        drop(number, version);
+    return true;
+}
+
 static void roll_back(uint32_t number) {
-    struct slot *slot = &slots[number];
     kill_slot(number);
     print_slot(number, "no report");
-    slot->trial_turns = 0;
-    slot->versions[slot->current].number = 0;
-    slot->current = next_of(slot);
+    drop(number, slots[number].current);
+    slots[number].current = next_of(number);
     if (start_slot(number))
         print_slot(number, "older version");
 }
 
 static void run_slot(uint32_t number) {
-    struct slot *slot = &slots[number];
-    bool is_ready = world.sandboxes[number].state == READY;
-    if (is_ready)
+    const struct sandbox *sandbox = &world.sandboxes[number];
+    struct version *version = current_of(number);
+    if (sandbox->state == EMPTY) /* it has no version, or that is being placed */
+        return;
+    if (sandbox->state == READY)
         turn(&world, number);
-    if (slot->trial_turns > 0 && (world.sandboxes[number].state != READY || --slot->trial_turns == 0))
+    if (version->trial_turns > 0 && (sandbox->state != READY || --version->trial_turns == 0))
         roll_back(number);
 }
 
@@ -160,7 +185,7 @@ void between_pieces(void) {
 
 uint32_t free_slot(void) {
     uint32_t number = 0;
-    while (number < SLOTS && slots[number].versions[slots[number].current].number != 0)
+    while (number < SLOTS && current_of(number)->number != 0)
         number++;
     return number;
 }
@@ -172,23 +197,21 @@ static bool move_to_slot(uint32_t number, uint32_t length, struct part *part) {
 }
 
 enum update update_slot(uint32_t number, uint32_t length, bool moves, uint32_t *status, struct sfi_verdict *verdict) {
-    struct slot *slot = &slots[number];
     const uint8_t *image = update_memory(number);
-    struct version *next = &slot->versions[next_of(slot)];
+    struct version next = {.trial_turns = TRIAL_TURNS};
     struct part further;
     *status = check_image(image, length, verdict);
     if (*status != SFI_ACCEPTED)
         return NOT_ACCEPTED;
-    if (!tell_part(image, length, 0, &next->part) || tell_part(image, length, 1, &further))
+    if (!tell_part(image, length, 0, &next.part) || tell_part(image, length, 1, &further))
         return NOT_ONE_PLUGIN;
-    if ((moves && !move_to_slot(number, length, &next->part)) || !is_its_place(number, &next->part))
+    if ((moves && !move_to_slot(number, length, &next.part)) || !is_its_place(number, &next.part))
         return NOT_ITS_PLACE;
-    if (!is_apart(number, &next->part))
+    if (!is_apart(number, &next.part))
         return NOT_APART;
-    kill_slot(number);
-    next->number = ++slot->updates;
-    slot->current = next_of(slot);
+    next.number = ++slots[number].updates;
+    slots[number].current = next_of(number);
+    *current_of(number) = next;
     start_slot(number);
-    slot->trial_turns = TRIAL_TURNS;
     return STARTED;
 }

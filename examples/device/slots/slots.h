@@ -18,16 +18,18 @@ enum {
     PLACED_AT_ONCE = 4096       /* bytes of code that are copied before the neighbours have a turn */
 };
 
+/* All that the host keeps of a version beside its image; what runs of it is sandbox N of the world. Where there is no
+   version all of this is 0: `drop` of slots.c makes it so, and empties the sandbox. */
 struct version {
-    uint32_t number;            /* counted from 1 in each slot; 0 where there is none that can be started */
-    struct part part;
+    uint32_t number;            /* counted from 1 in each slot */
+    uint32_t trial_turns;       /* in which it has to report; 0 where it has */
+    struct part part;           /* what the checker tells of it */
 };
 
 struct slot {
     struct version versions[VERSIONS];
     uint32_t current;           /* the version in its place */
     uint32_t updates;           /* how many were accepted */
-    uint32_t trial_turns;       /* in which the current version has to report; 0 where it has */
 };
 
 /* What came of an update: the image's bytes are in the slot's memory for it. */
@@ -42,8 +44,10 @@ enum update {
 /* slots.c */
 extern struct world world;      /* sandbox N is that of slot N */
 extern struct slot slots[SLOTS];
+struct version *current_of(uint32_t number);
 void start_slots(void);         /* closes the guard zones of all of them */
 void run_slots(void);           /* one turn for each plug-in that is ready */
+uint8_t *data_of(uint32_t number);                      /* SLOT_DATA bytes: where its plug-in's data are */
 uint8_t *update_memory(uint32_t number);                /* IMAGE_MOST bytes, for the slot's next update */
 void drop_next(uint32_t number);                        /* before these are written */
 uint32_t free_slot(void);                               /* the first that has no version; SLOTS where each has one */
@@ -51,6 +55,9 @@ uint32_t free_slot(void);                               /* the first that has no
 enum update update_slot(uint32_t number, uint32_t length, bool moves, uint32_t *status, struct sfi_verdict *verdict);
 bool start_slot(uint32_t number);                       /* the current version from its start, with new data */
 bool kill_slot(uint32_t number);                        /* false where it isn't ready */
+/* Enters the current version, which has stopped and isn't on trial, as enter_again does */
+bool call_slot(uint32_t number, uint32_t pc, const uint32_t arguments[ENTRY_ARGUMENTS]);
+bool remove_slot(uint32_t number);                      /* drops its versions; false where it has none, or one on trial */
 void feed_watchdog(void);
 extern uint32_t longest_unfed;                          /* instructions between two feeds */
 extern uint32_t fed_between_pieces;                     /* how often, of images that were judged or placed */

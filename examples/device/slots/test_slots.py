@@ -99,8 +99,20 @@ class Slots(OnDevice):
     def test_no_older_version(self):
         self.device.update(3, image_of(SILENT, "1", place_of(3)))
         self.assertRegex(self.device.next_line(), "^slot=3 no report: version=1 trap=Killed")
-        self.assertRegex(self.device.ask("show", 3), "^slot=3 is: version=0 trap=Killed")
-        self.assertEqual(self.device.ask("start", 3), "no")
+        self.assertEqual(self.device.ask("show", 3), "slot=3 is: version=0 empty put=0")
+        for command in ("start 3", "kill 3", f"call 3 {place_of(3)[0]:x} 0 0", "remove 3"):
+            self.assertEqual(self.device.ask(command), "no", command)
+
+    def test_removed(self):
+        """Both versions are gone, and their place is another slot's."""
+        for _ in range(2):
+            self.start(0, PLUGIN, "1", "exit=[0-9]+")
+        image = image_of(PLUGIN, "2", (place_of(0)[0], place_of(1)[1]))
+        self.assertEqual(self.device.update(1, image), "slot=1 stays: not apart from another slot")
+        self.assertEqual(self.device.ask("remove", 0), "slot=0 removed: version=0 empty put=0")
+        for command in ("start 0", "remove 0", f"call 0 {place_of(0)[0]:x} 0 0"):
+            self.assertEqual(self.device.ask(command), "no", command)
+        self.assertRegex(self.device.update(1, image), "^slot=1 started: version=1 ")
 
     def test_updates_on_trial(self):
         """While a version is on trial, the older one is kept: no update may take its memory."""
@@ -269,9 +281,10 @@ class Attacks(OnDevice):
         self.sums = self.kept_sums()
 
     def kept_sums(self):
-        """The host's, and of slots 2 and 3; that each slot's code is as it was judged."""
+        """The host's, and of slots 2 and 3; that each slot's code is as it was judged. The attacker's may have been dropped."""
         words = self.device.ask("sums").split()
-        self.assertEqual(words[1::2], ["code"] * SLOTS)
+        self.assertIn(words[3], ("code", "none"))
+        self.assertEqual([words[1], *words[5::2]], ["code"] * (SLOTS - 1))
         return words[0], words[6], words[8]
 
     def attacked(self, what):
@@ -369,7 +382,7 @@ class Attacks(OnDevice):
                 ["piece " + "0" * 9000], ["x" * 530], [""], ["update"], ["call 1 80000000 0 0"],
                 ["call 1 80120001 0 0"],
                 ["call 1 80130000 0 0"], ["call 0 80110000 0 0"], ["call 9 80110000 0 0"], ["call 1 80120000 0 "],
-                ["kill 1"], ["kill 5"], ["start 7"], ["show 4"], ["show -1"], ["\0"], ["show 0\0"], ["\xff" * 40]]
+                ["kill 1"], ["kill 5"], ["start 7"], ["remove 4"], ["remove 1 0"], ["show 4"], ["show -1"], ["\0"], ["show 0\0"], ["\xff" * 40]]
         for row in rows:
             for line in row:
                 answer = self.device.ask(line)
