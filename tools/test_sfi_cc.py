@@ -5,7 +5,7 @@ import shutil
 import struct
 import subprocess
 
-from testing import FORMATS, GCC, SFI, SFI_CC, Folder, needs, needs_program
+from testing import COMPILERS, FORMATS, GCC, SFI, SFI_CC, Folder, needs, needs_program
 from services import GATES  # which testing finds
 
 HELLO = '#include "gates.h"\n\nint main(void) {\n    put("Hi", 2);\n    return 105;\n}\n'
@@ -154,7 +154,7 @@ cp {self.folder}/main.asm "$2"
     def test_names(self):
         """The table at the image's end, as docs/IMAGE.md has it; a program of exports needs no main."""
         self.write("main.asm", "\t.text\n\t.globl\tadd\nadd:\n\tadd\ta0,a0,a1\n\tret\n\t.bss\n\t.globl\troom\nroom:\n\t.zero\t8\n")
-        words = ["--export", "add", "--export", "room", "--import", "log_it", "--gate", "log_it=2", "--api", "7"]
+        words = ["--export", "add,room", "--import", "log_it", "--gate", "log_it=2", "--api", "7"]
         for image_format in FORMATS:
             at = self.listed("--format", image_format, *words)
             entries = [struct.pack("<IB", at[name], len(name)) + name.encode() for name in ("add", "room", "log_it")]
@@ -165,8 +165,59 @@ cp {self.folder}/main.asm "$2"
             self.assertEqual(self.made("--format", image_format, "-o", self.path("as.image"), *words), (0, "", []))
             with open(self.path("as.image"), "rb") as file:
                 self.assertEqual(file.read(), image)
+        self.assertEqual(self.made("--export", "add", "--export", "room", *words[2:]), self.made(*words))
         self.assertRegex(" ".join(self.made("--export", "none")[2]), "undefined reference to `none'.*ld failed, in status 1$")
         self.assertRegex(" ".join(self.made()[2]), "undefined symbol `main'.*ld failed, in status 1$")
+
+    def test_room(self):
+        """A base above an object, as gcc has it: the last import says how far. Without names and gates there is no table."""
+        text = "\t.text\n\t.globl\tmain\nmain:\n\tli\ta5,{base}\n\tadd\ta5,a5,sp\n\tlw\ta0,{offset}(a5)\n\tret\n"
+        for offset, room in ((-100, 128), (-2048, 2304), (4, 0)):
+            self.write("main.asm", text.format(base=-offset, offset=offset))
+            claim = struct.pack("<IB", room, 5) + b".room" if room else b""
+            for words, name, exports in ((["--export", "main"], b"\x04main", 9), (["--import", "it"], b"\x02it", 0), (["--gate", "it=3"], b"", 0)):
+                image = bytes.fromhex(self.made(*words)[1])
+                imports = len(claim) + (len(name) + 4 if name and not exports else 0)
+                table = name + claim + struct.pack("<3I", 0, exports, imports) + b"SFIN" if name or room else b""
+                self.assertEqual(image[len(image) - len(table):], table)
+                self.assertEqual(b"SFIN" in image, bool(table))
+            self.assertNotIn(b"SFIN", bytes.fromhex(self.made()[1]))
+
+    def test_marks(self):
+        """What SFI_EXPORT and SFI_IMPORT become in assembly: names, also of an archive; a gate that nothing calls isn't there."""
+        self.write("main.asm", "\t.globl\tadd\n\t.protected\tadd\nadd:\n\ttail\tprint\n\t.weak\tprint\n\t.protected\tprint\n"
+                               "\t.weak\tidle\n\t.protected\tidle\n\t.protected\telsewhere\n")
+        self.assertEqual(self.made("--export", "add", "--import", "print"), self.made())
+        wanted = struct.pack("<3I", 0, 8, 10) + b"SFIN"
+        at = self.listed()
+        self.assertNotIn("idle", at)
+        entries = struct.pack("<IB", at["add"], 3) + b"add" + struct.pack("<IB", at["print"], 5) + b"print"
+        for words in ([], ["--format", "words"]):
+            image = bytes.fromhex(self.made(*words)[1])
+            self.assertTrue(image.endswith(wanted))
+        self.assertIn(entries, bytes.fromhex(self.made()[1]))
+        self.assertIn(struct.pack("<2I", at["print"], 3), bytes.fromhex(self.made()[1]))
+        self.assertIn(struct.pack("<2I", at["print"], 2), bytes.fromhex(self.made("--gate", "print=2")[1]))
+        self.assertEqual(self.call("--cc", self.compiler, "-c", "-o", self.path("add.o"), self.file), (0, "", []))
+        subprocess.run([f"{BINUTILS}ar", "rcs", self.path("libadd.a"), self.path("add.o")], check=True)
+        program, main = self.path("program"), self.write("main.s", ASSEMBLY)
+        for words in (["add.o"], ["libadd.a"], ["-ladd", f"-L{self.folder}"]):
+            words = [self.path(word) if "." in word and word[0] != "-" else word for word in words]
+            self.assertEqual(self.call("--program", program, *words, main, "-o", self.path("added.image"))[0], 0)
+            with open(self.path("added.image"), "rb") as file:
+                self.assertTrue(file.read().endswith(wanted))
+        own = self.write("own.s", "\t.text\n\t.globl print\nprint:\tret\n")  # what defines the gate's name by itself
+        self.assertEqual(self.call("--program", program, own, self.path("add.o"), "-o", self.path("own.image"))[0], 0)
+        with open(self.path("own.image"), "rb") as file:
+            self.assertTrue(file.read().endswith(struct.pack("<3I", 0, 8, 0) + b"SFIN"))
+
+    def test_marks_refused(self):
+        for text, told in (("\t.protected\t_Z3addii\n", 'asm2elf: main.asm:1: _Z3addii: what a host knows by its name wants extern "C"'),
+                           ("\t.protected\ta.b\n", "asm2elf: main.asm:1: a.b: a name that a host knows has at most 255 letters, digits and _"),
+                           ("\t.weak\tput\n\t.protected\tput\n\ttail\tput\n",
+                            "sfi-cc: SFI_IMPORT: 'put' is the gate of service 1 already")):
+            self.write("main.asm", text)
+            self.assertEqual((self.made()[0], self.made()[2][0]), (1, told))
 
     def test_where(self):
         self.write("main.asm", '\t.file 1 "main.c"\n' + ASSEMBLY.replace("main:\n", "main:\n\t.loc 1 3 1\n"))
@@ -209,7 +260,10 @@ cp {self.folder}/main.asm "$2"
                               (["--gate", "main=1"], "argument --gate: 'main' is the program's first function already"),
                               (["--gate", "put=3"], "argument --gate: 'put' is the gate of service 1 already"),
                               (["--export", "a", "--export", "a"], "argument --export: 'a' is given twice"),
+                              (["--export", "a,b", "--export", "b"], "argument --export: 'b' is given twice"),
                               (["--export", "a b"], "argument --export: 'a b' is no name of at most 255 letters, digits and _"),
+                              (["--export", ".room"], "argument --export: '.room' is no name of at most 255 letters, digits and _"),
+                              (["--import", "a,"], "argument --import: '' is no name of at most 255 letters, digits and _"),
                               (["--import", "put"], "argument --import: 'put' is the gate of service 1 already"),
                               (["--where", "x"], "argument --where: 'x' is no address of 32 bits in hexadecimal digits"),
                               (["--data", "300"], "argument --data: '300' is no power of two from 256 to 1048576"),
@@ -217,6 +271,70 @@ cp {self.folder}/main.asm "$2"
             status, output, lines = self.call(self.file, *options)
             self.assertEqual((status, output, lines[-1]), (2, "", f"sfi-cc: error: {told}"))
         self.assertEqual(self.call("-O2")[2][-1], "sfi-cc: error: a FILE of C, C++ or assembly is wanted")
+
+
+@needs(GCC, f"{BINUTILS}ld")
+class Libraries(Calls):
+    """Libraries, named and by default, and what is said of them."""
+
+    def setUp(self):
+        super().setUp()
+        self.program = self.write("program", "#!/bin/sh\ncat >/dev/null\n", 0o755)
+
+    def made(self, text, *words, name="made.c"):
+        return self.call("--program", self.program, *words, "-o", self.path("made.elf"), self.write(name, text))
+
+    def functions(self):
+        told = subprocess.run([f"{BINUTILS}nm", "--defined-only", self.path("made.elf")], capture_output=True, check=True, text=True).stdout
+        return {line.split()[-1] for line in told.splitlines() if line.split()[1] in "TtWw"}
+
+    def test_the_small_one_by_default(self):
+        """A source that asks for its headers has it, with what is called alone, and so has an object; others stay freestanding."""
+        hosted = "#include <stdio.h>\nint main(void) { putchar('a' + __STDC_HOSTED__); }\n"
+        own = "int putchar(int it) { return it; }\nint hosted = 1 / !__STDC_HOSTED__;\n"
+        for compiler in COMPILERS:
+            self.assertEqual(self.made(hosted, "--cc", compiler, "-Wall", "-Werror"), (0, "", []))
+            self.assertTrue({"putchar", "put"} <= self.functions())
+            self.assertFalse({"printf", "malloc", "getchar", "puts"} & self.functions())
+            objects = [self.path("hosted.o"), self.path("own.o")]
+            for text, output in zip((hosted, own), objects):
+                self.assertEqual(self.call("--cc", compiler, "-c", "-o", output, self.write("part.c", text)), (0, "", []))
+            for files, is_there in ((objects[:1], True), (objects, False)):
+                self.assertEqual(self.call("--cc", compiler, "-o", self.path("made.elf"), *files), (0, "", []))
+                self.assertEqual("put" in self.functions(), is_there)
+        self.assertEqual(self.made("#include <stdio.h>\nint main() { return puts(\"a\"); }\n", name="made.cc"), (0, "", []))
+        self.assertEqual(self.made("#include <stdlib.h>\nint main(void) { return *(char *)malloc(9); }\n", "--heap", "160"), (0, "", []))
+
+    def test_what_it_has_not(self):
+        """The line that names the whole library, before that of the program that failed."""
+        rows = [("#include <math.h>\n", "math.h"), ("#include <stdio.h>\n#include <time.h>\n", "time.h"), ("#include <none.h>\n", None), ("FILE *file;\n", None),
+                ("#include <stdio.h>\nFILE *file;\n", "the small library was taken"), ("#include <stdio.h>\nint x = y;\n", None),
+                ("#include <stdio.h>\nint none(void);\nint main(void) { puts(\"\"); return none(); }\n", "the small library was taken"),
+                ("int none(void);\nint main(void) { return none(); }\n", None)]
+        for compiler in COMPILERS:
+            for text, told in rows:
+                status, _, lines = self.made(text, "--cc", compiler)
+                wanted = [f"sfi-cc: {told}: try --library newlib, a whole C library"] if told else []
+                self.assertEqual((status, [line for line in lines[:-1] if line.startswith("sfi-cc: ")]), (1, wanted), text)
+
+    def test_what_takes_long(self):
+        """One line before a large library is converted; none where it is kept, or where it is small."""
+        for name, count in (("large", 41), ("larger", 42), ("few", 40)):
+            for number in range(count):
+                self.write(f"{name}/f{number}.asm", f"\t.globl\t{name}{number}\n{name}{number}:\n\tret\n")
+        words = ["-o", self.path("made.elf"), self.write("main.s", ASSEMBLY)]
+        told = "files of a library are converted for format 2, which may take a minute; they are kept"
+        home = {**os.environ, "XDG_CACHE_HOME": self.path("home")}
+        for names, lines in ((["few"], []), (["large", "larger"], [f"sfi-cc: 41 {told}"]), (["larger", "large"], [])):
+            libraries = [word for name in names for word in ("--library", self.path(name))]
+            done = subprocess.run([SFI_CC, *libraries, *words], capture_output=True, check=False, text=True, env=home)
+            self.assertEqual((done.returncode, done.stderr.splitlines()), (0, lines))
+
+    def test_too_much_data(self):
+        for size, told in (((1 << 20) + 100, "the data have 1048688 bytes, 112 more than there is room for"),
+                           ((1 << 20) - 4096, "1044480 bytes of data and 8192 of stack don't fit in 1048576, by 4112")):
+            self.assertEqual(self.made(f"char all[{size}];\nint main(void) {{ return all[(int)all & 255]; }}\n"),
+                             (1, "", [f"sfi-cc: made.elf: {told}"]))
 
 
 @needs_program
@@ -229,6 +347,13 @@ class Programs(Calls):
         done = subprocess.run([SFI, "run"], input=image, stdout=subprocess.PIPE, check=True, text=True)
         return [word for word in done.stdout.split() if not word.startswith("steps=")]
 
+    def names(self, *words):
+        """The kinds and the names in an image's table, in order of the names, as `sfi dis` lists them."""
+        status, image, told = self.call("--program", SFI, *words)
+        self.assertEqual((status, told), (0, []))
+        lines = subprocess.run([SFI, "dis"], input=image, stdout=subprocess.PIPE, check=True, text=True).stdout.splitlines()
+        return sorted(f"{line.split()[0]} {line.split()[2]}" for line in lines if line.startswith(("export ", "import ")))
+
     def compare(self, *words):
         file = self.write("hello.c", HELLO)
         for image_format in FORMATS:
@@ -236,7 +361,7 @@ class Programs(Calls):
 
     @needs(GCC)
     def test_gcc(self):
-        for options in ([], ["-O0", "-g"], ["-Os", "--stack", "65536"]):
+        for options in ([], ["-O0", "-g"], ["-Os", "--stack", "65536"], ["-Os", "-msave-restore"]):
             self.compare("--cc", GCC, *options)
 
     @needs(GCC)
@@ -251,7 +376,7 @@ class Programs(Calls):
 
     @needs("clang", "llc")
     def test_clang(self):
-        for options in ([], ["-O0", "-g"], ["-Os"]):
+        for options in ([], ["-O0", "-g"], ["-Os"], ["-Os", "-msave-restore"]):
             self.compare("--cc", "clang", *options)
 
     @needs(GCC)
@@ -266,6 +391,27 @@ int main() { return twice(19) + corners_of(Square()); }
         for compiler in [GCC] + ["clang"] * bool(shutil.which("clang") and shutil.which("llc")):
             for level in ("-O0", "-O2"):
                 self.assertEqual(self.runs("--cc", compiler, level, main, twice), ["sandbox=0", "exit=42", "out="])
+
+    @needs(GCC)
+    def test_room_is_listed(self):
+        """gcc reaches a local array from above the function's frame."""
+        file = self.write("array.c", "int seed;\nint f(void) {\n    volatile int numbers[8];\n    int sum = 0;\n    for (int at = 0; at < 8; at++) "
+                                     "numbers[at] = seed + at;\n    for (int at = 0; at < 8; at++) sum += numbers[at];\n    return sum;\n}\n")
+        for image_format in FORMATS:
+            self.assertEqual(self.names("--cc", GCC, "--format", image_format, "--export", "f", file), ["export f", "import .room"])
+
+    @needs(GCC)
+    def test_marked_in_the_source(self):
+        """The same table by the marks of gates.h as by options."""
+        body = "int print(int);\nextern int state[2];\nint add(int a, int b) { return print(a + b) + state[1]; }\nint state[2];\n"
+        marked = body.replace("int print", "SFI_IMPORT int print").replace("int add", "SFI_EXPORT int add").replace("\nint state", "\nSFI_EXPORT int state")
+        for compiler in [GCC] + ["clang"] * bool(shutil.which("clang") and shutil.which("llc")):
+            for name in ("plug.c", "plug.cc"):
+                opened, closed = ('extern "C" {\n', "}\n") if name.endswith("cc") else ("", "")
+                plain = self.write(name, f"{opened}{body}{closed}")
+                listed = self.names("--cc", compiler, "--export", "add,state", "--import", "print", plain)
+                self.assertEqual([it for it in listed if it != "import .room"], ["export add", "export state", "import print"])
+                self.assertEqual(self.names("--cc", compiler, self.write(name, f'#include "gates.h"\n{opened}{marked}{closed}')), listed)
 
     @needs(GCC)
     def test_two_files_of_one_name(self):

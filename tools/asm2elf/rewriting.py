@@ -11,7 +11,7 @@ from naming import Names
 from program import Mark
 from small_data import SmallData, is_near
 from soft import Order, without_soft_labels
-from telling import format_lines, frame_lines, margin_lines
+from telling import format_lines, frame_lines, margin_lines, name_lines
 from trampolines import check_trampolines
 from typed import WORDS, check_registers
 from unit import Unit
@@ -74,7 +74,7 @@ class Rewriting:
             check_registers(ops)
         self.small = SmallData(self.unit, code)
         self.told = [*margin_lines(ops, image_format), *(format_lines(image_format) if ops else ()),
-                     *frame_lines([order.kept for order in self.orders.values()])]
+                     *frame_lines([order.kept for order in self.orders.values()]), *name_lines(self.unit)]
         self.code = parted(improved(code, passes, image_format, self.small, Names(".Lsfi."), SLACK) if ops else code)
 
     def text(self):

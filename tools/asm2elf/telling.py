@@ -1,5 +1,5 @@
-"""What a file tells the linker and tools/sfi-image beside its code: how far beside an object its bases may lie, the frames of
-its functions, and the format that it is for."""
+"""What a file tells the linker and the tools beside its code: how far beside an object its bases may lie, the frames of its
+functions, the format that it is for, and the names that a host knows."""
 from dependences import runs
 from frames import deepest
 from margins import margins
@@ -46,3 +46,10 @@ def frame_lines(sections):
     if found:
         yield f'\t.section {FRAMES},"",@progbits'
         yield from (f"\t.4byte {name}, {size}" for name, size in found.items())
+
+
+def name_lines(unit):
+    """A symbol for each name that the source marks as an export or an import, which sfi_elf/names.py finds in the object."""
+    for kind, names in (("export", unit.exports()), ("import", unit.imports())):
+        for name in names:
+            yield from weak_number(f"__sfi_{kind}_{name}")

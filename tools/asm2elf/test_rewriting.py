@@ -35,6 +35,19 @@ class Refusals(Folder):
         self.assertEqual(str(caught.exception), "a.s:1: t4 is the sandbox's own register: compile with -ffixed-x29")
 
 
+@needs(f"{BINUTILS}as")
+class Attributes(Folder):
+    def test_the_objects_code_has_16_bit_forms(self):
+        """By this disassemblers and debuggers read it."""
+        path = self.path("made.o")
+        for image_format in (1, 2, WORDS):
+            text = rewritten("a.s", '\t.attribute arch, "rv32i2p1_m2p0_c2p0"\n\t.text\nmain:\tret\n', PASSES, image_format)
+            words = [f"{BINUTILS}as", "-march=rv32imc", "-mabi=ilp32", "-mno-relax", "-mno-arch-attr", "-o", path, "-"]
+            subprocess.run(words, input=text.encode(), check=True)
+            told = subprocess.run([f"{BINUTILS}readelf", "-A", path], capture_output=True, check=True, text=True).stdout
+            self.assertRegex(told, "Tag_RISCV_arch: .*_c2p0")
+
+
 @needs(GCC, f"{BINUTILS}as")
 class Places(Folder):
     """The model by which `packing` fits code into bundles."""

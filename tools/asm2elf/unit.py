@@ -26,6 +26,8 @@ THREAD_LOCAL = "thread-local data: there is one thread, so compile without _Thre
 WANTS = "\t.reloc ., R_RISCV_NONE, "
 WANTS_CONSTRUCTORS = WANTS + "__sfi_begin_wanted"  # the runtime's part that calls them
 WANTS_ATEXIT = WANTS + "atexit"  # the C library's, which runs destructors
+NAME = re.compile(r"[A-Za-z_]\w{0,254}", re.ASCII)  # what a table of names may have
+MARKING = re.compile(r"\s*\.(?:weak|protected)\s+(\S+)")
 
 
 @dataclass
@@ -74,6 +76,7 @@ class Unit:
         self.spoken = set()  # the names that code speaks of
         self.data_names = set()  # those that data and aliases speak of
         self.globals, self.weak, self.defined = set(), set(), set()
+        self.marked = []  # the names that SFI_EXPORT and SFI_IMPORT of gates.h stand before
         self.locations = {}  # by an instruction's place, the lines `.loc` that hold there
         self.stack, self.previous = [], None
         self.current, self.current_name = None, ".text"
@@ -86,6 +89,17 @@ class Unit:
         self.switch(".text", "\t.text")
         for part, pieces in lines:
             self.take(part, pieces)
+        for name in self.imports():  # an archive's gate wouldn't be taken for a weak reference
+            for told in (self.verbatim, self.symbols):
+                told[:] = [line for line in told if not ((found := MARKING.fullmatch(line)) and found[1] == name)]
+
+    def exports(self):
+        """The names that are marked and defined here."""
+        return [name for name in self.marked if name in self.defined]
+
+    def imports(self):
+        """The names that are marked as gates, and that this file doesn't define."""
+        return [name for name in self.marked if name in self.weak and name not in self.defined]
 
     def take(self, part, pieces):
         statement = next((piece for piece in pieces if not isinstance(piece, Label)), None)
@@ -160,9 +174,19 @@ class Unit:
             self.globals.update(operands)
         if word == ".weak":
             self.weak.update(operands)
+        if word == ".protected":
+            self.mark(operands[0], statement.place)
         if word in (".set", ".equ"):
             self.data_names.update(WORD.findall(operands[1]))
             self.globals.add(operands[0])
+
+    def mark(self, name, place):
+        if name.startswith("_Z"):
+            raise Refused(place, f"{name}: what a host knows by its name wants extern \"C\"")
+        if not NAME.fullmatch(name):
+            raise Refused(place, f"{name}: a name that a host knows has at most 255 letters, digits and _")
+        if name not in self.marked:
+            self.marked.append(name)
 
     def instruction(self, statement):
         self.is_locating = False

@@ -35,6 +35,7 @@ class Writer:
                 self.out.append(f"\t.p2align {self.alignment}")
                 self.begin_section()
             self.section(pieces, orders[key], shown.new[key])
+        self.out.append(RVC)  # the object's attribute is of the last option, by which debuggers disassemble
         return "\n".join(self.out) + "\n"
 
     def section(self, pieces, order, labels):

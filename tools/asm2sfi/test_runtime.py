@@ -118,6 +118,25 @@ int main(void) {
 }
 '''
 
+# Writes as many bytes into an array of twelve as the first of the input says.
+OVERFLOW = r'''
+#include "gates.h"
+static __attribute__((noinline)) void fill(char *to, int count) {
+    for (int k = 0; k < count; k++)
+        to[k] = count - 1 - k;
+}
+static __attribute__((noinline)) int filled(int count) {
+    char room[12];
+    fill(room, count);
+    return room[3];
+}
+int main(void) {
+    char count;
+    get(&count, 1);
+    return filled(count) + 1;
+}
+'''
+
 
 @needs_program
 @needs_a_compiler
@@ -129,14 +148,14 @@ class Runtime(Folder):
         subprocess.run(words, input=text.encode(), stderr=subprocess.DEVNULL, check=True)
         return subprocess.run([path], stdout=subprocess.PIPE, check=True).stdout.hex()
 
-    def compare(self, text, wanted, options=((), ("-O0",))):
+    def compare(self, text, wanted, options=((), ("-O0",)), given="00"):
         path = self.write("program.c", text)
         for compiler in COMPILERS:
             for number, more in enumerate(options):
                 words = [SFI_CC, "--program", SFI, "--cc", compiler, "-w", path, *more,
                          "--format", str(2 - number)]
                 image = subprocess.run(words, stdout=subprocess.PIPE, stderr=subprocess.PIPE, check=True).stdout
-                run = [SFI, "run", "--rounds", "10", "--quantum", "1000000"]
+                run = [SFI, "run", "--rounds", "10", "--quantum", "1000000", "--input", given]
                 found = subprocess.run(run, input=image, stdout=subprocess.PIPE, check=True, text=False).stdout.decode()
                 self.assertRegex(found, wanted, f"{compiler} {more}")
 
@@ -150,3 +169,9 @@ class Runtime(Folder):
 
     def test_atomic_objects(self):
         self.compare(OBJECTS, "exit=8 ", ((),))
+
+    def test_stack_protector(self):
+        """An array that has overflowed, also by one byte, a zero, ends the program by an ebreak."""
+        protected = (("-fstack-protector-strong",), ("-fstack-protector-all", "-O0"))
+        for count, wanted in ((12, "exit=9 "), (13, "trap=Break "), (16, "trap=Break ")):
+            self.compare(OVERFLOW, wanted, protected, f"{count:02x}")

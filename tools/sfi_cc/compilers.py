@@ -17,7 +17,7 @@ OF_GCC = ["-Werror=trampolines", f"--param=case-values-threshold={CASES}"]
 PLUS_PLUS = ["-fno-exceptions", "-fno-rtti", "-fno-threadsafe-statics"]
 HOSTED = "-fhosted"  # what undoes -ffreestanding, which C++ isn't compiled with
 GCC_HEADERS = ["-idirafter", os.path.join(TOOLS, "sfi_cc", "plus_plus")]  # what C++ by gcc has where there is no C library
-LAST = ["-fno-lto"]  # what outweighs the options that are given
+LAST = ["-fno-lto", "-mno-save-restore"]  # what outweighs the options that are given
 TARGET = ["--target=riscv32-unknown-elf", "-fno-jump-tables"]  # llc makes tables of any five cases, or none
 LLC = ["-march=riscv32", "-target-abi=ilp32", "--function-sections", "--data-sections"]
 HEADERS = ["-I", os.path.join(TOP, "examples", "c")]

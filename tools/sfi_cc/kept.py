@@ -1,7 +1,17 @@
 """Folders that are made once and kept, below $XDG_CACHE_HOME, or ~/.cache where that isn't set."""
 import hashlib
 import os
+import sys
 import tempfile
+
+told = []  # what was said of folders that take long to make
+
+
+def tell_once(text):
+    """Says on standard error, before it begins, that something takes long: in one line of a run, however much does."""
+    if not told:
+        print(f"{os.path.basename(sys.argv[0])}: {text}", file=sys.stderr, flush=True)
+    told.append(text)
 
 
 def root():
@@ -9,13 +19,16 @@ def root():
     return os.path.join(home, "sfi-cc")
 
 
-def kept(name, words, make):
-    """The folder of a name that `make` fills; `words` are all that it is made of, so that another goes by another name.
-    It is whole as soon as it is there: two runs at once may make it, and one of theirs stays."""
+def kept(name, words, make, long=None):
+    """The folder of a name that `make` fills; `words` are all that it is made of, so that another goes by another name;
+    `long` is what to tell where it isn't there, if that takes long. It is whole as soon as it is there: two runs at once may
+    make it, and one of theirs stays."""
     digest = hashlib.sha256("\0".join(words).encode("utf-8", "surrogateescape")).hexdigest()
     place = os.path.join(root(), f"{name}-{digest[:16]}")
     if os.path.isdir(place):
         return place
+    if long:
+        tell_once(long)
     os.makedirs(root(), exist_ok=True)
     with tempfile.TemporaryDirectory(dir=root(), prefix=f"{name}-new-") as room:
         fresh = os.path.join(room, name)

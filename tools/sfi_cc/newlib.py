@@ -102,4 +102,5 @@ def folder_of(compiler):
     words = [version(compiler), identity(NEWLIB_SOURCE.where()), identity(GCC_SOURCE.where()), *own, *OPTIONS,
              *sorted(LEFT_OUT), *FOLDERS, *POSIX, *WITHOUT_FUNCTIONS, str(VARIANTS), str(RESERVED_IN_WORDS),
              os.path.basename(softfloat.folder_of(compiler))]
-    return kept("newlib", words, lambda folder: compile_all(compiler, folder))
+    return kept("newlib", words, lambda folder: compile_all(compiler, folder),
+                "newlib is compiled and converted, which takes some minutes; it is kept")

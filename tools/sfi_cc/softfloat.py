@@ -89,4 +89,5 @@ def folder_of(compiler):
             own.append(file.read())
     words = [version(compiler), identity(GCC_SOURCE.where()), *LIBGCC2, SOFT_FP.pattern, *MODES, LONGLONG, *own,
              str(RESERVED_IN_WORDS)]
-    return kept("softfloat", words, lambda folder: compile_all(compiler, unpacked(GCC_SOURCE, *PARTS), folder))
+    return kept("softfloat", words, lambda folder: compile_all(compiler, unpacked(GCC_SOURCE, *PARTS), folder),
+                "the functions of floating point are compiled, which may take a minute; they are kept")

@@ -82,8 +82,10 @@ def code_of(elf, image_format):
 def used_by(elf):
     """The bytes of the data region up to the objects' end."""
     used = elf.symbol("__sfi_end") - elf.symbol("__sfi_data")
-    if not 0 <= used <= LARGEST_DATA:
-        raise Wrong(f"{elf.name}: the data's end is {used} bytes above their beginning: link it by tools/sfi-cc")
+    if used < 0:
+        raise Wrong(f"{elf.name}: the data end below their beginning: link it by tools/sfi-cc")
+    if used > LARGEST_DATA:
+        raise Wrong(f"{elf.name}: the data have {used} bytes, {used - LARGEST_DATA} more than there is room for")
     return used
 
 
@@ -109,7 +111,8 @@ def data_size(elf, stack, wanted):
     stack = elf.symbols.get("__sfi_stack", DEFAULT_STACK) if stack is None else stack
     size = wanted or power(used + above + stack)
     if used + above + stack > size or size > LARGEST_DATA:
-        raise Wrong(f"{elf.name}: {used} bytes of data and {stack} of stack don't fit in {min(size, LARGEST_DATA)}")
+        most = min(size, LARGEST_DATA)
+        raise Wrong(f"{elf.name}: {used} bytes of data and {stack} of stack don't fit in {most}, by {used + above + stack - most}")
     frame, room = deepest_frame(elf), size - used - above
     if frame.size > room:
         raise Wrong(f"{elf.name}: the frame of {frame.function} has {frame.size} bytes, and the stack has room for {room}: "

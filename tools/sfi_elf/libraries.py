@@ -6,6 +6,7 @@ import os
 from concurrent.futures import ThreadPoolExecutor
 
 import newlib
+import small_library
 import softfloat
 from compilers import ASSEMBLY, HOSTED, Failed
 from kept import kept
@@ -14,7 +15,9 @@ from sources import GCC_SOURCE
 from tools import archived, assembled, rewritten_into
 
 ARCHIVE = "library.a"
-NAMED = {"newlib": newlib.folder_of}  # what makes the folder of a name, by a compiler
+MANY = 40  # files of assembly: to convert more takes long
+SMALL = "small"  # what a program has that asks for a library and names none
+NAMED = {"newlib": newlib.folder_of, SMALL: small_library.folder_of}  # what makes the folder of a name, by a compiler
 
 
 def assembly_of(folder):
@@ -54,7 +57,8 @@ def archive_of(folder, target):
         raise Failed(2, f"{folder} is no folder")
     paths = assembly_of(folder)
     words = [*ingredients(target), *map(digest_of, paths)]
-    return os.path.join(kept("library", words, lambda room: make(room, paths, target)), ARCHIVE)
+    long = f"{len(paths)} files of a library are converted for format {target.format}, which may take a minute; they are kept"
+    return os.path.join(kept("library", words, lambda room: make(room, paths, target), long if len(paths) > MANY else None), ARCHIVE)
 
 
 def folders_of(libraries, compiler):
@@ -63,17 +67,19 @@ def folders_of(libraries, compiler):
 
 
 def headers(libraries):
-    """The options for the headers of libraries, with which a program is one of a hosted C."""
+    """The options for the headers of libraries, with which a program is one of a hosted C. Where compilers know what
+    functions do, they make calls of others of it, which the small library may not have."""
     folders = [os.path.join(library, "include") for library in libraries]
     found = [word for folder in folders if os.path.isdir(folder) for word in ("-isystem", folder)]
-    return [HOSTED, "-fbuiltin", *found] if found else []
+    is_whole = not any(os.path.exists(os.path.join(library, small_library.MARK)) for library in libraries)
+    return [HOSTED, *["-fbuiltin"] * is_whole, *found] if found else []
 
 
 class Libraries:
     """The archives that a program of some objects is linked with."""
 
-    def __init__(self, options, objects):
-        self.archives = [archive_of(folder, options.target) for folder in options.library]
+    def __init__(self, options, folders, objects):
+        self.archives = [archive_of(folder, options.target) for folder in folders]
         self.wanted = None  # what to install for floating point
         if softfloat.speaks_of_floats([path for path in objects if os.path.exists(path)]):
             folder = softfloat.folder_of(options.cc)

@@ -13,7 +13,7 @@ LIB = os.path.join(TOOLS, "asm2elf", "lib")
 CONVERTER = os.path.join(TOOLS, "asm2sfi")
 SCRIPT = os.path.join(LIB, "sandbox.ld")
 FUNCTIONS = [os.path.join(LIB, "constructors.asm"), os.path.join(CONVERTER, "runtime.asm"),
-             os.path.join(CONVERTER, "runtime", "atomics.asm")]
+             os.path.join(CONVERTER, "runtime", "atomics.asm"), os.path.join(CONVERTER, "runtime", "stack_protector.asm")]
 OF_MOVABLE = [os.path.join(LIB, "movable.s"), os.path.join(LIB, "settle.asm")]  # what a moved program runs before all else
 OVERRIDDEN = ("memcpy", "memmove", "memset", "memcmp", "strlen")  # a program may have its own
 MADE_OF = ("asm2elf/*.py", "asm2elf/lib/*.asm", "asm2elf/lib/*.s", "asm2sfi/*.py", "asm2sfi/*.asm", "asm2sfi/runtime/*.asm",
@@ -56,9 +56,9 @@ def object_of(folder, assembly, target):
     return output
 
 
-def gate_object(folder, name, service, image_format):
+def gate_object(folder, name, service, image_format, entry=""):
     output = os.path.join(folder, name + ".o")
-    assembled(stub(name, service, image_format).encode(), output)
+    assembled((stub(name, service, image_format) + entry).encode(), output)
     return output
 
 

@@ -1,5 +1,5 @@
 -- A sandbox that is entered again.
-use Rattle.sfi_host.proofs.Prelude.{◌≡◌, ◌≢◌, ◌⊎◌, inl, inr, ⊎_elim, ◌↔◌, IsTrue, ℕ, suc, ◌+◌, ◌%◌, ◌^◌, ◌<◌, ◌≤◌, ◌==◌, Bool, true, false, List, [], ◌∷◌, ◌++◌, map, length, take, get_or, Some, None, set, slice_get, refl, sym, ap, ◌∙◌, subst, arith, get_or-set_other, same_Some, slice_index, slice_set, cond, empty, get-empty, map-set, take_more, length-take-le, Bytes, IsMemory, Hart, IsHart, with_register, IsRightLayout, Holds, AreApart, with_guards, Part, HasCode, IsEntry, AllRunSafely, AllCallTyped, Program, Sandbox, MayEnter, MayEnterAt, fresh_hart, with_registers, exit_gate, entered_hart, entered_seat, with_entry_of, with_entry, IsAtEntry, IsEnterable, first_seat, with_parts, AreEntered, HaveFirstData, seat_of, seats_of, world_of, Bounds, Slot, bounds_of, Seat, Sandboxes, slot_of, slots_of, state_in, IsSafeSeat, AreProgramsOf}
+use Rattle.sfi_host.proofs.Prelude.{◌≡◌, ◌≢◌, ◌⊎◌, inl, inr, ⊎_elim, ◌↔◌, IsTrue, ℕ, suc, ◌+◌, ◌%◌, ◌^◌, ◌<◌, ◌≤◌, ◌==◌, Bool, true, false, List, [], ◌∷◌, ◌++◌, map, length, take, get_or, Some, None, set, slice_get, refl, sym, ap, ◌∙◌, subst, arith, get_or-set_other, same_Some, slice_index, slice_set, cond, empty, get-empty, map-set, take_more, length-take-le, Bytes, IsMemory, Hart, IsHart, with_register, IsRightLayout, Holds, AreApart, with_guards, Part, HasCode, IsEntry, AllRunSafely, AllCallTyped, Program, Sandbox, MayEnter, MayEnterAt, fresh_hart, with_registers, exit_gate, entered_hart, entry_stack, entered_seat, with_entry_of, with_entry, IsAtEntry, IsEnterable, first_seat, with_parts, AreEntered, HaveFirstData, seat_of, seats_of, world_of, Bounds, Slot, bounds_of, Seat, Sandboxes, slot_of, slots_of, state_in, IsSafeSeat, AreProgramsOf}
 use Rattle.std.specs.Ordering.{nat_cmp}
 use Rattle.sfi_formats.specs.Formats.{unit}
 use Rattle.sfi_safe_runs.specs.Runs.{IsUnitStart}
@@ -9,7 +9,7 @@ use Rattle.sfi_host.proofs.Entered.{lie_apart}
 use Rattle.sfi_host.proofs.OwnSteps.{get_set_same}
 use Rattle.sfi_host.proofs.SafeSeats as keep
 use Rattle.sfi_host.proofs.Changing.{IsKept, AfterTurn, turn_taken}
-use Rattle.sfi_host.proofs.Worlds.{AreFreshOf, fresh_are, fresh_pc, reserved_at, typed_at, AreFree, entered, first_data_there, world_safe, all_enterable}
+use Rattle.sfi_host.proofs.Worlds.{AreFreshOf, fresh_are, stack_set, fresh_pc, reserved_at, typed_at, AreFree, entered, first_data_there, world_safe, all_enterable}
 
 -- ---- each sandbox of a world may be entered
 
@@ -83,26 +83,41 @@ module _ (m : Bytes) (s : Seat) (seat : IsSafeSeat m s) where
     abbrev fresh : Hart
     fresh = fresh_hart s.bounds.format s.bounds.code s.bounds.data pc
 
+    abbrev on_stack : Hart
+    on_stack = with_register fresh 2 (entry_stack s.bounds)
+
     abbrev returning : Hart
-    returning = with_register fresh 1 (exit_gate s.bounds.gates)
+    returning = with_register on_stack 1 (exit_gate s.bounds.gates)
 
     -- the return address leaves the other registers
-    not_first : (q : ℕ) → q ≢ 1 → slice_index returning.registers q ≡ slice_index fresh.registers q
-    not_first q other = get_or-set_other fresh.registers 1 q (exit_gate s.bounds.gates) 0 other
+    not_first : (q : ℕ) → q ≢ 1 → slice_index returning.registers q ≡ slice_index on_stack.registers q
+    not_first q other = get_or-set_other on_stack.registers 1 q (exit_gate s.bounds.gates) 0 other
+
+    -- and so does the stack pointer
+    neither : (q : ℕ) → 3 ≤ q → slice_index returning.registers q ≡ slice_index fresh.registers q
+    neither q le = not_first q (λ e. omega arith) ∙ get_or-set_other fresh.registers 2 q (entry_stack s.bounds) 0 (λ e. omega arith)
+
+    -- which lies in the data, whatever room the image asks for
+    stack_held : Holds s.bounds.data (slice_index now 2)
+    stack_held =
+        let least = sizes.1 in
+        let is : slice_index now 2 ≡ entry_stack s.bounds =
+        others_kept arguments returning 10 2 (inl (omega arith)) ∙ not_first 2 (λ e. omega arith) ∙ stack_set s.bounds pc (entry_stack s.bounds) in
+        subst (Holds s.bounds.data) (sym is) (omega arith, omega arith)
 
     -- the arguments and the return address leave all that an entry asks for
     kept : AreFreshOf s.bounds pc now
     kept =
-        let high : (q : ℕ) → 18 ≤ q → slice_index now q ≡ slice_index fresh.registers q = λ q le. others_kept arguments returning 10 q (inr (omega arith)) ∙ not_first q (λ e. omega arith) in
-        let low : (q : ℕ) → 2 ≤ q → q < 10 → slice_index now q ≡ slice_index fresh.registers q =
-        λ q le less. others_kept arguments returning 10 q (inl less) ∙ not_first q (λ e. omega arith) in
-        let f = fresh_are s.bounds pc in
+        let high : (q : ℕ) → 18 ≤ q → slice_index now q ≡ slice_index fresh.registers q = λ q le. others_kept arguments returning 10 q (inr (omega arith)) ∙ neither q (omega arith) in
+        let low : (q : ℕ) → 3 ≤ q → q < 10 → slice_index now q ≡ slice_index fresh.registers q =
+        λ q le less. others_kept arguments returning 10 q (inl less) ∙ neither q le in
+        let f = fresh_are s.bounds pc sizes.1 in
         record {
           code_base = high 24 (omega arith) ∙ f.code_base;
           code_mask = high 25 (omega arith) ∙ f.code_mask;
           data_base = high 26 (omega arith) ∙ f.data_base;
           data_mask = high 27 (omega arith) ∙ f.data_mask;
-          stack = low 2 (omega arith) (omega arith) ∙ f.stack;
+          stack = stack_held;
           third = λ has. low 3 (omega arith) (omega arith) ∙ f.third has;
           fourth = λ has. low 4 (omega arith) (omega arith) ∙ f.fourth has;
           last = λ has. high 29 (omega arith) ∙ f.last has;

@@ -20,7 +20,7 @@ pub use Rattle.sfi_image.specs.declared.span.Span.{Span}
 pub use Rattle.sfi_safe_runs.specs.Runs.{InCode, HasCode, InData, InGuard, IsGate, IsChange, IsEntry, IsReply, IsTurn, Steps, Replies, Changes, KeepsBytes, IsRun, KeepsReserved}
 pub use Rattle.sfi_safe_runs.specs.Safety.{AllRunSafely, IsSafeState, IsSafeTurn, IsSafeRun, IsSafeStep, IsTrap, RunsSafely, AllCallTyped, after_turns, GoesSafelyFrom, CallsTyped}
 pub use Rattle.sfi_host.specs.Consoles.{SessionState, ConsoleState, with_session, serve, serve_own, console, may_want, may_want_if, console_may_refuse, new_session, failed, most_messages, posted, mailbox_full, message_of, with_message, post_to, post}
-pub use Rattle.sfi_host.specs.Loading.{AreEnterable, MayEnter, MayEnterAt, fresh_hart, with_registers, exit_gate, entered_hart, entered_seat, with_entry_of, with_entry, IsAtEntry, IsEnterable, first_seat, AreEntered, first_data, with_part, with_parts, HaveFirstData, first_hart}
+pub use Rattle.sfi_host.specs.Loading.{AreEnterable, MayEnter, MayEnterAt, fresh_hart, with_registers, exit_gate, entered_hart, entry_stack, entered_seat, with_entry_of, with_entry, IsAtEntry, IsEnterable, first_seat, AreEntered, first_data, with_part, with_parts, HaveFirstData, first_hart}
 pub use Rattle.sfi_host.specs.Hosts.{call_by, asked, with_a0, data_of, Call, Way, Replied, Answer, Limited, limited, if_left, Exit, Reply, Host, replay}
 pub use Rattle.sfi_host.specs.Joint.{Machine, Moved, still, moved_if, slot_after_step, after_answer, call_of, next_after, replied, Joined, joint, IsMachine, word, is_byte, with_arguments, with_data, after_way, status_after, after_replies, and_more, Given, given, joined_after_turn, and_plan, turn_and, both, service_at}
 unfoldable pub use Rattle.sfi_host.specs.Joint.{moved, joined, turned}

@@ -115,7 +115,7 @@ module _ (m : Bytes) (s : Seat) (seat : IsSafeSeat m s) where
     now = (reset_seat s).hart.registers
 
     of_part : AreFreshOf (bounds_of p) s.bounds.start now
-    of_part = subst (λ (b : Bounds). AreFreshOf b s.bounds.start now) is (fresh_are s.bounds s.bounds.start)
+    of_part = subst (λ (b : Bounds). AreFreshOf b s.bounds.start now) is (fresh_are s.bounds s.bounds.start (sizes m s seat).1)
 
     pub at_entry : HasCode p m → IsEntry p (state_in m (reset_seat s))
     at_entry code = record {

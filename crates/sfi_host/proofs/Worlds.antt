@@ -1,5 +1,5 @@
 -- A world at its start is safe.
-use Rattle.sfi_host.proofs.Prelude.{◌≡◌, ◌≢◌, Bool, true, false, cond, ℕ, zero, suc, ◌+◌, ◌-◌, ◌%◌, ◌^◌, ◌<◌, ◌≤◌, List, [], ◌∷◌, length, Some, is_some, slice_get, refl, sym, ap, ◌∙◌, subst, arith, get_or_from_slice_get, slice_get_within, slice_index, replicate, map, None, Bytes, IsMemory, byte_at, Hart, IsHart, with_register, Part, Span, code_region, IsRightPart, IsRightLayout, InGuard, RunsSafely, AllRunSafely, CallsTyped, AllCallTyped, IsEnterable, AreEnterable, Bounds, bounds_of, fresh_hart, first_hart, first_seat, with_parts, AreEntered, HaveFirstData, Seat, IsSafeSeat, LiesOutside, IsSafeWorld}
+use Rattle.sfi_host.proofs.Prelude.{◌≡◌, ◌≢◌, Bool, true, false, cond, ℕ, zero, suc, ◌+◌, ◌-◌, ◌%◌, ◌^◌, ◌<◌, ◌≤◌, List, [], ◌∷◌, length, Some, is_some, slice_get, refl, sym, ap, ◌∙◌, subst, arith, get_or_from_slice_get, slice_get_within, slice_index, replicate, map, None, Bytes, IsMemory, byte_at, Hart, IsHart, with_register, Part, Span, code_region, Holds, IsRightPart, IsRightLayout, InGuard, RunsSafely, AllRunSafely, CallsTyped, AllCallTyped, IsEnterable, AreEnterable, Bounds, bounds_of, fresh_hart, first_hart, first_seat, with_parts, AreEntered, HaveFirstData, Seat, IsSafeSeat, LiesOutside, IsSafeWorld}
 use Rattle.rv_step.proofs.States.{register_is}
 use Rattle.sfi_formats.specs.Formats.{unit, has_words}
 use Rattle.sfi_image.specs.Parts.{IsBundleStart}
@@ -39,7 +39,7 @@ pub record AreFresh (words : Bool) (unit_size : ℕ) (code_at data_at : Span) (p
   pub code_mask : slice_index registers 25 ≡ code_at.size - unit_size
   pub data_base : slice_index registers 26 ≡ data_at.base
   pub data_mask : slice_index registers 27 ≡ data_at.size - 1
-  pub stack : slice_index registers 2 ≡ data_at.base + data_at.size - 16
+  pub stack : Holds data_at (slice_index registers 2)
   pub third : words ≡ true → slice_index registers 3 ≡ data_at.base
   pub fourth : words ≡ true → slice_index registers 4 ≡ data_at.base
   pub last : words ≡ true → slice_index registers 29 ≡ data_at.base
@@ -52,15 +52,15 @@ hart_by words unit_size code_at data_at pc =
     let bare : Hart = record { pc = pc; registers = replicate 32 0 } in
     with_register (with_register (with_register (with_register (with_register (cond words (with_typed data_at bare) bare) 2 (data_at.base + data_at.size - 16)) 24 code_at.base) 25 (code_at.size - unit_size)) 26 data_at.base) 27 (data_at.size - 1)
 
-fresh_by : (words : Bool) (unit_size : ℕ) (code_at data_at : Span) (pc : ℕ) → AreFresh words unit_size code_at data_at pc (hart_by words unit_size code_at data_at pc).registers
-fresh_by true unit_size code_at data_at pc =
-    record { code_base = refl; code_mask = refl; data_base = refl; data_mask = refl; stack = refl; third = λ _. refl; fourth = λ _. refl; last = λ _. refl; code = λ _. refl; offset = refl }
-fresh_by false unit_size code_at data_at pc = record {
+fresh_by : (words : Bool) (unit_size : ℕ) (code_at data_at : Span) (pc : ℕ) → 16 ≤ data_at.size → AreFresh words unit_size code_at data_at pc (hart_by words unit_size code_at data_at pc).registers
+fresh_by true unit_size code_at data_at pc least =
+    record { code_base = refl; code_mask = refl; data_base = refl; data_mask = refl; stack = (omega arith, omega arith); third = λ _. refl; fourth = λ _. refl; last = λ _. refl; code = λ _. refl; offset = refl }
+fresh_by false unit_size code_at data_at pc least = record {
   code_base = refl;
   code_mask = refl;
   data_base = refl;
   data_mask = refl;
-  stack = refl;
+  stack = (omega arith, omega arith);
   third = λ none. absurd cc;
   fourth = λ none. absurd cc;
   last = λ none. absurd cc;
@@ -76,8 +76,16 @@ pc_by false unit_size code_at data_at pc = refl
 abbrev pub AreFreshOf : Bounds → ℕ → List ℕ → Type 0
 AreFreshOf b pc registers = AreFresh (has_words b.format) (unit b.format) b.code b.data pc registers
 
-pub fresh_are : (b : Bounds) (pc : ℕ) → AreFreshOf b pc (fresh_hart b.format b.code b.data pc).registers
-fresh_are b pc = fresh_by (has_words b.format) (unit b.format) b.code b.data pc
+pub fresh_are : (b : Bounds) (pc : ℕ) → 16 ≤ b.data.size → AreFreshOf b pc (fresh_hart b.format b.code b.data pc).registers
+fresh_are b pc least = fresh_by (has_words b.format) (unit b.format) b.code b.data pc least
+
+-- its stack pointer, once it is set
+stack_by : (words : Bool) (unit_size : ℕ) (code_at data_at : Span) (pc v : ℕ) → slice_index (with_register (hart_by words unit_size code_at data_at pc) 2 v).registers 2 ≡ v
+stack_by true unit_size code_at data_at pc v = refl
+stack_by false unit_size code_at data_at pc v = refl
+
+pub stack_set : (b : Bounds) (pc v : ℕ) → slice_index (with_register (fresh_hart b.format b.code b.data pc) 2 v).registers 2 ≡ v
+stack_set b pc v = stack_by (has_words b.format) (unit b.format) b.code b.data pc v
 
 pub fresh_pc : (b : Bounds) (pc : ℕ) → (fresh_hart b.format b.code b.data pc).pc ≡ pc
 fresh_pc b pc = pc_by (has_words b.format) (unit b.format) b.code b.data pc
@@ -87,7 +95,8 @@ reserved_at p pc registers fresh = record { code_base = fresh.code_base; code_ma
 
 pub typed_at : (p : Part) (pc : ℕ) (registers : List ℕ) → 16 ≤ p.data_size → IsUnitStart p pc → AreFreshOf (bounds_of p) pc registers → IsTyped p registers
 typed_at p pc registers least start fresh =
-    let stack = fresh.stack in
+    let low = fresh.stack.0 in
+    let high = fresh.stack.1 in
     typed_when p pc registers (omega arith) start (omega arith, omega arith) fresh.third fresh.fourth fresh.last fresh.code fresh.offset
 
 -- an image's start is one of a unit
@@ -116,11 +125,12 @@ module _ (ps : List Part) (layout : IsRightLayout ps) (m : Bytes) (free : AreFre
   pub entered : AreEntered ps (with_parts m ps)
   entered i p e =
       let lie = lie_apart ps layout in
+      let least : 16 ≤ p.data_size = (let placed = (lie.each i p e).data_placed.at_least in omega arith) in
       record {
         state = record { hart = first_is p (code_ends p (lie.each i p e)) (lie.each i p e); memory = memory };
         start = subst (IsUnitStart p) (sym (fresh_pc (bounds_of p) p.start)) (start_unit p p.start (lie.each i p e).start);
-        reserved = reserved_at p p.start (first_hart p).registers (fresh_are (bounds_of p) p.start);
-        typed = typed_at p p.start (first_hart p).registers (let least = (lie.each i p e).data_placed.at_least in omega arith) (start_unit p p.start (lie.each i p e).start) (fresh_are (bounds_of p) p.start);
+        reserved = reserved_at p p.start (first_hart p).registers (fresh_are (bounds_of p) p.start least);
+        typed = typed_at p p.start (first_hart p).registers least (start_unit p p.start (lie.each i p e).start) (fresh_are (bounds_of p) p.start least);
         code = has_code ps m i p lie e;
         guards = λ a guard. guards_stay ps m i p lie e a guard ∙ free i p e a guard;
       }

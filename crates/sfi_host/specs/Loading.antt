@@ -1,5 +1,5 @@
 -- How a world begins, and how a sandbox is entered again or reset.
-use Rattle.std.specs.Prelude.{◌≡◌, ◌≢◌, ℕ, ◌+◌, ◌-◌, ◌%◌, ◌==◌, List, [], ◌∷◌, cond, replicate, Option, Some, None, slice_get, slice_set, ◌<◌, ◌++◌, length, slice_index, map}
+use Rattle.std.specs.Prelude.{◌≡◌, ◌≢◌, ℕ, ◌+◌, ◌-◌, ◌%◌, ◌==◌, List, [], ◌∷◌, cond, replicate, Option, Some, None, slice_get, slice_set, ◌<◌, ◌++◌, length, slice_index, map, nat_le}
 use Rattle.rv_mem.specs.Bytes.{Bytes, byte_at, added, with_bytes}
 use Rattle.rv_step.specs.State.{Hart, with_register}
 use Rattle.sfi_formats.specs.Limits.{first_frame}
@@ -9,6 +9,7 @@ use Rattle.sfi_image.specs.declared.part.Gate.{Gate}
 use Rattle.sfi_image.specs.declared.span.Span.{Span}
 use Rattle.sfi_image.specs.Parts.{IsRightPart, IsRightLayout, reserved_for}
 use Rattle.sfi_image.specs.Spelling.{Holds, code_region, data_region, Part}
+use Rattle.sfi_names.specs.Rooms.{room_of}
 use Rattle.sfi_safe_runs.specs.Runs.{HasCode, IsEntry}
 use Rattle.sfi_safe_runs.specs.Safety.{RunsSafely, CallsTyped}
 use Rattle.sfi_host.specs.declared.status.Status.{Status}
@@ -78,12 +79,23 @@ abbrev pub exit_gate : List Gate → ℕ
 exit_gate [] = 0
 exit_gate (g ∷ gates) = cond (g.service == exit_service) g.address (exit_gate gates)
 
--- the hart at first, but at this pc, with the exit gate as the return address, and with the
--- arguments from a0 on
+-- the room above the stack that the image asks for; none where the data are too small for it
+abbrev pub entry_room : Bounds → ℕ
+entry_room b =
+    let room = room_of b.init in cond (nat_le (room + first_frame) b.data.size) room 0
+
+-- where the stack pointer lies: `first_frame` bytes and that room below the data's end
+abbrev pub entry_stack : Bounds → ℕ
+entry_stack b = b.data.base + (b.data.size - first_frame - entry_room b)
+
+-- the hart at first, but at this pc, with that stack pointer, with the exit gate as the return
+-- address, and with the arguments from a0 on
 abbrev pub entered_hart : Bounds → ℕ → List ℕ → Hart
 entered_hart b pc arguments =
     with_registers
-    (with_register (fresh_hart b.format b.code b.data pc) return_register (exit_gate b.gates))
+    (with_register
+    (with_register (fresh_hart b.format b.code b.data pc) stack_pointer (entry_stack b))
+    return_register (exit_gate b.gates))
     a0_register arguments
 
 -- ---- what that makes of a world

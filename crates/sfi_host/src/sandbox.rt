@@ -3,7 +3,7 @@ ghost use Rattle.std.specs.Prelude.{◌≡◌, ◌%◌, ◌+◌, ◌<◌, ◌≤
 ghost use Rattle.rv_step.specs.State.{IsHart, with_register};
 ghost use Rattle.sfi_formats.specs.Formats.{return_register};
 ghost use Rattle.sfi_host.specs.Hosts.{a0_register};
-ghost use Rattle.sfi_host.specs.Loading.{MayEnter, fresh_hart, typed_for, with_registers, exit_gate, entered_seat};
+ghost use Rattle.sfi_host.specs.Loading.{MayEnter, fresh_hart, typed_for, with_registers, exit_gate, entry_stack, entered_seat};
 ghost use Rattle.sfi_host.specs.Slots.{span_of};
 ghost use Rattle.sfi_host.specs.Worlds.{seat_of};
 ghost use Rattle.sfi_host.specs.Changing.{stopped_seat};
@@ -18,6 +18,7 @@ use sfi_formats::{
     FIRST_FRAME, Format, STACK_POINTER,
 };
 use sfi_image::Gate;
+use sfi_names::room_at_end;
 use std::sync::ArcSlice;
 
 /// Where a sandbox lies, what it begins with, its pc and registers, what it may still do, and how many
@@ -151,6 +152,20 @@ impl Sandbox {
         set_arguments(cpu, arguments);
     }
 
+    /// Where the stack of a function begins that the host calls.
+    fn entry_stack(&self) -> u32
+        requires data_size { 16 ≤ self.now.data.size }
+        requires data_end { self.now.data.base + self.now.data.size < 2 ^ 32 }
+        ensures { result ≡ entry_stack (seat_of self.now).bounds }
+    {
+        let frames = self.data.size - FIRST_FRAME;
+        let room = room_at_end(&self.init);
+        if room > frames {
+            return self.data.base + frames;
+        }
+        self.data.base + (frames - room)
+    }
+
     /// Makes it ready at the address, as a function that returns to the gate of exit.
     pub(crate) fn enter(&mut self, pc: u32, arguments: &[u32; 8])
         requires even { pc % 2 ≡ 0 }
@@ -161,6 +176,7 @@ impl Sandbox {
         ensures hart { IsHart self.new.cpu }
     {
         let mut cpu = fresh_cpu(self.format, self.code, self.data, pc);
+        cpu.set_reg(Reg::numbered(STACK_POINTER), self.entry_stack());
         self.set_call(&mut cpu, arguments);
         self.cpu = cpu;
         self.status = Status::Ready;

@@ -1,4 +1,5 @@
 pub mod Ends
 pub mod Answering
 pub mod Entries
+pub mod Rooms
 pub mod Facts

@@ -2,4 +2,5 @@ pub mod Tables
 pub mod Faults
 pub mod Images
 pub mod Laws
+pub mod Rooms
 pub mod private

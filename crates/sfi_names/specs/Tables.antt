@@ -17,7 +17,7 @@ pub record Named : Type 0 where
 pub record Table : Type 0 where
   pub version : ℕ  -- of the host's interface, for which the code is made
   pub exports : List Named  -- functions that a host may call, and objects of the data that it may use
-  pub imports : List Named  -- gates that the code calls
+  pub imports : List Named  -- gates that the code calls, and as the last the room (Rooms)
 
 -- ---- bytes
 

@@ -11,8 +11,10 @@ mod fault;
 mod footer;
 mod image;
 mod names;
+mod room;
 
 pub use entry::{NameEntry, first_name_entry};
 pub use fault::NamesFault;
 pub use image::{Kind, Missing, address_in, names_in};
 pub use names::Names;
+pub use room::room_at_end;

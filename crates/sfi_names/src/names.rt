@@ -12,7 +12,7 @@ use crate::footer::{cut_end, footer_of};
 use std::alloc::AllocError;
 
 /// The four bytes in which a table ends.
-const MAGIC: [u8; 4] = *b"SFIN";
+pub(crate) const MAGIC: [u8; 4] = *b"SFIN";
 
 /// A table of names, as it lies in bytes. [`first_name_entry`](crate::first_name_entry) goes through its
 /// exports and imports.

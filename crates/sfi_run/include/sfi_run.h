@@ -219,7 +219,8 @@ bool sfi_run_instance(struct sfi_run_module *module, struct sfi_run_world *world
  *
  * A sandbox lies where its image says, so two modules of a world are made for different places, or moved to them (`sfi move`).
  * Images of different formats may share a world. Nothing is checked or decoded anew, and the module may be freed afterwards;
- * but what the world has is copied: for a moment it takes its memory twice.
+ * but what the world has is copied: for a moment it takes its memory twice. Where there is no memory, the world may keep up to 8
+ * bytes more than before for each sandbox that it would have, until it is freed.
  */
 uint32_t sfi_run_add(struct sfi_run_world *world, struct sfi_run_module *module, uint32_t *first);
 
@@ -231,8 +232,8 @@ uint32_t sfi_run_add(struct sfi_run_world *world, struct sfi_run_module *module,
  * is SFI_RUN_CHANGED nothing changes. What is left is copied, as by sfi_run_add.
  *
  * A console knows sandboxes by their numbers, too: read its outputs, and make a new one. Registers that sfi_run_call_back kept
- * of the sandbox are not to be set after that; those of a later one are set at its new number. While sfi_run_serve or
- * sfi_run_function runs a sandbox, its handler removes none of that number or a lower one: the run would go on with another.
+ * of the sandbox are not to be set after that; those of a later one are set at its new number. Where a handler of sfi_run_serve
+ * or sfi_run_function removes the sandbox that it serves, or one of a lower number, the run ends (SFI_RUN_GONE).
  */
 uint32_t sfi_run_remove(struct sfi_run_world *world, uint32_t sandbox);
 
@@ -344,8 +345,9 @@ bool sfi_run_write(struct sfi_run_world *world, uint32_t sandbox, uint32_t at, c
 
 /*
  * Makes a sandbox that has stopped ready at pc, with these arguments in a0 to a7, as a function is called: x1, the return
- * address, is that of its first gate of service 0 (0 where none is listed). The other registers are as sfi_run_load
- * sets them, but for x30, which is pc in the third format. Its data stay, and its steps are counted on. Returns false where
+ * address, is that of its first gate of service 0 (0 where none is listed). x2, the stack pointer, is lower than
+ * sfi_run_load sets it by the room that the image asks for (docs/IMAGE.md, "Names"). The other registers are as
+ * sfi_run_load sets them, but for x30, which is pc in the third format. Its data stay, and its steps are counted on. Returns false where
  * there is no such sandbox, it hasn't stopped, or no bundle or word of its code begins at pc, and changes nothing then.
  */
 bool sfi_run_enter(struct sfi_run_world *world, uint32_t sandbox, uint32_t pc, const uint32_t arguments[8]);

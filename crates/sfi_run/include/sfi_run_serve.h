@@ -20,66 +20,124 @@ extern "C" {
 typedef bool sfi_run_handler(struct sfi_run_world *world, uint32_t sandbox, const struct sfi_run_event *call, void *context);
 
 /*
+ * What sfi_run_serve returns, beside enum sfi_run_kind, where the call is gone that was to be served: `serve` reset, entered,
+ * set or removed the sandbox, had it run on after the reply, or removed one of a lower number, so that the number is another's.
+ */
+enum { SFI_RUN_GONE = 6 };
+
+/*
  * Runs a sandbox for at most `steps` steps in all, and has each of its calls served. Writes to *event how it stands then, and
- * returns the event's kind, as sfi_run_event does. Each reply is a step: a call for which none is left is served in the next
- * run. Steps that `serve` itself has the sandbox do count, too: where they use up all that are left, the run is over. A reset by
- * `serve` ends it. `serve` removes neither that sandbox nor one of a lower number: the run would go on with another.
+ * returns the event's kind, as sfi_run_event does, or SFI_RUN_GONE. Each reply is a step: a call for which none is left is
+ * served in the next run. Steps of functions that `serve` calls count, too: where they use up all that are left, the run is
+ * over.
  */
 static inline uint32_t sfi_run_serve(struct sfi_run_world *world, uint32_t sandbox, uint64_t steps, sfi_run_handler *serve,
                                      void *context, struct sfi_run_event *event) {
+    struct sfi_run_registers after;
     uint64_t now = sfi_run_steps(world, sandbox);
     const uint64_t end = steps < UINT64_MAX - now ? now + steps : UINT64_MAX;
     while (now < end) {
         const uint64_t left = end - now, turn = left < UINT32_MAX ? left : UINT32_MAX;
         const uint32_t kind = sfi_run_turn(world, sandbox, (uint32_t)turn, event);
-        now = sfi_run_steps(world, sandbox);
+        const uint64_t before = sfi_run_steps(world, sandbox);
+        now = before;
         if (kind == SFI_RUN_READY)
             continue; /* there were more steps than one turn takes, or none is left */
-        const uint64_t before = now;
-        if (kind != SFI_RUN_CALL || now >= end || !serve(world, sandbox, event, context))
-            break;
-        if ((now = sfi_run_steps(world, sandbox)) <= before)
-            break; /* no reply, or a reset */
+        if (kind != SFI_RUN_CALL || now >= end)
+            return kind;
+        const uint32_t call = event->pc;
+        const bool goes_on = serve(world, sandbox, event, context);
+        const bool is_there = sfi_run_registers(world, sandbox, &after); /* quicker than an event */
+        now = sfi_run_steps(world, sandbox);
+        if (is_there && after.pc == call + 4 && now > before && goes_on)
+            continue;
+        const uint32_t found = sfi_run_event(world, sandbox, event);
+        /* where pc is still at the call, it has exited or is stopped there, or has no reply */
+        return is_there && (after.pc == call || after.pc == call + 4) && now >= before ? found : (uint32_t)SFI_RUN_GONE;
     }
     return sfi_run_event(world, sandbox, event);
 }
 
-/* What sfi_run_function hands its own handler. */
+/* How the call of a function ended. */
+enum sfi_run_ended {
+    SFI_RUN_RETURNED = 0,          /* it returned, or exited */
+    SFI_RUN_ENDED_NO_FUNCTION = 1, /* there is no such sandbox, or none of its code can be entered at that address */
+    SFI_RUN_ENDED_BUSY = 2,        /* the sandbox is in the midst of a run: it neither has stopped nor stands at a call */
+    SFI_RUN_ENDED_TRAPPED = 3,
+    SFI_RUN_ENDED_STEPS_USED = 4,
+    SFI_RUN_ENDED_REFUSED = 5, /* `serve` answered false, gave no reply, or is NULL */
+    SFI_RUN_ENDED_STOPPED = 6, /* `serve` stopped the sandbox */
+    SFI_RUN_ENDED_GONE = 7     /* SFI_RUN_GONE: `serve` did something else with the sandbox */
+};
+
+/* What sfi_run_function hands its own handler, and learns from it. */
 struct sfi_run_serving {
     sfi_run_handler *serve;
     void *context;
+    uint32_t high; /* a1 at the call by which the function returned */
+    bool is_refused;
 };
 
 static inline bool sfi_run_serve_function(struct sfi_run_world *world, uint32_t sandbox, const struct sfi_run_event *call,
                                           void *context) {
-    const struct sfi_run_serving *own = (const struct sfi_run_serving *)context;
-    if (call->number == 0)
+    struct sfi_run_serving *own = (struct sfi_run_serving *)context;
+    if (call->number == 0) {
+        own->high = call->a1;
         return sfi_run_exit(world, sandbox, call->a0);
-    return own->serve != NULL && own->serve(world, sandbox, call, own->context);
+    }
+    own->is_refused = own->serve == NULL || !own->serve(world, sandbox, call, own->context);
+    return !own->is_refused;
+}
+
+/* How a call ended whose run ended as this kind: `is_refused` by `serve`, or with steps left. */
+static inline enum sfi_run_ended sfi_run_ended_by(uint32_t kind, bool is_refused, bool has_steps) {
+    switch (kind) {
+    case SFI_RUN_READY:
+    case SFI_RUN_CALL:
+        return is_refused || has_steps ? SFI_RUN_ENDED_REFUSED : SFI_RUN_ENDED_STEPS_USED;
+    case SFI_RUN_EXITED:
+        return is_refused ? SFI_RUN_ENDED_REFUSED : SFI_RUN_RETURNED;
+    case SFI_RUN_TRAPPED:
+        return SFI_RUN_ENDED_TRAPPED;
+    case SFI_RUN_STOPPED:
+        return SFI_RUN_ENDED_STOPPED;
+    default:
+        return SFI_RUN_ENDED_GONE;
+    }
 }
 
 /*
  * Calls a function, and runs it for at most `steps` steps in all: sfi_run_enter, or sfi_run_call_back where the sandbox stands
  * at a call, and then sfi_run_serve. `serve`, which may be NULL, serves its calls of other services than 0, and may call
- * functions in its turn. Returns whether the function returned, or exited, and then writes its result, and a sandbox that
- * was called back stands at its call again. Otherwise it stands as it does (sfi_run_event), and nothing is written.
+ * functions in its turn. Writes to *result what the function returned or exited with: a0, and above it a1 (of an exit by
+ * `serve` 0); and where it trapped the cause, and above it the address, as an event has them. Else nothing is written.
+ *
+ * However it ended, the call is over, and the next one can come. Where the sandbox stood at a call, it stands there again, and
+ * waits for the reply; else it has stopped, if need be by sfi_run_stop. Its data are as the function left them. Of a call that is
+ * gone nothing is put back: a sandbox that is still there is stopped then. One that wasn't entered (NO_FUNCTION, BUSY) stays as it
+ * was. Who wants to go on after used steps calls sfi_run_enter and sfi_run_serve.
  */
-static inline bool sfi_run_function(struct sfi_run_world *world, uint32_t sandbox, uint32_t pc, const uint32_t arguments[8],
-                                    uint64_t steps, sfi_run_handler *serve, void *context, uint32_t *result) {
-    struct sfi_run_serving own;
+static inline enum sfi_run_ended sfi_run_function(struct sfi_run_world *world, uint32_t sandbox, uint32_t pc,
+                                                  const uint32_t arguments[8], uint64_t steps, sfi_run_handler *serve,
+                                                  void *context, uint64_t *result) {
+    struct sfi_run_serving own = {serve, context, 0, false};
     struct sfi_run_registers kept;
+    struct sfi_run_region data = {0, 0}, found;
     struct sfi_run_event event;
     const bool is_back = sfi_run_call_back(world, sandbox, pc, arguments, &kept);
-    own.serve = serve;
-    own.context = context;
     if (!is_back && !sfi_run_enter(world, sandbox, pc, arguments))
-        return false;
-    if (sfi_run_serve(world, sandbox, steps, sfi_run_serve_function, &own, &event) != SFI_RUN_EXITED)
-        return false;
-    if (is_back && !sfi_run_set_registers(world, sandbox, &kept))
-        return false;
-    *result = event.number;
-    return true;
+        return sfi_run_event(world, sandbox, &event) == SFI_RUN_READY ? SFI_RUN_ENDED_BUSY : SFI_RUN_ENDED_NO_FUNCTION;
+    const uint64_t before = sfi_run_steps(world, sandbox);
+    sfi_run_data(world, sandbox, &data);
+    const uint32_t kind = sfi_run_serve(world, sandbox, steps, sfi_run_serve_function, &own, &event);
+    const enum sfi_run_ended how = sfi_run_ended_by(kind, own.is_refused, sfi_run_steps(world, sandbox) - before < steps);
+    if (how == SFI_RUN_RETURNED || how == SFI_RUN_ENDED_TRAPPED)
+        *result = event.number | (uint64_t)(how == SFI_RUN_RETURNED ? own.high : event.a0) << 32;
+    if (is_back && how != SFI_RUN_ENDED_GONE)
+        sfi_run_set_registers(world, sandbox, &kept);
+    else if (how != SFI_RUN_RETURNED && sfi_run_data(world, sandbox, &found) && found.base == data.base)
+        sfi_run_stop(world, sandbox);
+    return how;
 }
 
 #ifdef __cplusplus

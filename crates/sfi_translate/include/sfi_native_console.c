@@ -57,13 +57,16 @@ static bool has_room(struct console *it, const struct sfi_console_call *call) {
     return longer != NULL;
 }
 
+/* sfi_run_exit, with an a1: here it stays what it was at the call. It is in sfi_native_run.c. */
+static bool exit_with(struct sfi_run_world *world, uint32_t sandbox, uint32_t number, uint32_t a1);
+
 static bool console_serve(struct sfi_run_world *world, uint32_t i, const struct sfi_run_event *event, void *context) {
     struct console *it = (struct console *)context;
-    struct sfi_run_region data;
+    struct sfi_run_region data = {0, 0};
     sfi_run_data(world, i, &data);
     struct sfi_console_call call = {i, event->number, event->a0, event->a1, sfi_native_data(world, i), data.base, data.size};
     if (call.service == SFI_EXIT_SERVICE)
-        return sfi_run_exit(world, i, call.a0);
+        return exit_with(world, i, call.a0, call.a1);
     if (call.service == SFI_YIELD_SERVICE) {
         sfi_run_reply(world, i, call.a0, call.a1);
         return false;

@@ -1,7 +1,9 @@
 /* sfi_native.h and the data of a sandbox, for hosts. By SFI_GUARDED, on x86-64 Linux, data lie between two guard zones, and an
    access there faults: the handler of SIGSEGV goes on where the access is left to sfi_step, which traps. So accesses take no
-   test, where data are whole pages that don't begin below 8192 nor end above 2^32 - 8192. A thread that takes turns may not
-   block SIGSEGV. Code that has handled it once stays loaded. Nothing of this file is proved. */
+   test, where data are whole pages that don't begin below 8192 nor end above 2^32 - 8192. They rest on typed registers
+   (docs/IMAGE.md), too: a host that lets one hold what its type forbids, be it a word of the sandbox's, lets the sandbox read and
+   write up to 4 GiB off its data. A thread that takes turns may not block SIGSEGV. Code that has handled it once stays loaded.
+   Nothing of this file is proved. */
 #ifndef SFI_NATIVE_DATA_H
 #define SFI_NATIVE_DATA_H
 #include <stdlib.h>

@@ -9,7 +9,7 @@
 
 enum { SERVICE_EXIT = 0, CALL_SIZE = 4, SLACK = 1020 }; /* SLACK: docs/IMAGE.md, typed registers */
 enum { MAGIC_SIZE = 4, COUNT_SIZE = 4, FIELDS_SIZE = 28, GATE_SIZE = 8 }; /* docs/IMAGE.md, the layout */
-enum { WORD_SIZE = 4, FOOTER_SIZE = 16, NAME_AT = 5 }; /* the table of names */
+enum { WORD_SIZE = 4, FOOTER_SIZE = 16, NAME_AT = 5, BELOW_END = 16 }; /* the table of names; where the first stack pointer is */
 
 static const uint8_t image_bytes[] = {
 #include SFI_IMAGE
@@ -293,12 +293,16 @@ bool sfi_run_reply(struct sfi_run_world *world, uint32_t sandbox, uint32_t a0, u
     return is_done;
 }
 
-bool sfi_run_exit(struct sfi_run_world *world, uint32_t sandbox, uint32_t number) {
+static bool exit_with(struct sfi_run_world *world, uint32_t sandbox, uint32_t number, uint32_t a1) {
     struct native_sandbox *it = sandbox_at(world, sandbox);
-    const bool is_done = end_call(it, number, 0);
+    const bool is_done = end_call(it, number, a1);
     if (is_done)
         end(it, SFI_RUN_EXITED, number, 0);
     return is_done;
+}
+
+bool sfi_run_exit(struct sfi_run_world *world, uint32_t sandbox, uint32_t number) {
+    return exit_with(world, sandbox, number, 0);
 }
 
 bool sfi_run_stop(struct sfi_run_world *world, uint32_t sandbox) {
@@ -363,6 +367,7 @@ bool sfi_run_enter(struct sfi_run_world *world, uint32_t sandbox, uint32_t pc, c
         return false;
     begin(it, pc);
     it->hart.x[1] = exit_gate(it->text);
+    it->hart.x[2] -= room_of(it->text);
     memcpy(it->hart.x + 10, arguments, 8 * sizeof *arguments);
     return true;
 }

@@ -19,7 +19,8 @@
  *   images take no test (sfi_native_data.h says which), and the first load handles SIGSEGV: what is no sandbox's fault goes to
  *   the handler before. A handler that is set later has to hand on what isn't its own. SIGSEGV may not be blocked where turns
  *   are taken, nor a shared library with plug-ins be unloaded. sfi_native_data.h and the kernel are trusted, too.
- * - On x86-64 the text is assembled, so that -masm=intel, and -flto with two plug-ins, want -DSFI_PORTABLE.
+ * - On x86-64 the text is assembled, so that -masm=intel wants -DSFI_PORTABLE. gcc's -flto doesn't know the assembly's names: where
+ *   it parts the program (a large one, or by -flto-partition=max), or has two plug-ins, this file wants -fno-lto, or -DSFI_PORTABLE.
  * - sfi_run_until takes a step at a time, from a table, as slowly as sfi_run_turn of libsfi_run.
  * - A world keeps its sandboxes: none can be added, since they would meet those that are there, and sfi_run_remove returns
  *   SFI_NATIVE_STAYS.

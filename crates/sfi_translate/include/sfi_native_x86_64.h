@@ -1,8 +1,9 @@
 /* What the lines of a translation mean on x86-64: a part of sfi_native.h, whose last reading of the text it is, in place of
    functions of C. It says the same of each form in instructions of the machine, for GNU's assembler and clang's. All
    code of a sandbox is one function, and a turn and an indirect jump enter each unit: so code that calls much, and large
-   programs, run faster than by functions of C, and are compiled in seconds. Nothing of this file is proved: what it has
-   to say is crates/sfi_translate/specs/Machine.antt.
+   programs, run faster than by functions of C, and are compiled in seconds. Names that C and the text share are the file's
+   own, which gcc's -flto may part: compile the file with -fno-lto then. Nothing of this file is proved: what it has to say is
+   crates/sfi_translate/specs/Machine.antt.
 
    Within the code %rsp holds the frame, %r15 the data, %r14d the steps left plus the number of the line, so that a line
    which goes on to the next needs no count (`left`, `one_less`). %eax and %xmm0 hold nothing from one line to the next.

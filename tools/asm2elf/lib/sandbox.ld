@@ -54,9 +54,11 @@ SECTIONS {
         /* Of a program that can be moved, where the addresses in the data are: tools/sfi_elf/moving.py writes it. */
         . = DEFINED(__sfi_movable) ? ALIGN(4) : .;
         __sfi_places = .; KEEP(*(.sfi.places)) __sfi_places_end = .;
-        /* The table of names, whose last 16 bytes tools/sfi_elf/image.py writes. */
+        /* The table of names. Its last 16 bytes, and the 10 of the room above the stack, are what tools/sfi_elf/names.py writes. */
         __sfi_exports = .; KEEP(*(.sfi.exports)) __sfi_imports = .; KEEP(*(.sfi.imports)) __sfi_names = .;
-        . += __sfi_names > __sfi_exports ? 16 : 0;
+        . += __sfi_above > 0 && (__sfi_names > __sfi_exports || DEFINED(__sfi_entered)) ? 26 :
+            __sfi_names > __sfi_exports ? 16 : 0;
+        __sfi_names_end = .;
     } :data
     .bss : { *(.bss .bss.* COMMON) . = ALIGN(16); __sfi_end = .; } :data
 
@@ -67,6 +69,5 @@ SECTIONS {
 
 ASSERT(__sfi_small_end + 64 - __sfi_data <= 2048,
     "the small objects and the room below them exceed 1984 bytes: compile with a lower -msmall-data-limit")
-ASSERT(__sfi_end - __sfi_data <= 0x100000, "the data exceed 1 MiB")
 ASSERT(DEFINED(__sfi_format_1) + DEFINED(__sfi_format_2) + DEFINED(__sfi_format_words) <= 1,
     "objects of several formats: compile all of them with one --format")

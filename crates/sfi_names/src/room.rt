@@ -1,0 +1,44 @@
+//! The room that code asks for above the stack of a function that its host calls.
+ghost use Rattle.std.specs.Prelude.{◌≡◌, ◌<◌, length};
+ghost use Rattle.sfi_names.specs.Rooms.{ends_with_room, room_in, room_of};
+
+use crate::names::MAGIC;
+use byteorder::{ByteOrder, LittleEndian};
+
+/// How many bytes the last import has, where it is the room, with what stands after it in a table.
+const ROOM_BYTES: usize = 26;
+
+/// The length of the room's name, and the name.
+const ROOM_NAME: [u8; 6] = *b"\x05.room";
+
+/// Whether these 26 bytes have the name of the room and the magic in their places.
+fn ends_with_room(last: &[u8]) -> bool
+    requires { length last.now ≡ ROOM_BYTES }
+    ensures { result ≡ ends_with_room last.now }
+{
+    &last[4..10] == ROOM_NAME.as_slice() && &last[22..26] == MAGIC.as_slice()
+}
+
+/// The room that these 26 bytes ask for.
+fn room_in(last: &[u8]) -> u32
+    requires { length last.now ≡ ROOM_BYTES }
+    ensures { result ≡ room_in last.now }
+{
+    if !ends_with_room(last) {
+        return 0;
+    }
+    LittleEndian::read_u32(&last[..4])
+}
+
+/// How many bytes above the stack of a function that a host calls the table at the end of these
+/// first data bytes asks for: what its last import stands for, if its name is `.room`, else 0. gcc
+/// and clang reach objects of a frame by a base above the frame, which would pass the data's end.
+#[tactic(auto, unfolding(crate::specs::Rooms::room_of))]
+pub fn room_at_end(bytes: &[u8]) -> u32
+    ensures { result ≡ room_of bytes.now }
+{
+    if bytes.len() < ROOM_BYTES {
+        return 0;
+    }
+    room_in(&bytes[bytes.len() - ROOM_BYTES..])
+}
