@@ -4,7 +4,7 @@ Debian's lua5.4.
 
     bench/lua.py [--program PATH] [--sources FOLDER] [--format N] [--heap BYTES] [--rounds N] [--option OPTION ..] [SCRIPT ..]
 
-Scripts are those of examples/c/programs if none are named. It wants lua5.4, Lua's sources (examples/c/programs.py --fetch) and
+Scripts are those of examples/c/programs, which are short, and those of longer/ if none are named; each folder has its mean. It wants lua5.4, Lua's sources (examples/c/programs.py --fetch) and
 sfi-cc's tools. OPTION is one of gcc for the translation, such as -DSFI_TESTED. Processor seconds of lua5.4, each the least of
 N alternated runs, and the ratios of the others to it; it ends where the translation prints another line than `sfi run`.
 """
@@ -16,6 +16,7 @@ import subprocess
 import sys
 import tempfile
 from dataclasses import replace
+from itertools import groupby
 
 import measure
 from compiled import EXAMPLES, mean
@@ -23,6 +24,9 @@ from compiled import EXAMPLES, mean
 sys.path.insert(0, EXAMPLES)
 import programs
 from translated import TURNS
+
+
+FOLDERS = (os.path.join(EXAMPLES, "programs"), os.path.join(measure.HERE, "longer"))
 
 
 def lua_image(given, folder):
@@ -58,7 +62,7 @@ def measured(given, script, image, path):
 
 def main():
     parser = argparse.ArgumentParser(description=__doc__, formatter_class=argparse.RawDescriptionHelpFormatter)
-    parser.add_argument("scripts", nargs="*", default=sorted(glob.glob(os.path.join(EXAMPLES, "programs", "*.lua"))))
+    parser.add_argument("scripts", nargs="*", default=[path for folder in FOLDERS for path in sorted(glob.glob(os.path.join(folder, "*.lua")))])
     parser.add_argument("--program", default=measure.PROGRAM)
     parser.add_argument("--sources", default=os.path.join(programs.root(), "sources"))
     parser.add_argument("--format", choices=programs.FORMATS, default="words")
@@ -74,12 +78,13 @@ def main():
         path, seconds = translated(given, image, folder)
         image = measure.written(os.path.join(folder, "image"), image)
         print(f"gcc -O2 {' '.join(given.option)}: {seconds:.1f} s of processor time\n\n| script | lua5.4, s | translated | sfi run |\n|---|---|---|---|")
-        rows = []
-        for script in given.scripts:
-            least, ratios = measured(given, script, image, path)
-            rows.append(ratios)
-            print(f"| {os.path.basename(script)} | {least:.4f} | {ratios[0]:.2f} | {ratios[1]:.1f} |", flush=True)
-        print(f"| mean | | {mean([row[0] for row in rows]):.2f} | {mean([row[1] for row in rows]):.1f} |")
+        for _, scripts in groupby(given.scripts, os.path.dirname):
+            rows = []
+            for script in scripts:
+                least, ratios = measured(given, script, image, path)
+                rows.append(ratios)
+                print(f"| {os.path.basename(script)} | {least:.4f} | {ratios[0]:.2f} | {ratios[1]:.1f} |", flush=True)
+            print(f"| mean | | {mean([row[0] for row in rows]):.2f} | {mean([row[1] for row in rows]):.1f} |", flush=True)
 
 
 if __name__ == "__main__":

@@ -1,14 +1,15 @@
 #!/usr/bin/env python3
 """How fast translated images are: the programs of examples/c and four kernels (kernels.c), by `sfi translate` and gcc
--O2, beside the same C by gcc -O2 alone, the kernels by wasm2c, too.
+-O2, beside the same C by gcc -O2 alone, and by clang, wasm2c and gcc -O2.
 
-    bench/translated.py [--program PATH] [--rounds N] [--option OPTION ..] [--interpreted] [--peers] [NAME ..]
+    bench/translated.py [--program PATH] [--rounds N] [--instructions] [--option OPTION ..] [--interpreted] [--peers] [NAME ..]
 
 It wants sfi-cc's tools, and for wasm2c clang, wasm-ld and wabt. OPTION is one of gcc for the
 translations, such as -DSFI_PORTABLE. A program
 runs again and again over an input that is built in (repeat.c); it ends where the checksums differ. Processor seconds
 of the native program, each the least of N alternated runs, and of the others the ratios to it; then the text's bytes
-for an instruction. With --interpreted, so of the same images by `sfi run`, which takes long. With --peers, so of the
+for an instruction. With --instructions, in place of seconds the x86 instructions that callgrind counts in a twentieth of the
+work, which other work on the machine doesn't change. With --interpreted, so of the same images by `sfi run`, which takes long. With --peers, so of the
 kernels by qemu-riscv32, by node (less its start), and by wabt's wasm-interp (of a hundredth of the work), each where it is.
 """
 import argparse
@@ -28,7 +29,18 @@ KERNELS = {"sha": "sha", "sort_kernel": "sort", "matrix_kernel": "matrix", "siev
 FORMATS = ("2", "words")
 TURNS = ["--rounds", "10000", "--quantum", "1000000"]
 INCLUDE = os.path.join(compiled.TOP, "crates/sfi_translate/include")
-WASM = ["--target=wasm32", "-O2", "-mbulk-memory", "-nostdlib", "-DRUN_ALONE", "-Wl,--no-entry,--export=run"]
+WASM = ["--target=wasm32", "-O2", "-mbulk-memory", "-nostdlib", "-DRUN_ALONE", "-Dmain=run", "-Wl,--no-entry,--export=run"]
+# What clang has no instruction for, of the C library's functions that the programs call.
+WASM_LIBRARY = """
+int memcmp(const void *left, const void *right, unsigned long count) {
+    const unsigned char *one = left, *other = right;
+    for (; count; count--, one++, other++)
+        if (*one != *other)
+            return *one - *other;
+    return 0;
+}
+"""
+FEWER = 20  # times the work is divided by where instructions are counted
 WASM_RUN = """
 #include <stdio.h>
 #include "kernel.h"
@@ -68,9 +80,9 @@ def call(*words, **more):
     return subprocess.run(words, check=True, stdout=subprocess.PIPE, **more).stdout
 
 
-def sources(name, folder):
+def sources(name, folder, divisor=1):
     """The options and files of a program."""
-    times = [f"-DTIMES={TIMES[name]}"]
+    times = [f"-DTIMES={TIMES[name] // divisor}"]
     if name in KERNELS:
         return [*times, f"-DKERNEL={KERNELS[name]}", os.path.join(measure.HERE, "kernels.c")]
     given = bytes.fromhex(compiled.digits_of_case(name))
@@ -86,9 +98,10 @@ def native(folder, options):
 
 
 def by_wasm2c(folder, options):
-    """The program that wasm2c makes of a kernel."""
+    """What wasm2c makes of a program."""
     wasm, path = os.path.join(folder, "kernel.wasm"), os.path.join(folder, "by_wasm2c")
-    call("clang", *WASM, *options, "-o", wasm)
+    extra = measure.written(os.path.join(folder, "library.c"), WASM_LIBRARY.encode())
+    call("clang", *WASM, *options, extra, "-o", wasm)
     call("wasm2c", wasm, "-n", "kernel", "-o", os.path.join(folder, "kernel.c"))
     run = measure.written(os.path.join(folder, "run.c"), WASM_RUN.encode())
     library = "/usr/share/wabt/wasm2c"
@@ -105,9 +118,7 @@ def by_node(folder):
 def wasm_interp_seconds(folder, name):
     """The seconds that wasm-interp takes for a hundredth of a kernel's work, times a hundred."""
     wasm = os.path.join(folder, "hundredth.wasm")
-    options = sources(name, folder)
-    options[0] = f"-DTIMES={TIMES[name] // 100}"
-    call("clang", *WASM, *options, "-o", wasm)
+    call("clang", *WASM, *sources(name, folder, 100), "-o", wasm)
     return 100 * measure.run(["wasm-interp", wasm, "--run-all-exports"], os.devnull)[1]
 
 
@@ -155,21 +166,21 @@ def measured(program, name, given, folder):
     if name not in KERNELS:
         source = measure.contents(os.path.join(EXAMPLES, name + ".c"))
         measure.written(os.path.join(folder, "program.c"), source.replace(b"int main(void)", b"int program(void)"))
-    options = sources(name, folder)
+    options = sources(name, folder, FEWER if given.instructions else 1)
     ways, texts = {"native": (native(folder, options), os.devnull)}, {}
     for image_format in FORMATS:
         words, texts[image_format] = translated(program, image_format, folder, options, given.option)
         ways[image_format] = words, os.devnull
-    if name in KERNELS and shutil.which("wasm2c") and shutil.which("clang"):
+    if shutil.which("wasm2c") and shutil.which("clang"):
         ways["wasm2c"] = by_wasm2c(folder, options), os.devnull
     if name in KERNELS and given.peers:
         ways |= peers(folder, options)
     if given.interpreted:
         ways |= {f"run {it}": ([program, "run", *TURNS], image_in(folder, it)) for it in FORMATS}
     answers = {way: answer_of(measure.run(*words)[0]) for way, words in ways.items()}
-    if len(set(answers.values())) != 1:
-        raise SystemExit(f"bench: {name}: the checksums differ: {answers}")
-    least = measure.leasts(ways, given.rounds)
+    if len(set(answers.values())) != 1 or "0" in answers.values():  # 0 as of a program that puts nothing
+        raise SystemExit(f"bench: {name}: the checksums differ, or say nothing: {answers}")
+    least = {way: measure.instructions(*it) for way, it in ways.items()} if given.instructions else measure.leasts(ways, given.rounds)
     seconds = least.pop("native")
     if "node" in least:
         least["node"] -= measure.leasts({"start": (["node", "-e", ""], os.devnull)}, given.rounds)["start"]
@@ -194,10 +205,13 @@ def main():
     parser.add_argument("names", nargs="*", default=[*CASES, *KERNELS])
     parser.add_argument("--program", default=measure.PROGRAM)
     parser.add_argument("--rounds", type=int, default=3)
+    parser.add_argument("--instructions", action="store_true")
     parser.add_argument("--option", action="append", default=[])
     parser.add_argument("--interpreted", action="store_true")
     parser.add_argument("--peers", action="store_true")
     given = parser.parse_args()
+    if given.instructions and (given.peers or given.interpreted):
+        parser.error("--instructions counts those of translations and of wasm2c alone")
     program = measure.program_at(given.program)
     rows, texts = {}, []
     with tempfile.TemporaryDirectory() as folder:

@@ -17,8 +17,16 @@ export declare class Refused extends Error { readonly findings: number; readonly
 export declare class NoImage extends Error { readonly fault: number }
 /** A name for which there is no address. `why` is the number by which sfi_run.h tells the reason. */
 export declare class NoName extends Error { readonly why: number }
-/** A function that didn't return: the `event` says how its sandbox stands. */
-export declare class NotReturned extends Error { readonly event: Event }
+/** Why a call of a function is over without a result: it can't be entered there; its sandbox is in the midst of a run; it
+ * trapped; its steps are used; a call of it got no reply; a handler stopped its sandbox; or reset, entered or removed it, or set
+ * its registers. */
+export declare const Ended: {
+  readonly NO_FUNCTION: "NoFunction"; readonly BUSY: "Busy"; readonly TRAPPED: "Trapped"; readonly STEPS_USED: "StepsUsed";
+  readonly REFUSED: "Refused"; readonly STOPPED: "Stopped"; readonly GONE: "Gone";
+};
+export type Ended = (typeof Ended)[keyof typeof Ended];
+/** A call of a function that is over without a result. The `event` is how the sandbox stood when it ended, if it is there. */
+export declare class NotReturned extends Error { readonly cause: Ended; readonly event?: Event }
 /** An address that isn't one of the sandbox's data. */
 export declare class OutsideData extends Error {}
 /** A reply to a sandbox that stands at no call, or no longer at the call that is replied to. */
@@ -101,13 +109,17 @@ export declare class Sandbox {
   /** Takes it back to what it was when its world was made, whatever it did and wherever it stands. */
   reset(): void;
   /** Makes it ready at pc, where it has stopped, with at most eight arguments in a0 to a7 and 0 in those that are left. Throws
-   * NotEntered where it hasn't stopped, or no bundle or word of its code begins at pc. */
+   * NotEntered where it hasn't stopped, or no bundle or word of its code begins at pc, and RangeError where an argument is no
+   * integer from -2^31 to 2^32 - 1 (a negative one is taken modulo 2^32). */
   enter(pc: number, given?: readonly number[]): void;
   /** Calls a function, by its address or the name of an export: enters it with at most eight arguments, runs it, and answers
    * its result, with which it exits. `serve` may call functions, too: while one waits for its reply, the other runs on its
-   * stack, and then it waits again. Throws NoName; NotEntered and RangeError as `enter` does; and NotReturned where it stops in
-   * another way, its steps are used, or a call gets no reply. */
+   * stack, and then it waits again. Throws NoName, and RangeError as `enter` does, before anything runs. Where it doesn't return,
+   * NotReturned tells the cause, and the call is over: the sandbox has stopped, with its data as they are, or stands again at
+   * the call at which it was called, and the next call of it is right. So it is where `serve` throws, which passes on. */
   call(at: number | string, ...given: [...number[], CallOptions] | number[]): number;
+  /** The same of a function whose result has 64 bits. Of one whose result has 32, the upper half is what it leaves in a1. */
+  call64(at: number | string, ...given: [...number[], CallOptions] | number[]): bigint;
   /** How many steps it has done. */
   readonly steps: number;
   /** Its pc and registers. Set, they make it ready, whether it was ready, stood at a call or had stopped; x0 stays 0. That
@@ -152,8 +164,9 @@ export declare class Library {
   static load(path?: string | URL): Promise<Library>;
 }
 
-/** Gets each call of the gate of its name, and answers its result: of an integer the lowest 32 bits, or 0. */
-export type Handler = (call: Call) => number | boolean | void | null;
+/** Gets each call of the gate of its name, and answers its result: of an integer the lowest 32 bits, 64 bits as a pair [low,
+ * high], or 0; nothing that counts, once it has replied by `call.reply`. */
+export type Handler = (call: Call) => number | boolean | readonly [number, number] | void | null;
 
 /** A sandbox of an image of its own, whose names are what the image says of itself. */
 export declare class Plugin {
@@ -172,6 +185,8 @@ export declare class Plugin {
   address(name: string): number;
   /** Calls an export. Throws NoName, and what `Sandbox.call` does. */
   call(name: string, ...given: number[]): number;
+  /** The same, with a result of 64 bits: `Sandbox.call64` says of which functions. */
+  call64(name: string, ...given: number[]): bigint;
   close(): void;
   [Symbol.dispose](): void;
 }

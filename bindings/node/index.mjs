@@ -3,6 +3,6 @@ export { Console } from "./console.mjs";
 export { Library, NoMemory, VERSION } from "./library.mjs";
 export { Module } from "./module.mjs";
 export { Plugin } from "./plugin.mjs";
-export { Call, Cause, Exited, Meets, NoImage, NoName, NotEntered, NotReturned, NotRunning, NotWaiting, OutsideData, Ready,
+export { Call, Cause, Ended, Exited, Meets, NoImage, NoName, NotEntered, NotReturned, NotRunning, NotWaiting, OutsideData, Ready,
   Refused, Stopped, Trapped } from "./told.mjs";
 export { load } from "./world.mjs";

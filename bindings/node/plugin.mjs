@@ -1,14 +1,22 @@
 // A sandbox of an image of its own, whose functions are called by their names, and call the host's by theirs.
-import { Exited, NoName, NotReturned } from "./told.mjs";
-import { EXIT, STEPS, load } from "./world.mjs";
+import { NoName } from "./told.mjs";
+import { STEPS, finishStart, load } from "./world.mjs";
 
 const NO_SUCH_NAME = 5;
 
-/** What a handler answered, as a word: 0 where that is nothing, and of any other integer the lowest 32 bits. */
-function wordOf(answer) {
-  const number = answer ?? 0;
-  if (!Number.isInteger(number) && typeof number !== "boolean") throw new TypeError("a handler answers an integer, or nothing");
+/** The lowest 32 bits of an integer that a handler answered. */
+function wordOf(number) {
+  if (!Number.isInteger(number) && typeof number !== "boolean") {
+    throw new TypeError("a handler answers an integer, two of them, or nothing");
+  }
   return number >>> 0;
+}
+
+/** Replies as a handler answered, unless it has replied itself. */
+function reply(call, answer) {
+  if (!call.isWaiting) return;
+  if (Array.isArray(answer) && answer.length === 2) call.reply(wordOf(answer[0]), wordOf(answer[1]));
+  else call.reply(wordOf(answer ?? 0));
 }
 
 export class Plugin {
@@ -35,13 +43,13 @@ export class Plugin {
     if (!this.sandbox) throw new RangeError(`there is no sandbox ${number}`);
     this.#steps = steps;
     for (const [name, handler] of Object.entries(handlers)) this.#handle(name, handler);
-    const last = this.sandbox.run(steps, (call) => (call.service === EXIT ? call.exit(call.a0) : this.#serve(call)));
-    if (!(last instanceof Exited)) throw new NotReturned(last);
+    finishStart(this.sandbox, steps, (call) => this.#serve(call));
     this.exports = new Proxy(Object.freeze({}), { get: (_, name) => this.#function(name) });
   }
 
   /** Those whose name the image doesn't import are never called. */
   #handle(name, handler) {
+    if (typeof handler !== "function") throw new TypeError(`the handler ${name} is no function`);
     try {
       this.#handlers.set(this.sandbox.imported(name), handler);
     } catch (error) {
@@ -51,11 +59,15 @@ export class Plugin {
 
   #serve(call) {
     const handler = this.#handlers.get(call.pc);
-    if (handler) call.reply(wordOf(handler(call)));
+    if (handler) reply(call, handler(call));
   }
 
   #called(address, given) {
-    return this.sandbox.call(address, ...given, { steps: this.#steps, serve: (call) => this.#serve(call) });
+    return this.sandbox.call(address, ...given, this.#options());
+  }
+
+  #options() {
+    return { steps: this.#steps, serve: (call) => this.#serve(call) };
   }
 
   #function(name) {
@@ -75,6 +87,10 @@ export class Plugin {
 
   call(name, ...given) {
     return this.#called(this.address(name), given);
+  }
+
+  call64(name, ...given) {
+    return this.sandbox.call64(this.address(name), ...given, this.#options());
   }
 
   close() {

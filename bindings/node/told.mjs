@@ -29,10 +29,30 @@ export class NoName extends Error {
   }
 }
 
+export const Ended = Object.freeze({ NO_FUNCTION: "NoFunction", BUSY: "Busy", TRAPPED: "Trapped", STEPS_USED: "StepsUsed",
+  REFUSED: "Refused", STOPPED: "Stopped", GONE: "Gone" });
+const ENDED = {
+  NoFunction: "no bundle or word of the sandbox's code begins there",
+  Busy: "the sandbox is in the midst of a run, which `turn` and `events` go on with, and `stop` ends",
+  Trapped: "it trapped",
+  StepsUsed: "its steps are used (what may take more steps is begun by `enter`, and goes on by `events`)",
+  Refused: "it calls a gate, and no handler replied",
+  Stopped: "a handler stopped the sandbox",
+  Gone: "a handler reset, entered or removed the sandbox, or set its registers",
+};
+
+/** What is said of a call that is over: why, and how the sandbox stood, if it is there. */
+function whyEnded(cause, event) {
+  if (cause === Ended.TRAPPED) return `${ENDED[cause]}, ${event.cause} at ${hexadecimal(event.address)}`;
+  if (cause === Ended.REFUSED) return `${ENDED[cause]} (service ${event.service} at ${hexadecimal(event.pc)})`;
+  return ENDED[cause];
+}
+
 export class NotReturned extends Error {
-  constructor(event) {
-    super(`a function didn't return: ${event.constructor.name}`);
-    this.event = event;
+  /** `now` says of the sandbox how it stands since. */
+  constructor(what, cause, event, now) {
+    super(now ? `${what} is over: ${whyEnded(cause, event)}. Of the sandbox: ${now}` : `${what} didn't begin: ${ENDED[cause]}`);
+    Object.assign(this, { cause, event });
   }
 }
 

@@ -1,13 +1,16 @@
 // Worlds and their sandboxes, over the calls of sfi_run.h: index.d.mts says what each does.
 import { NoMemory, usualLibrary } from "./library.mjs";
-import { Call, Exited, Meets, NoImage, NoName, NotEntered, NotReturned, NotRunning, NotWaiting, OutsideData, Ready, Refused,
-  eventOf, hexadecimal } from "./told.mjs";
+import { Call, Ended, Exited, Meets, NoImage, NoName, NotEntered, NotReturned, NotRunning, NotWaiting, OutsideData, Ready, Refused,
+  Stopped, Trapped, eventOf, hexadecimal } from "./told.mjs";
 
 export const STEPS = 1_000_000; // of a call, unless others are given
 export const EXIT = 0; // the service
 const WORD = 0xffffffff;
 const MOST_DATA = 1 << 20;
 const ARGUMENTS = 8;
+const REGISTERS = 33; // words of struct sfi_run_registers
+const CALLABLE = "it has stopped, and can be called";
+const BACK = "it stands again at the call at which it was called";
 export const STRUCT_BYTES = 16; // of struct sfi_run_world, which begins as zeros, and struct sfi_run_console
 
 /** A number of 32 bits: WebAssembly would cut a larger one. */
@@ -16,17 +19,41 @@ export function word(value) {
   return value;
 }
 
+/** An argument as such a number: of a negative one modulo 2^32. */
+function argument(value) {
+  if (!Number.isInteger(value) || value < -(2 ** 31) || value > WORD) {
+    throw new RangeError(`${String(value)} isn't an integer from -2^31 to 2^32 - 1`);
+  }
+  return value >>> 0;
+}
+
+/** How many steps a run has. */
+function counted(steps) {
+  if (!Number.isSafeInteger(steps) || steps < 0) throw new RangeError(`steps is ${String(steps)}, and has to be at least 0`);
+  return steps;
+}
+
+/** The options after the arguments of a call, which are taken off. */
+function optionsOf(given) {
+  const last = given.at(-1);
+  if (typeof last !== "object") return { steps: STEPS };
+  if (last === null || Array.isArray(last)) throw new TypeError("after the arguments comes an object with `steps` or `serve`");
+  const { steps = STEPS, serve } = given.pop();
+  if (serve !== undefined && typeof serve !== "function") throw new TypeError("`serve` is a function");
+  return { steps: counted(steps), serve };
+}
+
 export function bytesOf(data) {
   if (data instanceof ArrayBuffer) return new Uint8Array(data);
   if (!ArrayBuffer.isView(data)) throw new TypeError("what has bytes is wanted: a Uint8Array, a Buffer, or an ArrayBuffer");
   return new Uint8Array(data.buffer, data.byteOffset, data.byteLength);
 }
 
-/** Has `count` words stand in the passage: these numbers, and then zeros. */
-function passWords(library, numbers, count = numbers.length) {
+/** Has `count` words stand in the passage: these numbers, as `taken` takes them, and then zeros. */
+function passWords(library, numbers, count = numbers.length, taken = word) {
   const at = library.passage(4 * count);
   const words = library.words(count, at).fill(0);
-  numbers.forEach((number, index) => { words[index] = word(number); });
+  numbers.forEach((number, index) => { words[index] = taken(number); });
   return at;
 }
 
@@ -83,14 +110,21 @@ export class Held {
     const first = this.seats.length;
     const count = Number(this.library.calls.count(this.at));
     for (let number = first; number < count; number++) {
-      this.seats.push({ number, place: number - first, image, keeps, goneOn: 0 }); // goneOn: its last reply, stop or entry
+      // goneOn: its last reply, stop or entry. entered: how it came to the pc and registers that it has, also by a reset
+      this.seats.push({ number, place: number - first, image, keeps, goneOn: 0, entered: 0 });
     }
     return this.seats.slice(first);
   }
 
+  /** Takes note that a sandbox was entered, reset or removed, or that its registers were set. */
+  enter(seat) {
+    seat.goneOn = ++this.moves;
+    seat.entered = seat.goneOn;
+  }
+
   /** Where its number is no more what it was, its object knows. */
   remove(seat) {
-    seat.goneOn = ++this.moves;
+    this.enter(seat);
     this.seats.splice(seat.number, 1);
     this.seats.forEach((other, number) => { other.number = number; });
   }
@@ -102,6 +136,7 @@ export class Held {
   close() {
     if (!this.isOpen) return;
     this.isOpen = false;
+    this.seats.forEach((seat) => this.enter(seat));
     this.seats = [];
     dropped.unregister(this);
     this.free();
@@ -161,6 +196,9 @@ export async function load(image, library) {
 
 const outside = (at, count) => new OutsideData(`${count} bytes at ${hexadecimal(at)}`);
 
+/** Runs a sandbox through its start, which has to exit: what `Sandbox.call` does of a function that is entered. */
+export let finishStart;
+
 export class Sandbox {
   #held;
   #seat;
@@ -192,6 +230,13 @@ export class Sandbox {
     return isDone;
   }
 
+  /** The same of a call that enters it. */
+  #entered(name, ...words) {
+    const isDone = this.#changed(name, ...words);
+    if (isDone) this.#held.enter(this.#seat);
+    return isDone;
+  }
+
   #told(name, ...words) {
     const held = this.#open();
     const kind = this.#call(name, ...words, held.library.told);
@@ -214,8 +259,7 @@ export class Sandbox {
   }
 
   events(steps) {
-    if (!Number.isSafeInteger(steps) || steps < 0) throw new RangeError(`steps is ${steps}, and has to be at least 0`);
-    return this.#events(this.steps + steps);
+    return this.#events(counted(steps) + this.steps);
   }
 
   *#events(end) {
@@ -267,42 +311,107 @@ export class Sandbox {
   }
 
   reset() {
-    this.#changed("reset");
+    this.#entered("reset");
   }
 
   /** a0 to a7, in the passage. Those that are left are 0. */
   #arguments(given) {
     if (given.length > ARGUMENTS) throw new RangeError("there are at most eight arguments");
-    return passWords(this.#open().library, given, ARGUMENTS);
+    return passWords(this.#open().library, given, ARGUMENTS, argument);
   }
 
   enter(pc, given = []) {
-    if (!this.#changed("enter", word(pc), this.#arguments(given))) {
+    if (!this.#entered("enter", word(pc), this.#arguments(given))) {
       throw new NotEntered(`sandbox ${this.number} can't be entered at ${hexadecimal(pc)}`);
     }
   }
 
   call(at, ...given) {
-    const { steps = STEPS, serve } = typeof given.at(-1) === "object" ? given.pop() : {};
-    const pc = typeof at === "string" ? this.export(at) : at;
-    const putBack = this.#calledBack(pc, given);
-    if (!putBack) this.enter(pc, given);
-    const last = this.run(steps, (call) => (call.service === EXIT ? call.exit(call.a0) : serve?.(call)));
-    if (!(last instanceof Exited)) throw new NotReturned(last);
-    putBack?.();
-    return last.number;
+    return this.#called(at, given)[0];
   }
 
-  /** Enters a function where it stands at a call: what has it stand there again. Nothing where it can't be entered so. */
-  #calledBack(pc, given) {
+  call64(at, ...given) {
+    const [low, high] = this.#called(at, given);
+    return (BigInt(high) << 32n) | BigInt(low);
+  }
+
+  #called(at, given) {
+    const { steps, serve } = optionsOf(given);
+    const frame = this.#begin(word(typeof at === "string" ? this.export(at) : at), given);
+    return this.#finish(frame, steps, serve);
+  }
+
+  /** Enters a function. Its frame: what is run, how the sandbox was entered for it, what is said of the sandbox after a failure,
+   * and if that was at a call, what it found there. Where it can't be entered, nothing changes. */
+  #begin(pc, given) {
     const { library } = this.#open();
-    const standing = this.#seat.goneOn;
-    if (!this.#changed("call_back", word(pc), this.#arguments(given), library.told)) return undefined;
-    const kept = library.words(33).slice();
-    return () => {
-      this.#call("set_registers", passWords(library, kept));
-      this.#seat.goneOn = standing;
+    const at = this.#arguments(given);
+    const seat = this.#seat;
+    const found = { goneOn: seat.goneOn, entered: seat.entered };
+    const what = `the call of ${hexadecimal(pc)} in sandbox ${this.number}`;
+    if (this.#entered("enter", pc, at)) return { what, entered: seat.entered, after: CALLABLE };
+    if (this.#entered("call_back", pc, at, library.told)) {
+      return { what, entered: seat.entered, after: BACK, found, kept: library.words(REGISTERS).slice() };
+    }
+    const { event } = this;
+    throw new NotReturned(what, event instanceof Ready ? Ended.BUSY : Ended.NO_FUNCTION, event);
+  }
+
+  static {
+    finishStart = (sandbox, steps, serve) => {
+      const frame = { what: `the start in sandbox ${sandbox.number}`, entered: sandbox.#seat.entered, after: "it has stopped" };
+      sandbox.#finish(frame, counted(steps), serve);
     };
+  }
+
+  /** The two words of what the frame answers. However it ends, it is over then. */
+  #finish(frame, steps, serve) {
+    try {
+      return this.#result(frame, steps, serve);
+    } finally {
+      this.#end(frame);
+    }
+  }
+
+  #result(frame, steps, serve) {
+    let last;
+    let high = 0;
+    for (const event of this.events(steps)) {
+      last = event;
+      if (!(event instanceof Call)) break;
+      if (event.service === EXIT) {
+        high = event.a1;
+        event.exit(event.a0);
+      } else if (serve) {
+        serve(event);
+        if (this.#isGone(frame)) throw this.#failure(frame, Ended.GONE, this.#held.has(this.#seat) ? this.event : undefined);
+      }
+    }
+    if (last instanceof Exited) return [last.number, high];
+    if (last instanceof Ready) throw this.#failure(frame, Ended.STEPS_USED, last);
+    if (last instanceof Trapped) throw this.#failure(frame, Ended.TRAPPED, last);
+    throw this.#failure(frame, last instanceof Stopped ? Ended.STOPPED : Ended.REFUSED, last);
+  }
+
+  /** Whether a handler entered the sandbox for something else: of the frame nothing is left then. */
+  #isGone(frame) {
+    return this.#seat.entered !== frame.entered;
+  }
+
+  /** Has the sandbox stand at the call again at which it was called, or else stop. */
+  #end(frame) {
+    if (!this.#held.has(this.#seat)) return;
+    if (!frame.kept || this.#isGone(frame)) {
+      this.#changed("stop");
+    } else {
+      this.#call("set_registers", passWords(this.#held.library, frame.kept));
+      Object.assign(this.#seat, frame.found);
+    }
+  }
+
+  #failure({ what, after }, cause, event) {
+    const now = cause === Ended.GONE ? CALLABLE : after;
+    return new NotReturned(what, cause, event, event ? now : "it is no longer there");
   }
 
   get steps() {
@@ -311,13 +420,13 @@ export class Sandbox {
 
   get registers() {
     this.#call("registers", this.#open().library.told);
-    const [pc, ...x] = this.#held.library.words(33);
+    const [pc, ...x] = this.#held.library.words(REGISTERS);
     return { pc, x };
   }
 
   set registers({ pc, x }) {
     if (x.length !== 32) throw new RangeError(`${x.length} registers, not 32`);
-    if (!this.#changed("set_registers", passWords(this.#open().library, [pc, ...x]))) {
+    if (!this.#entered("set_registers", passWords(this.#open().library, [pc, ...x]))) {
       throw new NotEntered(`sandbox ${this.number} can't go on with these registers`);
     }
   }

@@ -8,6 +8,11 @@
 extern "C" {
 #endif
 
+/* Before a function or an object that is defined: a host finds it by its name, as by `sfi-cc --export`. Before a function's
+   declaration: it is a gate of its name that the host serves, as by `sfi-cc --import`. In C++ both want extern "C". */
+#define SFI_EXPORT __attribute__((used, visibility("protected")))
+#define SFI_IMPORT __attribute__((weak, visibility("protected")))
+
 /* Ends the program with a code. Returning from main does the same. */
 __attribute__((noreturn)) void exit_with(int code);
 

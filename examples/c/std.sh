@@ -63,13 +63,21 @@ make_library() { # compiler, format
     riscv64-unknown-elf-ar rcs "$at/libsmall.a" "$at"/*.o
 }
 
-# The functions of the library that a program has are those that it calls, and what these call.
+# The functions of the library that a program has are those that it calls, and what these call, also by default.
 try_linking() { # compiler
-    local names found
-    compile "$1" 2 -fhosted -fno-builtin -I include -o "$room/base64.elf" std/base64.c library/*.c
+    local names found way
     names=$(riscv64-unknown-elf-nm "$room/$1.2/libsmall.a" 2>"$room/messages" | awk '$2 == "W" && $3 !~ /^_/ { print $3 }')
-    found=$(riscv64-unknown-elf-nm "$room/base64.elf" | awk '{ print $3 }' | grep -xF "$names" | sort | paste -sd' ')
-    report "base64 by $1: functions of the library" "getchar putchar" "$found"
+    for way in "-fhosted -fno-builtin -I include library/*.c" ""; do
+        compile "$1" 2 $way -o "$room/base64.elf" std/base64.c
+        found=$(riscv64-unknown-elf-nm "$room/base64.elf" | awk '{ print $3 }' | grep -xF "$names" | sort | paste -sd' ')
+        report "base64 by $1 $way: functions of the library" "getchar putchar" "$found"
+    done
+}
+
+# As README.md has it: without an option.
+try_hello() { # compiler, format
+    ../../tools/sfi-cc --program "$sfi" --cc "$(compiler_of "$1")" --format "$2" hello.c >"$room/hello.hex" 2>"$room/messages"
+    report "hello.c by $1, format $2" "Hello, world, 0" "$("$sfi" exec "$room/hello.hex" 2>&1), $?"
 }
 
 # Two programs in one image.
@@ -95,6 +103,7 @@ try_format() { # compiler, format
         try_std "$1" "$program" "$2"
     done
     try_pair "$1" "$2"
+    try_hello "$1" "$2"
 }
 
 try_compiler() { # compiler

@@ -6,7 +6,8 @@ int main(int count, char **words) {
     static uint8_t image[1 << 20];
     struct sfi_run_world world = SFI_RUN_NO_WORLD;
     struct sfi_verdict verdict;
-    uint32_t add, sum;
+    uint32_t add;
+    uint64_t sum;
     FILE *file = count == 2 ? fopen(words[1], "rb") : NULL;
     size_t length = file ? fread(image, 1, sizeof image, file) : 0;
     if (sfi_run_load(image, length, &world, &verdict) != SFI_RUN_LOADED ||
@@ -14,7 +15,8 @@ int main(int count, char **words) {
         fprintf(stderr, "there is no plug-in with a function add\n");
         return 1;
     }
-    if (sfi_run_stop(&world, 0) && sfi_run_function(&world, 0, add, (uint32_t[8]){2, 3}, 1000, NULL, NULL, &sum))
+    sfi_run_stop(&world, 0);
+    if (sfi_run_function(&world, 0, add, (uint32_t[8]){2, 3}, 1000, NULL, NULL, &sum) == SFI_RUN_RETURNED)
         printf("%u\n", (unsigned)sum);
     sfi_run_free(&world);
     return 0;

@@ -149,7 +149,10 @@ static void serves(struct sfi_run_world *world) {
            "where its reply is a step");
     wanted(steps_of(world, 1000, &once, SFI_RUN_READY) == 1000 && once.calls == 2, "a run takes all of its steps, and no more");
     wanted(steps_of(world, 1000, &last, SFI_RUN_READY) == before + 1 && last.calls == 1, "the handler ends a run");
-    wanted(steps_of(world, 100, &more, SFI_RUN_READY) == before + 501 && more.calls == 1, "steps of the handler's own count");
+    sfi_run_reset(world, 0);
+    wanted(sfi_run_serve(world, 0, 1000, serve, &more, &event) == SFI_RUN_GONE && event.kind == SFI_RUN_READY && more.calls == 1 &&
+               sfi_run_steps(world, 0) == before + 501,
+           "a handler that has it run on ends a run");
     wanted(sfi_run_serve(world, 1, 100, serve, &more, &event) == SFI_RUN_NONE, "nobody runs who isn't there");
 }
 
@@ -166,6 +169,17 @@ static void functions(struct sfi_run_world *world) {
            "none begins within a word");
     wanted(sfi_run_call(world, 0, sum, arguments, 1, &event) && event.kind == SFI_RUN_READY && sfi_run_stop(world, 0),
            "it has the steps that it is given");
+}
+
+static void exits_by_console(struct sfi_run_world *world) {
+    const uint32_t arguments[8] = {2, 3};
+    struct sfi_run_console console = SFI_RUN_NO_CONSOLE;
+    struct sfi_run_registers registers;
+    wanted(sfi_run_console_new(1, NULL, 0, &console) && sfi_run_enter(world, 0, sum, arguments) &&
+               sfi_run_console_turn(&console, world, 0, 1000) && is_event(world, SFI_RUN_EXITED, 5, 0, 0),
+           "a console ends a function by its exit");
+    wanted(sfi_run_registers(world, 0, &registers) && registers.x[10] == 5 && registers.x[11] == 2, "and keeps a1");
+    sfi_run_console_free(&console);
 }
 
 static void stops_at(struct sfi_run_world *world) {
@@ -252,6 +266,7 @@ int main(int count, char **words) {
     reads(&world);
     stops(&world);
     functions(&world);
+    exits_by_console(&world);
     stops_at(&world);
     has_set(&world);
     resets(&world, &first, data);

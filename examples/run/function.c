@@ -28,13 +28,13 @@ static bool serve(struct sfi_run_world *world, uint32_t i, const struct sfi_run_
 }
 
 /* Calls the function on a text, which gets what it makes of it: whether it returned. */
-static bool call(struct sfi_run_world *world, uint32_t function, char *text, uint32_t *number) {
+static bool call(struct sfi_run_world *world, uint32_t function, char *text, uint64_t *number) {
     struct sfi_run_region data;
     uint32_t length = (uint32_t)strlen(text);
     sfi_run_data(world, 0, &data);
     const uint32_t arguments[8] = {data.base, length};
     return sfi_run_write(world, 0, data.base, (uint8_t *)text, length) &&
-           sfi_run_function(world, 0, function, arguments, STEPS, serve, NULL, number) &&
+           sfi_run_function(world, 0, function, arguments, STEPS, serve, NULL, number) == SFI_RUN_RETURNED &&
            sfi_run_read(world, 0, data.base, length, (uint8_t *)text, length);
 }
 
@@ -42,7 +42,7 @@ int main(int count, char **words) {
     struct sfi_run_world world = SFI_RUN_NO_WORLD;
     struct sfi_run_registers registers;
     struct sfi_run_event event;
-    uint32_t number;
+    uint64_t number;
     if (count < 2)
         return 3;
     load_file(words[1], &world);
@@ -53,7 +53,7 @@ int main(int count, char **words) {
             fprintf(stderr, "the plug-in didn't return\n");
             return 1;
         }
-        printf("%s %" PRIu32 "\n", words[k], number);
+        printf("%s %" PRIu32 "\n", words[k], (uint32_t)number);
     }
     sfi_run_free(&world);
     return 0;

@@ -19,8 +19,8 @@ static bool serve(struct sfi_run_world *of, uint32_t i, const struct sfi_run_eve
 /* The result of a function of one argument, also while a call of the plug-in waits. */
 static int result_of(uint32_t function, uint32_t argument) {
     const uint32_t arguments[8] = {argument};
-    uint32_t result;
-    if (!sfi_run_function(&world, 0, function, arguments, 100000, serve, NULL, &result)) {
+    uint64_t result;
+    if (sfi_run_function(&world, 0, function, arguments, 100000, serve, NULL, &result) != SFI_RUN_RETURNED) {
         fprintf(stderr, "a function doesn't return\n");
         exit(1);
     }

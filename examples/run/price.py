@@ -5,8 +5,8 @@ valgrind counts, from C; in microseconds from C, Python and node, the median of 
     examples/run/price.py [LIBRARY [PROGRAM]]    # as test.sh takes them
 
 A loop of two instructions gives the price of a step, beside that of `sfi run`; a loop with a call in it, whose steps are
-taken off, that of a turn with its reply. From Python and node a call is measured as `turn` and `reply`, and as a loop over
-`events`.
+taken off, that of a turn with its reply; nops, and compiled programs where gcc for RISC-V is there, that of a byte of code in a
+load. From Python and node a call is measured as `turn` and `reply`, and as a loop over `events`.
 """
 import os
 import pathlib
@@ -26,6 +26,7 @@ import libraries
 
 STEPS = ".sandbox 256\nloop: addi a0, a0, 1\n j loop\n"
 LARGE = ".format 2\n.sandbox 65536\n" + "nop\n" * 16384 + "ebreak\n"
+COMPILED = [(name, form) for name in ("json", "sort") for form in ("1", "2", "words")]  # programs of examples/c, and formats
 CALLS = ".sandbox 256\n.gate post 4\nloop: call post\n j loop\n"
 TURNS, ROUNDS = 20000, 7
 
@@ -76,6 +77,28 @@ def per_call(*words, times):
     return (instructions(*more) - instructions(*fewer)) / int(words[times])
 
 
+def fields(image):
+    """The bytes of code and of data of an image's one sandbox."""
+    found = image.read_bytes()
+    return int.from_bytes(found[12:16], "little"), int.from_bytes(found[20:24], "little")
+
+
+def print_loads(room, sfi):
+    """What a load takes for each byte of code, beside one of the least code with as many data."""
+    load = lambda image: per_call(room / "price", image, "load", "4", "0", times=3)
+    print(f"a load of {(room / 'steps').stat().st_size} bytes: {load(room / 'steps'):.0f} instructions")
+    programs = [("nops, format 2", room / "large")]
+    for name, form in COMPILED if shutil.which("riscv64-unknown-elf-gcc") else []:
+        programs.append((f"{name}.c, format {form}", room / f"{name}_{form}.image"))
+        run(TOP / "tools" / "sfi-cc", "--program", sfi, "--format", form, "-O2", "-o", programs[-1][1], TOP / "examples" / "c" / f"{name}.c")
+    for name, image in programs:
+        code, data = fields(image)
+        small = room / "small"
+        small.write_bytes(bytes.fromhex(run(sfi, "build", given=f".format 2\n.sandbox {data}\nebreak\n").stdout))
+        each = (load(image) - load(small)) / (code - fields(small)[0])
+        print(f"a load of {name}: {each:.1f} instructions for each byte of code")
+
+
 def main(library=None, sfi=None):
     sfi = sfi or str(TOP / "crates" / "sfi" / "out" / "sfi")  # ./sfi is a script
     with tempfile.TemporaryDirectory() as folder:
@@ -97,9 +120,7 @@ def main(library=None, sfi=None):
             for call in ("read", "write"):
                 found = [per_call(room / "price", room / "large", call, "50", str(length), times=3) for length in (0, 4096, 65536)]
                 print(f"a {call}: {found[0]:.0f} instructions, and {(found[2] - found[1]) / 61440:.2f} for each byte")
-            for name in ("steps", "large"):
-                found = per_call(room / "price", room / name, "load", "4", "0", times=3)
-                print(f"a load of {(room / name).stat().st_size} bytes: {found:.0f} instructions")
+            print_loads(room, sfi)
         print(f"from C, with these steps: {microseconds(lambda: run(*host('calls', TURNS * 20, 1000))) / 20:.2f} us")
         for name, calls in zip(("turn and reply", "events"), python_calls((room / "calls").read_bytes())):
             print(f"from Python, {name}: {microseconds(calls):.2f} us")

@@ -15,10 +15,10 @@ static bool begin(struct sfi_run_world *world) {
 
 static bool add(struct sfi_run_world *world, uint32_t start, uint32_t number) {
     const uint32_t arguments[8] = {number};
-    uint32_t sum;
-    bool is_done = sfi_run_function(world, 0, start, arguments, STEPS, NULL, NULL, &sum);
+    uint64_t sum;
+    bool is_done = sfi_run_function(world, 0, start, arguments, STEPS, NULL, NULL, &sum) == SFI_RUN_RETURNED;
     if (is_done)
-        printf("%" PRIu32 "\n", sum);
+        printf("%" PRIu32 "\n", (uint32_t)sum);
     return is_done;
 }
 

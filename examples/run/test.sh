@@ -216,9 +216,8 @@ compiled_anew() {
         "$top/tools/sfi-cc" --program "$SFI" --format "$format" --export add "$room/add.c" -o "$room/add.image" 2>"$room/log"
         says "a function by its name, format $format" add "5
 status 0" "$room/add.image"
-        "$top/tools/sfi-cc" --program "$SFI" --format "$format" --export numbers --export sort --export digit --import compare \
-            -I "$here/../c/include" "$here/order_plugin.c" "$here/../c/library/sorting.c" -o "$room/order.image" 2>"$room/log"
-        says "calls both ways, format $format" order "61 42 93 5 17 28
+        "$top/tools/sfi-cc" --program "$SFI" --format "$format" -Wall -Werror "$here/order_plugin.c" -o "$room/order.image" 2>"$room/log"
+        says "calls both ways, by names that the source marks, format $format" order "61 42 93 5 17 28
 61 42 93 5 17 28
 status 0" "$room/order.image"
     done
@@ -286,6 +285,9 @@ header_in_c() {
     local checked=(gcc -std=c11 "${warnings[@]}" -D_POSIX_C_SOURCE=200809L -pthread)
     local wrapped=-Wl,--wrap=malloc,--wrap=realloc,--wrap=free images=() format
     succeeds "calls.c" "${checked[@]}" "$here/calls.c" "$room/lib/libsfi_run.a" -o "$room/calls"
+    succeeds "failed_calls.c" "${checked[@]}" "$here/failed_calls.c" "$room/lib/libsfi_run.a" -o "$room/failed_calls"
+    succeeds "the headers in C99" gcc -std=c99 "${warnings[@]}" -Wconversion -x c -fsyntax-only \
+        "$top/crates/sfi_run/include/sfi_run_serve.h"
     succeeds "threads.c" "${checked[@]}" "$here/threads.c" "$room/lib/libsfi_run.a" -o "$room/threads"
     succeeds "memory.c" "${checked[@]}" "$here/memory.c" "$room/lib/libsfi_run.a" $wrapped -o "$room/memory"
     succeeds "modules.c" "${checked[@]}" "$here/modules.c" "$room/lib/libsfi_run.a" $wrapped -o "$room/modules"
@@ -294,6 +296,8 @@ header_in_c() {
     for format in $formats; do
         image "$room/on.s" "$format" on
         says_so "single calls, format $format" "all is so" "$room/calls" "$room/on.image"
+        image "$here/failed_calls.s" "$format" failed_calls
+        says_so "calls that fail, format $format" "all is so" "$room/failed_calls" "$room/failed_calls.image"
         says_so "four threads and one world, format $format" "10000 steps" "$room/threads" "$room/on.image" 10000
         says_so "four threads and worlds of one module, format $format" "40000 steps" "$room/modules" "$room/on.image" 10000
         image "$here/../hi.s" "$format" "hi_$format"
@@ -322,11 +326,11 @@ broken_at() {
 }
 
 header_in_cpp() {
-    has g++ || { skip 5 "the header in C++" "g++ isn't there" && return; }
+    has g++ || { skip 5 "the headers in C++" "g++ isn't there" && return; }
     local standard
     for standard in c++98 c++17; do
-        succeeds "the header in $standard" g++ -std=$standard "${warnings[@]}" -x c++ -fsyntax-only \
-            "$top/crates/sfi_run/include/sfi_run.h"
+        succeeds "the headers in $standard" g++ -std=$standard "${warnings[@]}" -Wconversion -x c++ -fsyntax-only \
+            "$top/crates/sfi_run/include/sfi_run_serve.h"
     done
     succeeds "world.cc" g++ -std=c++17 "${warnings[@]}" "$here/world.cc" "$room/lib/libsfi_run.a" -o "$room/world"
     has xxd || return
@@ -341,6 +345,18 @@ own_tests() { # a language, and a command whose last line counts its tests
     head -n -1 "$room/log" | grep -v '^OK$\|^\.*$\|^Ran\|^---'
     last=$(tail -n 1 "$room/log")
     add_counts "$last" || report "the tests in $language" "N passed, M failed" "$last"
+}
+
+# What `npm pack` packs of the package for node, once its module is made: here a file that stands for it.
+packed_for_node() {
+    local place=$room/packed
+    has npm || { skip 2 "npm pack" "npm isn't there" && return; }
+    mkdir -p "$place" && cp "$top/bindings/node"/*.* "$place" && rm -f "$place/sfi_run.wasm"
+    report "npm pack without the module" "sfi_run.wasm is not made: tools/build_node.py of the repository makes it" \
+        "$(cd "$place" && npm pack --offline 2>&1 | grep '^sfi_run')"
+    touch "$place/sfi_run.wasm"
+    report "npm pack" "$(cd "$place" && ls *.md *.mjs *.mts *.json *.wasm | grep -v '^test' | sort)" \
+        "$(cd "$place" && npm pack --offline --silent >/dev/null 2>&1; tar tzf sfi-run-*.tgz | sed 's,^package/,,' | sort)"
 }
 
 bindings() {
@@ -370,5 +386,6 @@ else
     skip 1 "all runs" "xxd isn't there"
 fi
 header_in_cpp
+packed_for_node
 bindings
 finish

@@ -39,11 +39,11 @@ static bool find(struct sfi_run_world *world, struct table *table) {
     return true;
 }
 
-static bool capitalize(struct sfi_run_world *world, const struct table *table, char *text, uint32_t *number) {
+static bool capitalize(struct sfi_run_world *world, const struct table *table, char *text, uint64_t *number) {
     size_t length = strlen(text);
     const uint32_t arguments[8] = {table->text, (uint32_t)length};
     return length <= table->room && sfi_run_write(world, 0, table->text, (uint8_t *)text, length) &&
-           sfi_run_function(world, 0, table->capitalize, arguments, STEPS, serve, NULL, number) &&
+           sfi_run_function(world, 0, table->capitalize, arguments, STEPS, serve, NULL, number) == SFI_RUN_RETURNED &&
            sfi_run_read(world, 0, table->text, length, (uint8_t *)text, length);
 }
 
@@ -51,14 +51,14 @@ int main(int count, char **words) {
     struct sfi_run_world world = SFI_RUN_NO_WORLD;
     struct sfi_run_event event;
     struct table table;
-    uint32_t number;
+    uint64_t number;
     if (count < 2)
         return 3;
     load_file(words[1], &world);
     bool is_done = find(&world, &table);
     for (int k = 2; is_done && k < count; k++)
         if ((is_done = capitalize(&world, &table, words[k], &number)))
-            printf("%s %" PRIu32 "\n", words[k], number);
+            printf("%s %" PRIu32 "\n", words[k], (uint32_t)number);
     if (is_done && (is_done = sfi_run_enter(&world, 0, table.ask_forever, (uint32_t[8]){0}))) {
         const char *ended = run(&world, &event) == SFI_RUN_EXITED ? "exited" : "cut off";
         printf("%s after %" PRIu64 " steps\n", ended, sfi_run_steps(&world, 0));

@@ -10,6 +10,20 @@ export SFI=$sfi RUST_BACKTRACE=0
 cd "$here" || exit 1
 source ../harness.sh
 
+silently() { # what is tried; a command, which has to end in 0 and print nothing, such as a warning
+    local what=$1
+    shift
+    "$@" >"$room/log" 2>&1 && [ ! -s "$room/log" ]
+    report_as $? "$what" "nothing by $*" "$(tail -n 30 "$room/log")"
+}
+
+# What programs stand on, by any compiler that is there, for this machine.
+try_guest() {
+    local rustc=${RUSTC:-rustc}
+    has "$rustc" || { skip 1 "sfi_guest for this machine" "$rustc isn't there (Debian's package rustc)" && return; }
+    silently "sfi_guest for this machine" "$rustc" --edition=2021 --crate-type=rlib --emit=metadata --out-dir="$room" sfi_guest/lib.rs
+}
+
 inputs_of() {
     case $1 in
     words) echo empty prose json-tree ;;
@@ -74,13 +88,14 @@ try_line() {
     report "where a panic traps" 1 "$(riscv64-unknown-elf-objdump -dl "$room/debugged.elf" | grep -B2 ebreak | grep -c panicking.rs)"
 }
 
+try_guest
 if ! ./sfi-rustc --missing 2>"$room/messages"; then
     skip 1 "Rust programs" "$(cat "$room/messages")"
     finish
 fi
 for program in words median panics calls; do
-    succeeds "$program natively" ./sfi-rustc --native "$room/$program" "programs/$program.rs"
-    succeeds "$program as assembly" ./sfi-rustc -S -o "$room/$program.s" "programs/$program.rs"
+    silently "$program natively" ./sfi-rustc --native "$room/$program" "programs/$program.rs"
+    silently "$program as assembly" ./sfi-rustc -S -o "$room/$program.s" "programs/$program.rs"
     for format in $formats; do
         try_program "$program" "$format"
     done

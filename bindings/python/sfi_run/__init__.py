@@ -21,181 +21,28 @@ leaves there, and passes in a call, may be any bytes and numbers at all: test th
 from __future__ import annotations
 
 import ctypes
-import enum
 import itertools
 import os
 import threading
 from collections.abc import Callable, Iterator, Sequence
-from dataclasses import dataclass, field
 from types import TracebackType
-from typing import TYPE_CHECKING, Any, Union
+from typing import TYPE_CHECKING, Any
 
-from . import _library
+from . import _functions, _library
+from ._library import arguments as _words, word as _word
+from .told import (Call, Cause, Ended, Event, Exited, Finding, Meets, NoImage, NotEntered, NotReturned, NotRunning, NotWaiting,
+                   OutsideData, Ready, Refused, Registers, Region, Stopped, Trapped)
 
 if TYPE_CHECKING:
     from .modules import Module
 
 __all__ = [
-    "Call", "Cause", "Event", "Exited", "Finding", "Library", "Meets", "NoImage", "NotEntered", "NotReturned", "NotRunning",
+    "Call", "Cause", "Ended", "Event", "Exited", "Finding", "Library", "Meets", "NoImage", "NotEntered", "NotReturned", "NotRunning",
     "NotWaiting", "OutsideData", "Ready", "Refused", "Registers", "Region", "Sandbox", "Stopped", "Trapped", "World",
 ]
 __version__ = "0.1.0"
 
 Library = _library.Library
-
-
-@dataclass(frozen=True)
-class Finding:
-    """A rule that is broken, 1 for V1 and so on, and where: the sandbox, and the address of the instruction's first byte,
-    or of the bytes that are none; for V9 that of the gate."""
-    sandbox: int
-    address: int
-    rule: int
-
-
-class Refused(Exception):
-    """An image in which rules are broken `findings` times, the `first` time there: `sfi check --report` tells all."""
-
-    def __init__(self, findings: int, first: Finding) -> None:
-        super().__init__(findings, first)
-        self.findings, self.first = findings, first
-
-    def __str__(self) -> str:
-        first = self.first
-        place = f"first=V{first.rule} sandbox={first.sandbox} at={first.address:08x}"
-        return f"rules are broken in the image: findings={self.findings} {place}"
-
-
-class NoImage(Exception):
-    """Bytes that are no image, by the layout's `fault` of that number, 1 to 11, as `sfi check` names it."""
-
-    def __init__(self, fault: int) -> None:
-        super().__init__(fault)
-        self.fault = fault
-
-    def __str__(self) -> str:
-        return f"the bytes are no image: layout fault {self.fault}"
-
-
-class OutsideData(Exception):
-    """An address that isn't one of the sandbox's data."""
-
-
-class NotWaiting(Exception):
-    """A reply to a sandbox that stands at no call, or no longer at the call that is replied to."""
-
-
-class NotEntered(Exception):
-    """An entry into a sandbox that hasn't stopped, or at an address where no bundle or word of its code begins; or registers that
-    it mustn't hold."""
-
-
-class NotReturned(Exception):
-    """A function that didn't return: the `event` says how its sandbox stands."""
-
-    def __init__(self, event: Event) -> None:
-        super().__init__(event)
-        self.event = event
-
-
-class NotRunning(Exception):
-    """A sandbox that is to be stopped, and has stopped already."""
-
-
-class Meets(Exception):
-    """Sandboxes that are to be added to a world, where one would lie on an address that one of the world's takes up."""
-
-
-class Cause(enum.Enum):
-    """Why a sandbox trapped. Accepted code never meets the first two."""
-    FETCH = 1
-    ILLEGAL = 2
-    BREAK = 3
-    LOAD = 4
-    STORE = 5
-
-
-@dataclass(frozen=True)
-class Ready:
-    """The sandbox can take a turn, and doesn't stand at a call."""
-
-
-@dataclass(frozen=True)
-class Call:
-    """The sandbox stands at a call of a gate, and waits for a reply. The service is the gate's; the gate is its place
-    among the sandbox's gates, 0 to 63, and pc is its address."""
-    service: int
-    a0: int
-    a1: int
-    a2: int
-    a3: int
-    a4: int
-    a5: int
-    a6: int
-    a7: int
-    gate: int
-    pc: int
-    sandbox: Sandbox = field(repr=False, compare=False)
-    _turns: int = field(repr=False, compare=False, default=-1)
-
-    def reply(self, a0: int, a1: int | None = None) -> None:
-        """Has the sandbox go on after the call in its next turn, with these in a0 and a1. Without an a1 that of the call
-        stays. Raises ValueError where one isn't from 0 to 2^32 - 1: -1 is 0xFFFFFFFF here, and what is computed of what the
-        sandbox passed wants `& 0xFFFFFFFF`; and NotWaiting where the sandbox no longer stands at this call."""
-        self._now().reply(a0, self.a1 if a1 is None else a1)
-
-    def exit(self, number: int) -> None:
-        """Has the sandbox stop at the call, with that number. Raises as `reply` does."""
-        self._now().exit(number)
-
-    def _now(self) -> Sandbox:
-        """The sandbox, if it still stands at this call: it has gone on where it was replied to, stopped or entered since."""
-        sandbox = self.sandbox
-        if sandbox._seat.gone_on != self._turns:
-            raise NotWaiting(f"sandbox {sandbox.number} no longer stands at this call")
-        return sandbox
-
-
-@dataclass(frozen=True)
-class Exited:
-    """The sandbox has stopped, by `exit`."""
-    number: int
-
-
-@dataclass(frozen=True)
-class Trapped:
-    """The sandbox has stopped, at an instruction that trapped. The address is that of the access, or else the pc."""
-    cause: Cause
-    address: int
-
-
-@dataclass(frozen=True)
-class Stopped:
-    """The sandbox has stopped, by `stop`."""
-
-
-Event = Union[Ready, Call, Exited, Trapped, Stopped]
-
-
-@dataclass(frozen=True)
-class Registers:
-    """pc, and the registers x0 to x31."""
-    pc: int
-    x: tuple[int, ...]
-
-
-@dataclass(frozen=True)
-class Region:
-    """The addresses of a sandbox's data."""
-    base: int
-    size: int
-
-
-def _word(value: int) -> int:
-    """A number of 32 bits. ctypes would cut a larger one."""
-    if not 0 <= value < 1 << 32:
-        raise ValueError(f"{value} isn't a number from 0 to 2^32 - 1")
-    return value
 
 
 def _bytes(data: bytes) -> bytes:
@@ -218,18 +65,25 @@ def _make(make: Callable[..., int], image: bytes, made: Any) -> None:
 
 
 class _Seat:
-    """What the objects of one sandbox share: its number, which is that of its world's list, and its last reply, stop or entry."""
-    __slots__ = ("gone_on", "number")
+    """What the objects of one sandbox share: its number, which is that of its world's list; its last reply, stop or entry; and
+    its last entry, which is how it came to the pc and registers that it has: a reset, a removal, and registers that are set
+    are entries, too."""
+    __slots__ = ("entered", "gone_on", "number")
 
     def __init__(self, number: int) -> None:
-        self.number, self.gone_on = number, 0
+        self.number, self.gone_on, self.entered = number, 0, 0
+
+    def enter(self, move: int) -> None:
+        self.gone_on = self.entered = move
 
 
 class World:
-    """The sandboxes of an image, to which those of others may be added. Any thread may use it: a lock sees to it that one call is made at a time. A loop over `events`
-    is many calls: threads that share a sandbox want a lock of their own around it. A forked child can't use the world of its
-    parent, and shouldn't make one where the parent had threads. It is freed by `close`, at the end of a `with`, or when
-    nothing refers to it any more."""
+    """The sandboxes of an image, to which those of others may be added. Threads may share it, its sandboxes and the plug-ins on
+    them: its lock lets one call in at a time, and is held for all of `Sandbox.call`, so that handlers run under it: they wait
+    for no thread that uses the same world, nor for one whose own handlers use it. A loop over `events` is many calls: threads
+    that share a sandbox want a lock of their own around it. A forked child can't use the world of its parent, and shouldn't
+    make one where the parent had threads. It is freed by `close`, at the end of a `with`, or when nothing refers to it any
+    more."""
 
     def __init__(self, image: bytes, library: Library | None = None) -> None:
         """Checks the image's own bytes (`bytes.fromhex` of what `sfi build` prints), and makes the world of its sandboxes, each
@@ -259,6 +113,8 @@ class World:
         self._made_here()
         with self._lock:
             self._calls["free"](self._at)
+            for seat in self._seats:
+                seat.enter(next(self._moves))
             self._seats, self._is_open = [], False
 
     def add(self, module: Module) -> list[Sandbox]:
@@ -283,7 +139,7 @@ class World:
             raise ValueError("the sandbox is one of another world")
         with self._lock:
             self._has_changed(sandbox._call("remove"))
-            sandbox._seat.gone_on = next(self._moves)
+            sandbox._seat.enter(next(self._moves))
             self._seats.remove(sandbox._seat)
             for number, other in enumerate(self._seats):
                 other.number = number
@@ -323,13 +179,6 @@ class World:
         return iter([Sandbox(self, seat) for seat in self._seats])
 
 
-def _words(arguments: Sequence[int]) -> Any:
-    """a0 to a7. Those that are left are 0."""
-    if len(arguments) > 8:
-        raise ValueError("there are at most eight arguments")
-    return _library.Arguments(*map(_word, arguments))
-
-
 class Sandbox:
     """A sandbox of a world. After it is removed, or the world is closed, every call of it raises IndexError."""
     __slots__ = ("_seat", "_world")
@@ -342,12 +191,15 @@ class Sandbox:
         """Its number in the world, from 0."""
         return self._seat.number
 
+    def _is_there(self) -> bool:
+        world, number = self._world, self._seat.number
+        return number < len(world._seats) and world._seats[number] is self._seat
+
     def _place(self) -> int:
         """Its number, if it is still there."""
-        world, number = self._world, self._seat.number
-        if number >= len(world._seats) or world._seats[number] is not self._seat:
-            raise IndexError("the sandbox is removed" if world._is_open else "the world is closed")
-        return number
+        if not self._is_there():
+            raise IndexError("the sandbox is removed" if self._world._is_open else "the world is closed")
+        return self._seat.number
 
     def _call(self, name: str, *arguments: Any) -> Any:
         world = self._world
@@ -361,6 +213,14 @@ class Sandbox:
             is_done = self._call(name, *arguments)
             if is_done:
                 self._seat.gone_on = next(self._world._moves)
+            return is_done
+
+    def _entered(self, name: str, *arguments: Any) -> bool:
+        """The same of a call that enters it."""
+        with self._world._lock:
+            is_done = self._changed(name, *arguments)
+            if is_done:
+                self._seat.entered = self._seat.gone_on
             return is_done
 
     def _told(self, name: str, *arguments: Any) -> Event:
@@ -453,48 +313,30 @@ class Sandbox:
     def reset(self) -> None:
         """Takes it back to what it was when its world was made, whatever it did and wherever it stands: its data, pc and
         registers are those of then, it is ready, and has done 0 steps. No call that was told before is replied to any more."""
-        self._changed("reset")
+        self._entered("reset")
 
     def enter(self, pc: int, arguments: Sequence[int] = ()) -> None:
         """Makes it ready at pc, where it has stopped, with at most eight arguments in a0 to a7 and 0 in those that are
         left. A function that returns calls its first gate of service 0. Its data stay, and its steps are counted on. Raises
-        NotEntered where it hasn't stopped, or no bundle or word of its code begins at pc."""
-        if not self._changed("enter", _word(pc), _words(arguments)):
+        NotEntered where it hasn't stopped, or no bundle or word of its code begins at pc, ValueError where an argument isn't
+        from -2^31 to 2^32 - 1 (a negative one is taken modulo 2^32), and TypeError where it is no int."""
+        if not self._entered("enter", _word(pc), _words(arguments)):
             raise NotEntered(f"sandbox {self.number} can't be entered at {pc:08x}")
 
     def call(self, pc: int, *arguments: int, steps: int, serve: Callable[[Call], object] | None = None) -> int:
         """Calls a function: enters it at pc, runs it for at most `steps` steps in all, and answers its result, with which it
         exits. `serve` replies to its calls of gates of other services, and may call functions, too: while one waits for its
-        reply, the other runs on its stack, and then it waits again. Raises NotEntered and ValueError as `enter` does, and
-        NotReturned where it stops in another way, its steps are used, or a call gets no reply."""
-        put_back = self._called_back(pc, arguments)
-        if not put_back:
-            self.enter(pc, arguments)
-        for event in self.events(steps):
-            if isinstance(event, Call):
-                if event.service == 0:
-                    event.exit(event.a0)
-                elif serve:
-                    serve(event)
-        if not isinstance(event, Exited):
-            raise NotReturned(event)
-        if put_back:
-            put_back()
-        return event.number
+        reply, the other runs on its stack, and then it waits again.
 
-    def _called_back(self, pc: int, arguments: Sequence[int]) -> Callable[[], None] | None:
-        """Enters a function where it stands at a call: what has it stand there again. None where it can't be entered so."""
-        kept = _library.Registers()
-        with self._world._lock:
-            standing = self._seat.gone_on
-            if not self._changed("call_back", _word(pc), _words(arguments), ctypes.byref(kept)):
-                return None
+        Where it doesn't return, NotReturned tells the cause, and the call is over: the sandbox has stopped, with its data as
+        they are, or stands again at the call at which it was called, and the next call of it is right. So it is where `serve`
+        raises an exception, which passes on. Before anything runs, arguments are refused as `enter` refuses them."""
+        return _functions.called(self, pc, arguments, steps, serve) & 0xFFFFFFFF
 
-        def put_back() -> None:
-            with self._world._lock:
-                self._call("set_registers", kept)
-                self._seat.gone_on = standing
-        return put_back
+    def call64(self, pc: int, *arguments: int, steps: int, serve: Callable[[Call], object] | None = None) -> int:
+        """The same of a function whose result has 64 bits, as a `long long`, or the bytes of a `double`. Of one whose result has
+        32, the upper half is what it leaves in a1."""
+        return _functions.called(self, pc, arguments, steps, serve)
 
     @property
     def steps(self) -> int:
@@ -515,7 +357,7 @@ class Sandbox:
     def registers(self, registers: Registers) -> None:
         if len(registers.x) != 32:
             raise ValueError(f"{len(registers.x)} registers, not 32")
-        if not self._changed("set_registers", _library.Registers(_word(registers.pc), tuple(map(_word, registers.x)))):
+        if not self._entered("set_registers", _library.Registers(_word(registers.pc), tuple(map(_word, registers.x)))):
             raise NotEntered(f"sandbox {self.number} can't go on with these registers")
 
     @property

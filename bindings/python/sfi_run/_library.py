@@ -2,9 +2,10 @@
 from __future__ import annotations
 
 import ctypes
+import operator
 import os
 import pathlib
-from collections.abc import Callable
+from collections.abc import Callable, Sequence
 from typing import Any
 
 NAME = "libsfi_run.so"
@@ -91,6 +92,27 @@ _CALLS: dict[str, tuple[Any, list[Any]]] = {
     "console_read": (ctypes.c_bool, [_CONSOLE, _WORD, _SIZE, _ROOM, _SIZE]),
     "data": (ctypes.c_bool, [_WORLD, _WORD, ctypes.POINTER(Region)]),
 }
+
+
+def word(value: int) -> int:
+    """A number of 32 bits. ctypes would cut a larger one."""
+    if not 0 <= value < 1 << 32:
+        raise ValueError(f"{value} isn't a number from 0 to 2^32 - 1")
+    return value
+
+
+def arguments(given: Sequence[int]) -> Any:
+    """a0 to a7. Those that are left are 0. A negative number is taken modulo 2^32."""
+    if len(given) > 8:
+        raise ValueError("there are at most eight arguments")
+    return Arguments(*map(_argument, given))
+
+
+def _argument(value: int) -> int:
+    number = operator.index(value)
+    if not -1 << 31 <= number < 1 << 32:
+        raise ValueError(f"{value} isn't a number from -2^31 to 2^32 - 1")
+    return number & 0xFFFFFFFF
 
 
 def places() -> list[str]:

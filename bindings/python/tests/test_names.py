@@ -68,8 +68,9 @@ class Plugins(unittest.TestCase):
             self.assertEqual((plugin.sum(2, 3), plugin.call("sum", 4, 5)), (5, 9))
             with self.assertRaisesRegex(AttributeError, "total: the table doesn't have the name"):
                 plugin.total(1)
-            with self.assertRaises(sfi_run.NotEntered):
+            with self.assertRaises(sfi_run.NotReturned) as told:
                 plugin.nowhere()
+            self.assertIs(told.exception.cause, sfi_run.Ended.NO_FUNCTION)
 
     def test_handlers(self):
         with names.Plugin(self.image, ask=lambda call: call.a0 - 4, unasked=lambda call: 1) as plugin:
@@ -77,7 +78,6 @@ class Plugins(unittest.TestCase):
         with names.Plugin(self.image) as plugin:
             with self.assertRaises(sfi_run.NotReturned):
                 plugin.twice(9)
-            plugin.sandbox.stop()
             self.assertEqual(plugin.sum(1, 2), 3)
 
     def test_callbacks(self):

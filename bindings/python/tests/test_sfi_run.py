@@ -343,8 +343,9 @@ class Running(unittest.TestCase):
     def test_functions(self):
         with sfi_run.World(built(SUM)) as world:
             sandbox, sum_at = world[0], CODE + 48  # behind two gates and the start, each a bundle
-            with self.assertRaises(sfi_run.NotEntered):
+            with self.assertRaises(sfi_run.NotReturned) as told:
                 sandbox.call(sum_at, 2, 3, steps=100)
+            self.assertEqual((told.exception.cause, sandbox.steps), (sfi_run.Ended.BUSY, 0))
             sandbox.turn(100).exit(0)
             self.assertEqual(sandbox.call(sum_at, 2, 3, steps=100), 5)
             self.assertEqual(sandbox.call(sum_at, 0xFFFFFFFF, 3, steps=100), 2)
@@ -352,12 +353,10 @@ class Running(unittest.TestCase):
             self.assertEqual(sandbox.call(asked_at, 6, 7, steps=100, serve=lambda call: call.reply(call.a0 * call.a1)), 42)
             with self.assertRaises(sfi_run.NotReturned) as told:
                 sandbox.call(asked_at, 6, 7, steps=100)
-            self.assertEqual(told.exception.event, sandbox.event)
-            sandbox.stop()
+            self.assertEqual((told.exception.event.a1, sandbox.event), (7, sfi_run.Stopped()))
             with self.assertRaises(sfi_run.NotReturned) as told:
                 sandbox.call(sum_at, 2, 3, steps=1)
             self.assertEqual(told.exception.event, sfi_run.Ready())
-            sandbox.stop()
             with self.assertRaises(ValueError):
                 sandbox.call(sum_at, *range(9), steps=100)
 

@@ -6,13 +6,8 @@ fn main() -> Result<(), Box<dyn std::error::Error>> {
     let mut world = World::load(&image)?;
     let mut plugin = world.sandbox(0).unwrap();
     plugin.stop()?;
-    let arguments = [2, 3, 0, 0, 0, 0, 0, 0];
-    let sum = plugin.call(
-        names::export(&image, 0, "add")?,
-        &arguments,
-        1000,
-        |_, _| false,
-    )?;
+    let add = names::export(&image, 0, "add")?;
+    let sum = plugin.call(add, &[2, 3], 1000, |_, _| false)?;
     println!("{sum}");
     Ok(())
 }

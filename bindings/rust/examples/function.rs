@@ -18,11 +18,10 @@ fn serve(sandbox: &mut Sandbox, call: Call) -> bool {
 }
 
 /// Calls the function on a text, which gets what it makes of it. The number is the function's answer.
-fn call(sandbox: &mut Sandbox, function: u32, text: &mut [u8]) -> Result<u32, CallError> {
+fn call(sandbox: &mut Sandbox, function: u32, text: &mut [u8]) -> Result<u32, Box<dyn Error>> {
     let at = sandbox.data().base;
     sandbox.write(at, text)?;
-    let arguments = [at, text.len() as u32, 0, 0, 0, 0, 0, 0];
-    let number = sandbox.call(function, &arguments, STEPS, serve)?;
+    let number = sandbox.call(function, &[at, text.len() as u32], STEPS, serve)?;
     sandbox.read(at, text)?;
     Ok(number)
 }

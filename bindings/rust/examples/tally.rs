@@ -15,8 +15,8 @@ fn main() -> Result<(), Box<dyn Error>> {
             plugin.reset();
             plugin.stop()?;
         } else {
-            let arguments = [word.parse()?, 0, 0, 0, 0, 0, 0, 0];
-            println!("{}", plugin.call(start, &arguments, 1000, |_, _| false)?);
+            let number: u32 = word.parse()?;
+            println!("{}", plugin.call(start, &[number], 1000, |_, _| false)?);
         }
     }
     Ok(())

@@ -52,14 +52,17 @@ fn table(sandbox: &mut Sandbox) -> Result<Table, Box<dyn Error>> {
 }
 
 /// What the plug-in makes of a text, in its place; the number is its price.
-fn capitalize(sandbox: &mut Sandbox, table: &Table, text: &mut [u8]) -> Result<u32, CallError> {
+fn capitalize(
+    sandbox: &mut Sandbox,
+    table: &Table,
+    text: &mut [u8],
+) -> Result<u32, Box<dyn Error>> {
     let length = text.len() as u32;
     if length > table.room {
-        return Err(CallError::OutsideData);
+        return Err(CallError::OutsideData.into());
     }
     sandbox.write(table.text, text)?;
-    let arguments = [table.text, length, 0, 0, 0, 0, 0, 0];
-    let number = sandbox.call(table.capitalize, &arguments, STEPS, serve)?;
+    let number = sandbox.call(table.capitalize, &[table.text, length], STEPS, serve)?;
     sandbox.read(table.text, text)?;
     Ok(number)
 }

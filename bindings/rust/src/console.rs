@@ -40,10 +40,13 @@ impl Console {
     /// A turn of a sandbox, for at most `steps` steps, each call of which the console answers: it ends at a yield, too. A call
     /// that comes when the steps are used is answered in the next turn.
     pub fn turn(&mut self, sandbox: &mut Sandbox, steps: u32) -> Result<(), NoMemory> {
+        let before = sandbox.steps();
         // SAFETY: the console was made and isn't freed, the world was loaded and isn't freed, and both are borrowed here alone.
         let is_done = unsafe {
             sys::sfi_run_console_turn(&mut self.raw, sandbox.world, sandbox.number, steps)
         };
+        let has_gone_on = sandbox.steps() != before;
+        sandbox.moved(has_gone_on);
         is_done.then_some(()).ok_or(NoMemory)
     }
 

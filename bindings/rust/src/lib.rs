@@ -21,147 +21,17 @@
 //!
 //! Whatever the sandbox does, and whatever is written, entered and replied, it reads and writes its own data alone. What it
 //! leaves there, and passes in a call, may be any bytes and numbers at all: test them before you rely on them.
-use std::error::Error;
-use std::fmt;
 use std::ptr;
 
+mod calls;
 pub mod console;
+mod errors;
 pub mod modules;
 pub mod names;
 mod sys;
+pub use calls::{Argument, NotReturned};
+pub use errors::{CallError, ChangeError, Finding, LoadError};
 pub use sys::{Region, Registers};
-
-/// A rule that is broken, and where.
-#[derive(Clone, Copy, Debug, PartialEq, Eq)]
-pub struct Finding {
-    /// The sandbox's place in the image, counted from 0.
-    pub sandbox: u32,
-    /// That of the instruction's first byte, or of the bytes that are none; for V9 the gate's.
-    pub address: u32,
-    /// 1 for V1, and so on.
-    pub rule: u32,
-}
-
-/// Why there is no world of an image.
-#[derive(Clone, Copy, Debug, PartialEq, Eq)]
-pub enum LoadError {
-    /// Rules are broken in it.
-    Refused {
-        /// How often, at least once: `sfi check --report` tells all.
-        findings: u32,
-        /// The first, by sandbox and then by address.
-        first: Finding,
-    },
-    /// The bytes are no image, by the layout's fault of this number, 1 to 11, as `sfi check` names it.
-    NoImage(u32),
-    /// The image is accepted, and there was no memory for its world.
-    NoMemory,
-    /// The library that is linked doesn't agree with this crate's version in major and minor: it has this number, with major,
-    /// minor and patch in the bits from 16, 8 and 0 on.
-    OtherVersion(u32),
-}
-
-/// A call that changed nothing, as what it asks for isn't so.
-#[derive(Clone, Copy, Debug, PartialEq, Eq)]
-pub enum CallError {
-    /// A reply to a sandbox that stands at no call, or to another call than that at which it stands.
-    NotWaiting,
-    /// An address that isn't one of the sandbox's data.
-    OutsideData,
-    /// An entry into a sandbox that hasn't stopped, or at an address where no bundle or word of its code begins; or registers
-    /// that it mustn't hold.
-    NotEntered,
-    /// A function that didn't return.
-    NotReturned,
-    /// A sandbox that is to be stopped, and has stopped already.
-    NotRunning,
-}
-
-/// Why a world got or lost no sandbox.
-#[derive(Clone, Copy, Debug, PartialEq, Eq)]
-pub enum ChangeError {
-    /// There is no sandbox of that number.
-    NoSandbox,
-    /// A sandbox that was to be added would lie on an address that one of the world's takes up with its code, or its data and
-    /// their guard zones. `sfi move` gives an image with other places.
-    Meets,
-    /// There would be more sandboxes than numbers of 32 bits.
-    Full,
-    /// There was no memory for it.
-    NoMemory,
-}
-
-impl fmt::Display for ChangeError {
-    fn fmt(&self, to: &mut fmt::Formatter<'_>) -> fmt::Result {
-        to.write_str(match self {
-            ChangeError::NoSandbox => "there is no sandbox of that number",
-            ChangeError::Meets => "a sandbox would lie where one of the world does",
-            ChangeError::Full => "there would be more sandboxes than numbers of 32 bits",
-            ChangeError::NoMemory => "there was no memory for the change of the world",
-        })
-    }
-}
-
-impl fmt::Display for LoadError {
-    fn fmt(&self, to: &mut fmt::Formatter<'_>) -> fmt::Result {
-        match self {
-            LoadError::Refused { findings, first } => write!(
-                to,
-                "rules are broken in the image: findings={findings} first=V{} sandbox={} at={:08x}",
-                first.rule, first.sandbox, first.address
-            ),
-            LoadError::NoImage(fault) => write!(to, "the bytes are no image: layout fault {fault}"),
-            LoadError::NoMemory => to.write_str("there was no memory for the image"),
-            LoadError::OtherVersion(number) => {
-                let [_, major, minor, patch] = number.to_be_bytes();
-                write!(
-                    to,
-                    "the library has another version: {major}.{minor}.{patch}"
-                )
-            }
-        }
-    }
-}
-
-impl fmt::Display for CallError {
-    fn fmt(&self, to: &mut fmt::Formatter<'_>) -> fmt::Result {
-        to.write_str(match self {
-            CallError::NotWaiting => "the sandbox stands at no call, or at another one",
-            CallError::OutsideData => "an address isn't one of the sandbox's data",
-            CallError::NotEntered => {
-                "the sandbox hasn't stopped, no bundle or word begins there, or a register mustn't hold that"
-            }
-            CallError::NotReturned => "the function didn't return",
-            CallError::NotRunning => "the sandbox has stopped already",
-        })
-    }
-}
-
-impl LoadError {
-    /// What the status and the verdict of `make` say, which is called if the library is of this crate's version.
-    fn of(make: impl FnOnce(&mut sys::Verdict) -> u32) -> Result<(), LoadError> {
-        sys::has_this_version().map_err(LoadError::OtherVersion)?;
-        let mut verdict = sys::Verdict::default();
-        match make(&mut verdict) {
-            0 => Ok(()),
-            1 => Err(LoadError::Refused {
-                findings: verdict.findings,
-                first: Finding {
-                    sandbox: verdict.sandbox,
-                    address: verdict.address,
-                    rule: verdict.rule,
-                },
-            }),
-            2 => Err(LoadError::NoImage(verdict.layout_fault)),
-            3 => Err(LoadError::NoMemory),
-            status => unreachable!("a library of this version: status {status}"),
-        }
-    }
-}
-
-impl Error for LoadError {}
-impl Error for CallError {}
-impl Error for ChangeError {}
 
 /// Why a sandbox trapped. Accepted code never meets the first two.
 #[derive(Clone, Copy, Debug, PartialEq, Eq)]
@@ -345,6 +215,7 @@ impl World {
         (number < self.count).then_some(Sandbox {
             world: &mut self.raw,
             number,
+            stands: Stands::default(),
         })
     }
 }
@@ -360,6 +231,32 @@ impl Drop for World {
 pub struct Sandbox<'world> {
     world: &'world mut sys::World,
     number: u32,
+    stands: Stands,
+}
+
+/// What was done to a sandbox, since it was borrowed: all of it goes through that.
+#[derive(Clone, Copy, Default, PartialEq, Eq)]
+struct Stands {
+    /// How many replies, stops and entries there were.
+    moves: u64,
+    /// How many there were at the last entry: a reset, and registers that are set, are entries, too.
+    entered: u64,
+}
+
+impl Sandbox<'_> {
+    /// Whether a call did what it is for, after which the sandbox has gone on.
+    fn moved(&mut self, is_done: bool) -> bool {
+        self.stands.moves += u64::from(is_done);
+        is_done
+    }
+
+    /// The same of a call that enters it.
+    fn entered(&mut self, is_done: bool) -> bool {
+        if self.moved(is_done) {
+            self.stands.entered = self.stands.moves;
+        }
+        is_done
+    }
 }
 
 // SAFETY, of all calls below: the world was loaded and isn't freed, and is borrowed here alone; the other arguments are
@@ -411,7 +308,8 @@ impl Sandbox<'_> {
             match event {
                 Event::Ready if done < end => {} // there were more steps than one turn takes
                 Event::Call(call) if done < end => {
-                    if !serve(self, call) || self.steps() == done {
+                    let before = self.stands;
+                    if !serve(self, call) || self.stands == before || self.steps() == done {
                         return self.event();
                     }
                 }
@@ -424,7 +322,9 @@ impl Sandbox<'_> {
     /// [`CallError::NotWaiting`].
     pub fn reply(&mut self, a0: u32, a1: u32) -> Result<(), CallError> {
         let is_done = unsafe { sys::sfi_run_reply(self.world, self.number, a0, a1) };
-        is_done.then_some(()).ok_or(CallError::NotWaiting)
+        self.moved(is_done)
+            .then_some(())
+            .ok_or(CallError::NotWaiting)
     }
 
     /// The same, but only where it still stands at this call, for a host that keeps a call and replies later: a later call
@@ -439,7 +339,9 @@ impl Sandbox<'_> {
     /// The other reply: it stops at the call, with that number. The error is [`CallError::NotWaiting`].
     pub fn exit(&mut self, number: u32) -> Result<(), CallError> {
         let is_done = unsafe { sys::sfi_run_exit(self.world, self.number, number) };
-        is_done.then_some(()).ok_or(CallError::NotWaiting)
+        self.moved(is_done)
+            .then_some(())
+            .ok_or(CallError::NotWaiting)
     }
 
     /// Fills `bytes` with its data from an address on. The error, with which they stay, is [`CallError::OutsideData`].
@@ -473,13 +375,16 @@ impl Sandbox<'_> {
     /// steps stay, and [`enter`](Self::enter) may enter it again. The error is [`CallError::NotRunning`].
     pub fn stop(&mut self) -> Result<(), CallError> {
         let is_done = unsafe { sys::sfi_run_stop(self.world, self.number) };
-        is_done.then_some(()).ok_or(CallError::NotRunning)
+        self.moved(is_done)
+            .then_some(())
+            .ok_or(CallError::NotRunning)
     }
 
     /// Takes it back to what it was when its world was loaded, whatever it did and wherever it stands: its data, pc and
     /// registers are those of then, it is ready, and has done 0 steps.
     pub fn reset(&mut self) {
-        unsafe { sys::sfi_run_reset(self.world, self.number) };
+        let is_done = unsafe { sys::sfi_run_reset(self.world, self.number) };
+        self.entered(is_done);
     }
 
     /// Makes it ready at pc, where it has stopped, with these arguments in a0 to a7. A function that returns calls its first
@@ -487,47 +392,23 @@ impl Sandbox<'_> {
     pub fn enter(&mut self, pc: u32, arguments: &[u32; 8]) -> Result<(), CallError> {
         let is_done =
             unsafe { sys::sfi_run_enter(self.world, self.number, pc, arguments.as_ptr()) };
-        is_done.then_some(()).ok_or(CallError::NotEntered)
-    }
-
-    /// Calls a function: enters it at pc, runs it for at most `steps` steps in all, and answers its result, with which it
-    /// exits. `serve` replies to its calls of gates of other services, as in [`serve`](Self::serve), and may call functions,
-    /// too: while one waits for its reply, the other runs on its stack, and then it waits again. The error is that of
-    /// [`enter`](Self::enter), or [`CallError::NotReturned`] where it stops in another way, its steps are used, or a call gets
-    /// no reply: [`event`](Self::event) says how it stands then.
-    pub fn call(
-        &mut self,
-        pc: u32,
-        arguments: &[u32; 8],
-        steps: u64,
-        mut serve: impl FnMut(&mut Self, Call) -> bool,
-    ) -> Result<u32, CallError> {
-        let kept = self.call_back(pc, arguments);
-        if kept.is_err() {
-            self.enter(pc, arguments)?;
-        }
-        let event = self.serve(steps, |sandbox, call| match call.service {
-            0 => sandbox.exit(call.a0).is_ok(),
-            _ => serve(sandbox, call),
-        });
-        let Event::Exited(number) = event else {
-            return Err(CallError::NotReturned);
-        };
-        if let Ok(kept) = kept {
-            self.set_registers(&kept)?;
-        }
-        Ok(number)
+        self.entered(is_done)
+            .then_some(())
+            .ok_or(CallError::NotEntered)
     }
 
     /// Makes it ready at pc, where it stands at a call, with these arguments in a0 to a7, on the stack of that call. The pc and
     /// registers of the call are the answer: once the function has exited, [`set_registers`](Self::set_registers) has it stand
-    /// at the call again. The error is [`CallError::NotEntered`].
+    /// at the call again. In a handler of [`call`](Self::call) a function is called by that: this ends what the handler serves.
+    /// The error is [`CallError::NotEntered`].
     pub fn call_back(&mut self, pc: u32, arguments: &[u32; 8]) -> Result<Registers, CallError> {
         let mut kept = Registers::default();
         let is_done = unsafe {
             sys::sfi_run_call_back(self.world, self.number, pc, arguments.as_ptr(), &mut kept)
         };
-        is_done.then_some(kept).ok_or(CallError::NotEntered)
+        self.entered(is_done)
+            .then_some(kept)
+            .ok_or(CallError::NotEntered)
     }
 
     /// How many steps it has done.
@@ -548,7 +429,9 @@ impl Sandbox<'_> {
     /// [`Sandbox::reply`] replies to it, or a new event tells of it.
     pub fn set_registers(&mut self, registers: &Registers) -> Result<(), CallError> {
         let is_done = unsafe { sys::sfi_run_set_registers(self.world, self.number, registers) };
-        is_done.then_some(()).ok_or(CallError::NotEntered)
+        self.entered(is_done)
+            .then_some(())
+            .ok_or(CallError::NotEntered)
     }
 
     /// Where its data lie.

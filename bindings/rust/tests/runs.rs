@@ -1,12 +1,11 @@
 //! Tests of the crate. The addresses, registers and numbers that are wanted are those of docs/IMAGE.md and docs/GATES.md.
 use sfi_run::modules::Module;
 use sfi_run::{
-    Call, CallError, Cause, ChangeError, Event, Finding, LoadError, Region, Sandbox, World,
+    Call, CallError, Cause, ChangeError, Event, Finding, LoadError, NotReturned, Region, Sandbox,
+    World,
 };
-use std::env;
-use std::io::Write;
-use std::path::Path;
-use std::process::{Command, Stdio};
+mod common;
+use common::{built, built_with};
 
 const CODE: u32 = 0x0100_0000; // of the first sandbox
 const DATA: u32 = 0x0180_0000;
@@ -31,40 +30,6 @@ fn smallest() -> Vec<u8> {
     let code = [0x0010_0073; 64];
     let words = head.into_iter().chain(code).flat_map(word);
     b"SFI1".iter().copied().chain(words).collect()
-}
-
-fn built(source: &str) -> Vec<u8> {
-    built_with(source, &[])
-}
-
-fn built_with(source: &str, options: &[&str]) -> Vec<u8> {
-    let beside = Path::new(env!("CARGO_MANIFEST_DIR")).join("../../crates/sfi/out/sfi");
-    let sfi = env::var_os("SFI").unwrap_or_else(|| {
-        if beside.exists() {
-            beside.into()
-        } else {
-            "sfi".into()
-        }
-    });
-    let mut child = Command::new(sfi)
-        .arg("build")
-        .args(options)
-        .stdin(Stdio::piped())
-        .stdout(Stdio::piped())
-        .spawn()
-        .unwrap();
-    child
-        .stdin
-        .take()
-        .unwrap()
-        .write_all(source.as_bytes())
-        .unwrap();
-    let text = String::from_utf8(child.wait_with_output().unwrap().stdout).unwrap();
-    let digits = text.trim();
-    (0..digits.len())
-        .step_by(2)
-        .map(|at| u8::from_str_radix(&digits[at..at + 2], 16).unwrap())
-        .collect()
 }
 
 fn twice() -> World {
@@ -247,26 +212,18 @@ fn functions_return() {
     let (sum, asked) = (CODE + 48, CODE + 64); // behind two gates and the start, each a bundle
     let (two, six) = ([2, 3, 0, 0, 0, 0, 0, 0], [6, 7, 0, 0, 0, 0, 0, 0]);
     let none = |_: &mut Sandbox, _: Call| false;
-    assert_eq!(
-        sandbox.call(sum, &two, 100, none),
-        Err(CallError::NotEntered)
-    );
+    assert_eq!(sandbox.call(sum, &two, 100, none), Err(NotReturned::Busy));
     sandbox.turn(100);
     sandbox.exit(0).unwrap();
     assert_eq!(sandbox.call(sum, &two, 100, none), Ok(5));
     let product = |sandbox: &mut Sandbox, call: Call| sandbox.reply(call.a0 * call.a1, 0).is_ok();
     assert_eq!(sandbox.call(asked, &six, 100, product), Ok(42));
     let unserved = sandbox.call(asked, &six, 100, none);
-    assert_eq!(unserved, Err(CallError::NotReturned));
-    assert!(matches!(
-        sandbox.event(),
-        Event::Call(Call { service: 4, .. })
-    ));
-    sandbox.stop().unwrap();
+    assert_eq!(unserved, Err(NotReturned::Refused));
     let cut = sandbox.call(sum, &two, 1, none);
     assert_eq!(
         (cut, sandbox.event()),
-        (Err(CallError::NotReturned), Event::Ready)
+        (Err(NotReturned::StepsUsed), Event::Stopped)
     );
 }
 

@@ -119,6 +119,8 @@ try_gdb() { # format
     elf_of "debugged.$1.elf" "$1" -Og -g elf/gdb/debugged.c
     "$tools/sfi-gdb" --input 68690a "$room/debugged.$1.elf" -nx -batch -x elf/gdb/session.gdb >"$room/output" 2>"$room/messages"
     report "a session of gdb, format $1" "$(cat elf/gdb/wanted)" "$(grep '^= ' "$room/output")"
+    report "the sections in gdb, format $1" "matched" "$(grep '^Section ' "$room/output" | sed 's/.*: \(.*\)\./\1/' | sort -u)"
+    report "16-bit instructions in gdb, format $1" 0 "$(grep -c '\.2byte' "$room/output")"
     report "a line that traps, format $1" "at[-2] = by;" "$(grep -A2 SIGSEGV "$room/output" | grep -o 'at\[-2\].*')"
     report "the console beside gdb, format $1" "heaviest hi" "$(grep -xE 'heaviest|hi' "$room/messages" | paste -sd' ')"
 }

@@ -7,25 +7,19 @@
 #include <stdlib.h>
 #include <string.h>
 
-/* The bytes that malloc has to give, a multiple of 16. With the stack of 8192 bytes and 8192 of other data they make a
-   region of 65536. */
-#ifndef HEAP
-#define HEAP 49152
-#endif
-
 enum { ALIGNMENT = 16 };
 
-_Static_assert(HEAP % ALIGNMENT == 0, "HEAP is a multiple of ALIGNMENT");
-
-static _Alignas(ALIGNMENT) unsigned char heap[HEAP];
+extern unsigned char __heap[]; /* of heap.c, or of `sfi-cc --heap` */
+extern const unsigned __heap_size;
 static size_t used;
 
 /* Memory is given out from the heap's first byte on, each byte once, so it is zero. */
 OWN_GOES_FIRST void *malloc(size_t size) {
-    unsigned char *memory = heap + used;
-    if (size > HEAP - used || used == HEAP)
+    unsigned char *memory = __heap + used;
+    size_t room = __heap_size - used, taken = size ? size + -size % ALIGNMENT : ALIGNMENT;
+    if (size > room || taken > room)
         return NULL;
-    used += size ? size + -size % ALIGNMENT : ALIGNMENT;
+    used += taken;
     return memory;
 }
 

@@ -26,13 +26,11 @@ from dataclasses import dataclass
 from multiprocessing import Pool
 
 HERE = os.path.dirname(os.path.abspath(__file__))
-EXAMPLES = os.path.dirname(HERE)
-TOP = os.path.dirname(os.path.dirname(EXAMPLES))
+TOP = os.path.dirname(os.path.dirname(os.path.dirname(HERE)))
 sys.dont_write_bytecode = True
 sys.path.insert(0, os.path.join(TOP, "tools", "sfi_cc"))
 
-from compilers import GCC, RESERVED_IN_WORDS, Failed, compiled, ran, version
-from kept import kept
+from compilers import GCC, Failed, ran
 from sources import GCC_SOURCE, unpacked
 
 PICOLIBC = "/usr/lib/picolibc/riscv64-unknown-elf"
@@ -71,13 +69,13 @@ class Case:
 
 @dataclass(frozen=True)
 class Room:
-    """What all cases share: the tests' folder, a folder for what is made, the program, the libraries by compiler, the
-    options of a hosted C, whether each program is moved, and the seconds that a native run may take."""
+    """What all cases share: the tests' folder, a folder for what is made, the program, sfi-cc's library, more options for it,
+    whether each program is moved, and the seconds that a native run may take."""
     tests: str
     folder: str
     program: str
-    libraries: dict
-    hosted: tuple
+    library: str
+    more: tuple
     is_moved: bool
     native_seconds: int
 
@@ -114,9 +112,8 @@ def hold_memory():
 
 def linked(room, case, program):
     """Makes the program's ELF file, and answers why there is none."""
-    library = room.libraries[case.compiler]
-    given = [*QUIET[:1 + (case.compiler == "clang")], *room.hosted, *room.options(case)]
-    words = [f"{TOOLS}/sfi-cc", "--cc", COMPILERS[case.compiler], "--format", case.image_format, "--library", library, "--heap",
+    given = [*QUIET[:1 + (case.compiler == "clang")], *room.more, *room.options(case)]
+    words = [f"{TOOLS}/sfi-cc", "--cc", COMPILERS[case.compiler], "--format", case.image_format, "--library", room.library, "--heap",
              str(HEAP), *given, *["--movable"] * room.is_moved, "-o", program, room.source(case)]
     for stack in STACKS:
         try:
@@ -146,7 +143,7 @@ def sandboxed(room, case, place):
     return (int(match.group(1)), bytes.fromhex(match.group(2))) if match else line[:200].strip()
 
 
-def tried(task):
+def tried(task, sandboxed=sandboxed):
     """A case, and what is to be said of it: nothing where it passes, None where it goes natively in another way."""
     room, case = task
     place = os.path.join(room.folder, str(case).replace(" ", "_"))
@@ -160,22 +157,6 @@ def tried(task):
     if found == wanted or case.name in PRINT_ADDRESSES and found[0] == wanted[0]:
         return case, ""
     return case, found if isinstance(found, str) else f"wanted {wanted}, found {found}"
-
-
-def small_library(compiler):
-    """The folder of the small library by a compiler, kept."""
-    paths = sorted(glob.glob(os.path.join(EXAMPLES, "library", "*.c")))
-    include = os.path.join(EXAMPLES, "include")
-
-    def make(folder):
-        for path in paths:
-            options = ["-fhosted", "-w", f"-DHEAP={HEAP}", "-I", include]
-            assembly, _ = compiled(compiler, options, path, os.path.join(folder, "room"))
-            os.rename(assembly, os.path.join(folder, os.path.basename(path) + ".asm"))
-            shutil.rmtree(os.path.join(folder, "room"))
-
-    texts = [open(path, encoding="utf-8").read() for path in paths + sorted(glob.glob(os.path.join(include, "*.h")))]
-    return kept("library", [version(compiler), str(HEAP), str(RESERVED_IN_WORDS), *texts], make)
 
 
 def generated(options, folder):
@@ -196,23 +177,18 @@ def room_of(options, folder):
         tests = os.path.join(unpacked(GCC_SOURCE, TESTS), TESTS, "ieee" if options.ieee else "")
     ran([GCC, *MACHINE, "-O2", "-isystem", f"{PICOLIBC}/include", "-c", "-o", os.path.join(folder, "start.o"),
          os.path.join(HERE, "start.c")])
-    libraries = {}
-    for name in options.compiler:
-        compiler = COMPILERS[name]
-        libraries[name] = options.library or small_library(compiler)
     native_seconds = CSMITH_SECONDS if options.csmith else NATIVE_SECONDS
-    return Room(tests, folder, os.path.abspath(options.program), libraries, tuple(hosted(options.library)),
-                options.moved, native_seconds)
+    return Room(tests, folder, os.path.abspath(options.program), options.library or "small", (), options.moved, native_seconds)
 
 
-def hosted(library):
-    """The options of a hosted C, which sfi-cc has by itself where a library is named."""
-    return [] if library else ["-fhosted", "-isystem", os.path.join(EXAMPLES, "include")]
+def names_of(room):
+    """The tests, in an order that is always the same."""
+    return sorted(os.path.basename(path)[:-2] for path in glob.glob(os.path.join(room.tests, "*.c")))
 
 
 def cases_of(options, room):
     """The cases that are asked for, in an order that is always the same."""
-    names = sorted(os.path.basename(path)[:-2] for path in glob.glob(os.path.join(room.tests, "*.c")))
+    names = names_of(room)
     ways = [(compiler, level, image_format) for level in options.level for image_format in options.format
             for compiler in options.compiler]
     if options.names or options.all or options.ieee:

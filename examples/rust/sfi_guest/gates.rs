@@ -12,12 +12,12 @@ mod raw {
     use super::TakenWord;
 
     extern "C" {
-        pub fn exit_with(code: i32) -> !;
-        pub fn put(bytes: *const u8, length: u32) -> i32;
-        pub fn get(bytes: *mut u8, length: u32) -> i32;
-        pub fn yield_turn();
-        pub fn post_word(to: u32, word: u32) -> i32;
-        pub fn take_word() -> TakenWord;
+        pub(super) fn exit_with(code: i32) -> !;
+        pub(super) fn put(bytes: *const u8, length: u32) -> i32;
+        pub(super) fn get(bytes: *mut u8, length: u32) -> i32;
+        pub(super) fn yield_turn();
+        pub(super) fn post_word(to: u32, word: u32) -> i32;
+        pub(super) fn take_word() -> TakenWord;
     }
 }
 
@@ -34,11 +34,11 @@ mod raw {
 
     static WORDS: Mutex<Vec<u32>> = Mutex::new(Vec::new());
 
-    pub unsafe fn exit_with(code: i32) -> ! {
+    pub(super) unsafe fn exit_with(code: i32) -> ! {
         std::process::exit(code)
     }
 
-    pub unsafe fn put(bytes: *const u8, length: u32) -> i32 {
+    pub(super) unsafe fn put(bytes: *const u8, length: u32) -> i32 {
         let bytes = from_raw_parts(bytes, length as usize);
         let mut output = stdout();
         match output.write_all(bytes).and_then(|()| output.flush()) {
@@ -47,14 +47,14 @@ mod raw {
         }
     }
 
-    pub unsafe fn get(bytes: *mut u8, length: u32) -> i32 {
+    pub(super) unsafe fn get(bytes: *mut u8, length: u32) -> i32 {
         let bytes = from_raw_parts_mut(bytes, length as usize);
         stdin().read(bytes).unwrap_or(0) as i32
     }
 
-    pub unsafe fn yield_turn() {}
+    pub(super) unsafe fn yield_turn() {}
 
-    pub unsafe fn post_word(to: u32, word: u32) -> i32 {
+    pub(super) unsafe fn post_word(to: u32, word: u32) -> i32 {
         let mut words = WORDS.lock().unwrap();
         if to != 0 {
             return -1;
@@ -66,7 +66,7 @@ mod raw {
         0
     }
 
-    pub unsafe fn take_word() -> TakenWord {
+    pub(super) unsafe fn take_word() -> TakenWord {
         let mut words = WORDS.lock().unwrap();
         let is_held = !words.is_empty();
         TakenWord {

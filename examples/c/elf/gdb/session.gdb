@@ -1,6 +1,8 @@
 # What elf/test.sh has gdb do with debugged.c. Lines that begin with "= " are compared with those of its file `wanted`.
 set confirm off
 set width 0
+compare-sections
+disassemble main
 break heaviest
 continue
 printf "= %s weighs %d\n", first->name, first->weight
