@@ -2,11 +2,12 @@
 //! standard input and standard output.
 #![tactic(auto)]
 
-use sfi_tool::{ExecFault, Job, exec, job_of, run_tool, write_out};
+use sfi_tool::{ExecFault, Job, JobFault, exec, job_of, run_tool, write_out};
 use std::alloc::Global;
 use std::env;
+use std::fmt::Display;
 use std::fs::File;
-use std::io::{self, BufWriter, ErrorKind};
+use std::io::{self, BufWriter, Error, ErrorKind, IsTerminal};
 use std::process::ExitCode;
 
 const NO_TEXT: &[u8] = b"error: an argument is not UTF-8\n\nFor more information, try '--help'.\n";
@@ -27,10 +28,10 @@ fn without_words(rt: HostRuntime, kind: ErrorKind) -> u8 {
 // The status where `exec` gives none of a sandbox.
 const NOT_RUN: u8 = 125;
 
-/// The line that says why; what isn't accepted has its own.
+/// The line that says why; what isn't accepted, and a file that can't be read, have their own.
 fn fault_line(fault: ExecFault) -> &'static str {
     match fault {
-        ExecFault::NotAccepted => "",
+        ExecFault::NotAccepted | ExecFault::Image => "",
         ExecFault::Memory => "exec fault memory\n",
         ExecFault::Read => "exec fault read\n",
         ExecFault::Write => "exec fault write\n",
@@ -44,25 +45,65 @@ fn not_run(rt: &HostRuntime, line: &str) -> u8 {
     NOT_RUN
 }
 
-/// Runs the sandboxes of the image in that file, over the streams of this process.
+/// Says why the file can't be read. The path stands there as a Rust string, in one line.
+fn no_file<D: Display>(rt: &HostRuntime, path: &str, reason: &D) -> u8 {
+    let _ = eprintln!(rt; "exec fault file {path:?}: {reason}");
+    NOT_RUN
+}
+
+/// Opens a file to read it. A folder can be opened, but not read.
+fn open_file(rt: &HostRuntime, path: &str) -> io::Result<File> {
+    let file = File::open(rt, path)?;
+    if file.metadata()?.is_dir() {
+        return Err(Error::from(ErrorKind::IsADirectory));
+    }
+    Ok(file)
+}
+
+/// Runs the sandboxes of an image over standard input and output. What they put is seen at once where that
+/// is a terminal.
+fn exec_image(rt: &HostRuntime, alloc: Global, image: File, budget: u64) -> Result<u8, ExecFault> {
+    let mut reader = rt.stdin();
+    let mut errors = rt.stderr();
+    let mut output = rt.stdout();
+    if output.is_terminal() {
+        let ended = exec(alloc, budget, image, &mut reader, &mut output, &mut errors)?;
+        return Ok(ended.status);
+    }
+    let Ok(mut writer) = BufWriter::new(alloc, output) else {
+        return Err(ExecFault::Memory);
+    };
+    let ended = exec(alloc, budget, image, &mut reader, &mut writer, &mut errors)?;
+    Ok(ended.status)
+}
+
+/// Runs the sandboxes of the image in that file. The file takes the place of a standard stream that is
+/// closed, so it is read and closed before these are used, which then fail as closed ones do.
 fn exec_file(rt: &HostRuntime, alloc: Global, path: &str, budget: u64) -> u8 {
-    let Ok(mut image) = File::open(rt, path) else {
-        return not_run(rt, "exec fault file\n");
+    let image = match open_file(rt, path) {
+        Ok(image) => image,
+        Err(error) => return no_file(rt, path, &error),
     };
-    let Ok(mut writer) = BufWriter::new(alloc, rt.stdout()) else {
-        return not_run(rt, fault_line(ExecFault::Memory));
-    };
-    let ended = exec(
-        alloc,
-        budget,
-        &mut image,
-        &mut rt.stdin(),
-        &mut writer,
-        &mut rt.stderr(),
-    );
-    match ended {
+    match exec_image(rt, alloc, image, budget) {
         Ok(status) => status,
+        Err(ExecFault::Image) => no_file(rt, path, &"it can't be read"),
         Err(fault) => not_run(rt, fault_line(fault)),
+    }
+}
+
+/// The status for words that ask for no run, if they name `exec`. What is wrong with them goes to
+/// standard error, since standard output is the sandboxes'. A help text has the usual way.
+fn without_run(rt: &HostRuntime, words: &[String], fault: &JobFault) -> Option<u8> {
+    if words.get(1)?.as_str() != "exec" {
+        return None;
+    }
+    match fault {
+        JobFault::Usage(text) if text.as_str().starts_with("error: ") => {
+            write_out(&mut rt.stderr(), text.as_bytes());
+            Some(3)
+        }
+        JobFault::Memory => Some(not_run(rt, fault_line(ExecFault::Memory))),
+        JobFault::Usage(_) | JobFault::Hex => None,
     }
 }
 
@@ -76,8 +117,14 @@ fn status(rt: HostRuntime) -> u8 {
     let Ok(words) = args.collect::<Vec<String>>(alloc) else {
         return 4;
     };
-    if let Ok(Job::Exec { image, budget }) = job_of(alloc, words.as_slice()) {
-        return exec_file(&rt, alloc, image.as_str(), budget);
+    let asked = job_of(alloc, words.as_slice());
+    if let Ok(Job::Exec { image, budget }) = &asked {
+        return exec_file(&rt, alloc, image.as_str(), *budget);
+    }
+    if let Err(fault) = &asked {
+        if let Some(status) = without_run(&rt, words.as_slice(), fault) {
+            return status;
+        }
     }
     let mut reader = rt.reader();
     let mut writer = io::writer(&rt);

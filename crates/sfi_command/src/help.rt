@@ -153,24 +153,33 @@ pub(crate) const EXEC_BUDGET: &str =
 pub(crate) const EXEC_NOTES: &str = "\
 Runs the sandboxes of an image file one after another: each begins when the one
 before has ended, and goes on with the input that is left. A get takes standard
-input as it comes; what is put goes to standard output, before a get waits and at
-the end, and may have any length. Else they run as in `sfi run`. A sandbox that
-waits for a word from a later one waits for ever: give --budget.
+input as it comes. What is put goes to standard output, and may have any length: at
+once where that is a terminal, else once the sandbox gets input, makes a call of
+another service, or none in 10000000 steps, and at the end. Else they run as in
+`sfi run`. A sandbox that waits for a word from a later one waits for ever: give
+--budget.
 
 Of each sandbox that doesn't exit, standard error has a line, of its trap or of its
 steps that are used up; then come pc and registers of each, as with `run --report`:
   sandbox=S trap=CAUSE at=AAAAAAAA steps=N
   sandbox=S ready steps=N
 
+Where there is no run, or it can't go on, standard error says why, by the line of
+`sfi check` on what isn't accepted, by an error about the words, or by one of
+  exec fault file PATH: REASON    the image's file can't be read
+  exec fault read                 standard input can't be read
+  exec fault write                standard output can't be written
+  exec fault memory               memory ran out
+  exec fault too long             18446744073709551615 turns are over
+
 Exit status: that of the first sandbox that has one other than 0, or else 0:
   0 to 255  the low 8 bits of its exit code; where it is one of the following,
        standard error tells them apart
   124  its steps are used up
   126  it trapped
-Where there is no run, or it can't go on, a line on standard error says why:
-  125  the image is refused, or is none; the file, the input or the output can't
-       be read or written; or memory ran out
-  3  as `sfi help` says
+Where there is no run, or it can't go on:
+  125  for each of the lines above
+  3  for an error about the words, and for this help
 
 Example:
   sfi build --raw < examples/hi.s > hi.image

@@ -1,4 +1,5 @@
 mod attacks;
 mod commands;
+mod executing;
 mod failing;
 mod images;

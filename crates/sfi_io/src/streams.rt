@@ -11,6 +11,9 @@ use std::io::{Read, Write};
 /// The most bytes of input text.
 pub const INPUT_LIMIT: usize = 134217728;
 
+/// How many bytes are read at a time, at most. They lie on the stack.
+const PIECE: usize = 16384;
+
 // Each turn but the last takes a byte or more.
 const TURNS: usize = INPUT_LIMIT + 1;
 
@@ -42,7 +45,7 @@ pub fn read_input<R: Read>(alloc: Global, reader: &mut R) -> Result<Input, ReadS
     ensures { IfOk result (IsInput (R.remaining reader.old)) }
 {
     let mut input = Vec::new(alloc);
-    let mut piece = [0u8; 65536];
+    let mut piece = [0u8; PIECE];
     for _ in 0..TURNS {
         let Ok(count) = reader.read(&mut piece) else {
             return Err(ReadStop::Failed);

@@ -240,12 +240,12 @@ piece_read n count buffer piece rest input left few whole long least is =
 -- ---- all other calls
 
 pub other_served : (old new : List Slot) (q : Request) (waits : Waits old q.sandbox q) (c d : ConsoleState) → q.service ≢ put_service → q.service ≢ get_service
-    → IsAnsweredBy console q old c new d → (input out : Option (List ℕ)) → IsServed q.sandbox old c new d input input out out
-other_served old new q waits c d put get answered input out = record {
+    → IsAnsweredBy console q old c new d → (input out outs : Option (List ℕ)) → Keeps out outs → IsServed q.sandbox old c new d input input out outs
+other_served old new q waits c d put get answered input out outs keeps = record {
   replies = record { slot = waits.at.slot; there = waits.at.there; reply = (console c (asked_by old q.sandbox q waits)).reply; slots = slots };
   streamed = record {
     written = [];
-    writes = appends_none out;
+    writes = keeps_appends out outs keeps;
     ran = known_same input (λ x y. (machine : Machine) → IsMachine machine → IsStreamed machine q.sandbox old c new d [] x y) (λ x machine is. record {
       cuts = [];
       turns = λ rest out.

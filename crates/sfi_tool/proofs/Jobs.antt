@@ -6,7 +6,7 @@ use Rattle.std.specs.Io.KnownBytes.{Appends, Keeps}
 use Rattle.rv_mem.specs.Bytes.{Bytes}
 use Rattle.sfi_answers.specs.Answers.{GivesImageThat, stop_of, IsAcceptedImage, Meaning, on_image, Answers, IsStop, SaysVerdict, SaysRefused, SaysTranslation}
 use Rattle.sfi_answers.specs.declared.fault.Stop.TheVariants as stop
-use Rattle.sfi_io.specs.Hexadecimal.{GivesBytes, IsInput, IsHexFault, IsHexStop, IsNoHexadecimal, GivesImage, GivesNoImage, limit}
+use Rattle.sfi_io.specs.Hexadecimal.{WritesPart, GivesBytes, IsInput, IsHexFault, IsHexStop, IsNoHexadecimal, GivesImage, GivesNoImage, limit}
 use Rattle.sfi_io.specs.declared.hexadecimal.HexStop.{HexStop}
 use Rattle.sfi_io.specs.declared.hexadecimal.HexStop.TheVariants as hex
 use Rattle.sfi_tool.specs.declared.execution.ExecFault.{ExecFault}
@@ -16,9 +16,12 @@ use Rattle.sfi_host.specs.Joint.{Machine, IsMachine}
 use Rattle.sfi_host.specs.Loading.{first_seat, with_parts}
 use Rattle.sfi_host.specs.Slots.{Slot}
 use Rattle.sfi_host.specs.Worlds.{Sandboxes, Seat}
-use Rattle.sfi_tool.specs.Executing.{AreExecuted, ExecutesKnown, HaveExecuted, IsExecution, IsStopText, first_streams, status_among}
+use Rattle.std.specs.Bool.{OnTrue, OnFalse}
+use Rattle.sfi_tool.specs.declared.execution.Ended.{Ended}
+use Rattle.sfi_tool.specs.Executing.{AreExecuted, ExecutesKnown, HaveExecuted, IsExecution, IsStopText, IsTold, first_streams, status_among}
 use Rattle.sfi_tool.specs.Running.{first_slots, SaysRun}
 use Rattle.sfi_tool.specs.private.{AreStreamed, IfKnown, Ran, RanImage, kept}
+use Rattle.sfi_tool.proofs.Turns.{appends_kept}
 use Rattle.std.specs.Prelude.{IsErr, IsErrAnd}
 use Rattle.std.proofs.lemmas.Result.{IfOk-weaker, IfErr-weaker}
 use Rattle.sfi_io.specs.declared.hexadecimal.HexFault.{HexFault}
@@ -34,12 +37,6 @@ use Rattle.sfi_command.specs.declared.job.Job.TheVariants.{Check, Dis, Build, Ma
 use Rattle.sfi_command.specs.Command.{is_raw}
 
 -- ==== From what the parts of `exec` ensure to what it does.
-
-pub appends_kept : (a b c : Option (List ℕ)) (xs : List ℕ) → Appends a b xs → Keeps b c → Appends a c xs
-appends_kept None b c xs first keeps = tt
-appends_kept (Some x) None c xs first keeps = absurd first
-appends_kept (Some x) (Some y) None xs first keeps = absurd keeps
-appends_kept (Some x) (Some y) (Some z) xs first keeps = keeps ∙ first
 
 known_weaker : (a b : Option (List ℕ)) (p q : List ℕ → List ℕ → Type 0) → IfKnown a b p → ((x y : List ℕ) → p x y → q x y) → IfKnown a b q
 known_weaker None b p q h w = tt
@@ -67,35 +64,40 @@ module _ (budget : ℕ) (ps : List Part) (count : ℕ) (w : Sandboxes) (slots : 
     status_is = is ∙ ap (λ (n : ℕ). status_among n slots) same;
   }
 
-  pub ran_of : (input left out outs outf err errs : Option (List ℕ)) (said : List ℕ) (status : ℕ) → AreStreamed budget count (slots_of w) c slots d input left out outs → Keeps outs outf
-      → IsStopText ps slots said → Appends err errs said → status ≡ status_among count slots → Ran budget ps input left out outf err errs status
-  ran_of input left out outs outf err errs said status are keeps text says is = record {
+  pub ran_of : (input left out outs outf err errs : Option (List ℕ)) (said : List ℕ) (ended : Ended) → AreStreamed budget count (slots_of w) c slots d input left out outs → Keeps outs outf
+      → IsStopText ps slots said → IsTold ended.told err errs said → ended.status ≡ status_among count slots → Ran budget ps input left out outf err errs ended
+  ran_of input left out outs outf err errs said ended are keeps text says is = record {
     written = are.written;
     said = said;
     writes = appends_kept out outs outf are.written are.writes keeps;
     says = says;
-    ran = known_weaker input left _ (λ x y. (machine : Machine) → IsMachine machine → HaveExecuted machine budget ps x y are.written said status) are.ran
-        (λ x y h machine means. executed machine are.written said x y status (h machine means) text is);
+    ran = known_weaker input left _ (λ x y. (machine : Machine) → IsMachine machine → HaveExecuted machine budget ps x y are.written said ended.status) are.ran
+        (λ x y h machine means. executed machine are.written said x y ended.status (h machine means) text is);
   }
+
+-- what is told, by whether all of it was written
+pub told_is : (told : Bool) (err errs : Option (List ℕ)) (said : List ℕ) → OnTrue told (Appends err errs said) → OnFalse told (WritesPart err errs said) → IsTold told err errs said
+told_is true err errs said whole part = whole
+told_is false err errs said whole part = part
 
 -- what was read, where the reader told its bytes
 pub whole_is : (o : Option (List ℕ)) (text : Vec ℕ Global) (known : List ℕ) → o ≡ Some known → IsInput o (Whole text) → text.items ≡ known
 whole_is o text known is input = (subst (λ (x : Option (List ℕ)). IsInput x (Whole text)) is input).0
 
 -- the image that a text is or spells was executed
-pub executes : (budget : ℕ) (text input left out outs err errs : Option (List ℕ)) (status : ℕ) (whole : List ℕ)
-    → ((known : List ℕ) → text ≡ Some known → whole ≡ known) → GivesImageThat (RanImage budget input left out outs err errs status) whole
-    → ExecutesKnown budget text input left out outs err errs status
-executes budget None input left out outs err errs status whole is ran = tt
-executes budget (Some text) None left out outs err errs status whole is ran =
+pub executes : (budget : ℕ) (text input left out outs err errs : Option (List ℕ)) (ended : Ended) (whole : List ℕ)
+    → ((known : List ℕ) → text ≡ Some known → whole ≡ known) → GivesImageThat (RanImage budget input left out outs err errs ended) whole
+    → ExecutesKnown budget text input left out outs err errs ended
+executes budget None input left out outs err errs ended whole is ran = tt
+executes budget (Some text) None left out outs err errs ended whole is ran =
     subst (λ (t : List ℕ). GivesImageThat IsAcceptedImage t) (is text refl) (ran.0, ran.1, (ran.2.parts, ran.2.accepted))
-executes budget (Some text) (Some input) None out outs err errs status whole is ran = absurd ran.2.ran.ran
-executes budget (Some text) (Some input) (Some left) out outs err errs status whole is ran =
+executes budget (Some text) (Some input) None out outs err errs ended whole is ran = absurd ran.2.ran.ran
+executes budget (Some text) (Some input) (Some left) out outs err errs ended whole is ran =
     let r = ran.2.ran in
     record {
       written = r.written;
       said = r.said;
-      executed = subst (λ (t : List ℕ). GivesImageThat (IsExecution budget input left r.written r.said status) t) (is text refl)
+      executed = subst (λ (t : List ℕ). GivesImageThat (IsExecution budget input left r.written r.said ended.status) t) (is text refl)
           (ran.0, ran.1, record { parts = ran.2.parts; accepted = ran.2.accepted; ran = r.ran });
       writes = r.writes;
       says = r.says;
@@ -108,11 +110,11 @@ pub no_bytes : (why : HexStop) (bytes : List ℕ) → stop_of why ≢ stop.Memor
 no_bytes (hex.Fault fault) bytes some gives = gives
 no_bytes hex.Memory bytes some gives = absurd (some refl)
 
-abbrev fault_or : ExecFault → Result ℕ ExecFault → ExecFault
-fault_or other (Ok status) = other
+abbrev fault_or : ExecFault → Result Ended ExecFault → ExecFault
+fault_or other (Ok ended) = other
 fault_or other (Err fault) = fault
 
-pub same_fault : (one two : ExecFault) → ◌≡◌ {A = Result ℕ ExecFault} (Err one) (Err two) → one ≡ two
+pub same_fault : (one two : ExecFault) → ◌≡◌ {A = Result Ended ExecFault} (Err one) (Err two) → one ≡ two
 same_fault one two e = ap (fault_or one) e
 
 -- ==== What a job answers on a text: by the bytes that it spells, with which statuses, and above the limit.

@@ -85,6 +85,12 @@ keeps_appends None b keeps = tt
 keeps_appends (Some x) None keeps = absurd keeps
 keeps_appends (Some x) (Some y) keeps = keeps ∙ append_none x
 
+pub appends_kept : (a b c : Option (List ℕ)) (xs : List ℕ) → Appends a b xs → Keeps b c → Appends a c xs
+appends_kept None b c xs first keeps = tt
+appends_kept (Some x) None c xs first keeps = absurd first
+appends_kept (Some x) (Some y) None xs first keeps = absurd keeps
+appends_kept (Some x) (Some y) (Some z) xs first keeps = keeps ∙ first
+
 -- ---- what is known
 
 pub known_same : (o : Option (List ℕ)) (holds : List ℕ → List ℕ → Type 0) → ((x : List ℕ) → holds x x) → IfKnown o o holds
@@ -131,6 +137,15 @@ streamed_none i slots c input out = record {
   written = [];
   writes = appends_none out;
   ran = known_same input (λ x y. (machine : Machine) → IsMachine machine → IsStreamed machine i slots c slots c [] x y) (λ x machine is. no_turns machine i slots c x);
+}
+
+-- what was held back of what was put is written after a turn
+pub streamed_flushed : (i : ℕ) (old new : List Slot) (c d : ConsoleState) (input left out mid outs : Option (List ℕ)) → Streamed i old c new d input left out mid → Keeps mid outs
+    → Streamed i old c new d input left out outs
+streamed_flushed i old new c d input left out mid outs turn keeps = record {
+  written = turn.written;
+  writes = appends_kept out mid outs turn.written turn.writes keeps;
+  ran = turn.ran;
 }
 
 pub streamed_both : (i : ℕ) (old mid new : List Slot) (c d e : ConsoleState) (p q r u v w : Option (List ℕ)) → Streamed i old c mid d p q u v → Streamed i mid d new e q r v w

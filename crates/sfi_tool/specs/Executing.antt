@@ -1,6 +1,6 @@
 -- The command `exec`: the sandboxes of an image run one after another, each to its end, and their
 -- put and get are those of a process.
-use Rattle.std.specs.Prelude.{◌≡◌, ◌≤◌, ◌==◌, ◌+◌, ◌%◌, ◌^◌, ℕ, zero, suc, min, if◌then◌else◌, List, [], ◌∷◌, ◌++◌, length, take, drop, map, Option, Some, None, slice_get, codes, decimal}
+use Rattle.std.specs.Prelude.{◌≡◌, ◌≤◌, ◌==◌, ◌+◌, ◌%◌, ◌^◌, ℕ, zero, suc, min, Bool, true, false, if◌then◌else◌, List, [], ◌∷◌, ◌++◌, length, take, drop, map, Option, Some, None, slice_get, codes, decimal}
 use Rattle.std.specs.List.{range_with_len}
 use Rattle.std.specs.Io.KnownBytes.{Appends}
 use Rattle.rv_mem.specs.Bytes.{with_bytes}
@@ -15,7 +15,9 @@ use Rattle.sfi_host.specs.Joint.{Machine, IsMachine}
 use Rattle.sfi_host.specs.Plans.{IsJoint}
 use Rattle.sfi_host.specs.Slots.{Slot}
 use Rattle.sfi_answers.specs.Answers.{GivesImageThat, IsAcceptedImage}
+use Rattle.sfi_io.specs.Hexadecimal.{WritesPart}
 use Rattle.sfi_safety.specs.Clean.{IsAccepted}
+use Rattle.sfi_tool.specs.declared.execution.Ended.{Ended}
 use Rattle.sfi_tool.specs.Running.{AreStates, first_slots, status_text}
 
 -- ---- the host
@@ -208,27 +210,33 @@ pub record IsExecution (budget : ℕ) (input left written said : List ℕ) (stat
   pub ran : (machine : Machine) → IsMachine machine
       → HaveExecuted machine budget parts input left written said status
 
+-- what is to be said was written after what the writer held; or, where it isn't told, a beginning of
+-- it, and not all
+abbrev pub IsTold : Bool → Option (List ℕ) → Option (List ℕ) → List ℕ → Type 0
+IsTold true err errs said = Appends err errs said
+IsTold false err errs said = WritesPart err errs said
+
 -- The text is an image or spells one, and that was executed: the input lost what was read by get,
 -- what was put was written after what the writer held, and what is said after what the other one
--- held.
+-- held: all of it, or a beginning where it isn't told.
 pub record Executes (budget : ℕ) (text input left : List ℕ) (out outs err errs : Option (List ℕ))
-    (status : ℕ) : Type 0 where
+    (ended : Ended) : Type 0 where
   pub written : List ℕ
   pub said : List ℕ
-  pub executed : GivesImageThat (IsExecution budget input left written said status) text
+  pub executed : GivesImageThat (IsExecution budget input left written said ended.status) text
   pub writes : Appends out outs written
-  pub says : Appends err errs said
+  pub says : IsTold ended.told err errs said
 
 -- What is said where the reader of the image tells its bytes: where that of the input does too,
 -- what was executed, and else that the image is accepted.
 abbrev pub ExecutesKnown : ℕ → Option (List ℕ) → Option (List ℕ) → Option (List ℕ)
-    → Option (List ℕ) → Option (List ℕ) → Option (List ℕ) → Option (List ℕ) → ℕ → Type 0
-ExecutesKnown budget None input left out outs err errs status = Unit {0}
-ExecutesKnown budget (Some text) None left out outs err errs status =
+    → Option (List ℕ) → Option (List ℕ) → Option (List ℕ) → Option (List ℕ) → Ended → Type 0
+ExecutesKnown budget None input left out outs err errs ended = Unit {0}
+ExecutesKnown budget (Some text) None left out outs err errs ended =
     GivesImageThat IsAcceptedImage text
-ExecutesKnown budget (Some text) (Some input) None out outs err errs status = ⊥
-ExecutesKnown budget (Some text) (Some input) (Some left) out outs err errs status =
-    Executes budget text input left out outs err errs status
+ExecutesKnown budget (Some text) (Some input) None out outs err errs ended = ⊥
+ExecutesKnown budget (Some text) (Some input) (Some left) out outs err errs ended =
+    Executes budget text input left out outs err errs ended
 
 -- the text is no image that is accepted, nor does it spell one
 abbrev pub IsNotAccepted : List ℕ → Type 0

@@ -18,7 +18,8 @@ use Rattle.sfi_host.specs.Waiting.{Waits, later_reply}
 use Rattle.sfi_host.specs.declared.guest.Request.{Request}
 use Rattle.sfi_host.specs.declared.status.Status.{Status}
 use Rattle.sfi_host.specs.declared.status.Status.TheVariants.{Ready, Exited, Trapped, Stopped}
-use Rattle.sfi_tool.specs.Executing.{AreExecuted, HaveExecuted, Streams, streams, taken, turns_of}
+use Rattle.sfi_tool.specs.declared.execution.Ended.{Ended}
+use Rattle.sfi_tool.specs.Executing.{AreExecuted, HaveExecuted, IsTold, Streams, streams, taken, turns_of}
 use Rattle.sfi_tool.specs.Running.{plan_of}
 
 -- the status of a job's run on what its reader told, and what its writer holds then
@@ -160,17 +161,17 @@ pub record AreStreamed (budget n : ℕ) (old : List Slot) (c : ConsoleState) (ne
 -- the sandboxes of an image ran, where the reader tells its bytes; what was put and what is said
 -- was written
 pub record Ran (budget : ℕ) (ps : List Part) (input left out outs err errs : Option (List ℕ))
-    (status : ℕ) : Type 0 where
+    (ended : Ended) : Type 0 where
   pub written : List ℕ
   pub said : List ℕ
   pub writes : Appends out outs written
-  pub says : Appends err errs said
+  pub says : IsTold ended.told err errs said
   pub ran : IfKnown input left (λ x y. (machine : Machine) → IsMachine machine
-      → HaveExecuted machine budget ps x y written said status)
+      → HaveExecuted machine budget ps x y written said ended.status)
 
 -- so did those of the image with these bytes, which is accepted
-pub record RanImage (budget : ℕ) (input left out outs err errs : Option (List ℕ)) (status : ℕ)
+pub record RanImage (budget : ℕ) (input left out outs err errs : Option (List ℕ)) (ended : Ended)
     (bytes : List ℕ) : Type 0 where
   pub parts : List Part
   pub accepted : IsAccepted bytes parts
-  pub ran : Ran budget parts input left out outs err errs status
+  pub ran : Ran budget parts input left out outs err errs ended

@@ -5,7 +5,7 @@ ghost use Rattle.sfi_host.specs.Consoles.{ConsoleState};
 ghost use Rattle.sfi_host.specs.Worlds.{slots_of};
 ghost use Rattle.sfi_tool.specs.private.{AreStreamed, AreWithin, IsAsked, Streamed, left_by, left_of};
 
-use crate::serving::{Interruption, serve_call};
+use crate::serving::{Interruption, flush_output, serve_call};
 use rv_mem::Memory;
 use sfi_host::{Console, Request, Status, Turn, World};
 use std::io::{Read, Write};
@@ -33,11 +33,14 @@ fn steps_left<M: Memory>(world: &World<M>, sandbox: u32, budget: u64) -> u64
     left_by(budget, status, steps)
 }
 
-/// How many steps the next turn may do, if `left` are left: at most 2^32 - 1.
+/// How many steps a turn has at most. What was put is written after one without a call.
+const MOST_STEPS: u64 = 10_000_000;
+
+/// How many steps the next turn may do, if `left` are left.
 fn turn_steps(left: u64) -> u32
     ensures { result ≤ left }
 {
-    left.min(u64::from(u32::MAX)) as u32
+    left.min(MOST_STEPS) as u32
 }
 
 /// Runs a sandbox up to its next call, and says what that asks, if there is a step left for it.
@@ -60,7 +63,8 @@ fn run_to_request<M: Memory>(world: &mut World<M>, sandbox: u32, budget: u64) ->
     Some(request)
 }
 
-/// Runs a sandbox up to its next call, and answers that, if there is a step left for it.
+/// Runs a sandbox up to its next call, and answers that, if there is a step left for it. Where the turn
+/// ends otherwise, or the call is neither a put nor a get that fails, all that was put is written.
 fn run_and_serve_call<M: Memory, R: Read, W: Write>(
     world: &mut World<M>,
     console: &mut Console,
@@ -78,7 +82,7 @@ fn run_and_serve_call<M: Memory, R: Read, W: Write>(
     ensures within { IfOk result (λ u. AreWithin budget (slots_of world.new)) }
 {
     let Some(request) = run_to_request(world, sandbox, budget) else {
-        return Ok(());
+        return flush_output(writer);
     };
     serve_call(world, request, console, buffer, reader, writer)
 }

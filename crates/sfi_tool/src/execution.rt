@@ -1,16 +1,17 @@
 //! The command `exec`, over readers and writers.
 
-ghost use Rattle.std.specs.Prelude.{◌≡◌, ◌≢◌, Err, IfOk, IfSome, OnOk};
+ghost use Rattle.std.specs.Prelude.{◌≡◌, ◌≢◌, Err, IfOk, IfSome, OnOk, ℕ, List, Some};
 ghost use Rattle.std.specs.Io.KnownBytes.{Appends};
 ghost use Rattle.sfi_answers.specs.Answers.{GivesImageThat};
 ghost use Rattle.sfi_answers.specs.Answers.{IsAcceptedImage, Refuses};
 ghost use Rattle.sfi_answers.specs.declared.fault.Stop.TheVariants as stops;
 ghost use Rattle.sfi_tool.specs.Executing.{ExecutesKnown, IsNotAccepted};
+ghost use Rattle.sfi_io.specs.Hexadecimal.{IsInput};
 ghost use Rattle.sfi_tool.specs.declared.execution.ExecFault.TheVariants.{NotAccepted};
 ghost use Rattle.sfi_tool.specs.private.{Ran, RanImage};
 
 use crate::executing::execute_sandboxes;
-use crate::serving::{Interruption, MOST_HANDED};
+use crate::serving::{Interruption, MOST_HANDED, flush_output};
 use crate::stopping::{first_nonzero_status, stop_text};
 use rv_mem::Pages;
 use sfi_answers::{Stop, TOO_LARGE_LINE, refusal_answer, stop_answer};
@@ -20,17 +21,28 @@ use sfi_io::{INPUT_LIMIT, Input, ReadStop, image_bytes, read_input, write_out};
 use std::alloc::{AllocError, Global};
 use std::io::{Read, Write};
 
+/// What a run of an image's sandboxes came to.
+#[derive(Clone, Copy, Debug, Drop, PartialEq, Eq)]
+pub struct Ended {
+    /// The status to end with.
+    pub status: u8,
+    /// Whether all was told that is to be said of the run; else a beginning of it was.
+    pub told: bool,
+}
+
 /// Why a run of an image's sandboxes didn't come to its end.
 #[derive(Clone, Copy, Debug, Drop, PartialEq, Eq)]
 pub enum ExecFault {
     /// The image can't be run. What was said tells why: the verdict on an image with findings, or the
     /// line of a fault.
     NotAccepted,
+    /// The image can't be read.
+    Image,
     /// An allocation was refused.
     Memory,
-    /// The image or the input can't be read.
+    /// The input can't be read.
     Read,
-    /// The output, or what is said, can't be written.
+    /// The output, or what is said of an image that isn't accepted, can't be written.
     Write,
     /// A sandbox took 18446744073709551615 turns, which none lives to see.
     TooLong,
@@ -70,7 +82,8 @@ fn write_message<E: Write>(errors: &mut E, text: &[u8]) -> Result<(), Interrupti
     }
 }
 
-/// Runs the sandboxes of an accepted image. What they put before a fault is written, too.
+/// Runs the sandboxes of an accepted image. What they put before a fault is written, too. How they ended
+/// counts also where it can't be told.
 fn execute_accepted<R: Read, W: Write, E: Write>(
     alloc: Global,
     accepted: &Accepted<'_>,
@@ -78,7 +91,7 @@ fn execute_accepted<R: Read, W: Write, E: Write>(
     reader: &mut R,
     writer: &mut W,
     errors: &mut E,
-) -> Result<u8, Interruption>
+) -> Result<Ended, Interruption>
     ensures { IfOk result (Ran budget accepted.now (R.remaining reader.old) (R.remaining reader.new)
         (W.contents writer.old) (W.contents writer.new) (E.contents errors.old)
         (E.contents errors.new)) }
@@ -96,13 +109,12 @@ fn execute_accepted<R: Read, W: Write, E: Write>(
         reader,
         writer,
     );
-    if writer.flush().is_err() {
-        return Err(Interruption::Write);
-    }
+    flush_output(writer)?;
     ran?;
     let text = stop_text(alloc, accepted.image().parts(), &world)?;
-    write_message(errors, text.as_bytes())?;
-    Ok(first_nonzero_status(&world, count))
+    let told = write_out(errors, text.as_bytes());
+    let status = first_nonzero_status(&world, count);
+    Ok(Ended { status, told })
 }
 
 /// Says why there is no run.
@@ -148,12 +160,12 @@ fn execute_image<R: Read, W: Write, E: Write>(
     reader: &mut R,
     writer: &mut W,
     errors: &mut E,
-) -> Result<u8, ExecFault>
-    ensures ran { IfOk result (λ status. RanImage budget (R.remaining reader.old)
+) -> Result<Ended, ExecFault>
+    ensures ran { IfOk result (λ ended. RanImage budget (R.remaining reader.old)
         (R.remaining reader.new) (W.contents writer.old) (W.contents writer.new)
-        (E.contents errors.old) (E.contents errors.new) status bytes.now) }
+        (E.contents errors.old) (E.contents errors.new) ended bytes.now) }
     ensures not_accepted { result ≡ Err NotAccepted → ¬ IsAcceptedImage bytes.now }
-    ensures untouched { result ≡ Err NotAccepted
+    ensures untouched { (¬ IsAcceptedImage bytes.now)
         → (reader.new ≡ reader.old) × (writer.new ≡ writer.old) }
 {
     match check(alloc, bytes) {
@@ -170,12 +182,12 @@ fn execute_image_text<R: Read, W: Write, E: Write>(
     reader: &mut R,
     writer: &mut W,
     errors: &mut E,
-) -> Result<u8, ExecFault>
-    ensures ran { IfOk result (λ status. GivesImageThat (RanImage budget (R.remaining reader.old)
+) -> Result<Ended, ExecFault>
+    ensures ran { IfOk result (λ ended. GivesImageThat (RanImage budget (R.remaining reader.old)
         (R.remaining reader.new) (W.contents writer.old) (W.contents writer.new)
-        (E.contents errors.old) (E.contents errors.new) status) text.now) }
+        (E.contents errors.old) (E.contents errors.new) ended) text.now) }
     ensures not_accepted { result ≡ Err NotAccepted → IsNotAccepted text.now }
-    ensures untouched { result ≡ Err NotAccepted
+    ensures untouched { IsNotAccepted text.now
         → (reader.new ≡ reader.old) × (writer.new ≡ writer.old) }
 {
     if text.len() > INPUT_LIMIT {
@@ -187,27 +199,38 @@ fn execute_image_text<R: Read, W: Write, E: Write>(
     }
 }
 
-/// Runs the sandboxes of the image that a reader gives, one after another.
-pub fn exec<I: Read, R: Read, W: Write, E: Write>(
+/// Reads the image to its end or past the limit, and lets go of its reader: a file is closed then.
+fn read_image<I: Read + Drop>(alloc: Global, image: I) -> Result<Input, ReadStop>
+    ensures { IfOk result (IsInput (I.remaining image)) }
+{
+    let mut image = image;
+    read_input(alloc, &mut image)
+}
+
+/// Runs the sandboxes of the image that a reader gives, one after another. That reader is read, and let
+/// go, before the others are touched.
+pub fn exec<I: Read + Drop, R: Read, W: Write, E: Write>(
     alloc: Global,
     budget: u64,
-    image: &mut I,
+    image: I,
     reader: &mut R,
     writer: &mut W,
     errors: &mut E,
-) -> Result<u8, ExecFault>
-    ensures executes { IfOk result (ExecutesKnown budget (I.remaining image.old)
+) -> Result<Ended, ExecFault>
+    ensures executes { IfOk result (ExecutesKnown budget (I.remaining image)
         (R.remaining reader.old) (R.remaining reader.new) (W.contents writer.old)
         (W.contents writer.new) (E.contents errors.old) (E.contents errors.new)) }
     ensures not_accepted { result ≡ Err NotAccepted
-        → IfSome (I.remaining image.old) IsNotAccepted }
+        → IfSome (I.remaining image) IsNotAccepted }
     ensures untouched { result ≡ Err NotAccepted
         → (reader.new ≡ reader.old) × (writer.new ≡ writer.old) }
+    ensures refused { (text : List ℕ) → I.remaining image ≡ Some text → IsNotAccepted text
+        → (reader.new ≡ reader.old) × (writer.new ≡ writer.old) }
 {
-    match read_input(alloc, image) {
+    match read_image(alloc, image) {
         Ok(Input::Whole(text)) => execute_image_text(alloc, &text, budget, reader, writer, errors),
         Ok(Input::TooLarge) => Err(say_too_large(errors)),
         Err(ReadStop::Memory) => Err(ExecFault::Memory),
-        Err(ReadStop::Failed) => Err(ExecFault::Read),
+        Err(ReadStop::Failed) => Err(ExecFault::Image),
     }
 }

@@ -13,7 +13,7 @@ mod stopping;
 mod tool;
 
 pub use answering::answer_job;
-pub use execution::{ExecFault, exec};
+pub use execution::{Ended, ExecFault, exec};
 pub use sfi_answers::Answer;
 pub use sfi_command::{Job, JobFault, VERSION, job_of};
 pub use sfi_io::write_out;

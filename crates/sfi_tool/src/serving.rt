@@ -1,6 +1,6 @@
 //! One call of a sandbox, whose put writes to a process's output and whose get reads its input.
 
-ghost use Rattle.std.specs.Prelude.{◌≡◌, ◌≢◌, ◌≤◌, ℕ, List, Option, IfOk, Some, None, length, take};
+ghost use Rattle.std.specs.Prelude.{◌≡◌, ◌≢◌, ◌≤◌, ℕ, List, Option, IfOk, OnOk, Some, None, length, take};
 ghost use Rattle.std.specs.Bool.{OnTrue, OnFalse};
 ghost use Rattle.std.specs.Io.KnownBytes.{Appends, Keeps};
 ghost use Rattle.sfi_host.specs.Waiting.{Waits};
@@ -113,6 +113,16 @@ fn serve_put<M: Memory, W: Write>(
     reply_with(world, request, request.a1)
 }
 
+/// Writes what the writer holds back of what was put.
+pub(crate) fn flush_output<W: Write>(writer: &mut W) -> Result<(), Interruption>
+    ensures { OnOk result (Keeps (W.contents writer.old) (W.contents writer.new)) }
+{
+    if writer.flush().is_err() {
+        return Err(Interruption::Write);
+    }
+    Ok(())
+}
+
 /// Reads once, for a get, after all that was put has been written.
 fn read_piece<R: Read, W: Write>(
     piece: &mut [u8],
@@ -124,9 +134,7 @@ fn read_piece<R: Read, W: Write>(
     ensures few { IfOk result (λ n. n ≤ length piece.old) }
     ensures flushed { IfOk result (λ n. Keeps (W.contents writer.old) (W.contents writer.new)) }
 {
-    if writer.flush().is_err() {
-        return Err(Interruption::Write);
-    }
+    flush_output(writer)?;
     match reader.read(piece) {
         Ok(count) => Ok(count),
         Err(_) => Err(Interruption::Read),
@@ -158,18 +166,21 @@ fn serve_get<M: Memory, R: Read, W: Write>(
     let_host_answer(world, request, &mut piece)
 }
 
-/// Has a console answer a call.
-fn ask_console<M: Memory>(
+/// Has a console answer a call, after all that was put has been written.
+fn ask_console<M: Memory, W: Write>(
     world: &mut World<M>,
     request: Request,
     console: &mut Console,
+    writer: &mut W,
 ) -> Result<(), Interruption>
     requires put { request.service ≢ 1 }
     requires get { request.service ≢ 2 }
     requires waits { Waits (slots_of world.old) request.sandbox request }
-    ensures { (known told : Option (List ℕ)) → IfOk result (λ u. IsServed request.sandbox
-        (slots_of world.old) console.old (slots_of world.new) console.new known known told told) }
+    ensures { (known : Option (List ℕ)) → IfOk result (λ u. IsServed request.sandbox
+        (slots_of world.old) console.old (slots_of world.new) console.new known known
+        (W.contents writer.old) (W.contents writer.new)) }
 {
+    flush_output(writer)?;
     let_host_answer(world, request, console)
 }
 
@@ -192,6 +203,6 @@ pub(crate) fn serve_call<M: Memory, R: Read, W: Write>(
     match request.service {
         PUT => serve_put(world, request, buffer, writer),
         GET => serve_get(world, request, buffer, reader, writer),
-        _ => ask_console(world, request, console),
+        _ => ask_console(world, request, console, writer),
     }
 }

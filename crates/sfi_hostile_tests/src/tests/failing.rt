@@ -12,13 +12,13 @@ use std::test::Fail;
 
 /// Gives at most `step` bytes of `rest` at a call, and fails after `calls` calls.
 #[derive(Drop)]
-struct Tap<'a> {
-    rest: &'a [u8],
-    step: usize,
-    calls: usize,
-    has_failed: bool,
+pub(super) struct Tap<'a> {
+    pub(super) rest: &'a [u8],
+    pub(super) step: usize,
+    pub(super) calls: usize,
+    pub(super) has_failed: bool,
     /// A call came after one that failed.
-    is_tried_again: bool,
+    pub(super) is_tried_again: bool,
 }
 
 impl<'a> Read for Tap<'a> {
@@ -36,14 +36,14 @@ impl<'a> Read for Tap<'a> {
 
 /// Takes at most `step` bytes at a call. After `calls` calls it fails, or takes nothing.
 #[derive(Drop)]
-struct Sink {
-    taken: Vec<u8>,
-    step: usize,
-    calls: usize,
-    fails: bool,
-    has_refused: bool,
+pub(super) struct Sink {
+    pub(super) taken: Vec<u8>,
+    pub(super) step: usize,
+    pub(super) calls: usize,
+    pub(super) fails: bool,
+    pub(super) has_refused: bool,
     /// A call came after one that failed or took nothing.
-    is_tried_again: bool,
+    pub(super) is_tried_again: bool,
 }
 
 impl Write for Sink {

@@ -212,3 +212,44 @@ fn a_function_returns_by_the_gate_of_exit(rt: HostRuntime) -> Result<(), Fail> {
     assert_eq!(rt; turned(&mut world, alloc)?, Some(Status::Exited(11 + 12)));
     Ok(())
 }
+
+// The last import of a table: its number, the length of its name and the name, the table's magic; and
+// how far below the data's end the stack pointer of a function lies then. The data have 256 bytes.
+const ROOMS: &[(u32, &str, &str, u32)] = &[
+    (0, ROOM, MAGIC, 16),
+    (64, ROOM, MAGIC, 80),
+    (240, ROOM, MAGIC, 256),
+    (241, ROOM, MAGIC, 16),
+    (0xffff_ffff, ROOM, MAGIC, 16),
+    (64, "5, 46, 114, 111, 111, 110", MAGIC, 16),
+    (64, "4, 46, 114, 111, 111, 109", MAGIC, 16),
+    (64, ROOM, "83, 70, 73, 79", 16),
+    (64, ROOM, "83, 70, 73, 78, 0", 16),
+];
+
+const ROOM: &str = "5, 46, 114, 111, 111, 109";
+
+const MAGIC: &str = "83, 70, 73, 78";
+
+#[test]
+fn a_function_has_the_room_that_its_image_asks_for(rt: HostRuntime) -> Result<(), Fail> {
+    let alloc = rt.alloc();
+    for (room, name, magic, below) in ROOMS {
+        let text = format!(in alloc;
+            ".sandbox 256\nebreak\n.data\n.word {room}\n\
+            .byte {name}\n.word 0, 0, 10\n.byte {magic}\n"
+        )?;
+        let image = build(alloc, text.as_str()).expect(&rt, "built");
+        let accepted = check(alloc, image.as_slice()).expect(&rt, "accepted");
+        let mut world = World::load(alloc, &accepted, Segments::new(alloc))?;
+        assert_eq!(rt; stack_of(&rt, &world), DATA + 240);
+        assert!(rt; world.stop(0));
+        assert!(rt; world.enter(0, 0x0100_0000, &ARGUMENTS));
+        assert_eq!(rt; stack_of(&rt, &world), DATA + 256 - below);
+    }
+    Ok(())
+}
+
+fn stack_of(rt: &impl Abort, world: &World<Segments>) -> u32 {
+    world.cpu(0).expect(rt, "a sandbox").reg(Reg::numbered(2))
+}

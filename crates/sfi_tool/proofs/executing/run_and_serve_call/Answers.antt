@@ -1,7 +1,14 @@
 use Rattle.std.proofs.lemmas.Result.{IfOk-weaker}
 use Rattle.sfi_tool.proofs.Prelude.{slots_of}
 use Rattle.sfi_tool.proofs.Calls.{served_on, served_within}
+use Rattle.sfi_tool.proofs.Turns.{streamed_flushed}
 use Rattle.sfi_tool.proofs.executing.run_and_serve_call.Goals as goal
+
+pub returns-in_default-clause-streamed : goal.returns-in_default-clause-streamed
+returns-in_default-clause-streamed g c = IfOk-weaker c.flush_output.result _ _ (λ u keeps.
+    streamed_flushed c.args.sandbox (slots_of c.args.world.now) (slots_of c.run_to_request.new.world) c.args.console.now c.args.console.now (g.R.Read.remaining c.args.reader.now) (g.R.Read.remaining c.args.reader.now)
+    (g.W.Write.contents c.args.writer.now) (g.W.Write.contents c.args.writer.now) (g.W.Write.contents c.flush_output.new.writer)
+    (c.run_to_request.ensures.streamed c.args.console.now (g.R.Read.remaining c.args.reader.now) (g.W.Write.contents c.args.writer.now)) keeps) c.flush_output.ensures
 
 pub returns-clause-streamed : goal.returns-clause-streamed
 returns-clause-streamed g c = IfOk-weaker c.serve_call.result _ _ (λ u served.

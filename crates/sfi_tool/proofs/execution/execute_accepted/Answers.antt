@@ -1,12 +1,11 @@
 use Rattle.std.proofs.Common.{map}
-use Rattle.std.specs.Io.KnownBytes.{Appends}
 use Rattle.sfi_image.specs.Spelling.{format_of}
-use Rattle.sfi_tool.specs.Executing.{IsStopText}
+use Rattle.sfi_tool.specs.Executing.{IsStopText, IsTold}
 use Rattle.sfi_tool.proofs.Prelude.{◌∙◌, ℕ, List, Part, string_bytes, slots_of, subst, sym}
 use Rattle.sfi_host.specs.Worlds.{Seat, slot_of}
 use Rattle.sfi_tool.specs.private.{AreWithin}
 use Rattle.sfi_tool.proofs.Budgets.{first_within}
-use Rattle.sfi_tool.proofs.Jobs.{ran_of}
+use Rattle.sfi_tool.proofs.Jobs.{ran_of, told_is}
 use Rattle.sfi_tool.proofs.execution.execute_accepted.Goals as goal
 
 pub execute_sandboxes-ran-requires-clause-within : goal.execute_sandboxes-ran-requires-clause-within
@@ -19,8 +18,9 @@ returns g c =
     ran_of c.args.budget c.args.accepted.now c.sandbox_count-count.result c.in_ok-world.world (slots_of c.execute_sandboxes-ran.new.world) c.in_ok-console.console c.execute_sandboxes-ran.new.console
     c.sandbox_count-count.ensures.count c.in_ok-world.ensures.seats c.in_ok-world.ensures.bytes c.in_ok-console.ensures
     (g.R.Read.remaining c.args.reader.now) (g.R.Read.remaining c.execute_sandboxes-ran.new.reader) (g.W.Write.contents c.args.writer.now) (g.W.Write.contents c.execute_sandboxes-ran.new.writer)
-    (g.W.Write.contents c.flush.new.self) (g.E.Write.contents c.args.errors.now) (g.E.Write.contents c.write_message.new.errors) (string_bytes c.in_ok-text.text) c.first_nonzero_status.result
-    c.in_ok-ran.ensures c.flush.ensures.bytes
+    (g.W.Write.contents c.flush_output.new.writer) (g.E.Write.contents c.args.errors.now) (g.E.Write.contents c.write_out-told.new.writer) (string_bytes c.in_ok-text.text)
+    (record { status = c.first_nonzero_status-status.result; told = c.write_out-told.result }) c.in_ok-ran.ensures c.in_ok-flush_output.ensures
     (subst (λ (ps : List Part). IsStopText ps (slots_of c.execute_sandboxes-ran.new.world) (string_bytes c.in_ok-text.text)) (c.parts.ensures.parts ∙ c.image.ensures.image)
     (c.in_ok-text.ensures (format_of c.image.result.now)))
-    (subst (λ (text : List ℕ). Appends (g.E.Write.contents c.args.errors.now) (g.E.Write.contents c.write_message.new.errors) text) c.as_bytes.ensures.value c.in_ok-write_message.ensures) c.first_nonzero_status.ensures
+    (subst (λ (text : List ℕ). IsTold c.write_out-told.result (g.E.Write.contents c.args.errors.now) (g.E.Write.contents c.write_out-told.new.writer) text) c.as_bytes.ensures.value
+    (told_is c.write_out-told.result (g.E.Write.contents c.args.errors.now) (g.E.Write.contents c.write_out-told.new.writer) _ c.write_out-told.ensures.whole c.write_out-told.ensures.part)) c.first_nonzero_status-status.ensures

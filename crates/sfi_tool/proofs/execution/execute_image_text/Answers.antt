@@ -1,7 +1,17 @@
+use Rattle.std.proofs.lemmas.Result.{IfOk-weaker}
+use Rattle.sfi_tool.specs.private.{RanImage}
 use Rattle.sfi_tool.proofs.Prelude.{◌∙◌, subst, sym}
 use Rattle.sfi_answers.specs.Answers.{IsAcceptedImage}
 use Rattle.sfi_tool.proofs.Jobs.{no_bytes, same_fault}
 use Rattle.sfi_tool.proofs.execution.execute_image_text.Goals as goal
+
+pub returns-in-Ok-clause-ran : goal.returns-in-Ok-clause-ran
+returns-in-Ok-clause-ran g c = IfOk-weaker c.execute_image.result _ _ (λ ended ran. (
+  c.in-Ok.bytes.items,
+  c.in-Ok.ensures.bytes,
+  subst (RanImage c.args.budget (g.R.Read.remaining c.args.reader.now) (g.R.Read.remaining c.execute_image.new.reader) (g.W.Write.contents c.args.writer.now) (g.W.Write.contents c.execute_image.new.writer)
+      (g.E.Write.contents c.args.errors.now) (g.E.Write.contents c.execute_image.new.errors) ended) c.deref.ensures.value ran,
+)) c.execute_image.ensures.ran
 
 pub returns-in-Ok-clause-not_accepted : goal.returns-in-Ok-clause-not_accepted
 returns-in-Ok-clause-not_accepted g c = λ e h.

@@ -1,0 +1,168 @@
+//! `exec` over streams of which one fails.
+use super::failing::{Sink, Tap};
+use super::images::{C_EBREAK, EBREAK, HEAD, PAIR_ON_X0, SFI1, digits_of};
+use sfi_tool::{Ended, ExecFault, exec};
+use std::alloc::Global;
+use std::test::Fail;
+
+/// A program that puts two letters, gets a byte, and exits with how many it got.
+const ASKS: &str = "0100000000000001000100000000800100010000300000010300000002000000\
+    000000010100000010000001020000002000000100000000\
+    73000000b3ff9001b3ef8f0167800f0073000000b3ff9001b3ef8f0167800f0073000000b3ff9001b3ef8f0167800f00\
+    370580011305050093052000eff05ffc370580011305050093051000eff05ffc010001000100010001000100eff05ffc";
+
+/// How many calls of each stream work before one fails.
+#[derive(Clone, Copy)]
+struct Calls {
+    image: usize,
+    input: usize,
+    output: usize,
+    errors: usize,
+}
+
+/// An image, the calls that work, how `exec` ends, what was put then, and how what was said begins.
+struct Row {
+    image: &'static [(&'static str, usize)],
+    calls: Calls,
+    ends: Result<Ended, ExecFault>,
+    put: &'static str,
+    said: &'static str,
+}
+
+const ALL: Calls = Calls {
+    image: 100,
+    input: 100,
+    output: 100,
+    errors: 100,
+};
+
+const ASKING: &[(&str, usize)] = &[(SFI1, 1), (ASKS, 1), (C_EBREAK, 80), ("4869", 1)];
+
+const TRAPPING: &[(&str, usize)] = &[(SFI1, 1), (HEAD, 1), (EBREAK, 64)];
+
+const REFUSED: &[(&str, usize)] = &[(SFI1, 1), (HEAD, 1), (PAIR_ON_X0, 1), (EBREAK, 61)];
+
+const ROWS: [Row; 9] = [
+    Row {
+        image: ASKING,
+        calls: ALL,
+        ends: Ok(Ended {
+            status: 1,
+            told: true,
+        }),
+        put: "Hi",
+        said: "",
+    },
+    Row {
+        image: ASKING,
+        calls: Calls { image: 0, ..ALL },
+        ends: Err(ExecFault::Image),
+        put: "",
+        said: "",
+    },
+    Row {
+        image: ASKING,
+        calls: Calls { input: 0, ..ALL },
+        ends: Err(ExecFault::Read),
+        put: "Hi",
+        said: "",
+    },
+    Row {
+        image: ASKING,
+        calls: Calls { output: 0, ..ALL },
+        ends: Err(ExecFault::Write),
+        put: "",
+        said: "",
+    },
+    Row {
+        image: TRAPPING,
+        calls: ALL,
+        ends: Ok(Ended {
+            status: 126,
+            told: true,
+        }),
+        put: "",
+        said: "sandbox=0 trap=Break at=01000000 steps=0\n",
+    },
+    Row {
+        image: TRAPPING,
+        calls: Calls { errors: 0, ..ALL },
+        ends: Ok(Ended {
+            status: 126,
+            told: false,
+        }),
+        put: "",
+        said: "",
+    },
+    Row {
+        image: REFUSED,
+        calls: ALL,
+        ends: Err(ExecFault::NotAccepted),
+        put: "",
+        said: "refused findings=1 first=V5 sandbox=0 at=01000008\n",
+    },
+    Row {
+        image: REFUSED,
+        calls: Calls { errors: 0, ..ALL },
+        ends: Err(ExecFault::Write),
+        put: "",
+        said: "",
+    },
+    Row {
+        image: &[(SFI1, 1)],
+        calls: ALL,
+        ends: Err(ExecFault::NotAccepted),
+        put: "",
+        said: "layout fault 3 Short\n",
+    },
+];
+
+/// A reader of these bytes that fails after `calls` calls.
+fn tap(rest: &[u8], calls: usize) -> Tap<'_> {
+    Tap {
+        rest,
+        step: 100,
+        calls,
+        has_failed: false,
+        is_tried_again: false,
+    }
+}
+
+/// A writer that fails after `calls` calls.
+fn sink(alloc: Global, calls: usize) -> Sink {
+    Sink {
+        taken: Vec::new(alloc),
+        step: 100,
+        calls,
+        fails: true,
+        has_refused: false,
+        is_tried_again: false,
+    }
+}
+
+// Whether the row is right, and no call came after one that failed.
+fn is_right(alloc: Global, row: &Row) -> Result<bool, Fail> {
+    let text = digits_of(alloc, row.image)?;
+    let image = tap(text.as_bytes(), row.calls.image);
+    let mut input = tap(b"x", row.calls.input);
+    let mut output = sink(alloc, row.calls.output);
+    let mut errors = sink(alloc, row.calls.errors);
+    let ends = exec(alloc, 1000, image, &mut input, &mut output, &mut errors);
+    Ok(
+        ends == row.ends
+            && output.taken.as_slice() == row.put.as_bytes()
+            && errors.taken.starts_with(row.said.as_bytes())
+            && errors.taken.is_empty() == row.said.is_empty()
+            && !input.is_tried_again
+            && !output.is_tried_again
+            && !errors.is_tried_again,
+    )
+}
+
+#[test]
+fn exec_ends_at_what_fails(rt: HostRuntime) -> Result<(), Fail> {
+    for row in ROWS.iter() {
+        assert!(rt; is_right(rt.alloc(), row)?, "{}", row.said);
+    }
+    Ok(())
+}
