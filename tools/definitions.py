@@ -20,13 +20,15 @@ import re
 import sys
 from dataclasses import dataclass, field
 
+sys.dont_write_bytecode = True
+import declarations
+
 TOP = pathlib.Path(__file__).resolve().parent.parent
 CRATES = TOP / "crates"
 PROOFS = TOP / "docs" / "PROOFS.md"
 NAME = re.compile(r"[A-Za-z_][A-Za-z_0-9]*")
 IMPORT = re.compile(r"use Rattle\.(\w+)\.specs\.([\w.]+)\.\{([^}]*)\}")
 WHOLE = re.compile(r"use Rattle\.(\w+)\.specs\.([\w.]+) as (\w+)")
-DECLARED = re.compile(r"(?:(?:abbrev|unfoldable|pub) )+(record |data )?(\S+)|(record |data )(\S+)")
 NOT_LISTED = ("private", "mirror", "declared")
 HEAD = """# Definitions
 
@@ -66,60 +68,60 @@ def imports(text):
 def qualified(text, body):
     """The words that a part of a text cites by the name which the text gives to their whole file: `words.Word`."""
     files = {name: (crate, file) for crate, file, name in WHOLE.findall(text)}
-    return {(*files[name], word) for name, word in re.findall(r"\b(\w+)\.([A-Za-z_]\w*)", body) if name in files}
-
-
-def declarations(text):
-    """The declarations of a file of definitions: of each its kind, its name, its lines, the comment above, and its line's number."""
-    found, comment, is_open = [], [], False
-    for number, line in enumerate(text.splitlines(), 1):
-        code, _, note = line.partition("--")
-        head = DECLARED.match(code)
-        if head and not line.startswith("pub mod"):
-            found.append((head[1] or head[3] or "", head[2] or head[4], [code], " ".join(comment), number))
-        elif found and not line.startswith(("use ", "infix")):
-            found[-1][2].append(code)
-        if line.startswith("-- "):
-            comment = [*(comment if is_open else []), note.strip(" -")]
-        is_open = line.startswith("-- ")
-    return found
+    return {(*files[name], word) for name, word in re.findall(r"\b(\w+)\.([^\s(){}.,;]+)", body) if name in files}
 
 
 def constructors(lines):
-    """The constructors of a data type."""
-    return {name for line in lines[1:] if " : " in line for name in line.split(" : ")[0].split()}
+    """The constructors of a data type, and what else stands before a colon, or in a line without one."""
+    return {name for line in lines[1:] for name in line.partition(":")[0].split()}
 
 
-def names_in(text):
-    """The names that a text may cite: all but a field that is taken, set or declared."""
-    text = re.sub(r"\.[a-z_]+\b|\b[a-z_]+ = |^ +pub \w+ :", " ", text, flags=re.M)
-    return set(NAME.findall(text)) | set(re.findall(r"◌\S+◌\S*", text))
+def cited_of(known, text):
+    """Those of the known names that a text cites, or that a field or a variable in it has: one that isn't of letters alone,
+    such as the operator `◌⟦◌∶◌⟧`, where each part of it stands there."""
+    used = set(NAME.findall(text))
+    return {name for name in known if name in used
+            or not NAME.fullmatch(name) and all(part in text for part in name.split("◌"))}
 
 
 def words_of(crate, file, text):
     """The words of a file of definitions, by each name that others may import: a type's constructors stand for the type."""
-    found, texts = {}, {}
-    for kind, name, lines, comment, number in declarations(text):
-        word = Word((crate, file, name), comment=comment, line=number)
-        texts[name] = word, "\n".join(lines)
-        found.update({one: word for one in [name, *(constructors(lines) if kind == "data " else ())]})
-    known = imports(text)
+    found, others, texts = {}, {}, {}
+    whole = declarations.read(text, path_of(crate, file).relative_to(TOP))
+    for it in whole.declarations:
+        found[it.name] = word = Word((crate, file, it.name), comment=it.comment, line=it.line)
+        texts[it.name] = word, "\n".join(it.code)
+        others.update({one: word for one in (constructors(it.code) if it.kind == "data " else ())})
+    found = others | found
+    lines = "\n".join(whole.imports)
+    known = imports(lines)
     for word, body in texts.values():
-        used = names_in(body)
-        word.names = {known[name] for name in used & known.keys()} | qualified(text, body)
-        word.names |= {found[name].key for name in used & found.keys()} - {word.key}
+        word.names = {known[name] for name in cited_of(known, body)} | qualified(lines, body)
+        word.names |= {found[name].key for name in cited_of(found, body)} - {word.key}
     return found
+
+
+def passed_on(crate, file, text):
+    """The words that a file passes on: the name that others import from it, and that of the word itself."""
+    lines = "\n".join(line for line in text.splitlines() if line.startswith("pub use "))
+    return {(crate, file, name): key for name, key in imports(lines).items()}
+
+
+def variants(words):
+    """The constructors of data types, as a file names them that imports the type itself as a module."""
+    return {(crate, f"{file}.{word.key[2]}", name): word for (crate, file, name), word in words.items() if name != word.key[2]}
 
 
 def all_words():
     """Each word, by its crate, its file and each of its names."""
-    found = {}
+    found, others = {}, {}
     for path in sorted(CRATES.glob("*/specs/**/*.antt")):
         crate, _, *parts = path.relative_to(CRATES).with_suffix("").parts
         file = ".".join(parts)
-        for name, word in words_of(crate, file, path.read_text(encoding="utf-8")).items():
-            found[crate, file, name] = word
-    return found
+        text = path.read_text(encoding="utf-8")
+        found.update({(crate, file, name): word for name, word in words_of(crate, file, text).items()})
+        others.update(passed_on(crate, file, text))
+    return found | variants(found) | {name: found[key] for name, key in others.items() if key in found}
 
 
 # ---- what contracts rest on
@@ -148,7 +150,7 @@ def laws(text):
     """The laws of a crate's proofs/Facts, each with the words of specs/ that its type cites."""
     known = imports(text)
     typed = re.findall(r"^pub (\w+) : (.+)$", text, flags=re.M)
-    return {law: {known[name] for name in names_in(type_) & known.keys()} for law, type_ in typed}
+    return {law: {known[name] for name in cited_of(known, type_)} for law, type_ in typed}
 
 
 def facts_of(crate):
@@ -165,7 +167,7 @@ def cited(words):
             continue
         text = path.read_text(encoding="utf-8")
         known = imports(text)
-        named = {known[name] for name in names_in(clauses(text)) & known.keys()} | qualified(text, clauses(text))
+        named = {known[name] for name in cited_of(known, clauses(text))} | qualified(text, clauses(text))
         for name in named & words.keys():
             found.setdefault(words[name].key, str(path.relative_to(CRATES)))
     for crate in crate_names():
@@ -272,13 +274,14 @@ def contract_names(crate):
 
 
 def contracts(text):
-    """The contracts in the last brackets of the items of a text: of each its crate and its name. `[only_]x` names x and only_x."""
+    """The contracts in the brackets of the items of a text that begin with one: of each its crate and its name. `[only_]x` names x
+    and only_x."""
     found = []
     for section in text.split("\n## ")[1:]:
         crate = section.split(":")[0]
         for item in re.findall(r"^- .*(?:\n  .*)*", section, flags=re.M) if (CRATES / crate).is_dir() else []:
-            named = re.search(r"\(([^()]*)\)\.$", item)
-            names = re.sub(r"`\[only_\](\w+)`", r"`\1`, `only_\1`", named[1] if named else "")
+            named = " ".join(re.findall(r"\((`[^()]*)\)", item))
+            names = re.sub(r"`\[only_\](\w+)`", r"`\1`, `only_\1`", named)
             found += [(crate, part) for name in re.findall(r"`([\w:]+)`", names) for part in name.split("::")]
     return found
 
@@ -387,9 +390,10 @@ def checked_itself():
     private = "use Rattle.c.specs.private.B.{far}\npub use Rattle.d.specs.private as p\nuse Rattle.c.specs.B.{far}\n"
     found = {
         "imports": imports(CODE)["close"] == ("c", "A", "near"),
-        "clauses": "close" in names_in(clauses(CODE)) and "other" not in names_in(clauses(CODE)),
+        "clauses": cited_of({"close", "other"}, clauses(CODE)) == {"close"},
         "names": words["c", "A", "near"].names == {("c", "B", "far"), ("c", "A", "part")},
         "qualified": words["c", "A", "wide"].names == {("c", "B", "Kind"), ("c", "B", "One")},
+        "other letters": cited_of({"is-so", "f'", "is", "◌⟦◌∶◌⟧"}, "is-so (f' x)") == {"is-so", "f'", "is"},
         "comments": words["c", "A", "near"].comment == "how near it is" and words["c", "A", "near"].line == 5,
         "constructors": words["c", "B", "Two"].key == ("c", "B", "Kind"),
         "sources": sources("# note\na B: C: d\n") == {("a", "B"): "C: d"},
@@ -425,4 +429,7 @@ def main(options):
 
 
 if __name__ == "__main__":
-    sys.exit(main(sys.argv[1:]))
+    try:
+        sys.exit(main(sys.argv[1:]))
+    except declarations.Unreadable as unread:
+        sys.exit(f"{unread}\n0 passed, 1 failed")

@@ -1,31 +1,45 @@
 #!/usr/bin/env python3
 """Prints the evidence for the theorem as one page, which tools/verify_evidence.py compares with a checkout.
 
-    ./sfi evidence LOG > FILE      # LOG is what `rt ci --anew` or `./test` printed, which takes long
+    ./sfi evidence LOG > FILE      # LOG is what `rt ci --anew` printed, which takes long
     tools/verify_evidence.py FILE
 
-The page has the kit's line, of each crate the verdict's last line, its axioms by name and hashes of its definitions and
-its sources, hashes of the libraries that are built, and the theorem: the contract of `check`, with each definition of this
-repository on which its clauses `accepted` and `safe` rest. The last line is the hash of all above.
+The page has the kit's line; of each crate the last line of its check, its axioms by name, hashes of its definitions and its
+sources, and that the functions below are proved; hashes of the libraries that are built; and the contracts of `check`, of
+`check_stream`, of the C library's `sfi_c_check` and of a `World`, each with the definitions of this repository on which it
+rests (of `check` first its clauses `accepted` and `safe`), printed whole, with their files' hashes, and the toolchain's words
+that these cite. The last line is the hash of all above. That LOG is what a run over these sources printed is the word of
+whoever makes the page.
 """
 import hashlib
 import pathlib
 import re
+import shutil
 import subprocess
 import sys
 
 TOP = pathlib.Path(__file__).resolve().parent.parent
 sys.dont_write_bytecode = True
 sys.path.insert(0, str(TOP / "tools"))
+import declarations
 import definitions
 import installed
+import kit_words
+import statements
 import version
 
-CONTRACT = pathlib.Path("crates/sfi_check/src/verdict.rt")
-ROOTS = [("sfi_safe_runs", "Safety", "AllRunSafely"), ("sfi_safety", "Clean", "IsAccepted")]
 TITLE = "# Evidence for the theorem of Suygapid "
 THEOREM = "\n## The theorem\n"
+KIT_WORDS = "\n## Words of the toolchain\n"
 HASH = "page sha256="
+NOT_BUILT = "none"
+RELEASED = "evidence/page.txt"  # where a release has its page
+NO_LOG = "prove all first, by `rt ci --anew > LOG`, which takes long, and then make the page, by `./sfi evidence LOG > FILE`"
+OF_KIT = """
+The definitions above cite these, which cite others in turn. The kit's `logic` is a sum of libraries that
+logic/antt-project.json mounts, which are below logic/ and antt/: it covers no file of core/ or std/.
+
+"""
 
 
 def hash_of(data):
@@ -36,63 +50,6 @@ def hash_of_files(paths):
     """One hash of the names and the bytes of files, in the order of the names."""
     lines = (f"{hash_of(it.read_bytes())}  {it.relative_to(TOP)}\n" for it in sorted(paths))
     return hash_of("".join(lines).encode())
-
-
-# ---- the theorem
-
-def contract():
-    """The contract of `check`, from its comment to its body."""
-    text = (TOP / CONTRACT).read_text(encoding="utf-8")
-    return re.search(r"(?:^///[^\n]*\n)*^pub fn check<.*?(?=^\{$)", text, re.M | re.S)[0]
-
-
-def declared_type(crate, file):
-    """The declaration in code of the type that a definition cites as `declared.MODULE.TYPE`, or of which it cites a variant."""
-    *module, name = [it for it in file.split(".")[1:] if it != "TheVariants"]
-    text = (TOP / "crates" / crate / "src" / "/".join(module)).with_suffix(".rt").read_text(encoding="utf-8")
-    return re.search(rf"(?:^///[^\n]*\n)*(?:^#\[[^\n]*\n)*^pub (?:enum|struct) {name}\b.*?(?:^\}}$|;$)", text, re.M | re.S)[0]
-
-
-def text_of_word(crate, file, name):
-    """A definition as it stands in its file, with the comment above it."""
-    lines = definitions.path_of(crate, file).read_text(encoding="utf-8").splitlines()
-    for kind, other, body, _, number in definitions.declarations("\n".join(lines)):
-        if other == name:
-            begin = end = number - 1
-            while begin and lines[begin - 1].startswith("-- "):
-                begin -= 1
-            while end < len(lines) and (end < number or lines[end].startswith((" ", f"{name} "))):
-                end += 1
-            return "\n".join(lines[begin:end])
-    raise ValueError(f"{crate} {file} has no {name}")
-
-
-def needed_words():
-    """The keys of the definitions on which the theorem rests, each once, and of the types in code that these cite."""
-    words = definitions.all_words()
-    found, types = list(ROOTS), []
-    for key in found:  # which grows meanwhile
-        for other in sorted(words[key].names):
-            if other in words and words[other].key not in found:
-                found.append(words[other].key)
-            elif other[1].startswith("declared") and other not in types:
-                types.append(other)
-    return found, types
-
-
-def theorem():
-    """The contract, the definitions by crate and file, and the types."""
-    found, types = needed_words()
-    order = definitions.crate_names()
-    parts, last = [contract()], None
-    for key in sorted(found, key=lambda it: (-order.index(it[0]), it[1])):
-        if key[:2] != last:
-            parts.append(f"### {definitions.path_of(*key[:2]).relative_to(TOP)}")
-        last = key[:2]
-        parts.append(text_of_word(*key))
-    parts.append("### types in code")
-    texts = {declared_type(*key[:2]) for key in types}
-    return "\n\n".join(parts + sorted(texts)) + "\n"
 
 
 # ---- what was built and proved
@@ -106,40 +63,81 @@ def crate_line(crate):
 
 
 def verdicts(log):
-    """Of each crate in a log of `rt ci` the lines that name its axioms, and its last line."""
-    found, crate, axioms = {}, None, []
+    """Of each crate in a log of `rt ci` the lines of the functions whose contracts the page has and those that name its axioms,
+    and the last line of its check: more than one where they differ. What rt prints when it compiles a program that it has
+    checked repeats that line, with one word more."""
+    found, crate, told = {}, None, []
     for line in log.splitlines():
         if line.startswith("== "):
-            crate, axioms = line.split()[1], []
-        elif line.startswith("axioms ") and crate:
-            axioms.append(f"{crate} {line}")
-        elif re.match(r"logic=\w+ functions=", line) and crate:
-            found.setdefault(crate, [*axioms, f"verdict {crate} {line}"])
+            crate, told = line[3:], []  # of its tests that is `CRATE: its tests`
+        elif crate and (line.startswith("axioms ") or line in statements.proved_lines(crate)):
+            told.append(f"{crate} {line}")
+        elif line.startswith("logic=") and crate:
+            lines = found.setdefault(crate, [])
+            fresh = [*sorted(told), f"verdict {crate} {line.removesuffix(' crate-checked=trusted')}"]
+            lines += [it for it in fresh if it not in lines]
     return found
 
 
 def library_lines():
-    return [f"built {it.relative_to(TOP)} sha256={hash_of(it.read_bytes())}" for it in installed.built() if it.is_file()]
+    """A line for each library and program that is built of the crates, or has to be."""
+    found = [(it.relative_to(TOP), f"sha256={hash_of(it.read_bytes())}" if it.is_file() else NOT_BUILT) for it in installed.built()]
+    return [f"built {path} {told}" for path, told in found]
+
+
+def title():
+    return TITLE + version.version()
 
 
 def kit():
+    """What `rt version` says, or None where there is no command rt."""
+    if not shutil.which("rt"):
+        return None
     return subprocess.run(["rt", "version"], capture_output=True, text=True, check=True).stdout.strip()
 
 
+# ---- the page
+
+def kit_section(cited):
+    """The toolchain's words, or None where there is no toolchain."""
+    folder = kit_words.folder()
+    return OF_KIT.lstrip("\n") + kit_words.told(folder, cited) if folder else None
+
+
 def page(log, kit_line):
-    found = verdicts(log)
-    lines = [TITLE + version.version(), "", f"kit {kit_line}"]
+    found, told = verdicts(log), statements.told()
+    lines = [title(), "", f"kit {kit_line}"]
     for crate in definitions.crate_names():
         lines += [crate_line(crate), *found.get(crate, [f"verdict {crate} none in the log"])]
-    text = "\n".join(lines + library_lines()) + "\n" + THEOREM + "\n" + theorem()
+    text = "\n".join(lines + library_lines()) + "\n" + THEOREM + "\n" + told.text
+    text += KIT_WORDS + "\n" + (kit_section(told.kit_words) or "")
     return f"{text}\n{HASH}{hash_of(text.encode())}\n"
 
 
+def fail(text):
+    released = f"; this release's page is {RELEASED}" if (TOP / RELEASED).is_file() else ""
+    sys.exit(text + released)
+
+
 def main(words):
+    if words in (["--help"], ["-h"]):
+        print(__doc__.strip())
+        return
     if len(words) != 1:
-        sys.exit("usage: ./sfi evidence LOG > FILE    (LOG: what `rt ci --anew` printed)")
-    log = pathlib.Path(words[0]).read_text(encoding="utf-8", errors="replace")
-    sys.stdout.write(page(log, kit()))
+        fail(f"usage: ./sfi evidence LOG > FILE: {NO_LOG}")
+    log, kit_line = pathlib.Path(words[0]), kit()
+    if not log.is_file():
+        fail(f"evidence: there is no file {log}: {NO_LOG}")
+    if kit_line is None:
+        fail("evidence: the Rattle toolchain isn't there (no command rt), whose version and words the page has")
+    text = log.read_text(encoding="utf-8", errors="replace")
+    missing = [it for it in definitions.crate_names() if it not in verdicts(text)]
+    if missing:
+        fail(f"evidence: {log} isn't the log of a whole `rt ci --anew`: it has no verdict on {', '.join(missing)}: {NO_LOG}")
+    try:
+        sys.stdout.write(page(text, kit_line))
+    except declarations.Unreadable as error:
+        fail(f"evidence: {error}")
 
 
 if __name__ == "__main__":

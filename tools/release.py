@@ -2,14 +2,19 @@
 """Makes the tar file of a release: all files of the commit that is checked out, and what is built of them, where it lies
 in the repository.
 
-    tools/release.py [FOLDER]     # out/release if absent
+    tools/release.py [--log LOG] [FOLDER]     # LOG is out/ci.log, and FOLDER out/release, if absent
 
 FOLDER gets suygapid-VERSION-x86_64-linux.tar.gz and, with .sha256 at its end, the checksum of it. In the tar file
-SHA256SUMS has that of every other file. The same commit and the same built files make the same bytes: owners, times and
-the order of the files don't depend on where and when it is made. Nothing is made where a file isn't committed, or where
-what is built is missing or older than a source. suygapid_check.c, the checker in one file of C, is made and in it where
-the library for WebAssembly and the tools of tools/checker_file.py are there.
+SHA256SUMS has that of every other file. The same commit, the same built files and the same LOG make the same bytes: owners,
+times and the order of the files don't depend on where and when it is made. Nothing is made where a file isn't committed,
+where what is built is missing, empty or older than a source, where suygapid_check.c, the checker in one file of C, can't be
+made (tools/checker_file.py), or where what is packed doesn't do what tools/release_trial.py tries.
+
+LOG is what `rt ci --anew > LOG` printed over this commit. Of it the page of evidence is made (tools/evidence.py), and both are
+in the folder `evidence` of the tar file. Without LOG neither is, as a line says; with one that proves nothing there is no release.
+`./test` after that run builds all that a release wants.
 """
+import argparse
 import gzip
 import hashlib
 import io
@@ -18,14 +23,19 @@ import pathlib
 import subprocess
 import sys
 import tarfile
+import tempfile
 
 TOP = pathlib.Path(__file__).resolve().parent.parent
 sys.dont_write_bytecode = True
 sys.path.insert(0, str(TOP / "tools"))
 import checker_file
+import definitions
+import evidence
 import installed
 import libraries
+import release_trial
 import toolchain
+import verify_evidence
 import version
 
 MACHINE = "x86_64-linux"
@@ -55,15 +65,36 @@ def built_files():
     found = [str(path.relative_to(TOP)) for path in [*installed.built(), *MADE]]
     for crate in libraries.HEADERS:
         found += [os.path.relpath(path, TOP) for path in libraries.make(crate)]
-    if not checker_file.missing():
-        found.append(os.path.relpath(checker_file.make(), TOP))
+    lacking = [it.removeprefix(f"{TOP}/") for it in checker_file.missing()]
+    if lacking:
+        fail(f"suygapid_check.c, which README.md says is in a release, can't be made: {' and '.join(lacking)} isn't there")
+    found.append(os.path.relpath(checker_file.make(), TOP))
+    empty = [path for path in found if not (TOP / path).stat().st_size]
+    if empty:
+        fail(f"{empty[0]} has 0 bytes")
     return found
 
 
-def contents():
+def evidence_files(log):
+    """The page of evidence and the log of which it is made; nothing where there is no log, of which a line is printed."""
+    if not log.is_file():
+        print(f"release.py: no evidence is in it: there is no {log}: {evidence.NO_LOG}", file=sys.stderr)
+        return {}
+    sfi, time = toolchain.sfi(), log.stat().st_mtime
+    if any(sfi.is_changed(it, time) for it in definitions.crate_names()):
+        fail(f"{log} is older than a source")
+    text = log.read_text(encoding="utf-8", errors="replace")
+    page = evidence.page(text, evidence.kit())
+    faults, _ = verify_evidence.judged(page)
+    if faults:
+        fail(f"{log} isn't the log of a whole `rt ci --anew` over this commit: {faults[0]}")
+    return {evidence.RELEASED: (page.encode(), False), "evidence/ci.log": (log.read_bytes(), False)}
+
+
+def contents(log):
     """The bytes of each file of the release and whether it can be run, by its path."""
     paths = [it for it in git("ls-files", "-z").split("\0") if it] + built_files()
-    return {path: ((TOP / path).read_bytes(), os.access(TOP / path, os.X_OK)) for path in paths}
+    return {path: ((TOP / path).read_bytes(), os.access(TOP / path, os.X_OK)) for path in paths} | evidence_files(log)
 
 
 def checksums(files):
@@ -82,7 +113,17 @@ def packed(name, files, time):
     return out.getvalue()
 
 
-def release(folder):
+def try_out(name, packed_bytes):
+    """Ends where what is packed isn't as it has to be."""
+    with tempfile.TemporaryDirectory() as room:
+        with tarfile.open(fileobj=io.BytesIO(packed_bytes)) as tar:
+            tar.extractall(room, filter="data")
+        faults = release_trial.faults(pathlib.Path(room) / name)
+    if faults:
+        fail(f"nothing is released: {faults[0]}")
+
+
+def release(folder, log):
     missing = [str(it.relative_to(TOP)) for it in [*installed.built(), *MADE] if not it.is_file()]
     if missing:
         fail(f"{' and '.join(missing)} isn't built")
@@ -91,10 +132,12 @@ def release(folder):
     late = stale()
     if late:
         fail(f"{late[0].relative_to(TOP)} is older than a source of it")
-    files = contents()
-    files["SHA256SUMS"] = checksums(files), False
+    files = contents(log)
+    files[release_trial.SUMS] = checksums(files), False
     name = f"suygapid-{version.version()}-{MACHINE}"
-    data = gzip.compress(packed(name, files, int(git("log", "-1", "--format=%ct"))), compresslevel=9, mtime=0)
+    whole = packed(name, files, int(git("log", "-1", "--format=%ct")))
+    try_out(name, whole)
+    data = gzip.compress(whole, compresslevel=9, mtime=0)
     folder.mkdir(parents=True, exist_ok=True)
     tar = folder / f"{name}.tar.gz"
     tar.write_bytes(data)
@@ -102,5 +145,13 @@ def release(folder):
     print(tar)
 
 
+def main():
+    parser = argparse.ArgumentParser(description=__doc__, formatter_class=argparse.RawDescriptionHelpFormatter)
+    parser.add_argument("--log", type=pathlib.Path, default=TOP / "out" / "ci.log")
+    parser.add_argument("folder", nargs="?", type=pathlib.Path, default=TOP / "out" / "release")
+    options = parser.parse_args()
+    release(options.folder, options.log)
+
+
 if __name__ == "__main__":
-    release(pathlib.Path(*(sys.argv[1:] or [TOP / "out" / "release"])))
+    main()

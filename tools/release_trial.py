@@ -1,0 +1,81 @@
+"""Tries what a release holds, in the folder to which its tar file was unpacked: that each file has its checksum, and that the
+program, both WebAssembly modules and the checker in one file of C say of the smallest image what they have to.
+"""
+import base64
+import hashlib
+import pathlib
+import re
+import shutil
+import subprocess
+import tempfile
+
+SUMS = "SHA256SUMS"
+SMALLEST = "examples/smallest.hex"
+ACCEPTED = "accepted sandboxes=1 bundles=16\n"
+PROGRAM = "crates/sfi/out/sfi"
+CHECKER = "crates/sfi_c/out/suygapid_check.c"
+# The page's module by the page's own script, which asks for nothing of a browser but in what loads it.
+PAGE_MODULE = """
+import { readFileSync } from "node:fs";
+import { setFlagsFromString } from "node:v8";
+setFlagsFromString("--experimental-wasm-memory64");
+const { Module, Tool } = new Function(readFileSync("page/module.js", "utf8") + "; return { Module, Tool };")();
+const module = new Module();
+module.calls = (await WebAssembly.instantiate(readFileSync("page/sfi.wasm"))).instance.exports;
+process.stdout.write(new Tool(module).answer(["check"], readFileSync(0)).text);
+"""
+# The smallest image is 64 times ebreak.
+NODE_MODULE = """
+import { readFileSync } from "node:fs";
+const { load } = await import(`file://${process.cwd()}/bindings/node/index.mjs`);
+const image = Buffer.from(readFileSync(0, "utf8").replace(/\\s/g, ""), "hex");
+console.log((await load(image)).sandboxes[0].turn(5).cause);
+"""
+
+
+def faults_of_sums(top):
+    """Files whose checksum in SHA256SUMS isn't theirs, that aren't there, or that it doesn't have."""
+    told = dict(reversed(line.split("  ", 1)) for line in (top / SUMS).read_text(encoding="utf-8").splitlines())
+    there = {str(it.relative_to(top)) for it in top.rglob("*") if it.is_file()} - {SUMS}
+    return [f"{path} isn't what {SUMS} says" for path in sorted(told.keys() | there)
+            if path not in told or path not in there or hashlib.sha256((top / path).read_bytes()).hexdigest() != told[path]]
+
+
+def faults_of_run(what, words, top, given, wanted):
+    """Runs a command in the folder, and says what is wrong if it doesn't print what is wanted."""
+    done = subprocess.run(words, cwd=top, input=given, capture_output=True, check=False)
+    if (done.returncode, done.stdout.decode(errors="replace")) == (0, wanted):
+        return []
+    said = (done.stderr or done.stdout).decode(errors="replace").strip().splitlines()
+    return [f"{what} doesn't say {wanted.strip()!r} of {SMALLEST}: {said[-1] if said else f'status {done.returncode}'}"]
+
+
+def faults_of_checker(top, image):
+    """Compiles the checker in one file of C, which takes some seconds, and runs it."""
+    with tempfile.TemporaryDirectory() as room:
+        # Without optimization functions stay that nothing calls, and that want -lm.
+        words = ["gcc", "-std=c11", "-O0", "-w", "-DSUYGAPID_CHECK_MAIN", top / CHECKER, "-o", f"{room}/check", "-lm"]
+        done = subprocess.run(words, capture_output=True, text=True, check=False)
+        if done.returncode:
+            return [f"{CHECKER} isn't compiled: {done.stderr.splitlines()[0] if done.stderr else ''}"]
+        return faults_of_run(CHECKER, [f"{room}/check"], top, bytes.fromhex(image), ACCEPTED)
+
+
+def faults_of_text(top):
+    """The page's module as text, for a page that is opened as a file, has to be the module."""
+    found = re.search(r'"([\w+/=]*)"', (top / "page" / "sfi.wasm.js").read_text(encoding="utf-8"))
+    same = found and base64.b64decode(found[1]) == (top / "page" / "sfi.wasm").read_bytes()
+    return [] if same else ["page/sfi.wasm.js doesn't hold page/sfi.wasm"]
+
+
+def faults(top):
+    """What is wrong with the release in this folder."""
+    missing = [it for it in ("node", "gcc") if not shutil.which(it)]
+    if missing:
+        return [f"{' and '.join(missing)} isn't there, by which what is packed is tried"]
+    image = (top / SMALLEST).read_text(encoding="ascii")
+    given = image.encode()
+    node = ["node", "--no-warnings", "--input-type=module", "-e"]
+    return (faults_of_sums(top) + faults_of_run(PROGRAM, [top / PROGRAM, "check"], top, given, ACCEPTED) + faults_of_text(top)
+            + faults_of_run("page/sfi.wasm", [*node, PAGE_MODULE], top, given, ACCEPTED)
+            + faults_of_run("bindings/node/sfi_run.wasm", [*node, NODE_MODULE], top, given, "Break\n") + faults_of_checker(top, image))

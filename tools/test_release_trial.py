@@ -1,0 +1,177 @@
+"""Tests of tools/release_trial.py, with stand-ins for what a release holds: each damage is told. And of
+tools/release.py with such stand-ins, and with logs of proofs."""
+import base64
+import contextlib
+import hashlib
+import io
+import os
+import pathlib
+import subprocess
+import tarfile
+import unittest
+from unittest import mock
+
+import checker_file
+import definitions
+import evidence
+import installed
+import libraries
+import release
+import release_trial
+import test_evidence
+import verify_evidence
+from testing import TOP, Folder, needs
+
+SAYS = "#!/bin/sh\necho accepted sandboxes=1 bundles=16\n"
+WASM = bytes([0, 97, 115, 109, 1, 0, 0, 0])  # the empty module
+FILES = {
+    release_trial.SMALLEST: (TOP / release_trial.SMALLEST).read_bytes(),
+    release_trial.PROGRAM: SAYS.encode(),
+    "page/module.js": b'class Module {}\nclass Tool { answer() { return { text: "accepted sandboxes=1 bundles=16\\n" }; } }\n',
+    "page/sfi.wasm": WASM,
+    "page/sfi.wasm.js": f'const SFI_WASM = "{base64.b64encode(WASM).decode()}";\n'.encode(),
+    "bindings/node/index.mjs": b'export const load = async () => ({ sandboxes: [{ turn: () => ({ cause: "Break" }) }] });\n',
+    release_trial.CHECKER: b'#include <stdio.h>\nint main(void) { puts("accepted sandboxes=1 bundles=16"); }\n',
+}
+# What stands in the place of a file, and what is said then.
+DAMAGES = [
+    (release_trial.PROGRAM, b"#!/bin/sh\necho accepted\n", "crates/sfi/out/sfi doesn't say 'accepted sandboxes=1 bundles=16'"),
+    (release_trial.PROGRAM, SAYS.encode() + b"exit 1\n", "crates/sfi/out/sfi doesn't say"),
+    ("page/sfi.wasm", WASM + b"\0", "page/sfi.wasm.js doesn't hold page/sfi.wasm"),
+    ("page/sfi.wasm", b"", "page/sfi.wasm doesn't say"),
+    ("page/sfi.wasm.js", b"", "page/sfi.wasm.js doesn't hold page/sfi.wasm"),
+    ("page/module.js", b"class Module {}\n", "page/sfi.wasm doesn't say"),
+    ("bindings/node/index.mjs", b"export const load = 1;\n", "bindings/node/sfi_run.wasm doesn't say 'Break'"),
+    (release_trial.CHECKER, b"int main(void) { return 0; }\n", f"{release_trial.CHECKER} doesn't say"),
+    (release_trial.CHECKER, b"int main(void) {\n", f"{release_trial.CHECKER} isn't compiled"),
+]
+
+
+@needs("node", "gcc")
+class Trial(Folder):
+    def put(self, path, data):
+        place = self.room / path
+        place.parent.mkdir(parents=True, exist_ok=True)
+        place.write_bytes(data)
+        place.chmod(0o755)
+
+    def faults(self, *damages):
+        """What is said of a release with these files in the place of its own."""
+        files = FILES | dict(damages)
+        for path, data in files.items():
+            self.put(path, data)
+        sums = "".join(f"{hashlib.sha256(data).hexdigest()}  {path}\n" for path, data in files.items())
+        self.put(release_trial.SUMS, sums.encode())
+        return release_trial.faults(self.room)
+
+    def test_a_right_release(self):
+        self.assertEqual(self.faults(), [])
+
+    def test_damages(self):
+        for path, data, said in DAMAGES:
+            with self.subTest(said, path=path):
+                found = self.faults((path, data))
+                self.assertTrue(any(it.startswith(said) for it in found), found)
+
+    def test_checksums(self):
+        self.faults()
+        self.put("page/sfi.wasm.js", b"other")
+        self.put("page/more.js", b"more")
+        (self.room / "page" / "sfi.wasm").unlink()
+        self.assertEqual(release_trial.faults_of_sums(self.room), [f"page/{it} isn't what SHA256SUMS says" for it in ("more.js", "sfi.wasm", "sfi.wasm.js")])
+
+
+@needs("node", "gcc", "git")
+class Whole(Folder):
+    """tools/release.py on a scratch repository with stand-ins for what is built."""
+
+    def setUp(self):
+        super().setUp()
+        self.top = self.room / "top"
+        built = (release_trial.PROGRAM, "page/sfi.wasm", "page/sfi.wasm.js", release_trial.CHECKER)
+        for path, data in FILES.items():
+            (self.top / path).parent.mkdir(parents=True, exist_ok=True)
+            (self.top / path).write_bytes(data)
+            (self.top / path).chmod(0o755)
+        (self.top / ".gitignore").write_text("\n".join(built), encoding="utf-8")
+        for words in (["init", "-q"], ["add", "-A"], ["-c", "user.name=a", "-c", "user.email=a@b", "commit", "-qm", "all"]):
+            subprocess.run(["git", "-C", self.top, *words], check=True)
+        first, *pages, checker = (self.top / it for it in built)
+        for where, what, how in ((release, "TOP", self.top), (release, "MADE", pages), (release, "stale", list), (libraries, "HEADERS", {}),
+                                 (installed, "built", lambda: [first]), (checker_file, "missing", list), (checker_file, "make", lambda: checker)):
+            patched = mock.patch.object(where, what, how)
+            patched.start()
+            self.addCleanup(patched.stop)
+
+    def release(self):
+        """The names in the tar file, or why there is none, and what was printed on standard error."""
+        printed, said = io.StringIO(), io.StringIO()
+        with contextlib.redirect_stdout(printed), contextlib.redirect_stderr(said):
+            try:
+                release.release(self.room / "made", self.room / "log")
+            except SystemExit as ended:
+                return ended.code, said.getvalue()
+        with tarfile.open(printed.getvalue().strip()) as tar:
+            return sorted(it.partition("/")[2] for it in tar.getnames()), said.getvalue()
+
+    def test_a_release(self):
+        names, said = self.release()
+        self.assertEqual(names, sorted([*FILES, ".gitignore", "SHA256SUMS"]))
+        self.assertIn("no evidence is in it", said)
+
+    def test_nothing_is_released(self):
+        for path, data, why in ((release_trial.PROGRAM, b"", f"{release_trial.PROGRAM} has 0 bytes"), ("page/sfi.wasm", b"", "page/sfi.wasm has 0 bytes"),
+                                (release_trial.CHECKER, b"", f"{release_trial.CHECKER} has 0 bytes"),
+                                (release_trial.PROGRAM, b"#!/bin/sh\n", f"nothing is released: {release_trial.PROGRAM} doesn't say"),
+                                ("page/sfi.wasm.js", b"other", "nothing is released: page/sfi.wasm.js doesn't hold page/sfi.wasm")):
+            with self.subTest(why):
+                (self.top / path).write_bytes(data)
+                self.assertEqual(self.release()[0].partition(" of ")[0].removesuffix(" 'accepted sandboxes=1 bundles=16'"), f"release.py: {why}")
+                (self.top / path).write_bytes(FILES[path])
+        with mock.patch.object(checker_file, "missing", lambda: ["wasm2c"]):
+            self.assertIn("suygapid_check.c, which README.md says is in a release, can't be made: wasm2c isn't there", self.release()[0])
+        self.assertFalse((self.room / "made").exists())
+
+
+class EvidenceOfARelease(Folder):
+    """The page and the log in a release."""
+
+    def files(self, text=None, time=None):
+        """What a release has of a log with this text, and what is said."""
+        log = pathlib.Path(self.path("log"))
+        if text is not None:
+            log.write_text(text, encoding="utf-8")
+        if time is not None:
+            os.utime(log, (time, time))
+        said = io.StringIO()
+        with contextlib.redirect_stderr(said), mock.patch.object(evidence, "kit", return_value=test_evidence.KIT):
+            try:
+                return release.evidence_files(log), said.getvalue()
+            except SystemExit as ended:
+                return None, ended.code
+
+    def test_no_log(self):
+        found, said = self.files()
+        self.assertEqual(found, {})
+        self.assertIn("no evidence is in it: there is no", said)
+        self.assertEqual((said.count("\n"), "rt ci --anew" in said), (1, True))
+
+    def test_a_log(self):
+        text = test_evidence.log_of(definitions.crate_names())
+        found, said = self.files(text)
+        self.assertEqual((sorted(found), said), (["evidence/ci.log", "evidence/page.txt"], ""))
+        self.assertEqual(found["evidence/ci.log"], (text.encode(), False))
+        self.assertEqual(verify_evidence.judged(found["evidence/page.txt"][0].decode())[0], [])
+
+    def test_logs_that_prove_nothing(self):
+        crates = definitions.crate_names()
+        for text, time, why in (("", None, "isn't the log of a whole"), (test_evidence.log_of(crates[1:]), None, f"{crates[0]} isn't proved"),
+                                (test_evidence.log_of(crates), 1, "is older than a source")):
+            with self.subTest(why):
+                found, said = self.files(text, time)
+                self.assertIsNone(found)
+                self.assertIn(why, said)
+
+
+if __name__ == "__main__":
+    unittest.main()
