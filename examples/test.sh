@@ -100,24 +100,126 @@ executes "a step less than it takes" "Hi" "sandbox=0 ready steps=18" 124 --budge
 executes "the first of three that fails" "" "sandbox=2 trap=Break at=03000000 steps=0" 7 "$room/three.image" </dev/null
 executes "an image that is refused" "" "refused findings=1 first=V5 sandbox=0 at=01000048" 125 "$room/refused.hex" </dev/null
 executes "what is no image" "" "layout fault 3 Short" 125 <(printf SFI1) </dev/null
-executes "a file that isn't there" "" "exec fault file" 125 "$room/none.image" </dev/null
+while IFS='|' read -r what path why; do
+    executes "$what" "" "exec fault file \"$path\": $why" 125 "$path" </dev/null
+done <<END
+a file that isn't there|$room/none.image|No such file or directory (os error 2)
+a folder|$room|is a directory
+a path through a file|$room/hi.image/more|Not a directory (os error 20)
+a file that can't be read|/proc/self/mem|it can't be read
+END
+executes "a path with a line feed" "" "exec fault file \"a\\nb\": No such file or directory (os error 2)" 125 $'a\nb' </dev/null
+executes "a usage error" "" "error: invalid value '0' for '--budget <N>': 0 is not in 1..18446744073709551615" 3 --budget 0 "$room/hi.image" </dev/null
+executes "no image" "" "error: the following required arguments were not provided:" 3 </dev/null
+report "a help text goes to standard output" "$("$SFI" help exec)" "$("$SFI" exec --help 2>&1 >"$room/said"; cat "$room/said")"
+# Streams that are closed or fail: the image's file, which may get the number of a closed one, is closed before the run.
+while IFS='|' read -r what image streams put said status; do
+    out=$(eval "\"\$SFI\" exec \"\$room/$image\" 2>\"\$room/said\" $streams"; echo "status $?")
+    report "$what" "${put}status $status"$'\n'"$said" "$out"$'\n'"$(head -n 1 "$room/said")"
+done <<'END'
+standard input that is closed|echo.image|<&-||exec fault read|125
+standard input that is closed, and isn't got|hi.image|<&-|Hi||105
+standard input that is a folder|echo.image|<"$room"||exec fault read|125
+standard output that is closed|hi.image|>&-||exec fault write|125
+standard output that is closed, and isn't put to|trap.image|>&-||sandbox=0 trap=Break at=01000000 steps=0|126
+standard output that is full|hi.image|>/dev/full||exec fault write|125
+standard input and output that are closed|echo.image|<&- >&-||exec fault read|125
+standard error that is closed|trap.image|2>&-|||126
+standard error that is full|trap.image|2>/dev/full|||126
+all three that are closed|trap.image|<&- >&- 2>&-|||126
+standard input and error that are closed|echo.image|<&- 2>&-|||125
+END
 yes 'one more line of small letters' | head -c 100000 >"$room/long"
 "$SFI" exec "$room/echo.image" <"$room/long" >"$room/echoed"
 report "the status of 100000 bytes" 160 $?
 report_as "$(tr a-z A-Z <"$room/long" | cmp - "$room/echoed" >"$room/log" 2>&1; echo $?)" "100000 bytes come out as capitals" "the same" "$(cat "$room/log")"
 # What was put is there before a get waits for what comes later.
+comes() { # a file; waits until it has something in it
+    for _ in $(seq 100); do
+        [ ! -s "$1" ] || break
+        sleep 0.1
+    done
+}
+
 mkfifo "$room/in"
 "$SFI" exec "$room/echo.image" <"$room/in" >"$room/early" &
 process=$!
 exec 7>"$room/in"
 printf first >&7
-for _ in $(seq 100); do
-    [ ! -s "$room/early" ] || break
-    sleep 0.1
-done
+comes "$room/early"
 report "what is put before a get waits" FIRST "$(cat "$room/early")"
 exec 7>&-
 wait "$process"
 report "the end of the input" 5 $?
+
+# What was put is there while the sandbox goes on: each put by itself at a terminal, else after a yield, or some steps.
+puts_and_goes_on() { # the calls after three puts of a letter each; the image's file
+    { printf '.sandbox 256\n.gate put 1\n.gate yield 3\n.gate quit 0\n'
+      printf 'la a0, text\nli a1, 1\ncall put\n%.0s' 1 2 3
+      printf '%b\nagain: j again\n.data\ntext: .byte 97\n' "$1"; } | "$SFI" build --raw >"$2"
+}
+
+writes_of() { echo $(($(sed -n 's/^syscw: //p' "/proc/$1/io") - 1)); } # a process; its writes but for that of its number
+
+goes_on() { # what is tried; the writes by which the three letters came; a command, which runs $room/endless.image
+    rm -f "$room/early" "$room/number"
+    "${@:3}" >"$room/early" </dev/null 2>&1 &
+    comes "$room/early"
+    sleep 0.3
+    process=$(cat "$room/number")
+    report "$1" "aaa by $2" "$(tr -d '\r' <"$room/early") by $(writes_of "$process")"
+    kill "$process"
+    wait
+}
+
+in_process() { sh -c 'echo $$ >"$1"; exec "$2" exec "$3"' sh "$room/number" "$SFI" "$room/$1"; } # an image's file; runs it, its number in a file
+
+puts_and_goes_on "" "$room/computes.image"
+puts_and_goes_on "call yield" "$room/yields.image"
+goes_on "what is put before it computes" 1 in_process computes.image
+goes_on "what is put before a yield" 1 in_process yields.image
+if has script; then
+    goes_on "what is put at a terminal" 3 script -qc "echo \$\$ >'$room/number'; exec '$SFI' exec '$room/computes.image'" /dev/null
+else
+    skip 1 "what is put at a terminal" "script isn't there (Debian's package bsdutils)"
+fi
+# A sandbox that ends by exit is seen before the next one computes.
+{ printf '.sandbox 256\n.gate put 1\n.gate quit 0\nla a0, text\nli a1, 3\ncall put\nli a0, 0\ncall quit\n.data\ntext: .byte 97, 97, 97\n'
+  printf '.sandbox 256\nagain: j again\n'; } | "$SFI" build --raw >"$room/later.image"
+goes_on "what one put before the next computes" 1 in_process later.image
+
+# ---- the stack that docs/FAILURES.md names is enough, also for large images
+stack=$(sed -n 's/^.*A stack of \([0-9]*\) KiB.*$/\1/p' "$here/../docs/FAILURES.md")
+program=$SFI
+[ "$(head -c 2 "$SFI")" != "#!" ] || program=$here/../crates/sfi/out/sfi # what the wrapper runs
+cp hi.s "$room/hi.s"
+printf '.sandbox 1048576\nebreak\n.data\n.zero 100000\n' >"$room/large.s"
+"$SFI" build <"$room/large.s" >"$room/large.hex"
+"$SFI" build --raw <"$room/large.s" >"$room/large.image"
+while IFS='|' read -r words inputs; do
+    for input in $inputs; do
+        # shellcheck disable=SC2086 # the words are several
+        wanted=$("$program" $words <"$room/$input" 2>&1 | cksum; echo "status ${PIPESTATUS[0]}")
+        # shellcheck disable=SC2086
+        found=$( (ulimit -s "$stack" && exec env -i "$program" $words <"$room/$input" 2>&1) | cksum; echo "status ${PIPESTATUS[0]}")
+        report "$words of $input, with a stack of $stack KiB" "$wanted" "$found"
+    done
+done <<END
+check|hi.hex hi.image refused.hex large.hex large.image
+check --raw|hi.image large.image
+check --report|refused.hex large.image
+dis|hi.hex large.image
+build|hi.s large.s
+map|hi.s
+run --report|hi.hex large.image
+exec $room/hi.image|hi.s
+exec $room/large.image|hi.s
+convert|hi.hex large.image
+move --at 20500000:80000000|hi.hex large.image
+translate|hi.hex
+translate --whole|hi.hex large.image
+help|hi.s
+exec --budget 0 x|hi.s
+END
 
 finish

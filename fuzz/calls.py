@@ -175,10 +175,9 @@ def image_maker(program, judge):
 
     def make(pick):
         choice = pick.random()
-        if choice < 0.5:
-            return pick.choice(corpus.examples(program))
         if choice < 0.65:
-            return corpus.small_accepted(pick)
+            found = pick.choice(corpus.examples(program)) if choice < 0.5 else corpus.small_accepted(pick)
+            return corpus.with_room(pick, found) if pick.random() < 0.2 else found
         if choice < 0.85:
             return corpus.repaired(findings, corpus.odd(pick)) or b"SFI1"
         return corpus.mutant(pick, corpus.accepted(pick, program))

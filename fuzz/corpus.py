@@ -1,4 +1,5 @@
 """Images to try: accepted ones, these changed, and ones of random code. The generators are those of bench/."""
+import dataclasses
 import functools
 import glob
 import os
@@ -51,8 +52,18 @@ def twin(pick):
     return images.MAGICS[1] + random_accepted(pick, 2)[4:]
 
 
+def with_room(pick, data):
+    """The same, where each sandbox asks for room above the stack of a function that its host calls, if its data have a place for that."""
+    def asking(part):
+        asked = pick.choice([0, 16, 64, part.data_size - 16, part.data_size - 15, part.data_size, pick.getrandbits(32)])
+        init = part.init + struct.pack("<IB5s3I4s", asked, 5, b".room", 0, 0, 10, b"SFIN")
+        return dataclasses.replace(part, init=init) if len(init) <= part.data_size else part
+    return layout.spelled(data[:4], [asking(part) for part in layout.parts(data)])
+
+
 def accepted(pick, program):
-    return pick.choice(examples(program)) if pick.random() < 0.5 else small_accepted(pick)
+    found = pick.choice(examples(program)) if pick.random() < 0.5 else small_accepted(pick)
+    return with_room(pick, found) if pick.random() < 0.2 else found
 
 
 def odd(pick):

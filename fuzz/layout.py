@@ -137,15 +137,21 @@ def parts(data):
     return found
 
 
+def spelled(magic, sandboxes):
+    """The bytes of an image of these sandboxes."""
+    made = magic + struct.pack("<I", len(sandboxes))
+    for part in sandboxes:
+        made += struct.pack("<7I", part.code_base, part.code_size, part.data_base, part.data_size, part.start, len(part.gates), len(part.init))
+        made += b"".join(struct.pack("<2I", address, service) for address, service in part.gates.items())
+        made += part.code + part.init
+    return made
+
+
 def moved(data, place_of):
     """The image with each sandbox at another place, where it is an image, too, and no byte of its code changed: `place_of` gives
     the bases of a part's code and data."""
-    made = data[:8]
-    for part in parts(data):
+    def at_place(part):
         code_base, data_base = place_of(part)
-        made += struct.pack("<7I", code_base, part.code_size, data_base, part.data_size, part.start - part.code_base + code_base,
-                            len(part.gates), len(part.init))
-        for address, service in part.gates.items():
-            made += struct.pack("<2I", address - part.code_base + code_base, service)
-        made += part.code + part.init
-    return made
+        gates = {address - part.code_base + code_base: service for address, service in part.gates.items()}
+        return dataclasses.replace(part, code_base=code_base, data_base=data_base, start=part.start - part.code_base + code_base, gates=gates)
+    return spelled(data[:4], [at_place(part) for part in parts(data)])

@@ -40,6 +40,13 @@ class Sandbox(machine.Machine):
     def exit_gate(self):
         return next((address for address, service in self.part.gates.items() if service == 0), 0)
 
+    def room(self):
+        """How many bytes the image asks for above the stack of a function that is called; 0 where the data have no place for them."""
+        init = self.part.init
+        is_told = len(init) >= 26 and init[-22:-16] == b"\x05.room" and init[-4:] == b"SFIN"
+        asked = int.from_bytes(init[-26:-22], "little") if is_told else 0
+        return asked if asked + 16 <= self.part.data_size else 0
+
     def is_near(self, address):
         return self.part.data_base <= address + SLACK and address < self.part.data_base + self.part.data_size + SLACK
 
@@ -196,6 +203,7 @@ class Model:
             return False
         sandbox.begin(pc)
         sandbox.x[1] = sandbox.exit_gate()
+        sandbox.x[2] -= sandbox.room()
         sandbox.x[10:18] = arguments
         return True
 
@@ -263,6 +271,14 @@ class EnterIsLoose(Model):
         return super().enter(number, pc & ~15, arguments)
 
 
+class EnterLeavesNoRoom(Model):
+    def enter(self, number, pc, arguments):
+        is_done = super().enter(number, pc, arguments)
+        if is_done:
+            self.at(number).x[2] += self.at(number).room()
+        return is_done
+
+
 class CallForgetsTheTurn(Model):
     def call(self, number, pc, arguments, steps):
         return super().call(number, pc, arguments, 0)
@@ -322,7 +338,7 @@ class AddOverlooksTheGuards(Model):
 PLANTS_BESIDE = {it.__name__: it for it in (RemoveTakesTheNext, AddBeginsTheFirstAnew, AddOverlooksTheGuards)}
 PLANTS = {
     it.__name__: it
-    for it in (ReplyIsNoStep, ReadGoesPastTheRoom, EnterIsLoose, CallForgetsTheTurn, StopForgetsData, ResetKeepsAByte, TrapCounts)
+    for it in (ReplyIsNoStep, ReadGoesPastTheRoom, EnterIsLoose, EnterLeavesNoRoom, CallForgetsTheTurn, StopForgetsData, ResetKeepsAByte, TrapCounts)
 }
 
 # ---- the library

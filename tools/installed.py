@@ -16,6 +16,7 @@ FOLDERS = ("tools/asm2elf", "tools/asm2sfi", "tools/sfi_cc", "tools/sfi_elf", "t
 SINGLE = ("examples/c/gates.h",)
 PAGES = ("sfi.1", "sfi-cc.1", "sfi-gdb.1", "sfi-image.1", "sfi-library.1", "sfi-move.1",
          "sfi-trace.1")
+DOCUMENTS = ("README.md", "CHANGELOG.md", "CONTRIBUTING.md", "SECURITY.md", "docs/*.md", "docs/*.png")  # at the same places below share/doc/suygapid
 TOLD = {"sfi_c": "The checker of Suygapid's images", "sfi_run": "Checks Suygapid's images and runs their sandboxes"}
 
 
@@ -81,6 +82,8 @@ def items():
     files += [TOP / it for it in SINGLE]
     found += [Item(f"{SHARE}/{path.relative_to(TOP)}", path) for path in files]
     found += [Item(f"share/man/man1/{page}", TOP / "docs" / page) for page in PAGES]
+    documents = [path for named in DOCUMENTS for path in sorted(TOP.glob(named))]
+    found += [Item(f"share/doc/suygapid/{path.relative_to(TOP)}", path) for path in documents]
     return found
 
 

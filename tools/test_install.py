@@ -3,6 +3,7 @@ isn't built, or gcc isn't there; those of releases and of node where a module is
 import hashlib
 import os
 import pathlib
+import re
 import shutil
 import subprocess
 import sys
@@ -10,9 +11,12 @@ import tarfile
 import unittest
 
 import checker_file
+import definitions
+import evidence
 import installed
 import libraries
 import release
+import test_evidence
 import version
 from testing import GCC, TOP, Folder, needs
 
@@ -87,10 +91,14 @@ class Installed(Installing):
 
     @needs(GCC)
     def test_c_becomes_an_image(self):
-        self.write("hello.c", HELLO)
-        image = run("sfi-cc", "hello.c", env=self.env, cwd=self.room)
-        self.assertEqual((image.returncode, image.stderr), (0, ""))
-        self.assertIn("exit=105", run("sfi", "run", given=image.stdout, env=self.env).stdout)
+        by_library = (TOP / "examples" / "c" / "hello.c").read_text(encoding="utf-8")
+        for text, output, status in ((HELLO, "Hi", 105), (by_library, "Hello, world\n", 0)):
+            self.write("hello.c", text)
+            image = run("sfi-cc", "hello.c", env=self.env, cwd=self.room)
+            self.assertEqual((image.returncode, image.stderr), (0, ""))
+            self.write("hello.hex", image.stdout)
+            done = run("sfi", "exec", "hello.hex", env=self.env, cwd=self.room)
+            self.assertEqual((done.stdout, done.returncode), (output, status))
 
     @needs("pkg-config")
     def test_programs_are_linked(self):
@@ -140,6 +148,19 @@ class Installed(Installing):
         done = run("cargo", "run", "-q", "--offline", "--locked", "--example", "console", self.room / "smallest.image", env=env,
                    cwd=self.prefix / installed.SHARE / "bindings" / "rust")
         self.assertEqual((done.stdout, done.stderr), ("sandbox=0 trap=Break at=01000000 steps=0 out=\n", ""))
+
+    def test_documents_lead_to_each_other(self):
+        """Each link of an installed document to a document leads to one that is installed."""
+        folder = self.prefix / "share" / "doc" / "suygapid"
+        documents = sorted(folder.rglob("*.md"))
+        self.assertIn(folder / "README.md", documents)
+        self.assertIn(folder / "docs" / "EMBEDDING.md", documents)
+        for document in documents:
+            links = re.findall(r"\]\(([^)#:]*\.(?:md|png))[)#]", document.read_text(encoding="utf-8"))
+            for link in links:
+                led = os.path.normpath(document.parent / link)
+                if led.startswith(os.fspath(folder / "docs")) or os.path.dirname(led) == os.fspath(folder):
+                    self.assertTrue(os.path.exists(led), f"{document}: {link}")
 
     def test_a_shared_library_exports_its_calls(self):
         for library in TOLD:
@@ -224,6 +245,8 @@ class Removing(Installing):
 
 
 @unittest.skipUnless(all(it.is_file() for it in release.MADE), "the page or node's module isn't made: tools/build_page.py, tools/build_node.py")
+@unittest.skipIf(checker_file.missing(), f"suygapid_check.c can't be made: there is no {' and no '.join(checker_file.missing())}")
+@needs("node", "rt")
 class Scratch(Installing):
     """A scratch repository with the files of this one, and what is built here."""
 
@@ -250,7 +273,9 @@ class Scratch(Installing):
         return top
 
     def release(self, top):
-        return run(sys.executable, top / "tools" / "release.py", self.room / "made")
+        """A release with a log that says that all is proved."""
+        log = self.write("log", test_evidence.log_of(definitions.crate_names()))
+        return run(sys.executable, top / "tools" / "release.py", "--log", log, self.room / "made")
 
     def test_the_same_files_make_the_same_bytes(self):
         made = []
@@ -287,13 +312,20 @@ class Scratch(Installing):
         self.assertEqual((ran.returncode, ran.stdout, ran.stderr), (105, "Hi", ""))
         for name in ("index.html", "made.js", "sfi.wasm", "sfi.wasm.js"):
             self.assertTrue((top / "page" / name).is_file(), name)
-        source = top / "crates" / "sfi_c" / "out" / "suygapid_check.c"
-        self.assertEqual(source.is_file(), not checker_file.missing())
-        if source.is_file():
-            checker = self.path("check")
-            made = run("gcc", "-std=c11", "-O2", "-w", "-DSUYGAPID_CHECK_MAIN", source, "-o", checker)
-            self.assertEqual((made.returncode, made.stderr), (0, ""))
-            self.assertEqual(run(checker, given=bytes.fromhex(SMALLEST)).stdout, ACCEPTED.encode())
+        source, checker = top / "crates" / "sfi_c" / "out" / "suygapid_check.c", self.path("check")
+        made = run("gcc", "-std=c11", "-O2", "-w", "-DSUYGAPID_CHECK_MAIN", source, "-o", checker)
+        self.assertEqual((made.returncode, made.stderr), (0, ""))
+        self.assertEqual(run(checker, given=bytes.fromhex(SMALLEST)).stdout, ACCEPTED.encode())
+        self.judge_the_evidence(top, env)
+
+    def judge_the_evidence(self, top, env):
+        """The page that a release has is of the release's files, and where none can be made a line says where it is."""
+        judged = run(top / "tools" / "verify_evidence.py", top / evidence.RELEASED, env=env)
+        self.assertEqual((judged.returncode, judged.stdout.splitlines()[-1]), (0, "yes"), judged.stdout)
+        for words in ([], [top / "evidence" / "ci.log"], ["none"]):
+            done = run(top / "sfi", "evidence", *words, env={**env, "PATH": "/usr/bin:/bin"})
+            self.assertEqual((done.returncode, done.stdout, done.stderr.count("\n")), (1, "", 1), done.stderr)
+            self.assertIn("this release's page is evidence/page.txt", done.stderr)
 
     def test_what_is_not_committed_is_not_released(self):
         top = self.repository("top")
@@ -306,6 +338,28 @@ class Scratch(Installing):
         os.utime(top / "crates" / "sfi" / "out" / "sfi", (1, 1))
         done = self.release(top)
         self.assertEqual((done.returncode, done.stderr), (1, "release.py: crates/sfi/out/sfi is older than a source of it\n"))
+
+    def test_what_does_not_run_is_not_released(self):
+        rows = [("page/sfi.wasm", b"", "page/sfi.wasm has 0 bytes"), ("page/sfi.wasm.js", b"", "page/sfi.wasm.js has 0 bytes"),
+                ("bindings/node/sfi_run.wasm", b"\0", "nothing is released: bindings/node/sfi_run.wasm doesn't say"),
+                ("crates/sfi/out/sfi", b"#!/bin/sh\n", "nothing is released: crates/sfi/out/sfi doesn't say")]
+        top = self.repository("top")
+        for path, data, said in rows:
+            with self.subTest(said):
+                kept = (top / path).read_bytes()
+                (top / path).write_bytes(data)
+                done = self.release(top)
+                (top / path).write_bytes(kept)
+                self.assertEqual(done.returncode, 1)
+                self.assertTrue(done.stderr.startswith(f"release.py: {said}"), done.stderr)
+                self.assertFalse((self.room / "made").exists())
+
+    def test_without_a_log(self):
+        done = run(sys.executable, self.repository("top") / "tools" / "release.py", self.room / "made")
+        self.assertEqual((done.returncode, done.stderr.count("\n")), (0, 1), done.stderr)
+        self.assertIn("release.py: no evidence is in it: there is no ", done.stderr)
+        with tarfile.open(done.stdout.strip()) as tar:
+            self.assertFalse(any("/evidence/" in it for it in tar.getnames()))
 
     def test_what_is_not_built_is_told(self):
         top = self.repository("top")

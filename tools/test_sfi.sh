@@ -84,7 +84,7 @@ call() { # path, arguments
 says() { grep -qF -- "$1" <<<"$found"; }
 calls() { [ -e "$room/calls" ] && wc -l <"$room/calls" || echo 0; }
 ran() { [ "$(cat "$room/output")" = "program $*" ]; }
-change() { touch -d "${2:-now}" "$copy/crates/$1"; }
+change() { echo >>"$copy/crates/$1"; }
 
 first_build() {
     call "$copy/sfi" check --raw
@@ -110,6 +110,23 @@ which_changes_count() {
     call "$copy/sfi" check
     ran check && [ "$(calls)" = 1 ] && says "2 of 3 crates have changed (mid low)"
     holds $? "changed crates are built anew, and told" "$found"
+}
+
+# In a copy, as by `cp -r` or git, each source is newer than the program.
+copies() {
+    touch "$copy/crates/low/src/lib.rt"
+    call "$copy/sfi" check
+    ran check && [ "$(calls)" = 0 ] && [ ! -s "$room/errors" ]
+    holds $? "a source that is newer, and as it was, starts no build" "$found"
+    cp -r "$copy" "$room/copy" && find "$room/copy" -name '*.rt' -exec touch {} + && touch -d "1 hour ago" "$room/copy/crates/sfi/out/sfi"
+    call "$room/copy/sfi" check
+    ran check && [ "$(calls)" = 0 ] && [ ! -s "$room/errors" ]
+    holds $? "nor does a copy of all" "$found"
+    mv "$room/copy/crates/mid/src/lib.rt" "$room/copy/crates/mid/src/other.rt"
+    call "$room/copy/sfi" check
+    [ "$(calls)" = 1 ] && says "1 of 3 crates have changed (mid)"
+    holds $? "another name of a source starts one" "$found"
+    rm -r "$room/copy"
 }
 
 places() {
@@ -258,6 +275,7 @@ statuses
 tries
 named_program
 which_changes_count
+copies
 places
 failing
 where_none_can_be_built

@@ -7,7 +7,7 @@ import subprocess
 import unittest
 
 import libraries
-from testing import GCC, SFI, TOOLS, TOP, Folder, needs
+from testing import GCC, SFI, SFI_CC, TOOLS, TOP, Folder, needs
 
 TRACE = TOOLS / "sfi-trace"
 READY = os.path.exists(SFI) and os.path.exists(libraries.built("sfi_run")) and shutil.which("gcc")
@@ -188,6 +188,12 @@ class OfC(Traces):
         self.assertRegex(lines[1], r"slow\.c:(4|9|10)  sum$")  # the loop
         self.assertTrue(any(it.endswith("slow.c:15  main") for it in lines))
 
+    def test_a_linked_program(self):
+        linked = self.path("slow.elf")
+        subprocess.run([SFI_CC, "--program", SFI, "-g", "-o", linked, self.file], check=True)
+        for options in (("--profile", "line"), ("--calls",)):
+            self.assertEqual(self.traced(*options, linked), self.traced(*options, self.file))
+
     def test_a_break_at_a_line(self):
         named = self.traced("--break", "main", self.file)[0]
         line = re.search(r"main, (\S+:14)$", named)
@@ -210,7 +216,8 @@ class Faults(Traces):
         refused = self.write("refused.hex", "00")
         for words, told in (([self.room / "none.hex"], "can't be read: No such file or directory"), ([refused], "layout fault"),
                             ([self.write("bad.s", "x\n")], "source fault"), ([self.write("digits.hex", "0g")], "isn't hexadecimal"),
-                            ([self.write("a.image", "")], "is neither an image")):
+                            ([self.write("a.image", "")], "is neither an image"), ([self.write("a.elf", "")], "a.elf"),
+                            ([self.room / "none.elf"], "can't be read: No such file or directory")):
             status, lines, said = self.call(*words)
             self.assertEqual((status, lines), (1, []))
             self.assertIn(told, said)

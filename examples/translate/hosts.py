@@ -1,7 +1,8 @@
 #!/usr/bin/env python3
 """Whether a translated plug-in does for a host what an interpreted one does: hosts of examples/run are linked with
 sfi_native_run.c and with libsfi_run, and print the same, and random calls answer what the model of fuzz/worlds.py answers. Each
-with accesses that are tested, or guarded (-DSFI_GUARDED). Faults of a host's own stay its own.
+with accesses that are tested, or guarded (-DSFI_GUARDED). Faults of a host's own stay its own. A function that is entered has
+the room above its stack that the image claims.
 
     examples/translate/hosts.py [--program SFI] [--library libsfi_run.a] [--rounds N] [--seconds S] [SEED ..]
 
@@ -11,6 +12,7 @@ import os
 import resource
 import shutil
 import signal
+import struct
 import subprocess
 import sys
 import tempfile
@@ -53,10 +55,16 @@ HOSTS = [  # a host, a source of its plug-in, and the host's words
     ("words", "words.s", [LONG]), ("tally", "tally.s", ["5", "7", "new", "3"]), ("console", "../primes.s", ["40", "97"]),
     ("console", "../hanoi.s", ["3", "997"]),
     ("console", "../echo.s", ["7", "13", "48656c6c6f"]), ("console", "../sort.s", ["200", "1000", "0903"]),
-    ("threads", ON, ["3000"])]
+    ("threads", ON, ["3000"]), ("failed_calls", "failed_calls.s", [])]
 FAULTING = [  # instructions that access a guard zone, below the data and above them
     b".sandbox 4096\nli a0, 4095\nli a1, 0\nlw a2, -1(a1)\n", b".sandbox 4096\nli a0, 4095\nsw a0, -2(a0)\n",
     b".sandbox 8192\nli a0, 8188\nlw zero, 4(a0)\n"]
+
+ROOMS = [  # what the first data end in, before the table's footer, and how many bytes that claims, of 4096 of data
+    (b"", 0), (struct.pack("<IB5s", 0, 5, b".room"), 0), (struct.pack("<IB5s", 2304, 5, b".room"), 2304),
+    (struct.pack("<IB5s", 4080, 5, b".room"), 4080), (struct.pack("<IB5s", 4081, 5, b".room"), 0),
+    (struct.pack("<IB5s", 2 ** 32 - 1, 5, b".room"), 0), (struct.pack("<IB5s", 100, 5, b".roof"), 0),
+    (struct.pack("<IB5s", 100, 4, b".room"), 0)]
 
 FAULTS = [("info",), ("plain",), ("none",), ("ignore",), ("raise",), ("ignore-raise",), ("info", "another"), ("none", "another")]
 
@@ -154,6 +162,38 @@ def try_python(sfi, folder, tally):
         tally.see(f"the console in Python {' '.join(guards)}", wanted, done.stdout.decode(), image)
 
 
+def claiming(image, claim):
+    """The image of one sandbox with a table of names whose imports are these bytes."""
+    init_at = 8 + 6 * 4  # the field that says how many first data there are
+    table = claim + struct.pack("<III4s", 1, 0, len(claim), b"SFIN")
+    init = int.from_bytes(image[init_at : init_at + 4], "little") + len(table)
+    return image[:init_at] + init.to_bytes(4, "little") + image[init_at + 4 :] + table
+
+
+def stack_pointers(calls_of, image):
+    """The stack pointer of the start and of a function that the host enters, from the data's end down."""
+    world = worlds.Library(calls_of)
+    world.load(image)
+    end = sum(world.region(0))
+    start, at_start = world.registers(0)[0], world.registers(0)[3]
+    entered = world.stop(0) and world.enter(0, start, [0] * 8) and world.registers(0)[3]
+    world.free()
+    return end - at_start, end - entered
+
+
+def try_room(sfi, library, folder, tally):
+    """The stack pointers of a sandbox, in both ways, by what its image claims."""
+    interpreted = worlds.Calls(worlds.linked(library, folder))
+    for place, line in enumerate(corpus.FORMAT_LINES):
+        plain = image_of(sfi, b".sandbox 4096\n.gate exit 0\ncall exit\n.data\n.word 1\n", line)
+        for number, (claim, room) in enumerate(ROOMS):
+            image = claiming(plain, claim)
+            shared = built(os.path.join(folder, f"room_{place}_{number}.so"), "-shared", "-fPIC",
+                           *translated(sfi, image, folder, GUARDS[number % 2]))
+            for way, calls_of in (("translated", worlds.Calls(shared)), ("interpreted", interpreted)):
+                tally.see(f"the room above the stack, {way}", (16, 16 + room), stack_pointers(calls_of, image), image)
+
+
 def fault_answer(sfi, image, how):
     """What the host faults.c is to print, and its status: the plug-in's trap is that of `sfi run`."""
     cause, at = fuzzing.output([sfi, "run"], image.hex().encode()).split("trap=")[1].split()[:2]
@@ -217,6 +257,7 @@ def main(words=None):
             try_hosts(sfi, os.path.abspath(given.library), folder, tally)
             try_documented(sfi, folder, tally)
             try_python(sfi, folder, tally)
+            try_room(sfi, os.path.abspath(given.library), folder, tally)
             try_faults(sfi, folder, tally)
     return tally.end()
 

@@ -1,5 +1,7 @@
 """Answers what gdb asks of a machine, by its remote protocol: gdb's manual, appendix E, has the packets."""
+import re
 import struct
+from zlib import crc32
 
 from machine import End, Stop
 from packets import INTERRUPT
@@ -8,11 +10,20 @@ from sfi_run import NotEntered, OutsideData
 REGISTERS = struct.Struct("<33I")
 WRONG, DONE = "E01", "OK"
 FEATURES = f"PacketSize={0x8000:x};vContSupported+;QStartNoAckMode+"
+# The name that a packet begins with, of one letter but for these.
+NAME = re.compile(r"vCont[?;]|[qQv][A-Za-z]+|[Zz]\d,|.", re.DOTALL)
+REVERSED = bytes(int(f"{byte:08b}"[::-1], 2) for byte in range(256))  # each byte with its bits in the other order
 CANNOT_GO = ("The registers can't be set here: write them where a bundle or word begins, as at a function's first instruction.\n")
 
 
 def numbers(text):
     return [int(part, 16) for part in text.split(",")]
+
+
+def remote_crc(content):
+    """The sum of 32 bits that gdb's `compare-sections` asks for: the polynomial of zlib's, with the highest bit first, begun
+    with all bits set, and none changed at the end."""
+    return int(f"{crc32(content.translate(REVERSED)) ^ 0xffffffff:032b}"[::-1], 2)
 
 
 def reply_of(stop):
@@ -51,12 +62,10 @@ class Stub:
 
     def answer(self, text):
         """What a packet gets. An empty answer says that it isn't known."""
-        found = next((begin for begin in self.ANSWERS if text.startswith(begin)), None)
-        if found is None:
-            return ""
-        answer = self.ANSWERS[found]
+        name = NAME.match(text)
+        answer = self.ANSWERS.get(name.group(), "") if name else ""
         try:
-            return answer if isinstance(answer, str) else answer(self, text[len(found):])
+            return answer if isinstance(answer, str) else answer(self, text[name.end():])
         except (OutsideData, ValueError):
             return WRONG
 
@@ -83,6 +92,12 @@ class Stub:
 
     def read(self, place):
         return self.machine.read(*numbers(place)).hex()
+
+    def sum_of(self, place):
+        """The sum of some bytes, all of which have to be there."""
+        at, size = numbers(place[1:])
+        content = self.machine.read(at, size)
+        return f"C{remote_crc(content):x}" if len(content) == size else WRONG
 
     def write(self, rest):
         place, content = rest.split(":")
@@ -125,12 +140,12 @@ class Stub:
         self.machine.watches.discard(tuple(numbers(rest)))
         return DONE
 
-    # By what a packet begins with.
+    # By a packet's name.
     ANSWERS = {
         "qSupported": FEATURES, "QStartNoAckMode": DONE, "!": DONE, "qAttached": "0", "qC": "QC1", "qfThreadInfo": "m1",
         "qsThreadInfo": "l", "H": DONE, "T": DONE, "D": DONE, "vKill": DONE, "vCont?": "vCont;c;C;s;S;r",
         "vRun": restart, "?": lambda self, _: reply_of(self.stop), "vCont;": go, "c": lambda self, _: self.run(self.machine.go),
         "s": lambda self, _: self.run(self.machine.step), "m": read, "M": write, "g": registers, "G": set_registers,
         "p": register, "P": set_register, "Z0,": set_break, "Z1,": set_break, "z0,": clear_break, "z1,": clear_break,
-        "Z2,": set_watch, "z2,": clear_watch,
+        "Z2,": set_watch, "z2,": clear_watch, "qCRC": sum_of,
     }

@@ -13,6 +13,7 @@ sys.path += [os.path.join(TOOLS, "sfi_elf"), os.path.join(TOOLS, "sfi_cc")]
 
 import compilers
 from elf import Elf, Wrong
+from image import as_text, image
 from where import lines_of
 
 LISTED = re.compile(r"^([0-9a-f]{8}) ([0-9a-f]{4,8}) (.*)$", re.MULTILINE)
@@ -83,20 +84,19 @@ class Program:
         return found
 
 
-class Compiled(Program):
-    """A program of C or assembly, which sfi-cc compiles with `-g`."""
+class Linked(Program):
+    """A program that sfi-cc linked, with the lines of C that it tells."""
 
-    def __init__(self, sfi, words):
-        with tempfile.TemporaryDirectory() as room:
-            path = os.path.join(room, "program.elf")
-            text = run(SFI_CC, "--program", sfi, "-g", *words, "--keep", path)
-            try:
-                self.elf = Elf(path)
-                super().__init__(sfi, text)
-                asked = sorted(self.listing)
-                self.lines = dict(zip(asked, lines_of(self.elf, asked)))
-            except (Wrong, compilers.Failed) as wrong:
-                raise Failed(str(wrong)) from wrong
+    def __init__(self, sfi, path):
+        try:
+            self.elf = Elf(path)
+            super().__init__(sfi, as_text(image([self.elf])).decode())
+            asked = sorted(self.listing)
+            self.lines = dict(zip(asked, lines_of(self.elf, asked)))
+        except OSError as error:
+            raise Failed(f"{path} can't be read: {error.strerror}") from error
+        except (Wrong, compilers.Failed) as wrong:
+            raise Failed(str(wrong)) from wrong
         gates = self.elf.gates()
         named = [(symbol.value, symbol.name) for symbol in self.elf.named()]
         self.labels = [(at, name, "gate" if at in gates else "code" if at in self.listing else "data") for at, name in named]
@@ -119,8 +119,19 @@ class Compiled(Program):
         return found
 
 
+def compiled(sfi, words):
+    """The program of C or assembly, which sfi-cc compiles with `-g`."""
+    with tempfile.TemporaryDirectory() as room:
+        path = os.path.join(room, "program.elf")
+        run(SFI_CC, "--program", sfi, "-g", *words, "-o", path)
+        return Linked(sfi, path)
+
+
 def program(sfi, words):
-    """The program of an image (.hex), of a source text of `sfi build` (one .s), or of files for sfi-cc with its options."""
+    """The program of an image (.hex), of a source text of `sfi build` (one .s), that sfi-cc linked (.elf), or of files for sfi-cc
+    with its options."""
+    if len(words) == 1 and words[0].endswith(".elf"):
+        return Linked(sfi, words[0])
     if len(words) == 1 and words[0].endswith((".hex", ".s")):
         try:
             with open(words[0], encoding="utf-8") as file:
@@ -134,5 +145,6 @@ def program(sfi, words):
                 raise Failed(f"{words[0]} isn't hexadecimal") from error
         return Program(sfi, run(sfi, "build", given=text), run(sfi, "map", given=text))
     if not any(it.endswith(SOURCES) for it in words):
-        raise Failed(f"{words[0]} is neither an image in hexadecimal (.hex) nor a source text (.s) nor a file for sfi-cc")
-    return Compiled(sfi, words)
+        raise Failed(f"{words[0]} is neither an image in hexadecimal (.hex) nor a source text (.s) nor a program "
+                     "that sfi-cc linked (.elf) nor a file for it")
+    return compiled(sfi, words)

@@ -1,4 +1,7 @@
 """Whether two object files have the same data: bytes, addresses in them, and symbols."""
+from dataclasses import replace
+
+GLOBAL, WEAK = 1, 2  # how files share a symbol
 ARRAYS = (".preinit_array", ".init_array", ".fini_array")
 
 
@@ -36,5 +39,7 @@ def differences_of_symbols(left, right):
             continue  # in code, in debug information, or of this file alone
         if other is None and symbol.section is None:
             continue  # a name that nothing in the rewritten code wants any more
+        if symbol.section is None and symbol.binding == WEAK and f"__sfi_import_{name}" in right.named:
+            symbol = replace(symbol, binding=GLOBAL)  # a gate by SFI_IMPORT
         if other is None or other != symbol:
             yield f"the symbol {name} is another one in the rewritten file"

@@ -3,7 +3,7 @@ from functools import lru_cache
 from typing import NamedTuple
 
 from decoding import decode
-from objects import LOCAL
+from objects import LOCAL, WEAK
 
 LINE = "sfi_line_"  # begins labels that tell the line of an assembly
 CALLER_SAVED = frozenset([1, *range(5, 8), *range(10, 18), *range(28, 32)])  # what a call may overwrite
@@ -37,13 +37,26 @@ class Code:
                        if symbol.section in self.sections and symbol.name != symbol.section
                        and not symbol.name.startswith(("$", LINE))}
         self.functions = {name: place for name, place in self.labels.items() if not name.startswith(".")}
-        self.function_at = {place: name for name, place in self.functions.items()}
+        self.function_at = {self.functions[name]: name for name in sorted(self.functions, key=self.order, reverse=True)}
         self.taken = self.taken_names()
         self.lines = {SectionOffset(symbol.section, symbol.value): int(symbol.name[len(LINE):])
                       for symbol in objects.symbols if symbol.name.startswith(LINE)}
         self.starts = {}
         for place in sorted(self.function_at):
             self.starts.setdefault(place.section, []).append(place.offset)
+
+    def is_weak(self, name):
+        """Whether another file's function may take the place of one of this file."""
+        return self.objects.named[name].binding == WEAK
+
+    def order(self, name):
+        """Of the names of one function the least tells it: one that isn't weak, if there is one."""
+        return self.is_weak(name), name
+
+    def called(self, name):
+        """The name that tells a function by one of its names, which are alike but for weak ones."""
+        place = self.functions.get(name)
+        return name if place is None or self.is_weak(name) else self.function_at[place]
 
     def taken_names(self):
         """The labels of the code whose addresses are taken."""
@@ -112,7 +125,8 @@ class Code:
                 if name is not None:
                     self.add_written(name, place, instruction, relocation, own, leads)
                 place = place._replace(offset=place.offset + instruction.size)
-        return spread(own, leads)
+        found = spread(own, leads)
+        return {name: found[self.function_at[place]] for name, place in self.functions.items()}
 
     def add_written(self, name, place, instruction, relocation, own, leads):
         """Adds what an instruction of a function writes."""

@@ -111,6 +111,8 @@ class Runner:
     def jump(self, place, instruction, relocation, following):
         target = self.code.target(place, instruction, relocation)
         name = self.code.function_at.get(target) if isinstance(target, SectionOffset) else target.name
+        if name and relocation and not relocation.addend and relocation.symbol.name in self.code.functions:
+            name = self.code.called(relocation.symbol.name)
         if instruction.target:
             if name is None:
                 raise Unknown(place, "a call of what is no function")
@@ -124,9 +126,10 @@ class Runner:
         """An `auipc` and the `jalr` after it, by which the assembler reaches any name."""
         register = self.code.at(self.place)[0].target
         following = self.place._replace(offset=self.place.offset + 4)
+        target = Name(self.code.called(relocation.symbol.name))
         if register:
-            return Event("call", place, str(register), target=Name(relocation.symbol.name), following=following)
-        return Event("jump", place, target=Name(relocation.symbol.name))
+            return Event("call", place, str(register), target=target, following=following)
+        return Event("jump", place, target=target)
 
     def indirect(self, place, instruction, following):
         goal = self.stretch.registers[instruction.first].plus(number(instruction.number))
@@ -135,10 +138,10 @@ class Runner:
             goal = atom[1]
         atom = goal.only_atom()
         if instruction.target:
-            target = Name(atom[1]) if atom and atom[0] == "address" else None
+            target = Name(self.code.called(atom[1])) if atom and atom[0] == "address" else None
             return Event("call", place, str(instruction.target), (goal,), target, following)
         if atom and atom[0] == "address" and atom[1] in self.code.functions:
-            return Event("jump", place, target=Name(atom[1]))
+            return Event("jump", place, target=Name(self.code.called(atom[1])))
         is_return = self.code.is_left and instruction.first == LINK
         return Event("return" if is_return else "indirect", place, values=(goal,))
 

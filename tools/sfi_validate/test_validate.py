@@ -18,6 +18,17 @@ from validating import complaints
 
 EXAMPLES = ("arithmetic", "base64", "crc32", "hash", "json", "lz", "matrix", "regex", "sha256", "sort", "stack", "wordcount")
 PASSES = os.path.join(HERE, "passes.s")
+# Two functions that gcc makes one of two names.
+EQUAL = """int g(int);
+__attribute__((noinline)) static int aa(int x) { return g(x * 3 + 1) + g(x); }
+__attribute__((noinline)) static int bb(int x) { return g(x * 3 + 1) + g(x); }
+int f(int x) { return aa(x) - 2 * bb(x + 1); }
+int h(int x) { return bb(x) + aa(x + 1); }
+"""
+# One function by three names, one of which another file may define anew.
+NAMES = """\t.text\n\t.globl\tone\n\t.set\ttwo,one\n\t.weak\tthree\n\t.set\tthree,one\n\t.globl\tother
+one:\taddi\ta0,a0,1\n\tret\nother:\taddi\ta0,a0,2\n\tret
+\t.globl\tmain\nmain:\taddi\tsp,sp,-16\n\tsw\tra,12(sp)\n\tcall\tCALLED\n\tlw\tra,12(sp)\n\taddi\tsp,sp,16\n\tret\n"""
 MOVED = "-movable"  # ends the name of a way, by which a program can be moved
 PATIENCE = 120  # seconds that a conversion may take
 
@@ -28,6 +39,18 @@ class Validation(Folder):
         environment = dict(os.environ, PYTHONPYCACHEPREFIX=self.path("compiled"))
         subprocess.run([sys.executable, os.path.join(HERE, "planted.py"), module, old, new, source,
                         *(word for pair in places.items() for word in pair)], env=environment, check=True, timeout=PATIENCE)
+
+
+@needs("riscv64-unknown-elf-as")
+class Marks(Validation):
+    def test_names_that_a_host_knows(self):
+        """A gate by SFI_IMPORT, which is no weak name any more, and one that is weak without a mark."""
+        marked = "\t.globl\tadd\n\t.protected\tadd\nadd:\n\ttail\tprint\n\t.weak\tprint\n\t.protected\tprint\n"
+        right, plain = self.write("marked.s", marked), self.write("plain.s", marked.replace("\t.protected\tprint\n", ""))
+        for source in (right, plain):
+            self.converted(source, {"2": self.path("rewritten.s")})
+            said = complaints(compilers_object(source), rewritten_object(self.path("rewritten.s")), False)
+            self.assertEqual(said, [])
 
 
 @needs("riscv64-unknown-elf-as")
@@ -60,6 +83,32 @@ class Mistakes(Validation):
                 with self.subTest(name):
                     self.assertTrue(lines, "the mistake changes nothing")
                     self.assertTrue(all(lines), "the mistake isn't seen")
+
+
+@needs("riscv64-unknown-elf-as")
+class Aliases(Validation):
+    """Functions of several names."""
+
+    @needs_a_compiler
+    def test_equal_functions(self):
+        for compiler in COMPILERS:
+            for image_format in FORMATS:
+                assembly, _ = compiled(compiler, [], self.write("equal.c", EQUAL), self.path(f"{compiler}.{image_format}"), reserved(image_format))
+                output = self.path(f"{image_format}.s")
+                self.converted(assembly, {image_format: output})
+                with self.subTest(f"{compiler}, format {image_format}"):
+                    self.assertEqual(complaints(compilers_object(assembly), rewritten_object(output)), [])
+
+    def test_which_are_one(self):
+        """By the name that the compiler's code calls and that which the rewritten code calls, whether there is something to say."""
+        outputs = {}
+        for name in ("one", "two", "three", "other"):
+            source, outputs[name] = self.write(f"{name}.s", NAMES.replace("CALLED", name)), self.path(f"{name}.2.s")
+            self.converted(source, {"2": outputs[name]})
+        for called, alike in (("one", "one two"), ("two", "one two"), ("three", "three"), ("other", "other")):
+            left = compilers_object(self.path(f"{called}.s"))
+            found = [name for name, output in outputs.items() if not complaints(left, rewritten_object(output))]
+            self.assertEqual(" ".join(found), alike, called)
 
 
 @needs("riscv64-unknown-elf-as")

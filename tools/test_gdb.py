@@ -1,0 +1,45 @@
+"""Tests of what sfi-gdb answers gdb: `tools/unit_tests.py tools`. Sessions of gdb itself are in examples/c/elf/test.sh."""
+import sys
+import unittest
+
+from testing import TOOLS, TOP
+
+sys.path[:0] = [str(TOOLS / "sfi_gdb"), str(TOOLS / "sfi_elf"), str(TOP / "bindings" / "python")]
+
+from sfi_run import OutsideData
+from stub import DONE, FEATURES, WRONG, Stub
+
+
+class Machine:
+    """Stands in for a program: nine bytes of memory, and 33 registers."""
+    CONTENT, AT = b"123456789", 0x1000
+
+    def __init__(self):
+        self.registers, self.breaks, self.watches = list(range(33)), set(), set()
+
+    def read(self, at, size):
+        if not 0 <= at - self.AT < len(self.CONTENT):
+            raise OutsideData
+        return self.CONTENT[at - self.AT:at - self.AT + size]
+
+
+class Line:
+    def is_interrupted(self):
+        return False
+
+
+class Packets(unittest.TestCase):
+    def test_answers(self):
+        """What is answered by a packet's whole name. The sum is that which catalogues of CRC-32/MPEG-2 give for these bytes."""
+        rows = [("qCRC:1000,9", "C376e6e7"), ("qCRC:1000,a", WRONG), ("qCRC:2000,1", WRONG), ("qCRC:x", WRONG), ("qC", "QC1"), ("qCx", ""),
+                ("qSupported:multiprocess+;swbreak+", FEATURES), ("qSupportedNot", ""), ("qAttached", "0"), ("qAttached:1", "0"), ("qfThreadInfo", "m1"), ("qsThreadInfo", "l"), ("qThreadExtraInfo,1", ""),
+                ("qTStatus", ""), ("QStartNoAckMode", DONE), ("vCont?", "vCont;c;C;s;S;r"), ("vContinue", ""), ("vKill;1", DONE),
+                ("vMustReplyEmpty", ""), ("Hg0", DONE), ("T1", DONE), ("m1000,2", "3132"), ("m2000,2", WRONG), ("p1f", "1f000000"),
+                ("p21", WRONG), ("Z0,1000,2", DONE), ("z0,1000,2", DONE), ("Z3,1000,2", ""), ("!", DONE), ("?", "T05"), ("X1000,0:", ""), ("", "")]
+        for text, wanted in rows:
+            with self.subTest(text):
+                self.assertEqual(Stub(Machine(), Line()).answer(text), wanted)
+
+
+if __name__ == "__main__":
+    unittest.main()
