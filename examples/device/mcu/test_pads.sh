@@ -8,8 +8,10 @@ pads_rows() {
     echo "sw lw 1144201745"
 }
 
+# A turn is measured by QEMU's instructions and not by the machine's clock, under whose load one might end early.
 without_pmp() { # words of run.sh; the image is $room/image.hex
-    MAIN="main.c $cases/sums.c" HOST_FLAGS=-Wl,--wrap=enter OUT=$room/pads run --no-pmp --rounds 100 "$@" <"$room/image.hex"
+    MAIN="main.c $cases/sums.c" HOST_FLAGS=-Wl,--wrap=enter OUT=$room/pads QEMU_OPTIONS="-icount shift=0" \
+        run --no-pmp --rounds 100 "$@" <"$room/image.hex"
 }
 
 # Stores beside the data, loads it back, and exits with it.
