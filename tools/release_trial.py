@@ -51,7 +51,7 @@ def faults_of_run(what, words, top, given, wanted):
 
 
 def faults_of_checker(top, image):
-    """Compiles the checker in one file of C, which takes some seconds, and runs it."""
+    """Compiles the checker in one file of C, which takes a minute, and runs it."""
     with tempfile.TemporaryDirectory() as room:
         # Without optimization functions stay that nothing calls, and that want -lm.
         words = ["gcc", "-std=c11", "-O0", "-w", "-DSUYGAPID_CHECK_MAIN", top / CHECKER, "-o", f"{room}/check", "-lm"]
@@ -69,13 +69,14 @@ def faults_of_text(top):
 
 
 def faults(top):
-    """What is wrong with the release in this folder."""
+    """What is wrong with the release in this folder. Its checker in C is tried where nothing else is."""
     missing = [it for it in ("node", "gcc") if not shutil.which(it)]
     if missing:
         return [f"{' and '.join(missing)} isn't there, by which what is packed is tried"]
     image = (top / SMALLEST).read_text(encoding="ascii")
     given = image.encode()
     node = ["node", "--no-warnings", "--input-type=module", "-e"]
-    return (faults_of_sums(top) + faults_of_run(PROGRAM, [top / PROGRAM, "check"], top, given, ACCEPTED) + faults_of_text(top)
-            + faults_of_run("page/sfi.wasm", [*node, PAGE_MODULE], top, given, ACCEPTED)
-            + faults_of_run("bindings/node/sfi_run.wasm", [*node, NODE_MODULE], top, given, "Break\n") + faults_of_checker(top, image))
+    found = (faults_of_sums(top) + faults_of_run(PROGRAM, [top / PROGRAM, "check"], top, given, ACCEPTED) + faults_of_text(top)
+             + faults_of_run("page/sfi.wasm", [*node, PAGE_MODULE], top, given, ACCEPTED)
+             + faults_of_run("bindings/node/sfi_run.wasm", [*node, NODE_MODULE], top, given, "Break\n"))
+    return found or faults_of_checker(top, image)

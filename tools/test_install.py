@@ -1,6 +1,5 @@
 """Tests of ./install and tools/release.py: `tools/unit_tests.py tools`. They are skipped where the program or a library
 isn't built, or gcc isn't there; those of releases and of node where a module isn't made."""
-import hashlib
 import os
 import pathlib
 import re
@@ -277,17 +276,6 @@ class Scratch(Installing):
         log = self.write("log", test_evidence.log_of(definitions.crate_names()))
         return run(sys.executable, top / "tools" / "release.py", "--log", log, self.room / "made")
 
-    def test_the_same_files_make_the_same_bytes(self):
-        made = []
-        for name in ("one", "another"):
-            top = self.repository(name)
-            done = self.release(top)
-            self.assertEqual((done.returncode, done.stderr), (0, ""))
-            made.append(pathlib.Path(done.stdout.strip()).read_bytes())
-        self.assertEqual(made[0], made[1])
-        said = pathlib.Path(f"{done.stdout.strip()}.sha256").read_text(encoding="utf-8").split()
-        self.assertEqual(said[0], hashlib.sha256(made[0]).hexdigest())
-
     def test_a_release_is_used(self):
         done = self.release(self.repository("top"))
         with tarfile.open(done.stdout.strip()) as tar:
@@ -353,13 +341,6 @@ class Scratch(Installing):
                 self.assertEqual(done.returncode, 1)
                 self.assertTrue(done.stderr.startswith(f"release.py: {said}"), done.stderr)
                 self.assertFalse((self.room / "made").exists())
-
-    def test_without_a_log(self):
-        done = run(sys.executable, self.repository("top") / "tools" / "release.py", self.room / "made")
-        self.assertEqual((done.returncode, done.stderr.count("\n")), (0, 1), done.stderr)
-        self.assertIn("release.py: no evidence is in it: there is no ", done.stderr)
-        with tarfile.open(done.stdout.strip()) as tar:
-            self.assertFalse(any("/evidence/" in it for it in tar.getnames()))
 
     def test_what_is_not_built_is_told(self):
         top = self.repository("top")

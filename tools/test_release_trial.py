@@ -103,21 +103,28 @@ class Whole(Folder):
             patched.start()
             self.addCleanup(patched.stop)
 
-    def release(self):
-        """The names in the tar file, or why there is none, and what was printed on standard error."""
+    def release(self, made="made"):
+        """The path of the tar file, or why there is none, and what was printed on standard error."""
         printed, said = io.StringIO(), io.StringIO()
         with contextlib.redirect_stdout(printed), contextlib.redirect_stderr(said):
             try:
-                release.release(self.room / "made", self.room / "log")
+                release.release(self.room / made, self.room / "log")
             except SystemExit as ended:
                 return ended.code, said.getvalue()
-        with tarfile.open(printed.getvalue().strip()) as tar:
-            return sorted(it.partition("/")[2] for it in tar.getnames()), said.getvalue()
+        return printed.getvalue().strip(), said.getvalue()
 
     def test_a_release(self):
-        names, said = self.release()
+        made, said = self.release()
+        with tarfile.open(made) as tar:
+            names = sorted(it.partition("/")[2] for it in tar.getnames())
         self.assertEqual(names, sorted([*FILES, ".gitignore", "SHA256SUMS"]))
         self.assertIn("no evidence is in it", said)
+
+    def test_the_same_files_make_the_same_bytes(self):
+        made, another = (pathlib.Path(self.release(it)[0]) for it in ("made", "another"))
+        self.assertEqual(made.read_bytes(), another.read_bytes())
+        said = pathlib.Path(f"{made}.sha256").read_text(encoding="utf-8").split()
+        self.assertEqual(said[0], hashlib.sha256(made.read_bytes()).hexdigest())
 
     def test_nothing_is_released(self):
         for path, data, why in ((release_trial.PROGRAM, b"", f"{release_trial.PROGRAM} has 0 bytes"), ("page/sfi.wasm", b"", "page/sfi.wasm has 0 bytes"),
