@@ -100,11 +100,7 @@ module _ (m : Bytes) (s : Seat) (r : Stepped) (seat : IsSafeSeat m s) (ready : s
   ] refl
 
   stays_outside : StaysOutside s.bounds.data m r.state.memory
-  stays_outside a out =
-      let here = both.0.present in
-      by_outcome
-      (λ done. other_bytes_stay (state_in m s) here.instr here.size r a here.stands step (λ accesses. out (data_alone done a accesses)))
-      (λ stopped. ap (λ (x : State). byte_at x.memory a) (stopped_stays (state_in m s) r step stopped))
+  stays_outside = subst (λ (b : Bounds). StaysOutside b.data m r.state.memory) (sym seat.bounds) both.1.stays
 
   safe_next : r.outcome ≡ Next → (steps : ℕ) → IsSafeSeat r.state.memory (stepped_seat s r steps)
   safe_next done steps =

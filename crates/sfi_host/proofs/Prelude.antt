@@ -17,7 +17,7 @@ pub use Rattle.sfi_formats.specs.declared.format.Format.{Format}
 pub use Rattle.sfi_image.specs.Parts.{IsRightPart, IsRightLayout}
 pub use Rattle.sfi_image.specs.Spelling.{Holds, code_region, AreApart, guarded_region, spans, with_guards, InGuards, Part, view, views}
 pub use Rattle.sfi_image.specs.declared.span.Span.{Span}
-pub use Rattle.sfi_safe_runs.specs.Runs.{InCode, HasCode, InData, InGuard, IsGate, IsChange, IsEntry, IsReply, IsTurn, Steps, Replies, Changes, KeepsBytes, IsRun, KeepsReserved}
+pub use Rattle.sfi_safe_runs.specs.Runs.{InCode, HasCode, InData, InGuard, StaysOutside, IsGate, IsChange, IsEntry, IsReply, IsTurn, Steps, Replies, Changes, KeepsBytes, IsRun, KeepsReserved}
 pub use Rattle.sfi_safe_runs.specs.Safety.{AllRunSafely, IsSafeState, IsSafeTurn, IsSafeRun, IsSafeStep, IsTrap, RunsSafely, AllCallTyped, after_turns, GoesSafelyFrom, CallsTyped}
 pub use Rattle.sfi_host.specs.Consoles.{SessionState, ConsoleState, with_session, serve, serve_own, console, may_want, may_want_if, console_may_refuse, new_session, failed, most_messages, posted, mailbox_full, message_of, with_message, post_to, post}
 pub use Rattle.sfi_host.specs.Loading.{AreEnterable, MayEnter, MayEnterAt, fresh_hart, with_registers, exit_gate, entered_hart, entry_stack, entered_seat, with_entry_of, with_entry, IsAtEntry, IsEnterable, first_seat, AreEntered, first_data, with_part, with_parts, HaveFirstData, first_hart}
@@ -26,7 +26,7 @@ pub use Rattle.sfi_host.specs.Joint.{Machine, Moved, still, moved_if, slot_after
 unfoldable pub use Rattle.sfi_host.specs.Joint.{moved, joined, turned}
 pub use Rattle.sfi_host.specs.Plans.{IsJoint, IsRefusedIn, IsCutJoint}
 pub use Rattle.sfi_host.specs.Slots.{bytes_in, bytes_outside, IsWhole, is_in, span_of, Slot, Bounds, bounds_of, state_of, one_more, is_own, own}
-pub use Rattle.sfi_host.specs.Worlds.{seat_of, seats_of, world_of, Sandboxes, slot_of, slots_of, data_byte_of, Seat, IsSafeSeat, IsSafeWorld, StaysOutside, StaysOutsideData, state_in, LiesOutside, status_at, HaveStoppedThemselves}
+pub use Rattle.sfi_host.specs.Worlds.{seat_of, seats_of, world_of, Sandboxes, slot_of, slots_of, data_byte_of, Seat, IsSafeSeat, IsSafeWorld, StaysOutsideData, state_in, LiesOutside, status_at, HaveStoppedThemselves}
 pub use Rattle.sfi_host.specs.declared.program.Program.{Program}
 pub use Rattle.sfi_host.specs.declared.sandbox.Sandbox.{Sandbox}
 pub use Rattle.sfi_host.specs.declared.status.Status.{Status}

@@ -5,12 +5,12 @@ use Rattle.rv_mem.specs.Bytes.{Bytes}
 use Rattle.rv_step.specs.State.{State, IsState}
 use Rattle.rv_step.specs.Step.{Stands}
 use Rattle.sfi_image.specs.Spelling.{Part}
-use Rattle.sfi_safe_runs.specs.Runs.{IsTyped, IsReply, IsChange}
+use Rattle.sfi_safe_runs.specs.Runs.{StaysOutside, IsTyped, IsReply, IsChange}
 use Rattle.sfi_host.specs.declared.status.Status.TheVariants.{Ready}
 use Rattle.sfi_host.specs.Hosts.{Reply}
 use Rattle.sfi_host.specs.Slots.{bounds_of}
 use Rattle.sfi_host.specs.Joint.{Machine, IsMachine, status_after, replied}
-use Rattle.sfi_host.specs.Worlds.{Seat, Sandboxes, slot_of, state_in, IsSafeSeat, IsSafeWorld, StaysOutside}
+use Rattle.sfi_host.specs.Worlds.{Seat, Sandboxes, slot_of, state_in, IsSafeSeat, IsSafeWorld}
 
 -- there is a machine
 abbrev pub SomeMachine : Type 0

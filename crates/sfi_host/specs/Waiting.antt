@@ -11,7 +11,8 @@ use Rattle.sfi_host.specs.Joint.{Machine, IsMachine, call_of, Joined, joined, re
 use Rattle.sfi_host.specs.declared.turn.Turn.{Turn}
 use Rattle.sfi_host.specs.Slots.{bytes_in, Slot, state_of}
 use Rattle.sfi_host.specs.Plans.{IsJoint}
-use Rattle.sfi_host.specs.Worlds.{Seat, Sandboxes, slot_of, slots_of, IsSafeWorld, StaysOutside, status_at}
+use Rattle.sfi_safe_runs.specs.Runs.{StaysOutside}
+use Rattle.sfi_host.specs.Worlds.{Seat, Sandboxes, slot_of, slots_of, IsSafeWorld, status_at}
 use Rattle.std.specs.List.{Contains}
 use Rattle.sfi_host.specs.WorldSteps.{HaveRun}
 

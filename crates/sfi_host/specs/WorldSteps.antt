@@ -6,7 +6,7 @@ use Rattle.rv_mem.specs.Bytes.{Bytes}
 use Rattle.rv_step.specs.State.{State}
 use Rattle.rv_step.specs.Step.{Stepped}
 use Rattle.sfi_image.specs.Spelling.{Part}
-use Rattle.sfi_safe_runs.specs.Runs.{HasCode, Turn, Steps, Replies, Changes, KeepsBytes, IsRun}
+use Rattle.sfi_safe_runs.specs.Runs.{HasCode, StaysOutside, Turn, Steps, Replies, Changes, KeepsBytes, IsRun}
 use Rattle.sfi_safe_runs.specs.Safety.{IsSafeRun, after_turns}
 use Rattle.sfi_host.specs.declared.status.Status.{Status}
 use Rattle.sfi_host.specs.declared.status.Status.TheVariants.{Ready, Exited, Trapped, Stopped}
@@ -18,7 +18,7 @@ use Rattle.sfi_host.specs.Hosts.{Call, Reply, Answer, Host, replay}
 use Rattle.sfi_host.specs.Slots.{Slot, bounds_of}
 use Rattle.sfi_host.specs.Joint.{Machine, IsMachine, moved, Given, given, Joined, joined, joint}
 use Rattle.sfi_host.specs.Plans.{IsCutJoint}
-use Rattle.sfi_host.specs.Worlds.{Seat, Sandboxes, slot_of, slots_of, state_in, IsSafeWorld, StaysOutside, StaysOutsideData}
+use Rattle.sfi_host.specs.Worlds.{Seat, Sandboxes, slot_of, slots_of, state_in, IsSafeWorld, StaysOutsideData}
 
 -- ---- world steps
 

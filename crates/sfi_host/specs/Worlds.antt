@@ -14,9 +14,8 @@ use Rattle.sfi_host.specs.declared.status.Status.{Status}
 use Rattle.sfi_host.specs.declared.status.Status.TheVariants.{Ready, Exited, Trapped, Stopped}
 use Rattle.sfi_host.specs.Slots.{Bounds, bounds_of, own, Slot, state_of, bytes_in, IsWhole, span_of}
 use Rattle.std.specs.Option.{option_map}
-use Rattle.sfi_image.specs.declared.span.Span.{Span}
 use Rattle.sfi_image.specs.Parts.{IsRightPart}
-use Rattle.sfi_safe_runs.specs.Runs.{HasCode, HasEmptyGuards}
+use Rattle.sfi_safe_runs.specs.Runs.{HasCode, HasEmptyGuards, StaysOutside}
 use Rattle.sfi_safe_runs.specs.Safety.{GoesSafelyFrom}
 use Rattle.std.specs.Arc.{arc_slice_items}
 use Rattle.sfi_host.specs.declared.sandbox.Sandbox.{Sandbox}
@@ -142,10 +141,6 @@ pub record IsSafeWorld (w : Sandboxes) : Type 0 where
   pub each : (i : ℕ) (s : Seat) → slice_get w.seats i ≡ Some s → IsSafeSeat w.bytes s
   pub others : (i j : ℕ) (s t : Seat) → i ≢ j → slice_get w.seats i ≡ Some s
       → slice_get w.seats j ≡ Some t → LiesOutside s.bounds t.bounds
-
--- a memory keeps its bytes, or their absence, outside a region
-abbrev pub StaysOutside : Span → Bytes → Bytes → Type 0
-StaysOutside region old new = (a : ℕ) → (Holds region a → ⊥) → byte_at new a ≡ byte_at old a
 
 -- a memory keeps its bytes, or their absence, wherever no sandbox of the world has its data
 abbrev pub StaysOutsideData : Sandboxes → Bytes → Type 0

@@ -1,13 +1,14 @@
 -- What a step keeps, and what stands where the machine reads.
-use Rattle.sfi_safe_runs.proofs.Prelude.{◌≡◌, ℕ, suc, ◌+◌, ◌<◌, ◌≤◌, ◌⊎◌, List, [], ◌∷◌, length, map, Option, Some, None, Bool, true, false, cond, ◌==◌, refl, sym, ap, ◌∙◌, subst, inl, inr, ⊎_elim, arith, add-zero, slice_index, slice_get, is_some, IsSome, range_with_len, or_cases, eqb-true, false≢true, offset_by, Instr, Load, Store, LoadKind, Bytes, byte_at, bytes_at, addresses, loaded, Next, Call, Trap, Outcome, Accesses, Hart, State, register, Stepped, Stands, IsStep, effect, after_load, next, unchanged, load_size, store_size, Gate, Part, Holds, AreApart, code_region, guarded_region, IsRightPart, is_gate_of, InData, InGuard, IsGate, HasCode, HasEmptyGuards, KeepsAll, IsTrap, IsSafeStep, address_after, IsSafeState}
+use Rattle.sfi_safe_runs.proofs.Prelude.{◌≡◌, ◌≢◌, ℕ, suc, ◌+◌, ◌<◌, ◌≤◌, ◌⊎◌, List, [], ◌∷◌, length, map, Option, Some, None, Bool, true, false, cond, ◌==◌, refl, sym, ap, ◌∙◌, subst, inl, inr, ⊎_elim, arith, add-zero, slice_index, slice_get, is_some, IsSome, range_with_len, or_cases, eqb-true, false≢true, offset_by, Instr, Load, Store, LoadKind, Bytes, byte_at, bytes_at, addresses, loaded, Next, Call, Trap, Outcome, Accesses, Hart, State, register, Stepped, Stands, IsStep, effect, after_load, next, unchanged, load_size, store_size, Gate, Part, Holds, AreApart, code_region, guarded_region, IsRightPart, is_gate_of, InData, InGuard, IsGate, HasCode, HasEmptyGuards, KeepsAll, IsTrap, IsSafeStep, address_after, IsSafeState}
 use Rattle.rv_step.specs.declared.outcome.Cause.TheVariants as cause
-use Rattle.rv_step.proofs.Facts.{one_instruction, step_is_effect, other_bytes_stay, accessed_is_there}
+use Rattle.rv_step.proofs.Facts.{one_instruction, step_is_effect, other_bytes_stay, accessed_is_there, stopped_stays}
 use Rattle.std.specs.Prelude.{take, drop}
 use Rattle.std.proofs.lemmas.List.{get_or-take, get_or-drop}
 use Rattle.rv_comp.specs.Fronts.{Spells}
 use Rattle.rv_comp.proofs.Facts.{spelled_length, spelled_some}
 use Rattle.sfi_image.proofs.Facts.{code_ends}
-use Rattle.sfi_safe_runs.specs.Runs.{InCode}
+use Rattle.sfi_safe_runs.specs.Runs.{InCode, StaysOutside}
+use Rattle.sfi_image.specs.Spelling.{data_region}
 
 -- ==== What a step keeps, if its accesses fall into the data and the guards.
 
@@ -57,6 +58,18 @@ no_call other n h m a (k, below, is) e = omega arith
 
 -- ---- the step
 
+-- a step that traps wherever it leaves the data changes no byte outside them
+pub data_alone : (p : Part) (s : State) (i : Instr) (n : ℕ) (r : Stepped) → Stands s i n → IsStep s r → ((a : ℕ) → Accesses i s.hart a → InData p a ⊎ InGuard p a) → ((a : ℕ) → Accesses i s.hart a → InGuard p a → IsTrap r.outcome) → StaysOutside (data_region p) s.memory r.state.memory
+data_alone p s i n r stands step near traps a out = by_outcome r.outcome refl
+  where
+    stopped : r.outcome ≢ Next → byte_at r.state.memory a ≡ byte_at s.memory a
+    stopped not_done = ap (λ (t : State). byte_at t.memory a) (stopped_stays s r step not_done)
+
+    by_outcome : (o : Outcome) → r.outcome ≡ o → byte_at r.state.memory a ≡ byte_at s.memory a
+    by_outcome Next e = other_bytes_stay s i n r a stands step (λ has. ⊎_elim out (λ (guard : InGuard p a). subst (λ (o : Outcome). IsTrap o) e (traps a has guard)) (near a has))
+    by_outcome Call e = stopped (λ done. let clash : Next ≡ Call = sym done ∙ e in cc)
+    by_outcome (Trap cause at) e = stopped (λ done. let clash : Next ≡ Trap cause at = sym done ∙ e in cc)
+
 -- an instruction stands at pc, and all its accesses fall into the data and the guards
 module _ (p : Part) (right : IsRightPart p) (apart : AreApart (code_region p) (guarded_region p)) (s : State) (kept : KeepsAll p s) (i : Instr) (n : ℕ) (stands : Stands s i n)
     (near : (a : ℕ) → Accesses i s.hart a → InData p a ⊎ InGuard p a) where
@@ -96,6 +109,7 @@ module _ (p : Part) (right : IsRightPart p) (apart : AreApart (code_region p) (g
     step_safe called = record {
       within = λ j k there a has. near a (subst (λ (x : Instr). Accesses x s.hart a) (only j k there).0 has);
       trapped = λ j k there a has guard. traps a (subst (λ (x : Instr). Accesses x s.hart a) (only j k there).0 has) guard r.outcome refl;
+      stays = data_alone p s i n r stands step near (λ a has guard. traps a has guard r.outcome refl);
       called = called;
     }
 

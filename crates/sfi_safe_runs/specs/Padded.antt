@@ -7,8 +7,8 @@ use Rattle.rv_mem.specs.Bytes.{Bytes, byte_at, address_after}
 use Rattle.rv_step.specs.Step.{Accesses, Stepped, Stands, IsStep}
 use Rattle.rv_step.specs.State.{State, IsState}
 use Rattle.rv_step.specs.declared.outcome.Outcome.TheVariants.{Call}
-use Rattle.sfi_image.specs.Spelling.{Part}
-use Rattle.sfi_safe_runs.specs.Runs.{InCode, InData, InGuard, IsGate, IsUnitStart, HasReserved, HasCode, IsTyped, KeepsReserved, Turn, Steps, Replies, Changes, after_turn}
+use Rattle.sfi_image.specs.Spelling.{Part, guarded_region}
+use Rattle.sfi_safe_runs.specs.Runs.{InCode, InData, InGuard, IsGate, IsUnitStart, HasReserved, HasCode, IsTyped, KeepsReserved, StaysOutside, Turn, Steps, Replies, Changes, after_turn}
 use Rattle.sfi_safe_runs.specs.Safety.{IsSafeState, after_turns}
 
 -- a sandbox may be entered here: as `IsEntry` says, and nothing is asked of the guard zones
@@ -57,8 +57,7 @@ IsPaddedRun p (Some s) (turn ∷ turns) =
 pub record IsContainedStep (p : Part) (s : State) (r : Stepped) : Type 0 where
   pub within :
       (i : Instr) (n : ℕ) → Stands s i n → (a : ℕ) → Accesses i s.hart a → InData p a ⊎ InGuard p a
-  pub stays : (a : ℕ) → (InData p a ⊎ InGuard p a → ⊥)
-      → byte_at r.state.memory a ≡ byte_at s.memory a
+  pub stays : StaysOutside (guarded_region p) s.memory r.state.memory
   pub called : r.outcome ≡ Call → IsGate p s.hart.pc
 
 -- the turn is contained: a reply, too, is made at a listed gate

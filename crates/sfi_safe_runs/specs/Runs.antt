@@ -2,6 +2,7 @@
 use Rattle.std.specs.Prelude.{◌≡◌, ◌+◌, ◌%◌, ◌<◌, ℕ, List, length, slice_get, slice_index, Some, None, ◌≤◌, true, [], ◌∷◌, Option}
 use Rattle.sfi_formats.specs.Formats.{code_base_register, code_mask_register, data_base_register, data_mask_register, stack_pointer, is_data_register, code_register, offset_register, unit, has_stack, has_words}
 use Rattle.sfi_image.specs.declared.part.Gate.{Gate}
+use Rattle.sfi_image.specs.declared.span.Span.{Span}
 use Rattle.sfi_image.specs.Spelling.{Part, Holds, InGuards, code_region, data_region}
 use Rattle.sfi_image.specs.Parts.{reserved_of}
 use Rattle.rv_mem.specs.Bytes.{Bytes, byte_at, address_after}
@@ -51,6 +52,10 @@ HasCode p m =
 -- at no guard address is a byte
 abbrev pub HasEmptyGuards : Part → Bytes → Type 0
 HasEmptyGuards p m = (a : ℕ) → InGuard p a → byte_at m a ≡ None
+
+-- a memory keeps its bytes, or their absence, outside a region
+abbrev pub StaysOutside : Span → Bytes → Bytes → Type 0
+StaysOutside region old new = (a : ℕ) → (Holds region a → ⊥) → byte_at new a ≡ byte_at old a
 
 -- ==== The typed registers of each format: what they hold wherever a sandbox is entered, replied to
 -- or calls.

@@ -7,8 +7,8 @@ use Rattle.rv_step.specs.declared.outcome.Outcome.{Outcome}
 use Rattle.rv_step.specs.declared.outcome.Outcome.TheVariants.{Next, Call, Trap}
 use Rattle.rv_step.specs.Step.{Accesses, Stepped, Stands}
 use Rattle.rv_step.specs.State.{State}
-use Rattle.sfi_image.specs.Spelling.{Part}
-use Rattle.sfi_safe_runs.specs.Runs.{InCode, InData, InGuard, IsGate, HasCode, HasReserved, HasEmptyGuards, Turn, Steps, Replies, Changes, IsEntry, IsRun, after_turn, IsTyped}
+use Rattle.sfi_image.specs.Spelling.{Part, data_region}
+use Rattle.sfi_safe_runs.specs.Runs.{InCode, InData, InGuard, IsGate, HasCode, HasReserved, HasEmptyGuards, StaysOutside, Turn, Steps, Replies, Changes, IsEntry, IsRun, after_turn, IsTyped}
 use Rattle.rv_word.specs.declared.instr.Instr.TheVariants.{Ecall}
 
 -- an instruction stands at pc
@@ -33,12 +33,13 @@ IsTrap Call = ⊥
 IsTrap (Trap cause at) = Unit {0}
 
 -- Each address that the step accesses lies in the data region or in a guard zone, and if one lies in a
--- guard zone, the step traps. A call is at a listed gate.
+-- guard zone, the step traps. No byte outside the data region changes. A call is at a listed gate.
 pub record IsSafeStep (p : Part) (s : State) (r : Stepped) : Type 0 where
   pub within :
       (i : Instr) (n : ℕ) → Stands s i n → (a : ℕ) → Accesses i s.hart a → InData p a ⊎ InGuard p a
   pub trapped : (i : Instr) (n : ℕ) → Stands s i n → (a : ℕ) → Accesses i s.hart a
       → InGuard p a → IsTrap r.outcome
+  pub stays : StaysOutside (data_region p) s.memory r.state.memory
   pub called : r.outcome ≡ Call → IsGate p s.hart.pc
 
 -- the turn is safe: a reply, too, is made at a listed gate

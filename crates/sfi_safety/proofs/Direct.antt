@@ -10,7 +10,7 @@ use Rattle.sfi_safe_runs.specs.Safety.{KeepsAll, IsTrap, IsSafeTurn}
 use Rattle.sfi_safe_runs.specs.Runs.{KeepsReserved}
 use Rattle.sfi_safe_runs.specs.Direct.{IsDirect, IsInBoard, HasEcall, HasCodeButBoards, KeepsButBoards, IsDirectEntry, IsDirectReply, IsDirectChange, IsDirectTurn, IsDirectRun, IsDirectState, IsDirectSafeRun, RunsDirectly, IsCalling, CallsTypedDirectly}
 use Rattle.sfi_safe_runs.proofs.Entries.{bytes_over, there, elsewhere}
-use Rattle.sfi_safe_runs.proofs.Stepping.{stands_there, guarded}
+use Rattle.sfi_safe_runs.proofs.Stepping.{stands_there, guarded, data_alone}
 use Rattle.sfi_word_safety.proofs.Places.{bundles_whole}
 
 -- ---- units of code
@@ -248,6 +248,8 @@ module _ (p : Part) (right : IsRightPart p) (direct : List ℕ) where
               trapped = λ j k stands a has guard.
                   subst (λ (o : Outcome). IsTrap o) (sym same_step.outcome)
                   (kept.1.trapped i n own_safe.present.stands a (subst (λ (x : Instr). Accesses x s.hart a) (only j k stands).0 has) guard);
+              stays = data_alone p s i n r stands_here step (kept.1.within i n own_safe.present.stands)
+                  (λ a has guard. subst (λ (o : Outcome). IsTrap o) (sym same_step.outcome) (kept.1.trapped i n own_safe.present.stands a has guard));
               called = λ e. kept.1.called (sym same_step.outcome ∙ e);
             }
 

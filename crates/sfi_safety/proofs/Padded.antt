@@ -54,7 +54,7 @@ module _ (sandbox : ℕ) (p : Part) (s : State) (clean : AreCleanBundles sandbox
     step_contained : IsContainedStep p s r
     step_contained = record {
       within = λ j k there a has. near a (subst (λ (x : Instr). Accesses x s.hart a) (only sandbox p s clean good.place good.code j k there).0 has);
-      stays = others_stay;
+      stays = λ a out. others_stay a (λ in_it. out (guarded p a clean.right in_it));
       called = λ e. subst (λ (o : Outcome). Leads sandbox p s.hart good.place.here.size o r.state.hart) e step_leads;
     }
 

@@ -5,7 +5,7 @@ use Rattle.rv_step.specs.declared.outcome.Cause.TheVariants as cause
 use Rattle.sfi_safety.proofs.Readings.{ebreak_spelled, read_bundle, four_words, code_findings, all_findings, quiet, none_listed, wide, ecall_spelled, ones_begin_nothing}
 use Rattle.sfi_safety.proofs.Samples.{IsSample, without_gates, size, refused, stands}
 use Rattle.sfi_safety.proofs.Needed.{nop_spelled, short_nop, half_begins_nothing}
-use Rattle.rv_step.proofs.Facts.{one_instruction, step_is_effect}
+use Rattle.rv_step.proofs.Facts.{one_instruction, step_is_effect, other_bytes_stay}
 use Rattle.sfi_safe_runs.proofs.Entries.{to_bundle}
 
 -- an ebreak stands at that offset of the code
@@ -51,6 +51,7 @@ module _ (s : Sample) (is : IsSample s) (bundles : has_words s.format ≡ false)
   step_safe t r h step = record {
     within = λ i n there a has. absurd (no_access t i n a h there has);
     trapped = λ i n there a has guard. absurd (no_access t i n a h there has);
+    stays = λ a out. other_bytes_stay t Ebreak 4 r a (ebreak_here t h) step (λ has. no_access t Ebreak 4 a h (ebreak_here t h) has);
     called = λ call. absurd (let same : Trap cause.Break t.hart.pc ≡ Call = sym (ap (λ (q : Stepped). q.outcome) (step_stops t r h step)) ∙ call in cc);
   }
 
