@@ -3,4 +3,5 @@ mod Writing
 mod Placing
 mod Moves
 pub mod Relaid
+pub mod Neighbours
 pub mod Facts

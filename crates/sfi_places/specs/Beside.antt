@@ -1,10 +1,14 @@
 -- Two images in one memory: neither need know of the other, and they may be of different formats.
-use Rattle.std.specs.Prelude.{List, [], ◌∷◌, ◌++◌}
+use Rattle.std.specs.Prelude.{◌≡◌, ◌≢◌, ℕ, List, [], ◌∷◌, ◌++◌, Some, slice_get}
 use Rattle.std.specs.List.{All}
 use Rattle.sfi_image.specs.declared.span.Span.{Span}
-use Rattle.sfi_image.specs.Spelling.{Part, AreApart, spans}
+use Rattle.sfi_image.specs.Spelling.{Part, AreApart, spans, data_region}
 use Rattle.sfi_image.specs.Parts.{AreRight}
-use Rattle.sfi_safe_runs.specs.Safety.{AllRunSafely, AllCallTyped}
+use Rattle.rv_mem.specs.Bytes.{Bytes}
+use Rattle.rv_step.specs.State.{Hart, State}
+use Rattle.rv_step.specs.Step.{Stepped, IsStep}
+use Rattle.sfi_safe_runs.specs.Runs.{StaysOutside, IsChange}
+use Rattle.sfi_safe_runs.specs.Safety.{AllRunSafely, AllCallTyped, RunsSafelyFrom}
 use Rattle.sfi_safety.specs.Clean.{IsClean}
 
 -- no code region and no data with its guard zones of the first image meets one of the second
@@ -24,3 +28,27 @@ abbrev pub BesideByPairs : Type 0
 BesideByPairs =
     (ps qs : List Part)
     → All (λ (p : Part). All (λ (q : Part). AreBeside (p ∷ []) (q ∷ [])) qs) ps → AreBeside ps qs
+
+-- two sandboxes of a right layout, as that of one image or of two, lie beside one another
+abbrev pub RightAreBeside : Type 0
+RightAreBeside =
+    (ps : List Part) (i j : ℕ) (p q : Part) → AreRight ps → i ≢ j
+    → slice_get ps i ≡ Some p → slice_get ps j ≡ Some q → AreBeside (p ∷ []) (q ∷ [])
+
+-- ==== What one of them does is, to the other, a change by others.
+
+-- Where no byte outside a sandbox's data changes, as by a host's write or a reply that keeps to them,
+-- that is a change by others to each sandbox beside it, whatever its registers are.
+abbrev pub DataBesideAreOthers : Type 0
+DataBesideAreOthers =
+    (p q : Part) (h : Hart) (m n : Bytes) → AreBeside (p ∷ []) (q ∷ [])
+    → StaysOutside (data_region p) m n
+    → IsChange q (record { hart = h; memory = m }) (record { hart = h; memory = n })
+
+-- so is each step of a sandbox from a state from which every run is safe
+abbrev pub StepsBesideAreChanges : Type 0
+StepsBesideAreChanges =
+    (p q : Part) (s : State) (r : Stepped) (h : Hart) → AreBeside (p ∷ []) (q ∷ [])
+    → RunsSafelyFrom p s → IsStep s r
+    → IsChange q (record { hart = h; memory = s.memory })
+    (record { hart = h; memory = r.state.memory })

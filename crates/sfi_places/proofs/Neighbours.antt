@@ -1,0 +1,118 @@
+-- Sandboxes beside one another, and that what one does to its own data is to the other a change by others.
+use Rattle.std.proofs.Common.{◌≡◌, ◌≢◌, ℕ, zero, suc, ◌+◌, ◌<◌, ◌≤◌, ◌⊎◌, List, [], ◌∷◌, length, Some, None, refl, sym, ap, ◌∙◌, subst, inl, inr, arith}
+use Rattle.std.specs.Prelude.{slice_get}
+use Rattle.std.specs.List.{All, AllPairs}
+use Rattle.std.proofs.lemmas.List.Elements.{All-head, All-tail, All-from_recursion}
+use Rattle.std.proofs.lemmas.Option.{same_Some}
+use Rattle.rv_step.specs.Step.{Stepped, IsStep}
+use Rattle.sfi_image.specs.declared.span.Span.{Span}
+use Rattle.sfi_image.specs.Spelling.{Part, Holds, AreApart, spans, code_region, data_region, guarded_region}
+use Rattle.sfi_safe_runs.specs.Runs.{InData, InGuard, Steps}
+use Rattle.sfi_safe_runs.proofs.Facts.{safe_turns}
+use Rattle.sfi_places.specs.Beside.{AreBeside, RightAreBeside, DataBesideAreOthers, StepsBesideAreChanges}
+
+-- ---- the two spans of a sandbox
+
+two : (P : Span → Type 0) (p : Part) → P (code_region p) → P (guarded_region p) → All P (spans (p ∷ []))
+two P p code guarded = All-from_recursion P (spans (p ∷ [])) (code, (guarded, tt))
+
+first : (P : Span → Type 0) (p : Part) → All P (spans (p ∷ [])) → P (code_region p)
+first P p all = All-head P (code_region p) (guarded_region p ∷ []) all
+
+second : (P : Span → Type 0) (p : Part) → All P (spans (p ∷ [])) → P (guarded_region p)
+second P p all = All-head P (guarded_region p) [] (All-tail P (code_region p) (guarded_region p ∷ []) all)
+
+-- of two sandboxes
+pub record SpansApart (p q : Part) : Type 0 where
+  pub code_code : AreApart (code_region p) (code_region q)
+  pub code_guarded : AreApart (code_region p) (guarded_region q)
+  pub guarded_code : AreApart (guarded_region p) (code_region q)
+  pub guarded_guarded : AreApart (guarded_region p) (guarded_region q)
+
+AllApart : Part → Span → Type 0
+AllApart q s = All (λ (t : Span). AreApart s t) (spans (q ∷ []))
+
+pub are_beside : (p q : Part) → SpansApart p q → AreBeside (p ∷ []) (q ∷ [])
+unfolding AllApart
+are_beside p q apart =
+    two (AllApart q) p
+    (two (AreApart (code_region p)) q apart.code_code apart.code_guarded)
+    (two (AreApart (guarded_region p)) q apart.guarded_code apart.guarded_guarded)
+
+pub spans_apart : (p q : Part) → AreBeside (p ∷ []) (q ∷ []) → SpansApart p q
+unfolding AllApart
+spans_apart p q beside =
+    let code = first (AllApart q) p beside in
+    let guarded = second (AllApart q) p beside in
+    record {
+      code_code = first (AreApart (code_region p)) q code;
+      code_guarded = second (AreApart (code_region p)) q code;
+      guarded_code = first (AreApart (guarded_region p)) q guarded;
+      guarded_guarded = second (AreApart (guarded_region p)) q guarded;
+    }
+
+-- ---- of one layout
+
+in_spans : (P : Span → Type 0) (ps : List Part) (i : ℕ) (p : Part) → slice_get ps i ≡ Some p → All P (spans ps) → All P (spans (p ∷ []))
+in_spans P [] i p at all = absurd (cc)
+in_spans P (x ∷ ps) zero p at all =
+    subst (λ (y : Part). All P (spans (y ∷ []))) (same_Some x p at)
+    (two P x (All-head P (code_region x) (guarded_region x ∷ spans ps) all) (All-head P (guarded_region x) (spans ps) (All-tail P (code_region x) (guarded_region x ∷ spans ps) all)))
+in_spans P (x ∷ ps) (suc i) p at all = in_spans P ps i p at (All-tail P (guarded_region x) (spans ps) (All-tail P (code_region x) (guarded_region x ∷ spans ps) all))
+
+-- the first sandbox and a later one
+first_apart : (x : Part) (ps : List Part) (i : ℕ) (p : Part) → AllPairs AreApart (spans (x ∷ ps)) → slice_get ps i ≡ Some p → SpansApart x p
+first_apart x ps i p pairs at =
+    let code : All (AreApart (code_region x)) (spans ps) = λ k d below. pairs 0 (suc (suc k)) d (omega arith) (omega (arith, below)) in
+    let guarded : All (AreApart (guarded_region x)) (spans ps) = λ k d below. pairs 1 (suc (suc k)) d (omega arith) (omega (arith, below)) in
+    let of_code = in_spans (AreApart (code_region x)) ps i p at code in
+    let of_guarded = in_spans (AreApart (guarded_region x)) ps i p at guarded in
+    record {
+      code_code = first (AreApart (code_region x)) p of_code;
+      code_guarded = second (AreApart (code_region x)) p of_code;
+      guarded_code = first (AreApart (guarded_region x)) p of_guarded;
+      guarded_guarded = second (AreApart (guarded_region x)) p of_guarded;
+    }
+
+turned : (p q : Part) → SpansApart p q → SpansApart q p
+turned p q apart = record {
+  code_code = λ a there here. apart.code_code a here there;
+  code_guarded = λ a there here. apart.guarded_code a here there;
+  guarded_code = λ a there here. apart.code_guarded a here there;
+  guarded_guarded = λ a there here. apart.guarded_guarded a here there;
+}
+
+any_apart : (ps : List Part) (i j : ℕ) (p q : Part) → AllPairs AreApart (spans ps) → i ≢ j → slice_get ps i ≡ Some p → slice_get ps j ≡ Some q → SpansApart p q
+any_apart [] i j p q pairs ne at there = absurd (cc)
+any_apart (x ∷ ps) zero zero p q pairs ne at there = absurd (ne refl)
+any_apart (x ∷ ps) zero (suc j) p q pairs ne at there = subst (λ (y : Part). SpansApart y q) (same_Some x p at) (first_apart x ps j q pairs there)
+any_apart (x ∷ ps) (suc i) zero p q pairs ne at there = subst (λ (y : Part). SpansApart p y) (same_Some x q there) (turned x p (first_apart x ps i p pairs at))
+any_apart (x ∷ ps) (suc i) (suc j) p q pairs ne at there =
+    any_apart ps i j p q (λ k l d less below. pairs (suc (suc k)) (suc (suc l)) d (omega (arith, less)) (omega (arith, below))) (λ e. ne (ap suc e)) at there
+
+pub right_are_beside : RightAreBeside
+right_are_beside ps i j p q right ne at there = are_beside p q (any_apart ps i j p q right.apart ne at there)
+
+-- ---- changes by others
+
+data_guarded : (p : Part) (a : ℕ) → InData p a → Holds (guarded_region p) a
+data_guarded p a (from, below) = (omega arith, omega arith)
+
+guard_guarded : (p : Part) (a : ℕ) → InGuard p a → Holds (guarded_region p) a
+guard_guarded p a (inl (from, below)) = (omega arith, omega arith)
+guard_guarded p a (inr (from, below)) = (omega arith, omega arith)
+
+pub data_are_others : DataBesideAreOthers
+data_are_others p q h m n beside stays =
+    let apart = spans_apart p q beside in
+    record {
+      pc = refl;
+      registers = refl;
+      bytes = record {
+        code = λ a inside. stays a (λ own. apart.guarded_code a (data_guarded p a own) inside);
+        guards = λ a guard none. stays a (λ own. apart.guarded_guarded a (data_guarded p a own) (guard_guarded q a guard)) ∙ none;
+      };
+    }
+
+pub steps_are_changes : StepsBesideAreChanges
+steps_are_changes p q s r h beside safe step = data_are_others p q h s.memory r.state.memory beside (safe_turns p s (Steps r) safe step).1.stays
