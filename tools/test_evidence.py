@@ -134,7 +134,7 @@ class Pages(unittest.TestCase):
 
     def test_a_page_of_this_checkout(self):
         self.assertEqual(verify_evidence.judged(self.page)[0], [])
-        for said in ("ensures safe { IfOk result", "record RunsSafely ", "record IsSafeStep ", "pub enum Instr {", "axioms libc: none reached",
+        for said in ("ensures safe { IfOk result", "record RunsSafelyAs ", "record IsSafeStepAs ", "pub enum Instr {", "axioms libc: none reached",
                      "### crates/rv_step/specs/Step.antt sha256=", "pub fn check_stream<", "extern \"C\" fn sfi_c_check(", "    pub fn set_registers(",
                      "ghost invariant = { λ w. IsSafeWorld", "record IsWorldStep ", "pub ◌⟦◌∶◌⟧ :"):
             self.assertIn(said, self.page)
@@ -246,22 +246,22 @@ class Reading(unittest.TestCase):
 
 # Edits of definitions, by file, that the page has to show: what is replaced by what, and what the page has then.
 PLANTED = [
-    ("a field after a blank line", "sfi_safe_runs/specs/Runs.antt", "  pub bytes : KeepsBytes p before.memory after.memory\n\n-- a turn:",
-     "  pub bytes : KeepsBytes p before.memory after.memory\n\n  pub memory : after.memory ≡ before.memory\n\n-- a turn:",
+    ("a field after a blank line", "sfi_safe_runs/specs/Runs.antt", "  pub bytes : KeepsBytesAs t p before.memory after.memory\n\n-- a turn:",
+     "  pub bytes : KeepsBytesAs t p before.memory after.memory\n\n  pub memory : after.memory ≡ before.memory\n\n-- a turn:",
      "after.memory\n\n  pub memory : after.memory ≡ before.memory\n"),
     ("a field after a heading", "sfi_safe_runs/specs/Runs.antt", "\n-- ---- turns\n", "\n-- ---- turns\n  pub never : ⊥\n",
-     "  pub guards : HasEmptyGuards p s.memory\n\n-- ---- turns\n  pub never : ⊥\n"),
+     "  pub guards : HasGuards t.zones p s.memory\n\n-- ---- turns\n  pub never : ⊥\n"),
     ("c.swsp as a nop", "rv_comp/specs/Table.antt", "expansion (CSwsp t i) = Store Sw 2 t i", "expansion (CSwsp t i) = OpImm Addi 0 0 i",
      "expansion (CSwsp t i) = OpImm Addi 0 0 i"),
     ("an equation after a comment", "rv_comp/specs/Table.antt", "expansion (CLui d i) = Lui d", "expansion (CLui d i) = Auipc d",
      "expansion (CLui d i) = Auipc d"),
     ("an operator", "rv_comp/specs/Table.antt", "piece f (high + 1 - low) low", "piece f 0 low", "piece f 0 low"),
     ("a word by another's name", "sfi_safe_runs/specs/Safety.antt", "use Rattle.sfi_safe_runs.specs.Runs.{",
-     "use Rattle.sfi_safe_runs.specs.Padded.{RunsContained as InCode}\nuse Rattle.sfi_safe_runs.specs.Runs.{",
-     "use Rattle.sfi_safe_runs.specs.Padded.{RunsContained as InCode}\n"),
+     "use Rattle.sfi_safe_runs.specs.Laws.{SafeTurns as InCode}\nuse Rattle.sfi_safe_runs.specs.Runs.{",
+     "use Rattle.sfi_safe_runs.specs.Laws.{SafeTurns as InCode}\n"),
     ("a name with a dash", "sfi_safe_runs/specs/Runs.antt",
-     "-- this turn may come at this state\nabbrev pub IsTurn : Part → State → Turn → Type 0\nIsTurn p s (Steps r) = IsStep s r\n",
-     "abbrev pub is-so : State → Stepped → Type 0\nis-so s r = ⊥\n\nabbrev pub IsTurn : Part → State → Turn → Type 0\nIsTurn p s (Steps r) = is-so s r\n",
+     "-- this turn may come at this state\nabbrev pub IsTurnAs : Setting → Part → State → Turn → Type 0\nIsTurnAs t p s (Steps r) = IsStepAs t.calls p s r\n",
+     "abbrev pub is-so : State → Stepped → Type 0\nis-so s r = ⊥\n\nabbrev pub IsTurnAs : Setting → Part → State → Turn → Type 0\nIsTurnAs t p s (Steps r) = is-so s r\n",
      "is-so s r = ⊥\n"),
     ("a type of another name in code", "sfi_check/src/stream.rt", "use crate::stream_answer::StreamAnswer;\n",
      "use crate::stream_answer::StreamAnswer;\nuse sfi_image::Anything as Something;\n", "use sfi_image::Anything as Something;\n"),

@@ -1,6 +1,7 @@
 -- What holds of runs, whatever the rules: laws, and further lemmas, for proofs here and in the crates above.
-use Rattle.sfi_safe_runs.specs.Laws.{SafeTurns, SafeStaysSafe, SafeFetches, GoesOnSafely, CanBeEntered, HasEntries, BundlesAskTheSame, WordsAsk, FirstFormatAsksNoStack}
+use Rattle.sfi_safe_runs.specs.Laws.{SafeTurns, SafeStaysSafe, SafeFetches, GoesOnSafely, CanBeEntered, HasEntries, EntersAnyway, RepliesAnyway, BundlesAskTheSame, WordsAsk, FirstFormatAsksNoStack}
 use Rattle.sfi_safe_runs.proofs.Entries.{entered, entries, bundles_ask, words_asks, first_asks}
+use Rattle.sfi_safe_runs.proofs.Settings as settings
 use Rattle.sfi_safe_runs.proofs.SafeRuns.{turns_safe, stays_safe, fetches, goes_on}
 
 pub safe_turns : SafeTurns
@@ -20,6 +21,12 @@ can_be_entered = entered
 
 pub has_entries : HasEntries
 has_entries = entries
+
+pub enters_anyway : EntersAnyway
+enters_anyway = settings.enters_anyway
+
+pub replies_anyway : RepliesAnyway
+replies_anyway = settings.replies_anyway
 
 pub bundles_ask_the_same : BundlesAskTheSame
 bundles_ask_the_same = bundles_ask

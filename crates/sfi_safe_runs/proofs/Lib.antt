@@ -3,4 +3,5 @@ pub mod Entries
 pub mod Accessing
 pub mod Stepping
 pub mod SafeRuns
+pub mod Settings
 pub mod Facts

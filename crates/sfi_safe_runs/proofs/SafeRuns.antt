@@ -1,9 +1,10 @@
 -- Runs that are safe: what follows from it, and what it follows from.
-use Rattle.sfi_safe_runs.proofs.Prelude.{ℕ, [], ◌∷◌, Option, Some, None, Bool, true, false, cond, sym, ap, ◌∙◌, subst, is_some, offset_by, Instr, Load, Store, LoadKind, Bytes, bytes_at, addresses, loaded, Next, Call, Trap, Outcome, Hart, State, register, Stepped, IsStep, effect, after_load, next, unchanged, load_size, store_size, Part, IsRun, after_turns, IsSafeRun, RunsSafelyFrom, SafeTurns, SafeStaysSafe, SafeFetches, GoesOnSafely, ◌+◌, List, length, refl, arith, Ecall, Stands, HasReserved, HasCode, HasEmptyGuards, KeepsBytes, KeepsAll, IsTyped, IsEntry, IsReply, IsChange, Turn, Changes, IsTurn, after_turn, IsSafeState, IsSafeTurn, RunsSafely, CallsTyped, Steps, Replies, IsSafeStep}
+use Rattle.sfi_safe_runs.proofs.Prelude.{ℕ, [], ◌∷◌, Option, Some, None, Bool, true, false, cond, sym, ap, ◌∙◌, subst, is_some, offset_by, Instr, Load, Store, LoadKind, Bytes, bytes_at, addresses, loaded, Next, Call, Trap, Outcome, Hart, State, register, Stepped, IsStep, effect, after_load, next, unchanged, load_size, store_size, Part, IsRun, after_turns, IsSafeRun, RunsSafelyFrom, SafeTurns, SafeStaysSafe, SafeFetches, GoesOnSafely, ◌+◌, List, length, refl, arith, Ecall, Stands, HasReserved, HasCode, IsTyped, Turn, Changes, after_turn, IsSafeState, Steps, Replies}
 use Rattle.rv_step.specs.declared.outcome.Cause.TheVariants as cause
 use Rattle.rv_step.proofs.Facts.{step_is_effect}
 use Rattle.std.specs.Prelude.{◌≡◌, IfSome}
-use Rattle.sfi_safe_runs.specs.Runs.{KeepsReserved}
+use Rattle.sfi_safe_runs.specs.Runs.{KeepsReserved, Zones, Empty, Padded, by_ecall, HasGuards, KeepsGuards, KeepsBytesAs, IsEntryAs, IsReplyAs, IsChangeAs, IsTurnAs, IsRunAs}
+use Rattle.sfi_safe_runs.specs.Safety.{KeepsAllAs, IsSafeStepAs, IsSafeTurnAs, IsSafeRunAs, RunsSafelyAs, CallsTypedAs}
 use Rattle.rv_comp.specs.declared.front.Front.TheVariants.{Read}
 
 -- ==== What follows from that every run is safe.
@@ -67,18 +68,19 @@ goes_on p s after turn from h e = record {
 
 -- ---- what is kept
 
-code_kept : (p : Part) (before after : Bytes) → KeepsBytes p before after → HasCode p before → HasCode p after
-code_kept p before after keeps has k below = keeps.code (p.code_base + k) (omega arith, omega (arith, below)) ∙ has k below
+code_kept : (z : Zones) (p : Part) (before after : Bytes) → KeepsBytesAs (by_ecall z) p before after → HasCode p before → HasCode p after
+code_kept z p before after keeps has k below = keeps.code (p.code_base + k) (omega arith, omega (arith, below)) ∙ has k below
 
-guards_kept : (p : Part) (before after : Bytes) → KeepsBytes p before after → HasEmptyGuards p before → HasEmptyGuards p after
-guards_kept p before after keeps has a guard = keeps.guards a guard (has a guard)
+guards_kept : (z : Zones) (p : Part) (before after : Bytes) → KeepsGuards z p before after → HasGuards z p before → HasGuards z p after
+guards_kept Empty p before after keeps has = λ a guard. keeps a guard (has a guard)
+guards_kept Padded p before after keeps has = tt
 
-pub entry_keeps : (p : Part) (s : State) → IsEntry p s → KeepsAll p s
-entry_keeps p s entry = record { count = entry.state.hart.count; reserved = entry.reserved; code = entry.code; guards = entry.guards }
+pub entry_keeps : (z : Zones) (p : Part) (s : State) → IsEntryAs (by_ecall z) p s → KeepsAllAs z p s
+entry_keeps z p s entry = record { count = entry.state.hart.count; reserved = entry.reserved; code = entry.code; guards = entry.guards }
 
 -- what a reply keeps, of which only this is asked
-pub kept_after : (p : Part) (s after : State) → KeepsAll p s → length after.hart.registers ≡ 32 → KeepsReserved s.hart after.hart → KeepsBytes p s.memory after.memory → KeepsAll p after
-kept_after p s after kept count reserved bytes = record {
+pub kept_after : (z : Zones) (p : Part) (s after : State) → KeepsAllAs z p s → length after.hart.registers ≡ 32 → KeepsReserved s.hart after.hart → KeepsBytesAs (by_ecall z) p s.memory after.memory → KeepsAllAs z p after
+kept_after z p s after kept count reserved bytes = record {
   count = count;
   reserved = record {
     code_base = reserved.code_base ∙ kept.reserved.code_base;
@@ -86,19 +88,19 @@ kept_after p s after kept count reserved bytes = record {
     data_base = reserved.data_base ∙ kept.reserved.data_base;
     data_mask = reserved.data_mask ∙ kept.reserved.data_mask;
   };
-  code = code_kept p s.memory after.memory bytes kept.code;
-  guards = guards_kept p s.memory after.memory bytes kept.guards;
+  code = code_kept z p s.memory after.memory bytes kept.code;
+  guards = guards_kept z p s.memory after.memory bytes.guards kept.guards;
 }
 
-pub reply_keeps : (p : Part) (s after : State) → KeepsAll p s → IsReply p s after → KeepsAll p after
-reply_keeps p s after kept r = kept_after p s after kept r.state.hart.count r.reserved r.bytes
+pub reply_keeps : (z : Zones) (p : Part) (s after : State) → KeepsAllAs z p s → IsReplyAs (by_ecall z) p s after → KeepsAllAs z p after
+reply_keeps z p s after kept r = kept_after z p s after kept r.state.hart.count r.reserved r.bytes
 
-pub change_keeps : (p : Part) (s after : State) → KeepsAll p s → IsChange p s after → KeepsAll p after
-change_keeps p s after kept c = record {
+pub change_keeps : (z : Zones) (p : Part) (s after : State) → KeepsAllAs z p s → IsChangeAs (by_ecall z) p s after → KeepsAllAs z p after
+change_keeps z p s after kept c = record {
   count = ap length c.registers ∙ kept.count;
   reserved = subst (λ (l : List ℕ). HasReserved p l) (sym c.registers) kept.reserved;
-  code = code_kept p s.memory after.memory c.bytes kept.code;
-  guards = guards_kept p s.memory after.memory c.bytes kept.guards;
+  code = code_kept z p s.memory after.memory c.bytes kept.code;
+  guards = guards_kept z p s.memory after.memory c.bytes.guards kept.guards;
 }
 
 -- a step at an ecall comes to a call
@@ -106,39 +108,43 @@ call_step : (s : State) (n : ℕ) → Stands s Ecall n → IsStep s (unchanged C
 call_step s n stands = record { front = Read Ecall n; at_pc = stands; result = refl }
 
 -- a turn is safe where each step is
-pub turn_safe : (p : Part) (s : State) → ((r : Stepped) → IsStep s r → IsSafeStep p s r) → (turn : Turn) → IsTurn p s turn → IsSafeTurn p s turn
-turn_safe p s steps (Steps r) h = steps r h
-turn_safe p s steps (Replies after) h = (steps (unchanged Call s.hart s.memory) (call_step s h.size h.asked)).called refl
-turn_safe p s steps (Changes after) h = tt
+pub turn_safe : (z : Zones) (p : Part) (s : State) → ((r : Stepped) → IsStep s r → IsSafeStepAs z p s r) → (turn : Turn) → IsTurnAs (by_ecall z) p s turn → IsSafeTurnAs z p s turn
+turn_safe z p s steps (Steps r) h = steps r h
+turn_safe z p s steps (Replies after) h = (steps (unchanged Call s.hart s.memory) (call_step s h.size h.asked)).called refl
+turn_safe z p s steps (Changes after) h = tt
 
 -- ---- runs
 
+pub keeps_guards : (z : Zones) (p : Part) (m : Bytes) → KeepsGuards z p m m
+keeps_guards Empty p m = λ a guard e. e
+keeps_guards Padded p m = tt
+
 -- a change that changes nothing
-no_change : (p : Part) (s : State) → IsChange p s s
-no_change p s = record { pc = refl; registers = refl; bytes = record { code = λ a inside. refl; guards = λ a inside e. e } }
+pub no_change : (z : Zones) (p : Part) (s : State) → IsChangeAs (by_ecall z) p s s
+no_change z p s = record { pc = refl; registers = refl; bytes = record { code = λ a inside. refl; guards = keeps_guards z p s.memory } }
 
 -- states are good, if an entry is good, and a turn from a good state is safe and leads to a good one
-module _ (p : Part) (IsGood : State → Type 0)
-    (keeps : (s : State) (turn : Turn) → IsGood s → IsTurn p s turn → IsSafeState p s × IsSafeTurn p s turn × IfSome (after_turn turn) IsGood)
-    (enters : (s : State) → IsEntry p s → IsGood s) where
-  run_safe : (turns : List Turn) (o : Option State) → IfSome o IsGood → IsRun p o turns → IsSafeRun p o turns
+module _ (z : Zones) (p : Part) (IsGood : State → Type 0)
+    (keeps : (s : State) (turn : Turn) → IsGood s → IsTurnAs (by_ecall z) p s turn → IsSafeState p s × IsSafeTurnAs z p s turn × IfSome (after_turn turn) IsGood)
+    (enters : (s : State) → IsEntryAs (by_ecall z) p s → IsGood s) where
+  run_safe : (turns : List Turn) (o : Option State) → IfSome o IsGood → IsRunAs (by_ecall z) p o turns → IsSafeRunAs (by_ecall z) p o turns
   run_safe [] None good run = tt
-  run_safe [] (Some s) good run = (keeps s (Changes s) good (no_change p s)).0
+  run_safe [] (Some s) good run = (keeps s (Changes s) good (no_change z p s)).0
   run_safe (turn ∷ turns) None good run = tt
   run_safe (turn ∷ turns) (Some s) good run =
       let kept = keeps s turn good run.0 in
       (kept.0, kept.1, run_safe turns (after_turn turn) kept.2 run.1)
 
-  pub runs_safely : RunsSafely p
+  pub runs_safely : RunsSafelyAs (by_ecall z) p
   runs_safely = record { from = λ s entry. record { safe = λ turns run. run_safe turns (Some s) (enters s entry) run } }
 
-  run_good : (turns : List Turn) (o : Option State) → IfSome o IsGood → IsRun p o turns → IfSome (after_turns o turns) IsGood
+  run_good : (turns : List Turn) (o : Option State) → IfSome o IsGood → IsRunAs (by_ecall z) p o turns → IfSome (after_turns o turns) IsGood
   run_good [] o good run = good
   run_good (turn ∷ turns) None good run = tt
   run_good (turn ∷ turns) (Some s) good run = run_good turns (after_turn turn) (keeps s turn good run.0).2 run.1
 
   -- and the typed registers hold what their types say at each call, if they do in a good state
-  pub calls_typed : ((s : State) (n : ℕ) → IsGood s → Stands s Ecall n → IsTyped p s.hart.registers) → CallsTyped p
+  pub calls_typed : ((s : State) (n : ℕ) → IsGood s → Stands s Ecall n → IsTyped p s.hart.registers) → CallsTypedAs (by_ecall z) p
   calls_typed typed = record {
     from = λ s entry. record {
       typed = λ turns at n run after stands.

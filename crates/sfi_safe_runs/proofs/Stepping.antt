@@ -1,5 +1,5 @@
 -- What a step keeps, and what stands where the machine reads.
-use Rattle.sfi_safe_runs.proofs.Prelude.{◌≡◌, ◌≢◌, ℕ, suc, ◌+◌, ◌<◌, ◌≤◌, ◌⊎◌, List, [], ◌∷◌, length, map, Option, Some, None, Bool, true, false, cond, ◌==◌, refl, sym, ap, ◌∙◌, subst, inl, inr, ⊎_elim, arith, add-zero, slice_index, slice_get, is_some, IsSome, range_with_len, or_cases, eqb-true, false≢true, offset_by, Instr, Load, Store, LoadKind, Bytes, byte_at, bytes_at, addresses, loaded, Next, Call, Trap, Outcome, Accesses, Hart, State, register, Stepped, Stands, IsStep, effect, after_load, next, unchanged, load_size, store_size, Gate, Part, Holds, AreApart, code_region, guarded_region, IsRightPart, is_gate_of, InData, InGuard, IsGate, HasCode, HasEmptyGuards, KeepsAll, IsTrap, IsSafeStep, address_after, IsSafeState}
+use Rattle.sfi_safe_runs.proofs.Prelude.{◌≡◌, ◌≢◌, ℕ, suc, ◌+◌, ◌<◌, ◌≤◌, ◌⊎◌, List, [], ◌∷◌, length, map, Option, Some, None, Bool, true, false, cond, ◌==◌, refl, sym, ap, ◌∙◌, subst, inl, inr, ⊎_elim, arith, add-zero, slice_index, slice_get, is_some, IsSome, range_with_len, or_cases, eqb-true, false≢true, offset_by, Instr, Load, Store, LoadKind, Bytes, byte_at, bytes_at, addresses, loaded, Next, Call, Trap, Outcome, Accesses, Hart, State, register, Stepped, Stands, IsStep, effect, after_load, next, unchanged, load_size, store_size, Gate, Part, Holds, AreApart, code_region, guarded_region, IsRightPart, is_gate_of, InData, InGuard, IsGate, HasCode, HasEmptyGuards, IsTrap, address_after, IsSafeState}
 use Rattle.rv_step.specs.declared.outcome.Cause.TheVariants as cause
 use Rattle.rv_step.proofs.Facts.{one_instruction, step_is_effect, other_bytes_stay, accessed_is_there, stopped_stays}
 use Rattle.std.specs.Prelude.{take, drop}
@@ -7,7 +7,8 @@ use Rattle.std.proofs.lemmas.List.{get_or-take, get_or-drop}
 use Rattle.rv_comp.specs.Fronts.{Spells}
 use Rattle.rv_comp.proofs.Facts.{spelled_length, spelled_some}
 use Rattle.sfi_image.proofs.Facts.{code_ends}
-use Rattle.sfi_safe_runs.specs.Runs.{InCode, StaysOutside}
+use Rattle.sfi_safe_runs.specs.Runs.{InCode, StaysOutside, Zones, Empty, Padded, HasGuards}
+use Rattle.sfi_safe_runs.specs.Safety.{KeepsAllAs, TrapsIn, IsSafeStepAs, changed_in}
 use Rattle.sfi_image.specs.Spelling.{data_region}
 
 -- ==== What a step keeps, if its accesses fall into the data and the guards.
@@ -71,7 +72,7 @@ data_alone p s i n r stands step near traps a out = by_outcome r.outcome refl
     by_outcome (Trap cause at) e = stopped (λ done. let clash : Next ≡ Trap cause at = sym done ∙ e in cc)
 
 -- an instruction stands at pc, and all its accesses fall into the data and the guards
-module _ (p : Part) (right : IsRightPart p) (apart : AreApart (code_region p) (guarded_region p)) (s : State) (kept : KeepsAll p s) (i : Instr) (n : ℕ) (stands : Stands s i n)
+module _ (p : Part) (right : IsRightPart p) (apart : AreApart (code_region p) (guarded_region p)) (zones : Zones) (s : State) (kept : KeepsAllAs zones p s) (i : Instr) (n : ℕ) (stands : Stands s i n)
     (near : (a : ℕ) → Accesses i s.hart a → InData p a ⊎ InGuard p a) where
   pub only : (j : Instr) (k : ℕ) → Stands s j k → (j ≡ i) × (k ≡ n)
   only j k there = one_instruction s j i k n there stands
@@ -81,35 +82,51 @@ module _ (p : Part) (right : IsRightPart p) (apart : AreApart (code_region p) (g
     pub step_is : r ≡ effect i n s.hart s.memory
     step_is = step_is_effect s i n r stands step
 
-    -- what a step that is done found is in no guard, so it is in the data
-    not_in_guard : r.outcome ≡ Next → (a : ℕ) → Accesses i s.hart a → InGuard p a → ⊥
-    not_in_guard done a has guard = none_there (byte_at s.memory a) (accessed_is_there s i n r a stands step done has) (kept.guards a guard)
-
-    pub in_data : r.outcome ≡ Next → (a : ℕ) → Accesses i s.hart a → InData p a
-    in_data done a has = ⊎_elim (λ inside. inside) (λ guard. absurd (not_in_guard done a has guard)) (near a has)
-
     pub code_stays : HasCode p r.state.memory
     code_stays k below =
         other_bytes_stay s i n r (p.code_base + k) stands step
         (λ has. apart (p.code_base + k) (omega arith, omega (arith, below)) (guarded p (p.code_base + k) right (near (p.code_base + k) has)))
         ∙ kept.code k below
 
-    pub guards_stay : r.outcome ≡ Next → HasEmptyGuards p r.state.memory
-    guards_stay done a guard =
-        other_bytes_stay s i n r a stands step (λ has. not_in_guard done a has guard)
-        ∙ kept.guards a guard
+    -- ---- where the guard zones are empty
 
-    traps : (a : ℕ) → Accesses i s.hart a → InGuard p a → (o : Outcome) → r.outcome ≡ o → IsTrap o
-    traps a has guard Next e = absurd (not_in_guard e a has guard)
-    traps a has guard Call e = absurd (no_call i n s.hart s.memory a has (ap (λ (x : Stepped). x.outcome) (sym step_is) ∙ e))
-    traps a has guard (Trap cause at) e = tt
+    -- what a step that is done found is in no guard, so it is in the data
+    not_in_guard : HasEmptyGuards p s.memory → r.outcome ≡ Next → (a : ℕ) → Accesses i s.hart a → InGuard p a → ⊥
+    not_in_guard empty done a has guard = none_there (byte_at s.memory a) (accessed_is_there s i n r a stands step done has) (empty a guard)
+
+    pub in_data : HasEmptyGuards p s.memory → r.outcome ≡ Next → (a : ℕ) → Accesses i s.hart a → InData p a
+    in_data empty done a has = ⊎_elim (λ inside. inside) (λ guard. absurd (not_in_guard empty done a has guard)) (near a has)
+
+    traps : HasEmptyGuards p s.memory → (a : ℕ) → Accesses i s.hart a → InGuard p a → (o : Outcome) → r.outcome ≡ o → IsTrap o
+    traps empty a has guard Next e = absurd (not_in_guard empty e a has guard)
+    traps empty a has guard Call e = absurd (no_call i n s.hart s.memory a has (ap (λ (x : Stepped). x.outcome) (sym step_is) ∙ e))
+    traps empty a has guard (Trap cause at) e = tt
+
+    -- ---- whatever they hold
+
+    guards_after : (z : Zones) → HasGuards z p s.memory → r.outcome ≡ Next → HasGuards z p r.state.memory
+    guards_after Empty empty done = λ a guard.
+        other_bytes_stay s i n r a stands step (λ has. not_in_guard empty done a has guard)
+        ∙ empty a guard
+    guards_after Padded any done = tt
+
+    pub guards_stay : r.outcome ≡ Next → HasGuards zones p r.state.memory
+    guards_stay done = guards_after zones kept.guards done
+
+    trapped : (z : Zones) → HasGuards z p s.memory → TrapsIn z p s r
+    trapped Empty empty = λ j k there a has guard. traps empty a (subst (λ (x : Instr). Accesses x s.hart a) (only j k there).0 has) guard r.outcome refl
+    trapped Padded any = tt
+
+    stays : (z : Zones) → HasGuards z p s.memory → StaysOutside (changed_in z p) s.memory r.state.memory
+    stays Empty empty = data_alone p s i n r stands step near (λ a has guard. traps empty a has guard r.outcome refl)
+    stays Padded any = λ a out. other_bytes_stay s i n r a stands step (λ has. out (guarded p a right (near a has)))
 
     -- the step is safe, if it calls at a gate alone
-    pub step_safe : (r.outcome ≡ Call → IsGate p s.hart.pc) → IsSafeStep p s r
+    pub step_safe : (r.outcome ≡ Call → IsGate p s.hart.pc) → IsSafeStepAs zones p s r
     step_safe called = record {
       within = λ j k there a has. near a (subst (λ (x : Instr). Accesses x s.hart a) (only j k there).0 has);
-      trapped = λ j k there a has guard. traps a (subst (λ (x : Instr). Accesses x s.hart a) (only j k there).0 has) guard r.outcome refl;
-      stays = data_alone p s i n r stands step near (λ a has guard. traps a has guard r.outcome refl);
+      trapped = trapped zones kept.guards;
+      stays = stays zones kept.guards;
       called = called;
     }
 

@@ -10,7 +10,7 @@ use Rattle.sfi_formats.specs.Formats.{has_words}
 use Rattle.sfi_formats.specs.Limits.{bundle_size, word_size}
 use Rattle.sfi_image.specs.Parts.{IsRightPart, IsBundleStart, reserved_for, reserved_of}
 use Rattle.sfi_image.specs.Spelling.{AreApart, code_region, data_region, guarded_region, Part}
-use Rattle.sfi_safe_runs.specs.Runs.{IsUnitStart, HasReserved, StackInData, IsTyped, IsWordStart, AreWordsTyped, Turn, IsTurn, IsEntry, after_turn}
+use Rattle.sfi_safe_runs.specs.Runs.{IsUnitStart, HasReserved, StackInData, IsTyped, IsWordStart, AreWordsTyped, Setting, HasEcall, Turn, IsTurn, IsEntry, IsEntryAs, IsReplyAs, after_turn}
 use Rattle.sfi_safe_runs.specs.Safety.{IsSafeState, IsSafeTurn, RunsSafelyFrom, GoesSafelyFrom}
 
 -- where every run from a state is safe, the state is safe, and so is each turn from it
@@ -56,6 +56,18 @@ HasEntries =
     (p : Part) (at : ℕ) → IsRightPart p → AreApart (code_region p) (guarded_region p)
     → ((k : ℕ) → slice_index p.code k < 256) → IsUnitStart p at
     → (s : State) × (s.hart.pc ≡ at) × IsEntry p s
+
+-- ---- in every setting
+
+-- an entry of the plain way is one of every setting, so each has entries
+abbrev pub EntersAnyway : Type 0
+EntersAnyway = (t : Setting) (p : Part) (s : State) → IsEntry p s → IsEntryAs t p s
+
+-- where the image has an ecall, an entry of any setting can be replied to, whatever a springboard's bytes
+-- are: so a run goes on behind one
+abbrev pub RepliesAnyway : Type 0
+RepliesAnyway = (t : Setting) (p : Part) (s : State) → IsRightPart p → IsEntryAs t p s
+    → HasEcall p s.hart.pc → (after : State) × IsReplyAs t p s after
 
 -- ---- what the formats ask
 

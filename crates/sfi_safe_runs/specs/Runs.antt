@@ -1,10 +1,12 @@
 -- Runs of a sandbox: its addresses, its typed registers, and what may happen to it.
-use Rattle.std.specs.Prelude.{◌≡◌, ◌+◌, ◌%◌, ◌<◌, ℕ, List, length, slice_get, slice_index, Some, None, ◌≤◌, true, [], ◌∷◌, Option}
+use Rattle.std.specs.Prelude.{◌≡◌, ◌+◌, ◌%◌, ◌<◌, ℕ, List, length, take, drop, slice_get, slice_index, Some, None, ◌≤◌, true, [], ◌∷◌, Option}
+use Rattle.std.specs.List.{Contains}
 use Rattle.sfi_formats.specs.Formats.{code_base_register, code_mask_register, data_base_register, data_mask_register, stack_pointer, is_data_register, code_register, offset_register, unit, has_stack, has_words}
 use Rattle.sfi_image.specs.declared.part.Gate.{Gate}
 use Rattle.sfi_image.specs.declared.span.Span.{Span}
 use Rattle.sfi_image.specs.Spelling.{Part, Holds, InGuards, code_region, data_region}
 use Rattle.sfi_image.specs.Parts.{reserved_of}
+use Rattle.rv_comp.specs.Fronts.{Spells}
 use Rattle.rv_mem.specs.Bytes.{Bytes, byte_at, address_after}
 use Rattle.sfi_formats.specs.Limits.{slack, word_size}
 use Rattle.rv_word.specs.declared.instr.Instr.TheVariants.{Ecall}
@@ -44,15 +46,6 @@ pub record HasReserved (p : Part) (registers : List ℕ) : Type 0 where
   pub data_base : slice_index registers data_base_register ≡ (reserved_of p).data_base
   pub data_mask : slice_index registers data_mask_register ≡ (reserved_of p).data_mask
 
--- at each code address is the image's byte
-abbrev pub HasCode : Part → Bytes → Type 0
-HasCode p m =
-    (k : ℕ) → k < length p.code → byte_at m (p.code_base + k) ≡ Some (slice_index p.code k)
-
--- at no guard address is a byte
-abbrev pub HasEmptyGuards : Part → Bytes → Type 0
-HasEmptyGuards p m = (a : ℕ) → InGuard p a → byte_at m a ≡ None
-
 -- a memory keeps its bytes, or their absence, outside a region
 abbrev pub StaysOutside : Span → Bytes → Bytes → Type 0
 StaysOutside region old new = (a : ℕ) → (Holds region a → ⊥) → byte_at new a ≡ byte_at old a
@@ -91,25 +84,104 @@ pub record IsTyped (p : Part) (registers : List ℕ) : Type 0 where
   pub stack : has_stack p.format ≡ true → InData p (slice_index registers stack_pointer)
   pub words : has_words p.format ≡ true → AreWordsTyped p registers
 
+-- ==== How a host keeps a sandbox and answers its calls: the plain way, and others.
+
+-- What the guard zones hold: no byte, so that each access there traps. Or bytes, which an access then
+-- reads and writes, on a machine that can't keep the zones empty. That memory is to be nobody else's;
+-- nothing is asked of it here.
+pub data Zones : Type 0 where
+  Empty : Zones
+  Padded : Zones
+
+-- How gates are called: by an ecall. Or the host has made those of the listed gates direct that lie at
+-- these addresses: in the place of such a gate's ecall may be a word of the host's own, a springboard, and
+-- control that comes to it is the call. What the machine does from there until the sandbox goes on is the
+-- host's, and no step of the sandbox.
+pub data Calls : Type 0 where
+  ByEcall : Calls
+  Direct : List ℕ → Calls
+
+-- both
+pub record Setting : Type 0 where
+  pub zones : Zones
+  pub calls : Calls
+
+-- calls by an ecall alone
+abbrev pub by_ecall : Zones → Setting
+by_ecall zones = record { zones = zones; calls = ByEcall }
+
+-- and empty guard zones
+abbrev pub plain : Setting
+plain = by_ecall Empty
+
+-- ---- direct gates and their springboards
+
+-- at the address is a listed gate, which is one of those that the host has made direct
+abbrev pub IsDirect : Part → List ℕ → ℕ → Type 0
+IsDirect p direct a = IsGate p a × Contains direct a
+
+-- the address is one of the four of a springboard: those from a direct gate on
+pub record IsInBoard (p : Part) (direct : List ℕ) (a : ℕ) : Type 0 where
+  pub gate : ℕ
+  pub made : IsDirect p direct gate
+  pub from : gate ≤ a
+  pub below : a < gate + 4
+
+-- what is said of an address, unless it is in a springboard
+abbrev pub OffBoards : Calls → Part → ℕ → Type 0 → Type 0
+OffBoards ByEcall p a said = said
+OffBoards (Direct direct) p a said = (IsInBoard p direct a → ⊥) → said
+
+-- what is said where pc is, unless a direct gate is there
+abbrev pub OffGates : Calls → Part → ℕ → Type 0 → Type 0
+OffGates ByEcall p pc said = said
+OffGates (Direct direct) p pc said = (IsDirect p direct pc → ⊥) → said
+
+-- ---- what the memory holds
+
+-- at each code address is the image's byte, and in springboards any
+abbrev pub HasCodeAs : Calls → Part → Bytes → Type 0
+HasCodeAs calls p m = (k : ℕ) → k < length p.code
+    → OffBoards calls p (p.code_base + k) (byte_at m (p.code_base + k) ≡ Some (slice_index p.code k))
+
+-- at each code address is the image's byte
+abbrev pub HasCode : Part → Bytes → Type 0
+HasCode p m = HasCodeAs ByEcall p m
+
+-- at no guard address is a byte
+abbrev pub HasEmptyGuards : Part → Bytes → Type 0
+HasEmptyGuards p m = (a : ℕ) → InGuard p a → byte_at m a ≡ None
+
+-- the guard zones are so
+abbrev pub HasGuards : Zones → Part → Bytes → Type 0
+HasGuards Empty p m = HasEmptyGuards p m
+HasGuards Padded p m = Unit {0}
+
 -- ==== What may happen to a sandbox: where it is entered, and the turns of a run.
 
 -- A sandbox may be entered here: at the start of any bundle, or word, with the reserved registers set,
 -- the typed ones holding what their types say (in the second format, a stack pointer in the data), the
--- image's code in memory, and no byte in the guard zones. All else is arbitrary.
-pub record IsEntry (p : Part) (s : State) : Type 0 where
+-- image's code in memory, and the guard zones as the setting says. All else is arbitrary.
+pub record IsEntryAs (t : Setting) (p : Part) (s : State) : Type 0 where
   pub state : IsState s
   pub start : IsUnitStart p s.hart.pc
   pub reserved : HasReserved p s.hart.registers
   pub typed : IsTyped p s.hart.registers
-  pub code : HasCode p s.memory
-  pub guards : HasEmptyGuards p s.memory
+  pub code : HasCodeAs t.calls p s.memory
+  pub guards : HasGuards t.zones p s.memory
 
 -- ---- turns
 
--- the code's bytes stay, and an address of a guard zone without a byte gets none
-pub record KeepsBytes (p : Part) (before after : Bytes) : Type 0 where
-  pub code : (a : ℕ) → InCode p a → byte_at after a ≡ byte_at before a
-  pub guards : (a : ℕ) → InGuard p a → byte_at before a ≡ None → byte_at after a ≡ None
+-- an address of a guard zone without a byte gets none, where the zones are to be empty
+abbrev pub KeepsGuards : Zones → Part → Bytes → Bytes → Type 0
+KeepsGuards Empty p before after =
+    (a : ℕ) → InGuard p a → byte_at before a ≡ None → byte_at after a ≡ None
+KeepsGuards Padded p before after = Unit {0}
+
+-- the code's bytes stay, but for springboards, and so do empty guards
+pub record KeepsBytesAs (t : Setting) (p : Part) (before after : Bytes) : Type 0 where
+  pub code : (a : ℕ) → InCode p a → OffBoards t.calls p a (byte_at after a ≡ byte_at before a)
+  pub guards : KeepsGuards t.zones p before after
 
 -- the reserved registers stay
 pub record KeepsReserved (before after : Hart) : Type 0 where
@@ -118,24 +190,37 @@ pub record KeepsReserved (before after : Hart) : Type 0 where
   pub data_base : register after data_base_register ≡ register before data_base_register
   pub data_mask : register after data_mask_register ≡ register before data_mask_register
 
+-- the image has an ecall at the address, whatever the memory has there
+pub record HasEcall (p : Part) (a : ℕ) : Type 0 where
+  pub offset : ℕ
+  pub address : a ≡ p.code_base + offset
+  pub within : offset + 4 ≤ length p.code
+  pub spelled : Spells (take 4 (drop offset p.code)) Ecall 4
+
+-- an ecall of `size` bytes asks for a reply at pc: one that stands there; with direct gates one that the
+-- image has, be there a springboard or not
+abbrev pub Asks : Calls → Part → State → ℕ → Type 0
+Asks ByEcall p s size = Stands s Ecall size
+Asks (Direct direct) p s size = HasEcall p s.hart.pc × (size ≡ 4)
+
 -- a reply to the ecall at pc: the sandbox goes on after it, and keeps the reserved registers, the
 -- code and empty guards; the typed registers hold what their types say. All else is arbitrary.
-pub record IsReply (p : Part) (before after : State) : Type 0 where
+pub record IsReplyAs (t : Setting) (p : Part) (before after : State) : Type 0 where
   pub size : ℕ
-  pub asked : Stands before Ecall size
+  pub asked : Asks t.calls p before size
   pub state : IsState after
   pub pc : after.hart.pc ≡ address_after before.hart.pc 4
   pub reserved : KeepsReserved before.hart after.hart
   pub typed : IsTyped p after.hart.registers
-  pub bytes : KeepsBytes p before.memory after.memory
+  pub bytes : KeepsBytesAs t p before.memory after.memory
 
--- A change by others of memory alone, which keeps the code and empty guards. All other memory is
--- arbitrary, even no bytes: then no real machine has the state, and what is said of runs still
--- holds.
-pub record IsChange (p : Part) (before after : State) : Type 0 where
+-- A change by others of memory alone, which keeps the code and empty guards, and may change
+-- springboards. All other memory is arbitrary, even no bytes: then no real machine has the state, and what
+-- is said of runs still holds.
+pub record IsChangeAs (t : Setting) (p : Part) (before after : State) : Type 0 where
   pub pc : after.hart.pc ≡ before.hart.pc
   pub registers : after.hart.registers ≡ before.hart.registers
-  pub bytes : KeepsBytes p before.memory after.memory
+  pub bytes : KeepsBytesAs t p before.memory after.memory
 
 -- a turn: a step of the machine, a reply, or a change by others; the last two with the state after
 -- them
@@ -144,11 +229,16 @@ pub data Turn : Type 0 where
   Replies : State → Turn
   Changes : State → Turn
 
+-- a step of the sandbox: of the machine, and at a direct gate none
+abbrev pub IsStepAs : Calls → Part → State → Stepped → Type 0
+IsStepAs ByEcall p s r = IsStep s r
+IsStepAs (Direct direct) p s r = (IsDirect p direct s.hart.pc → ⊥) × IsStep s r
+
 -- this turn may come at this state
-abbrev pub IsTurn : Part → State → Turn → Type 0
-IsTurn p s (Steps r) = IsStep s r
-IsTurn p s (Replies after) = IsReply p s after
-IsTurn p s (Changes after) = IsChange p s after
+abbrev pub IsTurnAs : Setting → Part → State → Turn → Type 0
+IsTurnAs t p s (Steps r) = IsStepAs t.calls p s r
+IsTurnAs t p s (Replies after) = IsReplyAs t p s after
+IsTurnAs t p s (Changes after) = IsChangeAs t p s after
 
 -- the state after a step: a trap ends the run
 abbrev pub after_step : Outcome → State → Option State
@@ -163,7 +253,33 @@ after_turn (Replies after) = Some after
 after_turn (Changes after) = Some after
 
 -- turns that follow one another from a state: after a trap there are none
+abbrev pub IsRunAs : Setting → Part → Option State → List Turn → Type 0
+IsRunAs t p s [] = Unit {0}
+IsRunAs t p None (turn ∷ turns) = ⊥
+IsRunAs t p (Some s) (turn ∷ turns) = IsTurnAs t p s turn × IsRunAs t p (after_turn turn) turns
+
+-- ---- the plain way: what is said above, of empty guard zones and calls by an ecall
+
+-- where a sandbox may be entered
+abbrev pub IsEntry : Part → State → Type 0
+IsEntry = IsEntryAs plain
+
+-- what a reply and a change by others keep of the memory
+abbrev pub KeepsBytes : Part → Bytes → Bytes → Type 0
+KeepsBytes = KeepsBytesAs plain
+
+-- a reply
+abbrev pub IsReply : Part → State → State → Type 0
+IsReply = IsReplyAs plain
+
+-- a change by others
+abbrev pub IsChange : Part → State → State → Type 0
+IsChange = IsChangeAs plain
+
+-- a turn that may come at this state
+abbrev pub IsTurn : Part → State → Turn → Type 0
+IsTurn = IsTurnAs plain
+
+-- turns that follow one another
 abbrev pub IsRun : Part → Option State → List Turn → Type 0
-IsRun p s [] = Unit {0}
-IsRun p None (turn ∷ turns) = ⊥
-IsRun p (Some s) (turn ∷ turns) = IsTurn p s turn × IsRun p (after_turn turn) turns
+IsRun = IsRunAs plain

@@ -7,8 +7,9 @@ use Rattle.rv_step.specs.declared.outcome.Outcome.{Outcome}
 use Rattle.rv_step.specs.declared.outcome.Outcome.TheVariants.{Next, Call, Trap}
 use Rattle.rv_step.specs.Step.{Accesses, Stepped, Stands}
 use Rattle.rv_step.specs.State.{State}
-use Rattle.sfi_image.specs.Spelling.{Part, data_region}
-use Rattle.sfi_safe_runs.specs.Runs.{InCode, InData, InGuard, IsGate, HasCode, HasReserved, HasEmptyGuards, StaysOutside, Turn, Steps, Replies, Changes, IsEntry, IsRun, after_turn, IsTyped}
+use Rattle.sfi_image.specs.declared.span.Span.{Span}
+use Rattle.sfi_image.specs.Spelling.{Part, data_region, guarded_region}
+use Rattle.sfi_safe_runs.specs.Runs.{InCode, InData, InGuard, IsGate, HasCode, HasReserved, StaysOutside, Zones, Empty, Padded, Calls, ByEcall, Direct, Setting, plain, IsDirect, IsInBoard, OffGates, HasCodeAs, HasGuards, Asks, Turn, Steps, Replies, Changes, IsEntryAs, IsRunAs, after_turn, IsTyped}
 use Rattle.rv_word.specs.declared.instr.Instr.TheVariants.{Ecall}
 
 -- an instruction stands at pc
@@ -17,14 +18,25 @@ pub record HasInstruction (s : State) : Type 0 where
   pub size : ℕ
   pub stands : Stands s instr size
 
--- the code's bytes are the image's, an instruction stands at pc, and pc and each of the
--- instruction's bytes lie in the code region
-pub record IsSafeState (p : Part) (s : State) : Type 0 where
-  pub code : HasCode p s.memory
-  pub present : HasInstruction s
-  pub pc : InCode p s.hart.pc
-  pub instruction :
-      (i : Instr) (n : ℕ) → Stands s i n → (k : ℕ) → k < n → InCode p (address_after s.hart.pc k)
+-- pc is in the code; with direct gates it is in no springboard but at its first address
+abbrev pub IsAtCode : Calls → Part → ℕ → Type 0
+IsAtCode ByEcall p pc = InCode p pc
+IsAtCode (Direct direct) p pc = InCode p pc × (IsInBoard p direct pc → IsDirect p direct pc)
+
+-- the address is one of the sandbox's own code: in the code region, and in no springboard
+abbrev pub IsOwnCode : Calls → Part → ℕ → Type 0
+IsOwnCode ByEcall p a = InCode p a
+IsOwnCode (Direct direct) p a = InCode p a × (IsInBoard p direct a → ⊥)
+
+-- The code's bytes are the image's, and pc lies in the code. Where it is at no direct gate, an instruction
+-- stands at pc, each of whose bytes is one of the sandbox's own code.
+pub record IsSafeStateAs (calls : Calls) (p : Part) (s : State) : Type 0 where
+  pub code : HasCodeAs calls p s.memory
+  pub present : OffGates calls p s.hart.pc (HasInstruction s)
+  pub pc : IsAtCode calls p s.hart.pc
+  pub instruction : OffGates calls p s.hart.pc (
+      (i : Instr) (n : ℕ) → Stands s i n → (k : ℕ) → k < n
+      → IsOwnCode calls p (address_after s.hart.pc k))
 
 -- the step traps
 abbrev pub IsTrap : Outcome → Type 0
@@ -32,36 +44,72 @@ IsTrap Next = ⊥
 IsTrap Call = ⊥
 IsTrap (Trap cause at) = Unit {0}
 
+-- an access in a guard zone that is empty traps
+abbrev pub TrapsIn : Zones → Part → State → Stepped → Type 0
+TrapsIn Empty p s r = (i : Instr) (n : ℕ) → Stands s i n → (a : ℕ) → Accesses i s.hart a
+    → InGuard p a → IsTrap r.outcome
+TrapsIn Padded p s r = Unit {0}
+
+-- what a step may change: the data region; where the guard zones hold bytes, these too
+abbrev pub changed_in : Zones → Part → Span
+changed_in Empty p = data_region p
+changed_in Padded p = guarded_region p
+
 -- Each address that the step accesses lies in the data region or in a guard zone, and if one lies in a
--- guard zone, the step traps. No byte outside the data region changes. A call is at a listed gate.
-pub record IsSafeStep (p : Part) (s : State) (r : Stepped) : Type 0 where
+-- guard zone that is empty, the step traps. No other byte changes. A call is at a listed gate.
+pub record IsSafeStepAs (zones : Zones) (p : Part) (s : State) (r : Stepped) : Type 0 where
   pub within :
       (i : Instr) (n : ℕ) → Stands s i n → (a : ℕ) → Accesses i s.hart a → InData p a ⊎ InGuard p a
-  pub trapped : (i : Instr) (n : ℕ) → Stands s i n → (a : ℕ) → Accesses i s.hart a
-      → InGuard p a → IsTrap r.outcome
-  pub stays : StaysOutside (data_region p) s.memory r.state.memory
+  pub trapped : TrapsIn zones p s r
+  pub stays : StaysOutside (changed_in zones p) s.memory r.state.memory
   pub called : r.outcome ≡ Call → IsGate p s.hart.pc
 
 -- the turn is safe: a reply, too, is made at a listed gate
-abbrev pub IsSafeTurn : Part → State → Turn → Type 0
-IsSafeTurn p s (Steps r) = IsSafeStep p s r
-IsSafeTurn p s (Replies after) = IsGate p s.hart.pc
-IsSafeTurn p s (Changes after) = Unit {0}
+abbrev pub IsSafeTurnAs : Zones → Part → State → Turn → Type 0
+IsSafeTurnAs zones p s (Steps r) = IsSafeStepAs zones p s r
+IsSafeTurnAs zones p s (Replies after) = IsGate p s.hart.pc
+IsSafeTurnAs zones p s (Changes after) = Unit {0}
 
 -- each state and each turn of the run is safe (a trap ends the run in the state before it)
-abbrev pub IsSafeRun : Part → Option State → List Turn → Type 0
-IsSafeRun p None turns = Unit {0}
-IsSafeRun p (Some s) [] = IsSafeState p s
-IsSafeRun p (Some s) (turn ∷ turns) =
-    IsSafeState p s × IsSafeTurn p s turn × IsSafeRun p (after_turn turn) turns
+abbrev pub IsSafeRunAs : Setting → Part → Option State → List Turn → Type 0
+IsSafeRunAs t p None turns = Unit {0}
+IsSafeRunAs t p (Some s) [] = IsSafeStateAs t.calls p s
+IsSafeRunAs t p (Some s) (turn ∷ turns) =
+    IsSafeStateAs t.calls p s × IsSafeTurnAs t.zones p s turn × IsSafeRunAs t p (after_turn turn) turns
 
 -- every run from this state is safe
-pub record RunsSafelyFrom (p : Part) (s : State) : Type 0 where
-  pub safe : (turns : List Turn) → IsRun p (Some s) turns → IsSafeRun p (Some s) turns
+pub record RunsSafelyFromAs (t : Setting) (p : Part) (s : State) : Type 0 where
+  pub safe : (turns : List Turn) → IsRunAs t p (Some s) turns → IsSafeRunAs t p (Some s) turns
 
 -- every run from every state in which the sandbox may be entered is safe
-pub record RunsSafely (p : Part) : Type 0 where
-  pub from : (s : State) → IsEntry p s → RunsSafelyFrom p s
+pub record RunsSafelyAs (t : Setting) (p : Part) : Type 0 where
+  pub from : (s : State) → IsEntryAs t p s → RunsSafelyFromAs t p s
+
+-- ---- the plain way: what is said above, of empty guard zones and calls by an ecall
+
+-- a safe state
+abbrev pub IsSafeState : Part → State → Type 0
+IsSafeState = IsSafeStateAs ByEcall
+
+-- a safe step
+abbrev pub IsSafeStep : Part → State → Stepped → Type 0
+IsSafeStep = IsSafeStepAs Empty
+
+-- a safe turn
+abbrev pub IsSafeTurn : Part → State → Turn → Type 0
+IsSafeTurn = IsSafeTurnAs Empty
+
+-- a safe run
+abbrev pub IsSafeRun : Part → Option State → List Turn → Type 0
+IsSafeRun = IsSafeRunAs plain
+
+-- every run from this state is safe
+abbrev pub RunsSafelyFrom : Part → State → Type 0
+RunsSafelyFrom = RunsSafelyFromAs plain
+
+-- every run from every state in which the sandbox may be entered is safe
+abbrev pub RunsSafely : Part → Type 0
+RunsSafely = RunsSafelyAs plain
 
 -- each of the sandboxes runs safely
 pub record AllRunSafely (ps : List Part) : Type 0 where
@@ -75,22 +123,34 @@ after_turns o [] = o
 after_turns None (turn ∷ turns) = None
 after_turns (Some s) (turn ∷ turns) = after_turns (after_turn turn) turns
 
--- in every run from this state the typed registers hold what their types say wherever an ecall
--- stands
-pub record CallsTypedFrom (p : Part) (s : State) : Type 0 where
-  pub typed : (turns : List Turn) (at : State) (n : ℕ) → IsRun p (Some s) turns
-      → after_turns (Some s) turns ≡ Some at → Stands at Ecall n → IsTyped p at.hart.registers
+-- The sandbox calls here, by an ecall of `size` bytes that stands at pc. With direct gates: the image has an
+-- ecall at pc, be there a springboard or not, or the memory has one where no gate is direct. Of a direct
+-- gate at which the image has no ecall nothing is said: a host makes none of these direct, since the typed
+-- registers may be on their way there.
+abbrev pub IsCalling : Calls → Part → State → ℕ → Type 0
+IsCalling ByEcall p s size = Stands s Ecall size
+IsCalling (Direct direct) p s size =
+    Asks (Direct direct) p s size ⊎ (Stands s Ecall size × (IsDirect p direct s.hart.pc → ⊥))
+
+-- in every run from this state the typed registers hold what their types say wherever the sandbox calls
+pub record CallsTypedFromAs (t : Setting) (p : Part) (s : State) : Type 0 where
+  pub typed : (turns : List Turn) (at : State) (n : ℕ) → IsRunAs t p (Some s) turns
+      → after_turns (Some s) turns ≡ Some at → IsCalling t.calls p at n → IsTyped p at.hart.registers
 
 -- every run from this state is safe, and makes its calls with the typed registers as their types
 -- say: what a world keeps of each sandbox
 pub record GoesSafelyFrom (p : Part) (s : State) : Type 0 where
   pub safe : RunsSafelyFrom p s
-  pub calls : CallsTypedFrom p s
+  pub calls : CallsTypedFromAs plain p s
 
 -- in every run from every state in which the sandbox may be entered, calls are made with the typed
 -- registers as their types say
-pub record CallsTyped (p : Part) : Type 0 where
-  pub from : (s : State) → IsEntry p s → CallsTypedFrom p s
+pub record CallsTypedAs (t : Setting) (p : Part) : Type 0 where
+  pub from : (s : State) → IsEntryAs t p s → CallsTypedFromAs t p s
+
+-- calls are made with the typed registers as their types say
+abbrev pub CallsTyped : Part → Type 0
+CallsTyped = CallsTypedAs plain
 
 -- each of the sandboxes makes its calls with the typed registers as their types say
 pub record AllCallTyped (ps : List Part) : Type 0 where
@@ -99,9 +159,13 @@ pub record AllCallTyped (ps : List Part) : Type 0 where
 -- ==== What no turn changes, from an entry of code that breaks no rule on.
 
 -- there are 32 registers, the reserved ones hold their values, the code has the image's bytes, and
--- no byte is in the guard zones
-pub record KeepsAll (p : Part) (s : State) : Type 0 where
+-- the guard zones are as they should be
+pub record KeepsAllAs (zones : Zones) (p : Part) (s : State) : Type 0 where
   pub count : length s.hart.registers ≡ 32
   pub reserved : HasReserved p s.hart.registers
   pub code : HasCode p s.memory
-  pub guards : HasEmptyGuards p s.memory
+  pub guards : HasGuards zones p s.memory
+
+-- the same where the guard zones are empty
+abbrev pub KeepsAll : Part → State → Type 0
+KeepsAll = KeepsAllAs Empty

@@ -3,14 +3,14 @@ use Rattle.sfi_safety.proofs.Prelude.{◌≡◌, ℕ, zero, suc, ◌+◌, ◌-�
 use Rattle.std.specs.Prelude.{IfSome, slice_get}
 use Rattle.rv_step.specs.Laws.{AgreeHere, IsSameStep}
 use Rattle.rv_comp.specs.declared.front.Front.TheVariants.{Read}
-use Rattle.rv_step.proofs.Facts.{one_instruction, stopped_stays, some_step, agreeing_stands_too, agreeing_steps_are_same}
+use Rattle.rv_step.proofs.Facts.{one_instruction, stopped_stays, some_step, agreeing_stands_too, agreeing_steps_are_same, other_bytes_stay}
 use Rattle.sfi_image.specs.declared.span.Span.{Span}
 use Rattle.sfi_image.proofs.Facts.{code_ends}
-use Rattle.sfi_safe_runs.specs.Safety.{KeepsAll, IsTrap, IsSafeTurn}
-use Rattle.sfi_safe_runs.specs.Runs.{KeepsReserved}
-use Rattle.sfi_safe_runs.specs.Direct.{IsDirect, IsInBoard, HasEcall, HasCodeButBoards, KeepsButBoards, IsDirectEntry, IsDirectReply, IsDirectChange, IsDirectTurn, IsDirectRun, IsDirectState, IsDirectSafeRun, RunsDirectly, IsCalling, CallsTypedDirectly}
+use Rattle.sfi_safe_runs.specs.Safety.{KeepsAllAs, IsTrap, TrapsIn, changed_in, IsSafeStateAs, IsSafeStepAs, IsSafeTurnAs, IsSafeRunAs, RunsSafelyAs, IsCalling, CallsTypedAs}
+use Rattle.sfi_safe_runs.specs.Runs.{KeepsReserved, Zones, Empty, Padded, Calls, Direct, Setting, by_ecall, IsDirect, IsInBoard, HasEcall, HasCodeAs, HasGuards, KeepsGuards, KeepsBytesAs, StaysOutside, IsEntryAs, IsReplyAs, IsChangeAs, IsTurnAs, IsRunAs}
 use Rattle.sfi_safe_runs.proofs.Entries.{bytes_over, there, elsewhere}
 use Rattle.sfi_safe_runs.proofs.Stepping.{stands_there, guarded, data_alone}
+use Rattle.sfi_safe_runs.proofs.SafeRuns.{no_change}
 use Rattle.sfi_word_safety.proofs.Places.{bundles_whole}
 
 -- ---- units of code
@@ -97,7 +97,7 @@ module _ (p : Part) (right : IsRightPart p) (direct : List ℕ) where
       (cases_lt a p.code_base)
 
   -- it is the memory itself, but in springboards
-  whole_same : (m : Bytes) → HasCodeButBoards p direct m → (a : ℕ) → (IsInBoard p direct a → ⊥) → byte_at (whole m) a ≡ byte_at m a
+  whole_same : (m : Bytes) → HasCodeAs (Direct direct) p m → (a : ℕ) → (IsInBoard p direct a → ⊥) → byte_at (whole m) a ≡ byte_at m a
   whole_same m code a out = by (in_or_out a)
     where
       by : InCode p a ⊎ ((a < p.code_base) ⊎ (p.code_base + length p.code ≤ a)) → byte_at (whole m) a ≡ byte_at m a
@@ -115,21 +115,25 @@ module _ (p : Part) (right : IsRightPart p) (direct : List ℕ) where
     near_out : (a : ℕ) → InData p a ⊎ InGuard p a → IsInBoard p direct a → ⊥
     near_out a near board = apart a (in_code a board) (guarded p a right near)
 
-    whole_guards : (m : Bytes) → HasCodeButBoards p direct m → ((a : ℕ) → InGuard p a → byte_at m a ≡ None) → (a : ℕ) → InGuard p a → byte_at (whole m) a ≡ None
-    whole_guards m code none a guard = whole_same m code a (near_out a (inr guard)) ∙ none a guard
+    whole_guards : (z : Zones) (m : Bytes) → HasCodeAs (Direct direct) p m → HasGuards z p m → HasGuards z p (whole m)
+    whole_guards Empty m code empty = λ a guard. whole_same m code a (near_out a (inr guard)) ∙ empty a guard
+    whole_guards Padded m code any = tt
 
     -- ---- good states
 
     -- states of the image's own runs are good, if an entry is good, a turn from a good state is safe and
     -- leads to a good one, so does a reply whatever its memory, the instruction there fits into its unit, a step goes on after it or to
     -- a start, and the typed registers hold what their types say at an ecall
-    module _ (IsGood : State → Type 0)
-        (enters : (s : State) → KeepsAll p s → IsUnitStart p s.hart.pc → IsTyped p s.hart.registers → IsGood s)
-        (keeps : (s : State) (turn : Turn) → IsGood s → IsTurn p s turn → IsSafeState p s × IsSafeTurn p s turn × IfSome (after_turn turn) IsGood)
-        (replies : (s after : State) (n : ℕ) → IsGood s → Stands s Ecall n → after.hart.pc ≡ address_after s.hart.pc 4 → length after.hart.registers ≡ 32 → KeepsReserved s.hart after.hart → IsTyped p after.hart.registers → KeepsBytes p s.memory after.memory → IsGood after)
+    module _ (zones : Zones) (IsGood : State → Type 0)
+        (enters : (s : State) → KeepsAllAs zones p s → IsUnitStart p s.hart.pc → IsTyped p s.hart.registers → IsGood s)
+        (keeps : (s : State) (turn : Turn) → IsGood s → IsTurnAs (by_ecall zones) p s turn → IsSafeState p s × IsSafeTurnAs zones p s turn × IfSome (after_turn turn) IsGood)
+        (replies : (s after : State) (n : ℕ) → IsGood s → Stands s Ecall n → after.hart.pc ≡ address_after s.hart.pc 4 → length after.hart.registers ≡ 32 → KeepsReserved s.hart after.hart → IsTyped p after.hart.registers → KeepsBytesAs (by_ecall zones) p s.memory after.memory → IsGood after)
         (fits : (s : State) (i : Instr) (n : ℕ) → IsGood s → Stands s i n → s.hart.pc % unit p.format + n ≤ unit p.format)
         (goes : (s : State) (i : Instr) (n : ℕ) (r : Stepped) → IsGood s → Stands s i n → IsStep s r → r.outcome ≡ Next → (r.state.hart.pc ≡ address_after s.hart.pc n) ⊎ IsUnitStart p r.state.hart.pc)
         (typed : (s : State) (n : ℕ) → IsGood s → Stands s Ecall n → IsTyped p s.hart.registers) where
+      abbrev t : Setting
+      t = record { zones = zones; calls = Direct direct }
+
       -- with another memory, which has the image's bytes in the springboards, the state is good
       record IsHeld (s : State) : Type 0 where
         there : Bytes
@@ -137,11 +141,11 @@ module _ (p : Part) (right : IsRightPart p) (direct : List ℕ) where
         same : (a : ℕ) → (IsInBoard p direct a → ⊥) → byte_at there a ≡ byte_at s.memory a
         front : IsInBoard p direct s.hart.pc → IsDirect p direct s.hart.pc
 
-      entry_held : (s : State) → IsDirectEntry p direct s → IsHeld s
+      entry_held : (s : State) → IsEntryAs t p s → IsHeld s
       entry_held s entry = record {
         there = whole s.memory;
         good = enters (record { hart = s.hart; memory = whole s.memory })
-            (record { count = entry.state.hart.count; reserved = entry.reserved; code = whole_code s.memory; guards = whole_guards s.memory entry.code entry.guards })
+            (record { count = entry.state.hart.count; reserved = entry.reserved; code = whole_code s.memory; guards = whole_guards zones s.memory entry.code entry.guards })
             entry.start entry.typed;
         same = whole_same s.memory entry.code;
         front = start_front s.hart.pc entry.start;
@@ -153,9 +157,9 @@ module _ (p : Part) (right : IsRightPart p) (direct : List ℕ) where
         own = record { hart = s.hart; memory = held.there }
 
         own_safe : IsSafeState p own
-        own_safe = (keeps own (Changes own) held.good (record { pc = refl; registers = refl; bytes = record { code = λ a inside. refl; guards = λ a inside e. e } })).0
+        own_safe = (keeps own (Changes own) held.good (no_change zones p own)).0
 
-        code_here : HasCodeButBoards p direct s.memory
+        code_here : HasCodeAs (Direct direct) p s.memory
         code_here k below out = sym (held.same (p.code_base + k) out) ∙ own_safe.code k below
 
         -- ---- where no gate is
@@ -197,7 +201,7 @@ module _ (p : Part) (right : IsRightPart p) (direct : List ℕ) where
           q : (r : Stepped) × IsStep own r
           q = some_step own
 
-          kept : IsSafeState p own × IsSafeStep p own q.0 × IfSome (after_step q.0.outcome q.0.state) IsGood
+          kept : IsSafeState p own × IsSafeStepAs zones p own q.0 × IfSome (after_step q.0.outcome q.0.state) IsGood
           kept = keeps own (Steps q.0) held.good q.1
 
           agree : AgreeHere own s own_safe.present.instr own_safe.present.size
@@ -242,14 +246,24 @@ module _ (p : Part) (right : IsRightPart p) (direct : List ℕ) where
             same_step : IsSameStep own s q.0 r
             same_step = agreeing_steps_are_same own s i n q.0 r agree q.1 step
 
-            step_safe : IsSafeStep p s r
+            near : (a : ℕ) → Accesses own_safe.present.instr s.hart a → InData p a ⊎ InGuard p a
+            near a has = kept.1.within i n own_safe.present.stands a has
+
+            trapped : (z : Zones) → TrapsIn z p own q.0 → TrapsIn z p s r
+            trapped Empty traps = λ j k stands a has guard.
+                subst (λ (o : Outcome). IsTrap o) (sym same_step.outcome)
+                (traps i n own_safe.present.stands a (subst (λ (x : Instr). Accesses x s.hart a) (only j k stands).0 has) guard)
+            trapped Padded any = tt
+
+            stays : (z : Zones) → TrapsIn z p own q.0 → StaysOutside (changed_in z p) s.memory r.state.memory
+            stays Empty traps = data_alone p s i n r stands_here step near (λ a has guard. subst (λ (o : Outcome). IsTrap o) (sym same_step.outcome) (traps i n own_safe.present.stands a has guard))
+            stays Padded any = λ a out. other_bytes_stay s i n r a stands_here step (λ has. out (guarded p a right (near a has)))
+
+            step_safe : IsSafeStepAs zones p s r
             step_safe = record {
-              within = λ j k stands a has. kept.1.within i n own_safe.present.stands a (subst (λ (x : Instr). Accesses x s.hart a) (only j k stands).0 has);
-              trapped = λ j k stands a has guard.
-                  subst (λ (o : Outcome). IsTrap o) (sym same_step.outcome)
-                  (kept.1.trapped i n own_safe.present.stands a (subst (λ (x : Instr). Accesses x s.hart a) (only j k stands).0 has) guard);
-              stays = data_alone p s i n r stands_here step (kept.1.within i n own_safe.present.stands)
-                  (λ a has guard. subst (λ (o : Outcome). IsTrap o) (sym same_step.outcome) (kept.1.trapped i n own_safe.present.stands a has guard));
+              within = λ j k stands a has. near a (subst (λ (x : Instr). Accesses x s.hart a) (only j k stands).0 has);
+              trapped = trapped zones kept.1.trapped;
+              stays = stays zones kept.1.trapped;
               called = λ e. kept.1.called (sym same_step.outcome ∙ e);
             }
 
@@ -279,28 +293,28 @@ module _ (p : Part) (right : IsRightPart p) (direct : List ℕ) where
 
         -- ---- the state
 
-        state_safe : IsDirectState p direct s
+        state_safe : IsSafeStateAs (Direct direct) p s
         state_safe = record {
           code = code_here;
-          pc = own_safe.pc;
-          front = held.front;
+          pc = (own_safe.pc, held.front);
           present = λ away. record { instr = own_safe.present.instr; size = own_safe.present.size; stands = stands_here away };
           instruction = instruction_here;
         }
 
         -- ---- what is not a step
 
-        module _ (after : Bytes) (keep : KeepsButBoards p direct s.memory after) where
-          code_after : HasCodeButBoards p direct after
+        module _ (after : Bytes) (keep : KeepsBytesAs t p s.memory after) where
+          code_after : HasCodeAs (Direct direct) p after
           code_after k below out = keep.code (p.code_base + k) (omega arith, omega (arith, below)) out ∙ code_here k below out
 
-          own_keeps : KeepsBytes p held.there (whole after)
-          own_keeps = record {
-            code = in_it;
-            guards = λ a guard none.
-                whole_same after code_after a (near_out a (inr guard))
-                ∙ keep.guards a guard (sym (held.same a (near_out a (inr guard))) ∙ none);
-          }
+          own_guards : (z : Zones) → KeepsGuards z p s.memory after → KeepsGuards z p held.there (whole after)
+          own_guards Empty keeps_none = λ a guard none.
+              whole_same after code_after a (near_out a (inr guard))
+              ∙ keeps_none a guard (sym (held.same a (near_out a (inr guard))) ∙ none)
+          own_guards Padded any = tt
+
+          own_keeps : KeepsBytesAs (by_ecall zones) p held.there (whole after)
+          own_keeps = record { code = in_it; guards = own_guards zones keep.guards }
             where
               in_it : (a : ℕ) → InCode p a → byte_at (whole after) a ≡ byte_at held.there a
               in_it a (from, below) = at_offset (a - p.code_base) (omega arith) (omega arith)
@@ -308,7 +322,7 @@ module _ (p : Part) (right : IsRightPart p) (direct : List ℕ) where
                   at_offset : (k : ℕ) → a ≡ p.code_base + k → k < length p.code → byte_at (whole after) a ≡ byte_at held.there a
                   at_offset k e less = ap (byte_at (whole after)) e ∙ whole_code after k less ∙ sym (own_safe.code k less) ∙ ap (byte_at held.there) (sym e)
 
-        change_held : (after : State) → IsDirectChange p direct s after → IsHeld after
+        change_held : (after : State) → IsChangeAs t p s after → IsHeld after
         change_held after c = record {
           there = whole after.memory;
           good = (keeps own (Changes (record { hart = after.hart; memory = whole after.memory })) held.good (record { pc = c.pc; registers = c.registers; bytes = own_keeps after.memory c.bytes })).2;
@@ -341,25 +355,25 @@ module _ (p : Part) (right : IsRightPart p) (direct : List ℕ) where
               (λ (up : pc ≤ board.gate). let same : board.gate ≡ pc = omega arith in subst (λ (x : ℕ). IsDirect p direct x) same board.made)
               (cases_lt board.gate pc)
 
-        reply_held : (after : State) → IsDirectReply p direct s after → IsHeld after
+        reply_held : (after : State) → IsReplyAs t p s after → IsHeld after
         reply_held after r = record {
           there = whole after.memory;
-          good = replies own (record { hart = after.hart; memory = whole after.memory }) 4 held.good (own_ecall r.asked) r.pc r.state.hart.count r.reserved r.typed (own_keeps after.memory r.bytes);
+          good = replies own (record { hart = after.hart; memory = whole after.memory }) 4 held.good (own_ecall r.asked.0) r.pc r.state.hart.count r.reserved r.typed (own_keeps after.memory r.bytes);
           same = whole_same after.memory (code_after after.memory r.bytes);
-          front = front_replied r.asked after.hart.pc r.pc;
+          front = front_replied r.asked.0 after.hart.pc r.pc;
         }
 
-        turn_held : (turn : Turn) → IsDirectTurn p direct s turn → IfSome (after_turn turn) (λ x. IsHeld x)
+        turn_held : (turn : Turn) → IsTurnAs t p s turn → IfSome (after_turn turn) (λ x. IsHeld x)
         turn_held (Steps r) h = after_held h.0 r h.1
         turn_held (Replies after) h = reply_held after h
         turn_held (Changes after) h = change_held after h
 
-        turn_safe : (turn : Turn) → IsDirectTurn p direct s turn → IsSafeTurn p s turn
+        turn_safe : (turn : Turn) → IsTurnAs t p s turn → IsSafeTurnAs zones p s turn
         turn_safe (Steps r) h = step_safe h.0 r h.1
-        turn_safe (Replies after) h = own_gate h.asked
+        turn_safe (Replies after) h = own_gate h.asked.0
         turn_safe (Changes after) h = tt
 
-      run_safe : (turns : List Turn) (o : Option State) → IfSome o (λ x. IsHeld x) → IsDirectRun p direct o turns → IsDirectSafeRun p direct o turns
+      run_safe : (turns : List Turn) (o : Option State) → IfSome o (λ x. IsHeld x) → IsRunAs t p o turns → IsSafeRunAs t p o turns
       run_safe [] None held run = tt
       run_safe [] (Some s) held run = state_safe s held
       run_safe (turn ∷ turns) None held run = tt
@@ -371,22 +385,24 @@ module _ (p : Part) (right : IsRightPart p) (direct : List ℕ) where
 
       -- ---- calls
 
-      run_held : (turns : List Turn) (o : Option State) → IfSome o (λ x. IsHeld x) → IsDirectRun p direct o turns → IfSome (after_turns o turns) (λ x. IsHeld x)
+      run_held : (turns : List Turn) (o : Option State) → IfSome o (λ x. IsHeld x) → IsRunAs t p o turns → IfSome (after_turns o turns) (λ x. IsHeld x)
       run_held [] o held run = held
       run_held (turn ∷ turns) None held run = tt
       run_held (turn ∷ turns) (Some s) held run = run_held turns (after_turn turn) (turn_held s held turn run.0) run.1
 
-      call_typed : (s : State) → IsHeld s → IsCalling p direct s → IsTyped p s.hart.registers
-      call_typed s held (inl asked) = typed (own s held) 4 held.good (own_ecall s held asked)
-      call_typed s held (inr (n, stands, away)) =
+      call_typed : (s : State) (n : ℕ) → IsHeld s → IsCalling (Direct direct) p s n → IsTyped p s.hart.registers
+      call_typed s n held (inl (asked, four)) = typed (own s held) 4 held.good (own_ecall s held asked)
+      call_typed s n held (inr (stands, away)) =
           let here = (own_safe s held).present in
           typed (own s held) here.size held.good (subst (λ (x : Instr). Stands (own s held) x here.size) (sym (only s held away Ecall n stands).0) here.stands)
 
-      pub runs_and_calls : RunsDirectly p direct × CallsTypedDirectly p direct
+      pub runs_and_calls : RunsSafelyAs t p × CallsTypedAs t p
       runs_and_calls = (
-        record { from = λ s entry turns run. run_safe turns (Some s) (entry_held s entry) run },
+        record { from = λ s entry. record { safe = λ turns run. run_safe turns (Some s) (entry_held s entry) run } },
         record {
-          from = λ s entry turns at run after calls.
-              call_typed at (subst (λ (o : Option State). IfSome o (λ x. IsHeld x)) after (run_held turns (Some s) (entry_held s entry) run)) calls;
+          from = λ s entry. record {
+            typed = λ turns at n run after calls.
+                call_typed at n (subst (λ (o : Option State). IfSome o (λ x. IsHeld x)) after (run_held turns (Some s) (entry_held s entry) run)) calls;
+          };
         },
       )

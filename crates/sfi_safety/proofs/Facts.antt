@@ -3,7 +3,7 @@ use Rattle.std.specs.Prelude.{◌≡◌, false}
 use Rattle.sfi_formats.specs.declared.format.Format.{Format}
 use Rattle.sfi_formats.specs.Formats.{has_words}
 use Rattle.sfi_rules.specs.declared.rule.Rule.TheVariants.{V1, V2, V3, V4, V5, V6, V7, V8, V9, V10, V11, V12}
-use Rattle.sfi_safety.specs.Laws.{InstructionLeaves, TurnKeeps, EntryIsGood, CleanRunsSafely, CleanCallsTyped, CleanRunsContained, CleanPaddedCallsTyped, CleanRunsDirectly, CleanDirectCallsTyped}
+use Rattle.sfi_safety.specs.Laws.{InstructionLeaves, TurnKeeps, EntryIsGood, CleanRunsSafely, CleanCallsTyped, CleanRunsSafelyAs, CleanCallsTypedAs}
 use Rattle.sfi_safety.specs.Needed.{IsNeeded, EachRuleIsNeeded, EachRuleOfWordsIsNeeded, IsStricter, IsAcceptedAndRuns}
 use Rattle.sfi_safety.specs.Samples.{sandbox, undecodable, crossing_store, ecall_at_no_gate, written_rd_forgotten, pair_on_x0, pair_across_bundles, jalr_offset_ignored, jump_to_any_start, running_off_the_end, gate_comes_back_elsewhere, stack_not_put_back, undecodable_after_ebreak, crossing_after_ebreak, ecall_after_ebreak, nops_after_ebreak, sandboxed_store}
 use Rattle.sfi_safety.specs.WordSamples.{undecodable_word, crossing_words, ecall_in_words, data_base_written, untyped_base, jump_past_its_register, jump_out, nop_at_the_end, data_register_not_put_back, code_register_not_put_back, offset_not_masked, stored_in_words}
@@ -12,7 +12,7 @@ use Rattle.sfi_safety.proofs.NeededWords as words
 use Rattle.sfi_safety.proofs.Sandboxed as sandboxed
 use Rattle.sfi_safety.proofs.Stricter as stricter
 use Rattle.sfi_safety.proofs.Registers.{leaves_after}
-use Rattle.sfi_safety.proofs.Safe.{clean_runs, clean_calls, clean_contained, clean_padded_calls, clean_direct, clean_direct_calls}
+use Rattle.sfi_safety.proofs.Safe.{clean_runs, clean_calls, clean_runs_as, clean_calls_as}
 use Rattle.sfi_safety.proofs.Stepping as invariant
 
 pub instruction_leaves : InstructionLeaves
@@ -30,17 +30,11 @@ clean_runs_safely = clean_runs
 pub clean_calls_typed : CleanCallsTyped
 clean_calls_typed = clean_calls
 
-pub clean_runs_contained : CleanRunsContained
-clean_runs_contained = clean_contained
+pub clean_runs_safely_as : CleanRunsSafelyAs
+clean_runs_safely_as = clean_runs_as
 
-pub clean_padded_calls_typed : CleanPaddedCallsTyped
-clean_padded_calls_typed = clean_padded_calls
-
-pub clean_runs_directly : CleanRunsDirectly
-clean_runs_directly = clean_direct
-
-pub clean_direct_calls_typed : CleanDirectCallsTyped
-clean_direct_calls_typed = clean_direct_calls
+pub clean_calls_typed_as : CleanCallsTypedAs
+clean_calls_typed_as = clean_calls_as
 
 -- ---- each rule is needed
 

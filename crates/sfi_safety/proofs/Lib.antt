@@ -10,7 +10,6 @@ pub mod Samples
 pub mod Sandboxed
 pub mod Registers
 pub mod Stepping
-pub mod Padded
 pub mod Direct
 pub mod Safe
 pub mod Facts

@@ -27,7 +27,7 @@ pub use Rattle.sfi_rules.specs.Findings.{AreBundleFindings, AreReadingFindings, 
 pub use Rattle.sfi_rules.specs.Rules.{InstrInBundle, is_empty, is_bundle_start, breaks_ecall, breaks_reserved, breaks_access, breaks_jump, breaks_target, breaks_stack, may_access, ends_region, breaks, breaks_end, may_write_stack}
 pub use Rattle.sfi_image.specs.declared.bundle.BundlePlace.{BundlePlace}
 pub use Rattle.sfi_rules.specs.declared.finding.Finding.{Finding}
-pub use Rattle.sfi_safety.specs.Laws.{CleanCallsTyped, CleanRunsContained, CleanPaddedCallsTyped, CleanRunsDirectly, CleanDirectCallsTyped, InstructionLeaves, TurnKeeps, EntryIsGood, CleanRunsSafely}
+pub use Rattle.sfi_safety.specs.Laws.{CleanCallsTyped, InstructionLeaves, TurnKeeps, EntryIsGood, CleanRunsSafely}
 pub use Rattle.sfi_safety.specs.Places.{Leaves, WritesResult, follows_mask, IsCleanPart, AreCleanBundles, IsGood, IsGoodIf, StackInDataBefore, IsAtPlace}
 pub use Rattle.sfi_safety.specs.Needed.{BreaksAloneInBundle, IsNeeded, EachRuleIsNeeded, HasOneFinding, HasUnsafeRun, StoresByte, IsAcceptedAndRuns, IsStricter, BreaksNoOther, BreaksAlone, BreaksAloneInWord, IsOwedBefore}
 pub use Rattle.sfi_safe_runs.specs.Runs.{InData, InGuard, HasReserved, IsGate, HasCode, IsUnitStart, InCode, StackInData, IsTyped, Turn, IsRun, after_turn, IsEntry, Steps, Replies, IsReply, IsTurn, after_step, KeepsBytes, Changes, IsChange}

@@ -1,30 +1,34 @@
 -- Code without a finding runs safely, whatever its format, with direct gates too.
-use Rattle.sfi_safety.proofs.Prelude.{◌≡◌, ℕ, ◌+◌, ◌*◌, ◌%◌, ◌≤◌, ◌⊎◌, List, length, sym, ap, ◌∙◌, subst, inl, inr, arith, Instr, Ecall, address_after, Outcome, Next, State, Stepped, Stands, IsStep, unit, Part, IsUnitStart, IsTyped, KeepsBytes, AreCleanBundles, IsGood, ⊎_elim, drop, zero, suc, [], ◌∷◌, Bool, true, false, refl, All, has_words, AreApart, code_region, guarded_region, AreRight, Finding, AreFindings, AreFindingsFrom, RunsSafely, AllRunSafely, IsCleanPart, CleanRunsSafely, CleanCallsTyped, CleanRunsContained, CleanPaddedCallsTyped, CleanRunsDirectly, CleanDirectCallsTyped, IsClean, MayRun}
-use Rattle.sfi_safe_runs.specs.Direct.{RunsDirectly, CallsTypedDirectly}
-use Rattle.sfi_safe_runs.specs.Runs.{KeepsReserved}
+use Rattle.sfi_safety.proofs.Prelude.{◌≡◌, ℕ, ◌+◌, ◌*◌, ◌%◌, ◌≤◌, ◌⊎◌, List, length, sym, ap, ◌∙◌, subst, inl, inr, arith, Instr, Ecall, address_after, Outcome, Next, State, Stepped, Stands, IsStep, unit, Part, IsUnitStart, IsTyped, KeepsBytes, AreCleanBundles, ⊎_elim, drop, zero, suc, [], ◌∷◌, Bool, true, false, refl, All, has_words, AreApart, code_region, guarded_region, AreRight, Finding, AreFindings, AreFindingsFrom, RunsSafely, AllRunSafely, IsCleanPart, CleanRunsSafely, CleanCallsTyped, IsClean, MayRun}
+use Rattle.sfi_safe_runs.specs.Runs.{KeepsReserved, Zones, Empty, Padded, Calls, ByEcall, Direct, Setting, plain, by_ecall, KeepsBytesAs}
+use Rattle.sfi_safe_runs.specs.Safety.{RunsSafelyAs, CallsTyped, CallsTypedAs, AllCallTyped}
 use Rattle.sfi_safe_runs.proofs.SafeRuns.{kept_after}
 use Rattle.sfi_safe_runs.proofs.Entries.{bundles, to_bundle, of_bundle, words as unit_is_word, to_word, of_word}
 use Rattle.sfi_word_safety.proofs.Places.{bundles_whole, at_start as at_word_start, base_aligned, sized}
+use Rattle.sfi_safety.specs.Laws.{MayHave, CleanRunsSafelyAs, CleanCallsTypedAs}
+use Rattle.sfi_safety.specs.Places.{IsGoodAs}
 use Rattle.sfi_safety.proofs.Direct.{runs_and_calls}
 use Rattle.sfi_safety.proofs.Effects.{GoesTo, Leads}
 use Rattle.sfi_safety.proofs.Places.{at_start, here_within, nothing_before}
 use Rattle.sfi_safety.proofs.Stepping as standing
-use Rattle.sfi_safety.proofs.Stepping.{step_leads, turn_keeps, good_calls, bundles_run, bundles_call}
+use Rattle.sfi_safety.proofs.Stepping.{step_leads}
 use Rattle.sfi_word_safety.specs.Code.{IsCleanInWords, IsGoodInWords}
 use Rattle.sfi_word_safety.proofs.Effects.{Leads as WordLeads}
 use Rattle.sfi_word_safety.proofs.Facts.{turn_keeps as words_turn_keeps}
 use Rattle.sfi_word_safety.proofs.Stepping.{only, step_leads as word_step_leads, place_replied, good_calls as good_words_call}
 use Rattle.sfi_rules.proofs.Facts.{in_bundles, in_words}
-use Rattle.sfi_safe_runs.specs.Safety.{CallsTyped, AllCallTyped}
 use Rattle.sfi_word_safety.specs.Code as words
 use Rattle.sfi_word_safety.proofs.Facts as words_facts
-use Rattle.sfi_safety.proofs.Padded.{bundles_contained, bundles_call_padded}
+
+-- in this setting every run is safe, and every call made with the typed registers as their types say
+abbrev IsSafeAs : Setting → Part → Type 0
+IsSafeAs t p = RunsSafelyAs t p × CallsTypedAs t p
 
 -- ==== Code in bundles that breaks no rule runs safely with direct gates.
 
 -- ---- a good state
 
-module _ (sandbox : ℕ) (p : Part) (clean : AreCleanBundles sandbox p) (s : State) (i : Instr) (n : ℕ) (good : IsGood sandbox p s) (stands : Stands s i n) where
+module _ (zones : Zones) (sandbox : ℕ) (p : Part) (clean : AreCleanBundles sandbox p) (s : State) (i : Instr) (n : ℕ) (good : IsGoodAs zones sandbox p s) (stands : Stands s i n) where
   size_is : n ≡ good.place.here.size
   size_is = (standing.only sandbox p s clean good.place good.kept.code i n stands).1
 
@@ -39,28 +43,33 @@ module _ (sandbox : ℕ) (p : Part) (clean : AreCleanBundles sandbox p) (s : Sta
       subst (λ (u : ℕ). s.hart.pc % u + n ≤ u) (sym (bundles p.format clean.bundles)) sixteen
 
   goes : (r : Stepped) → IsStep s r → r.outcome ≡ Next → (r.state.hart.pc ≡ address_after s.hart.pc n) ⊎ IsUnitStart p r.state.hart.pc
-  goes r step done = by (subst (λ (o : Outcome). Leads sandbox p s.hart good.place.here.size o r.state.hart) done (step_leads sandbox p s clean good r step)).1
+  goes r step done = by (subst (λ (o : Outcome). Leads sandbox p s.hart good.place.here.size o r.state.hart) done (step_leads zones sandbox p s clean good r step)).1
     where
       by : GoesTo p s.hart good.place.here.size r.state.hart.pc → (r.state.hart.pc ≡ address_after s.hart.pc n) ⊎ IsUnitStart p r.state.hart.pc
       by (inl on) = inl (on ∙ ap (λ (k : ℕ). address_after s.hart.pc k) (sym size_is))
       by (inr start) = inr (of_bundle p r.state.hart.pc clean.bundles start)
 
 -- a reply, whatever its memory but the code and the guard zones
-replied : (sandbox : ℕ) (p : Part) (clean : AreCleanBundles sandbox p) (s : State) (n : ℕ) → IsGood sandbox p s → Stands s Ecall n → (after : State) → after.hart.pc ≡ address_after s.hart.pc 4 → length after.hart.registers ≡ 32 → KeepsReserved s.hart after.hart → IsTyped p after.hart.registers → KeepsBytes p s.memory after.memory → IsGood sandbox p after
-replied sandbox p clean s n good asked after pc count reserved typed bytes = record {
-  kept = kept_after p s after good.kept count reserved bytes;
+replied : (zones : Zones) (sandbox : ℕ) (p : Part) (clean : AreCleanBundles sandbox p) (s : State) (n : ℕ) → IsGoodAs zones sandbox p s → Stands s Ecall n → (after : State) → after.hart.pc ≡ address_after s.hart.pc 4 → length after.hart.registers ≡ 32 → KeepsReserved s.hart after.hart → IsTyped p after.hart.registers → KeepsBytesAs (by_ecall zones) p s.memory after.memory → IsGoodAs zones sandbox p after
+replied zones sandbox p clean s n good asked after pc count reserved typed bytes = record {
+  kept = kept_after zones p s after good.kept count reserved bytes;
   place = standing.place_replied sandbox p s clean good.place good.kept.code good.kept.count good.kept.reserved after.hart n asked pc typed;
 }
 
-pub bundles_directly : (sandbox : ℕ) (p : Part) → AreCleanBundles sandbox p → (direct : List ℕ) → RunsDirectly p direct × CallsTypedDirectly p direct
-bundles_directly sandbox p clean direct =
-    runs_and_calls p clean.right direct clean.apart (IsGood sandbox p)
+bundles_directly : (zones : Zones) (sandbox : ℕ) (p : Part) → AreCleanBundles sandbox p → (direct : List ℕ) → IsSafeAs (record { zones = zones; calls = Direct direct }) p
+bundles_directly zones sandbox p clean direct =
+    runs_and_calls p clean.right direct clean.apart zones (IsGoodAs zones sandbox p)
     (λ s kept start typed. record { kept = kept; place = at_start sandbox p s.hart clean (to_bundle p s.hart.pc clean.bundles start) typed.stack })
-    (λ s turn good h. turn_keeps sandbox p s turn clean good h)
-    (λ s after n good asked pc count reserved typed bytes. replied sandbox p clean s n good asked after pc count reserved typed bytes)
-    (λ s i n good stands. fits sandbox p clean s i n good stands)
-    (λ s i n r good stands step done. goes sandbox p clean s i n good stands r step done)
-    (λ s n good stands. good_calls sandbox p s n clean good stands)
+    (λ s turn good h. standing.keeps zones sandbox p clean s good turn h)
+    (λ s after n good asked pc count reserved typed bytes. replied zones sandbox p clean s n good asked after pc count reserved typed bytes)
+    (λ s i n good stands. fits zones sandbox p clean s i n good stands)
+    (λ s i n r good stands step done. goes zones sandbox p clean s i n good stands r step done)
+    (λ s n good stands. standing.calls zones sandbox p clean s good n stands)
+
+-- code in bundles is safe in every setting
+bundles_safe : (zones : Zones) (calls : Calls) (sandbox : ℕ) (p : Part) → AreCleanBundles sandbox p → IsSafeAs (record { zones = zones; calls = calls }) p
+bundles_safe zones ByEcall sandbox p clean = (standing.bundles_run zones sandbox p clean, standing.bundles_call zones sandbox p clean)
+bundles_safe zones (Direct direct) sandbox p clean = bundles_directly zones sandbox p clean direct
 
 -- ==== Code in words that breaks no rule runs safely with direct gates.
 
@@ -93,19 +102,24 @@ module _ (p : Part) (clean : IsCleanInWords p) (s : State) (i : Instr) (n : ℕ)
 -- a reply, whatever its memory but the code and the guard zones
 word_replied : (p : Part) (clean : IsCleanInWords p) (s : State) (n : ℕ) → IsGoodInWords p s → Stands s Ecall n → (after : State) → after.hart.pc ≡ address_after s.hart.pc 4 → length after.hart.registers ≡ 32 → KeepsReserved s.hart after.hart → IsTyped p after.hart.registers → KeepsBytes p s.memory after.memory → IsGoodInWords p after
 word_replied p clean s n good asked after pc count reserved typed bytes = record {
-  kept = kept_after p s after good.kept count reserved bytes;
+  kept = kept_after Empty p s after good.kept count reserved bytes;
   place = place_replied p clean s good after.hart n asked pc typed;
 }
 
-pub words_directly : (p : Part) → IsCleanInWords p → (direct : List ℕ) → RunsDirectly p direct × CallsTypedDirectly p direct
+words_directly : (p : Part) → IsCleanInWords p → (direct : List ℕ) → IsSafeAs (record { zones = Empty; calls = Direct direct }) p
 words_directly p clean direct =
-    runs_and_calls p clean.right direct clean.apart (IsGoodInWords p)
+    runs_and_calls p clean.right direct clean.apart Empty (IsGoodInWords p)
     (λ s kept start typed. record { kept = kept; place = at_word_start p clean s.hart (to_word p s.hart.pc clean.words start) (typed.words clean.words) })
     (λ s turn good h. words_turn_keeps p s turn clean good h)
     (λ s after n good asked pc count reserved typed bytes. word_replied p clean s n good asked after pc count reserved typed bytes)
     (λ s i n good stands. word_fits p clean s i n good stands)
     (λ s i n r good stands step done. word_goes p clean s i n good stands r step done)
     (λ s n good stands. good_words_call p s n clean good stands)
+
+-- code in words is safe in every setting whose guard zones are empty
+words_safe : (calls : Calls) (p : Part) → IsCleanInWords p → IsSafeAs (record { zones = Empty; calls = calls }) p
+words_safe ByEcall p clean = (words_facts.clean_runs_safely p clean, words_facts.clean_calls_typed p clean)
+words_safe (Direct direct) p clean = words_directly p clean direct
 
 -- ==== Every sandbox without a finding runs safely, whatever its format, and so does each of a clean image.
 
@@ -122,34 +136,25 @@ clean_words sandbox p clean has = record {
   clean = (words_facts.finds_what_is_broken sandbox p [] clean.right (in_words sandbox p [] has clean.none_found)).0 refl;
 }
 
--- what holds in bundles and in words holds in any format
-in_any : (Q : Part → Type 0) → ((sandbox : ℕ) (p : Part) → AreCleanBundles sandbox p → Q p) → ((p : Part) → words.IsCleanInWords p → Q p) → (sandbox : ℕ) (p : Part) → IsCleanPart sandbox p → Q p
-in_any Q of_bundles of_words sandbox p clean = by (has_words p.format) refl
+clean_safe : (zones : Zones) (calls : Calls) (sandbox : ℕ) (p : Part) → MayHave zones p → IsCleanPart sandbox p → IsSafeAs (record { zones = zones; calls = calls }) p
+clean_safe Empty calls sandbox p may clean = by (has_words p.format) refl
   where
-    by : (b : Bool) → has_words p.format ≡ b → Q p
-    by true has = of_words p (clean_words sandbox p clean has)
-    by false none = of_bundles sandbox p (clean_bundles sandbox p clean none)
+    by : (b : Bool) → has_words p.format ≡ b → IsSafeAs (record { zones = Empty; calls = calls }) p
+    by true has = words_safe calls p (clean_words sandbox p clean has)
+    by false none = bundles_safe Empty calls sandbox p (clean_bundles sandbox p clean none)
+clean_safe Padded calls sandbox p none clean = bundles_safe Padded calls sandbox p (clean_bundles sandbox p clean none)
+
+pub clean_runs_as : CleanRunsSafelyAs
+clean_runs_as t sandbox p may clean = (clean_safe t.zones t.calls sandbox p may clean).0
+
+pub clean_calls_as : CleanCallsTypedAs
+clean_calls_as t sandbox p may clean = (clean_safe t.zones t.calls sandbox p may clean).1
 
 pub clean_runs : CleanRunsSafely
-clean_runs = in_any RunsSafely bundles_run words_facts.clean_runs_safely
+clean_runs sandbox p clean = clean_runs_as plain sandbox p tt clean
 
 pub clean_calls : CleanCallsTyped
-clean_calls = in_any CallsTyped bundles_call words_facts.clean_calls_typed
-
-pub clean_contained : CleanRunsContained
-clean_contained sandbox p none clean = bundles_contained sandbox p (clean_bundles sandbox p clean none)
-
-pub clean_padded_calls : CleanPaddedCallsTyped
-clean_padded_calls sandbox p none clean = bundles_call_padded sandbox p (clean_bundles sandbox p clean none)
-
-both_direct : (sandbox : ℕ) (p : Part) (direct : List ℕ) → IsCleanPart sandbox p → RunsDirectly p direct × CallsTypedDirectly p direct
-both_direct sandbox p direct = in_any (λ (q : Part). RunsDirectly q direct × CallsTypedDirectly q direct) (λ number q clean. bundles_directly number q clean direct) (λ q clean. words_directly q clean direct) sandbox p
-
-pub clean_direct : CleanRunsDirectly
-clean_direct sandbox p direct clean = (both_direct sandbox p direct clean).0
-
-pub clean_direct_calls : CleanDirectCallsTyped
-clean_direct_calls sandbox p direct clean = (both_direct sandbox p direct clean).1
+clean_calls sandbox p clean = clean_calls_as plain sandbox p tt clean
 
 -- ---- an image
 

@@ -10,7 +10,11 @@ use Rattle.sfi_image.proofs.Facts.{code_ends}
 use Rattle.sfi_rules.proofs.Facts.{same_bundle_starts}
 use Rattle.sfi_safe_runs.proofs.Stepping as steps
 use Rattle.sfi_safe_runs.proofs.SafeRuns.{entry_keeps, reply_keeps, change_keeps, turn_safe, runs_safely, calls_typed}
-use Rattle.sfi_safety.proofs.Prelude.{◌≡◌, ℕ, ◌+◌, ◌*◌, ◌^◌, ◌<◌, ◌≤◌, ◌⊎◌, List, [], ◌∷◌, length, true, refl, sym, ap, ◌∙◌, subst, arith, add-zero, false≢true, false, Instr, Ecall, InRange, Accesses, address_after, Hart, State, Stands, Part, bundle_place, is_empty, ends_region, InData, InGuard, IsGate, HasReserved, HasCode, IsTyped, Leaves, StackInDataBefore, AreCleanBundles, IsAtPlace, Next, Call, Trap, Stepped, IsStep, effect, after_step, IsSafeStep, IsGood, IsGoodIf, Outcome, IsReply, IsChange, Turn, Steps, Replies, Changes, IsTurn, after_turn, RunsSafely, EntryIsGood, TurnKeeps, CallsTyped}
+use Rattle.sfi_safety.proofs.Prelude.{◌≡◌, ℕ, ◌+◌, ◌*◌, ◌^◌, ◌<◌, ◌≤◌, ◌⊎◌, List, [], ◌∷◌, length, true, refl, sym, ap, ◌∙◌, subst, arith, add-zero, false≢true, false, Instr, Ecall, InRange, Accesses, address_after, Hart, State, Stands, Part, bundle_place, is_empty, ends_region, InData, InGuard, IsGate, HasReserved, HasCode, IsTyped, Leaves, StackInDataBefore, AreCleanBundles, IsAtPlace, Next, Call, Trap, Stepped, IsStep, effect, after_step, Outcome, Turn, Steps, Replies, Changes, after_turn, IsSafeState, EntryIsGood, TurnKeeps, Option}
+use Rattle.std.specs.Prelude.{IfSome}
+use Rattle.sfi_safe_runs.specs.Runs.{Zones, Empty, by_ecall, IsEntryAs, IsReplyAs, IsChangeAs, IsTurnAs}
+use Rattle.sfi_safe_runs.specs.Safety.{IsSafeStepAs, IsSafeTurnAs, RunsSafelyAs, CallsTypedAs}
+use Rattle.sfi_safety.specs.Places.{IsGoodAs}
 
 -- ==== What stands at a place: one instruction, whose accesses fall into the data and the guards; and where a reply and a change by others lead from there.
 
@@ -96,7 +100,11 @@ place_unchanged sandbox p h h' at pc registers = record {
 
 -- ==== One step from a good state is safe, and leads to a good state.
 
-module _ (sandbox : ℕ) (p : Part) (s : State) (clean : AreCleanBundles sandbox p) (good : IsGood sandbox p s) where
+-- the state is good, if the run goes on
+abbrev GoodIf : Zones → ℕ → Part → Option State → Type 0
+GoodIf zones sandbox p o = IfSome o (λ s. IsGoodAs zones sandbox p s)
+
+module _ (zones : Zones) (sandbox : ℕ) (p : Part) (s : State) (clean : AreCleanBundles sandbox p) (good : IsGoodAs zones sandbox p s) where
   stands_good : Stands s good.place.here.instr good.place.here.size
   stands_good = stands_here sandbox p s clean good.place good.kept.code
 
@@ -106,7 +114,7 @@ module _ (sandbox : ℕ) (p : Part) (s : State) (clean : AreCleanBundles sandbox
   module _ (r : Stepped) (step : IsStep s r) where
     -- a step has the effect of the instruction that the reading has there
     step_is : r ≡ effect good.place.here.instr good.place.here.size s.hart s.memory
-    step_is = steps.step_is p clean.right clean.apart s good.kept good.place.here.instr good.place.here.size stands_good near_good r step
+    step_is = steps.step_is p clean.right clean.apart zones s good.kept good.place.here.instr good.place.here.size stands_good near_good r step
 
     pub step_leads : Leads sandbox p s.hart good.place.here.size r.outcome r.state.hart
     step_leads =
@@ -114,63 +122,68 @@ module _ (sandbox : ℕ) (p : Part) (s : State) (clean : AreCleanBundles sandbox
         (leads sandbox p s.hart s.memory clean.right clean.bundles good.kept.count good.kept.reserved good.place.here.instr good.place.here.size
         (here sandbox p s clean good.place good.kept.code))
 
-    by_outcome : (o : Outcome) → r.outcome ≡ o → Leads sandbox p s.hart good.place.here.size o r.state.hart → IsGoodIf sandbox p (after_step o r.state)
+    by_outcome : (o : Outcome) → r.outcome ≡ o → Leads sandbox p s.hart good.place.here.size o r.state.hart → GoodIf zones sandbox p (after_step o r.state)
     by_outcome Next e (there, goes) = record {
-      kept = record { count = there.count; reserved = there.reserved; code = steps.code_stays p clean.right clean.apart s good.kept good.place.here.instr good.place.here.size stands_good near_good r step; guards = steps.guards_stay p clean.right clean.apart s good.kept good.place.here.instr good.place.here.size stands_good near_good r step e };
+      kept = record { count = there.count; reserved = there.reserved; code = steps.code_stays p clean.right clean.apart zones s good.kept good.place.here.instr good.place.here.size stands_good near_good r step; guards = steps.guards_stay p clean.right clean.apart zones s good.kept good.place.here.instr good.place.here.size stands_good near_good r step e };
       place = there.place;
     }
-    by_outcome Call e led = subst (λ (x : State). IsGood sandbox p x) (sym (stopped_stays s r step (λ done. let clash : Next ≡ Call = sym done ∙ e in cc))) good
+    by_outcome Call e led = subst (λ (x : State). IsGoodAs zones sandbox p x) (sym (stopped_stays s r step (λ done. let clash : Next ≡ Call = sym done ∙ e in cc))) good
     by_outcome (Trap cause at) e led = tt
 
-    pub step_good : IsGoodIf sandbox p (after_step r.outcome r.state)
+    pub step_good : GoodIf zones sandbox p (after_step r.outcome r.state)
     step_good = by_outcome r.outcome refl step_leads
 
-    pub step_safe : IsSafeStep p s r
+    pub step_safe : IsSafeStepAs zones p s r
     step_safe =
-        steps.step_safe p clean.right clean.apart s good.kept good.place.here.instr good.place.here.size stands_good near_good r step
+        steps.step_safe p clean.right clean.apart zones s good.kept good.place.here.instr good.place.here.size stands_good near_good r step
         (λ e. subst (λ (o : Outcome). Leads sandbox p s.hart good.place.here.size o r.state.hart) e step_leads)
 
 -- ==== Each turn keeps a good state, and so does each run.
 
--- ---- what is not a step
+module _ (zones : Zones) (sandbox : ℕ) (p : Part) (clean : AreCleanBundles sandbox p) where
+  -- ---- what is not a step
 
-module _ (sandbox : ℕ) (p : Part) (clean : AreCleanBundles sandbox p) where
-  module _ (s : State) (good : IsGood sandbox p s) where
-    reply_good : (after : State) → IsReply p s after → IsGood sandbox p after
+  module _ (s : State) (good : IsGoodAs zones sandbox p s) where
+    reply_good : (after : State) → IsReplyAs (by_ecall zones) p s after → IsGoodAs zones sandbox p after
     reply_good after r = record {
-      kept = reply_keeps p s after good.kept r;
+      kept = reply_keeps zones p s after good.kept r;
       place = place_replied sandbox p s clean good.place good.kept.code good.kept.count good.kept.reserved after.hart r.size r.asked r.pc r.typed;
     }
 
-    change_good : (after : State) → IsChange p s after → IsGood sandbox p after
+    change_good : (after : State) → IsChangeAs (by_ecall zones) p s after → IsGoodAs zones sandbox p after
     change_good after c = record {
-      kept = change_keeps p s after good.kept c;
+      kept = change_keeps zones p s after good.kept c;
       place = place_unchanged sandbox p s.hart after.hart good.place c.pc c.registers;
     }
 
-    turn_good : (turn : Turn) → IsTurn p s turn → IsGoodIf sandbox p (after_turn turn)
-    turn_good (Steps r) h = step_good sandbox p s clean good r h
+    turn_good : (turn : Turn) → IsTurnAs (by_ecall zones) p s turn → GoodIf zones sandbox p (after_turn turn)
+    turn_good (Steps r) h = step_good zones sandbox p s clean good r h
     turn_good (Replies after) h = reply_good after h
     turn_good (Changes after) h = change_good after h
 
-pub turn_keeps : TurnKeeps
-turn_keeps sandbox p s turn clean good h =
-    (safe_here sandbox p s.hart clean good.place s.memory good.kept.code, turn_safe p s (step_safe sandbox p s clean good) turn h, turn_good sandbox p clean s good turn h)
+    pub keeps : (turn : Turn) → IsTurnAs (by_ecall zones) p s turn → IsSafeState p s × IsSafeTurnAs zones p s turn × GoodIf zones sandbox p (after_turn turn)
+    keeps turn h =
+        (safe_here sandbox p s.hart clean good.place s.memory good.kept.code, turn_safe zones p s (step_safe zones sandbox p s clean good) turn h, turn_good turn h)
 
--- ---- runs
+    pub calls : (n : ℕ) → Stands s Ecall n → IsTyped p s.hart.registers
+    calls n stands = typed_at_ecall sandbox p s clean good.place good.kept.code n stands
+
+  -- ---- runs
+
+  pub enters : (s : State) → IsEntryAs (by_ecall zones) p s → IsGoodAs zones sandbox p s
+  enters s entry = record {
+    kept = entry_keeps zones p s entry;
+    place = at_start sandbox p s.hart clean (to_bundle p s.hart.pc clean.bundles entry.start) entry.typed.stack;
+  }
+
+  pub bundles_run : RunsSafelyAs (by_ecall zones) p
+  bundles_run = runs_safely zones p (IsGoodAs zones sandbox p) (λ s turn good h. keeps s good turn h) enters
+
+  pub bundles_call : CallsTypedAs (by_ecall zones) p
+  bundles_call = calls_typed zones p (IsGoodAs zones sandbox p) (λ s turn good h. keeps s good turn h) enters (λ s n good stands. calls s good n stands)
+
+pub turn_keeps : TurnKeeps
+turn_keeps sandbox p s turn clean good h = keeps Empty sandbox p clean s good turn h
 
 pub entry_good : EntryIsGood
-entry_good sandbox p s clean entry = record {
-  kept = entry_keeps p s entry;
-  place = at_start sandbox p s.hart clean (to_bundle p s.hart.pc clean.bundles entry.start) entry.typed.stack;
-}
-
-pub good_calls : (sandbox : ℕ) (p : Part) (s : State) (n : ℕ) → AreCleanBundles sandbox p → IsGood sandbox p s → Stands s Ecall n → IsTyped p s.hart.registers
-good_calls sandbox p s n clean good stands = typed_at_ecall sandbox p s clean good.place good.kept.code n stands
-
-pub bundles_run : (sandbox : ℕ) (p : Part) → AreCleanBundles sandbox p → RunsSafely p
-bundles_run sandbox p clean = runs_safely p (IsGood sandbox p) (λ s turn good h. turn_keeps sandbox p s turn clean good h) (λ s entry. entry_good sandbox p s clean entry)
-
-pub bundles_call : (sandbox : ℕ) (p : Part) → AreCleanBundles sandbox p → CallsTyped p
-bundles_call sandbox p clean = calls_typed p (IsGood sandbox p) (λ s turn good h. turn_keeps sandbox p s turn clean good h) (λ s entry. entry_good sandbox p s clean entry)
-    (λ s n good stands. good_calls sandbox p s n clean good stands)
+entry_good sandbox p s clean entry = enters Empty sandbox p clean s entry

@@ -6,10 +6,8 @@ use Rattle.rv_step.specs.State.{Hart, State}
 use Rattle.sfi_formats.specs.Formats.{has_words}
 use Rattle.sfi_image.specs.Spelling.{Part}
 use Rattle.sfi_image.specs.Parts.{IsRightPart}
-use Rattle.sfi_safe_runs.specs.Runs.{HasReserved, Turn, IsTurn, IsEntry, after_turn}
-use Rattle.sfi_safe_runs.specs.Safety.{IsSafeState, IsSafeTurn, RunsSafely, CallsTyped}
-use Rattle.sfi_safe_runs.specs.Padded.{RunsContained, CallsTypedPadded}
-use Rattle.sfi_safe_runs.specs.Direct.{RunsDirectly, CallsTypedDirectly}
+use Rattle.sfi_safe_runs.specs.Runs.{HasReserved, Zones, Empty, Padded, Setting, Turn, IsTurn, IsEntry, after_turn}
+use Rattle.sfi_safe_runs.specs.Safety.{IsSafeState, IsSafeTurn, RunsSafely, RunsSafelyAs, CallsTyped, CallsTypedAs}
 use Rattle.sfi_safety.specs.Places.{Leaves, WritesResult, IsCleanPart, AreCleanBundles, IsGood, IsGoodIf}
 
 -- ---- of code in bundles
@@ -48,33 +46,28 @@ CleanRunsSafely = (sandbox : ℕ) (p : Part) → IsCleanPart sandbox p → RunsS
 abbrev pub CleanCallsTyped : Type 0
 CleanCallsTyped = (sandbox : ℕ) (p : Part) → IsCleanPart sandbox p → CallsTyped p
 
--- ---- where guard zones hold bytes
+-- ---- in every setting
 
--- In code in bundles every run is contained, whatever the guard zones hold: nothing is asked of them.
--- In code in words this isn't so, and the law leaves it out: `addi x2, x2, 2047` and a load on x2, one after
--- the other, are accepted any number of times, since where x2 has left the data's surroundings the load
--- traps. If a guard zone holds bytes, it needn't, and x2 walks on past the zone.
-abbrev pub CleanRunsContained : Type 0
-CleanRunsContained =
-    (sandbox : ℕ) (p : Part) → has_words p.format ≡ false → IsCleanPart sandbox p → RunsContained p
+-- Code in bundles may run whatever the guard zones hold. Code in words may not, and no law says that it
+-- may: `addi x2, x2, 2047` and a load on x2, one after the other, are accepted any number of times, since
+-- where x2 has left the data's surroundings the load traps. If a guard zone holds bytes, it needn't, and
+-- x2 walks on past the zone.
+abbrev pub MayHave : Zones → Part → Type 0
+MayHave Empty p = Unit {0}
+MayHave Padded p = has_words p.format ≡ false
 
--- each call of such runs is made with the typed registers holding what their types say
-abbrev pub CleanPaddedCallsTyped : Type 0
-CleanPaddedCallsTyped =
-    (sandbox : ℕ) (p : Part) → has_words p.format ≡ false → IsCleanPart sandbox p
-    → CallsTypedPadded p
-
--- ---- with direct gates
-
--- Every run is safe, whichever of the listed gates the host has made direct: no byte of a springboard is
--- executed as the sandbox's, and each turn is as safe as with the image's own ecalls. At a direct gate where
--- the image has no ecall a run has neither step nor reply: of what comes after that nothing is said.
-abbrev pub CleanRunsDirectly : Type 0
-CleanRunsDirectly =
-    (sandbox : ℕ) (p : Part) (direct : List ℕ) → IsCleanPart sandbox p → RunsDirectly p direct
+-- Every run from every entry is safe, whatever the guard zones hold, and whichever of the listed gates the
+-- host has made direct: no byte of a springboard is executed as the sandbox's, and each turn is as safe as
+-- with the image's own ecalls. At a direct gate where the image has no ecall a run has neither step nor
+-- reply: of what comes after that nothing is said.
+abbrev pub CleanRunsSafelyAs : Type 0
+CleanRunsSafelyAs =
+    (t : Setting) (sandbox : ℕ) (p : Part) → MayHave t.zones p → IsCleanPart sandbox p
+    → RunsSafelyAs t p
 
 -- each call of such runs, of a direct gate where the image has an ecall or of another gate, is made with
 -- the typed registers holding what their types say
-abbrev pub CleanDirectCallsTyped : Type 0
-CleanDirectCallsTyped =
-    (sandbox : ℕ) (p : Part) (direct : List ℕ) → IsCleanPart sandbox p → CallsTypedDirectly p direct
+abbrev pub CleanCallsTypedAs : Type 0
+CleanCallsTypedAs =
+    (t : Setting) (sandbox : ℕ) (p : Part) → MayHave t.zones p → IsCleanPart sandbox p
+    → CallsTypedAs t p

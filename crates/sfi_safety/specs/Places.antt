@@ -9,10 +9,10 @@ use Rattle.sfi_image.specs.Spelling.{Part, code_region, AreApart, guarded_region
 use Rattle.sfi_image.specs.Parts.{reserved_of, IsBundleStart, IsRightPart}
 use Rattle.sfi_pairs.specs.Pairs.{is_masking}
 use Rattle.sfi_rules.specs.Readings.{follows_data_pair, follows_code_pair, bundle_place, bundle_bytes, Piece, IsReading, rest_of, begins_pair, ends_pair}
-use Rattle.sfi_safe_runs.specs.Runs.{InData, StackInData}
+use Rattle.sfi_safe_runs.specs.Runs.{InData, StackInData, Zones, Empty}
 use Rattle.sfi_formats.specs.Limits.{bundle_size}
 use Rattle.sfi_rules.specs.Findings.{findings_from, AreFindings, AreFindingsInBundles}
-use Rattle.sfi_safe_runs.specs.Safety.{KeepsAll}
+use Rattle.sfi_safe_runs.specs.Safety.{KeepsAllAs}
 
 -- ==== What the one or two instructions directly before a place leave in the registers.
 
@@ -87,9 +87,13 @@ pub record IsAtPlace (sandbox : ℕ) (p : Part) (h : Hart) : Type 0 where
   pub stack : StackInDataBefore p earlier (here ∷ later) h.registers
 
 -- a good state: it has what all turns keep, and stands at a good place
-pub record IsGood (sandbox : ℕ) (p : Part) (s : State) : Type 0 where
-  pub kept : KeepsAll p s
+pub record IsGoodAs (zones : Zones) (sandbox : ℕ) (p : Part) (s : State) : Type 0 where
+  pub kept : KeepsAllAs zones p s
   pub place : IsAtPlace sandbox p s.hart
+
+-- a good state whose guard zones are empty
+abbrev pub IsGood : ℕ → Part → State → Type 0
+IsGood = IsGoodAs Empty
 
 -- the state is good, if the run goes on
 abbrev pub IsGoodIf : ℕ → Part → Option State → Type 0

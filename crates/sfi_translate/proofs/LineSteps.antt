@@ -18,7 +18,7 @@ use Rattle.rv_step.specs.declared.outcome.Cause.TheVariants as cause
 use Rattle.rv_step.specs.State.{State, register, past, Hart}
 use Rattle.sfi_image.specs.Parts.{IsRightPart}
 use Rattle.sfi_image.specs.Spelling.{AreApart, code_region, guarded_region}
-use Rattle.sfi_safe_runs.specs.Runs.{InData, InGuard, HasReserved}
+use Rattle.sfi_safe_runs.specs.Runs.{InData, InGuard, HasReserved, Empty}
 use Rattle.sfi_safe_runs.specs.Safety.{KeepsAll}
 use Rattle.sfi_safe_runs.proofs.Accessing.{load_sized, store_sized}
 use Rattle.sfi_safe_runs.proofs.Stepping.{in_data}
@@ -47,7 +47,7 @@ module _ (p : Part) (right : IsRightPart p) (apart : AreApart (code_region p) (g
     step_here = record { front = Read i n; at_pc = stands; result = refl }
 
     inside : (effect i n s.hart s.memory).outcome ≡ Next → (a : ℕ) → Accesses i s.hart a → InData p a
-    inside = in_data p right apart s kept i n stands near (effect i n s.hart s.memory) step_here
+    inside = in_data p right apart Empty s kept i n stands near (effect i n s.hart s.memory) step_here kept.guards
 
   not_tested : (t : Bool) → t ≡ true → t ≡ false → ⊥
   not_tested t yes_is no_is = false≢true (sym no_is ∙ yes_is)

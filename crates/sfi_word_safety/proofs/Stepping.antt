@@ -1,4 +1,5 @@
 -- One step, each turn and each run keep a good state.
+use Rattle.sfi_safe_runs.specs.Runs.{Empty}
 use Rattle.sfi_word_safety.proofs.Prelude.{◌≡◌, ℕ, ◌⊎◌, false, refl, sym, ◌∙◌, subst, inl, inr, length, Instr, Accesses, State, Stepped, Stands, IsStep, effect, Outcome, Next, Call, Trap, Part, is_gate_of, InData, InGuard, AreWordsTyped, breaks_ecall, breaks_target, after_step, IsSafeStep, IsCleanInWords, AreKnown, IsAtPlaceInWords, IsGoodInWords, IsGoodInWordsIf, List, ◌∷◌, ap, Ecall, address_after, Hart, ends_region, IsReply, IsChange, Turn, Steps, Replies, Changes, IsTurn, after_turn, EntryIsGoodInWords, TurnKeepsInWords, CleanWordsRunSafely}
 use Rattle.rv_comp.proofs.Facts.{spelled_in_range, ecall_is_wide}
 use Rattle.rv_step.proofs.Facts.{one_instruction, stopped_stays}
@@ -43,13 +44,13 @@ module _ (p : Part) (s : State) (clean : IsCleanInWords p) (good : IsGoodInWords
 
   module _ (r : Stepped) (step : IsStep s r) where
     step_is : r ≡ effect good.place.place.here.instr good.place.place.here.size s.hart s.memory
-    step_is = steps.step_is p clean.right clean.apart s good.kept i n stands_here near_here r step
+    step_is = steps.step_is p clean.right clean.apart Empty s good.kept i n stands_here near_here r step
 
     pub step_leads : Leads p good.place.place.here.instr good.place.place.here.size s.hart r.outcome r.state.hart
     step_leads = subst (λ (x : Stepped). Leads p i n s.hart x.outcome x.state.hart) (sym step_is) leads_here
 
     in_data : r.outcome ≡ Next → (a : ℕ) → Accesses good.place.place.here.instr s.hart a → InData p a
-    in_data = steps.in_data p clean.right clean.apart s good.kept i n stands_here near_here r step
+    in_data = steps.in_data p clean.right clean.apart Empty s good.kept i n stands_here near_here r step good.kept.guards
 
     -- the place that a step that is done leads to
     place_after : r.outcome ≡ Next → Leads p good.place.place.here.instr good.place.place.here.size s.hart Next r.state.hart → IsAtPlaceInWords p r.state.hart
@@ -71,8 +72,8 @@ module _ (p : Part) (s : State) (clean : IsCleanInWords p) (good : IsGoodInWords
           kept = record {
             count = count_stays i s.hart r.state.hart w ∙ good.kept.count;
             reserved = reserved_stay p i s.hart r.state.hart w good.place.place.none.0.reserved good.kept.reserved;
-            code = steps.code_stays p clean.right clean.apart s good.kept i n stands_here near_here r step;
-            guards = steps.guards_stay p clean.right clean.apart s good.kept i n stands_here near_here r step e;
+            code = steps.code_stays p clean.right clean.apart Empty s good.kept i n stands_here near_here r step;
+            guards = steps.guards_stay p clean.right clean.apart Empty s good.kept i n stands_here near_here r step e;
           };
           place = place_after e led;
         }
@@ -84,7 +85,7 @@ module _ (p : Part) (s : State) (clean : IsCleanInWords p) (good : IsGoodInWords
 
     pub step_safe : IsSafeStep p s r
     step_safe =
-        steps.step_safe p clean.right clean.apart s good.kept i n stands_here near_here r step
+        steps.step_safe p clean.right clean.apart Empty s good.kept i n stands_here near_here r step
         (λ e. subst (λ (o : Outcome). Leads p i n s.hart o r.state.hart) e step_leads)
 
 -- ==== Each turn keeps a good state, and so does each run.
@@ -100,11 +101,11 @@ module _ (p : Part) (clean : IsCleanInWords p) where
         (typed_known p after.registers good.place.place.later (typed.words clean.words))
 
     reply_good : (after : State) → IsReply p s after → IsGoodInWords p after
-    reply_good after r = record { kept = reply_keeps p s after good.kept r; place = place_replied after.hart r.size r.asked r.pc r.typed }
+    reply_good after r = record { kept = reply_keeps Empty p s after good.kept r; place = place_replied after.hart r.size r.asked r.pc r.typed }
 
     change_good : (after : State) → IsChange p s after → IsGoodInWords p after
     change_good after c = record {
-      kept = change_keeps p s after good.kept c;
+      kept = change_keeps Empty p s after good.kept c;
       place = record {
         offset = good.place.offset;
         place = good.place.place;
@@ -120,18 +121,18 @@ module _ (p : Part) (clean : IsCleanInWords p) where
     turn_good (Changes after) h = change_good after h
 
 pub turn_keeps : TurnKeepsInWords
-turn_keeps p s turn clean good h = (safe_here p clean s.hart good.place s.memory good.kept.code, turn_safe p s (step_safe p s clean good) turn h, turn_good p clean s good turn h)
+turn_keeps p s turn clean good h = (safe_here p clean s.hart good.place s.memory good.kept.code, turn_safe Empty p s (step_safe p s clean good) turn h, turn_good p clean s good turn h)
 
 -- ---- runs
 
 pub entry_good : EntryIsGoodInWords
 entry_good p s clean entry = record {
-  kept = entry_keeps p s entry;
+  kept = entry_keeps Empty p s entry;
   place = at_start p clean s.hart (to_word p s.hart.pc clean.words entry.start) (entry.typed.words clean.words);
 }
 
 pub clean_runs : CleanWordsRunSafely
-clean_runs p clean = runs_safely p (IsGoodInWords p) (λ s turn good h. turn_keeps p s turn clean good h) (λ s entry. entry_good p s clean entry)
+clean_runs p clean = runs_safely Empty p (IsGoodInWords p) (λ s turn good h. turn_keeps p s turn clean good h) (λ s entry. entry_good p s clean entry)
 
 -- at an ecall the typed registers hold what their types say
 pub good_calls : (p : Part) (s : State) (n : ℕ) → IsCleanInWords p → IsGoodInWords p s → Stands s Ecall n → IsTyped p s.hart.registers
@@ -140,4 +141,4 @@ good_calls p s n clean good stands =
     of_words_typed p s.hart.registers clean.words (typed_at_ecall p s.hart.registers here.here here.later (only p s clean good Ecall n stands).0 good.place.known)
 
 pub clean_calls : CleanWordsCallTyped
-clean_calls p clean = calls_typed p (IsGoodInWords p) (λ s turn good h. turn_keeps p s turn clean good h) (λ s entry. entry_good p s clean entry) (λ s n good stands. good_calls p s n clean good stands)
+clean_calls p clean = calls_typed Empty p (IsGoodInWords p) (λ s turn good h. turn_keeps p s turn clean good h) (λ s entry. entry_good p s clean entry) (λ s n good stands. good_calls p s n clean good stands)

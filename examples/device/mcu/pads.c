@@ -1,7 +1,7 @@
 /* In the place of ../protection.S, ../protection.c and ../guards.c, for a chip without physical memory
    protection: nothing closes the guard zones, so they are memory of nobody else, as place.c sees to, and a
    sandbox may read and write there. Code in bundles gets no further even so, which is proved (`sfi_safety`'s
-   `Facts::clean_runs_contained`). Code in words does: each of its steps leads further from the data where no
+   `Facts::clean_runs_safely_as`). Code in words does: each of its steps leads further from the data where no
    access traps. */
 #include "../host.h"
 
