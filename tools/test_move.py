@@ -9,6 +9,7 @@ TOOLS = os.path.dirname(os.path.abspath(__file__))
 MOVE, IMAGE = os.path.join(TOOLS, "sfi-move"), os.path.join(TOOLS, "sfi-image")
 BREAK, STUB = b"\x02\x90", bytes.fromhex("73000000b3ff9001b3ef8f0167800f00")
 PLACES = ((0x1000000, 0x1800000), (0x2000000, 0x2800000))
+STACK, ROOM = struct.pack("<IB", 8192, 6) + b".stack", struct.pack("<IB", 128, 5) + b".room"
 EXPORT = struct.pack("<IB", 0x1800010, 3) + b"one"
 IMPORT = struct.pack("<IB", 0x1000000, 4) + b"gate" + struct.pack("<IB", 0x1800100, 5) + b".room"  # the second is no address
 NAMES = EXPORT + IMPORT + struct.pack("<3I", 7, len(EXPORT), len(IMPORT)) + b"SFIN"
@@ -100,7 +101,7 @@ class Programs(Folder):
 
     @needs_program
     def test_a_movable_program(self):
-        for words, end in (([], b""), (["--export", "main"], struct.pack("<IB", 128, 5) + b".room" + struct.pack("<3I", 0, 9, 10) + b"SFIN")):
+        for words, end in (([], b""), (["--export", "main"], STACK + ROOM + struct.pack("<3I", 0, 9, 21) + b"SFIN")):
             path = self.linked("--movable", *words)
             _, before, _ = call(IMAGE, "--raw", path)
             status, after, told = call(IMAGE, "--raw", "--at", "3000000:5000000", path)

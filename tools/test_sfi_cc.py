@@ -5,7 +5,7 @@ import shutil
 import struct
 import subprocess
 
-from testing import COMPILERS, FORMATS, GCC, SFI, SFI_CC, Folder, needs, needs_program
+from testing import COMPILERS, FORMATS, GCC, SFI, SFI_CC, SFI_IMAGE, Folder, needs, needs_program
 from services import GATES  # which testing finds
 
 HELLO = '#include "gates.h"\n\nint main(void) {\n    put("Hi", 2);\n    return 105;\n}\n'
@@ -15,6 +15,7 @@ ASSEMBLY = "\t.text\n\t.globl\tmain\nmain:\n\tli\ta0,7\n\tret\n"
 COMPILER = '#!/bin/sh\necho "$*" >>{folder}/words\nwhile [ "$1" != -o ]; do shift; done\ncp {folder}/main.asm "$2"\n'
 PROGRAM = '#!/bin/sh\ncat >{folder}/$1.input\n{check}\n'
 BINUTILS = "riscv64-unknown-elf-"
+STACK = struct.pack("<IB", 8192, 6) + b".stack"  # the claim of a program that was linked without --stack
 VERDICT = "refused findings=1 first=V5 sandbox=0 at=01000000"
 
 
@@ -158,6 +159,7 @@ cp {self.folder}/main.asm "$2"
         for image_format in FORMATS:
             at = self.listed("--format", image_format, *words)
             entries = [struct.pack("<IB", at[name], len(name)) + name.encode() for name in ("add", "room", "log_it")]
+            entries[2] += STACK
             numbers = struct.pack("<3I", 7, len(entries[0] + entries[1]), len(entries[2]))
             image = bytes.fromhex(self.made("--format", image_format, *words)[1])
             self.assertTrue(image.endswith(b"".join(entries) + numbers + b"SFIN"), image_format)
@@ -177,18 +179,27 @@ cp {self.folder}/main.asm "$2"
             claim = struct.pack("<IB", room, 5) + b".room" if room else b""
             for words, name, exports in ((["--export", "main"], b"\x04main", 9), (["--import", "it"], b"\x02it", 0), (["--gate", "it=3"], b"", 0)):
                 image = bytes.fromhex(self.made(*words)[1])
-                imports = len(claim) + (len(name) + 4 if name and not exports else 0)
-                table = name + claim + struct.pack("<3I", 0, exports, imports) + b"SFIN" if name or room else b""
+                imports = len(STACK + claim) + (len(name) + 4 if name and not exports else 0)
+                table = name + STACK + claim + struct.pack("<3I", 0, exports, imports) + b"SFIN" if name or room else b""
                 self.assertEqual(image[len(image) - len(table):], table)
                 self.assertEqual(b"SFIN" in image, bool(table))
             self.assertNotIn(b"SFIN", bytes.fromhex(self.made()[1]))
+
+    def test_stack(self):
+        """The claim says what the program was linked with, or what sfi-image is told."""
+        rows = [([], [], 8192), (["--stack", "100"], [], 100), (["--stack", "100"], ["--stack", "3000"], 3000)]
+        for words, of_image, count in rows:
+            self.listed("--export", "main", *words)
+            image = subprocess.run([SFI_IMAGE, "--raw", *of_image, self.path("listed.elf")], capture_output=True, check=True).stdout
+            claim = struct.pack("<IB", count, 6) + b".stack"
+            self.assertTrue(image.endswith(b"\x04main" + claim + struct.pack("<3I", 0, 9, len(claim)) + b"SFIN"))
 
     def test_marks(self):
         """What SFI_EXPORT and SFI_IMPORT become in assembly: names, also of an archive; a gate that nothing calls isn't there."""
         self.write("main.asm", "\t.globl\tadd\n\t.protected\tadd\nadd:\n\ttail\tprint\n\t.weak\tprint\n\t.protected\tprint\n"
                                "\t.weak\tidle\n\t.protected\tidle\n\t.protected\telsewhere\n")
         self.assertEqual(self.made("--export", "add", "--import", "print"), self.made())
-        wanted = struct.pack("<3I", 0, 8, 10) + b"SFIN"
+        wanted = STACK + struct.pack("<3I", 0, 8, 10 + len(STACK)) + b"SFIN"
         at = self.listed()
         self.assertNotIn("idle", at)
         entries = struct.pack("<IB", at["add"], 3) + b"add" + struct.pack("<IB", at["print"], 5) + b"print"
@@ -209,7 +220,7 @@ cp {self.folder}/main.asm "$2"
         own = self.write("own.s", "\t.text\n\t.globl print\nprint:\tret\n")  # what defines the gate's name by itself
         self.assertEqual(self.call("--program", program, own, self.path("add.o"), "-o", self.path("own.image"))[0], 0)
         with open(self.path("own.image"), "rb") as file:
-            self.assertTrue(file.read().endswith(struct.pack("<3I", 0, 8, 0) + b"SFIN"))
+            self.assertTrue(file.read().endswith(STACK + struct.pack("<3I", 0, 8, len(STACK)) + b"SFIN"))
 
     def test_marks_refused(self):
         for text, told in (("\t.protected\t_Z3addii\n", 'asm2elf: main.asm:1: _Z3addii: what a host knows by its name wants extern "C"'),
@@ -398,7 +409,7 @@ int main() { return twice(19) + corners_of(Square()); }
         file = self.write("array.c", "int seed;\nint f(void) {\n    volatile int numbers[8];\n    int sum = 0;\n    for (int at = 0; at < 8; at++) "
                                      "numbers[at] = seed + at;\n    for (int at = 0; at < 8; at++) sum += numbers[at];\n    return sum;\n}\n")
         for image_format in FORMATS:
-            self.assertEqual(self.names("--cc", GCC, "--format", image_format, "--export", "f", file), ["export f", "import .room"])
+            self.assertEqual(self.names("--cc", GCC, "--format", image_format, "--export", "f", file), ["export .f()i", "export f", "import .room", "import .stack"])
 
     @needs(GCC)
     def test_marked_in_the_source(self):
@@ -410,7 +421,8 @@ int main() { return twice(19) + corners_of(Square()); }
                 opened, closed = ('extern "C" {\n', "}\n") if name.endswith("cc") else ("", "")
                 plain = self.write(name, f"{opened}{body}{closed}")
                 listed = self.names("--cc", compiler, "--export", "add,state", "--import", "print", plain)
-                self.assertEqual([it for it in listed if it != "import .room"], ["export add", "export state", "import print"])
+                self.assertEqual([it for it in listed if it != "import .room"], [
+                    "export .add(ii)i", "export add", "export state", "import .print(i)i", "import .stack", "import print"])
                 self.assertEqual(self.names("--cc", compiler, self.write(name, f'#include "gates.h"\n{opened}{marked}{closed}')), listed)
 
     @needs(GCC)

@@ -10,7 +10,7 @@ TOOLS = pathlib.Path(__file__).resolve().parent
 sys.path.append(str(TOOLS / "asm2sfi"))  # for its table of gates
 TOP = TOOLS.parent
 SFI = os.environ.get("SFI", str(TOP / "crates" / "sfi" / "out" / "sfi"))
-SFI_CC = str(TOOLS / "sfi-cc")
+SFI_CC, SFI_IMAGE = str(TOOLS / "sfi-cc"), str(TOOLS / "sfi-image")
 GCC = "riscv64-unknown-elf-gcc"
 FORMATS = ("1", "2", "words")
 COMPILERS = [it for it in (GCC, "clang") if shutil.which(it)]

@@ -13,6 +13,15 @@ extern "C" {
 #define SFI_EXPORT __attribute__((used, visibility("protected")))
 #define SFI_IMPORT __attribute__((weak, visibility("protected")))
 
+/* Two parameters of such a function, NAME and NAME_size: bytes that it reads, or, as SFI_BUFFER, reads and writes, and how many. The
+   image's table of names then says so (`sfi-cc` writes each function's signature into it), and a host passes one value for both. */
+typedef const unsigned char *sfi_bytes;
+typedef unsigned sfi_bytes_size;
+typedef unsigned char *sfi_buffer;
+typedef unsigned sfi_buffer_size;
+#define SFI_BYTES(name) sfi_bytes name, sfi_bytes_size name##_size
+#define SFI_BUFFER(name) sfi_buffer name, sfi_buffer_size name##_size
+
 /* Ends the program with a code. Returning from main does the same. */
 __attribute__((noreturn)) void exit_with(int code);
 

@@ -139,6 +139,12 @@ def by_clang(compiler, given, file, assembly, registers):
     return first[1] + by_llc(llc, middle, [level(given)], assembly, registers)
 
 
+def object_of(compiler, given, file, output):
+    """Makes an object as the compiler does by itself, whose code no sandbox has."""
+    beside = TARGET if is_clang(compiler) else GCC_HEADERS
+    ran([compiler, "-c", "-O2", *COMMON, *beside, *language(file), *for_language(file, given), *LAST, *HEADERS, "-o", output, file])
+
+
 def preprocessed(compiler, given, file, assembly, _):
     target = TARGET if is_clang(compiler) else []
     return ran([compiler, "-E", *target, *COMMON, *given, *HEADERS, "-o", assembly, file])[1]

@@ -89,7 +89,12 @@ def used_by(elf):
     return used
 
 
-def data_of(elf):
+def stack_of(elf, stack):
+    """The bytes of the stack: those that are wanted, or that the program was linked with."""
+    return elf.symbols.get("__sfi_stack", DEFAULT_STACK) if stack is None else stack
+
+
+def data_of(elf, stack):
     """The first bytes of the data region, up to the last that isn't zero."""
     base = elf.symbol("__sfi_data")
     content = bytearray(used_by(elf))
@@ -100,7 +105,7 @@ def data_of(elf):
         if not 0 <= start <= start + len(segment.content) <= len(content):
             raise Wrong(f"{elf.name}: bytes at {segment.address:#x} lie outside the data: link it by tools/sfi-cc")
         content[start:start + len(segment.content)] = segment.content
-    at, table_end = footer(elf)
+    at, table_end = footer(elf, stack_of(elf, stack))
     content[at - base:at - base + len(table_end)] = table_end
     return bytes(content).rstrip(b"\0")
 
@@ -108,7 +113,7 @@ def data_of(elf):
 def data_size(elf, stack, wanted):
     """The size of the data region: the one that is wanted, or the least that has room for the objects and the stack."""
     used, above = used_by(elf), elf.symbol("__sfi_above") + TOP
-    stack = elf.symbols.get("__sfi_stack", DEFAULT_STACK) if stack is None else stack
+    stack = stack_of(elf, stack)
     size = wanted or power(used + above + stack)
     if used + above + stack > size or size > LARGEST_DATA:
         most = min(size, LARGEST_DATA)
@@ -170,7 +175,7 @@ class Sandbox:
 def sandbox_of(elf, stack, wanted):
     gates = tuple(elf.gates().items())
     made = Sandbox(elf.name, elf.symbol("__sfi_code"), code_of(elf, format_of(elf)), elf.symbol("__sfi_data"),
-                   data_size(elf, stack, wanted), data_of(elf), elf.entry, gates)
+                   data_size(elf, stack, wanted), data_of(elf, stack), elf.entry, gates)
     made.check_place()
     return made
 

@@ -7,7 +7,7 @@ import small_library
 from compilers import Failed, ran, tell
 from elf import Elf, Wrong
 from libraries import SMALL, Libraries, folders_of
-from names import API, SERVICE, entries, marked
+from names import API, SERVICE, entries, marked, signatures
 from services import GATES
 from tools import archived, assembled, binutil
 
@@ -46,6 +46,9 @@ class Names:
         self.exports = list(dict.fromkeys([*options.exports, *exports]))
         self.imports = options.imports
         self.marked = [name for name in imports if name not in options.imports]  # those are there if anything calls them
+        self.signatures, told = ({}, []) if options.no_signatures else signatures([*objects, *named], [*self.exports, *self.imports, *self.marked])
+        for line in told:
+            tell(line)
         self.gates = {**dict.fromkeys([*self.imports, *self.marked], SERVICE), **dict(options.gate)}
         self.format = options.format
 
@@ -54,7 +57,7 @@ class Names:
         made = [self.gate(folder, name) for name in self.gates if name not in self.marked]
         if self.exports or self.imports:
             made.append(os.path.join(folder, "names.o"))
-            assembled(entries(self.exports, self.imports).encode(), made[-1])
+            assembled(entries(self.exports, self.imports, self.signatures).encode(), made[-1])
         return made
 
     def archives(self, folder):
@@ -62,7 +65,7 @@ class Names:
         if not self.marked:
             return []
         output = os.path.join(folder, "libmarked.a")
-        archived(output, [self.gate(folder, name, entries([], [name])) for name in self.marked])
+        archived(output, [self.gate(folder, name, entries([], [name], self.signatures)) for name in self.marked])
         return [output]
 
     def gate(self, folder, name, entry=""):
