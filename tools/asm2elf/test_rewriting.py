@@ -47,6 +47,12 @@ class Attributes(Folder):
             told = subprocess.run([f"{BINUTILS}readelf", "-A", path], capture_output=True, check=True, text=True).stdout
             self.assertRegex(told, "Tag_RISCV_arch: .*_c2p0")
 
+    def test_files_in_folders(self):
+        """As clang names them, in code and among data, which `as` takes in one name."""
+        for before in ("main:\tret\n", "\t.data\n", "\t.data\nx:\t.word 3\n"):
+            text = rewritten("a.s", before + '\t.file\t2 "/folder" "gates.h"\n', PASSES, WORDS)
+            self.assertIn('\t.file\t2 "/folder/gates.h"', text.splitlines())
+
 
 @needs(GCC, f"{BINUTILS}as")
 class Places(Folder):

@@ -166,7 +166,8 @@ class Unit:
         self.symbol_directive(statement)
         if not is_debug(self.current_name) and not statement.word.startswith((".size", ".type")):
             self.data_names.update(WORD.findall(" ".join(it for it in operands if not it.startswith('"'))))
-        self.verbatim.append(without_labels(part))
+        text = without_labels(part)
+        self.verbatim.append(with_one_name(text) if statement.word == ".file" else text)
 
     def symbol_directive(self, statement):
         word, operands = statement.word, statement.operands
