@@ -1,18 +1,21 @@
 -- What is answered of a sandbox, a table or a name's address.
 use Rattle.std.proofs.Common.{◌≡◌, ◌∙◌, ℕ, List, length, Some, refl, sym, ap, arith, None, Option, Result, Ok, Err, IfOk, IfErr, IsOkAnd, subst}
 use Rattle.std.specs.Prelude.{slice_get}
-use Rattle.std.proofs.lemmas.Option.{slice_get_within}
+use Rattle.std.proofs.lemmas.Option.{slice_get_within, get_or_from_slice_get}
 use Rattle.sfi_image.specs.Spelling.{Part}
 use Rattle.sfi_image.specs.Keeping.{IsSandboxOf, IsBeyond}
 use Rattle.sfi_image.proofs.Facts.{one_image, never_both}
 use Rattle.sfi_names.specs.declared.image.Missing.{Missing}
 use Rattle.sfi_names.specs.declared.image.Missing.TheVariants.{NoImage, NoSandbox, NoTable, BadTable, NoName}
-use Rattle.sfi_names.specs.Images.{IsInitOf, HasTableOf, HasNoTable, IsAnswer, of_kind}
+use Rattle.sfi_names.specs.Images.{IsInitOf, HasTableOf, HasNoTable, IsAnswer, IsEntryAnswer, of_kind}
 use Rattle.sfi_names.specs.private.{HasNoInit}
 use Rattle.sfi_names.specs.declared.names.Names.{Names}
 use Rattle.sfi_names.specs.declared.image.Kind.{Kind}
+use Rattle.sfi_names.specs.declared.image.Kind.TheVariants.{Exports, Imports}
+use Rattle.std.specs.List.{All}
 use Rattle.sfi_names.specs.declared.fault.NamesFault.TheVariants as faults
-use Rattle.sfi_names.specs.Tables.{Table, HasTable, IsNamesOf, address_of}
+use Rattle.sfi_names.specs.Tables.{Named, Table, HasTable, IsNamesOf, IsName, IsNamed, address_of, named}
+use Rattle.sfi_names.specs.declared.entry.NameEntry.{NameEntry}
 use Rattle.sfi_names.specs.Faults.{IsFault}
 use Rattle.sfi_names.proofs.Ends.{ends_in_magic, one_table}
 
@@ -151,3 +154,68 @@ same_looks image number kind name r s (missing m h e) (missing n k f) = e ∙ ap
 
 pub one_answer : (image : List ℕ) (number : ℕ) (kind : Kind) (name : List ℕ) (r s : Result ℕ Missing) → IsAnswer image number kind name r → IsAnswer image number kind name s → r ≡ s
 one_answer image number kind name r s h k = same_looks image number kind name r s (looks image number kind name r h) (looks image number kind name s k)
+
+-- ---- an entry
+
+told_entry : Option Named → Result Named Missing
+told_entry (Some e) = Ok e
+told_entry None = Err NoName
+
+data Picks (image : List ℕ) (number : ℕ) (kind : Kind) (index : ℕ) (r : Result Named Missing) : Type 0 where
+  read : (t : Table) → HasTableOf image number t → r ≡ told_entry (slice_get (of_kind kind t) index) → Picks image number kind index r
+  missing : (m : Missing) → HasNoTable image number m → r ≡ Err m → Picks image number kind index r
+
+picks : (image : List ℕ) (number : ℕ) (kind : Kind) (index : ℕ) (r : Result Named Missing) → IsEntryAnswer image number kind index r → Picks image number kind index r
+unfolding told_entry
+picks image number kind index (Ok e) h = read h.0 h.1 (sym (ap told_entry h.2))
+picks image number kind index (Err NoName) h = read h.0 h.1 (sym (ap told_entry h.2))
+picks image number kind index (Err NoTable) h = missing NoTable h refl
+picks image number kind index (Err BadTable) h = missing BadTable h refl
+picks image number kind index (Err NoImage) h = missing NoImage h refl
+picks image number kind index (Err NoSandbox) h = missing NoSandbox h refl
+
+same_picks : (image : List ℕ) (number : ℕ) (kind : Kind) (index : ℕ) (r s : Result Named Missing) → Picks image number kind index r → Picks image number kind index s → r ≡ s
+same_picks image number kind index r s (read t h e) (read u k f) = e ∙ ap (λ (v : Table). told_entry (slice_get (of_kind kind v) index)) (same_table image number t u h k) ∙ sym f
+same_picks image number kind index r s (read t h e) (missing m k f) = absurd (never_found_and_missing image number t m h k)
+same_picks image number kind index r s (missing m h e) (read u k f) = absurd (never_found_and_missing image number u m k h)
+same_picks image number kind index r s (missing m h e) (missing n k f) = e ∙ ap Err (same_none image number m n h k) ∙ sym f
+
+one_entry : (image : List ℕ) (number : ℕ) (kind : Kind) (index : ℕ) (r s : Result Named Missing) → IsEntryAnswer image number kind index r → IsEntryAnswer image number kind index s → r ≡ s
+one_entry image number kind index r s h k = same_picks image number kind index r s (picks image number kind index r h) (picks image number kind index s k)
+
+-- what the entry at an index is, as a reader hands it out
+abbrev Picked : List ℕ → ℕ → Kind → ℕ → Result NameEntry Missing → Type 0
+Picked image number kind index r = IfOk r (λ e. IsEntryAnswer image number kind index (Ok (named e)))
+
+abbrev Unpicked : List ℕ → ℕ → Kind → ℕ → Result NameEntry Missing → Type 0
+Unpicked image number kind index r = IfErr r (λ m. IsEntryAnswer image number kind index (Err m))
+
+pub only_picked : (image : List ℕ) (number : ℕ) (kind : Kind) (index : ℕ) (r : Result NameEntry Missing) → Picked image number kind index r → Unpicked image number kind index r
+    → (e : Named) → IsEntryAnswer image number kind index (Ok e) → IsOkAnd r (λ f. named f ≡ e)
+only_picked image number kind index (Ok f) p u e h =
+    let same = one_entry image number kind index (Ok (named f)) (Ok e) p h in
+    let is : named f ≡ e = cc in
+    is
+only_picked image number kind index (Err m) p u e h = let wrong = one_entry image number kind index (Err m) (Ok e) u h in absurd cc
+
+pub only_unpicked : (image : List ℕ) (number : ℕ) (kind : Kind) (index : ℕ) (r : Result NameEntry Missing) → Picked image number kind index r → Unpicked image number kind index r
+    → (m : Missing) → IsEntryAnswer image number kind index (Err m) → r ≡ Err m
+only_unpicked image number kind index (Ok f) p u m h = let wrong = one_entry image number kind index (Ok (named f)) (Err m) p h in absurd cc
+only_unpicked image number kind index (Err n) p u m h =
+    let same = one_entry image number kind index (Err n) (Err m) u h in
+    let is : n ≡ m = cc in
+    ap Err is
+
+-- each entry of a table has a name
+at_index : (es : List Named) (index : ℕ) (e : Named) → All IsNamed es → slice_get es index ≡ Some e → IsNamed e
+at_index es index e all is =
+    let at = get_or_from_slice_get es index e e is in
+    subst IsNamed at (all index e (slice_get_within es index e is))
+
+pub picked_name : (image : List ℕ) (number : ℕ) (kind : Kind) (index : ℕ) (e : Named) → IsEntryAnswer image number kind index (Ok e) → IsName e.name
+picked_name image number Exports index e h = (at_index h.0.exports index e h.1.table.table.exports h.2).name
+picked_name image number Imports index e h = (at_index h.0.imports index e h.1.table.table.imports h.2).name
+
+pub picked_names : (image : List ℕ) (number : ℕ) (kind : Kind) (index : ℕ) (r : Result NameEntry Missing) → Picked image number kind index r → IfOk r (λ e. IsName e.name.now)
+picked_names image number kind index (Ok e) p = picked_name image number kind index (named e) p
+picked_names image number kind index (Err m) p = tt

@@ -1,5 +1,5 @@
 -- The entries of a table: as bytes, as they are sought, and as they are written.
-use Rattle.std.proofs.Common.{◌≡◌, ℕ, ◌+◌, ◌<◌, ◌≤◌, List, [], ◌∷◌, ◌++◌, length, get_or, take, drop, refl, sym, ap, subst, ◌∙◌, arith, append_assoc, inl, inr, cond, Bool, true, false, Some, None}
+use Rattle.std.proofs.Common.{◌≡◌, ℕ, ◌+◌, ◌<◌, ◌≤◌, List, [], ◌∷◌, ◌++◌, length, get_or, take, drop, refl, sym, ap, subst, ◌∙◌, arith, append_assoc, inl, inr, cond, Bool, true, false, Some, None, zero, suc, slice_get, ◌-◌}
 use Rattle.std.specs.List.{All, between}
 use Rattle.std.proofs.lemmas.Slice.{first_rest}
 use Rattle.std.proofs.lemmas.List.{length-append, append-nil, take-append-drop}
@@ -177,6 +177,51 @@ not_found rest name es none h = ends h.left h.named h.rest_is h.same
   where
     ends : (left : List Named) → All IsNamed left → rest ≡ entries left → address_of name es ≡ address_of name left → None ≡ address_of name es
     ends [] all r same = sym same
+    ends (x ∷ xs) all r same = absurd (none x (entries xs) (All-head IsNamed x xs all) r)
+
+-- ==== An entry is sought by its index.
+
+-- of entries that are all of the bytes these are left, and the entry at `index` is the one at `before` in these
+pub record IsLeftBefore (rest : List ℕ) (index before : ℕ) (es : List Named) : Type 0 where
+  pub left : List Named
+  pub named : All IsNamed left
+  pub rest_is : rest ≡ entries left
+  pub same : slice_get es index ≡ slice_get left before
+
+abbrev pub StillToCount : List ℕ → List ℕ → ℕ → ℕ → Type 0
+StillToCount bytes rest index before = (es : List Named) → All IsNamed es → bytes ≡ entries es → IsLeftBefore rest index before es
+
+first_is : (x : Named) (xs : List Named) (n : ℕ) → n ≡ 0 → slice_get (x ∷ xs) n ≡ Some x
+first_is x xs n e = rw e refl
+
+later_is : (x : Named) (xs : List Named) (n : ℕ) → (n ≡ 0 → ⊥) → slice_get (x ∷ xs) n ≡ slice_get xs (n - 1)
+later_is x xs zero more = absurd (more refl)
+later_is x xs (suc n) more = let e : suc n - 1 ≡ n = omega arith in rw e refl
+
+module _ (rest : List ℕ) (index before : ℕ) (e : Named) (more : List ℕ) (fits : IsNamed e) (g : rest ≡ entry e ++ more) where
+  -- the entry that begins what is left is before it
+  pub counted : (es : List Named) → (before ≡ 0 → ⊥) → IsLeftBefore rest index before es → IsLeftBefore more index (before - 1) es
+  counted es later h =
+      let f = first rest [] e more fits g h.left h.named h.rest_is in
+      record {
+        left = f.others;
+        named = f.named;
+        rest_is = f.rest_is;
+        same = h.same ∙ ap (λ (l : List Named). slice_get l before) f.all ∙ later_is e f.others before later;
+      }
+
+  -- it is the one
+  pub reached : (es : List Named) → before ≡ 0 → IsLeftBefore rest index before es → slice_get es index ≡ Some e
+  reached es now h =
+      let f = first rest [] e more fits g h.left h.named h.rest_is in
+      h.same ∙ ap (λ (l : List Named). slice_get l before) f.all ∙ first_is e f.others before now
+
+-- where no entry begins what is left, nothing is
+pub too_far : (rest : List ℕ) (index before : ℕ) (es : List Named) → BeginsNone rest → IsLeftBefore rest index before es → slice_get es index ≡ None
+too_far rest index before es none h = ends h.left h.named h.rest_is h.same
+  where
+    ends : (left : List Named) → All IsNamed left → rest ≡ entries left → slice_get es index ≡ slice_get left before → slice_get es index ≡ None
+    ends [] all r same = same
     ends (x ∷ xs) all r same = absurd (none x (entries xs) (All-head IsNamed x xs all) r)
 
 -- ==== What is written piece by piece is a table's bytes.

@@ -1,5 +1,5 @@
 -- Names in the table of a sandbox of an image.
-use Rattle.std.specs.Prelude.{◌≡◌, ℕ, List, Some, None, Result, Ok, Err}
+use Rattle.std.specs.Prelude.{◌≡◌, ℕ, List, Some, None, Result, Ok, Err, slice_get}
 use Rattle.sfi_image.specs.declared.fault.LayoutFault.{LayoutFault}
 use Rattle.sfi_image.specs.Spelling.{Part}
 use Rattle.sfi_image.specs.Keeping.{IsSandboxOf, IsBeyond}
@@ -62,3 +62,11 @@ IsAnswer image number kind name (Ok a) =
 IsAnswer image number kind name (Err NoName) =
     (t : Table) × HasTableOf image number t × (address_of name (of_kind kind t) ≡ None)
 IsAnswer image number kind name (Err m) = HasNoTable image number m
+
+-- the answer to the question which entry of that kind has this index, counted from 0
+abbrev pub IsEntryAnswer : List ℕ → ℕ → Kind → ℕ → Result Named Missing → Type 0
+IsEntryAnswer image number kind index (Ok e) =
+    (t : Table) × HasTableOf image number t × (slice_get (of_kind kind t) index ≡ Some e)
+IsEntryAnswer image number kind index (Err NoName) =
+    (t : Table) × HasTableOf image number t × (slice_get (of_kind kind t) index ≡ None)
+IsEntryAnswer image number kind index (Err m) = HasNoTable image number m

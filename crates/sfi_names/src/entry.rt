@@ -1,5 +1,5 @@
 //! Names with their addresses, one after another.
-ghost use Rattle.std.specs.Prelude.{◌≡◌, ◌≢◌, ℕ, ◌<◌, ◌≤◌, ◌+◌, ◌++◌, ◌↔◌, ◌-◌, List, length, take, drop, IsTrue, IfSome, IfNone, OnOk};
+ghost use Rattle.std.specs.Prelude.{◌≡◌, ◌≢◌, ℕ, ◌<◌, ◌≤◌, ◌+◌, ◌++◌, ◌↔◌, ◌-◌, List, length, take, drop, IsTrue, Some, None, IfSome, IfNone, OnOk, slice_get};
 ghost use Rattle.std.specs.List.{All};
 ghost use Rattle.sfi_image.specs.Spelling.{number, IsWord};
 ghost use Rattle.sfi_names.specs.Tables.{Named, entry, entries, IsName, IsNamed};
@@ -119,6 +119,25 @@ pub(crate) fn address_named(bytes: &[u8], name: &[u8]) -> Option<u32>
         if entry.name == name {
             return Some(entry.address);
         }
+        rest = more;
+    }
+    None
+}
+
+/// The entry at an index, counted from 0.
+pub(crate) fn entry_at(bytes: &[u8], index: u32) -> Option<NameEntry<'_>>
+    ensures found { IfSome result (λ f. (es : List Named) → All IsNamed es
+        → bytes.now ≡ entries es → slice_get es index ≡ Some (named f)) }
+    ensures none { IfNone result ((es : List Named) → All IsNamed es
+        → bytes.now ≡ entries es → slice_get es index ≡ None) }
+{
+    let mut rest = bytes;
+    let mut before = index;
+    while let Some((entry, more)) = first_name_entry(rest) {
+        if before == 0 {
+            return Some(entry);
+        }
+        before -= 1;
         rest = more;
     }
     None

@@ -1,17 +1,18 @@
 //! The table of a sandbox of an image.
-ghost use Rattle.std.specs.Prelude.{◌≡◌, ℕ, List, Result, Err, IfOk, IfErr, IsOkAnd};
+ghost use Rattle.std.specs.Prelude.{◌≡◌, ℕ, List, Result, Ok, Err, IfOk, IfErr, IsOkAnd};
 ghost use Rattle.sfi_names.specs.declared.image.Missing.{Missing};
 ghost use Rattle.sfi_names.specs.declared.image.Missing.TheVariants.{NoImage};
-ghost use Rattle.sfi_names.specs.Images.{IsInitOf, HasTableOf, HasNoTable, IsAnswer};
+ghost use Rattle.sfi_names.specs.Images.{IsInitOf, HasTableOf, HasNoTable, IsAnswer, IsEntryAnswer};
 ghost use Rattle.sfi_names.specs.private.{HasNoInit};
-ghost use Rattle.sfi_names.specs.Tables.{Table};
-ghost use Rattle.sfi_names.specs.Tables.{IsNamesOf};
+ghost use Rattle.sfi_names.specs.Tables.{Named, Table};
+ghost use Rattle.sfi_names.specs.Tables.{IsNamesOf, IsName, named};
 
+use crate::entry::{NameEntry, entry_at};
 use crate::fault::NamesFault;
 use crate::names::Names;
 use sfi_image::{LayoutFault, sandbox_of};
 
-/// Why an image has no address for a name.
+/// Why an image has no address for a name, or no entry at an index.
 #[derive(Clone, Copy, Debug, PartialEq, Eq)]
 pub enum Missing {
     /// The bytes are no image.
@@ -22,7 +23,7 @@ pub enum Missing {
     NoTable,
     /// They end in the magic, and what stands before it is no table's.
     BadTable,
-    /// The table doesn't have the name.
+    /// The table doesn't have the name, or no entry of the index.
     NoName,
 }
 
@@ -94,6 +95,50 @@ fn find_address(image: &[u8], number: u32, kind: Kind, name: &[u8]) -> Result<u3
     };
     match found {
         Some(address) => Ok(address),
+        None => Err(Missing::NoName),
+    }
+}
+
+/// The entry at an index among those of that kind, in the table of the image's sandbox `number`;
+/// both are counted from 0.
+pub fn entry_in<'a>(
+    image: &'a [u8],
+    number: u32,
+    kind: Kind,
+    index: u32,
+) -> Result<NameEntry<'a>, Missing>
+    ensures found { IfOk result (λ e.
+        IsEntryAnswer image.entry.now number kind index (Ok (named e))) }
+    ensures name { IfOk result (λ e. IsName e.name.now) }
+    ensures missing { IfErr result (λ m.
+        IsEntryAnswer image.entry.now number kind index (Err m)) }
+    ensures only_found { (e : Named) → IsEntryAnswer image.entry.now number kind index (Ok e)
+        → IsOkAnd result (λ f. named f ≡ e) }
+    ensures only_missing { (m : Missing)
+        → IsEntryAnswer image.entry.now number kind index (Err m) → result ≡ Err m }
+{
+    find_entry(image, number, kind, index)
+}
+
+/// The entry at an index, or why there is none.
+fn find_entry<'a>(
+    image: &'a [u8],
+    number: u32,
+    kind: Kind,
+    index: u32,
+) -> Result<NameEntry<'a>, Missing>
+    ensures found { IfOk result (λ e.
+        IsEntryAnswer image.entry.now number kind index (Ok (named e))) }
+    ensures missing { IfErr result (λ m.
+        IsEntryAnswer image.entry.now number kind index (Err m)) }
+{
+    let names = read_names(image, number)?;
+    let entries = match kind {
+        Kind::Exports => names.exports,
+        Kind::Imports => names.imports,
+    };
+    match entry_at(entries, index) {
+        Some(entry) => Ok(entry),
         None => Err(Missing::NoName),
     }
 }

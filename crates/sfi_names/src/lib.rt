@@ -15,6 +15,6 @@ mod room;
 
 pub use entry::{NameEntry, first_name_entry};
 pub use fault::NamesFault;
-pub use image::{Kind, Missing, address_in, names_in};
+pub use image::{Kind, Missing, address_in, entry_in, names_in};
 pub use names::Names;
 pub use room::room_at_end;
