@@ -1,15 +1,23 @@
 #!/usr/bin/env python3
-"""Runs `rt ci`, and lets it try the must-fail edits of a third of the crates, or of all.
+"""Runs `rt ci`, and lets it try the must-fail edits of the crates that changed and of a sixth of the others, or of all.
 
     tools/gate.py [--all]
+    tools/gate.py --times     # what the parts of the last ./test took
 
 Every crate, test and program is proved and run each time. The edits show that contracts are sharp, and take three fifths
-of the time of all, half of it for one more check of each crate that has any. So a run tries those of one crate in three:
-the number of commits says which third, so that a few merges try all, and what is left out is printed with the command
-that tries it. All are tried where git knows no commits.
+of the time of all, half of it for one more check of each crate that has any. So a run tries those of
+
+- each crate that changed: that differs from $GATE_BASE, a name of git's; without that from where HEAD left origin/main; and
+  where there is none or HEAD is in it, each that a commit of the six hours before the last one changed;
+- a sixth of all crates: the number of commits says which, so that a few merges try all.
+
+What is left out is printed with the command that tries it. All are tried where git knows no commits.
 
 The edits that are left out wait in git's own folder while `rt ci` runs, and are put back however it ends. What a killed
 run left there is put back by the next.
+
+What it and its parts took goes to out/times.txt, one a line: `took SECONDS PART`; and as `at SECONDS STEP CRATE` how long
+after it began `rt ci` said that a crate or its tests are proved, or that its edits are begun. `./test` adds its scripts.
 """
 import argparse
 import os
@@ -17,11 +25,22 @@ import re
 import signal
 import subprocess
 import sys
+import time
 
 TOP = os.path.dirname(os.path.dirname(os.path.abspath(__file__)))
-THIRDS = 3
+PARTS = 6
+HOURS = 6  # longer than it takes to make and to hand in what is merged at once
 EDIT_SECONDS = 27  # processor time of an edit, as a mean
 LINES_A_SECOND = 28  # how many lines of a crate a check proves in a second of processor time, as a mean
+CODE = ("src", "specs", "proofs")  # a crate's folders of code, definitions and proofs
+TIMES = os.path.join("out", "times.txt")
+# What `rt ci` says of a crate while it proves, and what it begins with once it has proved all and tried all edits.
+STEPS = {
+    "proof": re.compile(r"rt: (\w+) (?:proved$|is kept: )"),
+    "tests": re.compile(r"rt: (\w+): its tests are proved$"),
+    "edits": re.compile(r"rt: (\w+): trying its must-fail edits "),
+}
+JUDGED = re.compile(r"rt: (?:must-fail |\w+: \d+ of its \d+ must-fail edits were tried)")
 
 
 def edits_of(crate):
@@ -35,7 +54,7 @@ def edits_of(crate):
 def lines_of(crate):
     """How many lines of code, definitions and proofs a crate has."""
     count = 0
-    for part in ("src", "specs", "proofs"):
+    for part in CODE:
         for folder, _, files in os.walk(os.path.join("crates", crate, part)):
             for name in files:
                 with open(os.path.join(folder, name), "rb") as file:
@@ -54,12 +73,12 @@ def cost_of(crate):
     return EDIT_SECONDS * len(edits_of(crate)) + lines_of(crate) / LINES_A_SECOND
 
 
-def thirds():
-    """The crates that have edits, in three lists of about the same cost: the dearest crate first, each goes to the cheapest."""
+def parts():
+    """The crates that have edits, in six lists of about the same cost: the dearest crate first, each goes to the cheapest."""
     costs = {it: cost_of(it) for it in crates() if edits_of(it)}
-    found = [[] for _ in range(THIRDS)]
+    found = [[] for _ in range(PARTS)]
     for crate in sorted(costs, key=lambda it: (-costs[it], it)):
-        min(found, key=lambda third: sum(costs[it] for it in third)).append(crate)
+        min(found, key=lambda part: sum(costs[it] for it in part)).append(crate)
     return found
 
 
@@ -69,9 +88,31 @@ def git(*words):
     return ran.stdout.strip() if ran.returncode == 0 else ""
 
 
+def base():
+    """The commit that what is merged began from, or nothing where git doesn't know."""
+    named = os.environ.get("GATE_BASE")
+    if named:
+        found = git("rev-parse", "--verify", "--quiet", f"{named}^{{commit}}")
+        return found or sys.exit(f"gate.py: GATE_BASE is {named}, which is no commit here")
+    found = git("merge-base", "origin/main", "HEAD")
+    return found if found != git("rev-parse", "HEAD") else ""
+
+
+def changed():
+    """The crates of which code, definitions, proofs or edits changed, in commits or in the folder as it stands."""
+    begin = base()
+    if begin:
+        paths = git("diff", "--name-only", begin, "--", "crates")
+    else:
+        since = int(git("log", "-1", "--format=%ct")) - HOURS * 3600
+        paths = git("log", f"--since={since}", "--format=", "--name-only", "-m", "--", "crates") + "\n" + git("diff", "--name-only", "HEAD", "--", "crates")
+    return set(re.findall(rf"^crates/(\w+)/(?:{'|'.join(CODE)}|must-fail)/", paths, re.MULTILINE))
+
+
 def left_out(number):
     """The crates whose edits wait after `number` commits."""
-    return sorted(crate for at, third in enumerate(thirds()) if at != number % THIRDS for crate in third)
+    tried = changed() | set(parts()[number % PARTS])
+    return sorted(it for it in crates() if edits_of(it) and it not in tried)
 
 
 def put_back(aside):
@@ -98,20 +139,71 @@ def tell(waiting, number):
     print(f"gate.py: `rt must-fail {' '.join(waiting)}`, which tries them, as `./test --all` does", flush=True)
 
 
+def run_timed(file):
+    """Runs `rt ci`, prints what it says, writes to a file what its parts took, and gives its status."""
+    begun, judged = time.monotonic(), None
+    with subprocess.Popen(["rt", "ci"], stdout=subprocess.PIPE, stderr=subprocess.STDOUT) as process:
+        try:
+            for raw in process.stdout:
+                sys.stdout.buffer.write(raw)
+                sys.stdout.flush()
+                line, now = raw.decode(errors="replace").rstrip("\n"), time.monotonic() - begun
+                for step, form in STEPS.items():
+                    if found := form.match(line):
+                        print(f"at {now:.0f} {step} {found[1]}", file=file, flush=True)
+                if judged is None and JUDGED.match(line):
+                    judged = now
+        except BaseException:
+            process.kill()
+            raise
+    ended = time.monotonic() - begun
+    print(f"took {ended:.0f} rt ci", file=file)
+    if judged is not None:
+        print(f"took {judged:.0f} rt ci: proofs and edits", file=file)
+        print(f"took {ended - judged:.0f} rt ci: tests and programs", file=file)
+    return process.returncode
+
+
 def run_without(waiting, aside):
     """Runs `rt ci` while the edits of the crates in `waiting` are in the folder `aside`, and gives its status."""
+    os.makedirs(os.path.dirname(TIMES), exist_ok=True)
     try:
         set_aside([edit for crate in waiting for edit in edits_of(crate)], aside)
-        return subprocess.run(["rt", "ci"], check=False).returncode
+        with open(TIMES, "w", encoding="utf-8") as file:
+            return run_timed(file)
     finally:
         put_back(aside)
+
+
+def print_times():
+    """Prints what out/times.txt holds as two tables, the dearest part first, and gives the status."""
+    if not os.path.exists(TIMES):
+        print(f"gate.py: {TIMES} isn't there: ./test writes it", file=sys.stderr)
+        return 1
+    with open(TIMES, encoding="utf-8") as file:
+        rows = [it.rstrip("\n").split(" ", 2) for it in file]
+    steps = {}
+    for kind, seconds, what in rows:
+        if kind == "at":
+            step, crate = what.split(" ")
+            steps.setdefault(crate, {})[step] = seconds
+    print(" proof  tests  edits  crate: after how many seconds of `rt ci` it and its tests were proved, and its edits begun")
+    for crate, found in sorted(steps.items(), key=lambda it: (max(map(int, it[1].values())), it[0])):
+        print("".join(f"{found.get(it, ''):>6} " for it in STEPS), crate)
+    print("seconds  part")
+    for _, seconds, what in sorted((it for it in rows if it[0] == "took"), key=lambda it: -int(it[1])):
+        print(f"{seconds:>7}  {what}")
+    return 0
 
 
 def main():
     parser = argparse.ArgumentParser(description=__doc__, formatter_class=argparse.RawDescriptionHelpFormatter)
     parser.add_argument("--all", action="store_true", help="tries the edits of all crates")
+    parser.add_argument("--times", action="store_true", help="runs nothing, and prints what the parts of the last run took")
     options = parser.parse_args()
     os.chdir(TOP)
+    if options.times:
+        return print_times()
     signal.signal(signal.SIGTERM, lambda number, _: sys.exit(128 + number))
     aside = os.path.join(git("rev-parse", "--absolute-git-dir"), "sfi-edits")
     put_back(aside)

@@ -1,0 +1,97 @@
+# How ./test runs its parts, one at a time or side by side. It sources this after examples/harness.sh, whose $room and
+# counts this uses. $times is a file to which each part adds a line `took SECONDS PART`.
+results=()
+scripts=()
+lanes=$(($(nproc) / 2)) # how many scripts run at a time: some of them have several processes
+((lanes > 0)) || lanes=1
+starter=''
+
+# Adds what a part's last line counts. The part has failed where it has no such line or counts nothing, and where its
+# status says so though its line doesn't.
+judge_part() { # the part, its status, its seconds, the file of its output
+    local last before=$failed
+    last=$(tail -n 1 "$4")
+    if ! add_counts "$last"; then
+        failed=$((failed + 1))
+        last="no result, status $2: counted as failed"
+    elif [ "$2" != 0 ] && [ "$failed" = "$before" ]; then
+        failed=$((failed + 1))
+        last="$last, but it ended in status $2: counted as failed"
+    fi
+    results+=("$1: $last")
+    mapfile -t -O "${#results[@]}" results < <(grep '^skipped: ' "$4" | sed 's/^/    /')
+    [ "$3" = none ] || echo "took $3 $1" >>"$times"
+}
+
+# Runs a part whose seconds it tells itself.
+run_part() { # a command line
+    echo "==== $*"
+    "$@" </dev/null 2>&1 | tee "$room/output"
+    judge_part "$*" "${PIPESTATUS[0]}" none "$room/output"
+}
+
+await() { # a file
+    until [ -e "$1" ]; do sleep 0.2; done
+}
+
+# Runs one of the scripts, into files of its own: its process, its output, and its status and seconds once it has ended.
+# Of those that begin with the same `GROUP:` one runs at a time.
+run_aside() { # its number
+    local group='' words begun status
+    read -r -a words <<<"${scripts[$1]}"
+    echo "$BASHPID" >"$room/part$1.process"
+    : >"$room/part$1.output"
+    if [[ ${words[0]} == *: ]]; then
+        group=${words[0]%:}
+        words=("${words[@]:1}")
+        exec 9>"$room/group_$group"
+        flock 9
+    fi
+    begun=$SECONDS
+    "${words[@]}" </dev/null >"$room/part$1.output" 2>&1 9>&-
+    status=$?
+    echo "$status $((SECONDS - begun))" >"$room/part$1.new"
+    mv "$room/part$1.new" "$room/part$1.ended"
+}
+
+# Starts all scripts in their order, `lanes` of them at a time. A line `wait NAME` among them holds up those after it
+# until there is a file $room/NAME.
+start_scripts() {
+    local number
+    for number in "${!scripts[@]}"; do
+        if [[ ${scripts[number]} == "wait "* ]]; then
+            await "$room/${scripts[number]#wait }"
+            continue
+        fi
+        while (($(jobs -rp | wc -l) >= lanes)); do sleep 0.2; done
+        run_aside "$number" &
+    done
+    wait
+}
+
+stop_scripts() {
+    [ -z "$starter" ] || kill -- "-$starter" 2>"$room/stopped" || true
+}
+
+# Runs all that `scripts` lists, and prints and counts each in their order, the first that hasn't ended as it comes.
+run_scripts() {
+    local number status seconds words
+    set -m # a group of processes of their own, which ends with this
+    start_scripts &
+    starter=$!
+    set +m
+    trap 'stop_scripts; rm -rf "$room"' EXIT
+    for number in "${!scripts[@]}"; do
+        [[ ${scripts[number]} != "wait "* ]] || continue
+        read -r -a words <<<"${scripts[number]}"
+        [[ ${words[0]} != *: ]] || words=("${words[@]:1}")
+        echo "==== ${words[*]}"
+        await "$room/part$number.output"
+        tail -s 0.2 -n +1 -f --pid="$(<"$room/part$number.process")" "$room/part$number.output"
+        status=none seconds=0 # where it was killed
+        [ ! -e "$room/part$number.ended" ] || read -r status seconds <"$room/part$number.ended"
+        judge_part "${words[*]}" "$status" "$seconds" "$room/part$number.output"
+    done
+    wait "$starter"
+    starter=''
+}
