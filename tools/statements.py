@@ -17,11 +17,14 @@ ITEM = r"pub(?:\(crate\))? (?:struct|enum|trait) {}\b"
 @dataclass
 class Statement:
     """Contracts of one subject: what stands before the functions' names where the prover names them, of each file of code
-    below crates/ the functions, and the words from which definitions are sought, where these aren't all that the contracts cite."""
+    below crates/ the functions, and the words from which definitions are sought, where these aren't all that the contracts cite.
+    What is printed by itself, without what it cites: words, and types in code, each a file and a name."""
     title: str
     place: str
     files: dict
     roots: list = None
+    alone: tuple = ()
+    types_alone: tuple = ()
 
     def names(self):
         """The functions as the prover names them."""
@@ -29,9 +32,10 @@ class Statement:
 
 
 CHECK = "sfi_check/src/verdict.rt"
+SAFE = ("sfi_safe_runs", "Safety", "AllRunSafely")
 STATEMENTS = [
     Statement("`check`", "sfi_check::verdict", {CHECK: ["check"]},
-              [("sfi_safe_runs", "Safety", "AllRunSafely"), ("sfi_safety", "Clean", "IsAccepted")]),
+              [SAFE, ("sfi_safety", "Clean", "IsAccepted")]),
     Statement("`check_stream`, and the other clauses of `check`", "sfi_check::stream", {"sfi_check/src/stream.rt": ["check_stream"]}),
     Statement("`sfi_c_check`", "sfi_c::checking", {"sfi_c/src/checking.rt": ["sfi_c_check"]}),
     Statement("`World`", "sfi_host::world::World", {
@@ -45,10 +49,17 @@ STATEMENTS = [
     }),
 ]
 
+# Safety without the rules: what a clause of `check` says of bytes is taken of one field alone.
+SAFETY = [
+    Statement("Safety, by the clauses `accepted` and `safe` of `check`", "sfi_check::verdict", {CHECK: ["check"]},
+              [SAFE, ("sfi_image", "Parts", "IsImage"), ("std", "Prelude", "IfOk")],
+              alone=(("sfi_safety", "Clean", "IsAccepted"),), types_alone=(("sfi_check/src/accepted.rt", "Accepted"),)),
+]
 
-def proved_lines(crate):
-    """What the prover says of each of these functions that a crate has."""
-    names = [name for it in STATEMENTS for name in it.names()]
+
+def proved_lines(crate, stated):
+    """What the prover says of each function of statements that a crate has."""
+    names = [name for it in stated for name in it.names()]
     return [f"fn {name}: proved" for name in names if name.startswith(f"{crate}::")]
 
 
@@ -217,6 +228,9 @@ class Printer:
     def section(self, statement):
         """The text of a statement: its contracts, and on what they rest that no section before it has."""
         parts, cited, places = self.contracts(statement)
+        for file, name in statement.types_alone:
+            parts += [heading(TOP / "crates" / file), *self.item(TOP / "crates" / file, name)]
+        parts += self.definitions(statement.alone)
         if statement.roots:
             self.later = cited, places
             cited, places = set(statement.roots), set()
@@ -239,7 +253,7 @@ def declared_place(crate, file):
     return (TOP / "crates" / crate / "src" / "/".join(module)).with_suffix(".rt"), name
 
 
-def told():
+def told(stated):
     printer = Printer()
-    text = "\n".join(printer.section(it) for it in STATEMENTS)
+    text = "\n".join(printer.section(it) for it in stated)
     return Told(text, printer.cited_in_kit)

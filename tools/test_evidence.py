@@ -41,7 +41,7 @@ def log_of(crates):
     """What `rt ci` prints of crates that are proved, and of the tests of each."""
     lines = []
     for it in crates:
-        lines += [f"== {it}", f"fn {it}: proved", *statements.proved_lines(it), *AXIOMS.get(it, (0, ""))[1].splitlines(), verdict_of(it),
+        lines += [f"== {it}", f"fn {it}: proved", *statements.proved_lines(it, statements.STATEMENTS), *AXIOMS.get(it, (0, ""))[1].splitlines(), verdict_of(it),
                   f"rt: {it} proved", f"== {it}: its tests", f"logic=proved tests=3 functions=3{END}"]
     return "\n".join(lines) + "\n"
 
@@ -101,7 +101,7 @@ EDITS = [
      "verdicts: one is wanted"),
     ("no verdict", f"verdict sfi_check {verdict_of('sfi_check')}\n", "", "sfi_check has 0 verdicts"),
     ("no built libraries", None, lambda it: "\n".join(one for one in it.split("\n") if not one.startswith("built ")), "lacks this line: built"),
-    ("another version", evidence.title(), evidence.TITLE + "9.9.9", "isn't so here: # Evidence"),
+    ("another version", evidence.title(), evidence.WHOLE.title + "9.9.9", "isn't so here: # Evidence"),
     ("a line of its own", "crate sfi_rewrite ", "all is well\ncrate sfi_rewrite ", "this line isn't so here: all is well"),
     ("a line elsewhere", f"verdict rv_word {verdict_of('rv_word')}\n", "", "the page lacks this line: verdict rv_word"),
     ("a crate's hash", "crate sfi_check definitions=", "crate sfi_check definitions=0", "this line isn't so here: crate sfi_check"),
@@ -111,6 +111,24 @@ EDITS = [
     ("an edited contract", "ensures judged", "ensures", "a contract or a definition is another one"),
     ("an edited word of the toolchain", "slice_index xs i = get_or xs i 0", "slice_index xs i = 0", "a word of the toolchain is another one"),
 ]
+# Edits of a page of safety alone.
+EDITS_OF_SAFETY = [
+    ("an access elsewhere", "InData p a ⊎ InGuard p a\n", "InData p a ⊎ InCode p a\n", "a contract or a definition is another one"),
+    ("what the page says of the contract", "makes this no weaker", "makes this weaker", "a contract or a definition is another one"),
+    ("a clause", "ensures safe { IfOk result (λ ps. AllRunSafely ps) }", "ensures safe { IfOk result (λ ps. Unit {0}) }",
+     "a contract or a definition is another one"),
+    ("a function that isn't proved", "sfi_check fn sfi_check::verdict::check: proved\n", "", "lacks this line: sfi_check fn sfi_check::verdict::check"),
+    ("another function's proof", "sfi_check fn sfi_check::verdict::check: proved\n",
+     "sfi_check fn sfi_check::stream::check_stream: proved\nsfi_check fn sfi_check::verdict::check: proved\n", "this line isn't so here"),
+    ("as a page of all", evidence.SAFETY.title, evidence.WHOLE.title, "a contract or a definition is another one"),
+    ("not proved", "verdict sfi_check logic=proved", "verdict sfi_check logic=not-proved", "sfi_check isn't proved"),
+    ("an edited word of the toolchain", "slice_index xs i = get_or xs i 0", "slice_index xs i = 0", "a word of the toolchain is another one"),
+]
+# The files of definitions that docs/THEOREM.md lists for an auditor of safety.
+FILES_OF_SAFETY = {
+    "sfi_safe_runs": ["Safety", "Runs"], "sfi_safety": ["Clean"], "sfi_image": ["Parts", "Spelling"], "sfi_formats": ["Limits", "Formats"],
+    "rv_step": ["State", "Step"], "rv_mem": ["Bytes"], "rv_word": ["Spelling"], "rv_comp": ["Fronts", "Table"],
+}
 
 
 class Pages(unittest.TestCase):
@@ -120,15 +138,17 @@ class Pages(unittest.TestCase):
     def setUpClass(cls):
         cls.crates = definitions.crate_names()
         cls.page = evidence.page(log_of(cls.crates), KIT)
-        cls.told = statements.told()
+        cls.safety = evidence.page(log_of(cls.crates), KIT, evidence.SAFETY)
+        cls.told = {it.title: evidence.theorem(it) for it in (evidence.WHOLE, evidence.SAFETY)}
         cls.lines = {it: evidence.crate_line(it) for it in cls.crates}
-        cls.kit_section, cls.kit = evidence.kit_section(cls.told.kit_words), evidence.kit()
+        cls.kit_sections = {len(it.kit_words): evidence.kit_section(it.kit_words) for it in cls.told.values()}
+        cls.kit = evidence.kit()
 
     def faults(self, page):
         """What is wrong with a page of this checkout, which is read once."""
-        with mock.patch.object(statements, "told", return_value=self.told), \
+        with mock.patch.object(evidence, "theorem", lambda kind: self.told[kind.title]), \
                 mock.patch.object(evidence, "crate_line", self.lines.__getitem__), \
-                mock.patch.object(evidence, "kit_section", return_value=self.kit_section), \
+                mock.patch.object(evidence, "kit_section", lambda cited: self.kit_sections[len(cited)]), \
                 mock.patch.object(evidence, "kit", return_value=self.kit):
             return verify_evidence.judged(page)[0]
 
@@ -139,20 +159,36 @@ class Pages(unittest.TestCase):
                      "ghost invariant = { λ w. IsSafeWorld", "record IsWorldStep ", "pub ◌⟦◌∶◌⟧ :"):
             self.assertIn(said, self.page)
 
+    def test_a_page_of_safety_alone(self):
+        self.assertEqual(verify_evidence.judged(self.safety)[0], [])
+        files = {f"### crates/{crate}/specs/{it}.antt" for crate, names in FILES_OF_SAFETY.items() for it in names}
+        self.assertEqual({it.split(" sha256=")[0] for it in self.safety.splitlines() if ".antt sha256=" in it and it.startswith("### crates/")}, files)
+        for said in ("ensures safe { IfOk result", "pub record IsAccepted ", "pub record IsImage ", "record RunsSafely ", "record IsSafeStep ",
+                     "pub struct Accepted<'a> {", "ghost Value = { List Part };", "pub enum Instr {", "expansion (CSwsp t i) = "):
+            self.assertIn(said, self.safety)
+
     @unittest.skipUnless(kit_words.folder(), "the command rt isn't there")
     def test_words_of_the_toolchain(self):
         for said in ("slice_index xs i = get_or xs i 0", "pub record FinMap ", "Contains xs x = (k : ℕ)", "true && b = b"):
             self.assertIn(said, self.page)
+        for said in ("slice_index xs i = get_or xs i 0", "pub record FinMap ", "IfOk r P = MatchResult r P", "So the hash of each file\nstands here"):
+            self.assertIn(said, self.safety)
 
-    def test_edits(self):
-        for name, old, new, why in EDITS:
+    def try_edits(self, page, edits):
+        for name, old, new, why in edits:
             if old and "slice_index" in old and not kit_words.folder():
                 continue
             with self.subTest(name):
-                edited = signed(new(self.page) if old is None else self.page.replace(old, new, 1))
-                self.assertNotEqual(edited, self.page)
+                edited = signed(new(page) if old is None else page.replace(old, new, 1))
+                self.assertNotEqual(edited, page)
                 found = self.faults(edited)
                 self.assertTrue(any(why in it for it in found), found)
+
+    def test_edits(self):
+        self.try_edits(self.page, EDITS)
+
+    def test_edits_of_safety_alone(self):
+        self.try_edits(self.safety, EDITS_OF_SAFETY)
 
     def test_a_program_whose_verdict_names_threads(self):
         edited = signed(self.page.replace("verdict sfi logic=proved functions=11", "verdict sfi logic=proved functions=11 threads=_exit,free,pthread_attr_init,syscall"))
@@ -293,7 +329,7 @@ class Planted(testing.Folder):
         """What the page states of the copy."""
         with mock.patch.object(definitions, "TOP", self.room), mock.patch.object(definitions, "CRATES", self.room / "crates"), \
                 mock.patch.object(statements, "TOP", self.room):
-            return statements.told().text
+            return statements.told(statements.STATEMENTS).text
 
     def test_planted(self):
         for _, *row, _ in PLANTED:
@@ -335,10 +371,11 @@ class Commands(testing.Folder):
         half = self.write("half", log_of(definitions.crate_names()[1:]))
         whole = self.write("whole", log_of(definitions.crate_names()))
         first = definitions.crate_names()[0]
-        rows = [([], None, "usage: ./sfi evidence LOG > FILE: "), ([self.path("none")], None, "there is no file"),
-                ([half], None, f"no verdict on {first}: "), ([whole], self.folder, "no command rt")]
+        usage = "usage: ./sfi evidence [--safety] LOG > FILE: "
+        rows = [([], None, usage), (["--safety"], None, usage), ([whole, "--safety"], None, usage), ([self.path("none")], None, "there is no file"),
+                ([half], None, f"no verdict on {first}: "), (["--safety", half], None, f"no verdict on {first}: "), ([whole], self.folder, "no command rt")]
         for words, path, said in rows:
-            if not kit_words.folder() and words == [half]:
+            if not kit_words.folder() and half in words:
                 continue
             with self.subTest(said):
                 done = self.call(testing.TOP / "sfi", "evidence", *words) if path is None else self.call(evidence.__file__, *words, path=path)

@@ -158,12 +158,12 @@ def lines_of_built(lines):
     return found
 
 
-def faults_of_lines(lines):
+def faults_of_lines(lines, kind):
     """What lines a page has before the theorem that aren't those of this checkout, and what it lacks."""
-    wanted = [evidence.title(), "", next((it for it in lines if it.startswith("kit ")), "kit")]
+    wanted = [evidence.title(kind), "", next((it for it in lines if it.startswith("kit ")), "kit")]
     for crate in definitions.crate_names():
         of_crate = [it for it in lines if it.startswith(f"{crate} axioms ")]
-        of_crate += sorted(f"{crate} {it}" for it in statements.proved_lines(crate))
+        of_crate += sorted(f"{crate} {it}" for it in statements.proved_lines(crate, kind.stated))
         verdict = next((it for it in lines if it.startswith(f"verdict {crate} ")), f"verdict {crate}")
         wanted += [evidence.crate_line(crate), *of_crate, verdict]
     wanted += lines_of_built(lines)
@@ -183,7 +183,8 @@ def compared_words(kit_words, cited):
 def judged(text):
     """What is wrong with a page, and what can't be compared here."""
     body, lines, theorem, kit_words, hash_told = split(text)
-    told = statements.told()
+    kind = evidence.kind_of(text)
+    told = evidence.theorem(kind)
     found = [] if hash_told == evidence.hash_of(body.encode()) else ["the page's hash isn't that of its text"]
     found += [] if theorem == told.text else ["a contract or a definition is another one here"]
     of_words, notes = compared_words(kit_words, told.kit_words)
@@ -192,7 +193,7 @@ def judged(text):
     for crate in definitions.crate_names():
         found += faults_of_verdict(crate, lines, logic)
     notes += [f"{it.split()[1]}: it isn't built here" for it in evidence.library_lines() if not is_built_here(it)]
-    return found + faults_of_lines(lines), notes
+    return found + faults_of_lines(lines, kind), notes
 
 
 def main(words):
