@@ -1,6 +1,6 @@
 -- What holds of sandboxes at other places, and beside those of another image: the laws, for proofs in the crates above.
 use Rattle.sfi_places.specs.Moving.{FindingsArePlaceless, CleanIsPlaceless, MovedIsRight, AcceptedMoves, OneMoves}
-use Rattle.sfi_places.specs.Beside.{BesideIsAsOne, BesideByPairs, RightAreBeside, DataBesideAreOthers, StepsBesideAreChanges}
+use Rattle.sfi_places.specs.Beside.{BesideIsAsOne, BesideByPairs, RightAreBeside, ChangesBesideAreOthers, StepsBesideAreChanges}
 use Rattle.sfi_places.proofs.Relaid as beside
 use Rattle.sfi_places.proofs.Neighbours as neighbours
 use Rattle.sfi_places.proofs.Moves as moves
@@ -30,8 +30,8 @@ beside_by_pairs = beside.beside_by_pairs
 pub right_are_beside : RightAreBeside
 right_are_beside = neighbours.right_are_beside
 
-pub data_beside_are_others : DataBesideAreOthers
-data_beside_are_others = neighbours.data_are_others
+pub changes_beside_are_others : ChangesBesideAreOthers
+changes_beside_are_others = neighbours.are_others
 
 pub steps_beside_are_changes : StepsBesideAreChanges
 steps_beside_are_changes = neighbours.steps_are_changes

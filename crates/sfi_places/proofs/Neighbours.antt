@@ -4,12 +4,13 @@ use Rattle.std.specs.Prelude.{slice_get}
 use Rattle.std.specs.List.{All, AllPairs}
 use Rattle.std.proofs.lemmas.List.Elements.{All-head, All-tail, All-from_recursion}
 use Rattle.std.proofs.lemmas.Option.{same_Some}
-use Rattle.rv_step.specs.Step.{Stepped, IsStep}
+use Rattle.rv_step.specs.Step.{Stepped}
 use Rattle.sfi_image.specs.declared.span.Span.{Span}
 use Rattle.sfi_image.specs.Spelling.{Part, Holds, AreApart, spans, code_region, data_region, guarded_region}
-use Rattle.sfi_safe_runs.specs.Runs.{InData, InGuard, Steps}
-use Rattle.sfi_safe_runs.proofs.Facts.{safe_turns}
-use Rattle.sfi_places.specs.Beside.{AreBeside, RightAreBeside, DataBesideAreOthers, StepsBesideAreChanges}
+use Rattle.sfi_safe_runs.specs.Runs.{InGuard, Zones, Empty, Padded, Steps}
+use Rattle.sfi_safe_runs.specs.Safety.{writable_region}
+use Rattle.sfi_safe_runs.proofs.Facts.{safe_turns_as, changes_anyway}
+use Rattle.sfi_places.specs.Beside.{AreBeside, RightAreBeside, ChangesBesideAreOthers, StepsBesideAreChanges}
 
 -- ---- the two spans of a sandbox
 
@@ -95,24 +96,31 @@ right_are_beside ps i j p q right ne at there = are_beside p q (any_apart ps i j
 
 -- ---- changes by others
 
-data_guarded : (p : Part) (a : ℕ) → InData p a → Holds (guarded_region p) a
-data_guarded p a (from, below) = (omega arith, omega arith)
-
 guard_guarded : (p : Part) (a : ℕ) → InGuard p a → Holds (guarded_region p) a
 guard_guarded p a (inl (from, below)) = (omega arith, omega arith)
 guard_guarded p a (inr (from, below)) = (omega arith, omega arith)
 
-pub data_are_others : DataBesideAreOthers
-data_are_others p q h m n beside stays =
+pub are_others : ChangesBesideAreOthers
+are_others p q h m n beside stays =
     let apart = spans_apart p q beside in
     record {
       pc = refl;
       registers = refl;
       bytes = record {
-        code = λ a inside. stays a (λ own. apart.guarded_code a (data_guarded p a own) inside);
-        guards = λ a guard none. stays a (λ own. apart.guarded_guarded a (data_guarded p a own) (guard_guarded q a guard)) ∙ none;
+        code = λ a inside. stays a (λ own. apart.code_code a own inside) (λ own. apart.guarded_code a own inside);
+        guards = λ a guard none.
+            let guarded = guard_guarded q a guard in
+            stays a (λ own. apart.code_guarded a own guarded) (λ own. apart.guarded_guarded a own guarded) ∙ none;
       };
     }
 
+-- what a step may change lies in the data with their guard zones
+written : (z : Zones) (p : Part) (a : ℕ) → Holds (writable_region z p) a → Holds (guarded_region p) a
+written Empty p a (from, below) = (omega arith, omega arith)
+written Padded p a held = held
+
 pub steps_are_changes : StepsBesideAreChanges
-steps_are_changes p q s r h beside safe step = data_are_others p q h s.memory r.state.memory beside (safe_turns p s (Steps r) safe step).1.stays
+steps_are_changes t u p q s r h beside safe step =
+    let stays = (safe_turns_as t p s (Steps r) safe step).1.stays in
+    changes_anyway u q (record { hart = h; memory = s.memory }) (record { hart = h; memory = r.state.memory })
+    (are_others p q h s.memory r.state.memory beside (λ a code guarded. stays a (λ held. guarded (written t.zones p a held))))

@@ -2,13 +2,13 @@
 use Rattle.std.specs.Prelude.{◌≡◌, ◌≢◌, ℕ, List, [], ◌∷◌, ◌++◌, Some, slice_get}
 use Rattle.std.specs.List.{All}
 use Rattle.sfi_image.specs.declared.span.Span.{Span}
-use Rattle.sfi_image.specs.Spelling.{Part, AreApart, spans, data_region}
+use Rattle.sfi_image.specs.Spelling.{Part, Holds, AreApart, spans, code_region, guarded_region}
 use Rattle.sfi_image.specs.Parts.{AreRight}
-use Rattle.rv_mem.specs.Bytes.{Bytes}
+use Rattle.rv_mem.specs.Bytes.{Bytes, byte_at}
 use Rattle.rv_step.specs.State.{Hart, State}
-use Rattle.rv_step.specs.Step.{Stepped, IsStep}
-use Rattle.sfi_safe_runs.specs.Runs.{StaysOutside, IsChange}
-use Rattle.sfi_safe_runs.specs.Safety.{AllRunSafely, AllCallTyped, RunsSafelyFrom}
+use Rattle.rv_step.specs.Step.{Stepped}
+use Rattle.sfi_safe_runs.specs.Runs.{Setting, Steps, IsTurnAs, IsChange, IsChangeAs}
+use Rattle.sfi_safe_runs.specs.Safety.{AllRunSafely, AllCallTyped, RunsSafelyFromAs}
 use Rattle.sfi_safety.specs.Clean.{IsClean}
 
 -- no code region and no data with its guard zones of the first image meets one of the second
@@ -37,18 +37,20 @@ RightAreBeside =
 
 -- ==== What one of them does is, to the other, a change by others.
 
--- Where no byte outside a sandbox's data changes, as by a host's write or a reply that keeps to them,
--- that is a change by others to each sandbox beside it, whatever its registers are.
-abbrev pub DataBesideAreOthers : Type 0
-DataBesideAreOthers =
+-- Where no byte outside a sandbox's code and its data with their guard zones changes, as by a host's write, by
+-- a reply, or where its code is put there, that is a change by others to each sandbox beside it, whatever
+-- its registers are.
+abbrev pub ChangesBesideAreOthers : Type 0
+ChangesBesideAreOthers =
     (p q : Part) (h : Hart) (m n : Bytes) → AreBeside (p ∷ []) (q ∷ [])
-    → StaysOutside (data_region p) m n
+    → ((a : ℕ) → (Holds (code_region p) a → ⊥) → (Holds (guarded_region p) a → ⊥)
+    → byte_at n a ≡ byte_at m a)
     → IsChange q (record { hart = h; memory = m }) (record { hart = h; memory = n })
 
--- so is each step of a sandbox from a state from which every run is safe
+-- so is each step of a sandbox from a state from which every run is safe, in whatever settings the two are
 abbrev pub StepsBesideAreChanges : Type 0
 StepsBesideAreChanges =
-    (p q : Part) (s : State) (r : Stepped) (h : Hart) → AreBeside (p ∷ []) (q ∷ [])
-    → RunsSafelyFrom p s → IsStep s r
-    → IsChange q (record { hart = h; memory = s.memory })
+    (t u : Setting) (p q : Part) (s : State) (r : Stepped) (h : Hart)
+    → AreBeside (p ∷ []) (q ∷ []) → RunsSafelyFromAs t p s → IsTurnAs t p s (Steps r)
+    → IsChangeAs u q (record { hart = h; memory = s.memory })
     (record { hart = h; memory = r.state.memory })

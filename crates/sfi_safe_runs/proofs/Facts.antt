@@ -1,8 +1,8 @@
 -- What holds of runs, whatever the rules: laws, and further lemmas, for proofs here and in the crates above.
-use Rattle.sfi_safe_runs.specs.Laws.{SafeTurns, SafeStaysSafe, SafeFetches, GoesOnSafely, CanBeEntered, HasEntries, EntersAnyway, RepliesAnyway, BundlesAskTheSame, WordsAsk, FirstFormatAsksNoStack}
+use Rattle.sfi_safe_runs.specs.Laws.{SafeTurns, SafeStaysSafe, SafeFetches, GoesOnSafely, CanBeEntered, HasEntries, SafeTurnsAs, EntersAnyway, ChangesAnyway, GuardsHoldAnything, BoardsHoldAnything, RepliesAnyway, BundlesAskTheSame, WordsAsk, FirstFormatAsksNoStack}
 use Rattle.sfi_safe_runs.proofs.Entries.{entered, entries, bundles_ask, words_asks, first_asks}
 use Rattle.sfi_safe_runs.proofs.Settings as settings
-use Rattle.sfi_safe_runs.proofs.SafeRuns.{turns_safe, stays_safe, fetches, goes_on}
+use Rattle.sfi_safe_runs.proofs.SafeRuns.{turns_safe, turns_safe_as, stays_safe, fetches, goes_on}
 
 pub safe_turns : SafeTurns
 safe_turns = turns_safe
@@ -22,8 +22,20 @@ can_be_entered = entered
 pub has_entries : HasEntries
 has_entries = entries
 
+pub safe_turns_as : SafeTurnsAs
+safe_turns_as = turns_safe_as
+
 pub enters_anyway : EntersAnyway
 enters_anyway = settings.enters_anyway
+
+pub changes_anyway : ChangesAnyway
+changes_anyway = settings.changes_anyway
+
+pub guards_hold_anything : GuardsHoldAnything
+guards_hold_anything = settings.guards_hold_anything
+
+pub boards_hold_anything : BoardsHoldAnything
+boards_hold_anything = settings.boards_hold_anything
 
 pub replies_anyway : RepliesAnyway
 replies_anyway = settings.replies_anyway

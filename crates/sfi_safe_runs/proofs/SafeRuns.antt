@@ -3,7 +3,8 @@ use Rattle.sfi_safe_runs.proofs.Prelude.{ℕ, [], ◌∷◌, Option, Some, None,
 use Rattle.rv_step.specs.declared.outcome.Cause.TheVariants as cause
 use Rattle.rv_step.proofs.Facts.{step_is_effect}
 use Rattle.std.specs.Prelude.{◌≡◌, IfSome}
-use Rattle.sfi_safe_runs.specs.Runs.{KeepsReserved, Zones, Empty, Padded, by_ecall, HasGuards, KeepsGuards, KeepsBytesAs, IsEntryAs, IsReplyAs, IsChangeAs, IsTurnAs, IsRunAs}
+use Rattle.sfi_safe_runs.specs.Runs.{KeepsReserved, Zones, Empty, Padded, plain, by_ecall, HasGuards, KeepsGuards, KeepsBytesAs, IsEntryAs, IsReplyAs, IsChangeAs, IsTurnAs, IsRunAs}
+use Rattle.sfi_safe_runs.specs.Laws.{SafeTurnsAs}
 use Rattle.sfi_safe_runs.specs.Safety.{KeepsAllAs, IsSafeStepAs, IsSafeTurnAs, IsSafeRunAs, RunsSafelyAs, CallsTypedAs}
 use Rattle.rv_comp.specs.declared.front.Front.TheVariants.{Read}
 
@@ -11,8 +12,11 @@ use Rattle.rv_comp.specs.declared.front.Front.TheVariants.{Read}
 
 -- ---- from a state on
 
+pub turns_safe_as : SafeTurnsAs
+turns_safe_as t p s turn from h = let run = from.safe (turn ∷ []) (h, tt) in (run.0, run.1)
+
 pub turns_safe : SafeTurns
-turns_safe p s turn from h = let run = from.safe (turn ∷ []) (h, tt) in (run.0, run.1)
+turns_safe = turns_safe_as plain
 
 pub stays_safe : SafeStaysSafe
 stays_safe p s after turn from h e = record {

@@ -8,7 +8,7 @@ use Rattle.rv_comp.specs.Fronts.{Spells}
 use Rattle.rv_comp.proofs.Facts.{spelled_length, spelled_some}
 use Rattle.sfi_image.proofs.Facts.{code_ends}
 use Rattle.sfi_safe_runs.specs.Runs.{InCode, StaysOutside, Zones, Empty, Padded, HasGuards}
-use Rattle.sfi_safe_runs.specs.Safety.{KeepsAllAs, TrapsIn, IsSafeStepAs, changed_in}
+use Rattle.sfi_safe_runs.specs.Safety.{KeepsAllAs, TrapsIn, IsSafeStepAs, writable_region}
 use Rattle.sfi_image.specs.Spelling.{data_region}
 
 -- ==== What a step keeps, if its accesses fall into the data and the guards.
@@ -117,7 +117,7 @@ module _ (p : Part) (right : IsRightPart p) (apart : AreApart (code_region p) (g
     trapped Empty empty = λ j k there a has guard. traps empty a (subst (λ (x : Instr). Accesses x s.hart a) (only j k there).0 has) guard r.outcome refl
     trapped Padded any = tt
 
-    stays : (z : Zones) → HasGuards z p s.memory → StaysOutside (changed_in z p) s.memory r.state.memory
+    stays : (z : Zones) → HasGuards z p s.memory → StaysOutside (writable_region z p) s.memory r.state.memory
     stays Empty empty = data_alone p s i n r stands step near (λ a has guard. traps empty a has guard r.outcome refl)
     stays Padded any = λ a out. other_bytes_stay s i n r a stands step (λ has. out (guarded p a right (near a has)))
 

@@ -1,17 +1,17 @@
 -- What holds of runs, whatever the rules.
 use Rattle.std.specs.Prelude.{◌≡◌, ◌≢◌, ◌↔◌, ◌<◌, slice_index, ℕ, List, Some, true, false}
-use Rattle.rv_mem.specs.Bytes.{Bytes}
+use Rattle.rv_mem.specs.Bytes.{Bytes, IsMemory, byte_at}
 use Rattle.rv_step.specs.declared.outcome.Outcome.TheVariants.{Trap}
 use Rattle.rv_step.specs.declared.outcome.Cause.TheVariants.{Fetch, Illegal}
-use Rattle.rv_step.specs.State.{Hart, IsHart, State}
+use Rattle.rv_step.specs.State.{Hart, IsHart, State, IsState}
 use Rattle.rv_step.specs.Step.{Stepped, IsStep}
 use Rattle.sfi_formats.specs.declared.format.Format.TheVariants.{Sfi1}
 use Rattle.sfi_formats.specs.Formats.{has_words}
 use Rattle.sfi_formats.specs.Limits.{bundle_size, word_size}
 use Rattle.sfi_image.specs.Parts.{IsRightPart, IsBundleStart, reserved_for, reserved_of}
 use Rattle.sfi_image.specs.Spelling.{AreApart, code_region, data_region, guarded_region, Part}
-use Rattle.sfi_safe_runs.specs.Runs.{IsUnitStart, HasReserved, StackInData, IsTyped, IsWordStart, AreWordsTyped, Setting, HasEcall, Turn, IsTurn, IsEntry, IsEntryAs, IsReplyAs, after_turn}
-use Rattle.sfi_safe_runs.specs.Safety.{IsSafeState, IsSafeTurn, RunsSafelyFrom, GoesSafelyFrom}
+use Rattle.sfi_safe_runs.specs.Runs.{InGuard, IsUnitStart, HasReserved, StackInData, StaysOutside, IsTyped, IsWordStart, AreWordsTyped, Zones, Padded, Calls, Direct, Setting, IsInBoard, HasCodeAs, HasEcall, Turn, IsTurn, IsTurnAs, IsEntry, IsEntryAs, IsChange, IsChangeAs, IsReplyAs, after_turn}
+use Rattle.sfi_safe_runs.specs.Safety.{IsSafeState, IsSafeStateAs, IsSafeTurn, IsSafeTurnAs, RunsSafelyFrom, RunsSafelyFromAs, GoesSafelyFrom}
 
 -- where every run from a state is safe, the state is safe, and so is each turn from it
 abbrev pub SafeTurns : Type 0
@@ -59,15 +59,44 @@ HasEntries =
 
 -- ---- in every setting
 
--- an entry of the plain way is one of every setting, so each has entries
+-- where every run from a state is safe, so is each turn from it
+abbrev pub SafeTurnsAs : Type 0
+SafeTurnsAs = (t : Setting) (p : Part) (s : State) (turn : Turn) → RunsSafelyFromAs t p s
+    → IsTurnAs t p s turn → IsSafeStateAs t.calls p s × IsSafeTurnAs t.zones p s turn
+
+-- an entry of the theorem's setting is one of every setting, so each has entries
 abbrev pub EntersAnyway : Type 0
 EntersAnyway = (t : Setting) (p : Part) (s : State) → IsEntry p s → IsEntryAs t p s
 
--- where the image has an ecall, an entry of any setting can be replied to, whatever a springboard's bytes
--- are: so a run goes on behind one
+-- a change by others in the theorem's setting is one in every setting
+abbrev pub ChangesAnyway : Type 0
+ChangesAnyway = (t : Setting) (p : Part) (s after : State) → IsChange p s after → IsChangeAs t p s after
+
+-- where guard zones may hold bytes, an entry stays one whatever bytes they hold
+abbrev pub GuardsHoldAnything : Type 0
+GuardsHoldAnything =
+    (calls : Calls) (p : Part) (s : State) (m : Bytes) → IsRightPart p
+    → AreApart (code_region p) (guarded_region p)
+    → IsEntryAs (record { zones = Padded; calls = calls }) p s → IsMemory m
+    → StaysOutside (guarded_region p) s.memory m
+    → IsEntryAs (record { zones = Padded; calls = calls }) p (record { hart = s.hart; memory = m })
+
+-- with direct gates an entry stays one whatever bytes the springboards have
+abbrev pub BoardsHoldAnything : Type 0
+BoardsHoldAnything =
+    (zones : Zones) (direct : List ℕ) (p : Part) (s : State) (m : Bytes) → IsMemory m
+    → ((a : ℕ) → (IsInBoard p direct a → ⊥) → byte_at m a ≡ byte_at s.memory a)
+    → ((a : ℕ) → InGuard p a → byte_at m a ≡ byte_at s.memory a)
+    → IsEntryAs (record { zones = zones; calls = Direct direct }) p s
+    → IsEntryAs (record { zones = zones; calls = Direct direct }) p
+    (record { hart = s.hart; memory = m })
+
+-- where the image has an ecall at pc, and the typed registers hold what their types say, there is a reply,
+-- whatever a springboard's bytes are
 abbrev pub RepliesAnyway : Type 0
-RepliesAnyway = (t : Setting) (p : Part) (s : State) → IsRightPart p → IsEntryAs t p s
-    → HasEcall p s.hart.pc → (after : State) × IsReplyAs t p s after
+RepliesAnyway = (t : Setting) (p : Part) (s : State) → IsRightPart p → IsState s
+    → HasCodeAs t.calls p s.memory → IsTyped p s.hart.registers → HasEcall p s.hart.pc
+    → (after : State) × IsReplyAs t p s after
 
 -- ---- what the formats ask
 

@@ -86,8 +86,8 @@ pub record IsTyped (p : Part) (registers : List ℕ) : Type 0 where
 
 -- ==== How a host keeps a sandbox and answers its calls: the plain way, and others.
 
--- What the guard zones hold: no byte, so that each access there traps. Or bytes, which an access then
--- reads and writes, on a machine that can't keep the zones empty. That memory is to be nobody else's;
+-- What the guard zones hold: no byte, so that each access there traps. Or anything, on a machine that
+-- can't keep the zones empty: an access to a byte there is then done. That memory is to be nobody else's;
 -- nothing is asked of it here.
 pub data Zones : Type 0 where
   Empty : Zones
@@ -101,16 +101,17 @@ pub data Calls : Type 0 where
   ByEcall : Calls
   Direct : List ℕ → Calls
 
--- both
+-- how a host keeps a sandbox: what its guard zones hold, and how its gates are called
 pub record Setting : Type 0 where
   pub zones : Zones
   pub calls : Calls
 
--- calls by an ecall alone
+-- the setting with these guard zones in which each gate is called by an ecall
 abbrev pub by_ecall : Zones → Setting
 by_ecall zones = record { zones = zones; calls = ByEcall }
 
--- and empty guard zones
+-- The theorem's setting: empty guard zones, and calls by an ecall alone. A name that ends in As is of any
+-- setting, the same name without As of this one.
 abbrev pub plain : Setting
 plain = by_ecall Empty
 
@@ -127,10 +128,10 @@ pub record IsInBoard (p : Part) (direct : List ℕ) (a : ℕ) : Type 0 where
   pub from : gate ≤ a
   pub below : a < gate + 4
 
--- what is said of an address, unless it is in a springboard
-abbrev pub OffBoards : Calls → Part → ℕ → Type 0 → Type 0
-OffBoards ByEcall p a said = said
-OffBoards (Direct direct) p a said = (IsInBoard p direct a → ⊥) → said
+-- the address is one of the sandbox's own code: in the code region, and in no springboard
+abbrev pub IsOwnCode : Calls → Part → ℕ → Type 0
+IsOwnCode ByEcall p a = InCode p a
+IsOwnCode (Direct direct) p a = InCode p a × (IsInBoard p direct a → ⊥)
 
 -- what is said where pc is, unless a direct gate is there
 abbrev pub OffGates : Calls → Part → ℕ → Type 0 → Type 0
@@ -139,20 +140,23 @@ OffGates (Direct direct) p pc said = (IsDirect p direct pc → ⊥) → said
 
 -- ---- what the memory holds
 
--- at each code address is the image's byte, and in springboards any
-abbrev pub HasCodeAs : Calls → Part → Bytes → Type 0
-HasCodeAs calls p m = (k : ℕ) → k < length p.code
-    → OffBoards calls p (p.code_base + k) (byte_at m (p.code_base + k) ≡ Some (slice_index p.code k))
-
 -- at each code address is the image's byte
 abbrev pub HasCode : Part → Bytes → Type 0
-HasCode p m = HasCodeAs ByEcall p m
+HasCode p m =
+    (k : ℕ) → k < length p.code → byte_at m (p.code_base + k) ≡ Some (slice_index p.code k)
+
+-- at each address of the sandbox's own code is the image's byte; in a springboard may be anything
+abbrev pub HasCodeAs : Calls → Part → Bytes → Type 0
+HasCodeAs ByEcall p m = HasCode p m
+HasCodeAs (Direct direct) p m =
+    (k : ℕ) → k < length p.code → (IsInBoard p direct (p.code_base + k) → ⊥)
+    → byte_at m (p.code_base + k) ≡ Some (slice_index p.code k)
 
 -- at no guard address is a byte
 abbrev pub HasEmptyGuards : Part → Bytes → Type 0
 HasEmptyGuards p m = (a : ℕ) → InGuard p a → byte_at m a ≡ None
 
--- the guard zones are so
+-- the guard zones hold what the setting allows: no byte, or anything
 abbrev pub HasGuards : Zones → Part → Bytes → Type 0
 HasGuards Empty p m = HasEmptyGuards p m
 HasGuards Padded p m = Unit {0}
@@ -178,9 +182,9 @@ KeepsGuards Empty p before after =
     (a : ℕ) → InGuard p a → byte_at before a ≡ None → byte_at after a ≡ None
 KeepsGuards Padded p before after = Unit {0}
 
--- the code's bytes stay, but for springboards, and so do empty guards
+-- the bytes of the sandbox's own code stay, and so do empty guards
 pub record KeepsBytesAs (t : Setting) (p : Part) (before after : Bytes) : Type 0 where
-  pub code : (a : ℕ) → InCode p a → OffBoards t.calls p a (byte_at after a ≡ byte_at before a)
+  pub code : (a : ℕ) → IsOwnCode t.calls p a → byte_at after a ≡ byte_at before a
   pub guards : KeepsGuards t.zones p before after
 
 -- the reserved registers stay
@@ -203,7 +207,7 @@ abbrev pub Asks : Calls → Part → State → ℕ → Type 0
 Asks ByEcall p s size = Stands s Ecall size
 Asks (Direct direct) p s size = HasEcall p s.hart.pc × (size ≡ 4)
 
--- a reply to the ecall at pc: the sandbox goes on after it, and keeps the reserved registers, the
+-- A reply where the sandbox calls: it goes on after the ecall, and keeps the reserved registers, its own
 -- code and empty guards; the typed registers hold what their types say. All else is arbitrary.
 pub record IsReplyAs (t : Setting) (p : Part) (before after : State) : Type 0 where
   pub size : ℕ
@@ -214,9 +218,9 @@ pub record IsReplyAs (t : Setting) (p : Part) (before after : State) : Type 0 wh
   pub typed : IsTyped p after.hart.registers
   pub bytes : KeepsBytesAs t p before.memory after.memory
 
--- A change by others of memory alone, which keeps the code and empty guards, and may change
--- springboards. All other memory is arbitrary, even no bytes: then no real machine has the state, and what
--- is said of runs still holds.
+-- A change by others of memory alone, which keeps the sandbox's own code and empty guards. All other
+-- memory is arbitrary, even no bytes: then no real machine has the state, and what is said of runs still
+-- holds.
 pub record IsChangeAs (t : Setting) (p : Part) (before after : State) : Type 0 where
   pub pc : after.hart.pc ≡ before.hart.pc
   pub registers : after.hart.registers ≡ before.hart.registers

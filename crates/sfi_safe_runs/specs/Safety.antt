@@ -9,7 +9,7 @@ use Rattle.rv_step.specs.Step.{Accesses, Stepped, Stands}
 use Rattle.rv_step.specs.State.{State}
 use Rattle.sfi_image.specs.declared.span.Span.{Span}
 use Rattle.sfi_image.specs.Spelling.{Part, data_region, guarded_region}
-use Rattle.sfi_safe_runs.specs.Runs.{InCode, InData, InGuard, IsGate, HasCode, HasReserved, StaysOutside, Zones, Empty, Padded, Calls, ByEcall, Direct, Setting, plain, IsDirect, IsInBoard, OffGates, HasCodeAs, HasGuards, Asks, Turn, Steps, Replies, Changes, IsEntryAs, IsRunAs, after_turn, IsTyped}
+use Rattle.sfi_safe_runs.specs.Runs.{InCode, InData, InGuard, IsGate, HasCode, HasReserved, StaysOutside, Zones, Empty, Padded, Calls, ByEcall, Direct, Setting, plain, IsDirect, IsInBoard, IsOwnCode, OffGates, HasCodeAs, HasGuards, Asks, Turn, Steps, Replies, Changes, IsEntryAs, IsRunAs, after_turn, IsTyped}
 use Rattle.rv_word.specs.declared.instr.Instr.TheVariants.{Ecall}
 
 -- an instruction stands at pc
@@ -22,11 +22,6 @@ pub record HasInstruction (s : State) : Type 0 where
 abbrev pub IsAtCode : Calls → Part → ℕ → Type 0
 IsAtCode ByEcall p pc = InCode p pc
 IsAtCode (Direct direct) p pc = InCode p pc × (IsInBoard p direct pc → IsDirect p direct pc)
-
--- the address is one of the sandbox's own code: in the code region, and in no springboard
-abbrev pub IsOwnCode : Calls → Part → ℕ → Type 0
-IsOwnCode ByEcall p a = InCode p a
-IsOwnCode (Direct direct) p a = InCode p a × (IsInBoard p direct a → ⊥)
 
 -- The code's bytes are the image's, and pc lies in the code. Where it is at no direct gate, an instruction
 -- stands at pc, each of whose bytes is one of the sandbox's own code.
@@ -51,17 +46,18 @@ TrapsIn Empty p s r = (i : Instr) (n : ℕ) → Stands s i n → (a : ℕ) → A
 TrapsIn Padded p s r = Unit {0}
 
 -- what a step may change: the data region; where the guard zones hold bytes, these too
-abbrev pub changed_in : Zones → Part → Span
-changed_in Empty p = data_region p
-changed_in Padded p = guarded_region p
+abbrev pub writable_region : Zones → Part → Span
+writable_region Empty p = data_region p
+writable_region Padded p = guarded_region p
 
 -- Each address that the step accesses lies in the data region or in a guard zone, and if one lies in a
--- guard zone that is empty, the step traps. No other byte changes. A call is at a listed gate.
+-- guard zone that is empty, the step traps. No byte changes but the data region's, and the guard zones'
+-- where these may hold bytes. A call is at a listed gate.
 pub record IsSafeStepAs (zones : Zones) (p : Part) (s : State) (r : Stepped) : Type 0 where
   pub within :
       (i : Instr) (n : ℕ) → Stands s i n → (a : ℕ) → Accesses i s.hart a → InData p a ⊎ InGuard p a
   pub trapped : TrapsIn zones p s r
-  pub stays : StaysOutside (changed_in zones p) s.memory r.state.memory
+  pub stays : StaysOutside (writable_region zones p) s.memory r.state.memory
   pub called : r.outcome ≡ Call → IsGate p s.hart.pc
 
 -- the turn is safe: a reply, too, is made at a listed gate
@@ -137,11 +133,15 @@ pub record CallsTypedFromAs (t : Setting) (p : Part) (s : State) : Type 0 where
   pub typed : (turns : List Turn) (at : State) (n : ℕ) → IsRunAs t p (Some s) turns
       → after_turns (Some s) turns ≡ Some at → IsCalling t.calls p at n → IsTyped p at.hart.registers
 
+-- the same in the theorem's setting
+abbrev pub CallsTypedFrom : Part → State → Type 0
+CallsTypedFrom = CallsTypedFromAs plain
+
 -- every run from this state is safe, and makes its calls with the typed registers as their types
 -- say: what a world keeps of each sandbox
 pub record GoesSafelyFrom (p : Part) (s : State) : Type 0 where
   pub safe : RunsSafelyFrom p s
-  pub calls : CallsTypedFromAs plain p s
+  pub calls : CallsTypedFrom p s
 
 -- in every run from every state in which the sandbox may be entered, calls are made with the typed
 -- registers as their types say

@@ -6,7 +6,7 @@ use Rattle.rv_comp.specs.declared.front.Front.TheVariants.{Read}
 use Rattle.rv_step.proofs.Facts.{one_instruction, stopped_stays, some_step, agreeing_stands_too, agreeing_steps_are_same, other_bytes_stay}
 use Rattle.sfi_image.specs.declared.span.Span.{Span}
 use Rattle.sfi_image.proofs.Facts.{code_ends}
-use Rattle.sfi_safe_runs.specs.Safety.{KeepsAllAs, IsTrap, TrapsIn, changed_in, IsSafeStateAs, IsSafeStepAs, IsSafeTurnAs, IsSafeRunAs, RunsSafelyAs, IsCalling, CallsTypedAs}
+use Rattle.sfi_safe_runs.specs.Safety.{KeepsAllAs, IsTrap, TrapsIn, writable_region, IsSafeStateAs, IsSafeStepAs, IsSafeTurnAs, IsSafeRunAs, RunsSafelyAs, IsCalling, CallsTypedAs}
 use Rattle.sfi_safe_runs.specs.Runs.{KeepsReserved, Zones, Empty, Padded, Calls, Direct, Setting, by_ecall, IsDirect, IsInBoard, HasEcall, HasCodeAs, HasGuards, KeepsGuards, KeepsBytesAs, StaysOutside, IsEntryAs, IsReplyAs, IsChangeAs, IsTurnAs, IsRunAs}
 use Rattle.sfi_safe_runs.proofs.Entries.{bytes_over, there, elsewhere}
 use Rattle.sfi_safe_runs.proofs.Stepping.{stands_there, guarded, data_alone}
@@ -255,7 +255,7 @@ module _ (p : Part) (right : IsRightPart p) (direct : List ℕ) where
                 (traps i n own_safe.present.stands a (subst (λ (x : Instr). Accesses x s.hart a) (only j k stands).0 has) guard)
             trapped Padded any = tt
 
-            stays : (z : Zones) → TrapsIn z p own q.0 → StaysOutside (changed_in z p) s.memory r.state.memory
+            stays : (z : Zones) → TrapsIn z p own q.0 → StaysOutside (writable_region z p) s.memory r.state.memory
             stays Empty traps = data_alone p s i n r stands_here step near (λ a has guard. subst (λ (o : Outcome). IsTrap o) (sym same_step.outcome) (traps i n own_safe.present.stands a has guard))
             stays Padded any = λ a out. other_bytes_stay s i n r a stands_here step (λ has. out (guarded p a right (near a has)))
 
@@ -305,7 +305,7 @@ module _ (p : Part) (right : IsRightPart p) (direct : List ℕ) where
 
         module _ (after : Bytes) (keep : KeepsBytesAs t p s.memory after) where
           code_after : HasCodeAs (Direct direct) p after
-          code_after k below out = keep.code (p.code_base + k) (omega arith, omega (arith, below)) out ∙ code_here k below out
+          code_after k below out = keep.code (p.code_base + k) ((omega arith, omega (arith, below)), out) ∙ code_here k below out
 
           own_guards : (z : Zones) → KeepsGuards z p s.memory after → KeepsGuards z p held.there (whole after)
           own_guards Empty keeps_none = λ a guard none.

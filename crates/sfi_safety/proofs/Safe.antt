@@ -5,7 +5,7 @@ use Rattle.sfi_safe_runs.specs.Safety.{RunsSafelyAs, CallsTyped, CallsTypedAs, A
 use Rattle.sfi_safe_runs.proofs.SafeRuns.{kept_after}
 use Rattle.sfi_safe_runs.proofs.Entries.{bundles, to_bundle, of_bundle, words as unit_is_word, to_word, of_word}
 use Rattle.sfi_word_safety.proofs.Places.{bundles_whole, at_start as at_word_start, base_aligned, sized}
-use Rattle.sfi_safety.specs.Laws.{MayHave, CleanRunsSafelyAs, CleanCallsTypedAs}
+use Rattle.sfi_safety.specs.Laws.{MayRunWith, CleanRunsSafelyAs, CleanCallsTypedAs}
 use Rattle.sfi_safety.specs.Places.{IsGoodAs}
 use Rattle.sfi_safety.proofs.Direct.{runs_and_calls}
 use Rattle.sfi_safety.proofs.Effects.{GoesTo, Leads}
@@ -136,7 +136,7 @@ clean_words sandbox p clean has = record {
   clean = (words_facts.finds_what_is_broken sandbox p [] clean.right (in_words sandbox p [] has clean.none_found)).0 refl;
 }
 
-clean_safe : (zones : Zones) (calls : Calls) (sandbox : ℕ) (p : Part) → MayHave zones p → IsCleanPart sandbox p → IsSafeAs (record { zones = zones; calls = calls }) p
+clean_safe : (zones : Zones) (calls : Calls) (sandbox : ℕ) (p : Part) → MayRunWith zones p → IsCleanPart sandbox p → IsSafeAs (record { zones = zones; calls = calls }) p
 clean_safe Empty calls sandbox p may clean = by (has_words p.format) refl
   where
     by : (b : Bool) → has_words p.format ≡ b → IsSafeAs (record { zones = Empty; calls = calls }) p

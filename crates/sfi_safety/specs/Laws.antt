@@ -52,9 +52,9 @@ CleanCallsTyped = (sandbox : ℕ) (p : Part) → IsCleanPart sandbox p → Calls
 -- may: `addi x2, x2, 2047` and a load on x2, one after the other, are accepted any number of times, since
 -- where x2 has left the data's surroundings the load traps. If a guard zone holds bytes, it needn't, and
 -- x2 walks on past the zone.
-abbrev pub MayHave : Zones → Part → Type 0
-MayHave Empty p = Unit {0}
-MayHave Padded p = has_words p.format ≡ false
+abbrev pub MayRunWith : Zones → Part → Type 0
+MayRunWith Empty p = Unit {0}
+MayRunWith Padded p = has_words p.format ≡ false
 
 -- Every run from every entry is safe, whatever the guard zones hold, and whichever of the listed gates the
 -- host has made direct: no byte of a springboard is executed as the sandbox's, and each turn is as safe as
@@ -62,12 +62,12 @@ MayHave Padded p = has_words p.format ≡ false
 -- reply: of what comes after that nothing is said.
 abbrev pub CleanRunsSafelyAs : Type 0
 CleanRunsSafelyAs =
-    (t : Setting) (sandbox : ℕ) (p : Part) → MayHave t.zones p → IsCleanPart sandbox p
+    (t : Setting) (sandbox : ℕ) (p : Part) → MayRunWith t.zones p → IsCleanPart sandbox p
     → RunsSafelyAs t p
 
 -- each call of such runs, of a direct gate where the image has an ecall or of another gate, is made with
 -- the typed registers holding what their types say
 abbrev pub CleanCallsTypedAs : Type 0
 CleanCallsTypedAs =
-    (t : Setting) (sandbox : ℕ) (p : Part) → MayHave t.zones p → IsCleanPart sandbox p
+    (t : Setting) (sandbox : ℕ) (p : Part) → MayRunWith t.zones p → IsCleanPart sandbox p
     → CallsTypedAs t p
