@@ -252,8 +252,10 @@ enum sfi_run_names {
     SFI_RUN_NAMES_NO_SANDBOX = 2, /* it has no sandbox of that number */
     SFI_RUN_NAMES_NO_TABLE = 3,   /* the sandbox's first data bytes end in no table's magic */
     SFI_RUN_NAMES_BAD_TABLE = 4,  /* they end in the magic, and what stands before it is no table's */
-    SFI_RUN_NAMES_NO_NAME = 5     /* the table doesn't have the name */
+    SFI_RUN_NAMES_NO_NAME = 5     /* the table doesn't have the name, or no entry of the index */
 };
+
+#define SFI_RUN_NAME_MOST 255 /* how many bytes a name has at most */
 
 /*
  * Writes the address that a name of `size` bytes stands for in the table of a sandbox of the image. An export is a function
@@ -269,6 +271,18 @@ uint32_t sfi_run_export(const uint8_t *image, size_t length, uint32_t sandbox, c
                         uint32_t *address);
 uint32_t sfi_run_import(const uint8_t *image, size_t length, uint32_t sandbox, const char *name, size_t size,
                         uint32_t *address);
+
+/*
+ * Lists the exports, and the imports: writes the entry at an index among them, counted from 0, to the first *name_size bytes of
+ * `name` its name, and what it stands for to *address. The other bytes of `name` stay, and no zero ends the name. From the
+ * number of entries on an index is answered by SFI_RUN_NAMES_NO_NAME. Returns as sfi_run_export does, and likewise writes
+ * nothing unless that is SFI_RUN_NAMES_FOUND. A name is 1 to 255 visible characters of ASCII, and one that begins with a
+ * point is a claim of the tools: sfi_run_serve.h reads that which says what a function takes and gives.
+ */
+uint32_t sfi_run_export_at(const uint8_t *image, size_t length, uint32_t sandbox, uint32_t index,
+                           uint8_t name[SFI_RUN_NAME_MOST], uint32_t *name_size, uint32_t *address);
+uint32_t sfi_run_import_at(const uint8_t *image, size_t length, uint32_t sandbox, uint32_t index,
+                           uint8_t name[SFI_RUN_NAME_MOST], uint32_t *name_size, uint32_t *address);
 
 /* Writes the version of the host's interface for which the code is made, as the table says. Returns likewise, but
  * never SFI_RUN_NAMES_NO_NAME. */

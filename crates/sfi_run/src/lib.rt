@@ -37,7 +37,9 @@ pub use held_module::HeldModule;
 pub use held_world::HeldWorld;
 pub use holding::SfiRunWorld;
 pub use modules::{SfiRunModule, sfi_run_instance, sfi_run_module_free, sfi_run_module_new};
-pub use names::{sfi_run_api, sfi_run_export, sfi_run_import};
+pub use names::{
+    sfi_run_api, sfi_run_export, sfi_run_export_at, sfi_run_import, sfi_run_import_at,
+};
 pub use resets::sfi_run_reset;
 pub use snapshots::{SfiRunEvent, SfiRunRegion, SfiRunRegisters};
 pub use turns::{

@@ -84,6 +84,33 @@ uint32_t sfi_run_import(const uint8_t *image, size_t length, uint32_t sandbox, c
     return found == SFI_RUN_NAMES_FOUND ? find_name(table.imports, table.end, name, size, address) : found;
 }
 
+/* Writes the entry at an index among those from `at` on. */
+static uint32_t tell_entry(const uint8_t *at, const uint8_t *stop, uint32_t index, uint8_t *name, uint32_t *name_size,
+                           uint32_t *address) {
+    for (; at < stop && index > 0; index--)
+        at += NAME_AT + at[WORD_SIZE];
+    if (at == stop)
+        return SFI_RUN_NAMES_NO_NAME;
+    *name_size = at[WORD_SIZE];
+    memcpy(name, at + NAME_AT, *name_size);
+    *address = word_at(at);
+    return SFI_RUN_NAMES_FOUND;
+}
+
+uint32_t sfi_run_export_at(const uint8_t *image, size_t length, uint32_t sandbox, uint32_t index, uint8_t name[SFI_RUN_NAME_MOST],
+                           uint32_t *name_size, uint32_t *address) {
+    struct table table = {NULL, NULL, NULL, 0};
+    const uint32_t found = find_table(image, length, sandbox, &table);
+    return found == SFI_RUN_NAMES_FOUND ? tell_entry(table.exports, table.imports, index, name, name_size, address) : found;
+}
+
+uint32_t sfi_run_import_at(const uint8_t *image, size_t length, uint32_t sandbox, uint32_t index, uint8_t name[SFI_RUN_NAME_MOST],
+                           uint32_t *name_size, uint32_t *address) {
+    struct table table = {NULL, NULL, NULL, 0};
+    const uint32_t found = find_table(image, length, sandbox, &table);
+    return found == SFI_RUN_NAMES_FOUND ? tell_entry(table.imports, table.end, index, name, name_size, address) : found;
+}
+
 uint32_t sfi_run_api(const uint8_t *image, size_t length, uint32_t sandbox, uint32_t *version) {
     struct table table = {NULL, NULL, NULL, 0};
     const uint32_t found = find_table(image, length, sandbox, &table);

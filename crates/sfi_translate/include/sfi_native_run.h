@@ -11,8 +11,8 @@
  *
  * - Nothing is checked: SFI_TEXT is what `sfi translate` printed of the accepted image whose bytes SFI_IMAGE lists, on the
  *   word of whoever compiled it. The text is proved; this file, sfi_native.h, what it includes and the C compiler are trusted.
- * - Only that image is loaded, and named: of other bytes sfi_run_load, sfi_run_module_new, sfi_run_export, sfi_run_import and
- *   sfi_run_api return SFI_NATIVE_OTHER_IMAGE, and the verdict has this status and else zeros.
+ * - Only that image is loaded, and named: of other bytes sfi_run_load, sfi_run_module_new and the five calls that read its
+ *   names return SFI_NATIVE_OTHER_IMAGE, and the verdict has this status and else zeros.
  * - sfi_run_load, sfi_run_instance and sfi_run_free take memory by calloc and give it back by free: the data's bytes, and 256
  *   bytes a sandbox. A module keeps none: sfi_run_module_new takes as much as a load, and gives it back.
  * - Compiled with -DSFI_GUARDED for Linux on x86-64 the data are pages of their own between two guard zones, accesses of most
