@@ -286,6 +286,8 @@ header_in_c() {
     local wrapped=-Wl,--wrap=malloc,--wrap=realloc,--wrap=free images=() format
     succeeds "calls.c" "${checked[@]}" "$here/calls.c" "$room/lib/libsfi_run.a" -o "$room/calls"
     succeeds "failed_calls.c" "${checked[@]}" "$here/failed_calls.c" "$room/lib/libsfi_run.a" -o "$room/failed_calls"
+    succeeds "names.c" "${checked[@]}" "$here/names.c" "$room/lib/libsfi_run.a" -o "$room/names"
+    says_so "names and signatures" "all is so" "$room/names"
     succeeds "the headers in C99" gcc -std=c99 "${warnings[@]}" -Wconversion -x c -fsyntax-only \
         "$top/crates/sfi_run/include/sfi_run_serve.h"
     succeeds "threads.c" "${checked[@]}" "$here/threads.c" "$room/lib/libsfi_run.a" -o "$room/threads"

@@ -66,6 +66,12 @@ ROOMS = [  # what the first data end in, before the table's footer, and how many
     (struct.pack("<IB5s", 2 ** 32 - 1, 5, b".room"), 0), (struct.pack("<IB5s", 100, 5, b".roof"), 0),
     (struct.pack("<IB5s", 100, 4, b".room"), 0)]
 
+LISTED = [  # what a table of names has as its imports, and what names.c prints of it
+    (struct.pack("<IB3sIB8sIB6s", 7, 3, b"log", 0, 8, b".log(s)v", 2 ** 32 - 1, 6, b".stack"),
+     b"export status 5\nimport 00000007 log\nimport 00000000 .log(s)v\nimport ffffffff .stack\nimport status 5\nlog (s)v\n"),
+    (b"", b"export status 5\nimport status 5\nlog none\n"),
+    (struct.pack("<IB3s", 7, 3, b"l g"), b"export status 4\nimport status 4\nlog none\n")]
+
 FAULTS = [("info",), ("plain",), ("none",), ("ignore",), ("raise",), ("ignore-raise",), ("info", "another"), ("none", "another")]
 
 
@@ -194,6 +200,16 @@ def try_room(sfi, library, folder, tally):
                 tally.see(f"the room above the stack, {way}", (16, 16 + room), stack_pointers(calls_of, image), image)
 
 
+def try_names(sfi, folder, tally):
+    """The names of a sandbox, listed in the translated way; examples/run/test.sh tries the other."""
+    plain = image_of(sfi, b".sandbox 4096\n.gate exit 0\ncall exit\n.data\n.word 1\n", corpus.FORMAT_LINES[0])
+    for claim, wanted in LISTED:
+        image = claiming(plain, claim)
+        path = measure.written(os.path.join(folder, "plugin.image"), image)
+        host = built(os.path.join(folder, "host"), os.path.join(RUN, "names.c"), *translated(sfi, image, folder, []))
+        tally.see("the names of a sandbox", (wanted, 0), answer([host, path]), image)
+
+
 def fault_answer(sfi, image, how):
     """What the host faults.c is to print, and its status: the plug-in's trap is that of `sfi run`."""
     cause, at = fuzzing.output([sfi, "run"], image.hex().encode()).split("trap=")[1].split()[:2]
@@ -258,6 +274,7 @@ def main(words=None):
             try_documented(sfi, folder, tally)
             try_python(sfi, folder, tally)
             try_room(sfi, os.path.abspath(given.library), folder, tally)
+            try_names(sfi, folder, tally)
             try_faults(sfi, folder, tally)
     return tally.end()
 

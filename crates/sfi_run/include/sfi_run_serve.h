@@ -1,10 +1,13 @@
 /*
  * Runs of whole budgets, over the calls of sfi_run.h: a host hands over a function that serves a gate call, and gets the
- * sandbox back once it has stopped, used its steps, or stands at a call that isn't replied to. It is C99, or C++, and the
- * host's own code: nothing here is proved, and whatever it does, the calls below it keep what they keep.
+ * sandbox back once it has stopped, used its steps, or stands at a call that isn't replied to. And what an image claims that
+ * its functions take and give. It is C99, or C++, and the host's own code: nothing here is proved, and whatever it does, the
+ * calls below it keep what they keep.
  */
 #ifndef SFI_RUN_SERVE_H
 #define SFI_RUN_SERVE_H
+
+#include <string.h>
 
 #include "sfi_run.h"
 
@@ -138,6 +141,57 @@ static inline enum sfi_run_ended sfi_run_function(struct sfi_run_world *world, u
     else if (how != SFI_RUN_RETURNED && sfi_run_data(world, sandbox, &found) && found.base == data.base)
         sfi_run_stop(world, sandbox);
     return how;
+}
+
+/* ---- signatures: what a function takes and gives, as the image claims */
+
+/* How many words the values of these letters take in registers, up to the end or a ')'; or 9 where one is no parameter's. */
+static inline uint32_t sfi_run_words(const char *letters, const char *end) {
+    uint32_t words = 0;
+    for (; letters < end && *letters != ')'; letters++) {
+        if (*letters == 0 || strchr("iulmfdpsbw", *letters) == NULL)
+            return 9;
+        words += strchr("lmdbw", *letters) != NULL ? 2 : 1;
+        if (words > 8)
+            return 9;
+    }
+    return words;
+}
+
+/* Whether text that begins with '(' is a signature: letters of parameters, which take at most eight words, and of a result. */
+static inline bool sfi_run_is_signature(const char *text, size_t size) {
+    return size >= 3 && text[0] == '(' && text[size - 2] == ')' && memchr(text, ')', size) == text + size - 2 &&
+           sfi_run_words(text + 1, text + size - 2) <= 8 && text[size - 1] != 0 && strchr("iulmfdpsv", text[size - 1]) != NULL;
+}
+
+/* Among which names of a table a signature is looked for. */
+enum sfi_run_side { SFI_RUN_EXPORTS, SFI_RUN_IMPORTS };
+
+/*
+ * Writes to `signature` what the image claims of the function `name`, an export or an import of one of its sandboxes: "(ii)i"
+ * of `int add(int, int)`, ended by 0 (docs/IMAGE.md has the letters). It is the first entry of number 0 among those names which
+ * is a point, `name` and a signature. Returns one of enum sfi_run_names, where SFI_RUN_NAMES_NO_NAME says that the table claims
+ * nothing of it; nothing is written then. It is a claim of the image's author, and no premise of anything: a host compares it
+ * with what it means to call, so that the two don't mistake each other.
+ */
+static inline uint32_t sfi_run_signature(const uint8_t *image, size_t length, uint32_t sandbox, enum sfi_run_side side,
+                                         const char *name, char signature[SFI_RUN_NAME_MOST]) {
+    uint8_t entry[SFI_RUN_NAME_MOST];
+    const size_t before = strlen(name) + 1;
+    uint32_t size, number, index;
+    for (index = 0;; index++) {
+        const uint32_t found = side == SFI_RUN_EXPORTS
+                                   ? sfi_run_export_at(image, length, sandbox, index, entry, &size, &number)
+                                   : sfi_run_import_at(image, length, sandbox, index, entry, &size, &number);
+        if (found != SFI_RUN_NAMES_FOUND)
+            return found;
+        if (number != 0 || size <= before || entry[0] != '.' || memcmp(entry + 1, name, before - 1) != 0 ||
+            !sfi_run_is_signature((const char *)entry + before, size - before))
+            continue;
+        memcpy(signature, entry + before, size - before);
+        signature[size - before] = 0;
+        return SFI_RUN_NAMES_FOUND;
+    }
 }
 
 #ifdef __cplusplus
