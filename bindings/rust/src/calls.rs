@@ -1,5 +1,5 @@
 //! Calls of functions, each of which is over when its caller gets the answer or the reason why there is none.
-use crate::{Call, Cause, Event, Registers, Sandbox, Stands};
+use crate::{Call, CallError, Cause, Event, Registers, Sandbox, Stands};
 use std::error::Error;
 use std::fmt;
 
@@ -88,8 +88,8 @@ impl<const N: usize> Count<N> {
 }
 
 /// A function that was entered, and is over when this is dropped, also by a panic of a handler.
-struct Frame<'sandbox, 'world> {
-    sandbox: &'sandbox mut Sandbox<'world>,
+pub(crate) struct Frame<'sandbox, 'world> {
+    pub(crate) sandbox: &'sandbox mut Sandbox<'world>,
     /// How the sandbox was entered for it.
     entered: u64,
     /// The registers of the call at which it was called, if it stood at one, and what had been done to it.
@@ -180,7 +180,11 @@ impl<'world> Sandbox<'world> {
     }
 
     /// Enters a function. Where it can't be entered, nothing changes.
-    fn frame(&mut self, pc: u32, words: &[u32; 8]) -> Result<Frame<'_, 'world>, NotReturned> {
+    pub(crate) fn frame(
+        &mut self,
+        pc: u32,
+        words: &[u32; 8],
+    ) -> Result<Frame<'_, 'world>, NotReturned> {
         let found = self.stands;
         let mut kept = None;
         if self.enter(pc, words).is_err() {
@@ -199,8 +203,15 @@ impl<'world> Sandbox<'world> {
 }
 
 impl<'world> Frame<'_, 'world> {
+    /// Sets the registers with which it begins.
+    pub(crate) fn set_registers(&mut self, registers: &Registers) -> Result<(), CallError> {
+        self.sandbox.set_registers(registers)?;
+        self.entered = self.sandbox.stands.entered;
+        Ok(())
+    }
+
     /// Its result, or why there is none: the error of `serve`, if it answered one.
-    fn run<E: From<NotReturned>>(
+    pub(crate) fn run<E: From<NotReturned>>(
         self,
         steps: u64,
         mut serve: impl FnMut(&mut Sandbox<'world>, Call) -> Result<bool, E>,

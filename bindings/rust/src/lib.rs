@@ -29,6 +29,7 @@ mod errors;
 pub mod modules;
 pub mod names;
 mod sys;
+pub mod values;
 pub use calls::{Argument, NotReturned};
 pub use errors::{CallError, ChangeError, Finding, LoadError};
 pub use sys::{Region, Registers};

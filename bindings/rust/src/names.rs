@@ -4,6 +4,9 @@ use crate::sys;
 use std::error::Error;
 use std::fmt;
 
+/// How many bytes a name has at most.
+const NAME_MOST: usize = 255;
+
 /// Why there is no address of a name.
 #[derive(Clone, Copy, Debug, PartialEq, Eq)]
 pub enum NameError {
@@ -17,6 +20,15 @@ pub enum NameError {
     BadTable,
     /// The table doesn't have the name.
     NoName,
+}
+
+/// A name of a table, with what it stands for.
+#[derive(Clone, Debug, PartialEq, Eq)]
+pub struct Entry {
+    /// Its visible characters of ASCII. Where the first is a point, the entry is a claim of the tools.
+    pub name: String,
+    /// The address of the function, the object or the gate, or the number of a claim.
+    pub address: u32,
 }
 
 impl fmt::Display for NameError {
@@ -71,6 +83,92 @@ pub fn export(image: &[u8], sandbox: u32, name: &str) -> Result<u32, NameError> 
 /// The address of a gate, at which pc is when it is called.
 pub fn import(image: &[u8], sandbox: u32, name: &str) -> Result<u32, NameError> {
     address(sys::sfi_run_import, image, sandbox, name)
+}
+
+type List = unsafe extern "C" fn(*const u8, usize, u32, u32, *mut u8, *mut u32, *mut u32) -> u32;
+
+/// The entries that a call lists.
+fn entries(call: List, image: &[u8], sandbox: u32) -> Result<Vec<Entry>, NameError> {
+    let mut entries = Vec::new();
+    let (mut name, mut size, mut address) = ([0; NAME_MOST], 0, 0);
+    for index in 0..=u32::MAX {
+        // SAFETY: the bytes can be read, the name has room for the longest, and the numbers can be written, during the call.
+        let status = unsafe {
+            let (first, length) = (image.as_ptr(), image.len());
+            call(
+                first,
+                length,
+                sandbox,
+                index,
+                name.as_mut_ptr(),
+                &mut size,
+                &mut address,
+            )
+        };
+        match found(status, address) {
+            Err(NameError::NoName) => break,
+            found => entries.push(Entry {
+                address: found?,
+                name: name[..size as usize]
+                    .iter()
+                    .copied()
+                    .map(char::from)
+                    .collect(),
+            }),
+        }
+    }
+    Ok(entries)
+}
+
+/// The functions that a host may call, the objects that it may use, and the claims about them.
+pub fn exports(image: &[u8], sandbox: u32) -> Result<Vec<Entry>, NameError> {
+    entries(sys::sfi_run_export_at, image, sandbox)
+}
+
+/// The gates that the code calls, and the claims about them and the stack.
+pub fn imports(image: &[u8], sandbox: u32) -> Result<Vec<Entry>, NameError> {
+    entries(sys::sfi_run_import_at, image, sandbox)
+}
+
+/// How many words the value of a letter takes in registers, if it can be a parameter's.
+fn words_of(letter: u8) -> Option<usize> {
+    match letter {
+        b'i' | b'u' | b'f' | b'p' | b's' => Some(1),
+        b'l' | b'm' | b'd' | b'b' | b'w' => Some(2),
+        _ => None,
+    }
+}
+
+/// Whether a text is a signature: letters of parameters in brackets, which take at most eight words, and that of a result.
+pub(crate) fn is_signature(text: &str) -> bool {
+    let [b'(', parameters @ .., b')', result] = text.as_bytes() else {
+        return false;
+    };
+    let words: Option<usize> = parameters.iter().copied().map(words_of).sum();
+    words.is_some_and(|words| words <= 8) && b"iulmfdpsv".contains(result)
+}
+
+/// The signature that the first claim about a name has which can be read.
+fn claimed(entries: Vec<Entry>, name: &str) -> Option<String> {
+    let mut claims = entries.into_iter().filter(|entry| entry.address == 0);
+    claims.find_map(|entry| {
+        let text = entry.name.strip_prefix('.')?.strip_prefix(name)?;
+        is_signature(text).then(|| text.to_string())
+    })
+}
+
+/// What the image claims that a function takes and returns, as `(ii)i` of `int add(int, int)`: docs/IMAGE.md has the letters.
+pub fn signature(image: &[u8], sandbox: u32, name: &str) -> Result<Option<String>, NameError> {
+    Ok(claimed(exports(image, sandbox)?, name))
+}
+
+/// What the image claims that the code passes to a gate, and takes from it.
+pub fn import_signature(
+    image: &[u8],
+    sandbox: u32,
+    name: &str,
+) -> Result<Option<String>, NameError> {
+    Ok(claimed(imports(image, sandbox)?, name))
 }
 
 /// The version of the host's interface for which the code is made.

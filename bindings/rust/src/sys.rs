@@ -116,6 +116,24 @@ extern "C" {
         size: usize,
         address: *mut u32,
     ) -> u32;
+    pub fn sfi_run_export_at(
+        image: *const u8,
+        length: usize,
+        sandbox: u32,
+        index: u32,
+        name: *mut u8,
+        name_size: *mut u32,
+        address: *mut u32,
+    ) -> u32;
+    pub fn sfi_run_import_at(
+        image: *const u8,
+        length: usize,
+        sandbox: u32,
+        index: u32,
+        name: *mut u8,
+        name_size: *mut u32,
+        address: *mut u32,
+    ) -> u32;
     pub fn sfi_run_api(image: *const u8, length: usize, sandbox: u32, version: *mut u32) -> u32;
     pub fn sfi_run_turn(world: *mut World, sandbox: u32, steps: u32, event: *mut Event) -> u32;
     pub fn sfi_run_until(

@@ -1,5 +1,5 @@
 //! Tests of `names`. The bytes of a table are those of docs/IMAGE.md.
-use sfi_run::names::{api, export, import, NameError};
+use sfi_run::names::{api, export, exports, import, imports, Entry, NameError};
 
 const CODE: u32 = 0x0100_0000;
 
@@ -27,12 +27,19 @@ fn named(exports: &[u8], imports: &[u8], version: u32) -> Vec<u8> {
 
 #[test]
 fn addresses() {
-    let exports = [entry(CODE, "add"), entry(7, "add"), entry(9, "x")].concat();
-    let image = named(&exports, &entry(CODE + 16, "log"), 5);
+    let entries = [entry(CODE, "add"), entry(7, "add"), entry(9, "x")].concat();
+    let image = named(&entries, &entry(CODE + 16, "log"), 5);
     assert_eq!(export(&image, 0, "add"), Ok(CODE));
     assert_eq!(export(&image, 0, "x"), Ok(9));
     assert_eq!(import(&image, 0, "log"), Ok(CODE + 16));
     assert_eq!(api(&image, 0), Ok(5));
+    let listed = |address, name: &str| Entry {
+        name: name.to_string(),
+        address,
+    };
+    let all = vec![listed(CODE, "add"), listed(7, "add"), listed(9, "x")];
+    assert_eq!(exports(&image, 0), Ok(all));
+    assert_eq!(imports(&image, 0), Ok(vec![listed(CODE + 16, "log")]));
 }
 
 #[test]
@@ -48,5 +55,9 @@ fn what_is_missing() {
         (&right[1..].to_vec(), 0, "add", NameError::NoImage),
     ] {
         assert_eq!(export(image, sandbox, name), Err(why));
+        if why != NameError::NoName {
+            assert_eq!(exports(image, sandbox), Err(why));
+            assert_eq!(imports(image, sandbox), Err(why));
+        }
     }
 }
