@@ -9,8 +9,8 @@ from sfi_run.names import Plugin
 NUMBERS = [17, 42, 93, 28, 5, 61]
 
 
-def compare(call):
-    return plugin.digit(call.a0) - plugin.digit(call.a1)
+def compare(a, b):
+    return plugin.digit(a) - plugin.digit(b)
 
 
 with open(sys.argv[1], "rb") as file, Plugin(file.read(), compare=compare) as plugin:

@@ -31,14 +31,15 @@ from typing import TYPE_CHECKING, Any
 from . import _functions, _library
 from ._library import arguments as _words, word as _word
 from .told import (Call, Cause, Ended, Event, Exited, Finding, Meets, NoImage, NotEntered, NotReturned, NotRunning, NotWaiting,
-                   OutsideData, Ready, Refused, Registers, Region, Stopped, Trapped)
+                   OutsideData, Ready, Refused, Registers, Region, Stopped, TooLong, Trapped, WrongArguments, WrongSignature)
 
 if TYPE_CHECKING:
     from .modules import Module
 
 __all__ = [
     "Call", "Cause", "Ended", "Event", "Exited", "Finding", "Library", "Meets", "NoImage", "NotEntered", "NotReturned", "NotRunning",
-    "NotWaiting", "OutsideData", "Ready", "Refused", "Registers", "Region", "Sandbox", "Stopped", "Trapped", "World",
+    "NotWaiting", "OutsideData", "Ready", "Refused", "Registers", "Region", "Sandbox", "Stopped", "TooLong", "Trapped", "World",
+    "WrongArguments", "WrongSignature",
 ]
 __version__ = "0.1.0"
 

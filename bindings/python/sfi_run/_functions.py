@@ -16,8 +16,13 @@ EXIT = 0  # the service
 CALLABLE = "it has stopped, and can be called"
 
 
-def called(sandbox: Sandbox, pc: int, given: Sequence[int], steps: int, serve: Callable[[Call], object] | None) -> int:
-    """What `Sandbox.call64` answers."""
+class Refusal(Exception):
+    """What `serve` raises where it refuses a call, with the reason."""
+
+
+def called(sandbox: Sandbox, pc: int, given: Sequence[int], steps: int, serve: Callable[[Call], object] | None,
+           prepare: Callable[[], None] | None = None) -> int:
+    """What `Sandbox.call64` answers. `prepare` is called when the function is entered, and nothing of it has run."""
     at, arguments, steps = _library.word(operator.index(pc)), _library.arguments(given), operator.index(steps)
     if steps < 0:
         raise ValueError(f"steps is {steps}, and has to be at least 0")
@@ -28,7 +33,7 @@ def called(sandbox: Sandbox, pc: int, given: Sequence[int], steps: int, serve: C
     with world._lock:
         run = Run(sandbox)
         run.enter(at, arguments)
-        return run.finish(steps, serve)
+        return run.finish(steps, serve, prepare)
 
 
 class Run:
@@ -55,9 +60,11 @@ class Run:
             self.found, self.kept, self.after = found, kept, "it stands again at the call at which it was called"
         self.entered = seat.entered
 
-    def finish(self, steps: int, serve: Callable[[Call], object] | None) -> int:
+    def finish(self, steps: int, serve: Callable[[Call], object] | None, prepare: Callable[[], None] | None = None) -> int:
         """The result, of 64 bits, or raises why there is none."""
         try:
+            if prepare:
+                prepare()
             result = self._result(steps, serve)
         except BaseException:
             self._end()
@@ -74,7 +81,7 @@ class Run:
                     high = event.a1
                     event.exit(event.a0)
                 elif serve:
-                    serve(event)
+                    self._serve(event, serve)
                     if seat.entered != self.entered:
                         raise self._failure(Ended.GONE, sandbox.event if sandbox._is_there() else None)
         if isinstance(event, Exited):
@@ -84,6 +91,12 @@ class Run:
         if isinstance(event, Call):
             raise self._failure(Ended.REFUSED, event)
         raise self._failure(Ended.TRAPPED if isinstance(event, Trapped) else Ended.STOPPED, event)
+
+    def _serve(self, call: Call, serve: Callable[[Call], object]) -> None:
+        try:
+            serve(call)
+        except Refusal as refused:
+            raise self._failure(Ended.REFUSED, call, f", {refused}") from None
 
     def _is_gone(self) -> bool:
         """Whether a handler entered the sandbox for something else: of this run nothing is left then."""
@@ -103,12 +116,12 @@ class Run:
     def _what(self) -> str:
         return f"the {'start' if self.pc is None else f'call of {self.pc:08x}'} in sandbox {self.sandbox.number}"
 
-    def _failure(self, cause: Ended, event: Event | None) -> NotReturned:
+    def _failure(self, cause: Ended, event: Event | None, more: str = "") -> NotReturned:
         why = cause.value
         if cause is Ended.TRAPPED:
             why = f"{why}, {event.cause.name.capitalize()} at {event.address:08x}"
         if cause is Ended.REFUSED:
-            why = f"{why} (service {event.service} at {event.pc:08x})"
+            why = f"{why} (service {event.service} at {event.pc:08x}{more})"
         now = CALLABLE if cause is Ended.GONE else self.after
         if event is None:
             now = "it is no longer there"

@@ -70,6 +70,8 @@ _CALLS: dict[str, tuple[Any, list[Any]]] = {
     "remove": (_WORD, [_WORLD, _WORD]),
     "export": (_WORD, [_BYTES, _SIZE, _WORD, _BYTES, _SIZE, ctypes.POINTER(_WORD)]),
     "import": (_WORD, [_BYTES, _SIZE, _WORD, _BYTES, _SIZE, ctypes.POINTER(_WORD)]),
+    "export_at": (_WORD, [_BYTES, _SIZE, _WORD, _WORD, _ROOM, ctypes.POINTER(_WORD), ctypes.POINTER(_WORD)]),
+    "import_at": (_WORD, [_BYTES, _SIZE, _WORD, _WORD, _ROOM, ctypes.POINTER(_WORD), ctypes.POINTER(_WORD)]),
     "api": (_WORD, [_BYTES, _SIZE, _WORD, ctypes.POINTER(_WORD)]),
     "turn": (_WORD, [_WORLD, _WORD, _WORD, _EVENT]),
     "until": (_WORD, [_WORLD, _WORD, ctypes.POINTER(_WORD), _SIZE, _WORD, _EVENT]),

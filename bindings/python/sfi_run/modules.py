@@ -3,7 +3,7 @@
     from sfi_run.modules import Module
 
     with Module(image) as module:
-        plugins = [module.instance(log=lambda call: print(call.a0)) for _ in range(1000)]
+        plugins = [module.instance(log=print) for _ in range(1000)]
     print(plugins[0].add(2, 3))
 
 Or its sandboxes are added to a world beside those of others: `world.add(module)`, and `world.remove(sandbox)`.
@@ -16,12 +16,12 @@ from __future__ import annotations
 import ctypes
 import os
 import threading
-from collections.abc import Callable
+from collections.abc import Callable, Mapping
 from types import TracebackType
 from typing import Any
 
 from . import Library, World, _bytes, _library, _make
-from .names import Handler, Plugin
+from .names import Claims, Handler, Plugin, claims
 
 
 class Module:
@@ -35,6 +35,7 @@ class Module:
         self._at = ctypes.byref(self._raw)
         _make(self._calls["module_new"], self.image, self._at)
         self._is_open = True
+        self._claims: dict[int, Claims] = {}  # of its sandboxes, as they are asked for
 
     def _made_here(self) -> None:
         if os.getpid() != self._process:
@@ -58,11 +59,19 @@ class Module:
         made._begin(self._calls, self._make_world)
         return made
 
-    def instance(self, *, number: int = 0, steps: int = 1_000_000, **handlers: Handler) -> Plugin:
+    def instance(self, *, number: int = 0, steps: int = 1_000_000, signatures: Mapping[str, str] | None = None,
+                 **handlers: Handler) -> Plugin:
         """A plug-in in a world of its own: what Plugin makes of the image."""
         made = Plugin.__new__(Plugin)
-        made._begin(self.image, self._calls, self.world(), number, steps, handlers)
+        made._begin(self.image, self._calls, self.world(), number, steps, signatures, handlers, self._claims_of(number))
         return made
+
+    def _claims_of(self, number: int) -> Claims:
+        """Those of a sandbox. The table is read once."""
+        found = self._claims.get(number)
+        if found is None:
+            found = self._claims[number] = claims(self.image, number, self._calls)
+        return found
 
     def close(self) -> None:
         """Frees the module. Its worlds stay."""

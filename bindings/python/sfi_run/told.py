@@ -3,7 +3,7 @@ from __future__ import annotations
 
 import enum
 from dataclasses import dataclass, field
-from typing import TYPE_CHECKING, Union
+from typing import TYPE_CHECKING, Any, Union
 
 if TYPE_CHECKING:
     from . import Sandbox
@@ -80,6 +80,40 @@ class NotReturned(Exception):
 
 class NotRunning(Exception):
     """A sandbox that is to be stopped, and has stopped already."""
+
+
+class WrongArguments(TypeError):
+    """Arguments that a function's signature doesn't take, by their count, type or range. Nothing has run."""
+
+    def __init__(self, name: str, signature: str, given: tuple[Any, ...], why: str) -> None:
+        super().__init__(name, signature, given, why)
+        self.name, self.signature, self.given, self.why = name, signature, given, why
+
+    def __str__(self) -> str:
+        return f"{self.name}{self.signature}: {self.why}"
+
+
+class TooLong(ValueError):
+    """Texts and bytes that a call would take to the sandbox, `size` bytes of its stack, where there is room for `room`. Nothing has
+    run."""
+
+    def __init__(self, name: str, size: int, room: int) -> None:
+        super().__init__(name, size, room)
+        self.name, self.size, self.room = name, size, room
+
+    def __str__(self) -> str:
+        return f"{self.name}: texts and bytes take {self.size} bytes of the sandbox's stack, and may take {self.room}"
+
+
+class WrongSignature(Exception):
+    """An image that claims another signature for a name than its host states."""
+
+    def __init__(self, name: str, stated: str, claimed: str) -> None:
+        super().__init__(name, stated, claimed)
+        self.name, self.stated, self.claimed = name, stated, claimed
+
+    def __str__(self) -> str:
+        return f"{self.name}: the host states {self.stated}, and the image claims {self.claimed}"
 
 
 class Meets(Exception):

@@ -63,7 +63,7 @@ def answers(image, calls):
     for name, number in calls:
         with Plugin(image, steps=STEPS) as plugin:
             try:
-                found[name, number] = plugin.call(name, number)
+                found[name, number] = plugin.call_words(name, number)
             except NotReturned as why:
                 found[name, number] = str(why)
     return found

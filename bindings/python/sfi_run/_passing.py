@@ -1,0 +1,144 @@
+"""What a call by signature takes into the sandbox's memory and out of it: the bytes of texts and buffers. Addresses and lengths
+that come from there may be any: they are compared with where the data lie before anything is read."""
+from __future__ import annotations
+
+import ctypes
+from collections.abc import Callable, Sequence
+from typing import TYPE_CHECKING, Any
+
+from . import _functions, _library
+from .signatures import UNFIT, WANTED, Block, Signature, split, taken, value_of, words_of
+from .told import Call, OutsideData, TooLong
+
+if TYPE_CHECKING:
+    from . import Sandbox
+
+STACK, A0 = 2, 10  # registers
+ALIGNED = 16  # of each block of bytes on the stack
+PIECE = 256  # bytes of a text that are read first
+
+
+def _size(blocks: Sequence[Block]) -> int:
+    """How much of the stack they take."""
+    return sum(-len(block.data) // ALIGNED * -ALIGNED for block in blocks)
+
+
+def called(sandbox: Sandbox, pc: int, name: str, signature: Signature, given: Sequence[Any], room: int, steps: int,
+           serve: Callable[[Call], object] | None) -> Any:
+    """Calls a function at pc with these arguments: its result. Texts and bytes may take `room` bytes of its stack."""
+    words, blocks = taken(name, signature, given)
+    if _size(blocks) > room:
+        raise TooLong(name, _size(blocks), room)
+    prepare = (lambda: lay(sandbox, name, blocks)) if blocks else None
+    sandbox._world._made_here()
+    with sandbox._world._lock:
+        result = _functions.called(sandbox, pc, words, steps, serve, prepare)
+        for block in blocks:
+            if block.buffer is not None:
+                _bring_back(sandbox, name, block)
+        return _value(sandbox, signature.result, (result & 0xFFFFFFFF, result >> 32))
+
+
+def lay(sandbox: Sandbox, name: str, blocks: Sequence[Block]) -> None:
+    """Has the bytes lie below the stack pointer of a function that is entered, the stack pointer below them, and their addresses in
+    the registers. Raises TooLong where they don't fit there."""
+    registers, data, size = _library.Registers(), sandbox.data, _size(blocks)
+    sandbox._call("registers", ctypes.byref(registers))
+    above = registers.x[STACK]
+    room = above - data.base if data.base <= above <= data.base + data.size else 0
+    if size > room:
+        raise TooLong(name, size, room)
+    for block in blocks:
+        registers.x[STACK] -= _size([block])
+        block.at = registers.x[A0 + block.register] = registers.x[STACK]
+        if block.data:
+            sandbox.write(block.at, block.data)
+    if not sandbox._call("set_registers", registers):
+        raise TooLong(name, size, 0)
+
+
+def _bring_back(sandbox: Sandbox, name: str, block: Block) -> None:
+    """Has a buffer hold what its bytes in the sandbox have become."""
+    with memoryview(block.buffer) as view, view.cast("B") as plain:
+        if len(plain) != len(block.data):
+            raise ValueError(f"{name}: a buffer of {len(block.data)} bytes has {len(plain)} now")
+        if block.data:
+            plain[:] = sandbox.read(block.at, len(block.data))
+
+
+def _value(sandbox: Sandbox, letter: str, words: Sequence[int]) -> Any:
+    """A function's result."""
+    if letter == "v" or letter == "s" and words[0] == 0:
+        return None
+    if letter == "s":
+        return text_at(sandbox, words[0])
+    return value_of(letter, words[: 2 if letter in "lmd" else 1])
+
+
+def text_at(sandbox: Sandbox, at: int) -> str:
+    """The text from an address up to a byte 0, where each byte that isn't UTF-8 is U+FFFD. Raises OutsideData where an address of it
+    isn't one of the sandbox's data."""
+    data, found, now = sandbox.data, [], at
+    while data.base <= now < data.base + data.size:
+        piece = sandbox.read(now, min(PIECE << len(found), data.base + data.size - now))
+        text, end, _ = piece.partition(b"\0")
+        found.append(text)
+        if end:
+            return b"".join(found).decode("utf-8", "replace")
+        now += len(piece)
+    raise OutsideData(f"a text at {at:08x}")
+
+
+def bytes_at(sandbox: Sandbox, at: int, count: int) -> bytes:
+    """So many bytes from an address on. Raises OutsideData likewise."""
+    data = sandbox.data
+    if count and not data.base <= at <= data.base + data.size - count:
+        raise OutsideData(f"{count} bytes at {at:08x}")
+    return sandbox.read(at, count)
+
+
+def served(name: str, signature: Signature, handler: Callable[..., Any], call: Call) -> None:
+    """Replies to a call of a gate, as a handler answers to its arguments. What the handler leaves in a buffer is written back."""
+    values = _values(name, signature, call)
+    sizes = [len(value) if letter == "w" else 0 for letter, value in zip(signature.parameters, values)]
+    answer = handler(*values)
+    if not call.is_waiting:
+        return
+    words = _answered(name, signature, answer)
+    for (letter, (at, *_)), value, size in zip(split(signature.parameters, _words(call)), values, sizes):
+        if letter == "w" and len(value) != size:
+            raise ValueError(f"{name}{signature}: the handler's buffer of {size} bytes has {len(value)} now")
+        if letter == "w" and size:
+            call.sandbox.write(at, value)
+    call.reply(*words)
+
+
+def _words(call: Call) -> tuple[int, ...]:
+    return (call.a0, call.a1, call.a2, call.a3, call.a4, call.a5, call.a6, call.a7)
+
+
+def _values(name: str, signature: Signature, call: Call) -> list[Any]:
+    """A call's arguments. Refuses it where an address or a length lies."""
+    values: list[Any] = []
+    for letter, words in split(signature.parameters, _words(call)):
+        try:
+            if letter == "s":
+                values.append(text_at(call.sandbox, *words))
+            elif letter in "bw":
+                values.append((bytearray if letter == "w" else bytes)(bytes_at(call.sandbox, *words)))
+            else:
+                values.append(value_of(letter, words))
+        except OutsideData as outside:
+            raise _functions.Refusal(f"{name}{signature}: argument {len(values) + 1}, {outside}, isn't in its data") from None
+    return values
+
+
+def _answered(name: str, signature: Signature, answer: Any) -> tuple[int, ...]:
+    """The words of what a handler answered."""
+    if signature.result == "v" or signature.result == "s" and answer is None:
+        return (0,)
+    letter = "p" if signature.result == "s" else signature.result
+    try:
+        return words_of(letter, answer)
+    except UNFIT:
+        raise TypeError(f"{name}{signature}: the handler has to answer {WANTED[letter]}, and not {answer!r}") from None
