@@ -1,7 +1,8 @@
 // The console of `sfi run`, ready made: the library's own host for sandboxes, whose services docs/GATES.md lists.
+import { bytesOf, word } from "./given.mjs";
 import { NoMemory } from "./library.mjs";
 import { Exited, NotWaiting, Trapped, hexadecimal } from "./told.mjs";
-import { EXIT, STRUCT_BYTES, bytesOf, dropped, freeing, heldBy, seatOf, word } from "./world.mjs";
+import { EXIT, STRUCT_BYTES, dropped, freeing, heldBy, seatOf } from "./world.mjs";
 
 const YIELD = 3; // the service
 

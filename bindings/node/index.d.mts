@@ -27,6 +27,15 @@ export declare const Ended: {
 export type Ended = (typeof Ended)[keyof typeof Ended];
 /** A call of a function that is over without a result. The `event` is how the sandbox stood when it ended, if it is there. */
 export declare class NotReturned extends Error { readonly cause: Ended; readonly event?: Event }
+/** Arguments that the signature of a function doesn't take, by their count, type or range. Nothing has run. */
+export declare class WrongArguments extends TypeError {
+  readonly functionName: string; readonly signature: string; readonly given: readonly unknown[]; readonly why: string;
+}
+/** Texts and bytes that a call would take to the sandbox, `size` bytes of its stack, where there is room for `room`. Nothing has
+ * run. */
+export declare class TooLong extends RangeError { readonly functionName: string; readonly size: number; readonly room: number }
+/** An image that claims another signature for a name than its host states. */
+export declare class WrongSignature extends Error { readonly functionName: string; readonly stated: string; readonly claimed: string }
 /** An address that isn't one of the sandbox's data. */
 export declare class OutsideData extends Error {}
 /** A reply to a sandbox that stands at no call, or no longer at the call that is replied to. */
@@ -164,27 +173,65 @@ export declare class Library {
   static load(path?: string | URL): Promise<Library>;
 }
 
-/** Gets each call of the gate of its name, and answers its result: of an integer the lowest 32 bits, 64 bits as a pair [low,
- * high], or 0; nothing that counts, once it has replied by `call.reply`. */
-export type Handler = (call: Call) => number | boolean | readonly [number, number] | void | null;
+/** What a function takes and gives, as an image claims it of its exports and imports, or its host states it: `(ii)i` is that of two
+ * signed integers, which gives a third. Between the parentheses there is a letter for each parameter, and after them that of the
+ * result:
+ *
+ * i, u   an integer of at most 32 bits, signed and unsigned: a number from -2^31 to 2^32 - 1 for both, or a boolean
+ * l, m   an integer of 64 bits, signed and unsigned: a bigint, or a number that is exact
+ * f, d   a float and a double: a number
+ * p      an address: a number from 0 to 2^32 - 1
+ * s      a text that ends in a byte 0: a string, in UTF-8. As a result null is the address 0
+ * b      bytes that are read, and their number: what has bytes; not as a result
+ * w      bytes that are read and written, and their number: what has bytes; not as a result
+ * v      nothing: undefined; only as a result
+ *
+ * A parameter takes one register, or two (l, m, d, b and w), and a function has at most eight. What an image claims may be false:
+ * then calls go wrong, and nothing gets out of the sandbox. */
+export type Signature = string;
+/** What goes into a function by its signature; without one a number. */
+export type Value = number | bigint | boolean | string | Bytes;
 
-/** A sandbox of an image of its own, whose names are what the image says of itself. */
+/** Gets each call of the gate of its name. By its import's signature it gets the values, bytes as a Uint8Array, and answers the
+ * result's: for a text an address of the sandbox's, or null. What it leaves in a buffer (w) is written back. A call with a text or
+ * bytes that don't lie in the sandbox's data is refused. Without a signature it is a CallHandler. */
+export type Handler = (...given: any[]) => number | bigint | boolean | readonly [number, number] | void | null;
+/** Gets the Call, and answers its result: of an integer the lowest 32 bits, 64 bits as a pair [low, high], or 0; nothing that counts,
+ * once it has replied by `call.reply`. */
+export type CallHandler = (call: Call) => number | boolean | readonly [number, number] | void | null;
+/** The handler, which gets the Call where its import has a signature, too. */
+export declare function byCall(handler: CallHandler): Handler;
+
+/** What a plug-in is loaded with: the sandbox's number, 0 if none is given; the most steps of a call; handlers by the names of imports;
+ * and signatures that the host states, of exports and imports, in place of what the image claims. */
+export interface PluginOptions {
+  number?: number; steps?: number; handlers?: Record<string, Handler>; signatures?: Record<string, Signature>;
+}
+
+/** A sandbox of an image of its own, whose names and signatures are what the image says of itself. An export that has a signature takes
+ * its values. Arguments of another count, type or range throw WrongArguments, and texts and bytes that don't fit TooLong: both before
+ * anything runs. Texts and bytes are copied onto the sandbox's stack, where they stay as long as the call, and may take half of it, or
+ * 1024 bytes where the image doesn't say how much it has. What the sandbox leaves in a buffer (w) is copied back when the call returns. A
+ * text that it gives is read up to its byte 0; OutsideData tells that it doesn't lie in its data. */
 export declare class Plugin {
   private constructor();
   /** Loads the image, and runs the sandbox of that number, 0 if none is given, through its start, which has to exit. Handlers
-   * whose name the image doesn't import are never called. A call has at most `steps` steps. Throws what `load` does, and
-   * NotReturned. For TypeScript a plug-in that its own handlers call is `const plugin: Plugin = await ..`. */
-  static load(image: Bytes, options?: {
-    number?: number; steps?: number; handlers?: Record<string, Handler>; library?: Library;
-  }): Promise<Plugin>;
+   * whose name the image doesn't import are never called. A call has at most `steps` steps. Throws what `load` does, NotReturned,
+   * and WrongSignature. For TypeScript a plug-in that its own handlers call is `const plugin: Plugin = await ..`. */
+  static load(image: Bytes, options?: PluginOptions & { library?: Library }): Promise<Plugin>;
   readonly world: World;
   readonly sandbox: Sandbox;
-  /** Its exports, each a function with at most eight arguments. */
-  readonly exports: { readonly [name: string]: (...given: number[]) => number };
+  /** Its exports, each a function, which takes and gives values by its signature, or else at most eight words and one. */
+  readonly exports: { readonly [name: string]: (...given: Value[]) => any };
+  /** The signatures that hold, by the names of exports and imports: what the host states, or else what the image claims, unless
+   * it has more than 512 exports or imports with their claims. A name that isn't there has none. */
+  readonly signatures: { readonly [name: string]: Signature };
   /** The address of an export. Throws NoName. */
   address(name: string): number;
-  /** Calls an export. Throws NoName, and what `Sandbox.call` does. */
-  call(name: string, ...given: number[]): number;
+  /** Calls an export: by its signature, if it has one, and else as `callWords`. Throws NoName, and what `Sandbox.call` does. */
+  call(name: string, ...given: Value[]): any;
+  /** Calls an export, also one that has a signature, with at most eight words: the word of its result. Throws likewise. */
+  callWords(name: string, ...given: number[]): number;
   /** The same, with a result of 64 bits: `Sandbox.call64` says of which functions. */
   call64(name: string, ...given: number[]): bigint;
   close(): void;
@@ -200,7 +247,7 @@ export declare class Module {
   /** A world of the image: what `load` makes of its bytes, with nothing checked or decoded anew. Throws NoMemory. */
   world(): World;
   /** A plug-in in a world of its own: what `Plugin.load` makes of the image. */
-  instance(options?: { number?: number; steps?: number; handlers?: Record<string, Handler> }): Plugin;
+  instance(options?: PluginOptions): Plugin;
   /** Frees the module. Its worlds stay. */
   close(): void;
   [Symbol.dispose](): void;

@@ -2,7 +2,7 @@
 export { Console } from "./console.mjs";
 export { Library, NoMemory, VERSION } from "./library.mjs";
 export { Module } from "./module.mjs";
-export { Plugin } from "./plugin.mjs";
+export { Plugin, byCall } from "./plugin.mjs";
 export { Call, Cause, Ended, Exited, Meets, NoImage, NoName, NotEntered, NotReturned, NotRunning, NotWaiting, OutsideData, Ready,
-  Refused, Stopped, Trapped } from "./told.mjs";
+  Refused, Stopped, TooLong, Trapped, WrongArguments, WrongSignature } from "./told.mjs";
 export { load } from "./world.mjs";

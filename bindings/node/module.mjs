@@ -1,13 +1,15 @@
 // An image that is checked and decoded once, for many worlds: index.d.mts says what each call does.
+import { bytesOf } from "./given.mjs";
 import { NoMemory, usualLibrary } from "./library.mjs";
-import { Plugin } from "./plugin.mjs";
-import { Held, STEPS, STRUCT_BYTES, World, bytesOf, dropped, freeing, heldBy, make } from "./world.mjs";
+import { Plugin, claimsOf } from "./plugin.mjs";
+import { Held, STRUCT_BYTES, World, dropped, freeing, heldBy, make } from "./world.mjs";
 
 export class Module {
   #library;
   #at;
   #image; // which its worlds ask for names: it stays as long as one of them refers to this
   #isOpen = true;
+  #claims = new Map(); // of its sandboxes, by their numbers, as they are asked for
 
   static async load(image, library) {
     return new Module(image, library ?? await usualLibrary());
@@ -33,8 +35,15 @@ export class Module {
     return new World(new Held(this.#library, at, this.#image, this));
   }
 
-  instance({ number = 0, steps = STEPS, handlers = {} } = {}) {
-    return Plugin.of(this.world(), number, steps, handlers);
+  instance(options) {
+    return Plugin.of(this.world(), options, (sandbox) => this.#claimsOf(sandbox));
+  }
+
+  /** What the table of a sandbox claims, which is read once. */
+  #claimsOf(sandbox) {
+    const { number } = sandbox;
+    if (!this.#claims.has(number)) this.#claims.set(number, claimsOf(sandbox));
+    return this.#claims.get(number);
   }
 
   close() {

@@ -1,8 +1,66 @@
 // A sandbox of an image of its own, whose functions are called by their names, and call the host's by theirs.
-import { NoName } from "./told.mjs";
-import { STEPS, finishStart, load } from "./world.mjs";
+import { STEPS } from "./given.mjs";
+import { callBySignature, serveBySignature } from "./passing.mjs";
+import { claimed, parsed, textOf } from "./signatures.mjs";
+import { NoName, WrongSignature } from "./told.mjs";
+import { entryAt, finishStart, load } from "./world.mjs";
 
 const NO_SUCH_NAME = 5;
+const MOST_ENTRIES = 512; // of the exports, or the imports, in which signatures are looked for: in more it would take long
+const ROOM = 1024; // bytes of the stack that the texts and bytes of a call may take where the image doesn't say how much it has
+const STACK = ".stack"; // the claim of that
+
+/** The signatures that an image claims of exports or imports, by their names: the first of each name that is there. */
+function claimedBy(sandbox, call) {
+  const [names, found] = [new Set(), new Map()];
+  const count = entryAt(sandbox, call, MOST_ENTRIES) ? 0 : MOST_ENTRIES;
+  for (let index = 0; index < count; index++) {
+    const { entry, number } = entryAt(sandbox, call, index) ?? {};
+    if (entry === undefined) break;
+    names.add(entry);
+    const claim = number === 0 ? claimed(entry) : undefined;
+    if (claim && !found.has(claim.name)) found.set(claim.name, claim.signature);
+  }
+  return new Map([...found].filter(([name]) => names.has(name)));
+}
+
+/** How many bytes of the stack the texts and bytes of a call may take. */
+function roomOf(sandbox) {
+  try {
+    return Math.floor(sandbox.imported(STACK) / 2);
+  } catch (error) {
+    if (error instanceof NoName) return ROOM;
+    throw error;
+  }
+}
+
+/** What the table of a sandbox claims: signatures of exports and imports, and the room for texts and bytes. */
+export const claimsOf = (sandbox) =>
+  ({ exports: claimedBy(sandbox, "export_at"), imports: claimedBy(sandbox, "import_at"), room: roomOf(sandbox) });
+
+/** These claims, with the signatures that the host states in their place. */
+function withStated({ exports, imports, room }, signatures) {
+  const stated = Object.entries(signatures).map(([name, text]) => {
+    const signature = typeof text === "string" ? parsed(text) : undefined;
+    if (!signature) throw new TypeError(`${name}: ${JSON.stringify(text)} is no signature of at most eight words`);
+    for (const claims of [exports, imports]) {
+      const other = claims.get(name);
+      if (other && textOf(other) !== text) throw new WrongSignature(name, text, textOf(other));
+    }
+    return [name, signature];
+  });
+  return { exports: new Map([...exports, ...stated]), imports: new Map([...imports, ...stated]), room };
+}
+
+const byCalls = new WeakSet();
+
+/** The handler, which gets the Call where its import has a signature, too. */
+export function byCall(handler) {
+  if (typeof handler !== "function") throw new TypeError("a handler is a function");
+  const found = (call) => handler(call);
+  byCalls.add(found);
+  return found;
+}
 
 /** The lowest 32 bits of an integer that a handler answered. */
 function wordOf(number) {
@@ -21,27 +79,29 @@ function reply(call, answer) {
 
 export class Plugin {
   #steps;
+  #claims;
   #handlers = new Map(); // by the addresses of gates
 
-  static async load(image, { number = 0, steps = STEPS, handlers = {}, library } = {}) {
-    return Plugin.of(await load(image, library), number, steps, handlers);
+  static async load(image, { library, ...options } = {}) {
+    return Plugin.of(await load(image, library), options, claimsOf);
   }
 
-  /** In that world, which is closed where it can't be. */
-  static of(world, number, steps, handlers) {
+  /** In that world, which is closed where it can't be. `claims` tells what the table of a sandbox claims. */
+  static of(world, { number = 0, steps = STEPS, handlers = {}, signatures = {} } = {}, claims = claimsOf) {
     try {
-      return new Plugin(world, number, steps, handlers);
+      return new Plugin(world, number, { steps, handlers, signatures, claims });
     } catch (error) {
       world.close();
       throw error;
     }
   }
 
-  constructor(world, number, steps, handlers) {
+  constructor(world, number, { steps, handlers, signatures, claims }) {
     this.world = world;
     this.sandbox = world.sandboxes[number];
     if (!this.sandbox) throw new RangeError(`there is no sandbox ${number}`);
     this.#steps = steps;
+    this.#claims = withStated(claims(this.sandbox), signatures);
     for (const [name, handler] of Object.entries(handlers)) this.#handle(name, handler);
     finishStart(this.sandbox, steps, (call) => this.#serve(call));
     this.exports = new Proxy(Object.freeze({}), { get: (_, name) => this.#function(name) });
@@ -50,16 +110,17 @@ export class Plugin {
   /** Those whose name the image doesn't import are never called. */
   #handle(name, handler) {
     if (typeof handler !== "function") throw new TypeError(`the handler ${name} is no function`);
+    const signature = byCalls.has(handler) ? undefined : this.#claims.imports.get(name);
+    const serve = signature ? (call) => serveBySignature({ name, signature }, handler, call) : (call) => reply(call, handler(call));
     try {
-      this.#handlers.set(this.sandbox.imported(name), handler);
+      this.#handlers.set(this.sandbox.imported(name), serve);
     } catch (error) {
       if (error.why !== NO_SUCH_NAME) throw error;
     }
   }
 
   #serve(call) {
-    const handler = this.#handlers.get(call.pc);
-    if (handler) reply(call, handler(call));
+    this.#handlers.get(call.pc)?.(call);
   }
 
   #called(address, given) {
@@ -73,12 +134,24 @@ export class Plugin {
   #function(name) {
     if (typeof name !== "string") return undefined;
     try {
-      const address = this.address(name);
-      return (...given) => this.#called(address, given);
+      return this.#caller(name);
     } catch (error) {
       if (error instanceof NoName) return undefined;
       throw error;
     }
+  }
+
+  /** The function that calls an export: by its signature, if it has one. */
+  #caller(name) {
+    const address = this.address(name);
+    const signature = this.#claims.exports.get(name);
+    if (!signature) return (...given) => this.#called(address, given);
+    return (...given) => callBySignature(this.sandbox, address, { name, signature }, given, this.#claims.room, this.#options());
+  }
+
+  get signatures() {
+    const found = [...this.#claims.imports, ...this.#claims.exports];
+    return Object.fromEntries(found.map(([name, signature]) => [name, textOf(signature)]));
   }
 
   address(name) {
@@ -86,6 +159,10 @@ export class Plugin {
   }
 
   call(name, ...given) {
+    return this.#caller(name)(...given);
+  }
+
+  callWords(name, ...given) {
     return this.#called(this.address(name), given);
   }
 

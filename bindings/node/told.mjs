@@ -42,19 +42,43 @@ const ENDED = {
 };
 
 /** What is said of a call that is over: why, and how the sandbox stood, if it is there. */
-function whyEnded(cause, event) {
+function whyEnded(cause, event, more) {
   if (cause === Ended.TRAPPED) return `${ENDED[cause]}, ${event.cause} at ${hexadecimal(event.address)}`;
-  if (cause === Ended.REFUSED) return `${ENDED[cause]} (service ${event.service} at ${hexadecimal(event.pc)})`;
+  if (cause === Ended.REFUSED) return `${ENDED[cause]} (service ${event.service} at ${hexadecimal(event.pc)}${more})`;
   return ENDED[cause];
 }
 
 export class NotReturned extends Error {
-  /** `now` says of the sandbox how it stands since. */
-  constructor(what, cause, event, now) {
-    super(now ? `${what} is over: ${whyEnded(cause, event)}. Of the sandbox: ${now}` : `${what} didn't begin: ${ENDED[cause]}`);
+  /** `now` says of the sandbox how it stands since, and `more` of the call that it was refused. */
+  constructor(what, cause, event, now, more = "") {
+    super(now ? `${what} is over: ${whyEnded(cause, event, more)}. Of the sandbox: ${now}` : `${what} didn't begin: ${ENDED[cause]}`);
     Object.assign(this, { cause, event });
   }
 }
+
+export class WrongArguments extends TypeError {
+  constructor(functionName, signature, given, why) {
+    super(`${functionName}${signature}: ${why}`);
+    Object.assign(this, { functionName, signature, given, why });
+  }
+}
+
+export class TooLong extends RangeError {
+  constructor(functionName, size, room) {
+    super(`${functionName}: texts and bytes take ${size} bytes of the sandbox's stack, and may take ${room}`);
+    Object.assign(this, { functionName, size, room });
+  }
+}
+
+export class WrongSignature extends Error {
+  constructor(functionName, stated, claimed) {
+    super(`${functionName}: the host states ${stated}, and the image claims ${claimed}`);
+    Object.assign(this, { functionName, stated, claimed });
+  }
+}
+
+/** What `serve` throws where it refuses a call, with the reason. */
+export class Refusal extends Error {}
 
 export class OutsideData extends Error {}
 export class NotWaiting extends Error {}

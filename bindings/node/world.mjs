@@ -1,53 +1,17 @@
 // Worlds and their sandboxes, over the calls of sfi_run.h: index.d.mts says what each does.
+import { MOST, argument, bytesOf, counted, optionsOf, word } from "./given.mjs";
 import { NoMemory, usualLibrary } from "./library.mjs";
-import { Call, Ended, Exited, Meets, NoImage, NoName, NotEntered, NotReturned, NotRunning, NotWaiting, OutsideData, Ready, Refused,
-  Stopped, Trapped, eventOf, hexadecimal } from "./told.mjs";
+import { Call, Ended, Exited, Meets, NoImage, NoName, NotEntered, NotReturned, NotRunning, NotWaiting, OutsideData, Ready, Refusal,
+  Refused, Stopped, Trapped, eventOf, hexadecimal } from "./told.mjs";
 
-export const STEPS = 1_000_000; // of a call, unless others are given
 export const EXIT = 0; // the service
-const WORD = 0xffffffff;
 const MOST_DATA = 1 << 20;
 const ARGUMENTS = 8;
+const LONGEST_NAME = 255;
 const REGISTERS = 33; // words of struct sfi_run_registers
 const CALLABLE = "it has stopped, and can be called";
 const BACK = "it stands again at the call at which it was called";
 export const STRUCT_BYTES = 16; // of struct sfi_run_world, which begins as zeros, and struct sfi_run_console
-
-/** A number of 32 bits: WebAssembly would cut a larger one. */
-export function word(value) {
-  if (!Number.isInteger(value) || value < 0 || value > WORD) throw new RangeError(`${value} isn't a number from 0 to 2^32 - 1`);
-  return value;
-}
-
-/** An argument as such a number: of a negative one modulo 2^32. */
-function argument(value) {
-  if (!Number.isInteger(value) || value < -(2 ** 31) || value > WORD) {
-    throw new RangeError(`${String(value)} isn't an integer from -2^31 to 2^32 - 1`);
-  }
-  return value >>> 0;
-}
-
-/** How many steps a run has. */
-function counted(steps) {
-  if (!Number.isSafeInteger(steps) || steps < 0) throw new RangeError(`steps is ${String(steps)}, and has to be at least 0`);
-  return steps;
-}
-
-/** The options after the arguments of a call, which are taken off. */
-function optionsOf(given) {
-  const last = given.at(-1);
-  if (typeof last !== "object") return { steps: STEPS };
-  if (last === null || Array.isArray(last)) throw new TypeError("after the arguments comes an object with `steps` or `serve`");
-  const { steps = STEPS, serve } = given.pop();
-  if (serve !== undefined && typeof serve !== "function") throw new TypeError("`serve` is a function");
-  return { steps: counted(steps), serve };
-}
-
-export function bytesOf(data) {
-  if (data instanceof ArrayBuffer) return new Uint8Array(data);
-  if (!ArrayBuffer.isView(data)) throw new TypeError("what has bytes is wanted: a Uint8Array, a Buffer, or an ArrayBuffer");
-  return new Uint8Array(data.buffer, data.byteOffset, data.byteLength);
-}
 
 /** Has `count` words stand in the passage: these numbers, as `taken` takes them, and then zeros. */
 function passWords(library, numbers, count = numbers.length, taken = word) {
@@ -198,6 +162,13 @@ const outside = (at, count) => new OutsideData(`${count} bytes at ${hexadecimal(
 
 /** Runs a sandbox through its start, which has to exit: what `Sandbox.call` does of a function that is entered. */
 export let finishStart;
+/** Both words of what a function answers: `Sandbox.call64` with these options, where `prepare` is called when the function is entered
+ * and nothing of it has run. */
+export let callFunction;
+/** Has a sandbox that is entered go on with these registers, which is no other entry. Whether it can. */
+export let resume;
+/** The entries of an image's table, as `export_at` or `import_at` gives them: the name and number at an index, if there is one. */
+export let entryAt;
 
 export class Sandbox {
   #held;
@@ -264,7 +235,7 @@ export class Sandbox {
 
   *#events(end) {
     for (let now = this.steps; ; now = this.steps) {
-      let event = this.turn(Math.min(Math.max(0, end - now), WORD));
+      let event = this.turn(Math.min(Math.max(0, end - now), MOST));
       if (event instanceof Ready || event instanceof Call) {
         now = this.steps;
         if (event instanceof Ready && now < end) continue; // there were more steps than one turn takes
@@ -341,6 +312,16 @@ export class Sandbox {
     return this.#finish(frame, steps, serve);
   }
 
+  /** The name and number that a call of the library finds at an index. */
+  #entryAt(call, index) {
+    const { library } = this.#open();
+    const { image, place } = this.#seat;
+    const room = library.passage(LONGEST_NAME);
+    if (library.calls[call](...image, place, index, room, library.told, library.told + 4n) !== 0) return undefined;
+    const [length, number] = library.words(2);
+    return { entry: Buffer.from(library.copy(room, length)).toString("latin1"), number };
+  }
+
   /** Enters a function. Its frame: what is run, how the sandbox was entered for it, what is said of the sandbox after a failure,
    * and if that was at a call, what it found there. Where it can't be entered, nothing changes. */
   #begin(pc, given) {
@@ -362,11 +343,18 @@ export class Sandbox {
       const frame = { what: `the start in sandbox ${sandbox.number}`, entered: sandbox.#seat.entered, after: "it has stopped" };
       sandbox.#finish(frame, counted(steps), serve);
     };
+    callFunction = (sandbox, pc, words, { steps, serve }, prepare) => {
+      const most = counted(steps);
+      return sandbox.#finish(sandbox.#begin(word(pc), words), most, serve, prepare);
+    };
+    resume = (sandbox, { pc, x }) => sandbox.#call("set_registers", passWords(sandbox.#open().library, [pc, ...x])) !== 0;
+    entryAt = (sandbox, call, index) => sandbox.#entryAt(call, index);
   }
 
   /** The two words of what the frame answers. However it ends, it is over then. */
-  #finish(frame, steps, serve) {
+  #finish(frame, steps, serve, prepare) {
     try {
+      prepare?.();
       return this.#result(frame, steps, serve);
     } finally {
       this.#end(frame);
@@ -383,7 +371,7 @@ export class Sandbox {
         high = event.a1;
         event.exit(event.a0);
       } else if (serve) {
-        serve(event);
+        this.#serve(frame, event, serve);
         if (this.#isGone(frame)) throw this.#failure(frame, Ended.GONE, this.#held.has(this.#seat) ? this.event : undefined);
       }
     }
@@ -391,6 +379,15 @@ export class Sandbox {
     if (last instanceof Ready) throw this.#failure(frame, Ended.STEPS_USED, last);
     if (last instanceof Trapped) throw this.#failure(frame, Ended.TRAPPED, last);
     throw this.#failure(frame, last instanceof Stopped ? Ended.STOPPED : Ended.REFUSED, last);
+  }
+
+  #serve(frame, call, serve) {
+    try {
+      serve(call);
+    } catch (error) {
+      if (!(error instanceof Refusal)) throw error;
+      throw this.#failure(frame, Ended.REFUSED, call, `, ${error.message}`);
+    }
   }
 
   /** Whether a handler entered the sandbox for something else: of the frame nothing is left then. */
@@ -409,9 +406,9 @@ export class Sandbox {
     }
   }
 
-  #failure({ what, after }, cause, event) {
+  #failure({ what, after }, cause, event, more) {
     const now = cause === Ended.GONE ? CALLABLE : after;
-    return new NotReturned(what, cause, event, event ? now : "it is no longer there");
+    return new NotReturned(what, cause, event, event ? now : "it is no longer there", more);
   }
 
   get steps() {

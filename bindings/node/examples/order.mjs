@@ -5,7 +5,7 @@ import { Plugin } from "../index.mjs";
 
 const NUMBERS = [17, 42, 93, 28, 5, 61];
 
-const compare = (call) => plugin.exports.digit(call.a0) - plugin.exports.digit(call.a1);
+const compare = (a, b) => plugin.exports.digit(a) - plugin.exports.digit(b);
 
 const plugin = await Plugin.load(readFileSync(process.argv[2]), { handlers: { compare } });
 const at = plugin.address("numbers");
