@@ -1,5 +1,5 @@
 #!/usr/bin/env bash
-# Builds the hosts in C (also for aarch64), Python, Rust and, of three examples, JavaScript, and runs them: the console beside `sfi run` on all examples and the C programs, in
+# Builds the hosts in C (also for aarch64), Python, Rust and, of four examples, JavaScript, and runs them: the console beside `sfi run` on all examples and the C programs, in
 # each format and with turns of several lengths; a plug-in that is called as a function; and two that exchange words. Then
 # hosts that try the header's sentences, one in C++, and the bindings' own tests. Says what it skips for want of a tool.
 #
@@ -75,7 +75,7 @@ install_python() {
         report "the package has its library" "$room/site/sfi_run/libsfi_run.so" \
             "$(python3 -c 'import sfi_run; print(sfi_run._library.places()[0])' 2>&1)"
     fi
-    for name in "${examples[@]}"; do
+    for name in "${examples[@]}" values; do
         hosts[Python $name]="python3 $top/bindings/python/examples/$name.py"
     done
 }
@@ -87,7 +87,7 @@ find_node() {
     has node || { skip 2 "hosts in node, and the package's tests" "node isn't there" && return; }
     [ -f "$SFI_RUN_MODULE" ] ||
         { skip 2 "hosts in node, and the package's tests" "$SFI_RUN_MODULE isn't made (tools/build_node.py)" && return; }
-    for name in add order tally; do
+    for name in add order tally values; do
         hosts[node $name]="node $top/bindings/node/examples/$name.mjs"
     done
 }
@@ -207,7 +207,7 @@ status 0" "$room/words.image" "a plug-in of mine" x
 
 # The plug-in in C, where a compiler is there: another compiler makes other code, which does the same.
 compiled_anew() {
-    has riscv64-unknown-elf-gcc || { skip 7 "words_plugin.c, and functions by their names" "gcc for RISC-V isn't there" && return; }
+    has riscv64-unknown-elf-gcc || { skip 10 "words_plugin.c, and functions by their names" "gcc for RISC-V isn't there" && return; }
     "$top/tools/sfi-cc" --program "$SFI" -Wall -Werror --gate price=2 -o "$room/anew.image" "$here/words_plugin.c" 2>"$room/log"
     report "words_plugin.c is compiled" "Two Words 28" "$("$room/words" "$room/anew.image" "two words" 2>&1 | head -n 1)"
     printf 'int add(int a, int b) { return a + b; }\n' >"$room/add.c"
@@ -220,6 +220,13 @@ status 0" "$room/add.image"
         says "calls both ways, by names that the source marks, format $format" order "61 42 93 5 17 28
 61 42 93 5 17 28
 status 0" "$room/order.image"
+        "$top/tools/sfi-cc" --program "$SFI" --format "$format" -Wall -Werror "$here/values_plugin.c" -o "$room/values.image" 2>"$room/log"
+        says "values by signatures, format $format" values "noted häuser
+noted 
+äuser None
+desserts 200 -30000000000 0.25
+refused product (il)l
+status 0" "$room/values.image"
     done
 }
 
