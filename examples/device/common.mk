@@ -6,7 +6,7 @@ INTERRUPTS ?= $(SHARED)interrupts.c
 FLAGS = -std=c11 -O2 -Wall -Wextra -Wconversion -Wshadow -Wmissing-prototypes -Werror \
 	-march=rv32im_zicsr_zifencei -mabi=ilp32 -mcmodel=medany -msmall-data-limit=0 -ffreestanding \
 	-fno-builtin -fno-tree-loop-distribute-patterns -nostdlib -I$(SHARED). -I$(SHARED)../../crates/sfi_c/include
-FILES = switch.S image.c turns.c gates.c trap.c console.c verdict.c memory.c
+FILES = switch.S image.c turns.c gates.c trap.c console.c verdict.c memory.c mirrors.c
 PROTECTION = $(if $(NO_PMP),pads.c,$(SHARED)protection.S $(SHARED)protection.c $(SHARED)guards.c)
 SOURCES = $(FILES:%=$(SHARED)%) $(PROTECTION) $(SERVICES) $(INTERRUPTS)
 NEEDED = $(SHARED)machine.h $(SHARED)host.h $(SHARED)registers.h $(SHARED)common.mk Makefile

@@ -51,14 +51,26 @@ void refuse_sandbox(uint32_t number, const char *reason) {
     fail(2);
 }
 
-void refuse_load(uint32_t number, uint32_t address, const char *reason) {
+static void print_access(uint32_t number, const char *access, uint32_t address) {
     print(refusal);
     print("sandbox ");
     print_decimal(number);
-    print(": a load at ");
+    print(access);
     print_hex(address, 8);
+}
+
+void refuse_load(uint32_t number, uint32_t address, const char *reason) {
+    print_access(number, ": a load at ", address);
     print(reason);
     print("\n");
+    fail(2);
+}
+
+void refuse_store(uint32_t number, uint32_t address, uint32_t other) {
+    print_access(number, ": a store at ", address);
+    print(", in its data, changes the byte at ");
+    print_hex(other, 8);
+    print(", too\n");
     fail(2);
 }
 

@@ -125,6 +125,19 @@ void protect(uint32_t entry, uint32_t address, uint8_t configuration);
 uint32_t power_of_two(uint32_t base, uint32_t size);    /* the address that PMP_NAPOT takes for it */
 void write_protection(void);
 
+/* paging.c, or place.c of mcu: where the host reads its own memory, the image and all code; how many spans these are. And
+   where the host has a byte of a sandbox's data. */
+enum { SPANS_MOST = 4 };
+struct span {
+    uint32_t from, size;
+};
+uint32_t memory_of_host(struct span spans[SPANS_MOST]);
+uint32_t host_address(uint32_t data_address);
+
+/* mirrors.c: refuses to go on where a store to an end of the sandbox's data changes a byte of that memory. Called when the
+   host may read all of it: on mcu before the guard zones are closed */
+void test_mirrors(uint32_t number, const struct part *part);
+
 /* guards.c: refuses to go on where a load at an end of a guard zone doesn't trap, or one at an end of the
    data does. Called when all is as the sandboxes will find it, before an interrupt is on but the timer's */
 void test_guards(const struct world *world);
@@ -214,6 +227,7 @@ _Noreturn void refuse(const char *reason);                      /* the image as 
 _Noreturn void refuse_sandbox(uint32_t number, const char *reason);
 _Noreturn void refuse_number(const char *reason, uint32_t number, const char *more);
 _Noreturn void refuse_load(uint32_t number, uint32_t address, const char *reason);      /* of a sandbox, there */
+_Noreturn void refuse_store(uint32_t number, uint32_t address, uint32_t other);         /* that changes another byte */
 _Noreturn void host_fault(uint32_t cause, uint32_t pc);         /* start.S and switch.S come here, too */
 
 #endif

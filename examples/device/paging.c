@@ -14,6 +14,7 @@ enum {
    begin within a page. */
 enum { WINDOW_SIZE = 1 << 16 };
 extern uint8_t window[]; /* aligned to its size; after it is the pool of pages, up to ARGUMENTS */
+extern uint8_t stack_top[]; /* the end of the host's own memory */
 static uint32_t small_count;
 
 static uint32_t root[ENTRIES] __attribute__((aligned(PAGE)));
@@ -99,6 +100,19 @@ uint8_t *map_slots(uint32_t number, uint32_t address) {
 
 uint32_t *word_of_code(uint32_t number, uint32_t address) {
     return (uint32_t *)(target_of(*entry_of(address, number)) + address % PAGE);
+}
+
+/* Of the window the host can read the data regions alone. Code lies in pages of the pool. */
+uint32_t memory_of_host(struct span spans[SPANS_MOST]) {
+    uint8_t *pool = window + WINDOW_SIZE;
+    spans[0] = (struct span){RAM, (uint32_t)stack_top - RAM};
+    spans[1] = (struct span){(uint32_t)pool, (uint32_t)(next_page - pool)};
+    spans[2] = (struct span){IMAGE, ((const struct arguments *)ARGUMENTS)->image_length};
+    return 3;
+}
+
+uint32_t host_address(uint32_t data_address) {
+    return (uint32_t)target_of(*entry_of(data_address, 0)) + data_address % PAGE;
 }
 
 /* The host's memory has no protection from the sandboxes but what the checker says of them: one

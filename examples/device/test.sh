@@ -239,6 +239,8 @@ report "code in the page of a guard zone: where they trap" \
 
 symbol() { riscv64-unknown-elf-nm out/loader | sed -n "s/^\([0-9a-f]*\) . $1$/0x\1/p"; }
 
+try_mirrors 0x80000000 "$(symbol window) + 0x11000" # the pool's second page, after a page table
+
 # What a reset leaves in memory is nothing to rely on.
 head -c $(($(symbol stack_top) - $(symbol loader_memory))) /dev/zero | tr '\0' '\377' >"$room/ones"
 export QEMU_OPTIONS="-device loader,file=$room/ones,addr=$(symbol loader_memory),force-raw=on"

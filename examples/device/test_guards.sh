@@ -84,6 +84,22 @@ host_refuses() { # the sandbox, how far from data_at on a load doesn't do what i
         "$(printf 'device: sandbox %s: a load at %08x, in its %s' "$1" $((data_at + $2)) "$3")" "$(on_edited_host)"
 }
 
+# A host on which another address is that of a byte of the data, too, as where memory is mirrored: there its probe looks
+# at the data's byte.
+changed_by_store() { # how far from data_at the byte is, the other address, and which addresses `other` are the byte's
+    edit_host mirrors.c "s/(const volatile uint8_t \*)other/(const volatile uint8_t *)($3 ? byte : other)/"
+    report "$chip: the edited host: a byte of the data where $3" \
+        "$(printf 'device: sandbox 0: a store at %08x, in its data, changes the byte at %08x, too' \
+            $((data_at + $1)) $(($2)))" "$(on_edited_host)"
+}
+
+try_mirrors() { # the first address that the host has, but for the byte's, in a map that leaves out all bits but 12; its code's
+    "$SFI" build $(at 0) <<<$'.sandbox 256\n ebreak' >"$room/image.hex"
+    changed_by_store 0 "$1" "other % 4096 == byte % 4096"
+    changed_by_store 0 "$2" "other == $(($2))u"
+    changed_by_store 255 "$2 + 255" "other == $(($2 + 255))u"
+}
+
 # A handler that goes on behind a load that has trapped lets code out, three loads later: it stores into its
 # neighbour's data. The lines tell of it.
 try_handler() {

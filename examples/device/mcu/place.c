@@ -33,11 +33,26 @@ void close_guards(uint32_t number, const struct part *part) {
     protect(entry + 2, data_end + GUARD_ZONE, PMP_LOCKED | PMP_TOR);
 }
 
+extern const uint8_t text_end[]; /* of the host's code and constants */
+
+uint32_t memory_of_host(struct span spans[SPANS_MOST]) {
+    spans[0] = (struct span){CHIP_RAM, RAM_END - CHIP_RAM};
+    spans[1] = (struct span){FLASH_HOST, (uint32_t)text_end - FLASH_HOST};
+    spans[2] = (struct span){CODE_AS_DATA(FLASH_CODE), FLASH_ARGUMENTS - FLASH_CODE};
+    spans[3] = (struct span){FLASH_IMAGE, FLASH_INPUT - FLASH_IMAGE};
+    return 4;
+}
+
+uint32_t host_address(uint32_t data_address) {
+    return data_address;
+}
+
 void place(uint32_t number, const struct part *part) {
     if (!data_is_free(part))
         refuse_sandbox(number, "there is no memory for its data and guard zones");
     if (!is_code_in_place(part))
         refuse_sandbox(number, "its code isn't in the flash");
+    test_mirrors(number, part);
     memset((uint8_t *)part->data_base, 0, part->data_size);
     memcpy((uint8_t *)part->data_base, part->first, part->first_count);
     close_guards(number, part);

@@ -205,6 +205,7 @@ try_chip() {
     try_accesses words gp "${accesses[@]}"
     try_far "$sandboxes_most"
     try_handler
+    try_mirrors "$data_at + 0x1000" "$code_at"
     try_open_guards
     try_places
     try_output

@@ -95,6 +95,7 @@ void start_slots(void) {
     for (uint32_t number = 0; number < SLOTS; number++) {
         struct part *part = &world.sandboxes[number].part;
         *part = (struct part){.data_base = data_at(number), .data_size = SLOT_DATA};
+        test_mirrors(number, part);
         close_guards(number, part);
     }
     write_protection();
