@@ -273,11 +273,11 @@ uint32_t sfi_run_import(const uint8_t *image, size_t length, uint32_t sandbox, c
                         uint32_t *address);
 
 /*
- * Lists the exports, and the imports: writes the entry at an index among them, counted from 0, to the first *name_size bytes of
- * `name` its name, and what it stands for to *address. The other bytes of `name` stay, and no zero ends the name. From the
- * number of entries on an index is answered by SFI_RUN_NAMES_NO_NAME. Returns as sfi_run_export does, and likewise writes
- * nothing unless that is SFI_RUN_NAMES_FOUND. A name is 1 to 255 visible characters of ASCII, and one that begins with a
- * point is a claim of the tools: sfi_run_serve.h reads that which says what a function takes and gives.
+ * Lists the exports, and the imports: writes the name of the entry at an index, counted from 0, to the first *name_size bytes
+ * of `name`, and what it stands for to *address. The other bytes of `name` stay, so that no zero ends it. Returns one of enum
+ * sfi_run_names: SFI_RUN_NAMES_NO_NAME where there are fewer entries, and nothing is written unless it is
+ * SFI_RUN_NAMES_FOUND. A name is 1 to 255 visible characters of ASCII. One that begins with a point is a claim of the tools:
+ * sfi_run_signature (sfi_run_serve.h) reads those that say what a function takes and gives.
  */
 uint32_t sfi_run_export_at(const uint8_t *image, size_t length, uint32_t sandbox, uint32_t index,
                            uint8_t name[SFI_RUN_NAME_MOST], uint32_t *name_size, uint32_t *address);

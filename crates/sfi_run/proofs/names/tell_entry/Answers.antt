@@ -1,5 +1,5 @@
 use Rattle.std.proofs.Common.{◌≡◌, List, ℕ, ◌++◌, drop, length, refl, subst, rules}
-use Rattle.sfi_names.specs.Tables.{Named, named}
+use Rattle.sfi_names.specs.Tables.{Named}
 use Rattle.sfi_run.specs.Names.{IsToldEntry}
 use Rattle.sfi_run.proofs.names.tell_entry.Goals as goal
 
