@@ -1,5 +1,5 @@
 -- What holds of what is linked: the laws, for proofs here and in the crates above.
-use Rattle.sfi_link.specs.Laws.{LinkedIsClean, LinkedIsRight, OneLinking, MovableCodeIsPlaceless, MovableAddressesAddUp, OneImage, OneFault, NeverBoth, ImageHasNoFault, SomeLinking, UsualPlacesAreFree}
+use Rattle.sfi_link.specs.Laws.{LinkedIsClean, LinkedIsRight, OneLinking, MovableCodeIsPlaceless, MovableAddressesAddUp, MaskedAddressesAddUp, OneImage, OneFault, NeverBoth, ImageHasNoFault, SomeLinking, UsualPlacesAreFree}
 use Rattle.sfi_link.proofs.LinkedClean as clean
 use Rattle.sfi_link.proofs.Linking as linking
 use Rattle.sfi_link.proofs.Moving as moving
@@ -24,6 +24,9 @@ movable_code_is_placeless = moving.placeless
 
 pub movable_addresses_add_up : MovableAddressesAddUp
 movable_addresses_add_up = moving.adds_up
+
+pub masked_addresses_add_up : MaskedAddressesAddUp
+masked_addresses_add_up = moving.masked_adds_up
 
 pub one_image : OneImage
 one_image = linking.one_bytes

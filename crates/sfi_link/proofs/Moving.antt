@@ -5,7 +5,11 @@ use Rattle.sfi_rewrite.specs.declared.placed.PlacedName.TheVariants as name
 use Rattle.std.proofs.lemmas.Option.{same_Some}
 use Rattle.sfi_formats.specs.Formats.{code_base_register, data_base_register}
 use Rattle.sfi_link.specs.Code.{address_at, address_of, base_of, offset_of, stub_size}
-use Rattle.sfi_link.specs.Laws.{MovableCodeIsPlaceless, MovableAddressesAddUp}
+use Rattle.sfi_link.specs.Laws.{MovableCodeIsPlaceless, MovableAddressesAddUp, MaskedAddressesAddUp}
+use Rattle.rv_word.specs.declared.instr.RegOp.TheVariants.{Add}
+use Rattle.rv_step.specs.Step.{result_of}
+use Rattle.sfi_rewrite.specs.Transparency.{masked}
+use Rattle.sfi_rewrite.proofs.Facts.{masks_compose}
 
 -- two places of a sandbox that can be moved, with as many stubs
 record AreMoved (a b : Bases) : Type 0 where
@@ -138,3 +142,16 @@ adds_up given number p place held base value moves in_code in_data register numb
     let at = bases_of given number p in
     some_adds_up given number p (slice_get p.names place) held base value in_code in_data register
     (sym (chosen at.movable (of_name (offset_of at) (slice_get p.names place)) (address_at at p.names place) moves) ∙ number_is)
+
+-- ---- with a mask after each step
+
+pub masked_adds_up : MaskedAddressesAddUp
+masked_adds_up given number p place held base value upper lower address c d moves in_code in_data register number_is halves there regions inside word =
+    let sum : held base + value ≡ address =
+    same_Some (held base + value) address (sym (adds_up given number p place held base value moves in_code in_data register number_is) ∙ there) in
+    let first = (masks_compose c d upper lower regions).1 ∙ ap (masked d) halves in
+    let last : result_of Add value (held base) ≡ address = omega arith in
+    ap (λ (n : ℕ). masked d (result_of Add n (held base))) first
+    ∙ (masks_compose c d value (held base) regions).1
+    ∙ ap (masked d) last
+    ∙ (masks_compose c d address 0 regions).0 inside

@@ -1,12 +1,16 @@
 -- What holds of all that is placed.
 use Rattle.std.specs.Prelude.{◌≡◌, ◌⊎◌, ℕ, ◌+◌, ◌≤◌, List, [], length, true, Some}
-use Rattle.sfi_image.specs.Spelling.{Part}
+use Rattle.sfi_image.specs.Spelling.{Part, Holds, IsWord}
+use Rattle.sfi_image.specs.declared.span.Span.{Span}
 use Rattle.sfi_image.specs.Parts.{IsRightLayout}
 use Rattle.sfi_formats.specs.declared.place.Place.{Place}
 use Rattle.sfi_formats.specs.Formats.{code_base_register, data_base_register}
 use Rattle.sfi_rules.specs.Findings.{AreFindings}
 use Rattle.sfi_rewrite.specs.Placement.{Placement}
 use Rattle.sfi_rewrite.specs.Placed.{IsPlacedPart, IsPlaced}
+use Rattle.sfi_rewrite.specs.Transparency.{AreRegions, masked}
+use Rattle.rv_word.specs.declared.instr.RegOp.TheVariants.{Add}
+use Rattle.rv_step.specs.Step.{result_of}
 use Rattle.sfi_link.specs.Code.{bases_of, base_at, value_at, address_at}
 use Rattle.sfi_link.specs.declared.fault.LinkFault.{LinkFault}
 use Rattle.sfi_link.specs.declared.fault.LinkFault.TheVariants as fault
@@ -40,8 +44,7 @@ MovableCodeIsPlaceless =
 
 -- In such a sandbox the number that the lui and addi of `la` hold of a name, and what the register that its
 -- add names holds, where x24 and x26 hold the bases, add up to the name's address. (That lui and addi put
--- the number together is `ConstantsAddUp` of sfi_text. In the stack pointer of the second format and in data
--- registers a mask follows each of the three: of these this says nothing.)
+-- the number together is `ConstantsAddUp` of sfi_text.)
 abbrev pub MovableAddressesAddUp : Type 0
 MovableAddressesAddUp =
     (given : List Place) (number : ℕ) (p : Placement) (place : ℕ) (held : ℕ → ℕ) (base value : ℕ)
@@ -50,6 +53,22 @@ MovableAddressesAddUp =
     → base_at p.names place ≡ Some base
     → value_at (bases_of given number p) p.names place ≡ Some value
     → address_at (bases_of given number p) p.names place ≡ Some (held base + value)
+
+-- In the stack pointer of the second format and in data registers a mask follows each of the three. They
+-- leave the name's address, too, if that lies in the data region.
+abbrev pub MaskedAddressesAddUp : Type 0
+MaskedAddressesAddUp =
+    (given : List Place) (number : ℕ) (p : Placement) (place : ℕ) (held : ℕ → ℕ)
+    (base value upper lower address : ℕ) (code_at data_at : Span)
+    → p.movable ≡ true → held code_base_register ≡ (bases_of given number p).code
+    → held data_base_register ≡ (bases_of given number p).«data»
+    → base_at p.names place ≡ Some base
+    → value_at (bases_of given number p) p.names place ≡ Some value
+    → result_of Add upper lower ≡ value
+    → address_at (bases_of given number p) p.names place ≡ Some address
+    → AreRegions code_at data_at → Holds data_at address → IsWord address
+    → masked data_at (result_of Add
+    (masked data_at (result_of Add (masked data_at upper) lower)) (held base)) ≡ address
 
 -- what is placed has at most one image
 abbrev pub OneImage : Type 0
