@@ -240,6 +240,11 @@ export function valueTests(built) {
         const found = [];
         const it = await plugin([], { imports: [`.ask(i${letter})v`], handlers: { ask: (...given) => found.push(given) } });
         it.sandbox.write(DATA + SIZE - 4, bytes("xxxx"));
+        const whole = it.sandbox.read;
+        it.sandbox.read = (at, count) => { // for which memory is taken
+          assert.ok(at >= DATA && at + count <= DATA + SIZE);
+          return whole.call(it.sandbox, at, count);
+        };
         assert.throws(() => it.exports.forward(1, ...words), (error) => {
           assert.deepEqual([error.cause, error.event.service, found], [Ended.REFUSED, 3, []]);
           assert.match(error.message, new RegExp(`no handler replied \\(service 3 at 01000010, ask\\(i${letter}\\)v: argument 2, .*, isn't in its data\\)`));

@@ -5,6 +5,7 @@ import pathlib
 import struct
 import threading
 import unittest
+from unittest import mock
 
 from test_calls import CASES, IMAGE as CALLS, LOST, STEPS, Unserved, raises, says_nothing
 from test_names import entry, with_data
@@ -271,6 +272,10 @@ class Handlers(Calls):
                 plugin.forward(7)
             self.assertEqual(plugin.add(1, 2), 3)
 
+    @staticmethod
+    def reads():
+        return mock.patch.object(sfi_run.Sandbox, "read", autospec=True, side_effect=sfi_run.Sandbox.read)
+
     def test_lies(self):
         """A call with an address or a length outside the data is refused, before its handler runs."""
         for letter, words in (("s", (0,)), ("s", (DATA - 1,)), ("s", (DATA + SIZE,)), ("s", (CODE,)), ("s", (0xFFFFFFFF,)), ("s", (DATA + SIZE - 4,)),
@@ -280,8 +285,10 @@ class Handlers(Calls):
             found = []
             plugin = self.plugin(imports=(f".ask(i{letter})v",), ask=lambda *given: found.append(given))
             plugin.sandbox.write(DATA + SIZE - 4, b"xxxx")
-            with self.subTest(letter=letter, words=words), self.assertRaises(sfi_run.NotReturned) as told:
+            with self.subTest(letter=letter, words=words), self.assertRaises(sfi_run.NotReturned) as told, self.reads() as read:
                 plugin.forward(1, *words)
+            for _, at, count in (it.args for it in read.call_args_list):  # of which memory is taken
+                self.assertTrue(DATA <= at <= at + count <= DATA + SIZE)
             self.assertEqual((told.exception.cause, told.exception.event.service, found), (Ended.REFUSED, 3, []))
             self.assertRegex(str(told.exception), rf"no handler replied \(service 3 at {CODE + 16:08x}, ask\(i{letter}\)v: argument 2, .*, isn't in its data\)")
             self.assertEqual(plugin.add(1, 2), 3)
