@@ -12,7 +12,7 @@ use Rattle.sfi_image.specs.declared.fault.LayoutFault.{LayoutFault}
 use Rattle.sfi_rules.specs.declared.finding.Finding.{Finding}
 use Rattle.sfi_safety.specs.Clean.{IsAccepted}
 use Rattle.sfi_check.specs.Verdict.{HasFindings}
-use Rattle.sfi_places.specs.Moving.{moved_one, IsMoved, IsMoveFault, IsWrongPlace}
+use Rattle.sfi_places.specs.Moving.{IsMoved, IsMoveFault, IsWrongPlace}
 use Rattle.sfi_places.specs.declared.moving.MoveFault.{MoveFault}
 use Rattle.sfi_places.specs.declared.moving.MoveFault.TheVariants.{NoSandbox, NoPlace}
 use Rattle.sfi_answers.specs.Answers.{Answers, AnswersStatus, IsStop, HasSomeFault, IsAcceptedImage, SaysRefused, on_verdict}
@@ -30,9 +30,9 @@ pub whole : (len : ℕ) (new rest : List ℕ) → length new ≡ len → take le
 whole len new rest all = take-append-le len new rest (omega (arith, all)) ∙ take_all len new (omega (arith, all))
 
 pub copied : (bytes image new kept : List ℕ) (number : ℕ) (to : Place) → image ≡ bytes → kept ≡ new → IsMoved image number to new
-    → ((ps : List Part) → IsImage image ps → IsAccepted image ps ↔ IsAccepted new (moved_one number to ps)) → IsMovedCopy bytes number to kept
+    → ((ps qs : List Part) → IsImage image ps → IsImage new qs → IsAccepted image ps ↔ IsAccepted new qs) → IsMovedCopy bytes number to kept
 copied bytes image new kept number to same all moves accepted =
-    let made : IsMovedCopy image number to new = record { moved = moves; still_accepted = λ ps a. (accepted ps a.image).0 a } in
+    let made : IsMovedCopy image number to new = record { moved = moves; still_accepted = λ a. (_, (accepted a.0 _ a.1.image moves.image).0 a.1) } in
     subst (λ (b : List ℕ). IsMovedCopy b number to kept) same (subst (λ (n : List ℕ). IsMovedCopy image number to n) (sym all) made)
 
 -- where no fault of a move is that of the copy, none is that of the bytes
@@ -58,7 +58,7 @@ moved raw number to bytes now parts a accepted copy can found layout status text
     now = now;
     accepted = accepted;
     moved = copy.moved;
-    still_accepted = copy.still_accepted parts accepted;
+    still_accepted = copy.still_accepted (parts, accepted);
     status_is = status;
     text_is = text;
   });

@@ -4,7 +4,7 @@ use Rattle.sfi_formats.specs.declared.place.Place.{Place}
 use Rattle.sfi_image.specs.Spelling.{Part}
 use Rattle.sfi_image.specs.Keeping.{IsBeyond}
 use Rattle.sfi_safety.specs.Clean.{IsAccepted}
-use Rattle.sfi_places.specs.Moving.{moved_one, IsMoved, IsWrongPlace}
+use Rattle.sfi_places.specs.Moving.{IsMoved, IsWrongPlace}
 use Rattle.sfi_answers.specs.Answers.{Meaning, HasSomeFault, HasSomeFindings, IsAcceptedImage, SaysRefused}
 use Rattle.sfi_answers.specs.Building.{image_output}
 
@@ -15,7 +15,7 @@ pub record SaysMoved (raw : Bool) (number : ℕ) (to : Place) (bytes : List ℕ)
   pub now : List ℕ
   pub accepted : IsAccepted bytes parts
   pub moved : IsMoved bytes number to now
-  pub still_accepted : IsAccepted now (moved_one number to parts)
+  pub still_accepted : IsAcceptedImage now
   pub status_is : status ≡ 0
   pub text_is : text ≡ image_output raw now
 

@@ -2,10 +2,8 @@
 use Rattle.std.specs.Prelude.{◌≡◌, ◌≢◌, ◌⊎◌, List, [], Result, Ok, Err, ℕ, Bool, true, false, ◌++◌, Option, Some, None, IfSome, Vec}
 use Rattle.std.specs.declared.alloc.Global.{Global}
 use Rattle.sfi_formats.specs.declared.place.Place.{Place}
-use Rattle.sfi_image.specs.Spelling.{Part}
-use Rattle.sfi_safety.specs.Clean.{IsAccepted}
-use Rattle.sfi_places.specs.Moving.{moved_one, IsMoved}
-use Rattle.sfi_answers.specs.Answers.{IsStop, refused_line, HasSomeFault}
+use Rattle.sfi_places.specs.Moving.{IsMoved}
+use Rattle.sfi_answers.specs.Answers.{IsStop, refused_line, HasSomeFault, IsAcceptedImage}
 use Rattle.sfi_answers.specs.Moving.{CannotMove}
 use Rattle.sfi_rules.specs.declared.finding.Finding.{Finding}
 use Rattle.sfi_check.specs.declared.conversion.ConvertFault.{ConvertFault}
@@ -57,7 +55,7 @@ IsMoveStop bytes number to why = IsStop (HasSomeFault bytes ⊎ CannotMove numbe
 -- the bytes are those of the image with the sandbox at that place, which is accepted if it was
 pub record IsMovedCopy (bytes : List ℕ) (number : ℕ) (to : Place) (now : List ℕ) : Type 0 where
   pub moved : IsMoved bytes number to now
-  pub still_accepted : (ps : List Part) → IsAccepted bytes ps → IsAccepted now (moved_one number to ps)
+  pub still_accepted : IsAcceptedImage bytes → IsAcceptedImage now
 
 -- the sandbox was moved, or memory ran out
 abbrev pub IsMovedOrMemory : Result (Vec ℕ Global) Stop → Type 0

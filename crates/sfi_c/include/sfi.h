@@ -249,14 +249,14 @@ bool sfi_c_apart(const struct sfi_part *one, const struct sfi_part *other);
 
 /*
  * Moves the sandbox of that number: its code to code_base and its data to data_base. Of the image's bytes only the two bases,
- * the start and the gates' addresses change, by as much as the code's base; with an answer other than SFI_FOUND none does.
+ * the start and the gates' addresses change, by as much as the code's base, and in its table of names, if its first data bytes
+ * end in one (sfi_run_export), each address of the code or the data; with an answer other than SFI_FOUND none does.
  *
  * SFI_NO_PLACE: a base is no multiple of its region's size, there is no room for a guard zone beside the data, or a region or
  * a guard zone meets another one of the image. SFI_BEYOND and SFI_NO_IMAGE are as above.
  *
  * The image that was written is accepted exactly if the one before was, so either may be checked. What it computes is another
- * thing: code that has addresses in its instructions or its data, as `la` writes them without `.movable`, names the old place,
- * and so does a table of names (sfi_run_export); the tool sfi-move writes that anew.
+ * thing: code that has addresses in its instructions or its data, as `la` writes them without `.movable`, names the old place.
  *
  * Nothing else reads or writes the image during the call.
  */

@@ -6,7 +6,7 @@ ghost use Rattle.sfi_image.specs.Parts.{IsImage};
 ghost use Rattle.sfi_image.specs.Faults.{IsFault};
 ghost use Rattle.sfi_safety.specs.Clean.{IsAccepted};
 ghost use Rattle.sfi_image.specs.Keeping.{IsBeyond};
-ghost use Rattle.sfi_places.specs.Moving.{moved_one, IsMoved, IsWrongPlace};
+ghost use Rattle.sfi_places.specs.Moving.{IsMoved, IsWrongPlace};
 ghost use Rattle.sfi_c.specs.Moves.{move_number, to_place};
 ghost use Rattle.sfi_c.specs.private.{move_said_of};
 
@@ -55,8 +55,8 @@ fn move_answer_of(answer: Result<(), MoveFault>) -> MoveAnswer
 }
 
 /// Moves the image's sandbox `number`, counted from 0, so that its code and its data begin at
-/// these addresses, and returns the number of a [`MoveAnswer`]. Of the bytes only its bases, its start
-/// and its gates' addresses change. It takes no memory.
+/// these addresses, and returns the number of a [`MoveAnswer`]. Of the bytes only its bases, its
+/// start, its gates' addresses and those in its table of names change. It takes no memory.
 #[unsafe(no_mangle)]
 pub extern "C" fn sfi_c_move(image: &mut [u8], number: u32, code_base: u32, data_base: u32) -> u32
     ensures known { result ≤ 3 }
@@ -82,9 +82,9 @@ pub extern "C" fn sfi_c_move(image: &mut [u8], number: u32, code_base: u32, data
         → result ≡ move_number MoveAnswer.NoPlace }
 
     // The verdict on the bytes doesn't change.
-    ensures accepted { result ≡ move_number MoveAnswer.Moved → (ps : List Part) → IsImage image.old ps
-        → IsAccepted image.old ps
-        ↔ IsAccepted image.new (moved_one number (to_place code_base data_base) ps) }
+    ensures accepted { result ≡ move_number MoveAnswer.Moved → (ps qs : List Part)
+        → IsImage image.old ps → IsImage image.new qs
+        → IsAccepted image.old ps ↔ IsAccepted image.new qs }
 {
     let to = Place {
         code_base,

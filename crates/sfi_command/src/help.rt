@@ -211,10 +211,9 @@ pub(crate) const MOVE_SANDBOX: &str = "The sandbox, counted from 0";
 pub(crate) const MOVE_NOTES: &str = "\
 Reads an image, and prints it with that sandbox at that place, on one line of
 hexadecimal digits, or with --raw as bytes. Its bases, its start and its gates'
-addresses change, and no byte of its code or first data. So it is accepted, too; it
-does what it did where its code was made for any place, as by `sfi-cc --movable`.
-A table of names in its data keeps the addresses that it has: the tool sfi-move
-writes these anew.
+addresses change, and those of its code and data in its table of names, if it has
+one; no other byte of its code or first data does. So it is accepted, too; it does
+what it did where its code was made for any place, as by `sfi-cc --movable`.
 
 Exit status:
   0  moved

@@ -4,6 +4,7 @@ use Rattle.std.specs.Prelude.{slice_get, OnOk, IfSome, IfNone, is_ok}
 use Rattle.std.specs.Bool.{OnTrue, OnFalse}
 use Rattle.std.specs.List.{All, flat_map}
 use Rattle.std.proofs.lemmas.List.{length-map, append-nil}
+use Rattle.std.proofs.lemmas.Option.{slice_get_within}
 use Rattle.std.proofs.lemmas.List.Elements.{All-head, All-tail, All-cons, All-map}
 unfoldable use Rattle.sfi_formats.specs.Formats.{magic}
 use Rattle.sfi_formats.specs.declared.format.Format.{Format}
@@ -28,11 +29,12 @@ use Rattle.sfi_rules.specs.declared.finding.Finding.{Finding}
 use Rattle.sfi_rules.specs.Findings.{AreFindings, AreFindingsFrom}
 use Rattle.sfi_safety.proofs.Places.{nothing_before}
 use Rattle.sfi_safety.specs.Clean.{IsAccepted}
-use Rattle.sfi_places.specs.Moving.{moved_one, IsMoved, IsMoveFault, OneMoves, moved_address, moved_gate, moved}
+use Rattle.sfi_places.specs.Moving.{moved_one, with_first, IsMoved, IsMoveFault, OneMoves, moved_address, moved_gate, moved}
 use Rattle.sfi_places.proofs.Placeless.{clean_is_placeless}
 use Rattle.sfi_places.specs.private.{IsReplaced, GoesTo, GatesGo, CanMove}
 use Rattle.sfi_image.proofs.Seeking.{length-head, split_at, spelled, spelled_round, image_split}
 use Rattle.sfi_places.proofs.Writing.{one_of}
+use Rattle.sfi_places.proofs.FirstData.{with, again, own, right_layout, found_same, one_there, first_there}
 
 abbrev pub own_place : Part → Place
 own_place p = record { code_base = p.code_base; data_base = p.data_base }
@@ -256,8 +258,8 @@ got [] n lt = absurd (omega arith)
 got (p ∷ ps) zero lt = (p, refl)
 got (p ∷ ps) (suc n) lt = got ps n (omega (arith, lt))
 
-pub one_moves : OneMoves
-one_moves ps n to lt layout layout' =
+place_moves : (ps : List Part) (n : ℕ) (to : Place) → n < length ps → IsRightLayout ps → IsRightLayout (moved_one n to ps) → IsAccepted (spelling ps) ps ↔ IsAccepted (spelling (moved_one n to ps)) (moved_one n to ps)
+place_moves ps n to lt layout layout' =
     let one = got ps n lt in
     let p = one.0 in
     let right = one_of IsRightPart (take n ps) p (drop (suc n) ps) (subst (All IsRightPart) (split_at ps n p one.1) layout.right.each) in
@@ -276,13 +278,47 @@ one_moves ps n to lt layout layout' =
       },
     )
 
-pub same_verdict : (old new : List ℕ) (n : ℕ) (to : Place) → IsMoved old n to new → (ps : List Part) → IsImage old ps → IsAccepted old ps ↔ IsAccepted new (moved_one n to ps)
-same_verdict old new n to m ps image =
-    let same : m.0 ≡ ps = one_image old m.0 ps m.1 image in
-    let now : IsImage new (moved_one n to ps) = subst (λ (l : List Part). IsImage new (moved_one n to l)) same m.3 in
-    let law = one_moves ps n to (subst (λ (l : List Part). n < length l) same m.2) image.layout now.layout in (
-      λ a. subst (λ (l : List ℕ). IsAccepted l (moved_one n to ps)) (sym now.bytes_are) (law.0 (subst (λ (l : List ℕ). IsAccepted l ps) image.bytes_are a)),
-      λ a. subst (λ (l : List ℕ). IsAccepted l ps) (sym image.bytes_are) (law.1 (subst (λ (l : List ℕ). IsAccepted l (moved_one n to ps)) now.bytes_are a)),
+-- the layout of the sandboxes there with their old first data bytes
+pub layout_before : (ps : List Part) (n : ℕ) (to : Place) (first : List ℕ) → n < length ps → IsRightLayout ps → IsRightLayout (with_first n first (moved_one n to ps)) → IsRightLayout (moved_one n to ps)
+layout_before ps n to first lt layout layout' =
+    let one = got ps n lt in
+    let p = one.0 in
+    let right = one_of IsRightPart (take n ps) p (drop (suc n) ps) (subst (All IsRightPart) (split_at ps n p one.1) layout.right.each) in
+    let other = moved to.code_base to.data_base p in
+    let here = one_there n to ps p one.1 in
+    subst IsRightLayout (again n first p.init (moved_one n to ps) ∙ own n (moved_one n to ps) other here)
+    (right_layout n p.init (with_first n first (moved_one n to ps)) (with first other) (first_there n first (moved_one n to ps) other here) right.init_len layout')
+
+pub one_moves : OneMoves
+one_moves ps qs n to first lt is layout layout' =
+    let mid = moved_one n to ps in
+    let one = got ps n lt in
+    let p = one.0 in
+    let there : IsRightLayout (with_first n first mid) = subst IsRightLayout is layout' in
+    let between = layout_before ps n to first lt layout there in
+    let law = place_moves ps n to lt layout between in
+    let back : with_first n p.init qs ≡ mid =
+    ap (with_first n p.init) is ∙ again n first p.init mid ∙ own n mid (moved to.code_base to.data_base p) (one_there n to ps p one.1) in (
+      λ a. record {
+        image = record { bytes_are = refl; layout = layout' };
+        none_found = subst (λ (l : List Part). AreFindingsFrom 0 l []) (sym is) (found_same 0 n first mid [] (law.0 a).none_found);
+      },
+      λ a. law.1 (record {
+        image = record { bytes_are = refl; layout = between };
+        none_found = subst (λ (l : List Part). AreFindingsFrom 0 l []) back (found_same 0 n p.init qs [] a.none_found);
+      }),
+    )
+
+pub same_verdict : (old new : List ℕ) (n : ℕ) (to : Place) → IsMoved old n to new → (ps qs : List Part) → IsImage old ps → IsImage new qs → IsAccepted old ps ↔ IsAccepted new qs
+same_verdict old new n to m ps qs image now =
+    let parts = m.was.parts in
+    let same : parts ≡ ps = one_image old parts ps m.was.image image in
+    let is : qs ≡ with_first n m.first (moved_one n to ps) =
+    one_image new qs (with_first n m.first (moved_one n to parts)) now m.image ∙ ap (λ (l : List Part). with_first n m.first (moved_one n to l)) same in
+    let lt : n < length ps = subst (λ (l : List Part). n < length l) same (slice_get_within parts n m.sandbox m.was.sandbox_is) in
+    let law = one_moves ps qs n to m.first lt is image.layout now.layout in (
+      λ a. subst (λ (l : List ℕ). IsAccepted l qs) (sym now.bytes_are) (law.0 (subst (λ (l : List ℕ). IsAccepted l ps) image.bytes_are a)),
+      λ a. subst (λ (l : List ℕ). IsAccepted l ps) (sym image.bytes_are) (law.1 (subst (λ (l : List ℕ). IsAccepted l qs) now.bytes_are a)),
     )
 
 -- ---- which answer
@@ -291,9 +327,14 @@ same_element : {X : Type 0} (xs : List X) (i : ℕ) → i < length xs → length
 same_element xs i lt le = omega (arith, lt, le)
 
 moved_or_not : (bytes now : List ℕ) (n : ℕ) (to : Place) (e : MoveFault) → IsMoved bytes n to now → IsMoveFault bytes n to e → ⊥
-moved_or_not bytes now n to (NoImage k) m f = never_both bytes m.0 k m.1 f
-moved_or_not bytes now n to NoSandbox m f = same_element f.0 n (subst (λ (l : List Part). n < length l) (one_image bytes m.0 f.0 m.1 f.1) m.2) f.2
-moved_or_not bytes now n to NoPlace m f = f.3 (subst (λ (l : List Part). IsRightLayout (moved_one n to l)) (one_image bytes m.0 f.0 m.1 f.1) m.3.layout)
+moved_or_not bytes now n to (NoImage k) m f = never_both bytes m.was.parts k m.was.image f
+moved_or_not bytes now n to NoSandbox m f =
+    let parts = m.was.parts in
+    same_element f.0 n (subst (λ (l : List Part). n < length l) (one_image bytes parts f.0 m.was.image f.1) (slice_get_within parts n m.sandbox m.was.sandbox_is)) f.2
+moved_or_not bytes now n to NoPlace m f =
+    let parts = m.was.parts in
+    let there = layout_before parts n to m.first (slice_get_within parts n m.sandbox m.was.sandbox_is) m.was.image.layout m.image.layout in
+    f.3 (subst (λ (l : List Part). IsRightLayout (moved_one n to l)) (one_image bytes parts f.0 m.was.image f.1) there)
 
 one_move_fault : (bytes : List ℕ) (n : ℕ) (to : Place) (e f : MoveFault) → IsMoveFault bytes n to e → IsMoveFault bytes n to f → e ≡ f
 one_move_fault bytes n to (NoImage j) (NoImage k) a b = ap (λ (l : LayoutFault). NoImage l) (one_fault bytes j k a b)
@@ -315,6 +356,6 @@ module _ (old new : List ℕ) (n : ℕ) (to : Place) where
   only_fault (Ok x) moved fault e h = absurd (moved_or_not old new n to e moved h)
   only_fault (Err f) moved fault e h = ap (λ (x : MoveFault). Err x) (one_move_fault old n to f e fault h)
 
-  pub accepted : (r : Result (Unit {0}) MoveFault) → OnOk r (IsMoved old n to new) → OnOk r ((ps : List Part) → IsImage old ps → IsAccepted old ps ↔ IsAccepted new (moved_one n to ps))
+  pub accepted : (r : Result (Unit {0}) MoveFault) → OnOk r (IsMoved old n to new) → OnOk r ((ps qs : List Part) → IsImage old ps → IsImage new qs → IsAccepted old ps ↔ IsAccepted new qs)
   accepted (Ok x) moved = same_verdict old new n to moved
   accepted (Err e) moved = tt

@@ -1,8 +1,8 @@
 -- What is written for another place.
-use Rattle.std.proofs.Common.{◌≡◌, ◌∙◌, ℕ, zero, suc, ◌+◌, ◌*◌, ◌<◌, ◌≤◌, List, [], ◌∷◌, ◌++◌, length, refl, sym, ap, subst, arith, take, drop, map, append_assoc}
+use Rattle.std.proofs.Common.{◌≡◌, ◌∙◌, ℕ, zero, suc, ◌+◌, ◌-◌, ◌*◌, ◌<◌, ◌≤◌, List, [], ◌∷◌, ◌++◌, length, refl, sym, ap, subst, arith, take, drop, map, append_assoc}
 use Rattle.std.specs.List.{All, flat_map}
 use Rattle.std.proofs.Math.Seq.{take-append_seam, drop-append_seam}
-use Rattle.std.proofs.lemmas.List.{length-append, length-drop, length-map, append-nil, map-append, take-append-drop}
+use Rattle.std.proofs.lemmas.List.{length-append, length-drop, length-map, append-nil, map-append, take-append-drop, take_all}
 use Rattle.std.proofs.lemmas.List.Elements.{All-head, All-tail}
 use Rattle.byteorder.specs.Endian.{little_number, little_bytes}
 use Rattle.byteorder.specs.Numbers.{little_number-reads_back}
@@ -38,6 +38,13 @@ is_read bytes before after offset at value word e is got =
 pub has_room : (bytes : List ℕ) (offset at : ℕ) → LiesAt bytes offset (number at) → offset + 4 ≤ length bytes
 has_room bytes offset at lies =
     omega (arith, ap length lies.bytes_are, length-append lies.before (number at ++ lies.after), length-append (number at) lies.after, length-number at, lies.offset_is)
+
+-- what lies from the offset on, as it is borrowed
+pub borrowed : (bytes : List ℕ) (offset : ℕ) → take (length bytes - offset) (drop offset bytes) ≡ drop offset bytes
+borrowed bytes offset = take_all (length bytes - offset) (drop offset bytes) (omega (arith, length-drop offset bytes))
+
+pub long : (bytes : List ℕ) (offset : ℕ) → offset + 4 ≤ length bytes → 4 ≤ length (take (length bytes - offset) (drop offset bytes))
+long bytes offset room = omega (arith, room, ap length (borrowed bytes offset), length-drop offset bytes)
 
 -- it is written over
 pub written : (before after : List ℕ) (at value : ℕ) → little_bytes 4 value ++ drop 4 (number at ++ after) ≡ number value ++ after

@@ -1,7 +1,9 @@
 -- An image with one of its sandboxes at another place.
-use Rattle.std.specs.Prelude.{◌-◌, ◌+◌, ℕ, List, [], ◌∷◌, length, map, zero, suc, ◌<◌, ◌↔◌}
+use Rattle.std.specs.Prelude.{◌≡◌, ◌⊎◌, ◌-◌, ◌+◌, ℕ, List, [], ◌∷◌, ◌++◌, length, map, zero, suc, ◌<◌, ◌↔◌, ◌==◌, ◌&&◌, nat_le, nat_lt, Bool, false, if◌then◌else◌}
+use Rattle.sfi_image.specs.declared.fields.Fields.{Fields}
 use Rattle.sfi_image.specs.declared.part.Gate.{Gate}
-use Rattle.sfi_image.specs.Spelling.{Part, IsWord, spelling}
+use Rattle.sfi_image.specs.declared.span.Span.{Span}
+use Rattle.sfi_image.specs.Spelling.{Part, IsWord, spelling, fields_of, code_span, data_span}
 use Rattle.sfi_image.specs.Parts.{IsRightPart, IsRightLayout, IsCodeRegion, IsDataRegion, HasGuardRoom, IsImage}
 use Rattle.sfi_safety.specs.Clean.{IsAccepted}
 use Rattle.sfi_rules.specs.declared.finding.Finding.{Finding}
@@ -10,7 +12,9 @@ use Rattle.sfi_formats.specs.declared.place.Place.{Place}
 use Rattle.sfi_image.specs.Faults.{IsFault}
 use Rattle.sfi_places.specs.declared.moving.MoveFault.{MoveFault}
 use Rattle.sfi_places.specs.declared.moving.MoveFault.TheVariants.{NoImage, NoSandbox, NoPlace}
-use Rattle.sfi_image.specs.Keeping.{IsBeyond}
+use Rattle.sfi_image.specs.Keeping.{IsSandboxOf, IsBeyond}
+use Rattle.sfi_names.specs.Tables.{Named, Table, IsTable, HasTable}
+use Rattle.sfi_names.specs.Tables as names
 
 -- ==== A sandbox of the same bytes at another place.
 
@@ -80,6 +84,50 @@ AcceptedMoves =
     → IsRightLayout (moved_all bases ps)
     → IsAccepted (spelling (moved_all bases ps)) (moved_all bases ps)
 
+-- ==== The table of names there, in which a sandbox's first data bytes may end.
+
+-- the address is one of the span's
+abbrev pub holds : Span → ℕ → Bool
+holds s at = nat_le s.base at && nat_lt at (s.base + s.size)
+
+-- an address that a table of the sandbox with these fields has, and what it is at that place: one in
+-- the code region moves with the code, one in the data region with the data, and any other stays
+abbrev pub address_there : Fields → Place → ℕ → ℕ
+address_there f to at =
+    if holds (code_span f) at then moved_address f.code_base to.code_base at
+    else (if holds (data_span f) at then moved_address f.data_base to.data_base at else at)
+
+-- the name begins with a dot (46): it is a claim of the tools, with a number in the place of an address
+abbrev pub is_claim : List ℕ → Bool
+is_claim [] = false
+is_claim (b ∷ more) = b == 46
+
+-- the entry there: the number of a claim stays
+abbrev pub entry_there : Fields → Place → Named → Named
+entry_there f to e =
+    if is_claim e.name then e else (record e { address = address_there f to e.address })
+
+-- the table there
+abbrev pub table_there : Fields → Place → Table → Table
+table_there f to t = record t {
+  exports = map (entry_there f to) t.exports;
+  imports = map (entry_there f to) t.imports;
+}
+
+-- the bytes end in a table, and the others, after the same bytes, in that table there
+pub record EndInNames (f : Fields) (to : Place) (first now : List ℕ) : Type 0 where
+  pub before : List ℕ
+  pub table : Table
+  pub is_table : IsTable table
+  pub first_are : first ≡ before ++ names.spelling table
+  pub now_are : now ≡ before ++ names.spelling (table_there f to table)
+
+-- the first data bytes of a sandbox with these fields, and what they are at that place: of those that
+-- end in no table no byte changes
+abbrev pub AreFirstThere : Fields → Place → List ℕ → List ℕ → Type 0
+AreFirstThere f to first now =
+    EndInNames f to first now ⊎ (((t : Table) → ¬ HasTable first t) × (now ≡ first))
+
 -- ==== An image with one of its sandboxes at another place.
 
 -- the sandboxes, that of this number with its regions at that place
@@ -88,10 +136,20 @@ moved_one number to [] = []
 moved_one zero to (p ∷ ps) = moved to.code_base to.data_base p ∷ ps
 moved_one (suc number) to (p ∷ ps) = p ∷ moved_one number to ps
 
--- the bytes were an image with a sandbox `number`, and now are the image with it at that place
-abbrev pub IsMoved : List ℕ → ℕ → Place → List ℕ → Type 0
-IsMoved bytes number to now =
-    (ps : List Part) × IsImage bytes ps × (number < length ps) × IsImage now (moved_one number to ps)
+-- the sandboxes, that of this number with these first data bytes
+abbrev pub with_first : ℕ → List ℕ → List Part → List Part
+with_first number first [] = []
+with_first zero first (p ∷ ps) = record p { init = first } ∷ ps
+with_first (suc number) first (p ∷ ps) = p ∷ with_first number first ps
+
+-- the bytes were an image with a sandbox `number`, and now are the image with it at that place, and
+-- with its table of names there
+pub record IsMoved (bytes : List ℕ) (number : ℕ) (to : Place) (now : List ℕ) : Type 0 where
+  pub sandbox : Part
+  pub was : IsSandboxOf bytes number sandbox
+  pub first : List ℕ
+  pub names : AreFirstThere (fields_of sandbox) to sandbox.init first
+  pub image : IsImage now (with_first number first (moved_one number to was.parts))
 
 -- the bytes are an image with a sandbox `number`, and with it at that place the layout isn't right
 abbrev pub IsWrongPlace : List ℕ → ℕ → Place → Type 0
@@ -106,11 +164,10 @@ IsMoveFault bytes number to (NoImage k) = IsFault bytes k
 IsMoveFault bytes number to NoSandbox = IsBeyond bytes number
 IsMoveFault bytes number to NoPlace = IsWrongPlace bytes number to
 
--- of two images that differ by the place of a sandbox alone, one is accepted exactly if the other
--- is
+-- of two images that differ by the place and the first data bytes of a sandbox alone, one is accepted
+-- exactly if the other is
 abbrev pub OneMoves : Type 0
 OneMoves =
-    (ps : List Part) (number : ℕ) (to : Place) → number < length ps
-    → IsRightLayout ps → IsRightLayout (moved_one number to ps)
-    → IsAccepted (spelling ps) ps
-    ↔ IsAccepted (spelling (moved_one number to ps)) (moved_one number to ps)
+    (ps qs : List Part) (number : ℕ) (to : Place) (first : List ℕ) → number < length ps
+    → qs ≡ with_first number first (moved_one number to ps) → IsRightLayout ps → IsRightLayout qs
+    → IsAccepted (spelling ps) ps ↔ IsAccepted (spelling qs) qs

@@ -1,7 +1,8 @@
 -- Words that private contracts and proofs alone cite: no public statement rests on them.
-use Rattle.std.specs.Prelude.{◌≡◌, ℕ, ◌+◌, ◌-◌, ◌≤◌, List, ◌++◌, length}
+use Rattle.std.specs.Prelude.{◌≡◌, ℕ, ◌+◌, ◌-◌, ◌^◌, ◌≤◌, List, ◌++◌, length}
 use Rattle.std.specs.List.{All}
 use Rattle.sfi_formats.specs.declared.place.Place.{Place}
+use Rattle.sfi_image.specs.declared.fields.Fields.{Fields}
 use Rattle.sfi_image.specs.declared.part.Gate.{Gate}
 use Rattle.sfi_image.specs.Spelling.{Part, IsWord}
 
@@ -34,3 +35,8 @@ pub record CanMove (from to : Place) (gate_count : ℕ) (p : Part) : Type 0 wher
   pub data_goes : GoesTo from.data_base to.data_base p.data_base
   pub start : GoesTo from.code_base to.code_base p.start
   pub gates : GatesGo from.code_base to.code_base p.gates
+
+-- the regions of a sandbox with these fields end within 32 bits at that place
+pub record HasRoomThere (f : Fields) (to : Place) : Type 0 where
+  pub code : to.code_base + f.code_size ≤ 2 ^ 32
+  pub data_room : to.data_base + f.data_size ≤ 2 ^ 32

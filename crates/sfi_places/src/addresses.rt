@@ -7,7 +7,7 @@ ghost use Rattle.sfi_places.specs.Moving.{moved_address, moved_gate, moved};
 ghost use Rattle.sfi_image.specs.Keeping.{LiesAt};
 ghost use Rattle.sfi_places.specs.private.{IsReplaced, GoesTo, GatesGo, CanMove};
 
-use byteorder::{ByteOrder, LittleEndian};
+use crate::numbers::{read_number, write_number};
 use sfi_formats::Place;
 
 // Where some numbers of a sandbox lie, counted from its first byte, and how many bytes a gate has.
@@ -25,8 +25,8 @@ fn write_address(image: &mut [u8], offset: usize, from: u32, to: u32)
     ensures { (at : ℕ) → GoesTo from to at
         → IsReplaced image.old image.new offset (number at) (number (moved_address from to at)) }
 {
-    let address = LittleEndian::read_u32(&image[offset..]);
-    LittleEndian::write_u32(&mut image[offset..], to + (address - from));
+    let address = read_number(image, offset);
+    write_number(image, offset, to + (address - from));
 }
 
 /// Moves the addresses of `gate_count` gates, the first of which stands at `offset`, by as much as

@@ -1,14 +1,15 @@
 //! Moving a sandbox of an image.
-ghost use Rattle.std.specs.Prelude.{◌≡◌, ℕ, ◌↔◌, List, Ok, Err, OnOk, IfOk, IfErr};
+ghost use Rattle.std.specs.Prelude.{◌≡◌, ℕ, ◌+◌, ◌↔◌, List, length, Ok, Err, OnOk, IfOk, IfErr};
 ghost use Rattle.sfi_image.specs.Spelling.{Part, part, fields_of};
 ghost use Rattle.std.specs.Bool.{OnTrue, OnFalse};
 ghost use Rattle.sfi_image.specs.Faults.{IsFault};
 ghost use Rattle.sfi_image.specs.Parts.{IsImage};
 ghost use Rattle.sfi_safety.specs.Clean.{IsAccepted};
 ghost use Rattle.sfi_image.specs.Keeping.{IsSandboxOf, sandbox_offset};
-ghost use Rattle.sfi_places.specs.Moving.{moved_one, IsMoved, IsMoveFault};
+ghost use Rattle.sfi_places.specs.Moving.{IsMoved, IsMoveFault};
 
 use crate::addresses::{GATES_AT, write_place};
+use crate::names::write_names;
 use sfi_formats::{Place, REGION_LEAST};
 use sfi_image::{Fields, LayoutFault, is_region, sandbox_of};
 
@@ -35,17 +36,18 @@ impl From<LayoutFault> for MoveFault {
     }
 }
 
-/// The fields of the image's sandbox `number`, and the offset of its first byte.
-fn fields_of_sandbox(image: &[u8], number: u32) -> Result<(Fields, usize), MoveFault>
+/// The fields of the image's sandbox `number`, the offset of its first byte, and that where it ends.
+fn fields_of_sandbox(image: &[u8], number: u32) -> Result<(Fields, usize, usize), MoveFault>
     ensures found { IfOk result (λ f. (p : Part) × (h : IsSandboxOf image.now number p)
-        × (f.0 ≡ fields_of p) × (f.1 ≡ sandbox_offset h.parts number)) }
+        × (f.0 ≡ fields_of p) × (f.1 ≡ sandbox_offset h.parts number)
+        × (f.2 ≡ sandbox_offset h.parts number + length (part p))) }
     ensures missing { IfErr result (λ e. (to : Place) → IsMoveFault image.now number to e) }
 {
     let Some((view, end)) = sandbox_of(image, number)? else {
         return Err(MoveFault::NoSandbox);
     };
     let length = view.gates.len() + view.code.len() + view.init.len();
-    Ok((view.fields, end - length - GATES_AT))
+    Ok((view.fields, end - length - GATES_AT, end))
 }
 
 /// Whether the bytes are an image.
@@ -64,7 +66,7 @@ fn try_move(image: &mut [u8], number: u32, code_base: u32, data_base: u32) -> Re
         (record { code_base = code_base; data_base = data_base })) }
     ensures unmoved { IfErr result (λ e. image.new ≡ image.old) }
 {
-    let (fields, offset) = fields_of_sandbox(image, number)?;
+    let (fields, offset, end) = fields_of_sandbox(image, number)?;
     let most = fields.format.code_most();
     if !is_region(code_base, fields.code_size, REGION_LEAST, most) {
         return Err(MoveFault::NoPlace);
@@ -79,6 +81,7 @@ fn try_move(image: &mut [u8], number: u32, code_base: u32, data_base: u32) -> Re
     };
     write_place(image, offset, fields.gate_count, from, to);
     if is_image(image) {
+        write_names(image, end - fields.init_len as usize, end, &fields, to);
         return Ok(());
     }
     write_place(image, offset, fields.gate_count, to, from);
@@ -86,7 +89,8 @@ fn try_move(image: &mut [u8], number: u32, code_base: u32, data_base: u32) -> Re
 }
 
 /// Moves the image's sandbox `number`, counted from 0, to the place: of the image's bytes only
-/// its two bases, its start and its gates' addresses change. It takes no memory.
+/// its two bases, its start, its gates' addresses and those in its table of names change. It takes
+/// no memory.
 pub fn move_sandbox(image: &mut [u8], number: u32, to: Place) -> Result<(), MoveFault>
     // What each answer means.
     ensures moved { OnOk result (IsMoved image.old number to image.new) }
@@ -98,8 +102,8 @@ pub fn move_sandbox(image: &mut [u8], number: u32, to: Place) -> Result<(), Move
     ensures only_fault { (e : MoveFault) → IsMoveFault image.old number to e → result ≡ Err e }
 
     // The verdict doesn't change.
-    ensures accepted { OnOk result ((ps : List Part) → IsImage image.old ps
-        → IsAccepted image.old ps ↔ IsAccepted image.new (moved_one number to ps)) }
+    ensures accepted { OnOk result ((ps qs : List Part) → IsImage image.old ps → IsImage image.new qs
+        → IsAccepted image.old ps ↔ IsAccepted image.new qs) }
 {
     try_move(image, number, to.code_base, to.data_base)
 }

@@ -18,4 +18,4 @@ pub returns-clause-found : goal.returns-clause-found
 returns-clause-found c =
     let h = rw c.in-Some.is at c.in_ok-view.ensures.found in
     let v = h.2 in
-    (h.0, h.1, v.fields_are, omega (arith, h.3, length-part h.0, ap length v.gates_are, length-gates h.0.gates, ap length v.code_is, ap length v.init_is))
+    (h.0, h.1, v.fields_are, omega (arith, h.3, length-part h.0, ap length v.gates_are, length-gates h.0.gates, ap length v.code_is, ap length v.init_is), h.3)
