@@ -3,3 +3,5 @@ pub mod Sources
 pub mod Conversions
 pub mod Moves
 pub mod Images
+mod MovedLinks
+pub mod Facts

@@ -2,3 +2,4 @@ pub mod private
 pub mod Answers
 pub mod Building
 pub mod Moving
+pub mod Laws
