@@ -1,13 +1,17 @@
 """Tests of sfi-move, and of sfi-image --at: `tools/unit_tests.py tools`."""
+import glob
 import os
+import re
 import struct
 import subprocess
 
 from testing import SFI, SFI_CC, Folder, needs, needs_program
 
 TOOLS = os.path.dirname(os.path.abspath(__file__))
+TOP = os.path.dirname(TOOLS)
 MOVE, IMAGE = os.path.join(TOOLS, "sfi-move"), os.path.join(TOOLS, "sfi-image")
 BREAK, STUB = b"\x02\x90", bytes.fromhex("73000000b3ff9001b3ef8f0167800f00")
+ONE = struct.pack("<I", 1)  # sandboxes
 PLACES = ((0x1000000, 0x1800000), (0x2000000, 0x2800000))
 STACK, ROOM = struct.pack("<IB", 8192, 6) + b".stack", struct.pack("<IB", 128, 5) + b".room"
 EXPORT = struct.pack("<IB", 0x1800010, 3) + b"one"
@@ -23,6 +27,17 @@ def sandbox(code, data, first=b"", gates=((0, 3),), start=16):
 
 def image(*sandboxes):
     return b"SFI2" + struct.pack("<I", len(sandboxes)) + b"".join(sandboxes)
+
+
+def with_exports(text, version):
+    """A text in that format, whose sandboxes can be moved, with their labels as exports."""
+    first, *sandboxes = re.split(r"(?m)^(?=\.sandbox)", re.sub(r"(?m)^\s*\.(format|movable|export)\b.*\n", "", text))
+    for number, part in enumerate(sandboxes):
+        line, _, rest = part.partition("\n")
+        size = max(int(re.sub(r"#.*", "", line).split()[1], 0), 4096)
+        exports = "".join(f".export {label}\n" for label in dict.fromkeys(re.findall(r"(?m)^([A-Za-z_]\w*):", rest)))
+        sandboxes[number] = f".sandbox {size}\n.movable\n{exports}{rest}"
+    return (first + f".format {version}\n" + "".join(sandboxes)).encode()
 
 
 def call(tool, *words, content=b""):
@@ -51,6 +66,23 @@ class Moves(Folder):
         self.assertEqual(call(MOVE, "--raw", "--at", "400:3000000", content=before), (0, after, ""))
         for first in (b"SFIN", NAMES[1:], b"\xff" * 12 + b"SFIN"):  # no table
             self.assertEqual(call(MOVE, "--raw", "--at", "400:3000000", content=image(sandbox(*PLACES[0], first)))[0], 0)
+
+    def test_texts(self):
+        """Each example that can be moved, with each of its labels as an export, is at a place what is built there."""
+        tried = 0
+        for path in sorted(glob.glob(os.path.join(TOP, "examples", "**", "*.s"), recursive=True)):
+            with open(path, encoding="utf-8", errors="replace") as file:
+                text = file.read()
+            for version in ("2", "words"):
+                named = with_exports(text, version)
+                status, built, _ = call(SFI, "build", "--raw", content=named)
+                if status or built[4:8] != ONE:
+                    continue
+                tried += 1
+                with self.subTest(path=path, version=version):
+                    there = call(SFI, "build", "--raw", "--at", "20500000:80000000", content=named)
+                    self.assertEqual(call(SFI, "move", "--raw", "--at", "20500000:80000000", content=built), there)
+        self.assertGreater(tried, 10)
 
     def refused(self, content, wanted, *words):
         with self.subTest(words=words, wanted=wanted):

@@ -42,6 +42,14 @@ two_at() { # where the code and the data of each begin
     numbers "$3" 200 "$4" 1000 "$(sum "$3" 1f0)" 0 0
     ebreaks 128
 }
+# one sandbox with a table of names: of its data, its code and a gate, and a claim, whose number is no address
+named_at() { # where its code and its data begin
+    printf 5346493201000000
+    numbers "$1" 100 "$2" 100 "$1" 0 2d
+    printf %s "$(ebreaks 64)61$(numbers "$(sum "$2" 4)")0164$(numbers "$(sum "$1" 20)")0166$(numbers "$1")0167"
+    printf %s "$(numbers 1000010)052e726f6f6d$(numbers 1 c 10)5346494e"
+}
+put named "$(named_at 1000000 1800000)"
 put two "$(two_at 1000000 1800000 2000000 2800000)"
 put cut "${smallest:0:200}"
 put head "${smallest:0:40}"
@@ -254,6 +262,11 @@ for one in "${moves[@]}"; do
     esac
     found=$("$room/move" $words <"$room/two.image" >"$room/moved"; echo $?)
     report "move.c to $words" "$status|$wanted" "$found|$(digits_of "$room/moved")"
+done
+for words in "0 3000000 3800000" "0 1000000 1800000" "0 1800000 1000000"; do
+    read -r _ code data <<<"$words"
+    found=$("$room/move" $words <"$room/named.image" >"$room/moved"; echo $?)
+    report "move.c of names to $words" "0|$(named_at "$code" "$data")" "$found|$(digits_of "$room/moved")"
 done
 for image in cut empty longer other_format; do
     found=$("$room/move" 0 3000000 3800000 <"$room/$image.image" >"$room/moved"; echo $?)

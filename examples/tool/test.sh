@@ -25,7 +25,7 @@ succeeds "sfi_tool.h in C++" g++ -x c++ -std=c++11 -Wall -Wextra -pedantic -Werr
     "$top/crates/sfi_tool_c/include/sfi_tool.h"
 
 lines=(build map check "check --report" "check --raw" dis "run --rounds 50 --report" "run --input 414" convert help "help run" --version
-    nonsense "build --at 20500000:80000000")
+    nonsense "build --at 20500000:80000000" "move --at 20500000:80000000")
 for text in "$top"/examples/*.s; do
     "$SFI" build <"$text" >"$room/image.hex"
     for line in "${lines[@]}"; do

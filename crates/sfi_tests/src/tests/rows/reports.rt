@@ -63,7 +63,7 @@ pub(super) const CONVERTED: &str = "5 commands
 ";
 
 /// What is moved to one place, and what isn't.
-pub(super) const MOVES: &str = "5 commands
+pub(super) const MOVES: &str = "7 commands
 $ sfi move --at 20500000:80000000
 = the bases and the start change alone
 >+ 1 534649310100000000005020000100000000008000010000000050200000000000000000; >+ 64 73001000; >
@@ -71,13 +71,17 @@ $ sfi move --at 20500000:80000000
 >+ 1 534649310100000000005020000100000000008000010000200050200200000002000000; >+ 1 00005020010000001000502000000000
 >+ 1 73000000b3ff9001b3ef8f0167800f0073000000b3ff9001b3ef8f0167800f00; >+ 1 370580011305050093052000eff05ffd37058001130505000100010001000100
 >+ 1 b37fb501b3efaf0103c51f00eff05ffc; >+ 88 0290; >+ 1 4869; >
+= names of the data and the code move, but no other address and no claim; put 32 3e000000; + 1 000080010164ff008001016500018001016eff000001016300010001016200000001016710008001052e726f6f6d070000001e000000100000005346494e
+>+ 1 53464931010000000000502000010000000000800001000000005020000000003e000000; >+ 64 73001000; >+ 1 000000800164ff000080016500018001016eff005020016300010001016200005020016710008001052e726f6f6d070000001e000000100000005346494e; >
+= of what is no table no byte changes; put 32 3e000000; + 1 000080010164ff008001016500018001016eff000001016300010001016200000001016710008001052e726f6f6d070000001d000000100000005346494e
+>+ 1 53464931010000000000502000010000000000800001000000005020000000003e000000; >+ 64 73001000; >+ 1 000080010164ff008001016500018001016eff000001016300010001016200000001016710008001052e726f6f6d070000001d000000100000005346494e; >
 = in words with a finding; put 0 53464957; put 36 2320be00; > refused findings=1 first=V5 sandbox=0 at=01000000
 = less a byte; cut 291; > layout fault 3 Short
 = an odd digit; source; + 1 5; > input fault hex odd
 ";
 
 /// Other places and sandboxes.
-pub(super) const MOVED: &str = "14 commands
+pub(super) const MOVED: &str = "17 commands
 = the new image is accepted; $ sfi move --at 20500000:80000000 | sfi check; $ sfi move --at ffffff00:1000 --raw --sandbox 0 | sfi check
 > accepted sandboxes=1 bundles=16
 = to where it lies; $ sfi move --at 1000000:1800000
@@ -91,6 +95,12 @@ $ sfi move --at 20500000:fffff000; $ sfi move --at 20500000:20501000; > move fau
 as sfi build --at 1000000:1800000 --at 20500000:80000000; $ sfi build | sfi move --sandbox 1 --at 20500000:80000000
 = the second where the first lies; source; | .sandbox 256; | ebreak; | .sandbox 256; | ebreak
 $ sfi build | sfi move --sandbox 1 --at 1000000:80000000; > move fault 3 NoPlace
+= names as they are built there; source; | .format 2; text movable
+as sfi build --at 20500000:80000000; $ sfi build | sfi move --at 20500000:80000000
+= as they are built there in words; source; | .format words; text movable
+as sfi build --at 20500000:80000000; $ sfi build | sfi move --at 20500000:80000000
+= as they are listed there; source; | .format 2; text movable; $ sfi build --at 20500000:80000000 | sfi dis; ..; >
+> interface 0; > export 20500010 f; > export 80000002 text; > export 20500000 say; > import 20500000 say; ..
 ";
 
 /// What is translated for a host and as a whole program, and what isn't.

@@ -18,6 +18,7 @@ pub(crate) fn text_named(name: &str) -> Option<&'static str> {
         "post to 0" => Some(POST_TO_0),
         "take" => Some(TAKE),
         "front of a neighbour" => Some(NEIGHBOUR_FRONT),
+        "movable" => Some(MOVABLE),
         "statuses" => Some(STATUSES),
         _ => None,
     }
@@ -47,6 +48,11 @@ const READS: &str =
 // Two sandboxes, each with its own names: a gate, a name of data that is seen before its place, and labels of code.
 const NAMES: &str =
     ".sandbox 256\n.gate exit 0\nla a0, text\nlw a0, 0(a0)\nend: call exit\n.data\n.word 7\ntext: .word 72\n.sandbox 256\nend: ebreak\n";
+
+// A sandbox for any place, after a line of its format, with names of code, of data, and of a gate, twice.
+const MOVABLE: &str =
+    ".sandbox 256\n.movable\n.import say 3\n.export f\n.export text\n.export say\nf: la a0, text\ncall say\nebreak\n.data\n.zero 2\n\
+    text: .byte 72\n";
 
 // A sandbox that returns.
 const SANDBOX: &str = ".sandbox 256\nret\n";
