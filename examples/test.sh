@@ -101,14 +101,14 @@ executes "the first of three that fails" "" "sandbox=2 trap=Break at=03000000 st
 executes "an image that is refused" "" "refused findings=1 first=V5 sandbox=0 at=01000048" 125 "$room/refused.hex" </dev/null
 executes "what is no image" "" "layout fault 3 Short" 125 <(printf SFI1) </dev/null
 while IFS='|' read -r what path why; do
-    executes "$what" "" "exec fault file \"$path\": $why" 125 "$path" </dev/null
+    executes "$what" "" "exec fault 2 Image \"$path\": $why" 125 "$path" </dev/null
 done <<END
 a file that isn't there|$room/none.image|No such file or directory (os error 2)
 a folder|$room|is a directory
 a path through a file|$room/hi.image/more|Not a directory (os error 20)
 a file that can't be read|/proc/self/mem|it can't be read
 END
-executes "a path with a line feed" "" "exec fault file \"a\\nb\": No such file or directory (os error 2)" 125 $'a\nb' </dev/null
+executes "a path with a line feed" "" "exec fault 2 Image \"a\\nb\": No such file or directory (os error 2)" 125 $'a\nb' </dev/null
 executes "a usage error" "" "error: invalid value '0' for '--budget <N>': 0 is not in 1..18446744073709551615" 3 --budget 0 "$room/hi.image" </dev/null
 executes "no image" "" "error: the following required arguments were not provided:" 3 </dev/null
 report "a help text goes to standard output" "$("$SFI" help exec)" "$("$SFI" exec --help 2>&1 >"$room/said"; cat "$room/said")"
@@ -117,13 +117,13 @@ while IFS='|' read -r what image streams put said status; do
     out=$(eval "\"\$SFI\" exec \"\$room/$image\" 2>\"\$room/said\" $streams"; echo "status $?")
     report "$what" "${put}status $status"$'\n'"$said" "$out"$'\n'"$(head -n 1 "$room/said")"
 done <<'END'
-standard input that is closed|echo.image|<&-||exec fault read|125
+standard input that is closed|echo.image|<&-||exec fault 4 Read|125
 standard input that is closed, and isn't got|hi.image|<&-|Hi||105
-standard input that is a folder|echo.image|<"$room"||exec fault read|125
-standard output that is closed|hi.image|>&-||exec fault write|125
+standard input that is a folder|echo.image|<"$room"||exec fault 4 Read|125
+standard output that is closed|hi.image|>&-||exec fault 5 Write|125
 standard output that is closed, and isn't put to|trap.image|>&-||sandbox=0 trap=Break at=01000000 steps=0|126
-standard output that is full|hi.image|>/dev/full||exec fault write|125
-standard input and output that are closed|echo.image|<&- >&-||exec fault read|125
+standard output that is full|hi.image|>/dev/full||exec fault 5 Write|125
+standard input and output that are closed|echo.image|<&- >&-||exec fault 4 Read|125
 standard error that is closed|trap.image|2>&-|||126
 standard error that is full|trap.image|2>/dev/full|||126
 all three that are closed|trap.image|<&- >&- 2>&-|||126

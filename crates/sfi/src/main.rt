@@ -28,26 +28,18 @@ fn without_words(rt: HostRuntime, kind: ErrorKind) -> u8 {
 // The status where `exec` gives none of a sandbox.
 const NOT_RUN: u8 = 125;
 
-/// The line that says why; what isn't accepted, and a file that can't be read, have their own.
-fn fault_line(fault: ExecFault) -> &'static str {
-    match fault {
-        ExecFault::NotAccepted | ExecFault::Image => "",
-        ExecFault::Memory => "exec fault memory\n",
-        ExecFault::Read => "exec fault read\n",
-        ExecFault::Write => "exec fault write\n",
-        ExecFault::TooLong => "exec fault too long\n",
+/// Says why there is no status of a sandbox. What isn't accepted has its own line.
+fn not_run(rt: &HostRuntime, fault: ExecFault) -> u8 {
+    if fault != ExecFault::NotAccepted {
+        let _ = eprintln!(rt; "exec fault {} {fault}", fault.number());
     }
-}
-
-/// Says why there is no status of a sandbox.
-fn not_run(rt: &HostRuntime, line: &str) -> u8 {
-    write_out(&mut rt.stderr(), line.as_bytes());
     NOT_RUN
 }
 
 /// Says why the file can't be read. The path stands there as a Rust string, in one line.
 fn no_file<D: Display>(rt: &HostRuntime, path: &str, reason: &D) -> u8 {
-    let _ = eprintln!(rt; "exec fault file {path:?}: {reason}");
+    let fault = ExecFault::Image;
+    let _ = eprintln!(rt; "exec fault {} {fault} {path:?}: {reason}", fault.number());
     NOT_RUN
 }
 
@@ -87,7 +79,7 @@ fn exec_file(rt: &HostRuntime, alloc: Global, path: &str, budget: u64) -> u8 {
     match exec_image(rt, alloc, image, budget) {
         Ok(status) => status,
         Err(ExecFault::Image) => no_file(rt, path, &"it can't be read"),
-        Err(fault) => not_run(rt, fault_line(fault)),
+        Err(fault) => not_run(rt, fault),
     }
 }
 
@@ -102,7 +94,7 @@ fn without_run(rt: &HostRuntime, words: &[String], fault: &JobFault) -> Option<u
             write_out(&mut rt.stderr(), text.as_bytes());
             Some(3)
         }
-        JobFault::Memory => Some(not_run(rt, fault_line(ExecFault::Memory))),
+        JobFault::Memory => Some(not_run(rt, ExecFault::Memory)),
         JobFault::Usage(_) | JobFault::Hex => None,
     }
 }

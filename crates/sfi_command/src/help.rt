@@ -166,11 +166,11 @@ steps that are used up; then come pc and registers of each, as with `run --repor
 
 Where there is no run, or it can't go on, standard error says why, by the line of
 `sfi check` on what isn't accepted, by an error about the words, or by one of
-  exec fault file PATH: REASON    the image's file can't be read
-  exec fault read                 standard input can't be read
-  exec fault write                standard output can't be written
-  exec fault memory               memory ran out
-  exec fault too long             18446744073709551615 turns are over
+  exec fault 2 Image PATH: REASON    the image's file can't be read
+  exec fault 3 Memory                memory ran out
+  exec fault 4 Read                  standard input can't be read
+  exec fault 5 Write                 standard output can't be written
+  exec fault 6 TooLong               18446744073709551615 turns are over
 
 Exit status: that of the first sandbox that has one other than 0, or else 0:
   0 to 255  the low 8 bits of its exit code; where it is one of the following,

@@ -1,8 +1,8 @@
 -- What put and get do, as the host of `exec` answers them.
-use Rattle.sfi_tool.proofs.Prelude.{◌≡◌, ◌∙◌, ℕ, List, Bool, refl, sym, ap, subst, arith, length, Part, AreStates, Adds}
-use Rattle.std.proofs.Common.{◌≢◌, ◌⊎◌, ⊎_elim, suc, zero, ◌^◌, ◌≤◌, [], ◌∷◌, ◌++◌, true, false, Option, Some, None, IsSome, is_some, take, drop, min}
+use Rattle.sfi_tool.proofs.Prelude.{◌≡◌, ◌∙◌, ℕ, List, Bool, refl, sym, ap, subst, arith, length, inl, Part, AreStates, Adds}
+use Rattle.std.proofs.Common.{◌≢◌, ◌⊎◌, ⊎_elim, inr, suc, zero, ◌^◌, ◌≤◌, [], ◌∷◌, ◌++◌, true, false, Option, Some, None, IsSome, is_some, take, drop, min}
 use Rattle.std.specs.Bool.{OnTrue, OnFalse}
-use Rattle.std.specs.Prelude.{IsTrue, ◌↔◌, ◌%◌, slice_set, if◌then◌else◌, nat_le, ◌==◌}
+use Rattle.std.specs.Prelude.{Result, Ok, Err, IfErr, IfOk, IsTrue, ◌↔◌, ◌%◌, slice_set, if◌then◌else◌, nat_le, ◌==◌}
 use Rattle.std.specs.List.{range_with_len}
 use Rattle.std.specs.Io.KnownBytes.{Appends, Keeps}
 use Rattle.std.proofs.lemmas.Bool.Decides.{nat_tests}
@@ -18,12 +18,12 @@ use Rattle.sfi_host.specs.Consoles.{ConsoleState, console, failed, handed, most_
 use Rattle.sfi_host.specs.Hosts.{data_from, with_a0, with_bytes_at, Answer, Call, Reply, Replied}
 use Rattle.sfi_host.specs.Joint.{Machine, IsMachine, call_of, replied}
 use Rattle.sfi_host.specs.Slots.{Slot}
-use Rattle.sfi_host.specs.Waiting.{Waits}
+use Rattle.sfi_host.specs.Waiting.{Waits, later_reply}
 use Rattle.sfi_host.specs.declared.guest.Request.{Request}
 use Rattle.sfi_tool.specs.declared.piece.Piece.{Piece}
 use Rattle.sfi_tool.specs.Executing.{IsStopText, Streams, get_if, other, piece_of, put_if, stop_lines, streams}
-use Rattle.sfi_tool.specs.private.{AreWithin, GoesOnWith, IfKnown, IsAnsweredBy, IsAsked, piece_answer, piece_bytes, IsPiece, IsReplyTo, IsServed, IsStreamed, Streamed, TakesTurns, handed_by, kept}
-use Rattle.sfi_tool.proofs.Turns.{answered_turns, appends_none, asked_by, keeps_appends, known_same, streamed_both}
+use Rattle.sfi_tool.specs.private.{AreWithin, GoesOnWith, IfKnown, IsAnsweredBy, IsAsked, IsCut, IsCutTurn, piece_answer, piece_bytes, IsPiece, IsReplyTo, IsServed, IsStreamed, Streamed, TakesTurns, handed_by, kept}
+use Rattle.sfi_tool.proofs.Turns.{answered_turns, appends_none, asked_by, cut_after, keeps_appends, known_same, no_turns, some_same, streamed_both}
 use Rattle.sfi_tool.proofs.Budgets.{reply_within}
 
 put_none : (xs : List ℕ) → xs ≡ xs ++ []
@@ -89,6 +89,15 @@ module _ (old : List Slot) (q : Request) (waits : Waits old q.sandbox q) where
     get_refused service = refused_turns (λ s. get_asked s _ service ∙ ap (get_if s (asked_by old q.sandbox q waits)) (handed_is ∙ refused))
 
   -- a put
+  put_streamed : (c : ConsoleState) (new : List Slot) (bytes x : List ℕ) → q.service ≡ put_service → handed_by old q ≡ Some bytes → GoesOnWith q q.a1 old new
+      → (machine : Machine) → IsMachine machine → IsStreamed machine q.sandbox old c new c bytes x x
+  put_streamed c new bytes x service given goes machine is = record {
+    cuts = [];
+    turns = λ rest put.
+        answered_turns machine is q.sandbox old new q waits _ (kept x rest put c) (kept x rest (put ++ bytes) c)
+        (put_asked (kept x rest put c) _ service ∙ ap (put_if (kept x rest put c) (asked_by old q.sandbox q waits)) (handed_is ∙ given)) (went_on q.a1 new goes);
+  }
+
   pub put_served : (c : ConsoleState) (new : List Slot) (bytes : List ℕ) (input out outs : Option (List ℕ)) → q.service ≡ put_service → handed_by old q ≡ Some bytes
       → GoesOnWith q q.a1 old new → Appends out outs bytes → IsServed q.sandbox old c new c input input out outs
   put_served c new bytes input out outs service given goes writes = record {
@@ -96,14 +105,55 @@ module _ (old : List Slot) (q : Request) (waits : Waits old q.sandbox q) where
     streamed = record {
       written = bytes;
       writes = writes;
-      ran = known_same input (λ x y. (machine : Machine) → IsMachine machine → IsStreamed machine q.sandbox old c new c bytes x y) (λ x machine is. record {
-        cuts = [];
-        turns = λ rest put.
-            answered_turns machine is q.sandbox old new q waits _ (kept x rest put c) (kept x rest (put ++ bytes) c)
-            (put_asked (kept x rest put c) _ service ∙ ap (put_if (kept x rest put c) (asked_by old q.sandbox q waits)) (handed_is ∙ given)) (went_on q.a1 new goes);
-      });
+      ran = known_same input (λ x y. (machine : Machine) → IsMachine machine → IsStreamed machine q.sandbox old c new c bytes x y)
+          (λ x machine is. put_streamed c new bytes x service given goes machine is);
     };
   }
+
+  -- the sandboxes after a put that is answered
+  abbrev after_put : List Slot
+  after_put = slice_set old q.sandbox (replied waits.at.slot (later_reply (record { a0 = q.a1; a1 = q.a1; exit = None }) (call_of q.sandbox waits.at.slot)))
+
+  goes_there : GoesOnWith q q.a1 old after_put
+  goes_there slot there =
+      ap (λ (s : Slot). slice_set old q.sandbox (replied s (later_reply (record { a0 = q.a1; a1 = q.a1; exit = None }) (call_of q.sandbox s))))
+      (same_Some waits.at.slot slot (sym waits.at.there ∙ there))
+
+  -- a put of which a beginning was written
+  pub put_cut : (c : ConsoleState) (bytes written rest : List ℕ) (out outs : Option (List ℕ)) → q.service ≡ put_service → handed_by old q ≡ Some bytes → bytes ≡ written ++ rest
+      → Appends out outs written → IsCut q.sandbox old c out outs
+  put_cut c bytes written rest out outs service given same writes = record {
+    new = after_put;
+    written = written;
+    rest = rest;
+    writes = writes;
+    replies = inr (replies_to q.a1 after_put goes_there);
+    ran = λ x machine is. subst (λ (b : List ℕ). IsStreamed machine q.sandbox old c after_put c b x x) same (put_streamed c after_put bytes x service given goes_there machine is);
+  }
+
+  -- one that was written whole
+  pub put_whole : (c : ConsoleState) (bytes : List ℕ) (out outs : Option (List ℕ)) → q.service ≡ put_service → handed_by old q ≡ Some bytes → Appends out outs bytes → IsCut q.sandbox old c out outs
+  put_whole c bytes out outs service given writes = put_cut c bytes bytes [] out outs service given (put_none bytes) writes
+
+-- what holds holds of an error
+pub if_err : {A E : Type 0} (r : Result A E) (P : Type 0) → P → IfErr r (λ e. P)
+if_err (Ok x) P h = tt
+if_err (Err e) P h = h
+
+pub if_ok : {A E : Type 0} (r : Result A E) (P : Type 0) → P → IfOk r (λ x. P)
+if_ok (Ok x) P h = h
+if_ok (Err e) P h = tt
+
+-- a call before which nothing was written
+pub nothing_cut : (i : ℕ) (slots : List Slot) (c : ConsoleState) (out outs : Option (List ℕ)) → Keeps out outs → IsCut i slots c out outs
+nothing_cut i slots c out outs keeps = record {
+  new = slots;
+  written = [];
+  rest = [];
+  writes = keeps_appends out outs keeps;
+  replies = inl refl;
+  ran = λ x machine is. no_turns machine i slots c x;
+}
 
 -- ---- a piece of the input
 
@@ -275,6 +325,21 @@ pub served_within : (budget i : ℕ) (mid new : List Slot) (q : Request) (c d : 
     → AreWithin budget mid → AreWithin budget new
 served_within budget i mid new q c d input left out outs asked served within =
     reply_within budget i mid new (subst (λ (k : ℕ). IsReplyTo k mid new) asked.by served.replies) asked.left within
+
+-- a turn up to a call, and a beginning of what the answer puts
+pub cut_on : (budget i : ℕ) (old mid : List Slot) (q : Request) (c : ConsoleState) (input out outs : Option (List ℕ)) → Streamed i old c mid c input input out out → IsAsked budget i mid q
+    → AreWithin budget mid → IsCut q.sandbox mid c out outs → IsCutTurn budget i old c input out outs
+cut_on budget i old mid q c input out outs first asked within cut =
+    let replies : (cut.new ≡ mid) ⊎ IsReplyTo i mid cut.new = subst (λ (k : ℕ). (cut.new ≡ mid) ⊎ IsReplyTo k mid cut.new) asked.by cut.replies in
+    cut_after budget i old mid c c input input out out outs first (record {
+      new = cut.new;
+      d = c;
+      written = cut.written;
+      rest = cut.rest;
+      writes = cut.writes;
+      within = ⊎_elim (λ (same : cut.new ≡ mid). subst (AreWithin budget) (sym same) within) (λ (r : IsReplyTo i mid cut.new). reply_within budget i mid cut.new r asked.left within) replies;
+      ran = some_same input _ (λ x. (x, λ machine is. subst (λ (k : ℕ). IsStreamed machine k mid c cut.new c (cut.written ++ cut.rest) x x) asked.by (cut.ran x machine is)));
+    })
 
 -- ---- the answer of a host, as its plan of one step says
 

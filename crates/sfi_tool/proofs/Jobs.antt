@@ -18,17 +18,19 @@ use Rattle.sfi_host.specs.Slots.{Slot}
 use Rattle.sfi_host.specs.Worlds.{Sandboxes, Seat}
 use Rattle.std.specs.Bool.{OnTrue, OnFalse}
 use Rattle.sfi_tool.specs.declared.execution.Ended.{Ended}
-use Rattle.sfi_tool.specs.Executing.{AreExecuted, ExecutesKnown, HaveExecuted, IsExecution, IsStopText, IsTold, first_streams, status_among}
+use Rattle.sfi_tool.specs.Executing.{AreExecuted, Begins, ExecutesKnown, HaveExecuted, IsBegun, IsExecution, IsStopText, IsTold, first_streams, status_among, streams}
 use Rattle.sfi_tool.specs.Running.{first_slots, SaysRun}
-use Rattle.sfi_tool.specs.private.{AreStreamed, IfKnown, Ran, RanImage, kept}
-use Rattle.sfi_tool.proofs.Turns.{appends_kept}
-use Rattle.std.specs.Prelude.{IsErr, IsErrAnd}
+use Rattle.sfi_tool.specs.private.{AreCut, AreStreamed, AreWithin, IfKnown, Ran, RanImage, kept}
+use Rattle.sfi_tool.proofs.Budgets.{first_within}
+use Rattle.sfi_tool.proofs.Turns.{appends_kept, appends_none, cut_at_end, cut_kept, keeps_appends, no_turn, some_same}
+use Rattle.std.specs.Prelude.{IfErr, IfOk, IfSome, IsErr, IsErrAnd}
 use Rattle.std.proofs.lemmas.Result.{IfOk-weaker, IfErr-weaker}
 use Rattle.sfi_io.specs.declared.hexadecimal.HexFault.{HexFault}
 use Rattle.sfi_io.specs.declared.hexadecimal.HexFault.TheVariants.{Odd, Digit}
 use Rattle.sfi_answers.specs.declared.fault.Stop.{Stop}
 use Rattle.sfi_answers.specs.declared.verdict.Answer.{Answer}
-use Rattle.sfi_tool.specs.Says.{Says, HasInputFault, IsDone, IsRefused}
+use Rattle.sfi_tool.specs.declared.serving.Interruption.{Interruption}
+use Rattle.sfi_tool.specs.Says.{OnlyAppends, Says, HasInputFault, IsDone, IsRefused}
 use Rattle.sfi_formats.specs.declared.place.Place.{Place}
 use Rattle.sfi_answers.specs.Building.{SaysConversion}
 use Rattle.sfi_answers.specs.Moving.{SaysMoved}
@@ -74,6 +76,69 @@ module _ (budget : ℕ) (ps : List Part) (count : ℕ) (w : Sandboxes) (slots : 
     ran = known_weaker input left _ (λ x y. (machine : Machine) → IsMachine machine → HaveExecuted machine budget ps x y are.written said ended.status) are.ran
         (λ x y h machine means. executed machine are.written said x y ended.status (h machine means) text is);
   }
+
+  -- what was written is a beginning of what they put
+  pub begins_of : (input out outs : Option (List ℕ)) → AreCut budget (slots_of w) c input out outs → Begins budget ps input out outs
+  begins_of input out outs cut = record { written = cut.written; writes = cut.writes; begun = by input cut.begun }
+    where
+      by : (input : Option (List ℕ)) → IfSome input (λ x. (machine : Machine) → IsMachine machine → (cuts : List ℕ) × IsBegun machine budget (slots_of w) (kept x cuts [] c) cut.written)
+          → IfSome input (λ x. (machine : Machine) → IsMachine machine → (cuts : List ℕ) × IsBegun machine budget (first_slots ps) (first_streams x cuts (length ps)) cut.written)
+      by None begun = tt
+      by (Some x) begun = λ machine is.
+          let b = begun machine is in (
+            b.0,
+            subst (λ (n : ℕ). IsBegun machine budget (first_slots ps) (first_streams x b.0 n) cut.written) same
+                (subst (λ (e : ConsoleState). IsBegun machine budget (first_slots ps) (kept x b.0 [] e) cut.written) begins
+                (subst (λ (s : List Slot). IsBegun machine budget s (kept x b.0 [] c) cut.written) first b.1)),
+          )
+
+  -- what was written of what they put, if anything was that was held back
+  pub begins_after : (r : Result (Unit {0}) Interruption) (input left out outs outf : Option (List ℕ)) → IfOk r (λ u. AreStreamed budget count (slots_of w) c slots d input left out outs)
+      → IfOk r (λ u. AreWithin budget slots) → IfErr r (λ e. AreCut budget (slots_of w) c input out outs) → Keeps outs outf → Begins budget ps input out outf
+  begins_after (Ok u) input left out outs outf are within cut keeps =
+      begins_of input out outf (cut_at_end budget count (slots_of w) slots c d input left out outs outf are within keeps)
+  begins_after (Err e) input left out outs outf are within cut keeps = begins_of input out outf (cut_kept budget (slots_of w) c input out outs outf cut keeps)
+
+-- nothing was written
+pub begins_none : (budget : ℕ) (ps : List Part) (input out outs : Option (List ℕ)) → Keeps out outs → Begins budget ps input out outs
+begins_none budget ps input out outs keeps = record {
+  written = [];
+  writes = keeps_appends out outs keeps;
+  begun = some_same input _ (λ x machine is. (
+    [],
+    record {
+      done = 0;
+      mid = first_slots ps;
+      between = first_streams x [] (length ps);
+      ran = (refl, refl);
+      turns = [];
+      new = first_slots ps;
+      after = first_streams x [] (length ps);
+      joint = no_turn machine streams (first_slots ps) (first_streams x [] (length ps));
+      within = first_within budget (with_parts empty ps) ps 0;
+      rest = [];
+      output_is = refl;
+    },
+  ));
+}
+
+-- what holds of the text that was read holds of the text that the reader told
+pub where_known : (o : Option (List ℕ)) (text : List ℕ) (holds : List ℕ → Type 0) → ((known : List ℕ) → o ≡ Some known → text ≡ known) → holds text → IfSome o holds
+where_known None text holds is h = tt
+where_known (Some known) text holds is h = subst holds (is known refl) h
+
+-- a beginning is appended, and so is nothing, and a part of a text
+pub begins_appends : (budget : ℕ) (ps : List Part) (input out outs : Option (List ℕ)) → Begins budget ps input out outs → OnlyAppends out outs
+begins_appends budget ps input out outs b = (b.written, b.writes)
+
+pub nothing_appends : (out : Option (List ℕ)) → OnlyAppends out out
+nothing_appends out = ([], appends_none out)
+
+pub same_appends : {W : Type 0} (contents : W → Option (List ℕ)) (old new : W) → new ≡ old → OnlyAppends (contents old) (contents new)
+same_appends {W} contents old new e = subst (λ (w : W). OnlyAppends (contents old) (contents w)) (sym e) (nothing_appends (contents old))
+
+pub part_appends : (out outs : Option (List ℕ)) (text : List ℕ) → WritesPart out outs text → OnlyAppends out outs
+part_appends out outs text part = (part.0, part.4)
 
 -- what is told, by whether all of it was written
 pub told_is : (told : Bool) (err errs : Option (List ℕ)) (said : List ℕ) → OnTrue told (Appends err errs said) → OnFalse told (WritesPart err errs said) → IsTold told err errs said

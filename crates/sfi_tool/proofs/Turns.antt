@@ -10,7 +10,7 @@ use Rattle.rv_mem.specs.Bytes.{Bytes}
 use Rattle.sfi_host.specs.Consoles.{ConsoleState, console, new_console}
 use Rattle.sfi_host.specs.Loading.{first_seat, with_parts}
 use Rattle.sfi_host.specs.Worlds.{Sandboxes, Seat}
-use Rattle.std.specs.Prelude.{slice_set}
+use Rattle.std.specs.Prelude.{IfSome, slice_set}
 use Rattle.std.specs.Io.KnownBytes.{Appends, Keeps}
 use Rattle.sfi_host.proofs.Facts.{plans_follow}
 use Rattle.sfi_host.proofs.LaterReplies.{reply_is_answer, to_call_is_joint}
@@ -21,8 +21,8 @@ use Rattle.sfi_host.specs.declared.status.Status.TheVariants.{Ready}
 use Rattle.sfi_host.specs.declared.turn.Turn.{Turn}
 use Rattle.std.proofs.lemmas.List.{map-append}
 use Rattle.std.proofs.lemmas.Option.{same_Some}
-use Rattle.sfi_tool.specs.Executing.{AreExecuted, IsExecuted, Streams, streams, taken, taken_by, turn_of, turns_of}
-use Rattle.sfi_tool.specs.private.{AreStreamed, AreWithin, IfKnown, IsAsked, IsStreamed, Streamed, TakesTurns, kept, left_by, left_of}
+use Rattle.sfi_tool.specs.Executing.{AreExecuted, IsBegun, IsExecuted, Streams, streams, taken, taken_by, turn_of, turns_of}
+use Rattle.sfi_tool.specs.private.{AreCut, AreStreamed, AreWithin, IfKnown, IsAsked, IsCutTurn, IsStreamed, Streamed, TakesTurns, kept, left_by, left_of}
 use Rattle.sfi_tool.proofs.Prelude.{◌≡◌, ℕ, List, refl, ap, arith, length, Bool, sym, ◌∙◌, subst, round_of, AreStates, Part, slots_of, Adds, slice_get}
 
 -- ==== Rounds of turns, one after another, and what is said of the sandboxes after all of them.
@@ -85,6 +85,10 @@ keeps_appends None b keeps = tt
 keeps_appends (Some x) None keeps = absurd keeps
 keeps_appends (Some x) (Some y) keeps = keeps ∙ append_none x
 
+pub keeps_same : (a : Option (List ℕ)) → Keeps a a
+keeps_same None = tt
+keeps_same (Some x) = refl
+
 pub appends_kept : (a b c : Option (List ℕ)) (xs : List ℕ) → Appends a b xs → Keeps b c → Appends a c xs
 appends_kept None b c xs first keeps = tt
 appends_kept (Some x) None c xs first keeps = absurd first
@@ -103,6 +107,10 @@ known_both None b c p q r first second h = tt
 known_both (Some x) None c p q r first second h = absurd first
 known_both (Some x) (Some y) None p q r first second h = absurd second
 known_both (Some x) (Some y) (Some z) p q r first second h = h x y z first second
+
+pub some_same : (o : Option (List ℕ)) (holds : List ℕ → Type 0) → ((x : List ℕ) → holds x) → IfSome o holds
+some_same None holds h = tt
+some_same (Some x) holds h = h x
 
 -- ---- turns, one after another
 
@@ -158,6 +166,49 @@ streamed_both i old mid new c d e p q r u v w first second = record {
       (λ x y. (machine : Machine) → IsMachine machine → IsStreamed machine i old c new e (first.written ++ second.written) x y)
       first.ran second.ran (λ x y z one two machine is. turns_follow machine i old mid new c d e first.written second.written x y z (one machine is) (two machine is));
 }
+
+-- what was written is a beginning of what turns put, after others that were written whole
+pub cut_after : (budget i : ℕ) (old mid : List Slot) (c d : ConsoleState) (p q u v w : Option (List ℕ)) → Streamed i old c mid d p q u v → IsCutTurn budget i mid d q v w
+    → IsCutTurn budget i old c p u w
+cut_after budget i old mid c d p q u v w first cut = record {
+  new = cut.new;
+  d = cut.d;
+  written = first.written ++ cut.written;
+  rest = cut.rest;
+  writes = appends_both u v w first.written cut.written first.writes cut.writes;
+  within = cut.within;
+  ran = by p q first.ran cut.ran;
+}
+  where
+    by : (p q : Option (List ℕ)) → IfKnown p q (λ x y. (machine : Machine) → IsMachine machine → IsStreamed machine i old c mid d first.written x y)
+        → IfSome q (λ y. (z : List ℕ) × ((machine : Machine) → IsMachine machine → IsStreamed machine i mid d cut.new cut.d (cut.written ++ cut.rest) y z))
+        → IfSome p (λ x. (z : List ℕ) × ((machine : Machine) → IsMachine machine → IsStreamed machine i old c cut.new cut.d ((first.written ++ cut.written) ++ cut.rest) x z))
+    by None q a b = tt
+    by (Some x) None a b = absurd a
+    by (Some x) (Some y) a b = (
+      b.0,
+      λ machine is.
+          subst (λ (put : List ℕ). IsStreamed machine i old c cut.new cut.d put x b.0) (sym (append_assoc first.written cut.written cut.rest))
+          (turns_follow machine i old mid cut.new c d cut.d first.written (cut.written ++ cut.rest) x y b.0 (a machine is) (b.1 machine is)),
+    )
+
+-- no turn, and nothing that is written
+cut_none : (budget i : ℕ) (slots : List Slot) (c : ConsoleState) (input out outs : Option (List ℕ)) → AreWithin budget slots → Keeps out outs → IsCutTurn budget i slots c input out outs
+cut_none budget i slots c input out outs within keeps = record {
+  new = slots;
+  d = c;
+  written = [];
+  rest = [];
+  writes = keeps_appends out outs keeps;
+  within = within;
+  ran = some_same input _ (λ x. (x, λ machine is. no_turns machine i slots c x));
+}
+
+-- turns after which nothing more was written
+pub cut_at : (budget i : ℕ) (old new : List Slot) (c d : ConsoleState) (input left out mid outs : Option (List ℕ)) → Streamed i old c new d input left out mid → AreWithin budget new → Keeps mid outs
+    → IsCutTurn budget i old c input out outs
+cut_at budget i old new c d input left out mid outs first within keeps =
+    cut_after budget i old new c d input left out mid outs first (cut_none budget i new d left mid outs within keeps)
 
 -- ---- a turn up to a call
 
@@ -248,3 +299,49 @@ one_more_ran budget n old mid new c d e p q r u v w first second none within = r
             (subst (λ (o : List ℕ). AreExecuted machine budget (suc n) old (kept x (a.0 ++ (b.cuts ++ rest)) put c) new (kept z rest o e)) (append_assoc put first.written second.written) all)),
       ));
 }
+
+-- what was written is a beginning of what one of them put, after others that were executed
+pub cut_after_all : (budget n : ℕ) (old mid : List Slot) (c d : ConsoleState) (p q u v w : Option (List ℕ)) → AreStreamed budget n old c mid d p q u v → IsCutTurn budget n mid d q v w
+    → AreCut budget old c p u w
+cut_after_all budget n old mid c d p q u v w first cut = record {
+  written = first.written ++ cut.written;
+  writes = appends_both u v w first.written cut.written first.writes cut.writes;
+  begun = by p q first.ran cut.ran;
+}
+  where
+    by : (p q : Option (List ℕ))
+        → IfKnown p q (λ x y. (machine : Machine) → IsMachine machine → (cuts : List ℕ) × ((rest put : List ℕ)
+        → AreExecuted machine budget n old (kept x (cuts ++ rest) put c) mid (kept y rest (put ++ first.written) d)))
+        → IfSome q (λ y. (z : List ℕ) × ((machine : Machine) → IsMachine machine → IsStreamed machine n mid d cut.new cut.d (cut.written ++ cut.rest) y z))
+        → IfSome p (λ x. (machine : Machine) → IsMachine machine → (cuts : List ℕ) × IsBegun machine budget old (kept x cuts [] c) (first.written ++ cut.written))
+    by None q a b = tt
+    by (Some x) None a b = absurd a
+    by (Some x) (Some y) a b = λ machine is.
+        let e = a machine is in
+        let s = b.1 machine is in
+        let t = s.turns [] first.written in (
+          e.0 ++ (s.cuts ++ []),
+          record {
+            done = n;
+            mid = mid;
+            between = kept y (s.cuts ++ []) first.written d;
+            ran = e.1 (s.cuts ++ []) [];
+            turns = t.turns;
+            new = cut.new;
+            after = kept b.0 [] (first.written ++ (cut.written ++ cut.rest)) cut.d;
+            joint = t.joint;
+            within = cut.within n;
+            rest = cut.rest;
+            output_is = sym (append_assoc first.written cut.written cut.rest);
+          },
+        )
+
+-- those that were all executed, and after which nothing more was written
+pub cut_at_end : (budget n : ℕ) (old new : List Slot) (c d : ConsoleState) (input left out mid outs : Option (List ℕ)) → AreStreamed budget n old c new d input left out mid → AreWithin budget new
+    → Keeps mid outs → AreCut budget old c input out outs
+cut_at_end budget n old new c d input left out mid outs first within keeps =
+    cut_after_all budget n old new c d input left out mid outs first (cut_none budget n new d left mid outs within keeps)
+
+-- what was cut off, and after which nothing more was written
+pub cut_kept : (budget : ℕ) (old : List Slot) (c : ConsoleState) (input out mid outs : Option (List ℕ)) → AreCut budget old c input out mid → Keeps mid outs → AreCut budget old c input out outs
+cut_kept budget old c input out mid outs cut keeps = record { written = cut.written; writes = appends_kept out mid outs cut.written cut.writes keeps; begun = cut.begun }

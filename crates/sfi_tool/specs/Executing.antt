@@ -1,6 +1,6 @@
 -- The command `exec`: the sandboxes of an image run one after another, each to its end, and their
 -- put and get are those of a process.
-use Rattle.std.specs.Prelude.{◌≡◌, ◌≤◌, ◌==◌, ◌+◌, ◌%◌, ◌^◌, ℕ, zero, suc, min, Bool, true, false, if◌then◌else◌, List, [], ◌∷◌, ◌++◌, length, take, drop, map, Option, Some, None, slice_get, codes, decimal}
+use Rattle.std.specs.Prelude.{◌≡◌, ◌≤◌, ◌==◌, ◌+◌, ◌%◌, ◌^◌, ℕ, zero, suc, min, Bool, true, false, if◌then◌else◌, List, [], ◌∷◌, ◌++◌, length, take, drop, map, Option, Some, None, IfSome, Result, Ok, Err, slice_get, codes, decimal}
 use Rattle.std.specs.List.{range_with_len}
 use Rattle.std.specs.Io.KnownBytes.{Appends}
 use Rattle.rv_mem.specs.Bytes.{with_bytes}
@@ -15,9 +15,11 @@ use Rattle.sfi_host.specs.Joint.{Machine, IsMachine}
 use Rattle.sfi_host.specs.Plans.{IsJoint}
 use Rattle.sfi_host.specs.Slots.{Slot}
 use Rattle.sfi_answers.specs.Answers.{GivesImageThat, IsAcceptedImage}
-use Rattle.sfi_io.specs.Hexadecimal.{WritesPart}
+use Rattle.sfi_io.specs.Hexadecimal.{GivesImage, WritesPart}
 use Rattle.sfi_safety.specs.Clean.{IsAccepted}
 use Rattle.sfi_tool.specs.declared.execution.Ended.{Ended}
+use Rattle.sfi_tool.specs.declared.execution.ExecFault.{ExecFault}
+use Rattle.sfi_tool.specs.declared.execution.ExecFault.TheVariants.{NotAccepted, Image, Memory, Read, Write, TooLong}
 use Rattle.sfi_tool.specs.Running.{AreStates, first_slots, status_text}
 
 -- ---- the host
@@ -238,6 +240,57 @@ ExecutesKnown budget (Some text) (Some input) None out outs err errs ended = ⊥
 ExecutesKnown budget (Some text) (Some input) (Some left) out outs err errs ended =
     Executes budget text input left out outs err errs ended
 
+-- ---- what an error leaves
+
+-- the number of a fault
+abbrev pub number_of : ExecFault → ℕ
+number_of NotAccepted = 1
+number_of Image = 2
+number_of Memory = 3
+number_of Read = 4
+number_of Write = 5
+number_of TooLong = 6
+
+-- An execution was begun: of these sandboxes the first `done` were executed, and then the next took
+-- turns, within its budget. What was put by then begins with what was written.
+pub record IsBegun (machine : Machine) (budget : ℕ) (old : List Slot) (before : Streams)
+    (written : List ℕ) : Type 0 where
+  pub done : ℕ
+  pub mid : List Slot
+  pub between : Streams
+  pub ran : AreExecuted machine budget done old before mid between
+  pub turns : List ℕ
+  pub new : List Slot
+  pub after : Streams
+  pub joint : IsJoint machine streams (turns_of done turns) mid between new after
+  pub within : (slot : Slot) → slice_get new done ≡ Some slot → taken slot ≤ budget
+  pub rest : List ℕ
+  pub output_is : after.output ≡ written ++ rest
+
+-- What was written after what the writer held is a beginning of what the sandboxes of these parts put
+-- on this input, with some cuts.
+pub record Begins (budget : ℕ) (ps : List Part) (input out outs : Option (List ℕ)) : Type 0 where
+  pub written : List ℕ
+  pub writes : Appends out outs written
+  pub begun : IfSome input (λ x. (machine : Machine) → IsMachine machine → (cuts : List ℕ)
+      × IsBegun machine budget (first_slots ps) (first_streams x cuts (length ps)) written)
+
+-- this holds of the parts of the image that the text is or spells, where that is accepted
+abbrev pub WhereAccepted : (List Part → Type 0) → List ℕ → Type 0
+WhereAccepted holds text =
+    (bytes : List ℕ) (parts : List Part) → GivesImage text bytes → IsAccepted bytes parts → holds parts
+
 -- the text is no image that is accepted, nor does it spell one
 abbrev pub IsNotAccepted : List ℕ → Type 0
 IsNotAccepted text = ¬ GivesImageThat IsAcceptedImage text
+
+-- what may be answered on such a text: that it isn't accepted, or that memory ran out, that the image
+-- can't be read or that what is said can't be written
+abbrev pub MayRefuse : Result Ended ExecFault → Type 0
+MayRefuse (Ok ended) = ⊥
+MayRefuse (Err NotAccepted) = Unit {0}
+MayRefuse (Err Image) = Unit {0}
+MayRefuse (Err Memory) = Unit {0}
+MayRefuse (Err Read) = ⊥
+MayRefuse (Err Write) = Unit {0}
+MayRefuse (Err TooLong) = ⊥

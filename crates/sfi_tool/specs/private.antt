@@ -1,5 +1,5 @@
 -- Words that private contracts and proofs alone cite: no public statement rests on them.
-use Rattle.std.specs.Prelude.{◌≡◌, ◌≢◌, ◌⊎◌, ◌<◌, ◌≤◌, ◌-◌, ◌%◌, ◌^◌, ◌++◌, ℕ, List, Option, Some, None, IfSome, if◌then◌else◌, length, nat_le, slice_get, slice_set}
+use Rattle.std.specs.Prelude.{◌≡◌, ◌≢◌, ◌⊎◌, ◌<◌, ◌≤◌, ◌-◌, ◌%◌, ◌^◌, ◌++◌, ℕ, List, [], Option, Some, None, IfSome, if◌then◌else◌, length, nat_le, slice_get, slice_set}
 use Rattle.std.specs.Io.KnownBytes.{Consumes, IsAtEnd, Appends}
 use Rattle.std.specs.List.{range_with_len}
 use Rattle.sfi_command.specs.declared.job.Job.{Job}
@@ -19,7 +19,7 @@ use Rattle.sfi_host.specs.declared.guest.Request.{Request}
 use Rattle.sfi_host.specs.declared.status.Status.{Status}
 use Rattle.sfi_host.specs.declared.status.Status.TheVariants.{Ready, Exited, Trapped, Stopped}
 use Rattle.sfi_tool.specs.declared.execution.Ended.{Ended}
-use Rattle.sfi_tool.specs.Executing.{AreExecuted, HaveExecuted, IsTold, Streams, streams, taken, turns_of}
+use Rattle.sfi_tool.specs.Executing.{AreExecuted, HaveExecuted, IsBegun, IsTold, Streams, streams, taken, turns_of}
 use Rattle.sfi_tool.specs.Running.{plan_of}
 
 -- the status of a job's run on what its reader told, and what its writer holds then
@@ -144,10 +144,43 @@ pub record IsAsked (budget sandbox : ℕ) (slots : List Slot) (q : Request) : Ty
   pub waits : Waits slots q.sandbox q
   pub left : left_of budget (slice_get slots sandbox) ≢ 0
 
+-- A call of sandbox `i` wasn't answered in the end: what was written is a beginning of what the
+-- answer puts, after which the sandboxes are these, or nothing.
+pub record IsCut (i : ℕ) (old : List Slot) (c : ConsoleState) (out outs : Option (List ℕ))
+    : Type 0 where
+  pub new : List Slot
+  pub written : List ℕ
+  pub rest : List ℕ
+  pub writes : Appends out outs written
+  pub replies : (new ≡ old) ⊎ IsReplyTo i old new
+  pub ran : (x : List ℕ) (machine : Machine) → IsMachine machine
+      → IsStreamed machine i old c new c (written ++ rest) x x
+
 -- no sandbox took more steps than the budget allows
 abbrev pub AreWithin : ℕ → List Slot → Type 0
 AreWithin budget slots =
     (i : ℕ) (slot : Slot) → slice_get slots i ≡ Some slot → taken slot ≤ budget
+
+-- Turns of sandbox `i` alone, within its budget, where the reader tells its bytes: what was written
+-- is a beginning of what they put.
+pub record IsCutTurn (budget i : ℕ) (old : List Slot) (c : ConsoleState)
+    (input out outs : Option (List ℕ)) : Type 0 where
+  pub new : List Slot
+  pub d : ConsoleState
+  pub written : List ℕ
+  pub rest : List ℕ
+  pub writes : Appends out outs written
+  pub within : AreWithin budget new
+  pub ran : IfSome input (λ x. (y : List ℕ) × ((machine : Machine) → IsMachine machine
+      → IsStreamed machine i old c new d (written ++ rest) x y))
+
+-- what was written is a beginning of what these sandboxes put, one after another
+pub record AreCut (budget : ℕ) (old : List Slot) (c : ConsoleState)
+    (input out outs : Option (List ℕ)) : Type 0 where
+  pub written : List ℕ
+  pub writes : Appends out outs written
+  pub begun : IfSome input (λ x. (machine : Machine) → IsMachine machine → (cuts : List ℕ)
+      × IsBegun machine budget old (kept x cuts [] c) written)
 
 -- the first n sandboxes, where the reader tells its bytes
 pub record AreStreamed (budget n : ℕ) (old : List Slot) (c : ConsoleState) (new : List Slot)

@@ -1,9 +1,9 @@
 //! Sandboxes that run one after another, each to its end.
 
-ghost use Rattle.std.specs.Prelude.{◌≡◌, ◌≤◌, ℕ, List, Option, IfOk, IfSome, length, slice_get};
+ghost use Rattle.std.specs.Prelude.{◌≡◌, ◌≤◌, ℕ, List, Option, IfErr, IfOk, IfSome, length, slice_get};
 ghost use Rattle.sfi_host.specs.Consoles.{ConsoleState};
 ghost use Rattle.sfi_host.specs.Worlds.{slots_of};
-ghost use Rattle.sfi_tool.specs.private.{AreStreamed, AreWithin, IsAsked, Streamed, left_by, left_of};
+ghost use Rattle.sfi_tool.specs.private.{AreCut, AreStreamed, AreWithin, IsAsked, IsCutTurn, Streamed, left_by, left_of};
 
 use crate::serving::{Interruption, flush_output, serve_call};
 use rv_mem::Memory;
@@ -80,6 +80,8 @@ fn run_and_serve_call<M: Memory, R: Read, W: Write>(
         (slots_of world.new) console.new (R.remaining reader.old) (R.remaining reader.new)
         (W.contents writer.old) (W.contents writer.new)) }
     ensures within { IfOk result (λ u. AreWithin budget (slots_of world.new)) }
+    ensures cut { IfErr result (λ e. IsCutTurn budget sandbox (slots_of world.old) console.old
+        (R.remaining reader.old) (W.contents writer.old) (W.contents writer.new)) }
 {
     let Some(request) = run_to_request(world, sandbox, budget) else {
         return flush_output(writer);
@@ -105,6 +107,8 @@ fn execute_sandbox<M: Memory, R: Read, W: Write>(
     ensures within { IfOk result (λ u. AreWithin budget (slots_of world.new)) }
     ensures ended { IfOk result
         (λ u. left_of budget (slice_get (slots_of world.new) sandbox) ≡ 0) }
+    ensures cut { IfErr result (λ e. IsCutTurn budget sandbox (slots_of world.old) console.old
+        (R.remaining reader.old) (W.contents writer.old) (W.contents writer.new)) }
 {
     for _ in 0..u64::MAX {
         if steps_left(world, sandbox, budget) == 0 {
@@ -127,9 +131,12 @@ pub(crate) fn execute_sandboxes<M: Memory, R: Read, W: Write>(
 ) -> Result<(), Interruption>
     requires buffer { length buffer.old ≡ 65536 }
     requires within { AreWithin budget (slots_of world.old) }
-    ensures { IfOk result (λ u. AreStreamed budget count (slots_of world.old) console.old
+    ensures streamed { IfOk result (λ u. AreStreamed budget count (slots_of world.old) console.old
         (slots_of world.new) console.new (R.remaining reader.old) (R.remaining reader.new)
         (W.contents writer.old) (W.contents writer.new)) }
+    ensures within { IfOk result (λ u. AreWithin budget (slots_of world.new)) }
+    ensures cut { IfErr result (λ e. AreCut budget (slots_of world.old) console.old
+        (R.remaining reader.old) (W.contents writer.old) (W.contents writer.new)) }
 {
     for sandbox in 0..count {
         execute_sandbox(world, console, sandbox, budget, buffer, reader, writer)?;

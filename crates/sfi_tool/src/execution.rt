@@ -1,11 +1,13 @@
 //! The command `exec`, over readers and writers.
 
-ghost use Rattle.std.specs.Prelude.{◌≡◌, ◌≢◌, Err, IfOk, IfSome, OnOk, ℕ, List, Some};
-ghost use Rattle.std.specs.Io.KnownBytes.{Appends};
+ghost use Rattle.std.specs.Prelude.{◌≡◌, ◌≢◌, Err, IfErr, IfOk, IfSome, ℕ, List, Some};
 ghost use Rattle.sfi_answers.specs.Answers.{GivesImageThat};
 ghost use Rattle.sfi_answers.specs.Answers.{IsAcceptedImage, Refuses};
 ghost use Rattle.sfi_answers.specs.declared.fault.Stop.TheVariants as stops;
-ghost use Rattle.sfi_tool.specs.Executing.{ExecutesKnown, IsNotAccepted};
+ghost use Rattle.sfi_image.specs.Spelling.{Part};
+ghost use Rattle.sfi_safety.specs.Clean.{IsAccepted};
+ghost use Rattle.sfi_tool.specs.Executing.{Begins, ExecutesKnown, IsNotAccepted, MayRefuse, WhereAccepted, number_of};
+ghost use Rattle.sfi_tool.specs.Says.{OnlyAppends};
 ghost use Rattle.sfi_io.specs.Hexadecimal.{IsInput};
 ghost use Rattle.sfi_tool.specs.declared.execution.ExecFault.TheVariants.{NotAccepted};
 ghost use Rattle.sfi_tool.specs.private.{Ran, RanImage};
@@ -19,6 +21,7 @@ use sfi_check::{Accepted, Refusal, check};
 use sfi_host::{Console, World};
 use sfi_io::{INPUT_LIMIT, Input, ReadStop, image_bytes, read_input, write_out};
 use std::alloc::{AllocError, Global};
+use std::fmt;
 use std::io::{Read, Write};
 
 /// What a run of an image's sandboxes came to.
@@ -30,7 +33,7 @@ pub struct Ended {
     pub told: bool,
 }
 
-/// Why a run of an image's sandboxes didn't come to its end.
+/// Why a run of an image's sandboxes didn't come to its end. Its text is its bare name.
 #[derive(Clone, Copy, Debug, Drop, PartialEq, Eq)]
 pub enum ExecFault {
     /// The image can't be run. What was said tells why: the verdict on an image with findings, or the
@@ -46,6 +49,28 @@ pub enum ExecFault {
     Write,
     /// A sandbox took 18446744073709551615 turns, which none lives to see.
     TooLong,
+}
+
+impl fmt::Display for ExecFault {
+    fn fmt<W: fmt::Write>(&self, f: &mut fmt::Formatter<W>) -> fmt::Result {
+        fmt::Debug::fmt(self, f)
+    }
+}
+
+impl ExecFault {
+    /// The number by which a fault is known, from 1 to 6.
+    pub fn number(self) -> u32
+        ensures { result ≡ number_of self }
+    {
+        match self {
+            ExecFault::NotAccepted => 1,
+            ExecFault::Image => 2,
+            ExecFault::Memory => 3,
+            ExecFault::Read => 4,
+            ExecFault::Write => 5,
+            ExecFault::TooLong => 6,
+        }
+    }
 }
 
 impl From<AllocError> for Interruption {
@@ -71,14 +96,15 @@ impl From<Interruption> for ExecFault {
     }
 }
 
-/// Writes a whole text to where errors are told; `Interruption::Write` if that fails.
-fn write_message<E: Write>(errors: &mut E, text: &[u8]) -> Result<(), Interruption>
-    ensures { OnOk result (Appends (E.contents errors.old) (E.contents errors.new) text.now) }
+/// Writes a whole text to where errors are told.
+fn say<E: Write>(errors: &mut E, text: &[u8]) -> ExecFault
+    ensures may_refuse { MayRefuse (Err result) }
+    ensures appends { OnlyAppends (E.contents errors.old) (E.contents errors.new) }
 {
     if write_out(errors, text) {
-        Ok(())
+        ExecFault::NotAccepted
     } else {
-        Err(Interruption::Write)
+        ExecFault::Write
     }
 }
 
@@ -92,9 +118,12 @@ fn execute_accepted<R: Read, W: Write, E: Write>(
     writer: &mut W,
     errors: &mut E,
 ) -> Result<Ended, Interruption>
-    ensures { IfOk result (Ran budget accepted.now (R.remaining reader.old) (R.remaining reader.new)
-        (W.contents writer.old) (W.contents writer.new) (E.contents errors.old)
-        (E.contents errors.new)) }
+    ensures ran { IfOk result (Ran budget accepted.now (R.remaining reader.old)
+        (R.remaining reader.new) (W.contents writer.old) (W.contents writer.new)
+        (E.contents errors.old) (E.contents errors.new)) }
+    ensures begins { IfErr result (λ e. Begins budget accepted.now (R.remaining reader.old)
+        (W.contents writer.old) (W.contents writer.new)) }
+    ensures silent { IfErr result (λ e. errors.new ≡ errors.old) }
 {
     let count = accepted.sandbox_count() as u32;
     let mut world = World::load(alloc, accepted, Pages::new(alloc))?;
@@ -119,13 +148,12 @@ fn execute_accepted<R: Read, W: Write, E: Write>(
 
 /// Says why there is no run.
 fn say_stop<E: Write>(alloc: Global, stop: Stop, errors: &mut E) -> ExecFault
-    ensures { result ≡ NotAccepted → stop ≢ stops.Memory }
+    ensures not_memory { result ≡ NotAccepted → stop ≢ stops.Memory }
+    ensures may_refuse { MayRefuse (Err result) }
+    ensures appends { OnlyAppends (E.contents errors.old) (E.contents errors.new) }
 {
     match stop_answer(alloc, stop) {
-        Ok(answer) => match write_message(errors, &answer.output) {
-            Ok(()) => ExecFault::NotAccepted,
-            Err(fault) => ExecFault::from(fault),
-        },
+        Ok(answer) => say(errors, &answer.output),
         Err(_) => ExecFault::Memory,
     }
 }
@@ -133,23 +161,22 @@ fn say_stop<E: Write>(alloc: Global, stop: Stop, errors: &mut E) -> ExecFault
 /// Says the verdict on an image that is refused.
 fn say_refusal<E: Write>(alloc: Global, bytes: &[u8], refusal: Refusal, errors: &mut E) -> ExecFault
     requires { Refuses bytes.now refusal }
-    ensures { result ≡ NotAccepted → ¬ IsAcceptedImage bytes.now }
+    ensures not_accepted { result ≡ NotAccepted → ¬ IsAcceptedImage bytes.now }
+    ensures may_refuse { MayRefuse (Err result) }
+    ensures appends { OnlyAppends (E.contents errors.old) (E.contents errors.new) }
 {
     match refusal_answer(alloc, false, bytes, refusal) {
-        Ok(answer) => match write_message(errors, &answer.output) {
-            Ok(()) => ExecFault::NotAccepted,
-            Err(fault) => ExecFault::from(fault),
-        },
+        Ok(answer) => say(errors, &answer.output),
         Err(stop) => say_stop(alloc, stop, errors),
     }
 }
 
 /// Says that the text passes the limit.
-fn say_too_large<E: Write>(errors: &mut E) -> ExecFault {
-    match write_message(errors, TOO_LARGE_LINE.as_bytes()) {
-        Ok(()) => ExecFault::NotAccepted,
-        Err(fault) => ExecFault::from(fault),
-    }
+fn say_too_large<E: Write>(errors: &mut E) -> ExecFault
+    ensures may_refuse { MayRefuse (Err result) }
+    ensures appends { OnlyAppends (E.contents errors.old) (E.contents errors.new) }
+{
+    say(errors, TOO_LARGE_LINE.as_bytes())
 }
 
 /// Runs the sandboxes of the image with these bytes, if it is accepted.
@@ -165,8 +192,16 @@ fn execute_image<R: Read, W: Write, E: Write>(
         (R.remaining reader.new) (W.contents writer.old) (W.contents writer.new)
         (E.contents errors.old) (E.contents errors.new) ended bytes.now) }
     ensures not_accepted { result ≡ Err NotAccepted → ¬ IsAcceptedImage bytes.now }
+    ensures only_not_accepted { (¬ IsAcceptedImage bytes.now) → MayRefuse result }
     ensures untouched { (¬ IsAcceptedImage bytes.now)
         → (reader.new ≡ reader.old) × (writer.new ≡ writer.old) }
+    ensures begins { IfErr result (λ e. (parts : List Part) → IsAccepted bytes.now parts
+        → Begins budget parts (R.remaining reader.old) (W.contents writer.old)
+        (W.contents writer.new)) }
+    ensures appends { IfErr result
+        (λ e. OnlyAppends (W.contents writer.old) (W.contents writer.new)) }
+    ensures says { IfErr result
+        (λ e. OnlyAppends (E.contents errors.old) (E.contents errors.new)) }
 {
     match check(alloc, bytes) {
         Ok(accepted) => Ok(execute_accepted(alloc, &accepted, budget, reader, writer, errors)?),
@@ -187,8 +222,15 @@ fn execute_image_text<R: Read, W: Write, E: Write>(
         (R.remaining reader.new) (W.contents writer.old) (W.contents writer.new)
         (E.contents errors.old) (E.contents errors.new) ended) text.now) }
     ensures not_accepted { result ≡ Err NotAccepted → IsNotAccepted text.now }
+    ensures only_not_accepted { IsNotAccepted text.now → MayRefuse result }
     ensures untouched { IsNotAccepted text.now
         → (reader.new ≡ reader.old) × (writer.new ≡ writer.old) }
+    ensures begins { IfErr result (λ e. WhereAccepted (λ parts. Begins budget parts
+        (R.remaining reader.old) (W.contents writer.old) (W.contents writer.new)) text.now) }
+    ensures appends { IfErr result
+        (λ e. OnlyAppends (W.contents writer.old) (W.contents writer.new)) }
+    ensures says { IfErr result
+        (λ e. OnlyAppends (E.contents errors.old) (E.contents errors.new)) }
 {
     if text.len() > INPUT_LIMIT {
         return Err(say_too_large(errors));
@@ -222,10 +264,19 @@ pub fn exec<I: Read + Drop, R: Read, W: Write, E: Write>(
         (W.contents writer.new) (E.contents errors.old) (E.contents errors.new)) }
     ensures not_accepted { result ≡ Err NotAccepted
         → IfSome (I.remaining image) IsNotAccepted }
+    ensures only_not_accepted { (text : List ℕ) → I.remaining image ≡ Some text
+        → IsNotAccepted text → MayRefuse result }
     ensures untouched { result ≡ Err NotAccepted
         → (reader.new ≡ reader.old) × (writer.new ≡ writer.old) }
     ensures refused { (text : List ℕ) → I.remaining image ≡ Some text → IsNotAccepted text
         → (reader.new ≡ reader.old) × (writer.new ≡ writer.old) }
+    ensures begins { IfErr result (λ e. IfSome (I.remaining image) (WhereAccepted (λ parts.
+        Begins budget parts (R.remaining reader.old) (W.contents writer.old)
+        (W.contents writer.new)))) }
+    ensures appends { IfErr result
+        (λ e. OnlyAppends (W.contents writer.old) (W.contents writer.new)) }
+    ensures says { IfErr result
+        (λ e. OnlyAppends (E.contents errors.old) (E.contents errors.new)) }
 {
     match read_image(alloc, image) {
         Ok(Input::Whole(text)) => execute_image_text(alloc, &text, budget, reader, writer, errors),

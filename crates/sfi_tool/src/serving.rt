@@ -1,12 +1,12 @@
 //! One call of a sandbox, whose put writes to a process's output and whose get reads its input.
 
-ghost use Rattle.std.specs.Prelude.{◌≡◌, ◌≢◌, ◌≤◌, ℕ, List, Option, IfOk, OnOk, Some, None, length, take};
+ghost use Rattle.std.specs.Prelude.{◌≡◌, ◌≢◌, ◌≤◌, ℕ, List, Option, IfErr, IfOk, Some, None, length, take};
 ghost use Rattle.std.specs.Bool.{OnTrue, OnFalse};
 ghost use Rattle.std.specs.Io.KnownBytes.{Appends, Keeps};
 ghost use Rattle.sfi_host.specs.Waiting.{Waits};
 ghost use Rattle.sfi_host.specs.Worlds.{slots_of};
 ghost use Rattle.sfi_host.specs.Consoles.{ConsoleState};
-ghost use Rattle.sfi_tool.specs.private.{GoesOnWith, IsAnsweredBy, IsPiece, IsServed, handed_by};
+ghost use Rattle.sfi_tool.specs.private.{GoesOnWith, IsAnsweredBy, IsCut, IsPiece, IsServed, handed_by};
 
 use crate::piece::Piece;
 use rv_mem::Memory;
@@ -100,9 +100,11 @@ fn serve_put<M: Memory, W: Write>(
     requires put { request.service ≡ 1 }
     requires waits { Waits (slots_of world.old) request.sandbox request }
     requires buffer { length buffer.old ≡ 65536 }
-    ensures { (c : ConsoleState) → (known : Option (List ℕ)) → IfOk result (λ u. IsServed request.sandbox
+    ensures served { (c : ConsoleState) → (known : Option (List ℕ)) → IfOk result (λ u. IsServed request.sandbox
         (slots_of world.old) c (slots_of world.new) c known known
         (W.contents writer.old) (W.contents writer.new)) }
+    ensures cut { (c : ConsoleState) → IfErr result (λ e. IsCut request.sandbox
+        (slots_of world.old) c (W.contents writer.old) (W.contents writer.new)) }
 {
     if !take_handed(world, request, buffer) {
         return reply_with(world, request, FAILED);
@@ -115,7 +117,7 @@ fn serve_put<M: Memory, W: Write>(
 
 /// Writes what the writer holds back of what was put.
 pub(crate) fn flush_output<W: Write>(writer: &mut W) -> Result<(), Interruption>
-    ensures { OnOk result (Keeps (W.contents writer.old) (W.contents writer.new)) }
+    ensures { Keeps (W.contents writer.old) (W.contents writer.new) }
 {
     if writer.flush().is_err() {
         return Err(Interruption::Write);
@@ -132,7 +134,7 @@ fn read_piece<R: Read, W: Write>(
     ensures piece { IfOk result (λ n. IsPiece (length piece.old) (R.remaining reader.old)
         (R.remaining reader.new) (take n piece.new)) }
     ensures few { IfOk result (λ n. n ≤ length piece.old) }
-    ensures flushed { IfOk result (λ n. Keeps (W.contents writer.old) (W.contents writer.new)) }
+    ensures flushed { Keeps (W.contents writer.old) (W.contents writer.new) }
 {
     flush_output(writer)?;
     match reader.read(piece) {
@@ -152,9 +154,11 @@ fn serve_get<M: Memory, R: Read, W: Write>(
     requires get { request.service ≡ 2 }
     requires waits { Waits (slots_of world.old) request.sandbox request }
     requires buffer { length buffer.old ≡ 65536 }
-    ensures { (c : ConsoleState) → IfOk result (λ u. IsServed request.sandbox
+    ensures served { (c : ConsoleState) → IfOk result (λ u. IsServed request.sandbox
         (slots_of world.old) c (slots_of world.new) c (R.remaining reader.old) (R.remaining reader.new)
         (W.contents writer.old) (W.contents writer.new)) }
+    ensures cut { (c : ConsoleState) → IfErr result (λ e. IsCut request.sandbox
+        (slots_of world.old) c (W.contents writer.old) (W.contents writer.new)) }
 {
     if !take_handed(world, request, buffer) {
         return reply_with(world, request, FAILED);
@@ -176,9 +180,11 @@ fn ask_console<M: Memory, W: Write>(
     requires put { request.service ≢ 1 }
     requires get { request.service ≢ 2 }
     requires waits { Waits (slots_of world.old) request.sandbox request }
-    ensures { (known : Option (List ℕ)) → IfOk result (λ u. IsServed request.sandbox
+    ensures served { (known : Option (List ℕ)) → IfOk result (λ u. IsServed request.sandbox
         (slots_of world.old) console.old (slots_of world.new) console.new known known
         (W.contents writer.old) (W.contents writer.new)) }
+    ensures cut { IfErr result (λ e. IsCut request.sandbox
+        (slots_of world.old) console.old (W.contents writer.old) (W.contents writer.new)) }
 {
     flush_output(writer)?;
     let_host_answer(world, request, console)
@@ -196,9 +202,11 @@ pub(crate) fn serve_call<M: Memory, R: Read, W: Write>(
 ) -> Result<(), Interruption>
     requires waits { Waits (slots_of world.old) request.sandbox request }
     requires buffer { length buffer.old ≡ 65536 }
-    ensures { IfOk result (λ u. IsServed request.sandbox (slots_of world.old) console.old
+    ensures served { IfOk result (λ u. IsServed request.sandbox (slots_of world.old) console.old
         (slots_of world.new) console.new (R.remaining reader.old) (R.remaining reader.new)
         (W.contents writer.old) (W.contents writer.new)) }
+    ensures cut { IfErr result (λ e. IsCut request.sandbox
+        (slots_of world.old) console.old (W.contents writer.old) (W.contents writer.new)) }
 {
     match request.service {
         PUT => serve_put(world, request, buffer, writer),
