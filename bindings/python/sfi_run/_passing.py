@@ -4,6 +4,7 @@ from __future__ import annotations
 
 import ctypes
 from collections.abc import Callable, Sequence
+from dataclasses import dataclass
 from typing import TYPE_CHECKING, Any
 
 from . import _functions, _library
@@ -16,6 +17,22 @@ if TYPE_CHECKING:
 STACK, A0 = 2, 10  # registers
 ALIGNED = 16  # of each block of bytes on the stack
 PIECE = 256  # bytes of a text that are read first
+ROOM = 1024  # bytes of the stack that the texts and bytes of a call may take where the image doesn't say how much it has
+TOP = 16  # the stack begins so far below the data's end, and below the room above it
+
+
+@dataclass(frozen=True)
+class Stack:
+    """A sandbox's, as its image claims it: how many bytes it has, and how many lie above it."""
+    size: int | None = None
+    above: int = 0
+
+    def room(self, used: int = 0) -> int:
+        """How many bytes of it the texts and bytes of a call may take: half of what is left where the stack pointer is so far below
+        the data's end."""
+        if self.size is None:
+            return ROOM
+        return max(self.size - max(used - self.above - TOP, 0), 0) // 2
 
 
 def _size(blocks: Sequence[Block]) -> int:
@@ -23,13 +40,13 @@ def _size(blocks: Sequence[Block]) -> int:
     return sum(-len(block.data) // ALIGNED * -ALIGNED for block in blocks)
 
 
-def called(sandbox: Sandbox, pc: int, name: str, signature: Signature, given: Sequence[Any], room: int, steps: int,
+def called(sandbox: Sandbox, pc: int, name: str, signature: Signature, given: Sequence[Any], stack: Stack, steps: int,
            serve: Callable[[Call], object] | None) -> Any:
-    """Calls a function at pc with these arguments: its result. Texts and bytes may take `room` bytes of its stack."""
+    """Calls a function at pc with these arguments: its result."""
     words, blocks = taken(name, signature, given)
-    if _size(blocks) > room:
-        raise TooLong(name, _size(blocks), room)
-    prepare = (lambda: lay(sandbox, name, blocks)) if blocks else None
+    if _size(blocks) > stack.room():
+        raise TooLong(name, _size(blocks), stack.room())
+    prepare = (lambda: lay(sandbox, name, blocks, stack)) if blocks else None
     sandbox._world._made_here()
     with sandbox._world._lock:
         result = _functions.called(sandbox, pc, words, steps, serve, prepare)
@@ -39,13 +56,13 @@ def called(sandbox: Sandbox, pc: int, name: str, signature: Signature, given: Se
         return _value(sandbox, signature.result, (result & 0xFFFFFFFF, result >> 32))
 
 
-def lay(sandbox: Sandbox, name: str, blocks: Sequence[Block]) -> None:
+def lay(sandbox: Sandbox, name: str, blocks: Sequence[Block], stack: Stack) -> None:
     """Has the bytes lie below the stack pointer of a function that is entered, the stack pointer below them, and their addresses in
     the registers. Raises TooLong where they don't fit there."""
     registers, data, size = _library.Registers(), sandbox.data, _size(blocks)
     sandbox._call("registers", ctypes.byref(registers))
-    above = registers.x[STACK]
-    room = above - data.base if data.base <= above <= data.base + data.size else 0
+    above, end = registers.x[STACK], data.base + data.size
+    room = min(above - data.base, stack.room(end - above)) if data.base <= above <= end else 0
     if size > room:
         raise TooLong(name, size, room)
     for block in blocks:

@@ -32,8 +32,7 @@ WHY = {1: "the bytes are no image", 2: "there is no such sandbox", 3: "there is 
 
 
 MOST_ENTRIES = 512  # of the exports, or the imports, in which signatures are looked for: in more it would take long
-ROOM = 1024  # bytes of the stack that the texts and bytes of a call may take where the image doesn't say how much it has
-STACK = ".stack"  # the claim of that
+STACK, ABOVE = ".stack", ".room"  # the claims of how many bytes the stack has, and of how many lie above it
 
 
 class NoName(LookupError):
@@ -70,11 +69,10 @@ def api(image: bytes, sandbox: int = 0, library: Library | None = None) -> int:
 
 @dataclass
 class Claims:
-    """What a sandbox's table claims: the signatures of exports and of imports, by their names, and how many bytes of its stack the
-    texts and bytes of a call may take."""
+    """What a sandbox's table claims: the signatures of exports and of imports, by their names, and its stack."""
     exports: dict[str, Signature] = field(default_factory=dict)
     imports: dict[str, Signature] = field(default_factory=dict)
-    room: int = ROOM
+    stack: _passing.Stack = _passing.Stack()
 
     def stated(self, signatures: Mapping[str, str]) -> Claims:
         """These, with those that the host states in their place. Raises ValueError where one is none, and WrongSignature."""
@@ -87,7 +85,7 @@ class Claims:
                 if claims.get(name, signature) != signature:
                     raise WrongSignature(name, text, str(claims[name]))
             stated[name] = signature
-        return Claims({**self.exports, **stated}, {**self.imports, **stated}, self.room)
+        return Claims({**self.exports, **stated}, {**self.imports, **stated}, self.stack)
 
 
 def claims(image: bytes, sandbox: int = 0, library: Library | None = None) -> Claims:
@@ -95,10 +93,15 @@ def claims(image: bytes, sandbox: int = 0, library: Library | None = None) -> Cl
     claims."""
     calls = library or _library.default()
     exports, imports = (_signatures(_entries(calls[call], image, sandbox)) for call in ("export_at", "import_at"))
+    size, above = (_claimed_number(image, name, sandbox, library) for name in (STACK, ABOVE))
+    return Claims(exports, imports, _passing.Stack(size, above or 0))
+
+
+def _claimed_number(image: bytes, name: str, sandbox: int, library: Library | None) -> int | None:
     try:
-        return Claims(exports, imports, imported(image, STACK, sandbox, library) // 2)
+        return imported(image, name, sandbox, library)
     except NoName:
-        return Claims(exports, imports)
+        return None
 
 
 def _entries(call: Callable[..., int], image: bytes, sandbox: int) -> Iterator[tuple[str, int]]:
@@ -160,7 +163,7 @@ class Plugin:
 
     An export that has a signature takes its values, and gives that of its result: `plugin.greet("you")`. Arguments of another
     count, type or range raise WrongArguments, and texts and bytes that don't fit TooLong: both before anything runs. Texts and bytes
-    are copied onto the sandbox's stack, where they stay as long as the call, and may take half of it, or 1024 bytes where the image
+    are copied onto the sandbox's stack, where they stay as long as the call, and may take half of what is left of it, or 1024 bytes where the image
     doesn't say how much it has. What the sandbox leaves in a bytearray is copied back when it returns. A text that it gives is read
     up to its byte 0; OutsideData tells that it doesn't lie in its data. An export without a signature takes and gives words."""
 
@@ -239,7 +242,7 @@ class Plugin:
         return self.sandbox.call(address, *arguments, steps=self.steps, serve=self._serve)
 
     def _called_by(self, address: int, name: str, signature: Signature, *arguments: Any) -> Any:
-        return _passing.called(self.sandbox, address, name, signature, arguments, self._claims.room, self.steps, self._serve)
+        return _passing.called(self.sandbox, address, name, signature, arguments, self._claims.stack, self.steps, self._serve)
 
     def _function(self, name: str) -> Callable[..., Any]:
         address, signature = self.address(name), self._claims.exports.get(name)

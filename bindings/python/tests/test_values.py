@@ -20,22 +20,24 @@ SIZE, TOP = 4096, DATA + 4096 - 16  # of the data; the stack pointer of a functi
 INIT_COUNT = 32  # where the sandbox's number of first data bytes lies
 
 
-def claiming(*exports, imports=(), stack=None, image=IMAGE):
-    """The image with these claims among its exports and imports, the numbers of which are 0, and that of its stack."""
+def claiming(*exports, imports=(), stack=None, above=0, image=IMAGE):
+    """The image with these claims among its exports and imports, the numbers of which are 0, and those of its stack and what is above."""
     count, = struct.unpack_from("<I", image, INIT_COUNT)
     version, first, second = struct.unpack("<3I", image[-16:-4])
     data, lists = image[-count : -16 - first - second], (image[-16 - first - second : -16 - second], image[-16 - second : -16])
     more = [b"".join(it if isinstance(it, bytes) else entry(0, it.encode()) for it in claims) for claims in (exports, imports)]
     if stack is not None:
         more[1] += entry(stack, b".stack")
+    if above:
+        more[1] += entry(above, b".room")
     found = [a + b for a, b in zip(lists, more)]
     table = b"".join(found) + struct.pack("<3I", version, *map(len, found)) + b"SFIN"
     return with_data(image[:-count], data + table)
 
 
 class Calls(unittest.TestCase):
-    def plugin(self, *exports, imports=(), stack=None, image=IMAGE, **more):
-        plugin = names.Plugin(claiming(*exports, imports=imports, stack=stack, image=image), **more)
+    def plugin(self, *exports, imports=(), stack=None, above=0, image=IMAGE, **more):
+        plugin = names.Plugin(claiming(*exports, imports=imports, stack=stack, above=above, image=image), **more)
         self.addCleanup(plugin.close)
         return plugin
 
@@ -111,6 +113,24 @@ class Stack(Calls):
                 self.assertIsInstance(wrong, ValueError)
         self.assertEqual(self.refuses(plugin, sfi_run.TooLong, lambda: plugin.call("raise", bytearray(1), bytearray(17))).size, 48)
         self.assertEqual(str(wrong), "length: texts and bytes take 16 bytes of the sandbox's stack, and may take 15")
+
+    def test_what_a_call_that_waits_leaves(self):
+        """Each call may take half of what those that wait for it have left of the stack, so that none reaches what lies below it."""
+        for above in (0, 64):
+            bottom, found = DATA + SIZE - 2048 - above, []
+
+            def ask():
+                with self.assertRaises(sfi_run.TooLong) as told:
+                    plugin.keep("y" * 1008)
+                room = told.exception.room
+                found.append((plugin.sandbox.registers.x[2] - bottom, room))
+                return len(plugin.keep("y" * (room - room % 16 - 1))) if room >= 16 else 0
+            plugin = self.plugin(".keep(s)s", imports=(".ask()i",), stack=2048, above=above, ask=ask)
+            plugin.sandbox.write(DATA + 512, b"z" * (bottom - DATA - 512))
+            self.assertEqual(plugin.keep("x" * 1000), "x" * 1000)
+            # 16 bytes of each frame, the least multiple of 16 that has the text, and 16 bytes above the first
+            self.assertEqual(found[:3], [(1008, 512), (480, 248), (224, 120)])
+            self.assertEqual(plugin.sandbox.read(DATA + 512, bottom - DATA - 512), b"z" * (bottom - DATA - 512))
 
     def test_a_stack_that_is_not_there(self):
         plugin = self.plugin(".total(b)u", ".add(ii)i", stack=(1 << 32) - 1)
