@@ -8,17 +8,25 @@ import { callFunction, resume } from "./world.mjs";
 const [STACK, A0] = [2, 10]; // registers
 const ALIGNED = 16; // of each block of bytes on the stack
 const PIECE = 256; // bytes of a text that are read first
+const ROOM = 1024; // bytes of the stack that the texts and bytes of a call may take where the image doesn't say how much it has
+const TOP = 16; // the stack begins so far below the data's end, and below the room above it
+
+/** How many bytes of a stack { size, above } the texts and bytes of a call may take: half of what is left where the stack pointer is so
+ * far below the data's end. */
+function roomOf({ size, above }, used = 0) {
+  return size === undefined ? ROOM : Math.floor(Math.max(size - Math.max(used - above - TOP, 0), 0) / 2);
+}
 
 /** How much of the stack some bytes take. */
 const sizeOf = (blocks) => blocks.reduce((size, { data }) => size + Math.ceil(data.length / ALIGNED) * ALIGNED, 0);
 
-/** Calls a function of { name, signature } at an address with these arguments: its result. Texts and bytes may take `room` bytes of
- * its stack. */
-export function callBySignature(sandbox, pc, { name, signature }, given, room, options) {
+/** Calls a function of { name, signature } at an address with these arguments: its result. The image claims `stack`,
+ * how many bytes it has and how many lie above it. */
+export function callBySignature(sandbox, pc, { name, signature }, given, stack, options) {
   const { words, blocks } = taken(name, signature, given);
   const size = sizeOf(blocks);
-  if (size > room) throw new TooLong(name, size, room);
-  const result = callFunction(sandbox, pc, words, options, () => blocks.length && lay(sandbox, name, blocks));
+  if (size > roomOf(stack)) throw new TooLong(name, size, roomOf(stack));
+  const result = callFunction(sandbox, pc, words, options, () => blocks.length && lay(sandbox, name, blocks, stack));
   for (const block of blocks) {
     if (block.buffer !== undefined) bringBack(sandbox, name, block);
   }
@@ -27,9 +35,10 @@ export function callBySignature(sandbox, pc, { name, signature }, given, room, o
 
 /** Has the bytes lie below the stack pointer of a function that is entered, the stack pointer below them, and their addresses in the
  * registers. Throws TooLong where they don't fit there. */
-function lay(sandbox, name, blocks) {
+function lay(sandbox, name, blocks, stack) {
   const [{ pc, x }, { base, size: whole }, size] = [sandbox.registers, sandbox.data, sizeOf(blocks)];
-  const room = x[STACK] >= base && x[STACK] <= base + whole ? x[STACK] - base : 0;
+  const used = base + whole - x[STACK];
+  const room = used >= 0 && used <= whole ? Math.min(whole - used, roomOf(stack, used)) : 0;
   if (size > room) throw new TooLong(name, size, room);
   for (const block of blocks) {
     x[STACK] -= sizeOf([block]);

@@ -7,8 +7,7 @@ import { entryAt, finishStart, load } from "./world.mjs";
 
 const NO_SUCH_NAME = 5;
 const MOST_ENTRIES = 512; // of the exports, or the imports, in which signatures are looked for: in more it would take long
-const ROOM = 1024; // bytes of the stack that the texts and bytes of a call may take where the image doesn't say how much it has
-const STACK = ".stack"; // the claim of that
+const [STACK, ABOVE] = [".stack", ".room"]; // the claims of how many bytes the stack has, and of how many lie above it
 
 /** The signatures that an image claims of exports or imports, by their names: the first of each name that is there. */
 function claimedBy(sandbox, call) {
@@ -24,22 +23,25 @@ function claimedBy(sandbox, call) {
   return new Map([...found].filter(([name]) => names.has(name)));
 }
 
-/** How many bytes of the stack the texts and bytes of a call may take. */
-function roomOf(sandbox) {
+/** The number that is claimed, if there is one. */
+function claimedNumber(sandbox, name) {
   try {
-    return Math.floor(sandbox.imported(STACK) / 2);
+    return sandbox.imported(name);
   } catch (error) {
-    if (error instanceof NoName) return ROOM;
+    if (error instanceof NoName) return undefined;
     throw error;
   }
 }
 
-/** What the table of a sandbox claims: signatures of exports and imports, and the room for texts and bytes. */
-export const claimsOf = (sandbox) =>
-  ({ exports: claimedBy(sandbox, "export_at"), imports: claimedBy(sandbox, "import_at"), room: roomOf(sandbox) });
+/** What the table of a sandbox claims: signatures of exports and imports, and its stack. */
+export const claimsOf = (sandbox) => ({
+  exports: claimedBy(sandbox, "export_at"),
+  imports: claimedBy(sandbox, "import_at"),
+  stack: { size: claimedNumber(sandbox, STACK), above: claimedNumber(sandbox, ABOVE) ?? 0 },
+});
 
 /** These claims, with the signatures that the host states in their place. */
-function withStated({ exports, imports, room }, signatures) {
+function withStated({ exports, imports, stack }, signatures) {
   const stated = Object.entries(signatures).map(([name, text]) => {
     const signature = typeof text === "string" ? parsed(text) : undefined;
     if (!signature) throw new TypeError(`${name}: ${JSON.stringify(text)} is no signature of at most eight words`);
@@ -49,7 +51,7 @@ function withStated({ exports, imports, room }, signatures) {
     }
     return [name, signature];
   });
-  return { exports: new Map([...exports, ...stated]), imports: new Map([...imports, ...stated]), room };
+  return { exports: new Map([...exports, ...stated]), imports: new Map([...imports, ...stated]), stack };
 }
 
 const byCalls = new WeakSet();
@@ -146,7 +148,7 @@ export class Plugin {
     const address = this.address(name);
     const signature = this.#claims.exports.get(name);
     if (!signature) return (...given) => this.#called(address, given);
-    return (...given) => callBySignature(this.sandbox, address, { name, signature }, given, this.#claims.room, this.#options());
+    return (...given) => callBySignature(this.sandbox, address, { name, signature }, given, this.#claims.stack, this.#options());
   }
 
   get signatures() {

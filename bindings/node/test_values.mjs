@@ -18,14 +18,15 @@ const bytes = (text) => Uint8Array.from(Buffer.from(text));
 
 /** The tests by their names, over what builds an image of a source text. */
 export function valueTests(built) {
-  /** The image with these claims among its exports and imports, the numbers of which are 0, and that of its stack. */
-  function claiming(claims, { imports = [], stack, image = built(SOURCE) } = {}) {
+  /** The image with these claims among its exports and imports, the numbers of which are 0, and those of its stack and what is above. */
+  function claiming(claims, { imports = [], stack, above, image = built(SOURCE) } = {}) {
     const end = image.length - 16;
     const [version, first, second] = [0, 4, 8].map((at) => image.readUInt32LE(end + at));
     const init = image.length - image.readUInt32LE(INIT_COUNT);
     const lists = [[end - first - second, end - second], [end - second, end]].map(([from, to]) => image.subarray(from, to));
     const more = [claims, imports].map((some) => some.map((it) => (typeof it === "string" ? entry(0, it) : it)));
     if (stack !== undefined) more[1].push(entry(stack, ".stack"));
+    if (above) more[1].push(entry(above, ".room"));
     const found = lists.map((list, index) => Buffer.concat([list, ...more[index]]));
     const made = Buffer.concat([image.subarray(0, end - first - second), ...found, numbers(version, found[0].length, found[1].length),
       Buffer.from("SFIN")]);
@@ -117,6 +118,27 @@ export function valueTests(built) {
         assert.throws(() => lies.exports.total(new Uint8Array(size)), (error) => error instanceof TooLong && error.room === SIZE - 16);
         assert.deepEqual(lies.sandbox.event, new Stopped());
         right(lies);
+      }
+    },
+    async "what a call that waits leaves of the stack"() {
+      // Each call may take half of what those that wait for it have left, so that none reaches what lies below the stack.
+      for (const above of [0, 64]) {
+        const bottom = DATA + SIZE - 2048 - above;
+        const [below, found] = [bottom - DATA - 512, []];
+        const ask = () => {
+          assert.throws(() => it.exports.keep("y".repeat(1008)), (error) => {
+            found.push([it.sandbox.registers.x[2] - bottom, error.room]);
+            return error instanceof TooLong;
+          });
+          const [, room] = found.at(-1);
+          return room >= 16 ? it.exports.keep("y".repeat(room - (room % 16) - 1)).length : 0;
+        };
+        const it = await plugin([".keep(s)s"], { imports: [".ask()i"], stack: 2048, above, handlers: { ask } });
+        it.sandbox.write(DATA + 512, new Uint8Array(below).fill(122));
+        assert.equal(it.exports.keep("x".repeat(1000)), "x".repeat(1000));
+        // 16 bytes of each frame, the least multiple of 16 that has the text, and 16 bytes above the first
+        assert.deepEqual(found.slice(0, 3), [[1008, 512], [480, 248], [224, 120]]);
+        assert.deepEqual(it.sandbox.read(DATA + 512, below), new Uint8Array(below).fill(122));
       }
     },
     async "a stack pointer that lies"() {
