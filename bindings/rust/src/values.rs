@@ -18,8 +18,10 @@ use crate::{Call, NotReturned, Sandbox};
 use std::error::Error;
 use std::fmt;
 
-/// The size of a stack of which the image doesn't say how large it is.
-const UNKNOWN_STACK: u32 = 2048;
+/// How many bytes of the stack a call may take where the image doesn't say how much it has.
+const ROOM: u32 = 1024;
+/// The stack begins so far below the data's end, and below the room above it.
+const TOP: u64 = 16;
 /// What the stack pointer is a multiple of.
 const STACK_UNIT: u64 = 16;
 
@@ -79,7 +81,7 @@ pub enum ValueError {
     },
     /// A text has a byte 0 in it, at which the function would take it to end.
     ZeroInText,
-    /// The texts and bytes take more of the sandbox's stack than a call may, which is half of it, or than there is.
+    /// The texts and bytes take more of the sandbox's stack than a call may, which is half of what is left of it.
     TooLong {
         /// How many bytes they take.
         bytes: u64,
@@ -357,8 +359,9 @@ pub struct Function {
     name: String,
     address: u32,
     signature: String,
-    /// How many bytes of the stack a call may take.
-    most: u32,
+    /// How many bytes the stack has, if the image claims it, and how many lie above it.
+    stack: Option<u32>,
+    above: u32,
 }
 
 impl Function {
@@ -394,12 +397,12 @@ impl Function {
         name: &str,
         signature: String,
     ) -> Result<Function, FindError> {
-        let stack = names::import(image, sandbox, ".stack").unwrap_or(UNKNOWN_STACK);
         Ok(Function {
             address: names::export(image, sandbox, name)?,
             name: name.to_string(),
             signature,
-            most: stack / 2,
+            stack: names::import(image, sandbox, ".stack").ok(),
+            above: names::import(image, sandbox, ".room").unwrap_or(0),
         })
     }
 
@@ -463,6 +466,15 @@ impl Function {
         })
     }
 
+    /// How many bytes of the stack a call may take: half of what is left where the stack pointer is so far below the data's end.
+    fn most(&self, used: u32) -> u32 {
+        let Some(size) = self.stack else {
+            return ROOM;
+        };
+        let frames = u64::from(used).saturating_sub(u64::from(self.above) + TOP);
+        (u64::from(size).saturating_sub(frames) / 2) as u32
+    }
+
     /// Lays the bytes below the stack pointer of the function that was entered, which gets their addresses.
     fn lay(&self, frame: &mut Frame<'_, '_>, passed: &Passed<'_>) -> Result<Vec<u32>, ValueError> {
         let mut places = Vec::new();
@@ -470,8 +482,9 @@ impl Function {
             return Ok(places);
         }
         let mut registers = frame.sandbox.registers();
-        let there = registers.x[2].saturating_sub(frame.sandbox.data().base);
-        let most = self.most.min(there);
+        let data = frame.sandbox.data();
+        let there = registers.x[2].saturating_sub(data.base);
+        let most = self.most(data.size.saturating_sub(there)).min(there);
         let bytes = passed.bytes.iter().map(|(_, bytes)| bytes.room()).sum();
         let too_long = ValueError::TooLong { bytes, most };
         if bytes > most.into() {

@@ -402,3 +402,39 @@ fn signatures() {
         );
     }
 }
+
+#[test]
+fn what_a_call_that_waits_leaves_of_the_stack() {
+    const SIZE: u32 = 2048;
+    for above in [0, 64] {
+        let mut claims = vec![entry(SIZE, ".stack")];
+        if above > 0 {
+            claims.push(entry(above, ".room"));
+        }
+        let mut plugin = Plugin::with_stack(&claims);
+        let (tell, length) = (plugin.find("tell"), plugin.find("length"));
+        let mut sandbox = plugin.sandbox();
+        let data = sandbox.data();
+        let bottom = data.base + data.size - above - SIZE;
+        let found = tell.call(
+            &mut sandbox,
+            ("x".repeat(1000).as_str(),),
+            STEPS,
+            |sandbox, call| {
+                // 16 bytes above the stack's first frame, 1008 of the text, and 16 of the frame
+                assert_eq!(sandbox.registers().x[2] - bottom, SIZE - 16 - 1008 - 16);
+                let mut told = |count| {
+                    length.call::<_, u32>(sandbox, ("y".repeat(count).as_str(),), STEPS, unserved)
+                };
+                assert_eq!(told(511), Ok(511));
+                let wrong = ValueError::TooLong {
+                    bytes: 528,
+                    most: 512,
+                };
+                assert_eq!(told(512), Err(wrong));
+                sandbox.reply(call.a0, 0).is_ok()
+            },
+        );
+        assert!(found.is_ok_and(|at: i32| at as u32 > bottom));
+    }
+}
