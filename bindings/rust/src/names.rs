@@ -6,6 +6,8 @@ use std::fmt;
 
 /// How many bytes a name has at most.
 const NAME_MOST: usize = 255;
+/// Of how many exports, or imports, a signature is looked for: in more it would take long.
+const MOST_ENTRIES: u32 = 512;
 
 /// Why there is no address of a name.
 #[derive(Clone, Copy, Debug, PartialEq, Eq)]
@@ -87,45 +89,59 @@ pub fn import(image: &[u8], sandbox: u32, name: &str) -> Result<u32, NameError> 
 
 type List = unsafe extern "C" fn(*const u8, usize, u32, u32, *mut u8, *mut u32, *mut u32) -> u32;
 
+/// The entry at an index of those that a call lists, if there is one.
+fn entry_at(
+    call: List,
+    image: &[u8],
+    sandbox: u32,
+    index: u32,
+) -> Result<Option<Entry>, NameError> {
+    let (mut name, mut size, mut address) = ([0; NAME_MOST], 0, 0);
+    // SAFETY: the bytes can be read, the name has room for the longest, and the numbers can be written, during the call.
+    let status = unsafe {
+        let (first, length) = (image.as_ptr(), image.len());
+        call(
+            first,
+            length,
+            sandbox,
+            index,
+            name.as_mut_ptr(),
+            &mut size,
+            &mut address,
+        )
+    };
+    match found(status, address) {
+        Err(NameError::NoName) => Ok(None),
+        found => Ok(Some(Entry {
+            address: found?,
+            name: name[..size as usize]
+                .iter()
+                .copied()
+                .map(char::from)
+                .collect(),
+        })),
+    }
+}
+
 /// The entries that a call lists.
 fn entries(call: List, image: &[u8], sandbox: u32) -> Result<Vec<Entry>, NameError> {
     let mut entries = Vec::new();
-    let (mut name, mut size, mut address) = ([0; NAME_MOST], 0, 0);
     for index in 0..=u32::MAX {
-        // SAFETY: the bytes can be read, the name has room for the longest, and the numbers can be written, during the call.
-        let status = unsafe {
-            let (first, length) = (image.as_ptr(), image.len());
-            call(
-                first,
-                length,
-                sandbox,
-                index,
-                name.as_mut_ptr(),
-                &mut size,
-                &mut address,
-            )
-        };
-        match found(status, address) {
-            Err(NameError::NoName) => break,
-            found => entries.push(Entry {
-                address: found?,
-                name: name[..size as usize]
-                    .iter()
-                    .copied()
-                    .map(char::from)
-                    .collect(),
-            }),
+        match entry_at(call, image, sandbox, index)? {
+            Some(entry) => entries.push(entry),
+            None => break,
         }
     }
     Ok(entries)
 }
 
-/// The functions that a host may call, the objects that it may use, and the claims about them.
+/// The functions that a host may call, the objects that it may use, and the claims about them. Each costs a look at the whole
+/// table, so a large one takes long.
 pub fn exports(image: &[u8], sandbox: u32) -> Result<Vec<Entry>, NameError> {
     entries(sys::sfi_run_export_at, image, sandbox)
 }
 
-/// The gates that the code calls, and the claims about them and the stack.
+/// The gates that the code calls, and the claims about them and the stack. Each costs as much.
 pub fn imports(image: &[u8], sandbox: u32) -> Result<Vec<Entry>, NameError> {
     entries(sys::sfi_run_import_at, image, sandbox)
 }
@@ -148,18 +164,28 @@ pub(crate) fn is_signature(text: &str) -> bool {
     words.is_some_and(|words| words <= 8) && b"iulmfdpsv".contains(result)
 }
 
-/// The signature that the first claim about a name has which can be read.
-fn claimed(entries: Vec<Entry>, name: &str) -> Option<String> {
-    let mut claims = entries.into_iter().filter(|entry| entry.address == 0);
-    claims.find_map(|entry| {
+/// The signature that the first claim about a name has which can be read, of entries that aren't too many.
+fn claimed(
+    call: List,
+    image: &[u8],
+    sandbox: u32,
+    name: &str,
+) -> Result<Option<String>, NameError> {
+    if entry_at(call, image, sandbox, MOST_ENTRIES)?.is_some() {
+        return Ok(None);
+    }
+    let entries = entries(call, image, sandbox)?.into_iter();
+    let mut claims = entries.filter(|entry| entry.address == 0);
+    Ok(claims.find_map(|entry| {
         let text = entry.name.strip_prefix('.')?.strip_prefix(name)?;
         is_signature(text).then(|| text.to_string())
-    })
+    }))
 }
 
 /// What the image claims that a function takes and returns, as `(ii)i` of `int add(int, int)`: docs/IMAGE.md has the letters.
+/// Of more than 512 exports with their claims it claims nothing; so it is with imports.
 pub fn signature(image: &[u8], sandbox: u32, name: &str) -> Result<Option<String>, NameError> {
-    Ok(claimed(exports(image, sandbox)?, name))
+    claimed(sys::sfi_run_export_at, image, sandbox, name)
 }
 
 /// What the image claims that the code passes to a gate, and takes from it.
@@ -168,7 +194,7 @@ pub fn import_signature(
     sandbox: u32,
     name: &str,
 ) -> Result<Option<String>, NameError> {
-    Ok(claimed(imports(image, sandbox)?, name))
+    claimed(sys::sfi_run_import_at, image, sandbox, name)
 }
 
 /// The version of the host's interface for which the code is made.

@@ -1,5 +1,7 @@
 //! Tests of `names`. The bytes of a table are those of docs/IMAGE.md.
-use sfi_run::names::{api, export, exports, import, imports, Entry, NameError};
+use sfi_run::names::{
+    api, export, exports, import, import_signature, imports, signature, Entry, NameError,
+};
 
 const CODE: u32 = 0x0100_0000;
 
@@ -10,14 +12,14 @@ fn entry(address: u32, name: &str) -> Vec<u8> {
     bytes
 }
 
-/// The image of one sandbox of 256 bytes, whose code is 64 times ebreak, with a table that has this version.
+/// The image of one sandbox of 4096 bytes, whose code is 64 times ebreak, with a table that has this version.
 fn named(exports: &[u8], imports: &[u8], version: u32) -> Vec<u8> {
     let mut table = [exports, imports].concat();
     for number in [version, exports.len() as u32, imports.len() as u32] {
         table.extend(number.to_le_bytes());
     }
     table.extend(b"SFIN");
-    let head = [1, CODE, 256, 0x0180_0000, 256, CODE, 0, table.len() as u32];
+    let head = [1, CODE, 256, 0x0180_0000, 4096, CODE, 0, table.len() as u32];
     let words = head.into_iter().chain([0x0010_0073; 64]);
     let mut image = b"SFI1".to_vec();
     image.extend(words.flat_map(u32::to_le_bytes));
@@ -59,5 +61,21 @@ fn what_is_missing() {
             assert_eq!(exports(image, sandbox), Err(why));
             assert_eq!(imports(image, sandbox), Err(why));
         }
+    }
+}
+
+#[test]
+fn signatures_of_so_many() {
+    for (others, found) in [(510, Some("()v".to_string())), (511, None)] {
+        let mut entries = [entry(CODE, "add"), entry(0, ".add()v")].concat();
+        entries.extend((0..others).flat_map(|_| entry(0, "x")));
+        assert_eq!(
+            signature(&named(&entries, &[], 0), 0, "add"),
+            Ok(found.clone())
+        );
+        assert_eq!(
+            import_signature(&named(&[], &entries, 0), 0, "add"),
+            Ok(found)
+        );
     }
 }
