@@ -57,7 +57,7 @@ static void make(const struct entry *exports, const struct entry *imports) {
     for (int k = 0; k < 3; k++)
         put(numbers[k]);
     put_text("SFIN");
-    const uint32_t all = (uint32_t)length, fields[] = {1, CODE, 256, DATA, 1024, CODE, 0, all - (uint32_t)head};
+    const uint32_t all = (uint32_t)length, fields[] = {1, CODE, 256, DATA, 4096, CODE, 0, all - (uint32_t)head};
     length = 0;
     put_text("SFI1");
     for (int k = 0; k < 8; k++)
@@ -140,6 +140,18 @@ static void signatures(void) {
            "why there is no table");
 }
 
+static void signatures_of_so_many(void) {
+    struct entry exports[SFI_RUN_SIGNED_MOST + 2] = {{CODE, "add"}, {0, ".add(ii)i"}};
+    const struct entry none[] = {{0, NULL}};
+    for (uint32_t k = 2; k < SFI_RUN_SIGNED_MOST; k++)
+        exports[k].name = "x";
+    make(exports, none);
+    wanted(claims(SFI_RUN_EXPORTS, "add", "(ii)i"), "a claim among so many names");
+    exports[SFI_RUN_SIGNED_MOST].name = "x";
+    make(exports, none);
+    wanted(claims(SFI_RUN_EXPORTS, "add", NULL), "none among more");
+}
+
 static void print(lister *list, const char *what) {
     uint8_t name[SFI_RUN_NAME_MOST];
     uint32_t size, number, status, index = 0;
@@ -161,6 +173,7 @@ int main(int count, char **words) {
     }
     lists();
     signatures();
+    signatures_of_so_many();
     puts("all is so");
     return 0;
 }

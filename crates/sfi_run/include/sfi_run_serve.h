@@ -167,22 +167,32 @@ static inline bool sfi_run_is_signature(const char *text, size_t size) {
 /* Among which names of a table a signature is looked for. */
 enum sfi_run_side { SFI_RUN_EXPORTS, SFI_RUN_IMPORTS };
 
+/* Of how many names a signature is looked for: each costs a look at the whole table, and in more it would take long. */
+#define SFI_RUN_SIGNED_MOST 512
+
+static inline uint32_t sfi_run_entry_at(const uint8_t *image, size_t length, uint32_t sandbox, enum sfi_run_side side,
+                                        uint32_t index, uint8_t name[SFI_RUN_NAME_MOST], uint32_t *size, uint32_t *number) {
+    return side == SFI_RUN_EXPORTS ? sfi_run_export_at(image, length, sandbox, index, name, size, number)
+                                   : sfi_run_import_at(image, length, sandbox, index, name, size, number);
+}
+
 /*
  * Writes to `signature` what the image claims of the function `name`, an export or an import of one of its sandboxes: "(ii)i"
  * of `int add(int, int)`, ended by 0 (docs/IMAGE.md has the letters). It is the first entry of number 0 among those names which
  * is a point, `name` and a signature. Returns one of enum sfi_run_names, where SFI_RUN_NAMES_NO_NAME says that the table claims
- * nothing of it; nothing is written then. It is a claim of the image's author, and no premise of anything: a host compares it
- * with what it means to call, so that the two don't mistake each other.
+ * nothing of it, or has more than SFI_RUN_SIGNED_MOST of those names with their claims; nothing is written then. It is a claim
+ * of the image's author, and no premise of anything: a host compares it with what it means to call, so that the two don't
+ * mistake each other.
  */
 static inline uint32_t sfi_run_signature(const uint8_t *image, size_t length, uint32_t sandbox, enum sfi_run_side side,
                                          const char *name, char signature[SFI_RUN_NAME_MOST]) {
     uint8_t entry[SFI_RUN_NAME_MOST];
     const size_t before = strlen(name) + 1;
     uint32_t size, number, index;
+    if (sfi_run_entry_at(image, length, sandbox, side, SFI_RUN_SIGNED_MOST, entry, &size, &number) == SFI_RUN_NAMES_FOUND)
+        return SFI_RUN_NAMES_NO_NAME;
     for (index = 0;; index++) {
-        const uint32_t found = side == SFI_RUN_EXPORTS
-                                   ? sfi_run_export_at(image, length, sandbox, index, entry, &size, &number)
-                                   : sfi_run_import_at(image, length, sandbox, index, entry, &size, &number);
+        const uint32_t found = sfi_run_entry_at(image, length, sandbox, side, index, entry, &size, &number);
         if (found != SFI_RUN_NAMES_FOUND)
             return found;
         if (number != 0 || size <= before || entry[0] != '.' || memcmp(entry + 1, name, before - 1) != 0 ||
