@@ -7,7 +7,7 @@ import subprocess
 
 from testing import COMPILERS, GCC, SFI, SFI_CC, SFI_IMAGE, Folder, needs, needs_a_compiler, needs_program
 
-LEVELS = ("-O0", "-O2", "-Os")
+WAYS = (("-O0", "2"), ("-O2", "words"), ("-Os", "2"), ("-O3", "words"))  # levels, and formats, which change nothing of it
 TYPES = """
 #include "gates.h"
 #include <stdarg.h>
@@ -125,23 +125,21 @@ class Signatures(Folder):
         declarations = [f"T({text}) {{name}}(T({text}) it)" for text in VALUES]
         path = self.write("values.c", TYPES + source(declarations))
         for compiler in COMPILERS:
-            for level in LEVELS:
-                for image_format in ("2", "words"):
-                    self.compare(path, [f"({letter}){letter}" for letter in VALUES.values()], "--cc", compiler, level, "--format", image_format)
+            for level, image_format in WAYS:
+                self.compare(path, [f"({letter}){letter}" for letter in VALUES.values()], "--cc", compiler, level, "--format", image_format)
 
     def test_functions(self):
         path = self.write("functions.c", TYPES + source([text.replace("F(", "{name}(", 1) for text in FUNCTIONS]))
         for compiler in COMPILERS:
-            for level in LEVELS:
-                for image_format in ("2", "words"):
-                    self.compare(path, FUNCTIONS.values(), "--cc", compiler, level, "--format", image_format)
+            for level, image_format in WAYS:
+                self.compare(path, FUNCTIONS.values(), "--cc", compiler, level, "--format", image_format)
 
     def test_plus_plus(self):
         declarations = [f'T({text}) {{name}}(T({text}) it)' for text in PLUS_PLUS]
         path = self.write("values.cc", OF_PLUS_PLUS + 'extern "C" {\n' + source(declarations) + "}\n")
         for compiler in COMPILERS:
-            for level in LEVELS:
-                self.compare(path, [f"({letter}){letter}" for letter in PLUS_PLUS.values()], "--cc", compiler, level, "-w")
+            for level, image_format in WAYS:
+                self.compare(path, [f"({letter}){letter}" for letter in PLUS_PLUS.values()], "--cc", compiler, level, "-w", "--format", image_format)
             inside = self.write("inside.cc", '#include "gates.h"\nint twice(const char *it) { return *it; }\nnamespace n {\nextern "C" SFI_EXPORT int twice(int it) { return 2 * it; }\n}\n')
             self.assertEqual(told(self.made("--cc", compiler, inside), "export"), {"twice": "(i)i"})
 
