@@ -210,8 +210,8 @@ export interface PluginOptions {
 
 /** A sandbox of an image of its own, whose names and signatures are what the image says of itself. An export that has a signature takes
  * its values. Arguments of another count, type or range throw WrongArguments, and texts and bytes that don't fit TooLong: both before
- * anything runs. Texts and bytes are copied onto the sandbox's stack, where they stay as long as the call, and may take half of it, or
- * 1024 bytes where the image doesn't say how much it has. What the sandbox leaves in a buffer (w) is copied back when the call returns. A
+ * anything runs. Texts and bytes are copied onto the sandbox's stack, where they stay as long as the call, and may take half of what
+ * is left of it, or 1024 bytes where the image doesn't say how much it has. What the sandbox leaves in a buffer (w) is copied back when the call returns. A
  * text that it gives is read up to its byte 0; OutsideData tells that it doesn't lie in its data. */
 export declare class Plugin {
   private constructor();
