@@ -78,7 +78,7 @@ class Claims:
         """These, with those that the host states in their place. Raises ValueError where one is none, and WrongSignature."""
         stated: dict[str, Signature] = {}
         for name, text in signatures.items():
-            signature = parsed(text)
+            signature = parsed(text) if isinstance(text, str) else None
             if signature is None:
                 raise ValueError(f"{name}: {text!r} is no signature of at most eight words")
             for claims in (self.exports, self.imports):
@@ -175,7 +175,7 @@ class Plugin:
         `by_call`, it gets the Call, and answers its result: of an int the lowest 32 bits, 64 bits as the pair (low, high), 0 as
         None, or nothing that counts, once it has replied by `call.reply`. Those whose name the image doesn't import are never
         called. `signatures` states what exports and imports take and give, as {"add": "(ii)i"}, in place of what the image
-        claims. A call has at most `steps` steps. Raises what World does, NotReturned, and WrongSignature where the image claims
+        claims: of which types a handler's values are, and what a call gives, is the image's choice without it. A call has at most `steps` steps. Raises what World does, NotReturned, and WrongSignature where the image claims
         another signature than that which is stated."""
         image = bytes(memoryview(image))
         self._begin(image, library, World(image, library), number, steps, signatures, handlers)

@@ -234,7 +234,7 @@ class Claims(Calls):
             self.assertEqual(str(wrong), f"add: the host states (ii)i, and the image claims {claimed}")
         with self.assertRaisesRegex(sfi_run.WrongSignature, r"ask: the host states \(s\)v, and the image claims \(\)v"):
             self.plugin(imports=(".ask()v",), signatures=stated)
-        for wrong in ("ii", "(ii)", "(iiiiiiiii)i", "(z)i"):
+        for wrong in ("ii", "(ii)", "(iiiiiiiii)i", "(z)i", 5, b"(ii)i", None):
             with self.assertRaisesRegex(ValueError, "add: .* is no signature"):
                 self.plugin(signatures={"add": wrong})
 
