@@ -186,8 +186,10 @@ export declare class Library {
  * w      bytes that are read and written, and their number: what has bytes; not as a result
  * v      nothing: undefined; only as a result
  *
- * A parameter takes one register, or two (l, m, d, b and w), and a function has at most eight. What an image claims may be false:
- * then calls go wrong, and nothing gets out of the sandbox. */
+ * A parameter takes one register, or two (l, m, d, b and w), and a function has at most eight. An i or u isn't cut to a narrower type,
+ * as unsigned char or _Bool: a host passes, and its handlers answer, what that holds, else the function goes wrong. What an image
+ * claims may be false: then calls go wrong, and nothing gets out of the sandbox. But by it the image chooses of which types a handler's
+ * values are, unless the host states the signature. */
 export type Signature = string;
 /** What goes into a function by its signature; without one a number. */
 export type Value = number | bigint | boolean | string | Bytes;

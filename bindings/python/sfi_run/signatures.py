@@ -12,8 +12,10 @@ them that of the result:
     w       bytes that are read and written, and their number: a bytearray; not as a result
     v       nothing: None; only as a result
 
-A parameter takes one register, or two (l, m, d, b and w), and a function has at most eight. What is said here of an image is its
-author's claim: a false one makes calls go wrong, and lets nothing out of the sandbox.
+A parameter takes one register, or two (l, m, d, b and w), and a function has at most eight. An i or u isn't cut to a narrower type,
+as unsigned char or _Bool: a host passes, and its handlers answer, what that holds, else the function goes wrong. What is said here of
+an image is its author's claim: a false one makes calls go wrong, and lets nothing out of the sandbox. But by it the image chooses of
+which types a handler's values are, unless the host states the signature.
 """
 from __future__ import annotations
 
