@@ -5,11 +5,12 @@ use Rattle.sfi_check.specs.declared.refusal.Refusal.TheVariants.{Layout, Finding
 use Rattle.sfi_image.specs.Faults.{IsFault}
 use Rattle.sfi_image.specs.declared.fault.LayoutFault.{LayoutFault}
 use Rattle.sfi_rules.specs.declared.finding.Finding.{Finding}
-use Rattle.sfi_answers.specs.Answers.{IsRefusalText, SaysRefused, on_verdict, Refuses, Answers, IsStop, GivesImageThat, HasSomeFault, SaysVerdict, accepted_text, refused_line, refused_text}
+use Rattle.sfi_answers.specs.Answers.{IsRefusalText, SaysRefused, on_verdict, Refuses, Answers, IsLayoutStop, IsStop, GivesImageThat, HasSomeFault, SaysVerdict, accepted_text, refused_line, refused_text}
+use Rattle.sfi_answers.specs.FaultTexts.{IsLayoutLine, stop_text}
 use Rattle.sfi_answers.specs.declared.fault.Stop.{Stop}
 use Rattle.sfi_answers.specs.declared.fault.Stop.TheVariants as stop
 use Rattle.sfi_answers.specs.declared.verdict.Answer.{Answer}
-use Rattle.std.specs.Prelude.{IsTrue}
+use Rattle.std.specs.Prelude.{IfOk, IsTrue, Result}
 use Rattle.std.specs.Io.KnownBytes.{Consumes}
 use Rattle.std.specs.Fmt.{option_append}
 use Rattle.sfi_io.specs.Hexadecimal.{BeginsAsImage, GivesNoImage, IsInput}
@@ -62,6 +63,15 @@ of_stop P (stop.Input fault) is other = is
 of_stop P (stop.Layout fault) is other = is
 of_stop P (stop.Build fault) is other = is
 of_stop P stop.Memory is other = absurd (other refl)
+
+-- the line of such a stop on an image's bytes
+pub line_of_stop : {E : Type 0} (bytes : List ℕ) (why : Stop) (r : Result Answer E) → IsLayoutStop bytes why → IfOk r (λ a. why ≢ stop.Memory) → IfOk r (λ a. a.output.items ≡ stop_text why)
+    → IfOk r (λ a. a.status ≡ 2 → IsLayoutLine bytes a.output.items)
+line_of_stop bytes (stop.Layout k) (Ok a) is other text = λ _. (k, is, text)
+line_of_stop bytes (stop.Input fault) (Ok a) is other text = absurd is
+line_of_stop bytes (stop.Build fault) (Ok a) is other text = absurd is
+line_of_stop bytes stop.Memory (Ok a) is other text = absurd (other refl)
+line_of_stop bytes why (Err e) is other text = tt
 
 -- ==== What is answered on an image that is read, by its first bytes.
 
@@ -122,12 +132,15 @@ says_refused count first text all is j =
     (inr (record { found = v.1; refused = v.2; status_is = refl; text_is = is ∙ line_of_count count first v.1 v.3 }))
 
 -- and one with a fault, whether the stream was read to its end or not
-pub streamed_fault : (k : LayoutFault) (all : List ℕ) → IsJudged (answers.Layout k) all → HasSomeFault all
-streamed_fault k all j = by j.verdict.layout
+pub streamed_is : (k : LayoutFault) (all : List ℕ) → IsJudged (answers.Layout k) all → IsFault all k
+streamed_is k all j = by j.verdict.layout
   where
-    by : ((j.ends ≡ true) × IsFault j.given k) ⊎ HasFaultWhateverFollows j.given k → HasSomeFault all
-    by (inl at_end) = (k, subst (λ (l : List ℕ). IsFault l k) (gave_all _ all j at_end.0) at_end.1)
-    by (inr onwards) = (k, subst (λ (l : List ℕ). IsFault l k) (sym j.all_are) (onwards j.rest))
+    by : ((j.ends ≡ true) × IsFault j.given k) ⊎ HasFaultWhateverFollows j.given k → IsFault all k
+    by (inl at_end) = subst (λ (l : List ℕ). IsFault l k) (gave_all _ all j at_end.0) at_end.1
+    by (inr onwards) = subst (λ (l : List ℕ). IsFault l k) (sym j.all_are) (onwards j.rest)
+
+pub streamed_fault : (k : LayoutFault) (all : List ℕ) → IsJudged (answers.Layout k) all → HasSomeFault all
+streamed_fault k all j = (k, streamed_is k all j)
 
 -- the verdict on a stream of a reader is one on all that the reader told
 pub judged : {S : Type 0} (known : S → Option (List ℕ)) (failed : S → Bool) (s t : S) (answer : StreamAnswer) (told : Option (List ℕ)) (P : List ℕ → Type 0) → known s ≡ told

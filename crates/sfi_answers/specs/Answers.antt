@@ -86,6 +86,13 @@ pub record Answers (command : Meaning) (input : List ℕ) (result : Result Answe
   pub only_refused : command.is_refused input → AnswersStatus 1 result
   pub only_fault : command.has_fault input → IsErr result
 
+-- a command on an image's bytes stops so: for the fault of their layout, or for want of memory
+abbrev pub IsLayoutStop : List ℕ → Stop → Type 0
+IsLayoutStop bytes (stop.Input fault) = ⊥
+IsLayoutStop bytes (stop.Layout k) = IsFault bytes k
+IsLayoutStop bytes (stop.Build fault) = ⊥
+IsLayoutStop bytes stop.Memory = Unit {0}
+
 -- ==== The command `check`, on an image's bytes.
 
 -- ---- the lines that say whether an image is accepted

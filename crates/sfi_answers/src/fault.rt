@@ -2,11 +2,13 @@
 
 ghost use Rattle.std.specs.Prelude.{◌≡◌, ◌≢◌, IfOk};
 ghost use Rattle.sfi_answers.specs.Answers.{StopsBuild, stop_of};
+ghost use Rattle.sfi_answers.specs.FaultTexts.{stop_text};
 ghost use Rattle.sfi_answers.specs.declared.fault.Stop.TheVariants.{Memory};
 
+use crate::fault_lines::stop_line;
 use crate::verdict::Answer;
 use sfi_build::BuildFault;
-use sfi_image::{ImageFault, LayoutFault};
+use sfi_image::LayoutFault;
 use sfi_io::{HexFault, HexStop};
 use sfi_link::LinkFault;
 use sfi_rewrite::RewriteFault;
@@ -84,40 +86,11 @@ impl From<BuildFault> for Stop {
     }
 }
 
-/// The line that names a fault of the image.
-pub(crate) fn layout_line(alloc: Global, fault: LayoutFault) -> Result<String, AllocError> {
-    let fault = ImageFault::Layout(fault);
-    format!(in alloc; "{fault}\n")
-}
-
-/// The line that names a fault of the text.
-fn input_line(alloc: Global, fault: InputFault) -> Result<String, AllocError> {
-    match fault {
-        InputFault::Hex(fault) => format!(in alloc; "{fault}\n"),
-        InputFault::Utf8 => String::from_str(alloc, "input fault utf8\n"),
-        InputFault::NotOld => String::from_str(alloc, "convert fault 2 NotOld\n"),
-        InputFault::Words => String::from_str(alloc, "convert fault 5 Words\n"),
-        InputFault::NoSandbox => String::from_str(alloc, "move fault 2 NoSandbox\n"),
-        InputFault::NoPlace => String::from_str(alloc, "move fault 3 NoPlace\n"),
-        InputFault::NoFile => String::from_str(alloc, "exec fault no file\n"),
-    }
-}
-
-/// The line that says why a command gives no verdict.
-fn stop_line(alloc: Global, stop: Stop) -> Result<String, AllocError>
-    ensures { IfOk result (λ line. stop ≢ Memory) }
-{
-    match stop {
-        Stop::Input(fault) => input_line(alloc, fault),
-        Stop::Layout(fault) => layout_line(alloc, fault),
-        Stop::Build(fault) => format!(in alloc; "{fault}\n"),
-        Stop::Memory => Err(AllocError),
-    }
-}
-
 /// What is answered where a command gives no verdict.
 pub fn stop_answer(alloc: Global, stop: Stop) -> Result<Answer, AllocError>
-    ensures { IfOk result (λ a. (a.status ≡ 2) × (stop ≢ Memory)) }
+    ensures status { IfOk result (λ a. a.status ≡ 2) }
+    ensures memory { IfOk result (λ a. stop ≢ Memory) }
+    ensures text { IfOk result (λ a. a.output.items ≡ stop_text stop) }
 {
     Ok(Answer::lines(2, stop_line(alloc, stop)?))
 }

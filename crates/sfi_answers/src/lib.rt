@@ -7,6 +7,7 @@ mod building;
 mod checking;
 mod converting;
 mod fault;
+mod fault_lines;
 mod image;
 mod listing;
 mod mapping;

@@ -1,6 +1,7 @@
 //! The command `dis`.
 
-ghost use Rattle.sfi_answers.specs.Answers.{Answers};
+ghost use Rattle.std.specs.Prelude.{IfErr};
+ghost use Rattle.sfi_answers.specs.Answers.{Answers, IsLayoutStop};
 ghost use Rattle.sfi_answers.specs.Answers.{dis};
 
 use crate::fault::Stop;
@@ -11,7 +12,8 @@ use std::alloc::Global;
 
 /// The listing of the image with these bytes.
 pub fn listing_answer(alloc: Global, bytes: &[u8]) -> Result<Answer, Stop>
-    ensures { Answers dis bytes.now result }
+    ensures answers { Answers dis bytes.now result }
+    ensures which { IfErr result (IsLayoutStop bytes.now) }
 {
     match parse_image(alloc, bytes) {
         Ok(image) => Ok(Answer::lines(0, listing_text(alloc, &image)?)),

@@ -3,9 +3,10 @@
 ghost use Rattle.std.specs.Prelude.{◌≡◌, ◌<◌, ◌≤◌, ℕ, List, Bool, true, false, IfOk, IfSome, string_bytes};
 ghost use Rattle.sfi_check.specs.Verdict.{IsVerdictOn};
 ghost use Rattle.sfi_answers.specs.Answers.{HasSomeFault, check};
+ghost use Rattle.sfi_answers.specs.FaultTexts.{IsLayoutLine};
 ghost use Rattle.sfi_answers.specs.private.{IsJudged};
 
-use crate::fault::layout_line;
+use crate::fault_lines::layout_line;
 use crate::verdict::{Answer, accepted_line, refused_line};
 use sfi_check::{StreamAnswer, check_stream};
 use sfi_image::ReaderSource;
@@ -21,6 +22,8 @@ pub(crate) fn stream_answer(alloc: Global, verdict: StreamAnswer) -> Result<Answ
         → (check false).says all a.status a.output.items) }
     ensures fault { IfOk result (λ a. a.status ≡ 2 → (all : List ℕ) → IsJudged verdict all
         → HasSomeFault all) }
+    ensures names { IfOk result (λ a. a.status ≡ 2 → (all : List ℕ) → IsJudged verdict all
+        → IsLayoutLine all a.output.items) }
 {
     match verdict {
         StreamAnswer::Accepted { sandboxes, bundles } => Ok(Answer::lines(
@@ -45,6 +48,8 @@ pub fn raw_answer<R: Read>(alloc: Global, reader: &mut R) -> Result<Answer, Read
         (λ bytes. (check false).says bytes a.status a.output.items)) }
     ensures fault { IfOk result
         (λ a. a.status ≡ 2 → IfSome (R.remaining reader.old) (check false).has_fault) }
+    ensures names { IfOk result (λ a. a.status ≡ 2 → IfSome (R.remaining reader.old)
+        (λ bytes. IsLayoutLine bytes a.output.items)) }
 {
     let mut source = ReaderSource::new(reader);
     let verdict = check_stream(&mut source);
