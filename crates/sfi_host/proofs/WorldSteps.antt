@@ -44,6 +44,7 @@ module _ (q p : Part) (same : bounds_of q ≡ bounds_of p) (m : Bytes) (there : 
   safe_turn s (Steps r) h = record {
     within = λ i n stands a accesses. elim (h.within i n stands a accesses) [ inl d ↦ inl (in_data a d) | inr g ↦ inr (in_guard a g) ];
     trapped = λ i n stands a accesses inside. h.trapped i n stands a accesses (guard_in a inside);
+    stays = λ a out. h.stays a (λ held. out (in_data a held));
     called = λ e. is_gate s.hart.pc (h.called e);
   }
   safe_turn s (Replies after) h = is_gate s.hart.pc h
