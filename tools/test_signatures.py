@@ -15,6 +15,10 @@ TYPES = """
 #include <stdint.h>
 enum fruit { APPLE, PEAR };
 enum sign { MINUS = -1, PLUS };
+enum __attribute__((packed)) packed_c { C_MOST = 255 };
+enum __attribute__((packed)) packed_y { Y_LEAST = -128 };
+enum __attribute__((packed)) packed_k { K_LEAST = 256 };
+enum __attribute__((packed)) packed_h { H_LEAST = -129 };
 struct pair { int a, b; };
 union either { int a; float b; };
 typedef char letter;
@@ -27,15 +31,16 @@ typedef struct { char only; } tiny;
 """
 # Each a parameter and a result.
 VALUES = {
-    "signed char": "i", "short": "i", "int": "i", "long": "i", "int8_t": "i", "int32_t": "i", "enum sign": "i", "const int": "i", "volatile short": "i",
-    "unsigned char": "u", "unsigned short": "u", "unsigned": "u", "unsigned long": "u", "_Bool": "u", "char": "u", "enum fruit": "u",
+    "signed char": "y", "int8_t": "y", "char": "c", "unsigned char": "c", "uint8_t": "c", "letter": "c", "enum packed_c": "c", "enum packed_y": "y",
+    "short": "h", "int16_t": "h", "volatile short": "h", "unsigned short": "k", "uint16_t": "k", "enum packed_h": "h", "enum packed_k": "k", "_Bool": "t", "const _Bool": "t",
+    "int": "i", "long": "i", "int32_t": "i", "enum sign": "i", "const int": "i", "unsigned": "u", "unsigned long": "u", "enum fruit": "u",
     "third": "u", "size_t": "u", "uintptr_t": "u", "wchar_t": "i", "long long": "l", "int64_t": "l", "unsigned long long": "m", "uint64_t": "m",
     "float": "f", "double": "d", "const volatile double": "d", "const char *": "s", "message": "s", "const char *const": "s",
     "char const *restrict": "s", "char *": "p", "const volatile char *": "p", "const signed char *": "p", "const unsigned char *": "p", "void *": "p", "const void *": "p",
     "int *restrict": "p", "const char **": "p", "struct pair *": "p", "union either *const": "p", "struct unknown *": "p", "int (*)(int)": "p", "void (**)(void)": "p", "int (*)[3]": "p",
 }
-PLUS_PLUS = {"bool": "u", "const int &": "p", "struct pair &": "p", "int &&": "p", "char32_t": "u", "enum small": "u", "enum large": "l", "const char *": "s", "wide *": "p"}
-OF_PLUS_PLUS = ('#include "gates.h"\nstruct pair { int a, b; };\nenum small : unsigned char { ONE };\nenum large : long long { TWO };\nstruct wide { virtual int f(); };\n'
+PLUS_PLUS = {"bool": "t", "char16_t": "k", "enum sure": "t", "enum low": "h", "const int &": "p", "struct pair &": "p", "int &&": "p", "char32_t": "u", "enum small": "c", "enum large": "l", "const char *": "s", "wide *": "p"}
+OF_PLUS_PLUS = ('#include "gates.h"\nstruct pair { int a, b; };\nenum small : unsigned char { ONE };\nenum large : long long { TWO };\nenum sure : bool { NO };\nenum low : short { THREE };\nstruct wide { virtual int f(); };\n'
                 "#define T(...) __typeof__(__VA_ARGS__)\n")
 # Functions of the name F.
 FUNCTIONS = {
@@ -55,6 +60,7 @@ FUNCTIONS = {
     "__attribute__((noreturn)) void F(int code)": "(i)v",
     "__attribute__((const)) int F(int number)": "(i)i",
     "int F(va_list rest)": "(p)i",
+    "_Bool F(unsigned char a, signed char b, unsigned short c, short d, char e)": "(cykhc)t",
     # Those without a signature.
     "int F(int a, int b, int c, int d, int e, int f, int g, int h, int i)": None,
     "int F(long long a, double b, unsigned long long c, long long d, int e)": None,
@@ -163,7 +169,7 @@ class Signatures(Folder):
     def test_parts(self):
         """By way of an object, an archive, and a preprocessed source; the object's names are those of its own compilation."""
         path = self.write("part.c", '#include "gates.h"\nSFI_IMPORT unsigned log_it(const char *text);\nSFI_EXPORT unsigned part(SFI_BYTES(it)) { return it[it_size] + log_it("a"); }\n'
-                                    "int more(short it) { return it; }\n")
+                                    "int more(int it) { return it; }\n")
         wanted = {"part": "(b)u"}, {"log_it": "(s)u"}
         for compiler in COMPILERS:
             self.call("--cc", compiler, "-c", path)
@@ -176,6 +182,22 @@ class Signatures(Folder):
                 self.assertEqual((told(image, "export"), told(image, "import")), wanted, words)
             self.assertEqual(told(self.made("--export", "more", "more.o"), "export"), {"part": "(b)u", "more": "(i)i"})
             self.assertEqual(told(self.made("--no-signatures", "more.o"), "export"), {})
+
+    def test_integers_of_other_widths(self):
+        """What such a type holds isn't what its bytes do."""
+        path = self.write("widths.c", '#include "gates.h"\nSFI_EXPORT int f(_BitInt(7) it) { return it; }\nSFI_EXPORT unsigned _BitInt(8) g(void) { return 0; }\nSFI_EXPORT void h(void) { }\n')
+        if "clang" in COMPILERS:
+            self.assertEqual(told(self.made("--cc", "clang", path), "export"), {"h": "()v"})
+
+    def test_more_names_than_hosts_read(self):
+        """Of 512 exports with their claims, 2 for each function, hosts take signatures, and of no more."""
+        for definition, count, too_many in (("SFI_EXPORT void f{0}(void) {{ }}\n", 256, None), ("SFI_EXPORT void f{0}(void) {{ }}\n", 257, 514),
+                                            ("SFI_EXPORT int f{0};\n", 600, None)):
+            path = self.write("many.c", '#include "gates.h"\n' + "".join(definition.format(number) for number in range(count)))
+            says = f"sfi-cc: {too_many} exports with their claims are more than 512, so hosts take no signature of them\n" if too_many else ""
+            for output in ("many.image", "many.elf"):
+                self.call("-O2", "-o", self.path(output), path, says=says)
+            self.call("-O2", "--no-signatures", "-o", self.path("many.image"), path)
 
     def test_files_that_differ(self):
         """A call in one file that another declares in another way: the image tells none of the two."""

@@ -177,7 +177,10 @@ export declare class Library {
  * signed integers, which gives a third. Between the parentheses there is a letter for each parameter, and after them that of the
  * result:
  *
- * i, u   an integer of at most 32 bits, signed and unsigned: a number from -2^31 to 2^32 - 1 for both, or a boolean
+ * y, c   an integer of 8 bits, signed and unsigned: a number from -128 to 127, and from 0 to 255
+ * h, k   an integer of 16 bits: a number from -32768 to 32767, and from 0 to 65535
+ * t      a bool: a boolean. What a sandbox gives is true unless its lowest 8 bits are 0
+ * i, u   an integer of 32 bits, signed and unsigned: a number from -2^31 to 2^32 - 1 for both, or a boolean
  * l, m   an integer of 64 bits, signed and unsigned: a bigint, or a number that is exact
  * f, d   a float and a double: a number
  * p      an address: a number from 0 to 2^32 - 1
@@ -186,17 +189,17 @@ export declare class Library {
  * w      bytes that are read and written, and their number: what has bytes; not as a result
  * v      nothing: undefined; only as a result
  *
- * A parameter takes one register, or two (l, m, d, b and w), and a function has at most eight. An i or u isn't cut to a narrower type,
- * as unsigned char or _Bool: a host passes, and its handlers answer, what that holds, else the function goes wrong. What an image
- * claims may be false: then calls go wrong, and nothing gets out of the sandbox. But by it the image chooses of which types a handler's
- * values are, unless the host states the signature. */
+ * A parameter takes one register, or two (l, m, d, b and w), and a function has at most eight. What a sandbox gives of 8 or 16 bits is
+ * what the lowest bits of the register say. What an image claims may be false: then calls go wrong, and nothing gets out of the
+ * sandbox. But by it the image chooses of which types a handler's values are, unless the host states signatures. */
 export type Signature = string;
 /** What goes into a function by its signature; without one a number. */
 export type Value = number | bigint | boolean | string | Bytes;
 
 /** Gets each call of the gate of its name. By its import's signature it gets the values, bytes as a Uint8Array, and answers the
  * result's: for a text an address of the sandbox's, or null. What it leaves in a buffer (w) is written back. A call with a text or
- * bytes that don't lie in the sandbox's data is refused. Without a signature it is a CallHandler. */
+ * bytes that don't lie in the sandbox's data is refused, and one beyond the 16 bytes of these that a run's handlers get for each step
+ * that it may take. Without a signature it is a CallHandler. */
 export type Handler = (...given: any[]) => number | bigint | boolean | readonly [number, number] | void | null;
 /** Gets the Call, and answers its result: of an integer the lowest 32 bits, 64 bits as a pair [low, high], or 0; nothing that counts,
  * once it has replied by `call.reply`. */
@@ -205,7 +208,8 @@ export type CallHandler = (call: Call) => number | boolean | readonly [number, n
 export declare function byCall(handler: CallHandler): Handler;
 
 /** What a plug-in is loaded with: the sandbox's number, 0 if none is given; the most steps of a call; handlers by the names of imports;
- * and signatures that the host states, of exports and imports, in place of what the image claims. */
+ * and signatures that the host states, of exports and imports: with them, also {}, no claim of the image holds, and names that they
+ * don't have go by words. Where the plug-in is a stranger's, state them. */
 export interface PluginOptions {
   number?: number; steps?: number; handlers?: Record<string, Handler>; signatures?: Record<string, Signature>;
 }
@@ -213,8 +217,8 @@ export interface PluginOptions {
 /** A sandbox of an image of its own, whose names and signatures are what the image says of itself. An export that has a signature takes
  * its values. Arguments of another count, type or range throw WrongArguments, and texts and bytes that don't fit TooLong: both before
  * anything runs. Texts and bytes are copied onto the sandbox's stack, where they stay as long as the call, and may take half of what
- * is left of it, or 1024 bytes where the image doesn't say how much it has. What the sandbox leaves in a buffer (w) is copied back when the call returns. A
- * text that it gives is read up to its byte 0; OutsideData tells that it doesn't lie in its data. */
+ * is left of it, or 1024 bytes where the image doesn't say how much it has. What the sandbox leaves in a buffer (w) is copied back when
+ * the call returns. A text that it gives is read up to its byte 0; OutsideData tells that it doesn't lie in its data. */
 export declare class Plugin {
   private constructor();
   /** Loads the image, and runs the sandbox of that number, 0 if none is given, through its start, which has to exit. Handlers
@@ -225,8 +229,8 @@ export declare class Plugin {
   readonly sandbox: Sandbox;
   /** Its exports, each a function, which takes and gives values by its signature, or else at most eight words and one. */
   readonly exports: { readonly [name: string]: (...given: Value[]) => any };
-  /** The signatures that hold, by the names of exports and imports: what the host states, or else what the image claims, unless
-   * it has more than 512 exports or imports with their claims. A name that isn't there has none. */
+  /** The signatures that hold, by the names of exports and imports: what the host states, or what the image claims where it states
+   * none, unless there are more than 512 exports or imports with their claims. A name that isn't there has none. */
   readonly signatures: { readonly [name: string]: Signature };
   /** The address of an export. Throws NoName. */
   address(name: string): number;

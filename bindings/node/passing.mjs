@@ -10,6 +10,31 @@ const ALIGNED = 16; // of each block of bytes on the stack
 const PIECE = 256; // bytes of a text that are read first
 const ROOM = 1024; // bytes of the stack that the texts and bytes of a call may take where the image doesn't say how much it has
 const TOP = 16; // the stack begins so far below the data's end, and below the room above it
+const BYTES_OF_A_STEP = 16; // of texts and bytes, that handlers may get for each step that a run may take
+
+/** Texts and bytes that are more than a run's handlers may get. */
+class TooMuch extends Error {}
+
+/** How many bytes of texts and bytes the handlers of a run of so many steps get at most: its host copies no more, however cheap each
+ * call of a gate is. */
+export class Allowance {
+  #steps;
+  #left;
+
+  constructor(steps) {
+    this.#steps = steps;
+    this.#left = BYTES_OF_A_STEP * steps;
+  }
+
+  /** Takes note that they get so many. Throws TooMuch where these are too many. */
+  take(count) {
+    if (count > this.#left) {
+      const most = BYTES_OF_A_STEP * this.#steps;
+      throw new TooMuch(`a run of ${this.#steps} steps hands ${most} bytes of texts and bytes to its handlers at most`);
+    }
+    this.#left -= count;
+  }
+}
 
 /** How many bytes of a stack { size, above } the texts and bytes of a call may take: half of what is left where the stack pointer is so
  * far below the data's end. */
@@ -64,13 +89,14 @@ function valueAt(sandbox, letter, words) {
 }
 
 /** The text from an address up to a byte 0, where each byte that isn't UTF-8 is U+FFFD. Throws OutsideData where an address of it isn't
- * one of the sandbox's data. */
-function textAt(sandbox, at) {
+ * one of the sandbox's data, and TooMuch. */
+function textAt(sandbox, at, allowance) {
   const { base, size } = sandbox.data;
   const found = [];
   for (let now = at; now >= base && now < base + size;) {
     const piece = sandbox.read(now, Math.min(PIECE << found.length, base + size - now));
     const end = piece.indexOf(0);
+    allowance?.take(end < 0 ? piece.length : end);
     found.push(end < 0 ? piece : piece.subarray(0, end));
     if (end >= 0) return Buffer.concat(found).toString("utf8");
     now += piece.length;
@@ -78,20 +104,21 @@ function textAt(sandbox, at) {
   throw new OutsideData(`a text at ${hexadecimal(at)}`);
 }
 
-/** So many bytes from an address on. Throws OutsideData likewise. */
-function bytesAt(sandbox, at, count) {
+/** So many bytes from an address on. Throws likewise. */
+function bytesAt(sandbox, at, count, allowance) {
   const { base, size } = sandbox.data;
   if (count && !(at >= base && at + count <= base + size)) throw new OutsideData(`${count} bytes at ${hexadecimal(at)}`);
+  allowance.take(count);
   return sandbox.read(at, count);
 }
 
 /** Replies to a call of a gate, as a handler of { name, signature } answers to its arguments. What it leaves in a buffer is written
  * back. */
-export function serveBySignature({ name, signature }, handler, call) {
+export function serveBySignature({ name, signature }, handler, call, allowance) {
   const { sandbox } = call;
   const what = `${name}${textOf(signature)}`;
   const parts = split(signature.parameters, [call.a0, call.a1, call.a2, call.a3, call.a4, call.a5, call.a6, call.a7]);
-  const values = parts.map(({ letter, words }, index) => argumentOf(sandbox, letter, words, `${what}: argument ${index + 1}`));
+  const values = parts.map(({ letter, words }, index) => argumentOf(sandbox, letter, words, allowance, `${what}: argument ${index + 1}`));
   const buffers = parts.flatMap(({ letter, words: [at] }, index) => (letter === "w" ? [{ at, view: values[index] }] : []));
   const sizes = buffers.map(({ view }) => view.length);
   const answer = handler(...values);
@@ -104,12 +131,13 @@ export function serveBySignature({ name, signature }, handler, call) {
   call.reply(...words);
 }
 
-/** An argument of a handler. Refuses the call where an address or a length lies. */
-function argumentOf(sandbox, letter, words, what) {
+/** An argument of a handler. Refuses the call where an address or a length lies, and where the run's handlers get no more. */
+function argumentOf(sandbox, letter, words, allowance, what) {
   try {
-    if (letter === "s") return textAt(sandbox, ...words);
-    return letter === "b" || letter === "w" ? bytesAt(sandbox, ...words) : valueOf(letter, words);
+    if (letter === "s") return textAt(sandbox, ...words, allowance);
+    return letter === "b" || letter === "w" ? bytesAt(sandbox, ...words, allowance) : valueOf(letter, words);
   } catch (error) {
+    if (error instanceof TooMuch) throw new Refusal(`${what} is too long, as ${error.message}`);
     if (!(error instanceof OutsideData)) throw error;
     throw new Refusal(`${what}, ${error.message}, isn't in its data`);
   }

@@ -1,6 +1,6 @@
 // A sandbox of an image of its own, whose functions are called by their names, and call the host's by theirs.
-import { STEPS } from "./given.mjs";
-import { callBySignature, serveBySignature } from "./passing.mjs";
+import { STEPS, counted } from "./given.mjs";
+import { Allowance, callBySignature, serveBySignature } from "./passing.mjs";
 import { claimed, parsed, textOf } from "./signatures.mjs";
 import { NoName, WrongSignature } from "./told.mjs";
 import { entryAt, finishStart, load } from "./world.mjs";
@@ -40,9 +40,9 @@ export const claimsOf = (sandbox) => ({
   stack: { size: claimedNumber(sandbox, STACK), above: claimedNumber(sandbox, ABOVE) ?? 0 },
 });
 
-/** These claims, with the signatures that the host states in their place. */
-function withStated({ exports, imports, stack }, signatures) {
-  const stated = Object.entries(signatures).map(([name, text]) => {
+/** The signatures that hold, which a host states, in place of these claims. */
+function inPlaceOf({ exports, imports, stack }, signatures) {
+  const stated = new Map(Object.entries(signatures).map(([name, text]) => {
     const signature = typeof text === "string" ? parsed(text) : undefined;
     if (!signature) throw new TypeError(`${name}: ${JSON.stringify(text)} is no signature of at most eight words`);
     for (const claims of [exports, imports]) {
@@ -50,8 +50,8 @@ function withStated({ exports, imports, stack }, signatures) {
       if (other && textOf(other) !== text) throw new WrongSignature(name, text, textOf(other));
     }
     return [name, signature];
-  });
-  return { exports: new Map([...exports, ...stated]), imports: new Map([...imports, ...stated]), stack };
+  }));
+  return { exports: stated, imports: stated, stack };
 }
 
 const byCalls = new WeakSet();
@@ -89,7 +89,7 @@ export class Plugin {
   }
 
   /** In that world, which is closed where it can't be. `claims` tells what the table of a sandbox claims. */
-  static of(world, { number = 0, steps = STEPS, handlers = {}, signatures = {} } = {}, claims = claimsOf) {
+  static of(world, { number = 0, steps = STEPS, handlers = {}, signatures } = {}, claims = claimsOf) {
     try {
       return new Plugin(world, number, { steps, handlers, signatures, claims });
     } catch (error) {
@@ -103,9 +103,10 @@ export class Plugin {
     this.sandbox = world.sandboxes[number];
     if (!this.sandbox) throw new RangeError(`there is no sandbox ${number}`);
     this.#steps = steps;
-    this.#claims = withStated(claims(this.sandbox), signatures);
+    const claimed = claims(this.sandbox);
+    this.#claims = signatures === undefined ? claimed : inPlaceOf(claimed, signatures);
     for (const [name, handler] of Object.entries(handlers)) this.#handle(name, handler);
-    finishStart(this.sandbox, steps, (call) => this.#serve(call));
+    finishStart(this.sandbox, steps, this.#options().serve);
     this.exports = new Proxy(Object.freeze({}), { get: (_, name) => this.#function(name) });
   }
 
@@ -113,7 +114,9 @@ export class Plugin {
   #handle(name, handler) {
     if (typeof handler !== "function") throw new TypeError(`the handler ${name} is no function`);
     const signature = byCalls.has(handler) ? undefined : this.#claims.imports.get(name);
-    const serve = signature ? (call) => serveBySignature({ name, signature }, handler, call) : (call) => reply(call, handler(call));
+    const serve = signature
+      ? (call, allowance) => serveBySignature({ name, signature }, handler, call, allowance)
+      : (call) => reply(call, handler(call));
     try {
       this.#handlers.set(this.sandbox.imported(name), serve);
     } catch (error) {
@@ -121,16 +124,14 @@ export class Plugin {
     }
   }
 
-  #serve(call) {
-    this.#handlers.get(call.pc)?.(call);
-  }
-
   #called(address, given) {
     return this.sandbox.call(address, ...given, this.#options());
   }
 
+  /** Those of one run. */
   #options() {
-    return { steps: this.#steps, serve: (call) => this.#serve(call) };
+    const allowance = new Allowance(counted(this.#steps));
+    return { steps: this.#steps, serve: (call) => this.#handlers.get(call.pc)?.(call, allowance) };
   }
 
   #function(name) {

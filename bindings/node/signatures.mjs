@@ -2,12 +2,13 @@
 import { bytesOf } from "./given.mjs";
 import { WrongArguments } from "./told.mjs";
 
-const WORDS = { i: 1, u: 1, l: 2, m: 2, f: 1, d: 2, p: 1, s: 1, b: 2, w: 2 };
+const WORDS = { y: 1, c: 1, h: 1, k: 1, t: 1, i: 1, u: 1, l: 2, m: 2, f: 1, d: 2, p: 1, s: 1, b: 2, w: 2 };
 const MOST_WORDS = 8;
-const SIGNATURE = /^\(([iulmfdpsbw]*)\)([iulmfdpsv])$/;
+const SIGNATURE = /^\(([ychktiulmfdpsbw]*)\)([ychktiulmfdpsv])$/;
 const NO_TEXT = /\0/;
 const WORD = 2 ** 32;
-export const WANTED = { i: "an integer from -2^31 to 2^32 - 1", u: "an integer from -2^31 to 2^32 - 1", p: "an integer from 0 to 2^32 - 1",
+export const WANTED = { y: "an integer from -128 to 127", c: "an integer from 0 to 255", h: "an integer from -32768 to 32767",
+  k: "an integer from 0 to 65535", t: "a boolean", i: "an integer from -2^31 to 2^32 - 1", u: "an integer from -2^31 to 2^32 - 1", p: "an integer from 0 to 2^32 - 1",
   l: "an integer from -2^63 to 2^63 - 1", m: "an integer from 0 to 2^64 - 1", f: "a number that a float holds", d: "a number",
   s: "a string without \\0", b: "what has bytes", w: "what has bytes" };
 
@@ -32,6 +33,11 @@ export function claimed(entry) {
   const signature = parsed(entry.slice(end));
   if (!entry.startsWith(".") || !name || name.startsWith(".") || !signature) return undefined;
   return { name, signature };
+}
+
+function truth(value) {
+  if (typeof value !== "boolean") throw new Unfit();
+  return Number(value);
 }
 
 function integer(value, low, high) {
@@ -63,6 +69,11 @@ function rounded(value) {
 const wordsIn = ({ buffer }) => [...new Uint32Array(buffer)];
 
 const TAKE = {
+  y: (value) => [integer(value, -128, 127) >>> 0],
+  c: (value) => [integer(value, 0, 255) >>> 0],
+  h: (value) => [integer(value, -32768, 32767) >>> 0],
+  k: (value) => [integer(value, 0, 65535) >>> 0],
+  t: (value) => [truth(value)],
   i: (value) => [integer(value, -(2 ** 31), WORD - 1) >>> 0],
   u: (value) => [integer(value, -(2 ** 31), WORD - 1) >>> 0],
   p: (value) => [integer(value, 0, WORD - 1)],
@@ -73,6 +84,11 @@ const TAKE = {
 };
 
 const GIVE = {
+  y: ([word]) => (word << 24) >> 24,
+  c: ([word]) => word & 255,
+  h: ([word]) => (word << 16) >> 16,
+  k: ([word]) => word & 65535,
+  t: ([word]) => (word & 255) !== 0,
   i: ([word]) => word | 0,
   u: ([word]) => word,
   p: ([word]) => word,
@@ -85,7 +101,7 @@ const GIVE = {
 /** The words of a value that lies in registers. Throws Unfit where the letter hasn't this value. */
 export const wordsOf = (letter, value) => TAKE[letter](value);
 
-/** The value of the first of these words, of a letter of those whose values lie in registers. */
+/** The value of the first of these words, of a letter of those whose values lie in registers: of a narrow one that of its lowest bits. */
 export const valueOf = (letter, words) => GIVE[letter](words.slice(0, WORDS[letter]));
 
 /** The bytes of a text, of bytes, or of a buffer, copied. Throws Unfit where the letter hasn't this value. */

@@ -34,7 +34,7 @@ export function valueTests(built) {
     return made;
   }
 
-  const plugin = (claims, { handlers, signatures, ...more } = {}) => Plugin.load(claiming(claims, more), { handlers, signatures });
+  const plugin = (claims, { handlers, signatures, steps, ...more } = {}) => Plugin.load(claiming(claims, more), { handlers, signatures, steps });
   const right = ({ exports: { add } }) => assert.equal(add(2, 3), 5);
 
   /** It throws that before anything runs: the sandbox stands as it did. Gives the error. */
@@ -212,10 +212,76 @@ export function valueTests(built) {
       for (const wrong of ["ii", "(ii)", "(iiiiiiiii)i", "(z)i", 5]) await assert.rejects(plugin([], { signatures: { add: wrong } }), /add: .* is no signature/);
       const module = await Module.load(claiming([".add(ii)i"], { imports: [".ask(s)u"] }));
       const handlers = { ask: (text) => text.length };
-      const [first, second] = [module.instance({ handlers }), module.instance({ handlers, signatures: { forward: "(s)u", add: "(ii)i" } })];
+      const [first, second] = [module.instance({ handlers }), module.instance({ handlers, signatures: { forward: "(s)u", ask: "(s)u" } })];
       assert.throws(() => module.instance({ signatures: { add: "()i" } }), WrongSignature);
       assert.deepEqual([first.exports.add(-1, 0), second.exports.forward("äb"), first.signatures], [-1, 2, { add: "(ii)i", ask: "(s)u" }]);
-      assert.deepEqual(second.signatures, { add: "(ii)i", forward: "(s)u", ask: "(s)u" });
+      assert.deepEqual([second.signatures, second.exports.add(-1, 0)], [{ forward: "(s)u", ask: "(s)u" }, MOST]);
+    },
+    async "claims beside what a host states"() {
+      // Where a host states any, or that there are none, it takes no claim: what it doesn't name goes by words.
+      for (const stated of [{}, { length: "(s)u" }, { unknown: "()v" }]) {
+        const found = [];
+        const ask = (...given) => void found.push(...given);
+        const it = await plugin([".add(ii)i"], { imports: [".ask(s)v"], stack: 2048, signatures: stated, handlers: { ask } });
+        assert.deepEqual([it.signatures, it.exports.add(-2, 1), it.exports.forward(5)], [stated, MOST, 0]);
+        assert.deepEqual(found.map((call) => [call instanceof Call, call.a0]), [[true, 5]]);
+      }
+      const small = await plugin([], { stack: 2048, signatures: { total: "(b)u" } }); // the stack's claim stays
+      assert.equal(refuses(small, TooLong, () => small.exports.total(new Uint8Array(1025))).room, 1024);
+      assert.equal((await plugin([], { stack: 4000, signatures: { total: "(b)u" } })).exports.total(new Uint8Array(1025)), 0);
+      const claimed = await plugin([".add(ii)i"], { signatures: undefined });
+      assert.deepEqual([claimed.signatures, claimed.exports.add(-2, 1)], [{ add: "(ii)i" }, -1]);
+    },
+    async "how many bytes handlers get"() {
+      // At most 16 of texts and bytes for each step that a call may take. What a handler got of so many calls within one, and why it is over if it is.
+      async function asks(letters, words, { steps = 64, times = 1, size = 0 } = {}) {
+        const source = SOURCE.replace("forward: addi sp, sp, -16", `forward: addi sp, sp, -16\n sw s0, 8(sp)\n li s0, ${times}`)
+          .replace("        call ask\n        lw   ra", "again: call ask\n addi s0, s0, -1\n bnez s0, again\n lw s0, 8(sp)\n        lw   ra");
+        const found = [];
+        const ask = (...given) => {
+          found.push(...given.map(({ length }) => length));
+          return DATA;
+        };
+        const it = await plugin([], { imports: [`.ask(${letters})i`], image: built(source), handlers: { ask }, steps });
+        it.sandbox.write(DATA, bytes(`${"x".repeat(size)}\0`));
+        let why;
+        for (let count = 0; count < 2; count++) { // of another call there is as much
+          found.length = 0;
+          why = undefined;
+          try {
+            it.exports.forward(...words);
+          } catch (error) {
+            why = error;
+          }
+        }
+        return { found, why };
+      }
+      async function refused(letters, words, number, { steps = 64, got = [], ...more } = {}) {
+        const { found, why } = await asks(letters, words, { steps, ...more });
+        assert.deepEqual([found, why.cause], [got, Ended.REFUSED]);
+        assert.ok(why.message.includes(`ask(${letters})i: argument ${number} is too long, as a run of ${steps} steps hands ${16 * steps} bytes of texts and `
+          + "bytes to its handlers at most)"), why.message);
+      }
+      for (const letter of "bw") {
+        assert.deepEqual(await asks(letter, [DATA, 1024]), { found: [1024], why: undefined });
+        assert.deepEqual(await asks(letter + letter, [DATA, 512, DATA, 512]), { found: [512, 512], why: undefined });
+        await refused(letter, [DATA, 1025], 1);
+        await refused(letter + letter, [DATA, 512, DATA, 513], 2);
+      }
+      for (const size of [0, 1, 255, 256, 257, 1023, 1024]) assert.deepEqual(await asks("s", [DATA], { size }), { found: [size], why: undefined });
+      for (const size of [1025, 2000, 3000]) await refused("s", [DATA], 1, { size });
+      assert.deepEqual(await asks("b", [DATA, 320], { steps: 200, times: 10 }), { found: new Array(10).fill(320), why: undefined });
+      await refused("b", [DATA, 321], 1, { steps: 200, times: 10, got: new Array(9).fill(321) });
+      await refused("sb", [DATA, DATA, 200], 1, { steps: 200, times: 10, size: 200, got: new Array(16).fill(200) });
+      for (const [count, number] of [[320, 1], [321, 0], [0, 2]]) { // of the start, too
+        const found = [];
+        const source = SOURCE.replace("        call exit", ` la a0, greeting\n li a1, ${count}\n mv a2, a0\n mv a3, a1\n call ask\n call ask\n call exit`);
+        const handlers = { ask: (...given) => { found.push(given); return DATA; } };
+        const made = plugin([], { imports: [".ask(bb)p"], image: built(source), handlers, steps: 40 });
+        if (number < 2) await assert.rejects(made, (error) => error.cause === Ended.REFUSED);
+        else await made;
+        assert.equal(found.length, number);
+      }
     },
     async "values that handlers get"() {
       for (const [letter, words, wanted] of [["i", [MOST], -1], ["u", [MOST], MOST], ["p", [4], 4], ["l", [1, 0x80000000], -(2n ** 63n) + 1n],

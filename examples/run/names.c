@@ -122,13 +122,16 @@ static void signatures(void) {
         {CODE, "add"},    {7, ".add(u)v"},   {0, ".add"},        {0, ".add(x)i"},       {0, ".add(ii)"},     {0, "add(s)s"},
         {0, ".add(ii)i"}, {0, ".add(uu)u"},  {0, ".ad(s)s"},     {0, ".none()v"},       {0, ".all(iulfp)d"}, {0, ".bytes(sbw)s"},
         {0, ".wide(b)b"}, {0, ".wide(v)v"},  {0, ".wide(i)ii"},  {0, ".wide(i)i)i"},    {0, ".many(iiiiiiii)m"},
-        {0, ".nine(iiiiiiiii)i"},            {0, ".five(lmdbi)i"}, {0, ".operator()(i)i"}, {0, NULL}};
+        {0, ".nine(iiiiiiiii)i"},            {0, ".five(lmdbi)i"}, {0, ".operator()(i)i"},
+        {0, ".narrow(ychkt)t"},              {0, ".nine_narrow(ychktychk)t"}, {0, NULL}};
     const struct entry imports[] = {{CODE + 16, "log"}, {0, ".log(s)v"}, {4096, ".stack"}, {64, ".room"}, {0, NULL}};
     make(exports, imports);
     wanted(claims(SFI_RUN_EXPORTS, "add", "(ii)i"), "the first claim that can be read");
     wanted(claims(SFI_RUN_EXPORTS, "ad", "(s)s"), "a name that another begins with");
     wanted(claims(SFI_RUN_EXPORTS, "none", "()v"), "no parameters and no result");
     wanted(claims(SFI_RUN_EXPORTS, "all", "(iulfp)d"), "letters of numbers");
+    wanted(claims(SFI_RUN_EXPORTS, "narrow", "(ychkt)t"), "letters of narrow numbers");
+    wanted(claims(SFI_RUN_EXPORTS, "nine_narrow", NULL), "not nine of them");
     wanted(claims(SFI_RUN_EXPORTS, "bytes", "(sbw)s"), "letters of bytes");
     wanted(claims(SFI_RUN_EXPORTS, "many", "(iiiiiiii)m"), "eight words");
     wanted(claims(SFI_RUN_EXPORTS, "nine", NULL) && claims(SFI_RUN_EXPORTS, "five", NULL), "not nine");

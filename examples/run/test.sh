@@ -224,8 +224,9 @@ status 0" "$room/order.image"
         says "values by signatures, format $format" values "noted häuser
 noted 
 äuser None
-desserts 200 -30000000000 0.25
+desserts 200 -30000000000 0.25 56
 refused product (il)l
+refused opposite (c)y
 status 0" "$room/values.image"
     done
 }

@@ -22,3 +22,5 @@ SFI_EXPORT int picked(SFI_BYTES(bytes)) { return bytes[pick(bytes, bytes_size)];
 SFI_EXPORT long long product(int a, long long b) { return a * b; }
 
 SFI_EXPORT float half(double number) { return number / 2; }
+
+SFI_EXPORT signed char opposite(unsigned char number) { return -number; } /* modulo 256 */

@@ -8,7 +8,9 @@ import debug_entries as debug
 from compilers import PLUS_PLUS_SOURCES, SOURCES, Failed, object_of
 
 # By its size, and whether it has a sign; a floating-point number by its size.
-INTEGERS = {(1, True): "i", (2, True): "i", (4, True): "i", (8, True): "l", (1, False): "u", (2, False): "u", (4, False): "u", (8, False): "m"}
+INTEGERS = {(1, True): "y", (2, True): "h", (4, True): "i", (8, True): "l", (1, False): "c", (2, False): "k", (4, False): "u", (8, False): "m"}
+TRUTHS = {1: "t"}
+OF_ANY_WIDTH = "_BitInt"  # in a base type's name, which keeps the width to itself: such a type has no letter
 FLOATS = {4: "f", 8: "d"}
 BOOLEAN, FLOAT, SIGNED, SIGNED_CHAR, UNSIGNED, UNSIGNED_CHAR, CHARACTER = 2, 4, 5, 6, 7, 8, 16  # encodings of base types
 POINTERS = (debug.POINTER, debug.REFERENCE, debug.RVALUE)
@@ -122,9 +124,13 @@ class Functions:
     @staticmethod
     def number(entry):
         size, encoding = entry.values.get(debug.SIZE), entry.values.get(debug.ENCODING)
+        if OF_ANY_WIDTH in str(entry.values.get(debug.NAME)):
+            return None
         if encoding == FLOAT:
             return FLOATS.get(size)
-        if encoding in (SIGNED, SIGNED_CHAR, UNSIGNED, UNSIGNED_CHAR, BOOLEAN, CHARACTER):
+        if encoding == BOOLEAN:
+            return TRUTHS.get(size)
+        if encoding in (SIGNED, SIGNED_CHAR, UNSIGNED, UNSIGNED_CHAR, CHARACTER):
             return INTEGERS.get((size, encoding in (SIGNED, SIGNED_CHAR)))
         return None
 

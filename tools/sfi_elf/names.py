@@ -18,6 +18,7 @@ SERVICE = 3  # of a gate that is known by its name: where the host is the consol
 EXPORTS, IMPORTS = ".sfi.exports", ".sfi.imports"
 API = "__sfi_api"  # the version of the interface
 CLAIMS = b"."  # begins a name that no user's entry has: a claim of the tools, whose first field is a number and no address
+MOST_SIGNED = 512  # entries of a list: of one that has more, hosts take no signature, since a look at an entry is one at the whole table
 STACK = b".stack"  # how many bytes of stack the program was linked with
 ROOM = b".room"  # how many bytes lie between the stack of a function that a host calls and the data's last 16
 ENTRY = "\t.4byte {address}\n\t.byte {size}\n\t.ascii \"{name}\"\n"
@@ -69,18 +70,39 @@ def signatures(objects, names):
     return {name: next(iter(ways)) for name, ways in found.items() if name in names and len(ways) == 1}, told
 
 
+def lists(data):
+    """Of the table in which first data bytes end, if they do, each entry of the exports and of the imports: where it lies, its
+    number and its name."""
+    if data[-len(MAGIC):] != MAGIC or len(data) < FOOTER:
+        return [], []
+    end = len(data) - FOOTER
+    _, exports, imports = struct.unpack_from(NUMBERS, data, end)
+    return entries_between(data, end - exports - imports, end - imports), entries_between(data, end - imports, end)
+
+
+def entries_between(data, at, end):
+    found = []
+    while 0 <= at <= end - HEAD:
+        number, size = struct.unpack_from(HEAD_OF_ENTRY, data, at)
+        found.append((at, number, data[at + HEAD:at + HEAD + size]))
+        at += HEAD + size
+    return found
+
+
 def moved_names(data, there):
     """The first data bytes with the addresses in their table as a function says, where they end in a table. A claim stays."""
-    if data[-len(MAGIC):] != MAGIC or len(data) < FOOTER:
-        return data
-    _, exports, imports = struct.unpack_from(NUMBERS, data, len(data) - FOOTER)
-    found, at = bytearray(data), len(data) - FOOTER - exports - imports
-    while 0 <= at <= len(data) - FOOTER - HEAD:
-        address, size = struct.unpack_from(HEAD_OF_ENTRY, found, at)
-        if not data.startswith(CLAIMS, at + HEAD):
+    found, (exports, imports) = bytearray(data), lists(data)
+    for at, address, name in exports + imports:
+        if not name.startswith(CLAIMS):
             struct.pack_into("<I", found, at, there(address))
-        at += HEAD + size
     return bytes(found)
+
+
+def too_long_lists(data):
+    """A line of each list of the table in which the data ends that has signatures, and too many entries for them."""
+    return "".join(f"sfi-cc: {len(entries)} {what} with their claims are more than {MOST_SIGNED}, so hosts take no signature of them\n"
+                   for what, entries in zip(("exports", "imports"), lists(data))
+                   if len(entries) > MOST_SIGNED and any(name.startswith(CLAIMS) and b"(" in name for _, _, name in entries)).encode()
 
 
 def claim(name, number):

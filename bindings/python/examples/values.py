@@ -6,7 +6,8 @@ import sys
 from sfi_run import WrongArguments
 from sfi_run.names import Plugin
 
-MEANT = {"rest": "(s)s", "reverse": "(w)v", "product": "(il)l", "half": "(d)f", "picked": "(b)i", "note": "(s)v", "pick": "(b)i"}
+MEANT = {"rest": "(s)s", "reverse": "(w)v", "product": "(il)l", "half": "(d)f", "opposite": "(c)y", "picked": "(b)i",
+         "note": "(s)v", "pick": "(b)i"}
 
 
 def note(text):
@@ -21,8 +22,9 @@ with open(sys.argv[1], "rb") as file, Plugin(file.read(), signatures=MEANT, note
     print(plugin.rest("häuser"), plugin.rest(""))
     buffer = bytearray(b"stressed")
     plugin.reverse(buffer)
-    print(buffer.decode(), plugin.picked(bytes([3, 200, 7])), plugin.product(-3, 10_000_000_000), plugin.half(0.5))
-    try:
-        plugin.product(2, "3")
-    except WrongArguments as wrong:
-        print("refused", wrong.name, wrong.signature)
+    print(buffer.decode(), plugin.picked(bytes([3, 200, 7])), plugin.product(-3, 10_000_000_000), plugin.half(0.5), plugin.opposite(200))
+    for name, given in ("product", (2, "3")), ("opposite", (256,)):
+        try:
+            plugin.call(name, *given)
+        except WrongArguments as wrong:
+            print("refused", wrong.name, wrong.signature)

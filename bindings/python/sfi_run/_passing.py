@@ -19,6 +19,7 @@ ALIGNED = 16  # of each block of bytes on the stack
 PIECE = 256  # bytes of a text that are read first
 ROOM = 1024  # bytes of the stack that the texts and bytes of a call may take where the image doesn't say how much it has
 TOP = 16  # the stack begins so far below the data's end, and below the room above it
+BYTES_OF_A_STEP = 16  # of texts and bytes, that handlers may get for each step that a run may take
 
 
 @dataclass(frozen=True)
@@ -33,6 +34,24 @@ class Stack:
         if self.size is None:
             return ROOM
         return max(self.size - max(used - self.above - TOP, 0), 0) // 2
+
+
+class TooMuch(Exception):
+    """Texts and bytes that are more than a run's handlers may get."""
+
+
+class Allowance:
+    """How many bytes of texts and bytes the handlers of a run of so many steps get at most: its host copies no more, however cheap
+    each call of a gate is."""
+
+    def __init__(self, steps: int) -> None:
+        self.most = self.left = BYTES_OF_A_STEP * steps
+
+    def take(self, count: int) -> None:
+        """Takes note that they get so many. Raises TooMuch where these are too many."""
+        if count > self.left:
+            raise TooMuch(f"a run of {self.most // BYTES_OF_A_STEP} steps hands {self.most} bytes of texts and bytes to its handlers at most")
+        self.left -= count
 
 
 def _size(blocks: Sequence[Block]) -> int:
@@ -92,13 +111,15 @@ def _value(sandbox: Sandbox, letter: str, words: Sequence[int]) -> Any:
     return value_of(letter, words[: 2 if letter in "lmd" else 1])
 
 
-def text_at(sandbox: Sandbox, at: int) -> str:
+def text_at(sandbox: Sandbox, at: int, allowance: Allowance | None = None) -> str:
     """The text from an address up to a byte 0, where each byte that isn't UTF-8 is U+FFFD. Raises OutsideData where an address of it
-    isn't one of the sandbox's data."""
+    isn't one of the sandbox's data, and TooMuch."""
     data, found, now = sandbox.data, [], at
     while data.base <= now < data.base + data.size:
         piece = sandbox.read(now, min(PIECE << len(found), data.base + data.size - now))
         text, end, _ = piece.partition(b"\0")
+        if allowance:
+            allowance.take(len(text))
         found.append(text)
         if end:
             return b"".join(found).decode("utf-8", "replace")
@@ -106,17 +127,18 @@ def text_at(sandbox: Sandbox, at: int) -> str:
     raise OutsideData(f"a text at {at:08x}")
 
 
-def bytes_at(sandbox: Sandbox, at: int, count: int) -> bytes:
-    """So many bytes from an address on. Raises OutsideData likewise."""
+def bytes_at(sandbox: Sandbox, at: int, count: int, allowance: Allowance) -> bytes:
+    """So many bytes from an address on. Raises likewise."""
     data = sandbox.data
     if count and not data.base <= at <= data.base + data.size - count:
         raise OutsideData(f"{count} bytes at {at:08x}")
+    allowance.take(count)
     return sandbox.read(at, count)
 
 
-def served(name: str, signature: Signature, handler: Callable[..., Any], call: Call) -> None:
+def served(name: str, signature: Signature, handler: Callable[..., Any], call: Call, allowance: Allowance) -> None:
     """Replies to a call of a gate, as a handler answers to its arguments. What the handler leaves in a buffer is written back."""
-    values = _values(name, signature, call)
+    values = _values(name, signature, call, allowance)
     sizes = [len(value) if letter == "w" else 0 for letter, value in zip(signature.parameters, values)]
     answer = handler(*values)
     if not call.is_waiting:
@@ -134,20 +156,27 @@ def _words(call: Call) -> tuple[int, ...]:
     return (call.a0, call.a1, call.a2, call.a3, call.a4, call.a5, call.a6, call.a7)
 
 
-def _values(name: str, signature: Signature, call: Call) -> list[Any]:
-    """A call's arguments. Refuses it where an address or a length lies."""
+def _values(name: str, signature: Signature, call: Call, allowance: Allowance) -> list[Any]:
+    """A call's arguments. Refuses it where an address or a length lies, and where the run's handlers get no more."""
     values: list[Any] = []
     for letter, words in split(signature.parameters, _words(call)):
         try:
-            if letter == "s":
-                values.append(text_at(call.sandbox, *words))
-            elif letter in "bw":
-                values.append((bytearray if letter == "w" else bytes)(bytes_at(call.sandbox, *words)))
-            else:
-                values.append(value_of(letter, words))
+            values.append(_argument(call.sandbox, letter, words, allowance))
         except OutsideData as outside:
             raise _functions.Refusal(f"{name}{signature}: argument {len(values) + 1}, {outside}, isn't in its data") from None
+        except TooMuch as more:
+            raise _functions.Refusal(f"{name}{signature}: argument {len(values) + 1} is too long, as {more}") from None
     return values
+
+
+def _argument(sandbox: Sandbox, letter: str, words: Sequence[int], allowance: Allowance) -> Any:
+    """One of a handler's arguments. Raises OutsideData and TooMuch."""
+    if letter == "s":
+        return text_at(sandbox, *words, allowance)
+    if letter not in "bw":
+        return value_of(letter, words)
+    data = bytes_at(sandbox, *words, allowance)
+    return bytearray(data) if letter == "w" else data
 
 
 def _answered(name: str, signature: Signature, answer: Any) -> tuple[int, ...]:

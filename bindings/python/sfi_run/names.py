@@ -7,7 +7,8 @@ name them:
         print(plugin.add(2, 3))
 
 Where the image claims a signature of a function, it takes and gives values, as `sfi_run.signatures` has them; else words. Names and
-signatures are what the image says of itself, and may be any: a call of one that can't be entered raises NotReturned.
+signatures are what the image says of itself, and may be any: a call of one that can't be entered raises NotReturned. Where the
+plug-in is a stranger's, state the signatures: `signatures=` of Plugin.
 """
 from __future__ import annotations
 
@@ -75,7 +76,7 @@ class Claims:
     stack: _passing.Stack = _passing.Stack()
 
     def stated(self, signatures: Mapping[str, str]) -> Claims:
-        """These, with those that the host states in their place. Raises ValueError where one is none, and WrongSignature."""
+        """Those that the host states, in place of these. Raises ValueError where one is none, and WrongSignature."""
         stated: dict[str, Signature] = {}
         for name, text in signatures.items():
             signature = parsed(text) if isinstance(text, str) else None
@@ -85,7 +86,7 @@ class Claims:
                 if claims.get(name, signature) != signature:
                     raise WrongSignature(name, text, str(claims[name]))
             stated[name] = signature
-        return Claims({**self.exports, **stated}, {**self.imports, **stated}, self.stack)
+        return Claims(stated, stated, self.stack)
 
 
 def claims(image: bytes, sandbox: int = 0, library: Library | None = None) -> Claims:
@@ -150,7 +151,7 @@ def _words(answer: Any) -> tuple[int, ...]:
         raise TypeError(f"a handler answers an int, two of them, or None, and not {answer!r}") from None
 
 
-def _served(handler: Callable[[Call], Any], call: Call) -> None:
+def _served(handler: Callable[[Call], Any], call: Call, _: _passing.Allowance) -> None:
     """Replies to a call as its handler answers, unless that has replied itself."""
     answer = handler(call)
     if call.is_waiting:
@@ -163,9 +164,10 @@ class Plugin:
 
     An export that has a signature takes its values, and gives that of its result: `plugin.greet("you")`. Arguments of another
     count, type or range raise WrongArguments, and texts and bytes that don't fit TooLong: both before anything runs. Texts and bytes
-    are copied onto the sandbox's stack, where they stay as long as the call, and may take half of what is left of it, or 1024 bytes where the image
-    doesn't say how much it has. What the sandbox leaves in a bytearray is copied back when it returns. A text that it gives is read
-    up to its byte 0; OutsideData tells that it doesn't lie in its data. An export without a signature takes and gives words."""
+    are copied onto the sandbox's stack, where they stay as long as the call, and may take half of what is left of it, or 1024 bytes
+    where the image doesn't say how much it has. What the sandbox leaves in a bytearray is copied back when it returns. A text that it
+    gives is read up to its byte 0; OutsideData tells that it doesn't lie in its data. An export without a signature takes and gives
+    words."""
 
     def __init__(self, image: bytes, *, number: int = 0, steps: int = 1_000_000, library: Library | None = None,
                  signatures: Mapping[str, str] | None = None, **handlers: Handler) -> None:
@@ -174,9 +176,11 @@ class Plugin:
         sandbox's. A call with a text or bytes that don't lie in the sandbox's data is refused. Without a signature, and in
         `by_call`, it gets the Call, and answers its result: of an int the lowest 32 bits, 64 bits as the pair (low, high), 0 as
         None, or nothing that counts, once it has replied by `call.reply`. Those whose name the image doesn't import are never
-        called. `signatures` states what exports and imports take and give, as {"add": "(ii)i"}, in place of what the image
-        claims: of which types a handler's values are, and what a call gives, is the image's choice without it. A call has at most `steps` steps. Raises what World does, NotReturned, and WrongSignature where the image claims
-        another signature than that which is stated."""
+        called. `signatures` states what exports and imports take and give, as {"add": "(ii)i"}. Without it, the image chooses of
+        which types a handler's values are, and what a call gives; with it, also {}, no claim holds, and names that it hasn't go by
+        words. A call has at most `steps` steps, and its handlers get at most 16 bytes of texts, `b` and `w` for each: more are
+        refused. Raises what World does, NotReturned, and WrongSignature where the image claims another signature than that which
+        is stated."""
         image = bytes(memoryview(image))
         self._begin(image, library, World(image, library), number, steps, signatures, handlers)
 
@@ -186,16 +190,17 @@ class Plugin:
         self.image, self.steps, self._library, self.world = image, steps, library, world
         try:
             self.sandbox = world[number]
-            self._claims = (found or claims(image, number, library)).stated(signatures or {})
+            of_image = found or claims(image, number, library)
+            self._claims = of_image if signatures is None else of_image.stated(signatures)
             self._handle(number, handlers)
             with world._lock:
-                _functions.Run(self.sandbox).finish(steps, self._serve)
+                _functions.Run(self.sandbox).finish(steps, self._serving())
         except BaseException:
             world.close()
             raise
 
     def _handle(self, number: int, handlers: dict[str, Handler]) -> None:
-        self._handlers: dict[int, Callable[[Call], None]] = {}
+        self._handlers: dict[int, Callable[[Call, _passing.Allowance], None]] = {}
         for name, handler in handlers.items():
             signature = self._claims.imports.get(name)
             if isinstance(handler, _ByCall):
@@ -209,15 +214,20 @@ class Plugin:
                 if missing.why != 5:
                     raise
 
-    def _serve(self, call: Call) -> None:
-        serve = self._handlers.get(call.pc)
-        if serve:
-            serve(call)
+    def _serving(self) -> Callable[[Call], None]:
+        """What serves the calls of one run."""
+        allowance = _passing.Allowance(self.steps)
+
+        def serve(call: Call) -> None:
+            handler = self._handlers.get(call.pc)
+            if handler:
+                handler(call, allowance)
+        return serve
 
     @property
     def signatures(self) -> dict[str, str]:
-        """Those that hold, by the names of exports and imports: what the host states, or else what the image claims. A name that
-        isn't there has none, and is called in words."""
+        """Those that hold, by the names of exports and imports: what the host states, or what the image claims where it states none.
+        A name that isn't there has none, and is called in words."""
         return {name: str(signature) for name, signature in {**self._claims.imports, **self._claims.exports}.items()}
 
     def address(self, name: str) -> int:
@@ -236,13 +246,13 @@ class Plugin:
 
     def call64(self, name: str, *arguments: int) -> int:
         """The same, with a result of 64 bits: `Sandbox.call64` says of which functions."""
-        return self.sandbox.call64(self.address(name), *arguments, steps=self.steps, serve=self._serve)
+        return self.sandbox.call64(self.address(name), *arguments, steps=self.steps, serve=self._serving())
 
     def _called(self, address: int, *arguments: int) -> int:
-        return self.sandbox.call(address, *arguments, steps=self.steps, serve=self._serve)
+        return self.sandbox.call(address, *arguments, steps=self.steps, serve=self._serving())
 
     def _called_by(self, address: int, name: str, signature: Signature, *arguments: Any) -> Any:
-        return _passing.called(self.sandbox, address, name, signature, arguments, self._claims.stack, self.steps, self._serve)
+        return _passing.called(self.sandbox, address, name, signature, arguments, self._claims.stack, self.steps, self._serving())
 
     def _function(self, name: str) -> Callable[..., Any]:
         address, signature = self.address(name), self._claims.exports.get(name)

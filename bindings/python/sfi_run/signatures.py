@@ -3,7 +3,10 @@
 `(ii)i` is one of two signed integers, which gives a third. Between the parentheses there is a letter for each parameter, and after
 them that of the result:
 
-    i, u    an integer of at most 32 bits, signed and unsigned: an int, from -2^31 to 2^32 - 1 for both
+    y, c    an integer of 8 bits, signed and unsigned: an int from -128 to 127, and from 0 to 255
+    h, k    an integer of 16 bits: an int from -32768 to 32767, and from 0 to 65535
+    t       a bool: True and False, or 1 and 0. What a sandbox gives is True unless its lowest 8 bits are 0
+    i, u    an integer of 32 bits, signed and unsigned: an int, from -2^31 to 2^32 - 1 for both
     l, m    an integer of 64 bits, signed and unsigned: an int
     f, d    a float and a double: a float
     p       an address: an int from 0 to 2^32 - 1
@@ -12,10 +15,9 @@ them that of the result:
     w       bytes that are read and written, and their number: a bytearray; not as a result
     v       nothing: None; only as a result
 
-A parameter takes one register, or two (l, m, d, b and w), and a function has at most eight. An i or u isn't cut to a narrower type,
-as unsigned char or _Bool: a host passes, and its handlers answer, what that holds, else the function goes wrong. What is said here of
-an image is its author's claim: a false one makes calls go wrong, and lets nothing out of the sandbox. But by it the image chooses of
-which types a handler's values are, unless the host states the signature.
+A parameter takes one register, or two (l, m, d, b and w), and a function has at most eight. What a sandbox gives of 8 or 16 bits is
+what the lowest bits of the register say. What is said here of an image is its author's claim: a false one makes calls go wrong, and
+lets nothing out of the sandbox. But by it the image chooses of which types a handler's values are, unless the host states signatures.
 """
 from __future__ import annotations
 
@@ -29,13 +31,16 @@ from typing import Any
 
 from .told import WrongArguments
 
-WORDS = {"i": 1, "u": 1, "l": 2, "m": 2, "f": 1, "d": 2, "p": 1, "s": 1, "b": 2, "w": 2, "v": 0}
+WORDS = {"y": 1, "c": 1, "h": 1, "k": 1, "t": 1, "i": 1, "u": 1, "l": 2, "m": 2, "f": 1, "d": 2, "p": 1, "s": 1, "b": 2, "w": 2, "v": 0}
 MOST_WORDS = 8
-SIGNATURE = re.compile(r"\(([iulmfdpsbw]*)\)([iulmfdpsv])")
-RANGES = {"i": (-1 << 31, (1 << 32) - 1), "u": (-1 << 31, (1 << 32) - 1), "p": (0, (1 << 32) - 1),
+SIGNATURE = re.compile(r"\(([ychktiulmfdpsbw]*)\)([ychktiulmfdpsv])")
+RANGES = {"y": (-128, 127), "c": (0, 255), "h": (-1 << 15, (1 << 15) - 1), "k": (0, (1 << 16) - 1), "t": (0, 1),
+          "i": (-1 << 31, (1 << 32) - 1), "u": (-1 << 31, (1 << 32) - 1), "p": (0, (1 << 32) - 1),
           "l": (-1 << 63, (1 << 63) - 1), "m": (0, (1 << 64) - 1)}
-LAYOUTS = {"i": "<i", "l": "<q", "f": "<f", "d": "<d"}  # of a value's bytes; the others are as they are
-WANTED = {"i": "an int from -2^31 to 2^32 - 1", "u": "an int from -2^31 to 2^32 - 1", "l": "an int from -2^63 to 2^63 - 1",
+LAYOUTS = {"y": "<b", "c": "<B", "h": "<h", "k": "<H", "t": "<?", "i": "<i", "u": "<I", "p": "<I", "l": "<q", "m": "<Q", "f": "<f",
+           "d": "<d"}  # of a value's first bytes
+WANTED = {"y": "an int from -128 to 127", "c": "an int from 0 to 255", "h": "an int from -32768 to 32767", "k": "an int from 0 to 65535",
+          "t": "a bool", "i": "an int from -2^31 to 2^32 - 1", "u": "an int from -2^31 to 2^32 - 1", "l": "an int from -2^63 to 2^63 - 1",
           "m": "an int from 0 to 2^64 - 1", "f": "a number that a float holds", "d": "a number", "p": "an int from 0 to 2^32 - 1",
           "s": "a str without '\\0'", "b": "bytes", "w": "a bytearray, or another buffer that can be written",
           "v": "None"}
@@ -94,11 +99,8 @@ def words_of(letter: str, value: Any) -> tuple[int, ...]:
 
 
 def value_of(letter: str, words: Sequence[int]) -> int | float:
-    """The value of these words, of a letter of those whose values lie in registers."""
-    data = struct.pack(f"<{WORDS[letter]}I", *words)
-    if letter not in LAYOUTS:
-        return int.from_bytes(data, "little")
-    return struct.unpack(LAYOUTS[letter], data)[0]
+    """The value of these words, of a letter of those whose values lie in registers: of a narrow one that of their lowest bits."""
+    return struct.unpack_from(LAYOUTS[letter], struct.pack(f"<{WORDS[letter]}I", *words))[0]
 
 
 def data_of(letter: str, value: Any) -> bytes:

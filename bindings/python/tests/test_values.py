@@ -241,11 +241,24 @@ class Claims(Calls):
     def test_modules(self):
         image = claiming(".add(ii)i", imports=(".ask(s)u",))
         with modules.Module(image) as module:
-            first, second = module.instance(ask=len), module.instance(signatures={"forward": "(s)u", "add": "(ii)i"}, ask=len)
+            first, second = module.instance(ask=len), module.instance(signatures={"forward": "(s)u", "ask": "(s)u"}, ask=len)
             with self.assertRaises(sfi_run.WrongSignature):
                 module.instance(signatures={"add": "()i"})
         self.assertEqual((first.add(-1, 0), second.forward("äb"), first.signatures), (-1, 2, {"add": "(ii)i", "ask": "(s)u"}))
-        self.assertEqual(second.signatures, {"add": "(ii)i", "forward": "(s)u", "ask": "(s)u"})
+        self.assertEqual((second.signatures, second.add(-1, 0)), ({"forward": "(s)u", "ask": "(s)u"}, 0xFFFFFFFF))
+
+    def test_claims_beside_what_is_stated(self):
+        """Where a host states any, or that there are none, it takes no claim: what it doesn't name goes by words."""
+        for stated in ({}, {"length": "(s)u"}, {"unknown": "()v"}):
+            found = []
+            plugin = self.plugin(".add(ii)i", imports=(".ask(s)v",), stack=2048, signatures=stated, ask=lambda *given: found.extend(given))
+            self.assertEqual((plugin.signatures, plugin.add(-2, 1), plugin.forward(5)), (stated, 0xFFFFFFFF, 0))
+            self.assertEqual([(type(it), it.a0) for it in found], [(sfi_run.Call, 5)])
+        plugin = self.plugin(stack=2048, signatures={"total": "(b)u"})  # the stack's claim stays
+        self.assertEqual(self.refuses(plugin, sfi_run.TooLong, lambda: plugin.total(bytes(1025))).room, 1024)
+        self.assertEqual(self.plugin(stack=4000, signatures={"total": "(b)u"}).total(bytes(1025)), 0)
+        plugin = self.plugin(".add(ii)i", signatures=None)
+        self.assertEqual((plugin.signatures, plugin.add(-2, 1)), ({"add": "(ii)i"}, -1))
 
 
 class Handlers(Calls):
@@ -351,6 +364,72 @@ class Handlers(Calls):
             self.assertEqual((plugin.keep("outer " * 100), found), ("outer " * 100, [500, "outer " * 100]))
 
 
+class Allowances(Calls):
+    """The handlers of a call get at most 16 bytes of texts and bytes for each step that it may take."""
+
+    def asks(self, letters, *words, steps=64, times=1, size=0):
+        """What a handler got of so many calls within one, and why it is over if it is."""
+        source = SOURCE.replace("forward: addi sp, sp, -16", f"forward: addi sp, sp, -16\n    sw s0, 8(sp)\n    li s0, {times}") \
+            .replace("        call ask\n        lw   ra", "again:  call ask\n    addi s0, s0, -1\n    bnez s0, again\n    lw s0, 8(sp)\n        lw   ra", 1)
+        found = []
+        plugin = self.plugin(imports=(f".ask({letters})i",), image=built(source), ask=lambda *given: (found.extend(given), DATA)[1])
+        plugin.sandbox.write(DATA, b"x" * size + b"\0")
+        plugin.steps = steps
+        for _ in range(2):  # of another call there is as much
+            found.clear()
+            try:
+                plugin.forward(*words)
+                why = None
+            except sfi_run.NotReturned as failed:
+                why = failed
+        return list(map(len, found)), why
+
+    def refused(self, why, letters, number, steps):
+        self.assertIs(why.cause, Ended.REFUSED)
+        self.assertIn(f"ask({letters})i: argument {number} is too long, as a run of {steps} steps hands {16 * steps} bytes of texts and bytes to its "
+                      "handlers at most)", str(why))
+
+    def test_bytes(self):
+        for letter in "bw":
+            self.assertEqual(self.asks(letter, DATA, 1024), ([1024], None))
+            self.assertEqual(self.asks(letter * 2, DATA, 512, DATA, 512), ([512, 512], None))
+            for words, number in (((DATA, 1025), 1), ((DATA, 512, DATA, 513), 2)):
+                found, why = self.asks(letter * number, *words)
+                self.assertEqual(found, [])
+                self.refused(why, letter * number, number, 64)
+
+    def test_texts(self):
+        for size in (0, 1, 255, 256, 257, 1023, 1024):
+            self.assertEqual(self.asks("s", DATA, size=size), ([size], None))
+        for size in (1025, 2000, 3000):
+            found, why = self.asks("s", DATA, size=size)
+            self.assertEqual(found, [])
+            self.refused(why, "s", 1, 64)
+
+    def test_all_calls_of_a_run(self):
+        self.assertEqual(self.asks("b", DATA, 320, steps=200, times=10), ([320] * 10, None))
+        for letters, words, size, times in (("b", (DATA, 321), 0, 9), ("sb", (DATA, DATA, 200), 200, 16)):
+            found, why = self.asks(letters, *words, steps=200, times=10, size=size)
+            self.assertEqual(found, [max(size, words[-1])] * times)
+            self.refused(why, letters, 1, 200)
+
+    def test_little_is_read(self):
+        """A long text isn't read to its end where the handlers don't get it."""
+        with Handlers.reads() as read:
+            self.asks("s", DATA, size=3500, steps=40)
+        self.assertLess(sum(it.args[2] for it in read.call_args_list), 2 * 1000)  # of two calls
+
+    def test_the_start(self):
+        for count, steps, number in ((320, 40, 1), (321, 40, 0), (0, 40, 2)):
+            found, source = [], SOURCE.replace("        call exit", f"    la a0, greeting\n    li a1, {count}\n" + "    call ask\n" * 2 + "    call exit", 1)
+            image = claiming(imports=(".ask(bb)p",), image=built(source.replace("    call ask\n", "    mv a2, a0\n    mv a3, a1\n    call ask\n", 1)))
+            try:
+                self.addCleanup(names.Plugin(image, ask=lambda *given: (found.append(given), DATA)[1], steps=steps).close)
+            except sfi_run.NotReturned as failed:
+                self.assertIs(failed.cause, Ended.REFUSED)
+            self.assertEqual(len(found), number)
+
+
 class Failing(Calls):
     """Calls by signature end as others do, and the next one is right: the cases of test_calls."""
 
@@ -397,8 +476,8 @@ class Failing(Calls):
             buffer.pop()
 
     def test_four_threads(self):
-        plugin, wrong = self.plugin(".tail(s)s", ".raise(w)v", ".forward(s)u", imports=(".ask(s)u",), ask=lambda text: plugin.length(text),
-                                    signatures={"length": "(s)u"}), []
+        plugin, wrong, done = self.plugin(".tail(s)s", ".raise(w)v", ".forward(s)u", ".length(s)u", imports=(".ask(s)u",),
+                                          ask=lambda text: plugin.length(text)), [], []
 
         def work(number):
             for count in range(500):
@@ -406,12 +485,13 @@ class Failing(Calls):
                 plugin.call("raise", buffer)
                 if (plugin.tail(text), buffer, plugin.forward(text)) != (text[1:], bytes([number + 1] * 40), len(text)):
                     wrong.append((number, count))
+            done.append(number)
         threads = [threading.Thread(target=work, args=(number,)) for number in range(1, 5)]
         for thread in threads:
             thread.start()
         for thread in threads:
             thread.join()
-        self.assertEqual(wrong, [])
+        self.assertEqual((wrong, sorted(done)), ([], [1, 2, 3, 4]))
 
 
 if __name__ == "__main__":

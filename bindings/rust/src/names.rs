@@ -149,7 +149,7 @@ pub fn imports(image: &[u8], sandbox: u32) -> Result<Vec<Entry>, NameError> {
 /// How many words the value of a letter takes in registers, if it can be a parameter's.
 fn words_of(letter: u8) -> Option<usize> {
     match letter {
-        b'i' | b'u' | b'f' | b'p' | b's' => Some(1),
+        b'y' | b'c' | b'h' | b'k' | b't' | b'i' | b'u' | b'f' | b'p' | b's' => Some(1),
         b'l' | b'm' | b'd' | b'b' | b'w' => Some(2),
         _ => None,
     }
@@ -161,7 +161,7 @@ pub(crate) fn is_signature(text: &str) -> bool {
         return false;
     };
     let words: Option<usize> = parameters.iter().copied().map(words_of).sum();
-    words.is_some_and(|words| words <= 8) && b"iulmfdpsv".contains(result)
+    words.is_some_and(|words| words <= 8) && b"ychktiulmfdpsv".contains(result)
 }
 
 /// The signature that the first claim about a name has which can be read, of entries that aren't too many.

@@ -184,9 +184,9 @@ impl<'a> Passed<'a> {
     }
 }
 
-/// What a function of a signature takes: `i8` to `i32` for `i`, `u8` to `u32` and `bool` for `u`, also `u32` for `p`, `i64` for
-/// `l`, `u64` for `m`, `f32` for `f`, `f64` for `d`, `&str` for `s`, `&[u8]` for `b`, and `&mut [u8]` for `w`, to which what the
-/// function wrote there is copied when it returns.
+/// What a function of a signature takes: `i8` for `y`, `u8` for `c`, `i16` for `h`, `u16` for `k`, `bool` for `t`, `i32` for `i`,
+/// `u32` for `u` and `p`, `i64` for `l`, `u64` for `m`, `f32` for `f`, `f64` for `d`, `&str` for `s`, `&[u8]` for `b`, and
+/// `&mut [u8]` for `w`, to which what the function wrote there is copied when it returns.
 pub trait Value<'a>: Sealed {
     /// The letters that it fits.
     #[doc(hidden)]
@@ -209,13 +209,13 @@ macro_rules! values {
 }
 
 values! {
-    i8, "i", |value, to| to.words.push(value as u32);
-    i16, "i", |value, to| to.words.push(value as u32);
+    i8, "y", |value, to| to.words.push(value as u32);
+    i16, "h", |value, to| to.words.push(value as u32);
     i32, "i", |value, to| to.words.push(value as u32);
-    u8, "u", |value, to| to.words.push(value.into());
-    u16, "u", |value, to| to.words.push(value.into());
+    u8, "c", |value, to| to.words.push(value.into());
+    u16, "k", |value, to| to.words.push(value.into());
     u32, "up", |value, to| to.words.push(value);
-    bool, "u", |value, to| to.words.push(value.into());
+    bool, "t", |value, to| to.words.push(value.into());
     i64, "l", |value, to| to.wide(value as u64);
     u64, "m", |value, to| to.wide(value);
     f32, "f", |value, to| to.words.push(value.to_bits());
@@ -284,8 +284,9 @@ tuples! {
     A B C D E F G H;
 }
 
-/// What a function of a signature returns: `i32` for `i`, `u32` for `u` and `p`, `i64` for `l`, `u64` for `m`, `f32` for `f`, `f64`
-/// for `d`, `()` for `v`, and `Option<String>` for `s`, which is none of the address 0.
+/// What a function of a signature returns: `i8` for `y`, `u8` for `c`, `i16` for `h`, `u16` for `k`, of which the lowest bits count,
+/// `bool` for `t`, which is true unless the lowest 8 bits are 0, `i32` for `i`, `u32` for `u` and `p`, `i64` for `l`, `u64` for `m`,
+/// `f32` for `f`, `f64` for `d`, `()` for `v`, and `Option<String>` for `s`, which is none of the address 0.
 pub trait Returned: Sealed + Sized {
     /// The letters that it fits.
     #[doc(hidden)]
@@ -307,6 +308,11 @@ macro_rules! returned {
 
 impl Sealed for () {}
 returned! {
+    i8, "y", |result| result as i8;
+    u8, "c", |result| result as u8;
+    i16, "h", |result| result as i16;
+    u16, "k", |result| result as u16;
+    bool, "t", |result| result as u8 != 0;
     i32, "i", |result| result as i32;
     u32, "up", |result| result as u32;
     i64, "l", |result| result as i64;

@@ -162,10 +162,6 @@ fn numbers() {
     let mut sandbox = plugin.sandbox();
     assert_eq!(add.call(&mut sandbox, (2, -5), STEPS, unserved), Ok(-3));
     assert_eq!(
-        add.call(&mut sandbox, (2i8, 300i16), STEPS, unserved),
-        Ok(302)
-    );
-    assert_eq!(
         same.call(&mut sandbox, (u32::MAX,), STEPS, unserved),
         Ok(u32::MAX)
     );
@@ -190,8 +186,47 @@ fn numbers() {
     );
     let nothing = Function::stated(&image, 0, "plain", "()v").unwrap();
     assert_eq!(nothing.call(&mut sandbox, (), STEPS, unserved), Ok(()));
-    let truth = Function::stated(&image, 0, "plain", "(u)u").unwrap();
-    assert_eq!(truth.call(&mut sandbox, (true,), STEPS, unserved), Ok(1u32));
+}
+
+/// Each narrow value in a register as C's callers extend it, and back.
+#[test]
+fn narrow_values() {
+    let mut plugin = Plugin::new();
+    let image = plugin.image.clone();
+    let mut sandbox = plugin.sandbox();
+    let stated = |letters| Function::stated(&image, 0, "plain", letters).unwrap();
+    macro_rules! narrow {
+        ($($kind:ty, $letter:literal, $other:ty, [$($value:expr => $word:expr),*], [$($cut:expr => $seen:expr),*];)*) => {$(
+            let same = stated(concat!("(", $letter, ")", $letter));
+            $(
+                let value: $kind = $value;
+                assert_eq!(same.call(&mut sandbox, (value,), STEPS, unserved), Ok(value));
+                let word = stated(concat!("(", $letter, ")u")).call(&mut sandbox, (value,), STEPS, unserved);
+                assert_eq!(word, Ok($word));
+            )*
+            $(
+                let cut: $kind = $seen;
+                let seen = stated(concat!("(u)", $letter)).call(&mut sandbox, ($cut,), STEPS, unserved);
+                assert_eq!(seen, Ok(cut));
+            )*
+            let other = same.call::<_, $kind>(&mut sandbox, (<$other>::default(),), STEPS, unserved);
+            assert!(matches!(other, Err(ValueError::WrongArguments { .. })));
+            let other = same.call::<_, $other>(&mut sandbox, (<$kind>::default(),), STEPS, unserved);
+            assert!(matches!(other, Err(ValueError::WrongArguments { .. })));
+        )*};
+    }
+    narrow! {
+        i8, "y", i32, [-128 => 0xffff_ff80_u32, 127 => 127u32], [200u32 => -56, 0x100u32 => 0];
+        u8, "c", u32, [0 => 0u32, 255 => 255u32], [300u32 => 44, u32::MAX => 255];
+        i16, "h", i8, [-32768 => 0xffff_8000_u32, 32767 => 32767u32], [0x8000u32 => -32768, 0x12345u32 => 0x2345];
+        u16, "k", u8, [0 => 0u32, 65535 => 65535u32], [u32::MAX => 65535, 65536u32 => 0];
+        bool, "t", u8, [false => 0u32, true => 1u32], [2u32 => true, 0x100u32 => false];
+    }
+    let pair =
+        stated("(ychkt)c").call(&mut sandbox, (-1i8, 2u8, 3i16, 4u16, true), STEPS, unserved);
+    assert_eq!(pair, Ok(255u8));
+    let wide = stated("(u)i").call::<_, i32>(&mut sandbox, (true,), STEPS, unserved);
+    assert!(matches!(wide, Err(ValueError::WrongArguments { given, .. }) if given == "(t)i"));
 }
 
 #[test]
@@ -395,6 +430,7 @@ fn signatures() {
         "(iiiiiiiii)i",
         "(dddld)v",
         "(i)i)i",
+        "(ychkticyh)v",
     ] {
         assert_eq!(
             Function::stated(image, 0, "add", no_signature),

@@ -149,7 +149,7 @@ static inline enum sfi_run_ended sfi_run_function(struct sfi_run_world *world, u
 static inline uint32_t sfi_run_words(const char *letters, const char *end) {
     uint32_t words = 0;
     for (; letters < end && *letters != ')'; letters++) {
-        if (*letters == 0 || strchr("iulmfdpsbw", *letters) == NULL)
+        if (*letters == 0 || strchr("ychktiulmfdpsbw", *letters) == NULL)
             return 9;
         words += strchr("lmdbw", *letters) != NULL ? 2 : 1;
         if (words > 8)
@@ -161,7 +161,7 @@ static inline uint32_t sfi_run_words(const char *letters, const char *end) {
 /* Whether text that begins with '(' is a signature: letters of parameters, which take at most eight words, and of a result. */
 static inline bool sfi_run_is_signature(const char *text, size_t size) {
     return size >= 3 && text[0] == '(' && text[size - 2] == ')' && memchr(text, ')', size) == text + size - 2 &&
-           sfi_run_words(text + 1, text + size - 2) <= 8 && text[size - 1] != 0 && strchr("iulmfdpsv", text[size - 1]) != NULL;
+           sfi_run_words(text + 1, text + size - 2) <= 8 && text[size - 1] != 0 && strchr("ychktiulmfdpsv", text[size - 1]) != NULL;
 }
 
 /* Among which names of a table a signature is looked for. */
@@ -178,11 +178,11 @@ static inline uint32_t sfi_run_entry_at(const uint8_t *image, size_t length, uin
 
 /*
  * Writes to `signature` what the image claims of the function `name`, an export or an import of one of its sandboxes: "(ii)i"
- * of `int add(int, int)`, ended by 0 (docs/IMAGE.md has the letters). It is the first entry of number 0 among those names which
- * is a point, `name` and a signature. Returns one of enum sfi_run_names, where SFI_RUN_NAMES_NO_NAME says that the table claims
- * nothing of it, or has more than SFI_RUN_SIGNED_MOST of those names with their claims; nothing is written then. It is a claim
- * of the image's author, and no premise of anything: a host compares it with what it means to call, so that the two don't
- * mistake each other.
+ * of `int add(int, int)`, ended by 0 (docs/IMAGE.md has the letters, and how a caller extends narrow values). It is the first
+ * entry of number 0 among those names which is a point, `name` and a signature. Returns one of enum sfi_run_names, where
+ * SFI_RUN_NAMES_NO_NAME says that the table claims nothing of it, or has more than SFI_RUN_SIGNED_MOST of those names with their
+ * claims; nothing is written then. It is a claim of the image's author, and no premise of anything: a host compares it with what
+ * it means to call, so that the two don't mistake each other.
  */
 static inline uint32_t sfi_run_signature(const uint8_t *image, size_t length, uint32_t sandbox, enum sfi_run_side side,
                                          const char *name, char signature[SFI_RUN_NAME_MOST]) {
