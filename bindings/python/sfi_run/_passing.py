@@ -63,7 +63,7 @@ def called(sandbox: Sandbox, pc: int, name: str, signature: Signature, given: Se
            serve: Callable[[Call], object] | None) -> Any:
     """Calls a function at pc with these arguments: its result."""
     words, blocks = taken(name, signature, given)
-    if _size(blocks) > stack.room():
+    if blocks and _size(blocks) > stack.room():
         raise TooLong(name, _size(blocks), stack.room())
     prepare = (lambda: lay(sandbox, name, blocks, stack)) if blocks else None
     sandbox._world._made_here()
@@ -138,6 +138,11 @@ def bytes_at(sandbox: Sandbox, at: int, count: int, allowance: Allowance) -> byt
 
 def served(name: str, signature: Signature, handler: Callable[..., Any], call: Call, allowance: Allowance) -> None:
     """Replies to a call of a gate, as a handler answers to its arguments. What the handler leaves in a buffer is written back."""
+    if signature.in_registers:
+        answer = handler(*signature.values(_words(call)))
+        if call.is_waiting:
+            call.reply(*_answered(name, signature, answer))
+        return
     values = _values(name, signature, call, allowance)
     sizes = [len(value) if letter == "w" else 0 for letter, value in zip(signature.parameters, values)]
     answer = handler(*values)

@@ -21,6 +21,7 @@ lets nothing out of the sandbox. But by it the image chooses of which types a ha
 """
 from __future__ import annotations
 
+import functools
 import operator
 import re
 import reprlib
@@ -33,6 +34,7 @@ from .told import WrongArguments
 
 WORDS = {"y": 1, "c": 1, "h": 1, "k": 1, "t": 1, "i": 1, "u": 1, "l": 2, "m": 2, "f": 1, "d": 2, "p": 1, "s": 1, "b": 2, "w": 2, "v": 0}
 MOST_WORDS = 8
+WORD = 0xFFFFFFFF
 SIGNATURE = re.compile(r"\(([ychktiulmfdpsbw]*)\)([ychktiulmfdpsv])")
 RANGES = {"y": (-128, 127), "c": (0, 255), "h": (-1 << 15, (1 << 15) - 1), "k": (0, (1 << 16) - 1), "t": (0, 1),
           "i": (-1 << 31, (1 << 32) - 1), "u": (-1 << 31, (1 << 32) - 1), "p": (0, (1 << 32) - 1),
@@ -48,11 +50,30 @@ WANTED = {"y": "an int from -128 to 127", "c": "an int from 0 to 255", "h": "an 
 UNFIT = (TypeError, ValueError, OverflowError, struct.error)  # what is raised of a value that a letter hasn't
 
 
+# How values lie in the bytes of a0 to a7, each from a word on: of texts, bytes and buffers their addresses and sizes.
+PLACES = {"y": "b3x", "c": "B3x", "h": "h2x", "k": "H2x", "t": "?3x", "i": "i", "u": "I", "p": "I", "l": "q", "m": "Q", "f": "f", "d": "d",
+          "s": "I", "b": "II", "w": "II"}
+ALL_WORDS = struct.Struct("<8I")
+
+
 @dataclass(frozen=True)
 class Signature:
     """A function's: the letters of its parameters, and that of its result."""
     parameters: str
     result: str
+
+    @functools.cached_property
+    def in_registers(self) -> bool:
+        """Whether all parameters lie in registers, none in memory."""
+        return not set(self.parameters) & set("sbw")
+
+    @functools.cached_property
+    def _layout(self) -> struct.Struct:
+        return struct.Struct("<" + "".join(PLACES[letter] for letter in self.parameters))
+
+    def values(self, words: Sequence[int]) -> tuple[Any, ...]:
+        """Those of the words in a0 to a7, if they lie in registers."""
+        return self._layout.unpack_from(ALL_WORDS.pack(*words))
 
     def __str__(self) -> str:
         return f"({self.parameters}){self.result}"
@@ -92,10 +113,8 @@ def words_of(letter: str, value: Any) -> tuple[int, ...]:
         number = operator.index(value)
         if not low <= number <= high:
             raise ValueError(WANTED[letter])
-        data = (number % (1 << 32 * WORDS[letter])).to_bytes(4 * WORDS[letter], "little")
-    else:
-        data = struct.pack(LAYOUTS[letter], value)
-    return struct.unpack(f"<{WORDS[letter]}I", data)
+        return (number & WORD,) if WORDS[letter] == 1 else (number & WORD, number >> 32 & WORD)
+    return struct.unpack(f"<{WORDS[letter]}I", struct.pack(LAYOUTS[letter], value))
 
 
 def value_of(letter: str, words: Sequence[int]) -> int | float:
