@@ -39,8 +39,8 @@ void interrupt_after(uint32_t ticks) {
 /* start.S comes here in S-mode, once there is a page table. */
 void run_host(void) {
     console_is_paged();
+    test_guards(&world);
     for (uint32_t number = 0; number < world.count; number++)
         test_mirrors(number, &world.sandboxes[number].part);
-    test_guards(&world);
     run_world(&world);
 }
