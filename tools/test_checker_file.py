@@ -107,7 +107,7 @@ class CheckerFile(testing.Folder):
         self.assertEqual(library.sfi_c_move(data, length, number + 1, 0, 0), 1)
 
     def compare_moved(self, library, data, number, part):
-        """Its bases, start and gates at another place, as docs/IMAGE.md has them in the bytes."""
+        """Its bases, start, gates and names at another place, as docs/IMAGE.md has them in the bytes."""
         code_base, data_base = 0x60000000, 0x70000000
         front = part.code_offset - 28 - 8 * len(part.gates)
         wanted = bytearray(data)
@@ -115,9 +115,40 @@ class CheckerFile(testing.Folder):
         places += [(front + 28 + 8 * k, gate - part.code_base + code_base) for k, gate in enumerate(sorted(part.gates))]
         for at, number_there in places:
             struct.pack_into("<I", wanted, at, number_there)
+        first = part.code_offset + part.code_size
+        wanted[first:first + len(part.init)] = names_there(part, code_base, data_base)
         image = ctypes.create_string_buffer(data, len(data))
         self.assertEqual(library.sfi_c_move(image, ctypes.c_size_t(len(data)), number, code_base, data_base), 0)
         self.assertEqual(image.raw, bytes(wanted))
+
+
+def names_there(part, code_base, data_base):
+    """A sandbox's first data bytes at another place, with the addresses of their table there, if they end in one."""
+    data, end = part.init, len(part.init) - 16
+    if end < 0 or data[-4:] != b"SFIN":
+        return data
+    _, exports, imports = struct.unpack_from("<3I", data, end)
+    found, at = bytearray(data), end - exports - imports
+    for stop in (end - imports, end):
+        while 0 <= at < stop:
+            address, size = struct.unpack_from("<IB", data, at)
+            name = data[at + 5:at + 5 + size]
+            if not name or at + 5 + size > stop or not all(33 <= it <= 126 for it in name):
+                return data
+            if name[0] != ord("."):
+                struct.pack_into("<I", found, at, address_there(part, address, code_base, data_base))
+            at += 5 + size
+        if at != stop:
+            return data
+    return bytes(found)
+
+
+def address_there(part, address, code_base, data_base):
+    if part.code_base <= address < part.code_base + part.code_size:
+        return address - part.code_base + code_base
+    if part.data_base <= address < part.data_base + part.data_size:
+        return address - part.data_base + data_base
+    return address
 
 
 if __name__ == "__main__":

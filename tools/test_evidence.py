@@ -163,7 +163,7 @@ class Pages(unittest.TestCase):
         self.assertEqual(verify_evidence.judged(self.safety)[0], [])
         files = {f"### crates/{crate}/specs/{it}.antt" for crate, names in FILES_OF_SAFETY.items() for it in names}
         self.assertEqual({it.split(" sha256=")[0] for it in self.safety.splitlines() if ".antt sha256=" in it and it.startswith("### crates/")}, files)
-        for said in ("ensures safe { IfOk result", "pub record IsAccepted ", "pub record IsImage ", "record RunsSafely ", "record IsSafeStep ",
+        for said in ("ensures safe { IfOk result", "pub record IsAccepted ", "pub record IsImage ", "record RunsSafelyAs ", "record IsSafeStepAs ",
                      "pub struct Accepted<'a> {", "ghost Value = { List Part };", "pub enum Instr {", "expansion (CSwsp t i) = "):
             self.assertIn(said, self.safety)
 
