@@ -8,7 +8,7 @@ from dataclasses import dataclass
 from typing import TYPE_CHECKING, Any
 
 from . import _functions, _library
-from .signatures import UNFIT, WANTED, Block, Signature, split, taken, value_of, words_of
+from .signatures import LEAST, UNFIT, WANTED, WORD, Block, Signature, split, taken, value_of, words_of
 from .told import Call, OutsideData, TooLong
 
 if TYPE_CHECKING:
@@ -65,6 +65,9 @@ def called(sandbox: Sandbox, pc: int, name: str, signature: Signature, given: Se
     words, blocks = taken(name, signature, given)
     if blocks and _size(blocks) > stack.room():
         raise TooLong(name, _size(blocks), stack.room())
+    if not blocks and signature.result != "s":  # then no memory is read or written beside the call
+        result = _functions.called(sandbox, pc, words, steps, serve)
+        return _value(sandbox, signature.result, (result & WORD, result >> 32))
     prepare = (lambda: lay(sandbox, name, blocks, stack)) if blocks else None
     sandbox._world._made_here()
     with sandbox._world._lock:
@@ -139,7 +142,7 @@ def bytes_at(sandbox: Sandbox, at: int, count: int, allowance: Allowance) -> byt
 def served(name: str, signature: Signature, handler: Callable[..., Any], call: Call, allowance: Allowance) -> None:
     """Replies to a call of a gate, as a handler answers to its arguments. What the handler leaves in a buffer is written back."""
     if signature.in_registers:
-        answer = handler(*signature.values(_words(call)))
+        answer = handler(*signature.values(call))
         if call.is_waiting:
             call.reply(*_answered(name, signature, answer))
         return
@@ -188,6 +191,8 @@ def _answered(name: str, signature: Signature, answer: Any) -> tuple[int, ...]:
     """The words of what a handler answered."""
     if signature.result == "v" or signature.result == "s" and answer is None:
         return (0,)
+    if signature.result in "iu" and type(answer) is int and LEAST <= answer <= WORD:
+        return (answer & WORD,)
     letter = "p" if signature.result == "s" else signature.result
     try:
         return words_of(letter, answer)

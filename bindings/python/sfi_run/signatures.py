@@ -26,7 +26,7 @@ import operator
 import re
 import reprlib
 import struct
-from collections.abc import Sequence
+from collections.abc import Callable, Sequence
 from dataclasses import dataclass
 from typing import Any
 
@@ -35,6 +35,7 @@ from .told import WrongArguments
 WORDS = {"y": 1, "c": 1, "h": 1, "k": 1, "t": 1, "i": 1, "u": 1, "l": 2, "m": 2, "f": 1, "d": 2, "p": 1, "s": 1, "b": 2, "w": 2, "v": 0}
 MOST_WORDS = 8
 WORD = 0xFFFFFFFF
+LEAST = -1 << 31
 SIGNATURE = re.compile(r"\(([ychktiulmfdpsbw]*)\)([ychktiulmfdpsv])")
 RANGES = {"y": (-128, 127), "c": (0, 255), "h": (-1 << 15, (1 << 15) - 1), "k": (0, (1 << 16) - 1), "t": (0, 1),
           "i": (-1 << 31, (1 << 32) - 1), "u": (-1 << 31, (1 << 32) - 1), "p": (0, (1 << 32) - 1),
@@ -53,7 +54,6 @@ UNFIT = (TypeError, ValueError, OverflowError, struct.error)  # what is raised o
 # How values lie in the bytes of a0 to a7, each from a word on: of texts, bytes and buffers their addresses and sizes.
 PLACES = {"y": "b3x", "c": "B3x", "h": "h2x", "k": "H2x", "t": "?3x", "i": "i", "u": "I", "p": "I", "l": "q", "m": "Q", "f": "f", "d": "d",
           "s": "I", "b": "II", "w": "II"}
-ALL_WORDS = struct.Struct("<8I")
 
 
 @dataclass(frozen=True)
@@ -68,12 +68,12 @@ class Signature:
         return not set(self.parameters) & set("sbw")
 
     @functools.cached_property
-    def _layout(self) -> struct.Struct:
-        return struct.Struct("<" + "".join(PLACES[letter] for letter in self.parameters))
-
-    def values(self, words: Sequence[int]) -> tuple[Any, ...]:
-        """Those of the words in a0 to a7, if they lie in registers."""
-        return self._layout.unpack_from(ALL_WORDS.pack(*words))
+    def values(self) -> Callable[[Any], tuple[Any, ...]]:
+        """What gives those of a call, of its words a0 and on, if they lie in registers."""
+        count = max(2, sum(WORDS[letter] for letter in self.parameters))  # attrgetter gives a tuple of two or more
+        words = operator.attrgetter(*(f"a{number}" for number in range(count)))
+        pack, unpack = struct.Struct(f"<{count}I").pack, struct.Struct("<" + "".join(PLACES[letter] for letter in self.parameters)).unpack_from
+        return lambda call: unpack(pack(*words(call)))
 
     def __str__(self) -> str:
         return f"({self.parameters}){self.result}"
@@ -142,6 +142,9 @@ def taken(name: str, signature: Signature, given: Sequence[Any]) -> tuple[list[i
     words: list[int] = []
     blocks: list[Block] = []
     for number, (letter, value) in enumerate(zip(signature.parameters, given), 1):
+        if letter in "iu" and type(value) is int and LEAST <= value <= WORD:  # as words_of, for what most calls take
+            words.append(value & WORD)
+            continue
         try:
             if letter in "sbw":
                 data = data_of(letter, value)
