@@ -8,7 +8,7 @@ from dataclasses import dataclass
 from typing import TYPE_CHECKING, Any
 
 from . import _functions, _library
-from .signatures import LEAST, UNFIT, WANTED, WORD, Block, Signature, split, taken, value_of, words_of
+from .signatures import LEAST, UNFIT, WANTED, WORD, WORDS, Block, Signature, split, taken, value_of, words_of
 from .told import Call, OutsideData, TooLong
 
 if TYPE_CHECKING:
@@ -66,8 +66,7 @@ def called(sandbox: Sandbox, pc: int, name: str, signature: Signature, given: Se
     if blocks and _size(blocks) > stack.room():
         raise TooLong(name, _size(blocks), stack.room())
     if not blocks and signature.result != "s":  # then no memory is read or written beside the call
-        result = _functions.called(sandbox, pc, words, steps, serve)
-        return _value(sandbox, signature.result, (result & WORD, result >> 32))
+        return _value(sandbox, signature.result, _functions.called(sandbox, pc, words, steps, serve))
     prepare = (lambda: lay(sandbox, name, blocks, stack)) if blocks else None
     sandbox._world._made_here()
     with sandbox._world._lock:
@@ -75,7 +74,7 @@ def called(sandbox: Sandbox, pc: int, name: str, signature: Signature, given: Se
         for block in blocks:
             if block.buffer is not None:
                 _bring_back(sandbox, name, block)
-        return _value(sandbox, signature.result, (result & 0xFFFFFFFF, result >> 32))
+        return _value(sandbox, signature.result, result)
 
 
 def lay(sandbox: Sandbox, name: str, blocks: Sequence[Block], stack: Stack) -> None:
@@ -105,13 +104,14 @@ def _bring_back(sandbox: Sandbox, name: str, block: Block) -> None:
             plain[:] = sandbox.read(block.at, len(block.data))
 
 
-def _value(sandbox: Sandbox, letter: str, words: Sequence[int]) -> Any:
-    """A function's result."""
+def _value(sandbox: Sandbox, letter: str, result: int) -> Any:
+    """What a function's result of 64 bits is."""
+    words = (result & WORD, result >> 32)
     if letter == "v" or letter == "s" and words[0] == 0:
         return None
     if letter == "s":
         return text_at(sandbox, words[0])
-    return value_of(letter, words[: 2 if letter in "lmd" else 1])
+    return value_of(letter, words[: WORDS[letter]])
 
 
 def text_at(sandbox: Sandbox, at: int, allowance: Allowance | None = None) -> str:

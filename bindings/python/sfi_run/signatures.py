@@ -38,10 +38,11 @@ WORD = 0xFFFFFFFF
 LEAST = -1 << 31
 SIGNATURE = re.compile(r"\(([ychktiulmfdpsbw]*)\)([ychktiulmfdpsv])")
 RANGES = {"y": (-128, 127), "c": (0, 255), "h": (-1 << 15, (1 << 15) - 1), "k": (0, (1 << 16) - 1), "t": (0, 1),
-          "i": (-1 << 31, (1 << 32) - 1), "u": (-1 << 31, (1 << 32) - 1), "p": (0, (1 << 32) - 1),
+          "i": (LEAST, WORD), "u": (LEAST, WORD), "p": (0, WORD),
           "l": (-1 << 63, (1 << 63) - 1), "m": (0, (1 << 64) - 1)}
-LAYOUTS = {"y": "<b", "c": "<B", "h": "<h", "k": "<H", "t": "<?", "i": "<i", "u": "<I", "p": "<I", "l": "<q", "m": "<Q", "f": "<f",
-           "d": "<d"}  # of a value's first bytes
+# How values lie in the bytes of whole words: of texts, bytes and buffers their addresses and sizes.
+PLACES = {"y": "b3x", "c": "B3x", "h": "h2x", "k": "H2x", "t": "?3x", "i": "i", "u": "I", "p": "I", "l": "q", "m": "Q", "f": "f", "d": "d",
+          "s": "I", "b": "II", "w": "II"}
 WANTED = {"y": "an int from -128 to 127", "c": "an int from 0 to 255", "h": "an int from -32768 to 32767", "k": "an int from 0 to 65535",
           "t": "a bool", "i": "an int from -2^31 to 2^32 - 1", "u": "an int from -2^31 to 2^32 - 1", "l": "an int from -2^63 to 2^63 - 1",
           "m": "an int from 0 to 2^64 - 1", "f": "a number that a float holds", "d": "a number", "p": "an int from 0 to 2^32 - 1",
@@ -49,11 +50,6 @@ WANTED = {"y": "an int from -128 to 127", "c": "an int from 0 to 255", "h": "an 
           "v": "None"}
 
 UNFIT = (TypeError, ValueError, OverflowError, struct.error)  # what is raised of a value that a letter hasn't
-
-
-# How values lie in the bytes of a0 to a7, each from a word on: of texts, bytes and buffers their addresses and sizes.
-PLACES = {"y": "b3x", "c": "B3x", "h": "h2x", "k": "H2x", "t": "?3x", "i": "i", "u": "I", "p": "I", "l": "q", "m": "Q", "f": "f", "d": "d",
-          "s": "I", "b": "II", "w": "II"}
 
 
 @dataclass(frozen=True)
@@ -114,12 +110,12 @@ def words_of(letter: str, value: Any) -> tuple[int, ...]:
         if not low <= number <= high:
             raise ValueError(WANTED[letter])
         return (number & WORD,) if WORDS[letter] == 1 else (number & WORD, number >> 32 & WORD)
-    return struct.unpack(f"<{WORDS[letter]}I", struct.pack(LAYOUTS[letter], value))
+    return struct.unpack(f"<{WORDS[letter]}I", struct.pack("<" + PLACES[letter], value))
 
 
 def value_of(letter: str, words: Sequence[int]) -> int | float:
     """The value of these words, of a letter of those whose values lie in registers: of a narrow one that of their lowest bits."""
-    return struct.unpack_from(LAYOUTS[letter], struct.pack(f"<{WORDS[letter]}I", *words))[0]
+    return struct.unpack("<" + PLACES[letter], struct.pack(f"<{WORDS[letter]}I", *words))[0]
 
 
 def data_of(letter: str, value: Any) -> bytes:
