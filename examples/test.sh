@@ -188,8 +188,8 @@ fi
   printf '.sandbox 256\nagain: j again\n'; } | "$SFI" build --raw >"$room/later.image"
 goes_on "what one put before the next computes" 1 in_process later.image
 
-# ---- the stack that docs/FAILURES.md names is enough, also for large images
-stack=$(sed -n 's/^.*A stack of \([0-9]*\) KiB.*$/\1/p' "$here/../docs/FAILURES.md")
+# ---- the stack that docs/sfi.1 names is enough, also for large images
+stack=$(sed -n 's/^.*A stack of \([0-9]*\) KiB.*$/\1/p' "$here/../docs/sfi.1")
 program=$SFI
 [ "$(head -c 2 "$SFI")" != "#!" ] || program=$here/../crates/sfi/out/sfi # what the wrapper runs
 cp hi.s "$room/hi.s"

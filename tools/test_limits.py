@@ -25,7 +25,6 @@ STATED = [
     ("docs/GATES.md", "where a1 is above {},", "most_handed"),
     ("docs/GATES.md", "the output would pass {} bytes", "most_output"),
     ("docs/GATES.md", "a mailbox of at most {},", "most_messages"),
-    ("docs/FAILURES.md", "has more than {} bytes", "limit"),
     ("docs/IMAGE.md", "An image holds 1 to {} sandboxes", "sandboxes_most"),
     ("docs/IMAGE.md", "there are, 1 to {} |", "sandboxes_most"),
     ("docs/IMAGE.md", "largest code region | {} bytes | {} bytes | {} bytes |",

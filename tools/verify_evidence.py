@@ -22,7 +22,7 @@ import evidence
 import statements
 
 NUMBER = r"0|[1-9]\d*"
-# What the toolchain's own threads may call, of which docs/TRUSTED.md says that ours start none.
+# What the toolchain's own threads may call, of which docs/THEOREM.md says that ours start none.
 OF_THREADS = ("_exit|abort|free|malloc|pthread_attr_(?:destroy|init|setguardsize|setstacksize)|pthread_(?:create|detach|join|self)"
               "|sched_yield|syscall")
 # The words of the last line of a check from nothing, and the values that each may have but for `functions`, `axioms` and `sum`.
@@ -107,7 +107,7 @@ def faults_of_axioms(crate, lines, count):
         want = AXIOMS.get(crate, {}).get(library, 0)
         is_so = (names, number) == (want, len(want)) if isinstance(want, list) else number == want
         if not is_so:
-            faults.append(f"{crate} rests on other axioms of {library} than docs/TRUSTED.md says: {number}: {', '.join(names)}")
+            faults.append(f"{crate} rests on other axioms of {library} than docs/THEOREM.md says: {number}: {', '.join(names)}")
     return faults
 
 

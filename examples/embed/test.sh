@@ -201,11 +201,11 @@ found=$(nm -u "$library" 2>"$room/log" | awk 'NF == 2 { print $2 }' | sort -u | 
 [ -n "$found" ] && ! grep -qvxE 'memcpy|memmove|memset' < <(tr ' ' '\n' <<<"${found% }")
 report_as $? "what the library asks for" "no more than memcpy, memmove and memset" "$found$(cat "$room/log")"
 
-# the host in README.md
-sed -n '/^## Embedding/,/^## Rules/p' "$top/README.md" | sed -n '/^```c$/,/^```$/p' | sed '/^```/d' >"$room/readme.c"
-succeeds "the host of README.md" gcc "${warnings[@]}" "$room/readme.c" "$library" -o "$room/readme"
-found=$("$room/readme" <"$room/first_format.image"; echo "$?"; "$room/readme" <"$room/three.image"; echo "$?")
-report "the host of README.md" $'accepted sandboxes=1 bundles=16\n0\n1' "$found"
+# the checker in docs/EMBEDDING.md
+sed -n '/^## From C, and/,/^### An image/p' "$top/docs/EMBEDDING.md" | sed -n '/^```c$/,/^```$/p' | sed '/^```/d' >"$room/checker.c"
+succeeds "the checker of docs/EMBEDDING.md" gcc "${warnings[@]}" "$room/checker.c" "$library" -o "$room/checker"
+found=$("$room/checker" <"$room/first_format.image"; echo "$?"; "$room/checker" <"$room/three.image"; echo "$?")
+report "the checker of docs/EMBEDDING.md" $'accepted sandboxes=1 bundles=16\n0\n1' "$found"
 succeeds edges.c gcc -std=c11 "${warnings[@]}" "$here/edges.c" "$library" -o "$room/edges"
 run_verdicts edges
 succeeds pieces.c gcc -std=c11 "${warnings[@]}" "$here/pieces.c" "$library" -o "$room/pieces"
