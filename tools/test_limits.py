@@ -16,7 +16,6 @@ NUMBER = r"(-?\d+)"
 STATED = [
     ("README.md", "the bytes of 1 to {} sandboxes", "sandboxes_most"),
     ("README.md", "guard zones of {} addresses", "guard"),
-    ("README.md", "has more than {} bytes (`--raw` has no limit)", "limit"),
     ("docs/ARCHITECTURE.md", "at most {} bytes (`slack`)", "slack"),
     ("docs/C.md", "Code above {} bytes in the first format", "code_most Sfi1"),
     ("docs/C.md", "in the others {}; data above {}", "code_most Sfi2, data_most"),
