@@ -32,11 +32,10 @@ WHOLE = re.compile(r"use Rattle\.(\w+)\.specs\.([\w.]+) as (\w+)")
 NOT_LISTED = ("private", "mirror", "declared")
 HEAD = """# Definitions
 
-A contract is as good as the definitions that it cites. Here are their files in `crates/CRATE/specs`, lowest crate first,
-with the public source; a file without one is this project's own. The first line of a file says what it defines, and the
-comment above each word what that says. `tools/definitions.py CRATE ..` prints the words on which public contracts rest, each
-with its comment and one that cites it. The laws of a crate are in [PROOFS.md](PROOFS.md). Words that private contracts alone
-cite are in `specs/private`; `specs/mirror` of `rv_comp` repeats the code. `tools/definitions.py --write` makes this page.
+A contract is as good as the definitions that it cites. Here are their files, lowest crate first, with the public source; a
+file without one is this project's own. `tools/definitions.py CRATE ..` prints the words on which public contracts rest, each
+with its comment and one that cites it. [PROOFS.md](PROOFS.md) has the laws. Words that private contracts alone cite are in
+`specs/private`; `specs/mirror` of `rv_comp` repeats the code. `tools/definitions.py --write` makes this page.
 
 **ISA** is the RISC-V Instruction Set Manual, Volume I: Unprivileged ISA, and **psABI** the RISC-V ABIs Specification.
 **Wahbe** is Wahbe, Lucco, Anderson and Graham, "Efficient Software-Based Fault Isolation", SOSP 1993. **Yee** is Yee and
