@@ -1,5 +1,5 @@
-"""Tests of tools/documents.py: README.md and sfi.1 say of the commands what the program says. And README files of
-folders name all files there."""
+"""Tests of tools/documents.py: README.md and sfi.1 say of the commands what the program says. README files of folders
+name all files there, and all documents keep CONTRIBUTING.md's limit of words."""
 import re
 import subprocess
 import unittest
@@ -58,17 +58,30 @@ class Documents(unittest.TestCase):
         self.assertNotIn("Exit status", page)
 
 
+def files_of_git(case, folder, *patterns):
+    """The files of the repository below a folder that have one of these patterns, without which all."""
+    listed = subprocess.run(["git", "-C", folder, "ls-files", "-z", *patterns], capture_output=True, check=False)
+    if listed.returncode:
+        case.skipTest("this isn't a repository of git")
+    return [it for it in listed.stdout.decode().split("\0") if it]
+
+
+class Words(unittest.TestCase):
+    def test_there_are_no_more_than_the_limit(self):
+        rules = (testing.TOP / "CONTRIBUTING.md").read_text(encoding="utf-8")
+        limit = int(re.search(r"all\s+Markdown\s+files\s+and\s+manual\s+pages\s+have\s+at\s+most\s+([\d,]+)\s+words", rules)[1].replace(",", ""))
+        paths = [testing.TOP / it for it in files_of_git(self, testing.TOP, "*.md", "*.1")]
+        words = sum(len(path.read_text(encoding="utf-8").split()) for path in paths if path.exists())
+        self.assertLessEqual(words, limit)
+
+
 class Folders(unittest.TestCase):
     """README files that have a line, `- NAME: what it is`, for each file and folder beside them."""
 
     def test_each_file_has_a_line(self):
         for folder in ("examples", "examples/c", "examples/device", "tools", "tools/asm2sfi"):
             with self.subTest(folder=folder):
-                words = ["git", "-C", testing.TOP / folder, "ls-files", "-z"]
-                listed = subprocess.run(words, capture_output=True, check=False)
-                if listed.returncode:
-                    self.skipTest("this isn't a repository of git")
-                names = {it.split("/")[0] for it in listed.stdout.decode().split("\0") if it}
+                names = {it.split("/")[0] for it in files_of_git(self, testing.TOP / folder)}
                 text = (testing.TOP / folder / "README.md").read_text(encoding="utf-8")
                 named = re.findall(r"^- `([\w.-]+)/?`: ", text, re.M)
                 named += re.findall(r"`([\w.-]+)`", "".join(re.findall(r"^- tests of these: .*", text, re.M)))
