@@ -7,8 +7,9 @@
 Every crate, test and program is proved and run each time. The edits show that contracts are sharp, and take three fifths
 of the time of all, half of it for one more check of each crate that has any. So a run tries those of
 
-- each crate that changed: that differs from $GATE_BASE, a name of git's; without that from where HEAD left origin/main; and
-  where there is none or HEAD is in it, each that a commit of the six hours before the last one changed;
+- each crate that changed: whose code, definitions or edits differ, import lines aside, from $GATE_BASE, a name of git's;
+  without that from where HEAD left origin/main; and where there is none or HEAD is in it, from what stood here three hours
+  before the last commit;
 - a sixth of all crates: the number of commits says which, so that a few merges try all.
 
 What is left out is printed with the command that tries it. All are tried where git knows no commits.
@@ -29,10 +30,12 @@ import time
 
 TOP = os.path.dirname(os.path.dirname(os.path.abspath(__file__)))
 PARTS = 6
-HOURS = 6  # longer than it takes to make and to hand in what is merged at once
+HOURS = 3  # longer than it takes to make and to hand in what is merged at once
 EDIT_SECONDS = 27  # processor time of an edit, as a mean
 LINES_A_SECOND = 28  # how many lines of a crate a check proves in a second of processor time, as a mean
 CODE = ("src", "specs", "proofs")  # a crate's folders of code, definitions and proofs
+JUDGED_BY = ("src", "specs", "must-fail")  # those that decide whether an edit is refused, if all is proved
+IMPORT = re.compile(r"^(?:ghost |pub )*(?:use|pub mod|mod) .*\n", re.MULTILINE)
 TIMES = os.path.join("out", "times.txt")
 # What `rt ci` says of a crate while it proves, and what it begins with once it has proved all and tried all edits.
 STEPS = {
@@ -89,24 +92,34 @@ def git(*words):
 
 
 def base():
-    """The commit that what is merged began from, or nothing where git doesn't know."""
+    """The commit that what is merged began from, or nothing where git knows no commits."""
     named = os.environ.get("GATE_BASE")
     if named:
         found = git("rev-parse", "--verify", "--quiet", f"{named}^{{commit}}")
         return found or sys.exit(f"gate.py: GATE_BASE is {named}, which is no commit here")
     found = git("merge-base", "origin/main", "HEAD")
-    return found if found != git("rev-parse", "HEAD") else ""
+    if found and found != git("rev-parse", "HEAD"):
+        return found
+    last = git("log", "-1", "--format=%ct")
+    return last and (git("rev-list", "-1", f"--before={int(last) - HOURS * 3600}", "HEAD") or git("rev-list", "--max-parents=0", "HEAD"))
+
+
+def differs(begin, path):
+    """Whether a file is another than in that commit, import lines aside."""
+    try:
+        with open(path, encoding="utf-8") as file:
+            now = file.read()
+    except FileNotFoundError:
+        return True
+    before = git("show", f"{begin}:{path}")
+    return IMPORT.sub("", now).strip() != IMPORT.sub("", before + "\n").strip()
 
 
 def changed():
-    """The crates of which code, definitions, proofs or edits changed, in commits or in the folder as it stands."""
+    """The crates of which code, definitions or edits changed, in commits or in the folder as it stands."""
     begin = base()
-    if begin:
-        paths = git("diff", "--name-only", begin, "--", "crates")
-    else:
-        since = int(git("log", "-1", "--format=%ct")) - HOURS * 3600
-        paths = git("log", f"--since={since}", "--format=", "--name-only", "-m", "--", "crates") + "\n" + git("diff", "--name-only", "HEAD", "--", "crates")
-    return set(re.findall(rf"^crates/(\w+)/(?:{'|'.join(CODE)}|must-fail)/", paths, re.MULTILINE))
+    found = re.findall(rf"^(crates/(\w+)/(?:{'|'.join(JUDGED_BY)})/.*)$", git("diff", "--name-only", begin, "--", "crates"), re.MULTILINE)
+    return {crate for path, crate in found if differs(begin, path)}
 
 
 def left_out(number):

@@ -99,9 +99,9 @@ class Gate(unittest.TestCase):
 
     def test_a_crate_of_the_last_hours_is_tried_by_each(self):
         self.begin()
-        self.change("crates/low/proofs/Facts.antt")
+        self.change("crates/low/src/lib.rt")
         self.commit()
-        for _ in range(5):
+        for _ in range(2):
             self.commit(3600)
             self.assertLessEqual({"one.edit", "two.edit"}, set(self.tried()[0]))
         self.assertEqual(sum("one.edit" in it for it in self.in_turns()), 1)
@@ -116,6 +116,16 @@ class Gate(unittest.TestCase):
             self.environment["GATE_BASE"] = base
             found = self.in_turns()
             self.assertEqual([sum(edit in it for it in found) for edit in ("four.edit", "five.edit")], [times, 1])
+
+    def test_proofs_and_imports_change_no_edit(self):
+        self.begin()
+        self.git("branch", "begun")
+        self.change("crates/low/proofs/Facts.antt")
+        written(f"{self.top}/crates/high/src/lib.rt", "//! A crate.\nghost use Rattle.low.specs.Words.{one};\nmod other;\n")
+        self.git("add", ".")
+        self.environment["GATE_BASE"] = "begun"
+        found = self.in_turns()
+        self.assertEqual([sum(edit in it for it in found) for edit in ("one.edit", "four.edit")], [1, 1])
 
     def test_what_differs_from_the_branch_of_all_is_tried_by_each(self):
         self.begin()
