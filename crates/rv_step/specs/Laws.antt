@@ -8,7 +8,8 @@ use Rattle.rv_comp.specs.declared.front.Front.{Front}
 use Rattle.rv_comp.specs.Fronts.{IsFront}
 use Rattle.rv_mem.specs.Bytes.{byte_at, address_after}
 use Rattle.rv_step.specs.declared.outcome.Outcome.TheVariants.{Next, Call}
-use Rattle.rv_step.specs.Step.{Accesses, Stepped, Stands, effect, bytes_at_pc, IsAtPc, IsStep, StandInRow, LeadTo}
+use Rattle.rv_step.specs.Step.{Accesses, Stepped, Stands, effect, bytes_at_pc, IsAtPc, IsStep}
+use Rattle.rv_step.specs.Rows.{StandInRow, LeadTo}
 use Rattle.rv_step.specs.State.{State, IsState, register, with_register, past}
 
 -- one instruction at most stands at pc

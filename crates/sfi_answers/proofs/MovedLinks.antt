@@ -4,7 +4,7 @@ use Rattle.std.specs.Prelude.{if◌then◌else◌, slice_get}
 use Rattle.std.proofs.lemmas.Bool.{and_parts, and_from, leb-true, ltb-true, le-leb, lt-ltb}
 use Rattle.std.proofs.lemmas.Option.{same_Some, get_or_from_slice_get, slice_get_within}
 use Rattle.sfi_formats.specs.declared.place.Place.{Place}
-use Rattle.sfi_formats.specs.Limits.{place_of}
+use Rattle.sfi_formats.specs.Places.{place_of}
 use Rattle.sfi_image.specs.declared.part.Gate.{Gate}
 use Rattle.sfi_image.specs.declared.fields.Fields.{Fields}
 use Rattle.sfi_image.specs.Spelling.{Part, AreApart, fields_of, code_span, data_span, code_region, guarded_region}

@@ -1,7 +1,7 @@
 -- What holds of what is built and then moved.
 use Rattle.std.specs.Prelude.{◌≡◌, ◌<◌, ℕ, List, true, length, Some}
 use Rattle.sfi_formats.specs.declared.place.Place.{Place}
-use Rattle.sfi_formats.specs.Limits.{place_of}
+use Rattle.sfi_formats.specs.Places.{place_of}
 use Rattle.sfi_image.specs.Spelling.{Part, AreApart, fields_of, code_region, guarded_region}
 use Rattle.sfi_places.specs.Moving.{moved, address_there}
 use Rattle.sfi_rewrite.specs.Placement.{Placement}

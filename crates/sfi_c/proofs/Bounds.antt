@@ -11,8 +11,9 @@ use Rattle.sfi_image.specs.declared.fault.LayoutFault.TheVariants.{Short}
 use Rattle.sfi_image.specs.declared.fields.Fields.{Fields}
 use Rattle.sfi_image.specs.declared.span.Span.{Span}
 use Rattle.sfi_image.specs.Spelling.{part, gate, number, spans}
-use Rattle.sfi_image.specs.Parts.{FieldTest, IsFirstFault, fault_of, field_tests, IsRightPart}
-use Rattle.sfi_image.specs.Parts.FieldTest.{Code, Data, GuardRoom, Start, Gates, Init, Overlap}
+use Rattle.sfi_image.specs.Parts.{IsRightPart}
+use Rattle.sfi_image.specs.FieldTests.{FieldTest, IsFirstFault, fault_of, field_tests}
+use Rattle.sfi_image.specs.FieldTests.FieldTest.{Code, Data, GuardRoom, Start, Gates, Init, Overlap}
 use Rattle.sfi_image.specs.Prefixes.{HasFaultWhateverFollows}
 use Rattle.sfi_image.specs.Faults.{IsFault, IsCountFault, ArePartsFault, IsPartFault, IsBodyFault}
 use Rattle.sfi_image.proofs.Standing.{region, Region}

@@ -11,7 +11,8 @@ unfoldable use Rattle.sfi_formats.specs.Formats.{magic}
 use Rattle.sfi_image.specs.declared.fields.Fields.{Fields}
 use Rattle.sfi_image.specs.declared.part.Gate.{Gate}
 use Rattle.sfi_image.specs.declared.bundle.BundlePlace.{BundlePlace}
-use Rattle.sfi_image.specs.Spelling.{fields_of, number, fields, gate, part, AreFieldWords, AreGateWords}
+use Rattle.sfi_image.specs.Spelling.{fields_of, number, fields, gate, part}
+use Rattle.sfi_image.specs.Numbers.{AreFieldWords, AreGateWords}
 use Rattle.sfi_image.specs.Parts.{IsRightPart, AreOf}
 use Rattle.sfi_image.specs.Prefixes.{part_of}
 use Rattle.sfi_image.proofs.Regions.{right_words}

@@ -6,7 +6,8 @@ use Rattle.sfi_check.specs.ForC.{finding_for_c}
 use Rattle.sfi_formats.specs.declared.format.Format.{Format}
 use Rattle.sfi_formats.specs.declared.format.Format.TheVariants.{Sfi1, Sfi2, Sfiw}
 use Rattle.sfi_image.specs.declared.part.Gate.{Gate}
-use Rattle.sfi_image.specs.Spelling.{Part, fields_bytes, gate_bytes}
+use Rattle.sfi_image.specs.Spelling.{Part}
+use Rattle.sfi_image.specs.Numbers.{fields_bytes, gate_bytes}
 use Rattle.sfi_image.specs.Keeping.{IsSandboxOf, IsBeyond, LiesAt, sandbox_offset}
 use Rattle.sfi_c.specs.declared.looking.Lookup.{Lookup}
 use Rattle.sfi_c.specs.declared.looking.Lookup.TheVariants.{Found, Beyond, NoImage}

@@ -6,7 +6,8 @@ use Rattle.sfi_check.specs.declared.conversion.ConvertFault.{ConvertFault}
 use Rattle.sfi_check.specs.declared.conversion.ConvertFault.TheVariants.{Stack}
 use Rattle.sfi_check.specs.declared.refusal.Refusal.TheVariants.{Layout, Findings, Memory}
 use Rattle.sfi_check.specs.private.{IsStackOf, Converts}
-use Rattle.sfi_image.specs.Spelling.{all_in_format, spelling}
+use Rattle.sfi_image.specs.Spelling.{spelling}
+use Rattle.sfi_image.specs.Numbers.{all_in_format}
 use Rattle.std.specs.Global.{Global}
 use Rattle.std.specs.Result.{IsErrAnd}
 use Rattle.sfi_image.specs.Parts.{AreOf}

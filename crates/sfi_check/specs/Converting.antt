@@ -6,7 +6,8 @@ use Rattle.std.specs.List.{All}
 use Rattle.sfi_formats.specs.declared.format.Format.TheVariants.{Sfi1, Sfi2, Sfiw}
 use Rattle.sfi_formats.specs.Formats.{magic}
 use Rattle.sfi_image.specs.declared.fault.LayoutFault.{LayoutFault}
-use Rattle.sfi_image.specs.Spelling.{Part, format_of, all_in_format}
+use Rattle.sfi_image.specs.Spelling.{Part, format_of}
+use Rattle.sfi_image.specs.Numbers.{all_in_format}
 use Rattle.sfi_image.specs.Faults.{IsFault}
 use Rattle.sfi_rules.specs.declared.finding.Finding.{Finding}
 use Rattle.sfi_rules.specs.declared.rule.Rule.TheVariants.{V10}

@@ -2,7 +2,8 @@
 use Rattle.std.specs.Prelude.{◌≢◌, ℕ, List, [], Result, Vec, IfOk, IfErr, slice_get, ◌-◌, Option, Some, None, ◌⊎◌, take}
 use Rattle.std.specs.Global.{Global}
 use Rattle.sfi_formats.specs.declared.format.Format.TheVariants.{Sfi2}
-use Rattle.sfi_image.specs.Spelling.{Part, all_in_format}
+use Rattle.sfi_image.specs.Spelling.{Part}
+use Rattle.sfi_image.specs.Numbers.{all_in_format}
 use Rattle.sfi_rules.specs.Findings.{AreImageFindings}
 use Rattle.sfi_check.specs.declared.conversion.ConvertFault.{ConvertFault}
 use Rattle.sfi_check.specs.declared.conversion.ConvertFault.TheVariants.{Refused, NotOld, Stack, Memory, Words}

@@ -4,7 +4,7 @@ ghost use Rattle.sfi_formats.specs.declared.format.Format.{Format};
 ghost use Rattle.sfi_image.specs.Spelling.{views};
 ghost use Rattle.sfi_image.specs.Parts.{IsRightLayout};
 ghost use Rattle.sfi_safe_runs.specs.Safety.{AllRunSafely};
-ghost use Rattle.sfi_safe_runs.specs.Safety.{AllCallTyped};
+ghost use Rattle.sfi_safe_runs.specs.Calling.{AllCallTyped};
 ghost use Rattle.sfi_check.specs.Verdict.{bundle_count};
 ghost use Rattle.sfi_safety.specs.Clean.{IsClean};
 

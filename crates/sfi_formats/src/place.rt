@@ -1,6 +1,6 @@
 //! Where the regions of a sandbox begin.
 ghost use Rattle.std.specs.Prelude.{◌≡◌, ◌<◌};
-ghost use Rattle.sfi_formats.specs.Limits.{place_of, usual};
+ghost use Rattle.sfi_formats.specs.Places.{place_of, usual};
 ghost use Rattle.sfi_formats.specs.Limits.{sandboxes_most};
 
 // The first code base, and how far the code of one sandbox lies from that of the next.

@@ -1,17 +1,20 @@
 -- What a host does to a sandbox: calls it back, stops it, sets its registers.
 use Rattle.sfi_host.proofs.Prelude.{◌≡◌, ◌≢◌, ◌↔◌, ◌⊎◌, ◌%◌, ℕ, Bool, true, false, is_some, List, Option, None, Some, IsSome, IsTrue, OnTrue, slice_get, refl, sym, ap, ◌∙◌, subst, ⊎_elim, cases_eq, same_Some, Bytes, Hart, Holds, IsChange, KeepsBytes, Part, Bounds, bounds_of, Slot, Seat, Sandboxes, slot_of, slots_of, state_in, IsSafeSeat, IsSafeWorld, LiesOutside, StaysOutsideData, Sandbox, seat_of, world_of, set, map-set, option_map, Program, seats_of, status_at, Ready, ◌==◌, ◌||◌, eqb-true, IsHart, AreApart, with_guards, HasCode, IsEntry, IsAtEntry, IsEnterable}
-use Rattle.sfi_host.specs.Changing.{called_back_hart, MayCallBackAt, PutBackIsChange, with_callback, with_callback_of, IsEntryHart, MaySetAt, with_hart, stopped_seat, with_stop_of, with_stop, hart_of, HoldsTypedWords, set_seat, with_hart_of}
+use Rattle.sfi_host.specs.Changing.{called_back_hart, MayCallBackAt, PutBackIsChange, with_callback, with_callback_of, IsEntryHart, MaySetAt, with_hart, stopped_seat, with_stop_of, with_stop, hart_of, set_seat, with_hart_of}
 use Rattle.sfi_host.specs.Waiting.{IsAtCall}
-use Rattle.sfi_formats.specs.Formats.{unit}
-use Rattle.sfi_safe_runs.proofs.Entries.{even_unit}
+use Rattle.sfi_formats.specs.Formats.{unit, is_data_register}
+use Rattle.sfi_safe_runs.proofs.Entries.{even_unit, each_near}
 use Rattle.sfi_host.proofs.Entries.{pc_kept}
 use Rattle.sfi_host.proofs.Worlds.{map_get}
 use Rattle.sfi_host.proofs.SafeSeats as keep
 use Rattle.sfi_host.proofs.WorldBytes.{no_slot, seat_at, slot_is}
 use Rattle.sfi_host.proofs.Changing.{AfterTurn, IsKept, turn_taken}
 use Rattle.sfi_host.proofs.SafeSeats.{halted}
-use Rattle.rv_step.specs.State.{register}
-use Rattle.sfi_safe_runs.specs.Runs.{AreWordsTyped, IsNear}
+use Rattle.sfi_safe_runs.specs.Runs.{AreWordsTyped}
+use Rattle.sfi_image.specs.Spelling.{IsNear}
+use Rattle.sfi_image.specs.declared.span.Span.{Span}
+use Rattle.sfi_host.specs.private.Setting.{LieNear}
+use Rattle.std.specs.Prelude.{slice_index}
 use Rattle.sfi_formats.specs.Limits.{slack}
 use Rattle.sfi_host.proofs.OwnSteps.{get_set_same}
 
@@ -140,29 +143,20 @@ module _ (w : Sandboxes) (m : Bytes) (items : List Sandbox) (view : world_of m i
 
 -- ---- it is an entry
 
-four : (P : ℕ → Type 0) → P 2 → P 3 → P 4 → P 29 → (d : ℕ) (a b c e : Bool) → (d == 2) ≡ a → (d == 3) ≡ b → (d == 4) ≡ c → (d == 29) ≡ e → (a || b || c || e) ≡ true → P d
-four P second third fourth last d true b c e f g h k t = subst P (sym (eqb-true d 2 f)) second
-four P second third fourth last d false true c e f g h k t = subst P (sym (eqb-true d 3 g)) third
-four P second third fourth last d false false true e f g h k t = subst P (sym (eqb-true d 4 h)) fourth
-four P second third fourth last d false false false true f g h k t = subst P (sym (eqb-true d 29 k)) last
-four P second third fourth last d false false false false f g h k t = absurd (cc)
+-- the four data registers are all
+pub all_near : (at : Span) (registers : List ℕ) → LieNear at registers → (d : ℕ) → is_data_register d ≡ true → IsNear at slack (slice_index registers d)
+all_near at registers near = each_near at registers near.x2 near.x3 near.x4 near.x29
 
-words_typed : (p : Part) (h : Hart) → HoldsTypedWords (bounds_of p) h → AreWordsTyped p h.registers
-words_typed p h typed = record {
-  each_data = λ d is.
-      four (λ r. IsNear p slack (register h r)) (record { low = typed.x2.low; high = typed.x2.high }) (record { low = typed.x3.low; high = typed.x3.high }) (record { low = typed.x4.low; high = typed.x4.high }) (record { low = typed.x29.low; high = typed.x29.high })
-      d (d == 2) (d == 3) (d == 4) (d == 29) refl refl refl refl is;
-  code = record { held = typed.held; aligned = typed.aligned };
-  offset = typed.offset;
-}
+pub typed_near : (code_at data_at : Span) (registers : List ℕ) → AreWordsTyped code_at data_at registers → LieNear data_at registers
+typed_near code_at data_at registers typed = record { x2 = typed.each_data 2 refl; x3 = typed.each_data 3 refl; x4 = typed.each_data 4 refl; x29 = typed.each_data 29 refl }
 
 module _ (m : Bytes) (s : Seat) (safe_before_set : IsSafeSeat m s) (h : Hart) (hart : IsHart h) where
   of_part : (p : Part) → IsEntryHart (bounds_of p) h → (b : Bounds) → b ≡ bounds_of p → s.bounds ≡ b → HasCode p m → IsEntry p (record { hart = h; memory = m })
   of_part p may b e is code = record {
     state = record { hart = hart; memory = safe_before_set.state.memory };
-    start = record { held = may.start.held; aligned = may.start.aligned };
-    reserved = record { code_base = may.reserved.code_base; code_mask = may.reserved.code_mask; data_base = may.reserved.data_base; data_mask = may.reserved.data_mask };
-    typed = record { stack = may.stack; words = λ has. words_typed p h (may.words has) };
+    start = may.start;
+    reserved = may.reserved;
+    typed = record { stack = may.stack; words = may.words };
     code = code;
     guards = λ a guard. safe_before_set.guards a (keep.guard_mine m s safe_before_set p (is ∙ e) a guard);
   }

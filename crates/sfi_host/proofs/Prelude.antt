@@ -11,14 +11,16 @@ pub use Rattle.std.specs.Option.{option_map, option_or}
 pub use Rattle.rv_word.specs.declared.instr.Instr.TheVariants.{Ecall, Load, Store, Ebreak}
 pub use Rattle.rv_mem.specs.Bytes.{Bytes, byte_at, bytes_at, IsMemory, address_after, addresses, with_bytes, added, loaded, stored, number_of, in_front, IsThere}
 pub use Rattle.rv_step.specs.State.{State, Hart, IsHart, with_register, past, IsState, register}
-pub use Rattle.rv_step.specs.Step.{LeadTo, Stands, Stepped, IsStep, next, unchanged, after_load, effect}
+pub use Rattle.rv_step.specs.Step.{Stands, Stepped, IsStep, next, unchanged, after_load, effect}
+pub use Rattle.rv_step.specs.Rows.{LeadTo}
 pub use Rattle.rv_step.specs.declared.outcome.Outcome.{Outcome}
 pub use Rattle.sfi_formats.specs.declared.format.Format.{Format}
 pub use Rattle.sfi_image.specs.Parts.{IsRightPart, IsRightLayout}
 pub use Rattle.sfi_image.specs.Spelling.{Holds, code_region, AreApart, guarded_region, spans, with_guards, InGuards, Part, view, views}
 pub use Rattle.sfi_image.specs.declared.span.Span.{Span}
 pub use Rattle.sfi_safe_runs.specs.Runs.{InCode, HasCode, InData, InGuard, StaysOutside, IsGate, IsChange, IsEntry, IsReply, IsTurn, Steps, Replies, Changes, KeepsBytes, IsRun, KeepsReserved}
-pub use Rattle.sfi_safe_runs.specs.Safety.{AllRunSafely, IsSafeState, IsSafeTurn, IsSafeRun, IsSafeStep, IsTrap, RunsSafely, AllCallTyped, after_turns, GoesSafelyFrom, CallsTyped}
+pub use Rattle.sfi_safe_runs.specs.Safety.{AllRunSafely, IsSafeState, IsSafeTurn, IsSafeRun, IsSafeStep, IsTrap, RunsSafely}
+pub use Rattle.sfi_safe_runs.specs.Calling.{AllCallTyped, after_turns, GoesSafelyFrom, CallsTyped}
 pub use Rattle.sfi_host.specs.Consoles.{SessionState, ConsoleState, with_session, serve, serve_own, console, may_want, may_want_if, console_may_refuse, new_session, failed, most_messages, posted, mailbox_full, message_of, with_message, post_to, post}
 pub use Rattle.sfi_host.specs.Loading.{AreEnterable, MayEnter, MayEnterAt, fresh_hart, with_registers, exit_gate, entered_hart, entry_stack, entered_seat, with_entry_of, with_entry, IsAtEntry, IsEnterable, first_seat, AreEntered, first_data, with_part, with_parts, HaveFirstData, first_hart}
 pub use Rattle.sfi_host.specs.Hosts.{call_by, asked, with_a0, data_of, Call, Way, Replied, Answer, Limited, limited, if_left, Exit, Reply, Host, replay}

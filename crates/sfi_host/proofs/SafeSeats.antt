@@ -4,7 +4,9 @@ use Rattle.sfi_host.specs.Hosts.{a0_register, a1_register}
 use Rattle.sfi_host.specs.Laws.{CallsAreTyped, AnswersAreReplies}
 use Rattle.sfi_host.specs.Worlds.{StoppedItself}
 use Rattle.sfi_formats.specs.Formats.{has_stack, has_words, is_data_register}
-use Rattle.sfi_safe_runs.specs.Runs.{IsTyped, IsNear, IsWordStart}
+use Rattle.sfi_safe_runs.specs.Runs.{IsTyped}
+use Rattle.sfi_image.specs.Parts.{IsWordStart}
+use Rattle.sfi_image.specs.Spelling.{IsNear, data_region}
 use Rattle.rv_step.proofs.States.{register_is, after_is}
 use Rattle.sfi_safe_runs.proofs.Facts.{goes_on_safely}
 use Rattle.sfi_host.proofs.Entered as parts
@@ -105,10 +107,10 @@ module _ (m : Bytes) (s : Seat) (seat : IsSafeSeat m s) where
           let w = typed.words has in
           record {
             each_data = λ d is.
-                subst (λ (a : ℕ). IsNear p 1020 a)
+                subst (λ (a : ℕ). IsNear (data_region p) 1020 a)
                 (sym (kept d (λ e. let z : is_data_register 10 ≡ true = subst (λ (r : ℕ). is_data_register r ≡ true) e is in cc) (λ e. let z : is_data_register 11 ≡ true = subst (λ (r : ℕ). is_data_register r ≡ true) e is in cc)))
                 (w.each_data d is);
-            code = subst (IsWordStart p) (sym (kept 30 (λ e. cc) (λ e. cc))) w.code;
+            code = subst (IsWordStart (code_region p)) (sym (kept 30 (λ e. cc) (λ e. cc))) w.code;
             offset = subst (λ (a : ℕ). a < p.data_size) (sym (kept 31 (λ e. cc) (λ e. cc))) w.offset;
           };
     }

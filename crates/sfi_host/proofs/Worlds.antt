@@ -2,9 +2,9 @@
 use Rattle.sfi_host.proofs.Prelude.{◌≡◌, ◌≢◌, Bool, true, false, cond, ℕ, zero, suc, ◌+◌, ◌-◌, ◌%◌, ◌^◌, ◌<◌, ◌≤◌, List, [], ◌∷◌, length, Some, is_some, slice_get, refl, sym, ap, ◌∙◌, subst, arith, get_or_from_slice_get, slice_get_within, slice_index, replicate, map, None, Bytes, IsMemory, byte_at, Hart, IsHart, with_register, Part, Span, code_region, Holds, IsRightPart, IsRightLayout, InGuard, RunsSafely, AllRunSafely, CallsTyped, AllCallTyped, IsEnterable, AreEnterable, Bounds, bounds_of, fresh_hart, first_hart, first_seat, with_parts, AreEntered, HaveFirstData, Seat, IsSafeSeat, LiesOutside, IsSafeWorld}
 use Rattle.rv_step.proofs.States.{register_is}
 use Rattle.sfi_formats.specs.Formats.{unit, has_words}
-use Rattle.sfi_image.specs.Parts.{IsBundleStart}
+use Rattle.sfi_image.specs.Parts.{IsBundleStart, HasReserved, reserved_of}
 use Rattle.sfi_image.specs.Spelling.{data_region}
-use Rattle.sfi_safe_runs.specs.Runs.{IsUnitStart, HasReserved, IsTyped}
+use Rattle.sfi_safe_runs.specs.Runs.{IsUnitStart, IsTyped}
 use Rattle.sfi_safe_runs.proofs.Entries.{zero_words, some_unit, typed_when, words, of_bundle}
 use Rattle.sfi_host.specs.Loading.{with_typed}
 use Rattle.sfi_image.proofs.Facts.{code_ends}
@@ -90,7 +90,7 @@ stack_set b pc v = stack_by (has_words b.format) (unit b.format) b.code b.data p
 pub fresh_pc : (b : Bounds) (pc : ℕ) → (fresh_hart b.format b.code b.data pc).pc ≡ pc
 fresh_pc b pc = pc_by (has_words b.format) (unit b.format) b.code b.data pc
 
-pub reserved_at : (p : Part) (pc : ℕ) (registers : List ℕ) → AreFreshOf (bounds_of p) pc registers → HasReserved p registers
+pub reserved_at : (p : Part) (pc : ℕ) (registers : List ℕ) → AreFreshOf (bounds_of p) pc registers → HasReserved (reserved_of p) registers
 reserved_at p pc registers fresh = record { code_base = fresh.code_base; code_mask = fresh.code_mask; data_base = fresh.data_base; data_mask = fresh.data_mask }
 
 pub typed_at : (p : Part) (pc : ℕ) (registers : List ℕ) → 16 ≤ p.data_size → IsUnitStart p pc → AreFreshOf (bounds_of p) pc registers → IsTyped p registers

@@ -1,17 +1,16 @@
 -- What a host does to a sandbox from outside, between plans: it writes data, stops it, sets
 -- registers, or calls it back.
-use Rattle.std.specs.Prelude.{◌≡◌, ◌≢◌, ℕ, List, length, Option, Some, None, slice_get, slice_set, ◌+◌, ◌-◌, ◌%◌, ◌<◌, ◌≤◌, true, replicate}
+use Rattle.std.specs.Prelude.{◌≡◌, ◌≢◌, ℕ, List, length, Option, Some, None, slice_get, slice_set, true, replicate}
 use Rattle.std.specs.List.{range_with_len}
 use Rattle.rv_mem.specs.Bytes.{bytes_at, with_bytes, Bytes}
 use Rattle.sfi_image.specs.Spelling.{Part, Holds}
-use Rattle.sfi_safe_runs.specs.Runs.{IsChange}
+use Rattle.sfi_image.specs.Parts.{IsStart, HasReserved, reserved_for}
+use Rattle.sfi_safe_runs.specs.Runs.{IsChange, AreWordsTyped}
 use Rattle.sfi_host.specs.Slots.{bytes_in, Slot, bounds_of, Bounds}
 use Rattle.sfi_host.specs.Worlds.{Seat, Sandboxes, slots_of, state_in, IsSafeWorld, StaysOutsideData}
 use Rattle.sfi_host.specs.declared.status.Status.TheVariants.{Stopped, Ready}
 use Rattle.rv_step.specs.State.{Hart, register, with_register}
-use Rattle.sfi_formats.specs.Formats.{unit, has_stack, has_words, code_base_register, code_mask_register, data_base_register, data_mask_register, stack_pointer, code_register, offset_register, return_register}
-use Rattle.sfi_formats.specs.Limits.{slack, word_size}
-use Rattle.sfi_image.specs.declared.span.Span.{Span}
+use Rattle.sfi_formats.specs.Formats.{unit, has_stack, has_words, stack_pointer, return_register}
 use Rattle.sfi_host.specs.Loading.{with_registers, exit_gate}
 use Rattle.sfi_host.specs.Hosts.{a0_register}
 use Rattle.sfi_host.specs.Waiting.{IsAtCall}
@@ -69,40 +68,13 @@ hart_of pc registers = with_registers (record { pc = pc; registers = replicate 3
 
 -- ---- which pc and registers may be set
 
--- a unit of the code, a bundle or a word, begins at pc
-pub record IsUnitAt (b : Bounds) (pc : ℕ) : Type 0 where
-  pub held : Holds b.code pc
-  pub aligned : pc % unit b.format ≡ 0
-
--- the reserved registers hold the values for a sandbox with these bounds
-pub record HoldsReserved (b : Bounds) (h : Hart) : Type 0 where
-  pub code_base : register h code_base_register ≡ b.code.base
-  pub code_mask : register h code_mask_register ≡ b.code.size - unit b.format
-  pub data_base : register h data_base_register ≡ b.data.base
-  pub data_mask : register h data_mask_register ≡ b.data.size - 1
-
--- address `a` lies in the region, or at most `slack` bytes below its first byte or above its last
-pub record LiesNear (s : Span) (a : ℕ) : Type 0 where
-  pub low : s.base ≤ a + slack
-  pub high : a < s.base + s.size + slack
-
--- the typed registers of code in words hold what their types say
-pub record HoldsTypedWords (b : Bounds) (h : Hart) : Type 0 where
-  pub x2 : LiesNear b.data (register h 2)
-  pub x3 : LiesNear b.data (register h 3)
-  pub x4 : LiesNear b.data (register h 4)
-  pub x29 : LiesNear b.data (register h 29)
-  pub held : Holds b.code (register h code_register)
-  pub aligned : register h code_register % word_size ≡ 0
-  pub offset : register h offset_register < b.data.size
-
 -- The hart is as at an entry: at a unit of the code, with the reserved registers as they must be,
 -- and the typed ones of its format. All else is arbitrary.
 pub record IsEntryHart (b : Bounds) (h : Hart) : Type 0 where
-  pub start : IsUnitAt b h.pc
-  pub reserved : HoldsReserved b h
+  pub start : IsStart (unit b.format) b.code h.pc
+  pub reserved : HasReserved (reserved_for (unit b.format) b.code b.data) h.registers
   pub stack : has_stack b.format ≡ true → Holds b.data (register h stack_pointer)
-  pub words : has_words b.format ≡ true → HoldsTypedWords b h
+  pub words : has_words b.format ≡ true → AreWordsTyped b.code b.data h.registers
 
 -- there is a sandbox `i`, and the hart is as at an entry of it
 pub record MaySetAt (slots : List Slot) (i : ℕ) (h : Hart) : Type 0 where

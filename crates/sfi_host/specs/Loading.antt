@@ -11,7 +11,8 @@ use Rattle.sfi_image.specs.Parts.{IsRightPart, IsRightLayout, reserved_for}
 use Rattle.sfi_image.specs.Spelling.{Holds, code_region, data_region, Part}
 use Rattle.sfi_names.specs.Rooms.{room_of}
 use Rattle.sfi_safe_runs.specs.Runs.{HasCode, IsEntry}
-use Rattle.sfi_safe_runs.specs.Safety.{RunsSafely, CallsTyped}
+use Rattle.sfi_safe_runs.specs.Safety.{RunsSafely}
+use Rattle.sfi_safe_runs.specs.Calling.{CallsTyped}
 use Rattle.sfi_host.specs.declared.status.Status.{Status}
 use Rattle.sfi_host.specs.declared.status.Status.TheVariants.{Ready}
 use Rattle.sfi_host.specs.Hosts.{a0_register}

@@ -7,7 +7,8 @@ use Rattle.rv_step.specs.State.{State}
 use Rattle.rv_step.specs.Step.{Stepped}
 use Rattle.sfi_image.specs.Spelling.{Part}
 use Rattle.sfi_safe_runs.specs.Runs.{HasCode, StaysOutside, Turn, Steps, Replies, Changes, KeepsBytes, IsRun}
-use Rattle.sfi_safe_runs.specs.Safety.{IsSafeRun, after_turns}
+use Rattle.sfi_safe_runs.specs.Safety.{IsSafeRun}
+use Rattle.sfi_safe_runs.specs.Calling.{after_turns}
 use Rattle.sfi_host.specs.declared.status.Status.{Status}
 use Rattle.sfi_host.specs.declared.status.Status.TheVariants.{Ready, Exited, Trapped, Stopped}
 use Rattle.sfi_host.specs.declared.turn.RunAnswer.{RunAnswer}

@@ -16,7 +16,7 @@ use Rattle.sfi_host.specs.Slots.{Bounds, bounds_of, own, Slot, state_of, bytes_i
 use Rattle.std.specs.Option.{option_map}
 use Rattle.sfi_image.specs.Parts.{IsRightPart}
 use Rattle.sfi_safe_runs.specs.Runs.{HasCode, HasEmptyGuards, StaysOutside}
-use Rattle.sfi_safe_runs.specs.Safety.{GoesSafelyFrom}
+use Rattle.sfi_safe_runs.specs.Calling.{GoesSafelyFrom}
 use Rattle.std.specs.Arc.{arc_slice_items}
 use Rattle.sfi_host.specs.declared.sandbox.Sandbox.{Sandbox}
 use Rattle.rv_step.specs.declared.outcome.Cause.{Cause}

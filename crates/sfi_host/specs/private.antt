@@ -4,3 +4,4 @@ pub mod Programs
 pub mod Copying
 pub mod Sandboxes
 pub mod Turns
+pub mod Setting

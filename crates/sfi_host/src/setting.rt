@@ -1,14 +1,17 @@
 //! Registers that are set from outside.
 ghost use Rattle.std.specs.Prelude.{◌≡◌, ◌≢◌, ◌%◌, ◌+◌, ◌<◌, ◌≤◌, ◌^◌, ◌↔◌, IfSome, IsTrue, None, true};
 ghost use Rattle.rv_step.specs.State.{IsHart, register};
-ghost use Rattle.sfi_formats.specs.Formats.{has_stack, has_words};
-ghost use Rattle.sfi_formats.specs.Formats.{stack_pointer};
-ghost use Rattle.sfi_image.specs.Spelling.{Holds};
+ghost use Rattle.sfi_formats.specs.Formats.{has_stack, has_words, stack_pointer, unit};
+ghost use Rattle.sfi_formats.specs.Limits.{slack};
+ghost use Rattle.sfi_image.specs.Spelling.{Holds, IsNear};
+ghost use Rattle.sfi_image.specs.Parts.{IsStart, HasReserved, reserved_for};
+ghost use Rattle.sfi_safe_runs.specs.Runs.{AreWordsTyped};
 ghost use Rattle.sfi_host.specs.Changing.{called_back_hart};
 ghost use Rattle.sfi_host.specs.Loading.{with_registers};
 ghost use Rattle.sfi_host.specs.Slots.{span_of};
 ghost use Rattle.sfi_host.specs.Worlds.{seat_of};
-ghost use Rattle.sfi_host.specs.Changing.{hart_of, IsUnitAt, HoldsReserved, LiesNear, HoldsTypedWords, IsEntryHart, set_seat};
+ghost use Rattle.sfi_host.specs.private.Setting.{LieNear};
+ghost use Rattle.sfi_host.specs.Changing.{hart_of, IsEntryHart, set_seat};
 
 use crate::region::Region;
 use crate::sandbox::Sandbox;
@@ -57,17 +60,27 @@ pub fn registers_of(cpu: &Cpu) -> [u32; 32]
 
 /// Whether the address lies in the region, or at most `SLACK` bytes outside it.
 fn is_near(region: Region, at: u32) -> bool
-    ensures { IsTrue result ↔ LiesNear (span_of region) at }
+    ensures { IsTrue result ↔ IsNear (span_of region) slack at }
 {
     let (at, slack) = (u64::from(at), u64::from(SLACK));
     let end = u64::from(region.base) + u64::from(region.size);
     u64::from(region.base) <= at + slack && at < end + slack
 }
 
+/// Whether the data registers of code in words hold addresses in the region or near it.
+fn lie_near(region: Region, cpu: &Cpu) -> bool
+    ensures { IsTrue result ↔ LieNear (span_of region) cpu.now.registers }
+{
+    is_near(region, cpu.reg(Reg::numbered(2)))
+        && is_near(region, cpu.reg(Reg::numbered(3)))
+        && is_near(region, cpu.reg(Reg::numbered(4)))
+        && is_near(region, cpu.reg(Reg::numbered(29)))
+}
+
 impl Sandbox {
     /// Whether a unit of the sandbox's code begins at the address.
     fn begins_at(&self, pc: u32) -> bool
-        ensures { IsTrue result ↔ IsUnitAt (seat_of self.now).bounds pc }
+        ensures { IsTrue result ↔ IsStart (unit self.now.format) (span_of self.now.code) pc }
     {
         self.code.holds(pc) && pc % self.format.unit() == 0
     }
@@ -76,7 +89,8 @@ impl Sandbox {
     fn holds_reserved(&self, cpu: &Cpu) -> bool
         requires code_size { 16 ≤ self.now.code.size }
         requires data_size { 16 ≤ self.now.data.size }
-        ensures { IsTrue result ↔ HoldsReserved (seat_of self.now).bounds cpu.now }
+        ensures { IsTrue result
+            ↔ HasReserved (reserved_for (unit self.now.format) (span_of self.now.code) (span_of self.now.data)) cpu.now.registers }
     {
         cpu.reg(Reg::numbered(CODE_BASE_REGISTER)) == self.code.base
             && cpu.reg(Reg::numbered(CODE_MASK_REGISTER)) == self.code.size - self.format.unit()
@@ -85,14 +99,13 @@ impl Sandbox {
     }
 
     /// Whether the typed registers of code in words hold what their types say.
+    #[tactic(auto, using(crate::proofs::FromOutside::all_near, crate::proofs::FromOutside::typed_near))]
     fn holds_typed_words(&self, cpu: &Cpu) -> bool
-        ensures { IsTrue result ↔ HoldsTypedWords (seat_of self.now).bounds cpu.now }
+        ensures { IsTrue result
+            ↔ AreWordsTyped (span_of self.now.code) (span_of self.now.data) cpu.now.registers }
     {
         let code = cpu.reg(Reg::numbered(CODE_REGISTER));
-        is_near(self.data, cpu.reg(Reg::numbered(2)))
-            && is_near(self.data, cpu.reg(Reg::numbered(3)))
-            && is_near(self.data, cpu.reg(Reg::numbered(4)))
-            && is_near(self.data, cpu.reg(Reg::numbered(29)))
+        lie_near(self.data, cpu)
             && self.code.holds(code)
             && code % 4 == 0
             && cpu.reg(Reg::numbered(OFFSET_REGISTER)) < self.data.size
@@ -112,7 +125,7 @@ impl Sandbox {
     /// Whether the typed registers hold what their types say, where code is in words.
     fn holds_words(&self, cpu: &Cpu) -> bool
         ensures { IsTrue result ↔ (has_words self.now.format ≡ true
-            → HoldsTypedWords (seat_of self.now).bounds cpu.now) }
+            → AreWordsTyped (span_of self.now.code) (span_of self.now.data) cpu.now.registers) }
     {
         if !self.format.has_words() {
             return true;

@@ -1,6 +1,6 @@
 -- Each test of a layout is passed or not.
 use Rattle.sfi_image.proofs.Prelude.{◌≡◌, ℕ, ◌+◌, ◌%◌, ◌<◌, ◌≤◌, List, [], ◌∷◌, ◌++◌, refl, arith, ◌⊎◌, inl, inr, suc, Option, Some, None, count_ones, All, AllPairs, cases_lt, cases_eq, eqb-true, eq-eqb, All-nil, All-cons, All-head, All-tail, code_most, Gate, Fields, Span, LayoutFault, Holds, AreApart, code_span, spans_of, IsRegion, HasGuardRoom, IsBundleStart, gates_most, service_most, AreGates, FieldTest, Passes, IsFirstFault, fault_of}
-use Rattle.sfi_image.specs.Parts.FieldTest.{Code, Data, GuardRoom, Start, Gates, Init, Overlap}
+use Rattle.sfi_image.specs.FieldTests.FieldTest.{Code, Data, GuardRoom, Start, Gates, Init, Overlap}
 use Rattle.std.proofs.lemmas.List.Kept.{AllPairs-cons}
 use Rattle.sfi_image.proofs.Regions.{region_test, not_region}
 

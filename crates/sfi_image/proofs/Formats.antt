@@ -1,7 +1,7 @@
 -- What holds of each format, and of a right layout in the second too.
 use Rattle.sfi_image.specs.declared.part.SandboxPart.{SandboxPart}
 use Rattle.sfi_formats.proofs.Formats.{length_of_magic}
-use Rattle.sfi_image.specs.Spelling.{in_format, all_in_format}
+use Rattle.sfi_image.specs.Numbers.{in_format, all_in_format}
 use Rattle.sfi_image.proofs.Prelude.{◌≡◌, ℕ, ◌+◌, ◌≤◌, List, [], ◌∷◌, ◌++◌, length, get_or, take, refl, ap, arith, length-append, Format, Sfi1, Sfi2, Sfiw, magic, code_most, Part, view, views, format_of, AreOf, All-map, subst, All, AllPairs, length-map, All-weaker, Span, fields_of, AreApart, spans_of, spans, IsRightPart, IsRightLayout}
 
 -- ==== What holds of each format, and of parts of one.

@@ -18,9 +18,11 @@ pub use Rattle.sfi_image.specs.Sources.{IsBounded}
 pub use Rattle.sfi_image.specs.Faults.{IsFault, IsBodyFault, IsPartFault, ArePartsFault, IsCountFault, IsGateShort, IsGateWrong, AreContentsShort, IfLayout}
 pub use Rattle.sfi_image.specs.Prefixes.{prefix_bytes, head, IsRightPrefix, CutShort, Trails, WholeIsImage, ImagePrefix, IsHead, IsOpened, part_of, after_parts, after_init, after_code, after_gates, Follows, want_of, HasFaultWhateverFollows, IsLengthOf, AreBundlesWithin, IsLongestStretch, IsStretchLength}
 pub use Rattle.sfi_image.specs.Prefixes.ImagePrefix.{Empty, AfterMagic, AfterCount, InGates, InCode, InInit, Whole}
-pub use Rattle.sfi_image.specs.Parts.{AreGates, is_gate_of, IsImage, IsRightPart, AreOf, AreRight, IsRightLayout, IsCodeRegion, IsRegion, HasGuardRoom, IsBundleStart, FieldTest, Passes, IsFirstFault, fault_of, field_tests}
+pub use Rattle.sfi_image.specs.Parts.{AreGates, is_gate_of, IsImage, IsRightPart, AreOf, AreRight, IsRightLayout, IsCodeRegion, IsRegion, HasGuardRoom, IsBundleStart}
+pub use Rattle.sfi_image.specs.FieldTests.{FieldTest, Passes, IsFirstFault, fault_of, field_tests}
 pub use Rattle.sfi_image.specs.Keeping.{LayoutReader, StandsFor, Leads, AreAhead, is_one_of, KeepsHead, KeepsFields, KeepsCode, AreRest}
-pub use Rattle.sfi_image.specs.Spelling.{Holds, AreApart, code_span, spans_of, spans, code_region, guarded_span, Part, AreWords, fields_of, IsWord, AreFieldWords, AreGateWords, format_of, views, view}
+pub use Rattle.sfi_image.specs.Spelling.{Holds, AreApart, code_span, spans_of, spans, code_region, guarded_span, Part, fields_of, IsWord, format_of, views, view}
+pub use Rattle.sfi_image.specs.Numbers.{AreWords, AreFieldWords, AreGateWords}
 unfoldable pub use Rattle.sfi_image.specs.Spelling.{number, fields, gate, part, spelling}
 pub use Rattle.sfi_image.specs.declared.fault.LayoutFault.{LayoutFault}
 pub use Rattle.sfi_image.specs.declared.fault.LayoutFault.TheVariants.{Count, Short, Trailing, Magic}

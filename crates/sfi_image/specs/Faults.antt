@@ -11,8 +11,10 @@ use Rattle.sfi_image.specs.declared.part.Gate.{Gate}
 use Rattle.sfi_image.specs.declared.fields.Fields.{Fields}
 use Rattle.sfi_image.specs.declared.span.Span.{Span}
 use Rattle.sfi_image.specs.declared.fault.LayoutFault.TheVariants.{Magic, Count, Short, Code, Data, GuardRoom, Start, Gates, Init, Overlap, Trailing}
-use Rattle.sfi_image.specs.Spelling.{Part, magic_bytes, number_bytes, fields_bytes, gate_bytes, number, fields, gate, part, IsWord, AreFieldWords, AreGateWords, fields_of, code_span, spans, code_region}
-use Rattle.sfi_image.specs.Parts.{AreGates, AreOf, AreRight, IsFirstFault, field_tests}
+use Rattle.sfi_image.specs.Spelling.{Part, number, fields, gate, part, IsWord, fields_of, code_span, spans, code_region}
+use Rattle.sfi_image.specs.Numbers.{magic_bytes, number_bytes, fields_bytes, gate_bytes, AreFieldWords, AreGateWords}
+use Rattle.sfi_image.specs.Parts.{AreGates, AreOf, AreRight}
+use Rattle.sfi_image.specs.FieldTests.{IsFirstFault, field_tests}
 
 -- ==== What a reader of part of an image answers.
 

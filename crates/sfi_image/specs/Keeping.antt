@@ -9,7 +9,8 @@ use Rattle.sfi_image.specs.declared.fields.Fields.{Fields}
 pub use Rattle.sfi_image.specs.declared.layout_reader.LayoutReader.{LayoutReader}
 use Rattle.sfi_image.specs.declared.want.Stage.{Stage}
 use Rattle.sfi_image.specs.declared.want.Stage.TheVariants as stage
-use Rattle.sfi_image.specs.Spelling.{Part, format_of, fields_of, gate, AreGateWords, part, magic_bytes, number_bytes, spans, spans_of}
+use Rattle.sfi_image.specs.Spelling.{Part, format_of, fields_of, gate, part, spans, spans_of}
+use Rattle.sfi_image.specs.Numbers.{AreGateWords, magic_bytes, number_bytes}
 use Rattle.sfi_image.specs.Parts.{is_gate_of, AreOf, IsImage}
 use Rattle.sfi_image.specs.Prefixes.{ImagePrefix, prefix_bytes, IsRightPrefix, Follows, after_parts}
 use Rattle.sfi_image.specs.Prefixes.ImagePrefix.{Empty, AfterMagic, AfterCount, InGates, InCode, InInit, Whole}

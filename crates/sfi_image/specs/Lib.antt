@@ -1,5 +1,7 @@
 pub mod Spelling
+pub mod Numbers
 pub mod Parts
+pub mod FieldTests
 pub mod Faults
 pub mod Laws
 pub mod Prefixes

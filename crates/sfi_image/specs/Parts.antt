@@ -1,17 +1,13 @@
--- Right sandboxes: regions, reserved registers, gates, and the tests in their order; and images of
--- them.
-use Rattle.std.specs.Prelude.{◌≡◌, ℕ, ◌+◌, ◌*◌, ◌%◌, ◌^◌, ◌≤◌, ◌-◌, ◌<◌, ◌==◌, ◌||◌, Bool, false, List, [], ◌∷◌, ◌⊎◌, ◌++◌, Option, Some, None, length}
-use Rattle.sfi_formats.specs.Limits.{bundle_size, guard, region_least, data_most, service_most, gates_most, sandboxes_most}
+-- Right sandboxes: regions, reserved registers and gates; and images of them.
+use Rattle.std.specs.Prelude.{◌≡◌, ℕ, ◌+◌, ◌*◌, ◌%◌, ◌^◌, ◌≤◌, ◌-◌, ◌<◌, ◌==◌, ◌||◌, Bool, false, List, [], ◌∷◌, length, slice_index}
+use Rattle.sfi_formats.specs.Limits.{bundle_size, word_size, guard, region_least, data_most, service_most, gates_most, sandboxes_most}
 use Rattle.sfi_formats.specs.declared.format.Format.{Format}
-use Rattle.sfi_formats.specs.Formats.{code_most, unit}
+use Rattle.sfi_formats.specs.Formats.{code_most, unit, code_base_register, code_mask_register, data_base_register, data_mask_register}
 use Rattle.sfi_image.specs.declared.span.Span.{Span}
-use Rattle.sfi_image.specs.Spelling.{Holds, code_region, data_region, AreApart, code_span, spans_of, spans, Part, format_of, IsWord, spelling}
+use Rattle.sfi_image.specs.Spelling.{Holds, code_region, data_region, AreApart, spans, Part, format_of, IsWord, spelling}
 use Rattle.sfi_image.specs.declared.reserved.Reserved.{Reserved}
 use Rattle.std.specs.List.{All, AllPairs}
 use Rattle.sfi_image.specs.declared.part.Gate.{Gate}
-use Rattle.sfi_image.specs.declared.fields.Fields.{Fields}
-use Rattle.sfi_image.specs.declared.fault.LayoutFault.{LayoutFault}
-use Rattle.sfi_image.specs.declared.fault.LayoutFault.TheVariants as faults
 
 -- ==== Where the regions of a sandbox may lie.
 
@@ -37,10 +33,18 @@ pub record HasGuardRoom (base size : ℕ) : Type 0 where
   pub below : guard ≤ base
   pub above : base + size + guard ≤ 2 ^ 32
 
--- the address is a multiple of a bundle's size in the region
-pub record IsBundleStart (region : Span) (at : ℕ) : Type 0 where
+-- the address is a multiple of `size`, the bytes of a unit of code, in the region
+pub record IsStart (size : ℕ) (region : Span) (at : ℕ) : Type 0 where
   pub held : Holds region at
-  pub aligned : at % bundle_size ≡ 0
+  pub aligned : at % size ≡ 0
+
+-- a bundle's start in the region
+abbrev pub IsBundleStart : Span → ℕ → Type 0
+IsBundleStart = IsStart bundle_size
+
+-- a word's start in the region
+abbrev pub IsWordStart : Span → ℕ → Type 0
+IsWordStart = IsStart word_size
 
 -- ==== What the reserved registers hold.
 
@@ -58,6 +62,13 @@ reserved_for unit_size code_at data_at = record {
 abbrev pub reserved_of : Part → Reserved
 reserved_of p = reserved_for (unit p.format) (code_region p) (data_region p)
 
+-- the reserved registers hold these values
+pub record HasReserved (values : Reserved) (registers : List ℕ) : Type 0 where
+  pub code_base : slice_index registers code_base_register ≡ values.code_base
+  pub code_mask : slice_index registers code_mask_register ≡ values.code_mask
+  pub data_base : slice_index registers data_base_register ≡ values.data_base
+  pub data_mask : slice_index registers data_mask_register ≡ values.data_mask
+
 -- ==== The gates of a sandbox.
 
 -- each gate lies at a bundle start of the code region and names a service that there is, and each
@@ -71,49 +82,6 @@ pub record AreGates (region : Span) (gs : List Gate) : Type 0 where
 abbrev pub is_gate_of : List Gate → ℕ → Bool
 is_gate_of [] at = false
 is_gate_of (g ∷ gs) at = (g.address == at) || is_gate_of gs at
-
--- ==== The tests of the seven fields, in their order.
-
--- what is tested of the fields
-pub data FieldTest : Type 0 where
-  Code : FieldTest
-  Data : FieldTest
-  GuardRoom : FieldTest
-  Start : FieldTest
-  Gates : FieldTest
-  Init : FieldTest
-  Overlap : FieldTest
-
--- what each test asks of the fields, after sandboxes with these spans
-abbrev pub Passes : List Span → Fields → FieldTest → Type 0
-Passes before f Code = IsCodeRegion f.format f.code_base f.code_size
-Passes before f Data = IsDataRegion f.data_base f.data_size
-Passes before f GuardRoom = HasGuardRoom f.data_base f.data_size
-Passes before f Start = IsBundleStart (code_span f) f.start
-Passes before f Gates = f.gate_count ≤ gates_most
-Passes before f Init = f.init_len ≤ f.data_size
-Passes before f Overlap = AllPairs AreApart (before ++ spans_of f)
-
--- the fault where this test fails
-abbrev pub fault_of : FieldTest → LayoutFault
-fault_of Code = faults.Code
-fault_of Data = faults.Data
-fault_of GuardRoom = faults.GuardRoom
-fault_of Start = faults.Start
-fault_of Gates = faults.Gates
-fault_of Init = faults.Init
-fault_of Overlap = faults.Overlap
-
--- the order of the tests
-abbrev pub field_tests : List FieldTest
-field_tests = Code ∷ Data ∷ GuardRoom ∷ Start ∷ Gates ∷ Init ∷ Overlap ∷ []
-
--- the fault of the first of these tests that fails; None where all pass
-abbrev pub IsFirstFault : List Span → Fields → List FieldTest → Option LayoutFault → Type 0
-IsFirstFault before f [] found = found ≡ None
-IsFirstFault before f (t ∷ ts) found =
-    (Passes before f t × IsFirstFault before f ts found)
-    ⊎ ((¬ Passes before f t) × (found ≡ Some (fault_of t)))
 
 -- ==== Sandboxes that pass each test but Overlap, and that lie apart.
 

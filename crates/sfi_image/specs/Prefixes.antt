@@ -9,8 +9,10 @@ use Rattle.sfi_image.specs.declared.fields.Fields.{Fields}
 use Rattle.sfi_image.specs.declared.fault.LayoutFault.{LayoutFault}
 use Rattle.sfi_image.specs.declared.want.Want.{Want}
 use Rattle.sfi_image.specs.declared.want.Want.TheVariants as wants
-use Rattle.sfi_image.specs.Spelling.{Part, format_of, magic_bytes, number_bytes, fields_bytes, gate_bytes, number, fields, gate, part, AreFieldWords, AreGateWords, code_span, spans}
-use Rattle.sfi_image.specs.Parts.{AreGates, is_gate_of, AreOf, AreRight, IsFirstFault, field_tests, IsImage}
+use Rattle.sfi_image.specs.Spelling.{Part, format_of, number, fields, gate, part, code_span, spans}
+use Rattle.sfi_image.specs.Numbers.{magic_bytes, number_bytes, fields_bytes, gate_bytes, AreFieldWords, AreGateWords}
+use Rattle.sfi_image.specs.Parts.{AreGates, is_gate_of, AreOf, AreRight, IsImage}
+use Rattle.sfi_image.specs.FieldTests.{IsFirstFault, field_tests}
 use Rattle.sfi_image.specs.declared.fault.LayoutFault.TheVariants.{Short, Trailing}
 use Rattle.sfi_image.specs.Faults.{IsFault}
 

@@ -1,7 +1,7 @@
 -- What a sandbox's part of an image holds, the bytes of an image, and the spans of addresses that
 -- its fields give.
 use Rattle.std.specs.Prelude.{ℕ, ◌^◌, ◌<◌, List, [], ◌∷◌, ◌++◌, length, map, ◌+◌, ◌-◌, ◌≤◌, ◌⊎◌}
-use Rattle.std.specs.List.{All, flat_map}
+use Rattle.std.specs.List.{flat_map}
 use Rattle.std.specs.Int.{w32, to_le_bytes}
 use Rattle.sfi_formats.specs.declared.format.Format.{Format}
 use Rattle.sfi_formats.specs.declared.format.Format.TheVariants.{Sfi1}
@@ -62,22 +62,6 @@ fields_of p = record {
 
 -- ---- bytes
 
--- how many bytes a magic has
-abbrev pub magic_bytes : ℕ
-magic_bytes = 4
-
--- how many bytes a number has
-abbrev pub number_bytes : ℕ
-number_bytes = 4
-
--- how many bytes the seven fields have
-abbrev pub fields_bytes : ℕ
-fields_bytes = 28
-
--- how many bytes a gate has
-abbrev pub gate_bytes : ℕ
-gate_bytes = 8
-
 -- a number in four bytes, the lowest first
 unfoldable pub number : ℕ → List ℕ
 number n = to_le_bytes w32 n
@@ -105,36 +89,6 @@ spelling ps = magic (format_of ps) ++ (number (length ps) ++ flat_map part ps)
 abbrev pub IsWord : ℕ → Type 0
 IsWord n = n < 2 ^ 32
 
--- each of the seven fields has 32 bits
-pub record AreFieldWords (f : Fields) : Type 0 where
-  pub code_base : IsWord f.code_base
-  pub code_size : IsWord f.code_size
-  pub data_base : IsWord f.data_base
-  pub data_size : IsWord f.data_size
-  pub start : IsWord f.start
-  pub gate_count : IsWord f.gate_count
-  pub init_len : IsWord f.init_len
-
--- both numbers of a gate have 32 bits
-pub record AreGateWords (g : Gate) : Type 0 where
-  pub address : IsWord g.address
-  pub service : IsWord g.service
-
--- each number of a sandbox has 32 bits
-pub record AreWords (p : Part) : Type 0 where
-  pub fields : AreFieldWords (fields_of p)
-  pub gates : All AreGateWords p.gates
-
--- ==== The same sandboxes in an image of another format.
-
--- the same sandbox in an image of this format
-abbrev pub in_format : Format → Part → Part
-in_format f p = record p { format = f }
-
--- the same sandboxes in an image of this format
-abbrev pub all_in_format : Format → List Part → List Part
-all_in_format f ps = map (in_format f) ps
-
 -- ==== Spans of addresses, and those of a sandbox.
 
 -- the address is one of the span's size addresses from its base on; the end may be 2 ^ 32
@@ -144,6 +98,11 @@ Holds s at = (s.base ≤ at) × (at < s.base + s.size)
 -- no address lies in both spans
 abbrev pub AreApart : Span → Span → Type 0
 AreApart s t = (at : ℕ) → Holds s at → Holds t at → ⊥
+
+-- the address lies in the span, or at most `far` bytes below its first byte or above its last
+pub record IsNear (s : Span) (far at : ℕ) : Type 0 where
+  pub low : s.base ≤ at + far
+  pub high : at < s.base + s.size + far
 
 -- ---- guard zones
 

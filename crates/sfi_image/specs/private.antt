@@ -11,7 +11,8 @@ use Rattle.sfi_image.specs.declared.want.OtherWant.{OtherWant}
 use Rattle.sfi_image.specs.declared.want.OtherWant.TheVariants as others
 use Rattle.sfi_image.specs.declared.want.Stage.{Stage}
 use Rattle.sfi_image.specs.declared.want.Stage.TheVariants as stage
-use Rattle.sfi_image.specs.Spelling.{magic_bytes, number_bytes, fields_bytes, gate_bytes, Part, fields_of}
+use Rattle.sfi_image.specs.Spelling.{Part, fields_of}
+use Rattle.sfi_image.specs.Numbers.{magic_bytes, number_bytes, fields_bytes, gate_bytes}
 use Rattle.sfi_image.specs.declared.fault.ImageFault.{ImageFault}
 use Rattle.sfi_image.specs.Faults.{IfLayout}
 

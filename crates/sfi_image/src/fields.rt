@@ -5,7 +5,7 @@ ghost use Rattle.sfi_formats.specs.Limits.{guard};
 ghost use Rattle.sfi_image.specs.Spelling.{AreApart, code_span, guarded_span, with_guards};
 ghost use Rattle.sfi_image.specs.Sources.{IsBounded};
 ghost use Rattle.sfi_image.specs.Parts.{IsRegion, IsBundleStart, HasGuardRoom};
-ghost use Rattle.sfi_image.specs.Parts.{IsFirstFault, field_tests};
+ghost use Rattle.sfi_image.specs.FieldTests.{IsFirstFault, field_tests};
 
 use crate::fault::LayoutFault;
 use crate::span::{Span, are_all_apart};

@@ -1,7 +1,7 @@
 //! Which gate may follow others.
 ghost use Rattle.std.specs.Prelude.{◌≡◌, ◌-◌, ◌++◌, ◌↔◌, ◌∷◌, [], List, length, map, slice_get, IsTrue};
 ghost use Rattle.sfi_image.specs.declared.part.Gate.{Gate};
-ghost use Rattle.sfi_image.specs.Spelling.{AreGateWords};
+ghost use Rattle.sfi_image.specs.Numbers.{AreGateWords};
 ghost use Rattle.sfi_image.specs.Spelling.{code_span};
 ghost use Rattle.sfi_image.specs.Parts.{AreGates};
 

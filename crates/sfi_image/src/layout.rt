@@ -2,7 +2,8 @@
 ghost use Rattle.std.specs.Prelude.{◌≡◌, ◌++◌, ◌∷◌, [], OnOk, IfOk, IfErr};
 ghost use Rattle.std.specs.Bool.{OnTrue, OnFalse};
 ghost use Rattle.std.specs.List.{All, AllPairs};
-ghost use Rattle.sfi_image.specs.Spelling.{view, views, fields_of, IsWord, AreFieldWords, AreGateWords};
+ghost use Rattle.sfi_image.specs.Spelling.{view, views, fields_of, IsWord};
+ghost use Rattle.sfi_image.specs.Numbers.{AreFieldWords, AreGateWords};
 ghost use Rattle.sfi_image.specs.Spelling.{AreApart, code_span, spans_of};
 ghost use Rattle.sfi_image.specs.Sources.{IsBounded};
 ghost use Rattle.sfi_image.specs.Parts.{AreGates};

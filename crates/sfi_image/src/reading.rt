@@ -2,7 +2,8 @@
 ghost use Rattle.std.specs.Prelude.{◌≡◌, ◌+◌, ◌≤◌, ◌++◌, ◌≢◌, ◌↔◌, ◌⊎◌, List, length, IsTrue, IfOk, IfErr, IfSome, IfNone};
 ghost use Rattle.sfi_formats.specs.Formats.{magic};
 ghost use Rattle.sfi_image.specs.declared.fault.LayoutFault.{LayoutFault};
-ghost use Rattle.sfi_image.specs.Spelling.{Part, view, number, fields, gate, IsWord, AreFieldWords, AreGateWords};
+ghost use Rattle.sfi_image.specs.Spelling.{Part, view, number, fields, gate, IsWord};
+ghost use Rattle.sfi_image.specs.Numbers.{AreFieldWords, AreGateWords};
 ghost use Rattle.sfi_image.specs.Parts.{IsImage};
 ghost use Rattle.sfi_image.specs.Faults.{IsFault};
 ghost use Rattle.sfi_image.specs.Faults.{IfLayout};

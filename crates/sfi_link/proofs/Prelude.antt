@@ -20,7 +20,7 @@ pub use Rattle.sfi_formats.specs.Formats.{has_stack, is_stack, code_most}
 pub use Rattle.sfi_pairs.specs.Pairs.{is_masking, is_placing, stub}
 unfoldable pub use Rattle.sfi_link.specs.Code.{stub_of}
 pub use Rattle.sfi_formats.specs.declared.format.Format.{Format}
-pub use Rattle.sfi_formats.specs.Limits.{place_of}
+pub use Rattle.sfi_formats.specs.Places.{place_of}
 pub use Rattle.sfi_formats.specs.declared.place.Place.{Place}
 pub use Rattle.sfi_image.specs.Spelling.{AreApart, with_guards, spans, spans_of, code_region, Part, fields_of, format_of, views, view}
 pub use Rattle.sfi_image.specs.declared.span.Span.{Span}

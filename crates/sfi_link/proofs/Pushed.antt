@@ -13,7 +13,8 @@ use Rattle.sfi_link.specs.declared.fault.LinkFault.TheVariants.{Memory}
 use Rattle.rv_mem.specs.Bytes.{Bytes, byte_at, address_after}
 use Rattle.rv_mem.specs.Laws.{Holds}
 use Rattle.rv_step.specs.State.{State}
-use Rattle.rv_step.specs.Step.{Stands, further}
+use Rattle.rv_step.specs.Step.{Stands}
+use Rattle.rv_step.specs.Rows.{further}
 use Rattle.sfi_link.specs.Standing.{IsResolvedTo, AreResolvedTo}
 use Rattle.sfi_rewrite.specs.Transparency.{SlotStands, SlotsStand}
 use Rattle.rv_mem.proofs.Facts.{read_is_held}

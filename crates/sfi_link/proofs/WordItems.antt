@@ -16,17 +16,18 @@ use Rattle.sfi_formats.specs.declared.format.Format.TheVariants.{Sfiw}
 use Rattle.sfi_formats.specs.Formats.{is_data_register}
 use Rattle.sfi_rewrite.specs.Expansion.{IsAlone, is_withheld, names_withheld, item_names_withheld, is_ecall}
 use Rattle.sfi_rewrite.specs.Rewriting.{IsPermitted}
-use Rattle.sfi_rewrite.specs.words.Expansion.{data_mask, IsAround, IsExpansionOf, IsExpansion, mask_after, is_use, is_step_to, is_step_before_use, is_zero, is_move, moved, is_barred_jump, Marked, marked, AreExpanded}
+use Rattle.sfi_rewrite.specs.words.Expansion.{data_mask, IsAround, IsExpansionOf, IsExpansion, mask_after, is_step_to, is_step_before_use, is_zero, is_move, moved, is_barred_jump, Marked, marked, AreExpanded}
 use Rattle.sfi_rewrite.specs.words.Transparency.{AreAsLaid}
 use Rattle.sfi_rules.specs.declared.owed.Owed.{Owed}
 use Rattle.sfi_rules.specs.declared.owed.Owed.TheVariants as kind
 use Rattle.sfi_rules.specs.Readings.{is_jump}
+use Rattle.sfi_pairs.specs.Pairs.{uses}
 use Rattle.sfi_rules.specs.words.Rules.{is_word_start, may_access, places, masks, breaks_ecall, left}
 use Rattle.sfi_rewrite.proofs.Sizes.{size_of-append}
 use Rattle.sfi_rewrite.proofs.Standing.{apart, body_laid, slots_of_marked}
 use Rattle.sfi_link.proofs.CleanPlaces.{is_calm, lands, made}
 use Rattle.sfi_link.proofs.WordSlots.{IsLawful, Meets, lawful_by, meets_by, IsRight, AreRight, right_append, right_known, right_alone, mask_right, after_right}
-use Rattle.sfi_link.proofs.WordOwing.{of_data, free_one, IsFreeOne, unreserved, no_offset, use_is, IsMaskOwed, Owes, owing, owing_as_named}
+use Rattle.sfi_link.proofs.WordOwing.{of_data, free_one, IsFreeOne, unreserved, no_offset, IsMaskOwed, Owes, owing, owing_as_named}
 
 -- ---- names
 
@@ -38,7 +39,7 @@ AreWordStarts base size at names = (place to : ℕ) → target_at at names place
 
 -- the item is a use of the data register d
 abbrev pub IsUse : ℕ → Body → Type 0
-IsUse d (Plain i) = (is_data_register d ≡ true) × (is_use d i ≡ true)
+IsUse d (Plain i) = (is_data_register d ≡ true) × (uses d i ≡ true)
 IsUse d _ = ⊥
 
 -- nothing is owed before the item, or a use that it is
@@ -80,7 +81,7 @@ is_access (Load kind rd a imm) = true
 is_access (Store width a rs2 imm) = true
 is_access _ = false
 
-use_accesses : (d : ℕ) (i : Instr) → is_use d i ≡ true → is_access i ≡ true
+use_accesses : (d : ℕ) (i : Instr) → uses d i ≡ true → is_access i ≡ true
 use_accesses d (Load kind rd a imm) h = refl
 use_accesses d (Store width a rs2 imm) h = refl
 use_accesses d _ h = absurd (true≢false (sym h))
@@ -93,8 +94,8 @@ nothing_before owed i n (inr u) = absurd (true≢false (sym (use_accesses u.0 i 
 -- ---- an access
 
 -- a use pays for it
-use_pays : (d : ℕ) (i : Instr) → masks d i ≡ false → is_use d i ≡ true → left (kind.MaskOrUse d) i ≡ Some kind.Nothing
-use_pays d i m u = let e = sym (use_is d i) ∙ u in rw (m, e) refl
+use_pays : (d : ℕ) (i : Instr) → masks d i ≡ false → uses d i ≡ true → left (kind.MaskOrUse d) i ≡ Some kind.Nothing
+use_pays d i m u = rw (m, u) refl
 
 -- an access, for each register that it may be on
 record IsAccess (base size here : ℕ) (f : ℕ → Instr) (to : Option ℕ) : Type 0 where
@@ -102,7 +103,7 @@ record IsAccess (base size here : ℕ) (f : ℕ → Instr) (to : Option ℕ) : T
   no_ecall : (b : ℕ) (gate : Bool) → breaks_ecall gate (f b) ≡ false
   owes : (b : ℕ) → Owes (f b) to
   masks_none : (b d : ℕ) → masks d (f b) ≡ false
-  is_on : (b d : ℕ) → is_use d (f b) ≡ true → b ≡ d
+  is_on : (b d : ℕ) → uses d (f b) ≡ true → b ≡ d
 
 -- nothing is owed before an access on another register than a data register
 unowed_base : (base size here : ℕ) (owed : Owed) (f : ℕ → Instr) (to : Option ℕ) (a : ℕ) → IsAccess base size here f to → is_data_register a ≡ false → IsOwedTo owed (Plain (f a)) → owed ≡ kind.Nothing
@@ -345,7 +346,7 @@ body_right base size at names starts here owed line rvc step (Base rd k) count s
 -- a step to an item is one, which that uses
 step_to : (x y : Body) → is_step_to x y ≡ true → IsStep x × IsOwedTo (owed_past true x) y
 step_to (Plain (OpImm Addi d a k)) (Plain i) h =
-    let one = and_parts (is_data_register d && (a == d)) (is_use d i) h in
+    let one = and_parts (is_data_register d && (a == d)) (uses d i) h in
     let two = and_parts (is_data_register d) (a == d) one.0 in
     let same = eqb-true a d two.1 in
     (record { data_one = d; by = k; typed = two.0; is = ap (λ r. Plain (OpImm Addi d r k)) same }, inr (d, refl, (two.0, one.1)))

@@ -14,7 +14,7 @@ use Rattle.sfi_rules.specs.declared.owed.Owed.{Owed}
 use Rattle.sfi_rules.specs.declared.owed.Owed.TheVariants as kind
 use Rattle.sfi_rules.specs.Rules.{is_reserved_one}
 use Rattle.sfi_rules.specs.Readings.{is_jump}
-use Rattle.sfi_rules.specs.words.Rules.{is_small, places, is_pointer_step, uses, breaks_offset, owed_by_code, owed_of, owed_by}
+use Rattle.sfi_rules.specs.words.Rules.{places, is_pointer_step, breaks_offset, owed_by_code, owed_of, owed_by}
 use Rattle.sfi_rewrite.proofs.WordKept.{written_free}
 
 -- ---- registers
@@ -74,17 +74,6 @@ no_place (Op Or rd a b) d n =
     let z : (a == 31) ≡ false = (free a (or_parts (is_withheld Sfiw rd) (is_withheld Sfiw a) (or_parts (is_withheld Sfiw rd || is_withheld Sfiw a) (is_withheld Sfiw b) n).0).1).offset in
     and_left ((rd == d) && (a == 31)) (b == 26) (and_right (rd == d) (a == 31) z)
 no_place _ d n = refl
-
--- ---- uses
-
-small_is : (z : ℤ) → words.is_small z ≡ is_small z
-small_is (pos n) = refl
-small_is (negsuc n) = refl
-
-pub use_is : (d : ℕ) (i : Instr) → words.is_use d i ≡ uses d i
-use_is d (Load kind rd a imm) = ap (λ s. (a == d) && s && not (rd == 0)) (small_is imm)
-use_is d (Store width a rs2 imm) = ap (λ s. (a == d) && s) (small_is imm)
-use_is d _ = refl
 
 -- ---- what it leaves owed
 

@@ -2,7 +2,8 @@
 use Rattle.std.specs.Prelude.{ℕ, ◌+◌, ◌-◌, ◌*◌, ℤ, List, length, slice_get, Option, Some, None, pos, [], ◌∷◌, ◌++◌, if◌then◌else◌, ◌≡◌, ◌-ℤ◌, IsTrue, IfSome, ◌≤◌, ◌<◌, ◌^◌}
 use Rattle.rv_word.specs.declared.instr.Instr.{Instr}
 use Rattle.rv_word.specs.declared.instr.Instr.TheVariants.{Branch, Jal, Jalr, Ecall, Op, OpImm, Lui}
-use Rattle.sfi_formats.specs.Limits.{bundle_size, place_of}
+use Rattle.sfi_formats.specs.Limits.{bundle_size}
+use Rattle.sfi_formats.specs.Places.{place_of}
 use Rattle.sfi_formats.specs.declared.place.Place.{Place}
 use Rattle.sfi_rewrite.specs.declared.placed.PlacedName.{PlacedName}
 use Rattle.sfi_rewrite.specs.declared.placed.PlacedName.TheVariants.{Gate, Code, Data, Unknown}

@@ -3,7 +3,8 @@ use Rattle.std.specs.Prelude.{◌≡◌, ◌⊎◌, ℕ, ◌+◌, ◌++◌, ◌<
 use Rattle.std.specs.List.{AllPairs}
 use Rattle.rv_word.specs.declared.instr.Instr.{Instr}
 use Rattle.rv_word.specs.Spelling.{InRange}
-use Rattle.sfi_formats.specs.Limits.{sandboxes_most, place_of}
+use Rattle.sfi_formats.specs.Limits.{sandboxes_most}
+use Rattle.sfi_formats.specs.Places.{place_of}
 use Rattle.sfi_image.specs.declared.span.Span.{Span}
 use Rattle.sfi_image.specs.Spelling.{Part, AreApart, spans}
 use Rattle.sfi_formats.specs.declared.place.Place.{Place}

@@ -10,7 +10,8 @@ use Rattle.rv_comp.specs.declared.form.Form16.TheVariants.{CEbreak}
 use Rattle.sfi_formats.specs.declared.format.Format.{Format}
 use Rattle.sfi_formats.specs.Formats.{code_most}
 use Rattle.sfi_source.specs.declared.item.SourceGate.{SourceGate}
-use Rattle.sfi_formats.specs.Limits.{region_least, place_of}
+use Rattle.sfi_formats.specs.Limits.{region_least}
+use Rattle.sfi_formats.specs.Places.{place_of}
 use Rattle.sfi_image.specs.declared.part.Gate.{Gate}
 use Rattle.sfi_rewrite.specs.declared.slot.BundleSlot.{BundleSlot}
 use Rattle.sfi_rewrite.specs.declared.slot.BundleSlot.TheVariants.{Short}

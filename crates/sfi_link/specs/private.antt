@@ -8,7 +8,7 @@ use Rattle.sfi_image.specs.declared.span.Span.{Span}
 use Rattle.sfi_image.specs.Spelling.{Part, AreApart}
 use Rattle.sfi_image.specs.Sources.{IsBounded}
 use Rattle.sfi_formats.specs.declared.place.Place.{Place}
-use Rattle.sfi_formats.specs.Limits.{place_of}
+use Rattle.sfi_formats.specs.Places.{place_of}
 use Rattle.sfi_rewrite.specs.declared.slot.BundleSlot.{BundleSlot}
 use Rattle.sfi_rewrite.specs.declared.placed.PlacedName.{PlacedName}
 use Rattle.sfi_rewrite.specs.Placement.{Placement}

@@ -7,7 +7,7 @@ ghost use Rattle.sfi_rewrite.specs.Placed.{IsPlacedPart, IsPlaced, AreOf};
 ghost use Rattle.sfi_link.specs.declared.fault.LinkFault.{LinkFault};
 ghost use Rattle.sfi_link.specs.declared.fault.LinkFault.TheVariants.{TooManySandboxes};
 ghost use Rattle.sfi_link.specs.declared.fault.LinkFault.TheVariants as fault;
-ghost use Rattle.sfi_formats.specs.Limits.{place_of};
+ghost use Rattle.sfi_formats.specs.Places.{place_of};
 ghost use Rattle.sfi_link.specs.Linked.{IsRightPlace};
 ghost use Rattle.sfi_link.specs.Linked.{gates_from, part_with, IsLinkedCode};
 ghost use Rattle.sfi_link.specs.Linked.{IsLinkedImage, ArePlacements, IsBuild};

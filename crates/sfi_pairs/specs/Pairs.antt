@@ -1,10 +1,11 @@
 -- The masked pairs (Wahbe and others, "Efficient Software-Based Fault Isolation", 1993): an `and`
 -- keeps an address's offset in the region, of a code address the offset of its bundle, or in code in
 -- words of its word, and an `or` sets the region's bits.
-use Rattle.std.specs.Prelude.{◌==◌, ◌&&◌, ℕ, pos, List, [], ◌∷◌, ◌++◌, Bool, false}
+use Rattle.std.specs.Prelude.{◌==◌, ◌&&◌, ℕ, ℤ, pos, negsuc, nat_le, nat_lt, not, List, [], ◌∷◌, ◌++◌, Bool, false}
 use Rattle.rv_word.specs.declared.instr.RegOp.TheVariants.{And, Or}
 use Rattle.rv_word.specs.declared.instr.Instr.{Instr}
-use Rattle.rv_word.specs.declared.instr.Instr.TheVariants.{Op, Jalr, Ecall}
+use Rattle.rv_word.specs.declared.instr.Instr.TheVariants.{Op, Load, Store, Jalr, Ecall}
+use Rattle.sfi_formats.specs.Limits.{slack}
 use Rattle.sfi_formats.specs.Formats.{code_base_register, code_mask_register, data_base_register, data_mask_register, scratch, return_register}
 
 -- ---- the pairs
@@ -46,6 +47,20 @@ is_placing base target _ = false
 abbrev pub is_pair : ℕ → ℕ → ℕ → Instr → Instr → Bool
 is_pair mask base target first second =
     is_masking mask target first && is_placing base target second
+
+-- ---- what may follow a step of a data register, in code in words, in the place of its mask
+
+-- the offset is from -1020 to 1020
+abbrev pub is_small : ℤ → Bool
+is_small (pos n) = nat_le n slack
+is_small (negsuc n) = nat_lt n slack
+
+-- A load or store on d with an offset from -1020 to 1020. A load into x0 is none: a processor may
+-- drop it, and then it doesn't trap in a guard zone.
+abbrev pub uses : ℕ → Instr → Bool
+uses d (Load kind rd rs1 imm) = (rs1 == d) && is_small imm && not (rd == 0)
+uses d (Store width rs1 rs2 imm) = (rs1 == d) && is_small imm
+uses d _ = false
 
 -- ---- a gate
 

@@ -12,7 +12,8 @@ use Rattle.sfi_formats.specs.declared.place.Place.{Place}
 use Rattle.sfi_formats.proofs.Formats.{length_of_magic}
 use Rattle.sfi_image.specs.declared.fault.LayoutFault.{LayoutFault}
 use Rattle.sfi_image.specs.declared.part.Gate.{Gate}
-use Rattle.sfi_image.specs.Spelling.{Part, format_of, IsWord, AreWords, AreGateWords}
+use Rattle.sfi_image.specs.Spelling.{Part, format_of, IsWord}
+use Rattle.sfi_image.specs.Numbers.{AreWords, AreGateWords}
 unfoldable use Rattle.sfi_image.specs.Spelling.{number, part, spelling}
 use Rattle.sfi_image.specs.Prefixes.{head}
 use Rattle.sfi_image.specs.Faults.{IsFault}

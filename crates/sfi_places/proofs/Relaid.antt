@@ -7,7 +7,8 @@ use Rattle.std.proofs.lemmas.List.Kept.{AllPairs-cons}
 use Rattle.sfi_image.specs.declared.span.Span.{Span}
 use Rattle.sfi_image.specs.Spelling.{Part, fields_of, AreApart, spans, spans_of, IsWord, code_region}
 use Rattle.sfi_image.specs.Parts.{IsRightPart, IsBundleStart, IsCodeRegion}
-use Rattle.sfi_safe_runs.specs.Safety.{RunsSafely, CallsTyped}
+use Rattle.sfi_safe_runs.specs.Safety.{RunsSafely}
+use Rattle.sfi_safe_runs.specs.Calling.{CallsTyped}
 use Rattle.sfi_safety.proofs.Safe.{all_safe, all_call}
 use Rattle.sfi_places.specs.Beside.{AreBeside, BesideIsAsOne, BesideByPairs}
 use Rattle.std.proofs.lemmas.List.{length-map}

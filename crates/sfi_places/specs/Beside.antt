@@ -8,7 +8,8 @@ use Rattle.rv_mem.specs.Bytes.{Bytes, byte_at}
 use Rattle.rv_step.specs.State.{Hart, State}
 use Rattle.rv_step.specs.Step.{Stepped}
 use Rattle.sfi_safe_runs.specs.Runs.{Setting, Steps, IsTurnAs, IsChange, IsChangeAs}
-use Rattle.sfi_safe_runs.specs.Safety.{AllRunSafely, AllCallTyped, RunsSafelyFromAs}
+use Rattle.sfi_safe_runs.specs.Safety.{AllRunSafely, RunsSafelyFromAs}
+use Rattle.sfi_safe_runs.specs.Calling.{AllCallTyped}
 use Rattle.sfi_safety.specs.Clean.{IsClean}
 
 -- no code region and no data with its guard zones of the first image meets one of the second

@@ -12,7 +12,8 @@ pub use Rattle.rv_word.specs.declared.instr.LoadKind.{LoadKind}
 pub use Rattle.rv_word.specs.declared.instr.RegOp.TheVariants.{And, Or, Add}
 pub use Rattle.rv_mem.specs.Bytes.{Bytes, bytes_at, addresses, address_after, loaded, stored, IsMemory, byte_at, with_bytes, number_of}
 pub use Rattle.rv_step.specs.State.{Hart, register, with_register, with_pc, past, even_of, IsHart, State, IsState}
-pub use Rattle.rv_step.specs.Step.{next, unchanged, after_load, effect, Stands, Stepped, IsStep, further, StandInRow, LeadsTo, LeadTo, load_size}
+pub use Rattle.rv_step.specs.Step.{next, unchanged, after_load, effect, Stands, Stepped, IsStep, load_size}
+pub use Rattle.rv_step.specs.Rows.{further, StandInRow, LeadsTo, LeadTo}
 pub use Rattle.sfi_source.specs.Source.{IsBody, Sandbox, named, IsSandbox, IsThere, IsSource}
 pub use Rattle.sfi_source.specs.declared.item.Body.{Body}
 pub use Rattle.sfi_source.specs.declared.item.Body.TheVariants.{Plain, To, High, Low, Base}
@@ -26,7 +27,8 @@ pub use Rattle.sfi_rewrite.specs.Rewriting.{IsPermitted, AreFaultless, HasItemFa
 pub use Rattle.sfi_rewrite.specs.Laws.{TransparencyCanBeMet, SomeRewriting, ExpansionsAreTransparent, RewrittenIsTransparent}
 pub use Rattle.sfi_rewrite.specs.Placed.{Encodes, IsNamedBelow, AreWhole, IsPlacedThere, IsPlacedGate, IsPlacedPart, IsPlaced, AreOf, format_of, nothing, padding}
 pub use Rattle.sfi_rewrite.specs.Placement.{AreBundles, Placement, IsPlacedName, HasEndLabel, FillsEnd, IsPlacement, AreLaidIn, FillsEndIn, IsLabelAt, label_place, AreLaidFrom, FillsGap, IsNext, next_bundle, AreLaid}
-pub use Rattle.sfi_rewrite.specs.Transparency.{IsSameAside, AreRegions, HasReserved, IsAskedOf, SlotStands, IsTransparent, put_back_at, KeepsStack, ActsAs, IsAimed, MayBe, DoesAs, masked, SlotsStand}
+pub use Rattle.sfi_rewrite.specs.Transparency.{IsSameAside, AreRegions, IsAskedOf, SlotStands, IsTransparent, put_back_at, KeepsStack, ActsAs, IsAimed, MayBe, DoesAs, masked, SlotsStand}
+pub use Rattle.sfi_image.specs.Parts.{HasReserved}
 pub use Rattle.sfi_rewrite.specs.Standing.{StandTransparent}
 pub use Rattle.sfi_rewrite.specs.declared.fault.RewriteFault.{RewriteFault}
 pub use Rattle.sfi_rewrite.specs.declared.placed.PlacedName.{PlacedName}

@@ -5,6 +5,7 @@ use Rattle.rv_step.proofs.Facts.{pair_leaves, step_keeps_state}
 use Rattle.rv_step.proofs.Pairs.{written_elsewhere}
 use Rattle.sfi_rewrite.proofs.Masks.{masked_data}
 use Rattle.sfi_rewrite.proofs.Transparent.{stands_at, does, twelve, alone_transparent, named_transparent, of_masked}
+use Rattle.sfi_image.specs.Parts.{reserved_for}
 
 abbrev pub is_jump : Instr → Bool
 is_jump (Jal rd offset) = true
@@ -54,7 +55,7 @@ destined (Some d) r h = ap Some (eqb-true d r h)
 -- ---- the pair after it
 
 -- from the state after i, of which we know that it is s with x2 written
-from_there : (c d : Span) (s one : State) (v : ℕ) → AreRegions c d → IsState one → HasReserved 16 c d s.hart
+from_there : (c d : Span) (s one : State) (v : ℕ) → AreRegions c d → IsState one → HasReserved (reserved_for 16 c d) s.hart.registers
     → one ≡ record { hart = with_register (past s.hart 4) 2 v; memory = s.memory }
     → Stands (further s 4) (Op And 2 2 27) 4 → Stands (further (further s 4) 4) (Op Or 2 2 26) 4
     → LeadTo 2 one (put_back_at d one (address_after s.hart.pc 12))
@@ -64,7 +65,7 @@ from_there c d s one v regions is reserved e second third =
     let memory : one.memory ≡ s.memory = ap (λ (x : State). x.memory) e in
     let other : (r : ℕ) → r ≢ 2 → register h r ≡ register s.hart r =
     λ r ne. ap (λ (x : State). register x.hart r) e ∙ written_elsewhere (past s.hart 4) 2 v r (λ z. omega arith) ne in
-    let now : HasReserved 16 c d h =
+    let now : HasReserved (reserved_for 16 c d) h.registers =
     record {
       code_base = other 24 (λ z. omega arith) ∙ reserved.code_base;
       code_mask = other 25 (λ z. omega arith) ∙ reserved.code_mask;

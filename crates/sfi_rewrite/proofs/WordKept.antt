@@ -10,6 +10,7 @@ use Rattle.sfi_rewrite.proofs.Transparent.{stands_at}
 use Rattle.sfi_rewrite.proofs.StackKept.{is_jump, is_auipc, writes, done_is}
 use Rattle.sfi_rewrite.proofs.Aside.{added, plus_zero}
 use Rattle.sfi_rewrite.proofs.WordTransparent.{IsOneFor, one_for, IsNamed, after_mask, mask_leads, mask_elsewhere, mask_leaves, not_31, one_transparent, load_transparent, store_transparent, load_alone, store_alone, jump_transparent}
+use Rattle.sfi_image.specs.Parts.{reserved_for}
 
 -- ---- what an instruction writes
 
@@ -106,8 +107,8 @@ one_step s t a = (t, a, refl)
 -- ---- the mask after a write
 
 -- the reserved registers where d alone was written, and the expansions' own
-reserved_still : (c d_at : Span) (s t : State) (d : ℕ) → d < 5 → HasReserved 4 c d_at s.hart
-    → ((x : ℕ) → is_own x ≡ false → x ≢ d → register t.hart x ≡ register s.hart x) → HasReserved 4 c d_at t.hart
+reserved_still : (c d_at : Span) (s t : State) (d : ℕ) → d < 5 → HasReserved (reserved_for 4 c d_at) s.hart.registers
+    → ((x : ℕ) → is_own x ≡ false → x ≢ d → register t.hart x ≡ register s.hart x) → HasReserved (reserved_for 4 c d_at) t.hart.registers
 reserved_still c d_at s t d small reserved same = record {
   code_base = same 24 refl (λ e. omega arith) ∙ reserved.code_base;
   code_mask = same 25 refl (λ e. omega arith) ∙ reserved.code_mask;

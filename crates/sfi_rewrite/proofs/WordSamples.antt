@@ -46,7 +46,7 @@ jump_met = (
   three_meet sample_jump (Op And 30 12 25) (Op Or 30 30 24) (Jalr 1 30 (pos 0)) (op_spelled And 30 12 25 (omega arith) (omega arith) (omega arith))
       (op_spelled Or 30 30 24 (omega arith) (omega arith) (omega arith)) (jump_spelled 30 (omega arith)) (Wide (Jalr 1 30 (pos 0)) ∷ [], refl, refl),
   refl,
-  ((omega arith, omega arith), refl),
+  record { held = (omega arith, omega arith); aligned = refl },
   refl,
 )
 

@@ -1,7 +1,8 @@
 -- Each expansion in words does what its instruction does.
 use Rattle.sfi_rewrite.proofs.Prelude.{◌≡◌, ◌≢◌, ℕ, ◌<◌, ◌==◌, List, [], ◌∷◌, ◌++◌, Bool, true, false, inl, inr, refl, sym, ap, ◌∙◌, subst, arith, ℤ, pos, bit_and, bit_or, And, Or, LoadKind, Instr, Op, Load, Store, Jalr, address_after, State, IsState, register, with_register, with_pc, past, Stands, effect, BundleSlot, Wide, Short, slot_size, IsAlone, AreRegions, HasReserved, SlotStands, IsSameAside, DoesAs, if◌then◌else◌, further, LeadTo, offset_by, StoreWidth, Holds, Span, masked, SlotsStand, data_mask}
 use Rattle.rv_step.proofs.Pairs.{written_here, written_elsewhere}
-use Rattle.sfi_rewrite.specs.words.Transparency.{is_own, IsWordStart, KeepsTo, meant_base, meant, IsTransparent}
+use Rattle.sfi_rewrite.specs.words.Transparency.{is_own, KeepsTo, meant_base, meant, IsTransparent}
+use Rattle.sfi_image.specs.Parts.{IsWordStart, reserved_for}
 use Rattle.sfi_rewrite.proofs.Transparent.{stands_at, does, eight, DoesFor, after_pair, one_does}
 use Rattle.sfi_rewrite.proofs.Masks.{masked_data, unmasked_data, unmasked_code}
 use Rattle.sfi_rewrite.proofs.Aside.{Aside, plus_zero, aside_through, aside_own, aside_at, loads_same, stores_same, jumps_same}
@@ -143,7 +144,7 @@ jump_transparent rd a = record {
       let v = register s.hart a in
       let start = subst (λ (n : ℕ). IsWordStart c n) (plus_zero v (asked.is_state.hart.words a)) keeps in
       after_pair is_own 30 s (Jalr rd a (pos 0)) (Jalr rd 30 (pos 0)) a 25 24 v (λ z. omega arith) (omega arith) refl asked.is_state (λ z. omega arith) asked.stand.0 asked.stand.1.0 asked.stand.1.1.0
-      (unmasked_code 2 c d s.hart v (omega arith) asked.regions asked.reserved start.0 start.1)
+      (unmasked_code 2 c d s.hart v (omega arith) asked.regions asked.reserved start.held start.aligned)
       (λ h aside e. jumps_same is_own rd 30 a (pos 0) h (with_pc s.hart h.pc) s.memory aside (ap (λ n. offset_by n (pos 0)) e));
 }
 
@@ -166,5 +167,5 @@ pub not_31 : (x : ℕ) → is_own x ≡ false → x ≢ 31
 not_31 x other e = let z = ap is_own e in cc
 
 -- in that one it leaves the address that a masks to
-pub mask_leaves : (c d_at : Span) (t : State) (d a : ℕ) → AreRegions c d_at → IsState t → HasReserved 4 c d_at t.hart → IsNamed d → register (after_mask t d a).hart d ≡ masked d_at (register t.hart a)
+pub mask_leaves : (c d_at : Span) (t : State) (d a : ℕ) → AreRegions c d_at → IsState t → HasReserved (reserved_for 4 c d_at) t.hart.registers → IsNamed d → register (after_mask t d a).hart d ≡ masked d_at (register t.hart a)
 mask_leaves c d_at t d a regions is reserved named = mask_value t d a is named.some named.small ∙ masked_data 4 c d_at t.hart (register t.hart a) regions reserved

@@ -12,14 +12,15 @@ use Rattle.sfi_formats.specs.declared.format.Format.{Format}
 use Rattle.rv_mem.specs.Bytes.{address_after}
 use Rattle.rv_step.specs.declared.outcome.Outcome.TheVariants.{Next}
 use Rattle.rv_step.specs.State.{Hart, State, IsState, register, with_register, with_pc}
-use Rattle.rv_step.specs.Step.{Stepped, Stands, effect, IsStep, further, LeadTo}
+use Rattle.rv_step.specs.Step.{Stepped, Stands, effect, IsStep}
+use Rattle.rv_step.specs.Rows.{further, LeadTo}
 use Rattle.sfi_source.specs.declared.item.Body.{Body}
 use Rattle.sfi_source.specs.declared.item.Body.TheVariants.{Plain, To, High, Low, Base}
 use Rattle.sfi_source.specs.declared.item.Item.{Item}
-use Rattle.sfi_formats.specs.Formats.{code_base_register, code_mask_register, data_base_register, data_mask_register, scratch, stack_pointer}
+use Rattle.sfi_formats.specs.Formats.{code_base_register, data_base_register, scratch, stack_pointer}
 use Rattle.sfi_image.specs.declared.span.Span.{Span}
 use Rattle.sfi_image.specs.Spelling.{Holds}
-use Rattle.sfi_image.specs.Parts.{IsCodeRegion, IsDataRegion, IsBundleStart, reserved_for}
+use Rattle.sfi_image.specs.Parts.{IsCodeRegion, IsDataRegion, IsBundleStart, reserved_for, HasReserved}
 use Rattle.sfi_rewrite.specs.declared.slot.BundleSlot.{BundleSlot}
 use Rattle.sfi_rewrite.specs.declared.slot.BundleSlot.TheVariants.{Wide, Short}
 use Rattle.sfi_rewrite.specs.Expansion.{writes_stack, slot_size, size_of, slots_of, c_nop}
@@ -32,14 +33,6 @@ pub record AreRegions (code_at data_at : Span) : Type 0 where
   pub format : Format
   pub code_placed : IsCodeRegion format code_at.base code_at.size
   pub data_placed : IsDataRegion data_at.base data_at.size
-
--- the reserved registers hold what they do while a sandbox of these regions runs, whose code is in
--- units of `unit_size` bytes
-pub record HasReserved (unit_size : ℕ) (code_at data_at : Span) (h : Hart) : Type 0 where
-  pub code_base : register h code_base_register ≡ (reserved_for unit_size code_at data_at).code_base
-  pub code_mask : register h code_mask_register ≡ (reserved_for unit_size code_at data_at).code_mask
-  pub data_base : register h data_base_register ≡ (reserved_for unit_size code_at data_at).data_base
-  pub data_mask : register h data_mask_register ≡ (reserved_for unit_size code_at data_at).data_mask
 
 -- The instruction keeps to the sandbox: a load's or store's base register lies in the data region,
 -- whatever its offset adds, and a jalr goes to a bundle start of the code region. Of any other
@@ -99,7 +92,7 @@ pub record IsAskedOf (unit_size : ℕ) (i : Instr) (slots : List BundleSlot) (co
     (s : State) : Type 0 where
   pub regions : AreRegions code_at data_at
   pub is_state : IsState s
-  pub reserved : HasReserved unit_size code_at data_at s.hart
+  pub reserved : HasReserved (reserved_for unit_size code_at data_at) s.hart.registers
   pub stand : SlotsStand i s slots
 
 -- The slots are transparent to the instruction: wherever they stand, from any state in which the

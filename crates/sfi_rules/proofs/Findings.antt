@@ -4,9 +4,9 @@ use Rattle.std.proofs.lemmas.Bool.{false≢true}
 use Rattle.rv_word.specs.declared.instr.Instr.TheVariants.{Op}
 use Rattle.rv_word.specs.declared.instr.RegOp.TheVariants.{And}
 use Rattle.sfi_formats.specs.Formats.{code_base_register, code_register}
-use Rattle.sfi_pairs.specs.Pairs.{is_placing}
+use Rattle.sfi_pairs.specs.Pairs.{is_placing, uses}
 use Rattle.sfi_rules.specs.declared.owed.Owed.TheVariants.{Mask, PlaceOnly, MaskOrUse, Code}
-use Rattle.sfi_rules.specs.words.Rules.{is_and, masks, places, uses, owed_by, or_nothing, joined, owed_next}
+use Rattle.sfi_rules.specs.words.Rules.{is_and, masks, places, owed_by, or_nothing, joined, owed_next}
 use Rattle.sfi_rules.specs.Laws.{OwedIsOfTwo, owed_after_two}
 use Rattle.sfi_rules.specs.Findings.{AreFoundUpTo}
 use Rattle.sfi_rules.specs.Rules.{number_of}

@@ -4,7 +4,7 @@ use Rattle.rv_word.specs.declared.length.Length.TheVariants.{Wide}
 use Rattle.sfi_rules.specs.Laws.{FirstFormatHasNoStack, FirstFormatFindsNoV10}
 use Rattle.sfi_rules.specs.declared.rule.Rule.TheVariants.{V1, V9, V10, V3, V4, V5, V6, V7, V8}
 use Rattle.sfi_rules.proofs.Findings.{in_bundles, lowest_is, kept}
-use Rattle.sfi_image.specs.Spelling.{in_format, all_in_format}
+use Rattle.sfi_image.specs.Numbers.{in_format, all_in_format}
 use Rattle.sfi_formats.specs.declared.format.Format.TheVariants.{Sfi2, Sfiw}
 use Rattle.std.proofs.lemmas.List.Elements.{All-head, All-tail}
 use Rattle.sfi_rules.proofs.OneList.{longest_one}

@@ -4,7 +4,8 @@ use Rattle.std.specs.List.{All}
 use Rattle.rv_word.specs.declared.instr.Instr.{Instr}
 use Rattle.sfi_formats.specs.declared.format.Format.TheVariants.{Sfi1, Sfi2}
 use Rattle.sfi_formats.specs.Formats.{has_words}
-use Rattle.sfi_image.specs.Spelling.{Part, all_in_format}
+use Rattle.sfi_image.specs.Spelling.{Part}
+use Rattle.sfi_image.specs.Numbers.{all_in_format}
 use Rattle.sfi_image.specs.Parts.{IsBundleStart}
 use Rattle.sfi_image.specs.declared.bundle.BundlePlace.{BundlePlace}
 use Rattle.sfi_rules.specs.declared.finding.Finding.{Finding}

@@ -2,7 +2,7 @@
 use Rattle.std.proofs.Common.{◌*◌}
 use Rattle.std.proofs.lemmas.Nat.{and_mask, or_shifted, or_comm, or_block, mod_below, pow_pos}
 use Rattle.std.specs.Int.Bits.{bit_and, bit_or, or_self, or_zero_r}
-use Rattle.sfi_image.specs.Parts.{IsRegion}
+use Rattle.sfi_image.specs.Parts.{IsRegion, reserved_of}
 use Rattle.sfi_image.proofs.Facts.{masked_unit}
 use Rattle.std.proofs.lemmas.Bool.{cond-false, ne_eqb}
 use Rattle.std.proofs.lemmas.List.{get_or-set_same}
@@ -11,6 +11,7 @@ use Rattle.rv_step.specs.Step.{result_of}
 use Rattle.sfi_formats.specs.Formats.{is_reserved}
 use Rattle.std.proofs.lemmas.List.FromFn.{length-range_with_len, get_or-map-range_with_len}
 use Rattle.sfi_safe_runs.proofs.Prelude.{◌≡◌, ◌≢◌, ℕ, suc, ◌+◌, ◌-◌, ◌%◌, ◌^◌, ◌<◌, ◌≤◌, ◌⊎◌, List, length, get_or, set, false, ◌||◌, ◌==◌, refl, sym, ap, ◌∙◌, subst, inl, inr, ⊎_elim, arith, cases_lt, or_parts, eqb-false, cond_both, get_or-set_other, length-set, ℤ, pos, negsuc, ◌+ℤ◌, ints, slice_index, Contains, range_with_len, length-map, offset_by, IsImm12, InRange, Load, Store, LoadKind, Lb, Lh, Lw, Lbu, Lhu, StoreWidth, Sb, Sh, Sw, address_after, addresses, Hart, register, with_register, word, load_size, store_size, Part, HasGuardRoom, InData, InGuard, HasReserved, IsNear}
+use Rattle.sfi_image.specs.Spelling.{data_region}
 
 -- ==== What the masks leave: an offset, an address of a region, a unit's start.
 
@@ -105,7 +106,7 @@ module _ (p : Part) (room : HasGuardRoom p.data_base p.data_size) where
       (cases_lt a p.data_base)
 
   -- a register so far from the data, an offset that reaches so far and up to four bytes
-  near_address : (v far reach : ℕ) (imm : ℤ) (k : ℕ) → IsNear p far v → IsWithin reach imm → far + reach + 3 ≤ 4096 → k < 4 → InData p (address_after (offset_by v imm) k) ⊎ InGuard p (address_after (offset_by v imm) k)
+  near_address : (v far reach : ℕ) (imm : ℤ) (k : ℕ) → IsNear (data_region p) far v → IsWithin reach imm → far + reach + 3 ≤ 4096 → k < 4 → InData p (address_after (offset_by v imm) k) ⊎ InGuard p (address_after (offset_by v imm) k)
   near_address v far reach (pos n) k lies within fits few =
       let above : p.data_base + p.data_size + 4096 ≤ 2 ^ 32 = room.above in
       let low : p.data_base ≤ v + far = lies.low in
@@ -126,7 +127,7 @@ module _ (p : Part) (room : HasGuardRoom p.data_base p.data_size) where
       let within : k < n = omega (arith, below, length-map (range_with_len 0 n) (address_after at), length-range_with_len 0 n) in
       (k, within, sym is ∙ get_or-map-range_with_len (address_after at) 0 n k k _ within (omega arith))
 
-  pub near_access : (v far reach : ℕ) (imm : ℤ) (n a : ℕ) → IsNear p far v → IsWithin reach imm → far + reach + 3 ≤ 4096 → n ≤ 4 → Contains (addresses (offset_by v imm) n) a → InData p a ⊎ InGuard p a
+  pub near_access : (v far reach : ℕ) (imm : ℤ) (n a : ℕ) → IsNear (data_region p) far v → IsWithin reach imm → far + reach + 3 ≤ 4096 → n ≤ 4 → Contains (addresses (offset_by v imm) n) a → InData p a ⊎ InGuard p a
   near_access v far reach imm n a lies within fits few has =
       let one = one_address (offset_by v imm) n a has in
       subst (λ (x : ℕ). InData p x ⊎ InGuard p x) (sym one.2) (near_address v far reach imm one.0 lies within fits (omega (arith, one.1)))
@@ -134,7 +135,7 @@ module _ (p : Part) (room : HasGuardRoom p.data_base p.data_size) where
   -- ---- what a step and an access make of what is known
 
   -- after a step it lies so much further
-  pub stepped : (v : ℕ) (imm : ℤ) → IsNear p 1020 v → IsWithin 2048 imm → IsNear p (1020 + 2048) (result_of Add v (word imm))
+  pub stepped : (v : ℕ) (imm : ℤ) → IsNear (data_region p) 1020 v → IsWithin 2048 imm → IsNear (data_region p) (1020 + 2048) (result_of Add v (word imm))
   stepped v (pos n) lies within =
       let above : p.data_base + p.data_size + 4096 ≤ 2 ^ 32 = room.above in
       let low : p.data_base ≤ v + 1020 = lies.low in
@@ -150,7 +151,7 @@ module _ (p : Part) (room : HasGuardRoom p.data_base p.data_size) where
       record { low = omega arith; high = omega arith }
 
   -- where an access at a small offset fell into the data, it lies near them again
-  pub used : (v : ℕ) (imm : ℤ) → IsNear p (1020 + 2048) v → IsWithin 1020 imm → InData p (address_after (offset_by v imm) 0) → IsNear p 1020 v
+  pub used : (v : ℕ) (imm : ℤ) → IsNear (data_region p) (1020 + 2048) v → IsWithin 1020 imm → InData p (address_after (offset_by v imm) 0) → IsNear (data_region p) 1020 v
   used v (pos n) lies within (from, below) =
       let above : p.data_base + p.data_size + 4096 ≤ 2 ^ 32 = room.above in
       let low : p.data_base ≤ v + (1020 + 2048) = lies.low in
@@ -213,7 +214,7 @@ pub count_kept : (r value : ℕ) (h : Hart) → length (with_register h r value)
 count_kept r value h =
     cond_both (r == 0) h.registers (set h.registers r value) (λ (l : List ℕ). length l ≡ length h.registers) (λ e. refl) (λ e. length-set h.registers r value)
 
-pub reserved_kept : (p : Part) (r value : ℕ) (h : Hart) → is_reserved r ≡ false → HasReserved p h.registers → HasReserved p (with_register h r value).registers
+pub reserved_kept : (p : Part) (r value : ℕ) (h : Hart) → is_reserved r ≡ false → HasReserved (reserved_of p) h.registers → HasReserved (reserved_of p) (with_register h r value).registers
 reserved_kept p r value h free has =
     let a = or_parts ((r == 24) || (r == 25) || (r == 26)) (r == 27) free in
     let b = or_parts ((r == 24) || (r == 25)) (r == 26) a.0 in

@@ -1,6 +1,6 @@
 -- Where sandboxes are entered: what the formats ask, and that a right layout has it.
 use Rattle.sfi_formats.specs.Formats.{has_stack, is_data_register}
-use Rattle.sfi_image.specs.Parts.{IsBundleStart, reserved_for}
+use Rattle.sfi_image.specs.Parts.{IsBundleStart, reserved_for, reserved_of}
 use Rattle.sfi_image.specs.Spelling.{data_region}
 use Rattle.sfi_safe_runs.specs.Runs.{StackInData, AreWordsTyped}
 use Rattle.sfi_safe_runs.specs.Laws.{BundlesAskTheSame, WordsAsk, FirstFormatAsksNoStack, HasEntries}
@@ -12,6 +12,7 @@ use Rattle.std.specs.Prelude.{replicate}
 use Rattle.rv_step.proofs.States.{register_is}
 use Rattle.sfi_formats.specs.Limits.{slack}
 use Rattle.sfi_safe_runs.proofs.Prelude.{◌≡◌, ℕ, ◌%◌, List, true, false, refl, sym, ap, ◌∙◌, false≢true, Part, IsUnitStart, IsTyped, Format, Sfi1, Sfi2, Sfiw, ◌≢◌, zero, suc, ◌+◌, ◌-◌, ◌^◌, ◌<◌, ◌≤◌, ◌==◌, ◌⊎◌, Bool, cond, [], ◌∷◌, length, Option, Some, None, inl, inr, ⊎_elim, cases_lt, subst, arith, slice_index, Bytes, IsMemory, byte_at, AreApart, code_region, guarded_region, IsRightPart, Hart, IsHart, InGuard, HasReserved, IsEntry, CanBeEntered, ◌||◌, or_cases, eqb-true, with_register, unit, has_words, InData, IsNear, IsWordStart}
+use Rattle.sfi_image.specs.declared.span.Span.{Span}
 
 -- ==== What the formats ask.
 
@@ -32,13 +33,13 @@ no_stack Sfi1 has stack = false≢true has
 no_stack Sfi2 has stack = false≢true has
 no_stack Sfiw has stack = false≢true stack
 
-pub to_word : (p : Part) (a : ℕ) → has_words p.format ≡ true → IsUnitStart p a → IsWordStart p a
+pub to_word : (p : Part) (a : ℕ) → has_words p.format ≡ true → IsUnitStart p a → IsWordStart (code_region p) a
 to_word p a has start = record { held = start.held; aligned = ap (λ (u : ℕ). a % u) (sym (words p.format has)) ∙ start.aligned }
 
-pub of_word : (p : Part) (a : ℕ) → has_words p.format ≡ true → IsWordStart p a → IsUnitStart p a
+pub of_word : (p : Part) (a : ℕ) → has_words p.format ≡ true → IsWordStart (code_region p) a → IsUnitStart p a
 of_word p a has start = record { held = start.held; aligned = ap (λ (u : ℕ). a % u) (words p.format has) ∙ start.aligned }
 
-pub of_words_typed : (p : Part) (registers : List ℕ) → has_words p.format ≡ true → AreWordsTyped p registers → IsTyped p registers
+pub of_words_typed : (p : Part) (registers : List ℕ) → has_words p.format ≡ true → AreWordsTyped (code_region p) (data_region p) registers → IsTyped p registers
 of_words_typed p registers has typed = record { stack = λ stack. absurd (no_stack p.format has stack); words = λ _. typed }
 
 pub to_bundle : (p : Part) (a : ℕ) → has_words p.format ≡ false → IsUnitStart p a → IsBundleStart (code_region p) a
@@ -144,7 +145,7 @@ outside p a right apart guard = by_order guard
 
 -- where the code is known to end within the addresses
 pub entered_at : (p : Part) → p.code_base + length p.code ≤ 2 ^ 32 → (h : Hart) → IsRightPart p → AreApart (code_region p) (guarded_region p) → ((k : ℕ) → slice_index p.code k < 256)
-    → IsHart h → IsUnitStart p h.pc → HasReserved p h.registers → IsTyped p h.registers → (m : Bytes) × IsEntry p (record { hart = h; memory = m })
+    → IsHart h → IsUnitStart p h.pc → HasReserved (reserved_of p) h.registers → IsTyped p h.registers → (m : Bytes) × IsEntry p (record { hart = h; memory = m })
 entered_at p end h right apart small hart start reserved typed = (
   bytes_over empty p.code_base p.code,
   record {
@@ -193,10 +194,10 @@ data_register d is =
     (or_cases ((d == 2) || (d == 3) || (d == 4)) (d == 29) is)
 
 -- where the four are near the data region, each data register is
-pub each_near : (p : Part) (registers : List ℕ)
-    → IsNear p slack (slice_index registers 2) → IsNear p slack (slice_index registers 3) → IsNear p slack (slice_index registers 4) → IsNear p slack (slice_index registers 29)
-    → (d : ℕ) → is_data_register d ≡ true → IsNear p slack (slice_index registers d)
-each_near p registers second third fourth last d is = elim (data_register d is) [
+pub each_near : (data_at : Span) (registers : List ℕ)
+    → IsNear data_at slack (slice_index registers 2) → IsNear data_at slack (slice_index registers 3) → IsNear data_at slack (slice_index registers 4) → IsNear data_at slack (slice_index registers 29)
+    → (d : ℕ) → is_data_register d ≡ true → IsNear data_at slack (slice_index registers d)
+each_near data_at registers second third fourth last d is = elim (data_register d is) [
   | inl e ↦ at e second
   | inr others ↦ elim others [
     | inl e ↦ at e third
@@ -207,10 +208,10 @@ each_near p registers second third fourth last d is = elim (data_register d is) 
   ]
 ]
   where
-    at : {r : ℕ} → d ≡ r → IsNear p slack (slice_index registers r) → IsNear p slack (slice_index registers d)
-    at e near = subst (λ (x : ℕ). IsNear p slack (slice_index registers x)) (sym e) near
+    at : {r : ℕ} → d ≡ r → IsNear data_at slack (slice_index registers r) → IsNear data_at slack (slice_index registers d)
+    at e near = subst (λ (x : ℕ). IsNear data_at slack (slice_index registers x)) (sym e) near
 
-at_base : (p : Part) (a : ℕ) → 1 ≤ p.data_size → a ≡ p.data_base → IsNear p slack a
+at_base : (p : Part) (a : ℕ) → 1 ≤ p.data_size → a ≡ p.data_base → IsNear (data_region p) slack a
 at_base p a some e = record { low = omega arith; high = omega arith }
 
 -- registers with x2 in the data region, the other data registers at its beginning, x30 at that entry and x31 at 0 are typed
@@ -218,12 +219,12 @@ pub typed_when : (p : Part) (at : ℕ) (registers : List ℕ) → 1 ≤ p.data_s
     → (has_words p.format ≡ true → slice_index registers 3 ≡ p.data_base) → (has_words p.format ≡ true → slice_index registers 4 ≡ p.data_base) → (has_words p.format ≡ true → slice_index registers 29 ≡ p.data_base)
     → (has_words p.format ≡ true → slice_index registers 30 ≡ at) → slice_index registers 31 ≡ 0 → IsTyped p registers
 typed_when p at registers some start stack third fourth last code offset =
-    let base : (d : ℕ) → slice_index registers d ≡ p.data_base → IsNear p slack (slice_index registers d) = λ d is. at_base p (slice_index registers d) some is in
+    let base : (d : ℕ) → slice_index registers d ≡ p.data_base → IsNear (data_region p) slack (slice_index registers d) = λ d is. at_base p (slice_index registers d) some is in
     record {
       stack = λ has. stack;
       words = λ has. record {
-        each_data = each_near p registers (record { low = omega (arith, stack.0); high = omega (arith, stack.1) }) (base 3 (third has)) (base 4 (fourth has)) (base 29 (last has));
-        code = subst (IsWordStart p) (sym (code has)) (to_word p at has start);
+        each_data = each_near (data_region p) registers (record { low = omega (arith, stack.0); high = omega (arith, stack.1) }) (base 3 (third has)) (base 4 (fourth has)) (base 29 (last has));
+        code = subst (IsWordStart (code_region p)) (sym (code has)) (to_word p at has start);
         offset = omega arith;
       };
     }
@@ -246,7 +247,7 @@ entry_is p at end right start =
     register_is _ 27 (p.data_size - 1) (register_is _ 26 p.data_base (register_is _ 25 (length p.code - unit p.format) (register_is _ 24 p.code_base (register_is _ 30 at
     (register_is _ 29 p.data_base (register_is _ 4 p.data_base (register_is _ 3 p.data_base (register_is _ 2 p.data_base bare base) base) base) base) here) right.code_base) mask) base) data_mask
 
-entry_reserved : (p : Part) (at : ℕ) → HasReserved p (entry p at).registers
+entry_reserved : (p : Part) (at : ℕ) → HasReserved (reserved_of p) (entry p at).registers
 entry_reserved p at = record { code_base = refl; code_mask = refl; data_base = refl; data_mask = refl }
 
 entry_typed : (p : Part) (at : ℕ) → 1 ≤ p.data_size → IsUnitStart p at → IsTyped p (entry p at).registers

@@ -18,12 +18,13 @@ pub use Rattle.rv_step.specs.Step.{Accesses, Stands, effect, after_load, next, u
 pub use Rattle.rv_step.specs.State.{Hart, IsHart, State, register, with_register}
 pub use Rattle.rv_step.specs.declared.outcome.Outcome.{Outcome}
 pub use Rattle.rv_step.specs.declared.outcome.Outcome.TheVariants.{Next, Call, Trap}
-pub use Rattle.sfi_image.specs.Parts.{is_gate_of, IsRightPart, HasGuardRoom}
-pub use Rattle.sfi_image.specs.Spelling.{code_region, AreApart, guarded_region, Holds, Part}
+pub use Rattle.sfi_image.specs.Parts.{is_gate_of, IsRightPart, HasGuardRoom, HasReserved, IsWordStart}
+pub use Rattle.sfi_image.specs.Spelling.{code_region, AreApart, guarded_region, Holds, Part, IsNear}
 pub use Rattle.sfi_image.specs.declared.part.Gate.{Gate}
 pub use Rattle.sfi_safe_runs.specs.Laws.{SafeTurns, SafeStaysSafe, SafeFetches, GoesOnSafely, CanBeEntered}
-pub use Rattle.sfi_safe_runs.specs.Runs.{InData, InGuard, IsUnitStart, HasReserved, IsGate, HasCode, HasEmptyGuards, IsNear, IsTyped, IsWordStart, Turn, IsTurn, IsRun, after_turn, IsEntry, Steps, Replies, IsReply, KeepsBytes, Changes, IsChange}
-pub use Rattle.sfi_safe_runs.specs.Safety.{IsSafeRun, RunsSafelyFrom, RunsSafely, IsSafeStep, IsTrap, IsSafeState, IsSafeTurn, after_turns, CallsTyped, KeepsAll}
+pub use Rattle.sfi_safe_runs.specs.Runs.{InData, InGuard, IsUnitStart, IsGate, HasCode, HasEmptyGuards, IsTyped, Turn, IsTurn, IsRun, after_turn, IsEntry, Steps, Replies, IsReply, KeepsBytes, Changes, IsChange}
+pub use Rattle.sfi_safe_runs.specs.Safety.{IsSafeRun, RunsSafelyFrom, RunsSafely, IsSafeStep, IsTrap, IsSafeState, IsSafeTurn}
+pub use Rattle.sfi_safe_runs.specs.Calling.{after_turns, CallsTyped, KeepsAll}
 pub use Rattle.sfi_formats.specs.declared.format.Format.{Format}
 pub use Rattle.sfi_formats.specs.declared.format.Format.TheVariants.{Sfi1, Sfi2, Sfiw}
 pub use Rattle.sfi_formats.specs.Formats.{unit, has_words}

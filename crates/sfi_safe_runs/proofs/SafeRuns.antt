@@ -5,8 +5,10 @@ use Rattle.rv_step.proofs.Facts.{step_is_effect}
 use Rattle.std.specs.Prelude.{◌≡◌, IfSome}
 use Rattle.sfi_safe_runs.specs.Runs.{KeepsReserved, Zones, Empty, Padded, plain, by_ecall, HasGuards, KeepsGuards, KeepsBytesAs, IsEntryAs, IsReplyAs, IsChangeAs, IsTurnAs, IsRunAs}
 use Rattle.sfi_safe_runs.specs.Laws.{SafeTurnsAs}
-use Rattle.sfi_safe_runs.specs.Safety.{KeepsAllAs, IsSafeStepAs, IsSafeTurnAs, IsSafeRunAs, RunsSafelyAs, CallsTypedAs}
+use Rattle.sfi_safe_runs.specs.Safety.{IsSafeStepAs, IsSafeTurnAs, IsSafeRunAs, RunsSafelyAs}
+use Rattle.sfi_safe_runs.specs.Calling.{KeepsAllAs, CallsTypedAs}
 use Rattle.rv_comp.specs.declared.front.Front.TheVariants.{Read}
+use Rattle.sfi_image.specs.Parts.{reserved_of}
 
 -- ==== What follows from that every run is safe.
 
@@ -102,7 +104,7 @@ reply_keeps z p s after kept r = kept_after z p s after kept r.state.hart.count 
 pub change_keeps : (z : Zones) (p : Part) (s after : State) → KeepsAllAs z p s → IsChangeAs (by_ecall z) p s after → KeepsAllAs z p after
 change_keeps z p s after kept c = record {
   count = ap length c.registers ∙ kept.count;
-  reserved = subst (λ (l : List ℕ). HasReserved p l) (sym c.registers) kept.reserved;
+  reserved = subst (λ (l : List ℕ). HasReserved (reserved_of p) l) (sym c.registers) kept.reserved;
   code = code_kept z p s.memory after.memory c.bytes kept.code;
   guards = guards_kept z p s.memory after.memory c.bytes.guards kept.guards;
 }

@@ -8,7 +8,8 @@ use Rattle.rv_comp.specs.Fronts.{Spells}
 use Rattle.rv_comp.proofs.Facts.{spelled_length, spelled_some}
 use Rattle.sfi_image.proofs.Facts.{code_ends}
 use Rattle.sfi_safe_runs.specs.Runs.{InCode, StaysOutside, Zones, Empty, Padded, HasGuards}
-use Rattle.sfi_safe_runs.specs.Safety.{KeepsAllAs, TrapsIn, IsSafeStepAs, writable_region}
+use Rattle.sfi_safe_runs.specs.Safety.{TrapsIn, IsSafeStepAs, writable_region}
+use Rattle.sfi_safe_runs.specs.Calling.{KeepsAllAs}
 use Rattle.sfi_image.specs.Spelling.{data_region}
 
 -- ==== What a step keeps, if its accesses fall into the data and the guards.

@@ -8,10 +8,11 @@ use Rattle.rv_step.specs.Step.{Stepped, IsStep}
 use Rattle.sfi_formats.specs.declared.format.Format.TheVariants.{Sfi1}
 use Rattle.sfi_formats.specs.Formats.{has_words}
 use Rattle.sfi_formats.specs.Limits.{bundle_size, word_size}
-use Rattle.sfi_image.specs.Parts.{IsRightPart, IsBundleStart, reserved_for, reserved_of}
+use Rattle.sfi_image.specs.Parts.{IsRightPart, IsBundleStart, reserved_for, reserved_of, HasReserved, IsWordStart}
 use Rattle.sfi_image.specs.Spelling.{AreApart, code_region, data_region, guarded_region, Part}
-use Rattle.sfi_safe_runs.specs.Runs.{InGuard, IsUnitStart, HasReserved, StackInData, StaysOutside, IsTyped, IsWordStart, AreWordsTyped, Zones, Padded, Calls, Direct, Setting, IsInBoard, HasCodeAs, HasEcall, Turn, IsTurn, IsTurnAs, IsEntry, IsEntryAs, IsChange, IsChangeAs, IsReplyAs, after_turn}
-use Rattle.sfi_safe_runs.specs.Safety.{IsSafeState, IsSafeStateAs, IsSafeTurn, IsSafeTurnAs, RunsSafelyFrom, RunsSafelyFromAs, GoesSafelyFrom}
+use Rattle.sfi_safe_runs.specs.Runs.{InGuard, IsUnitStart, StackInData, StaysOutside, IsTyped, AreWordsTyped, Zones, Padded, Calls, Direct, Setting, IsInBoard, HasCodeAs, HasEcall, Turn, IsTurn, IsTurnAs, IsEntry, IsEntryAs, IsChange, IsChangeAs, IsReplyAs, after_turn}
+use Rattle.sfi_safe_runs.specs.Safety.{IsSafeState, IsSafeStateAs, IsSafeTurn, IsSafeTurnAs, RunsSafelyFrom, RunsSafelyFromAs}
+use Rattle.sfi_safe_runs.specs.Calling.{GoesSafelyFrom}
 
 -- where every run from a state is safe, the state is safe, and so is each turn from it
 abbrev pub SafeTurns : Type 0
@@ -46,7 +47,7 @@ abbrev pub CanBeEntered : Type 0
 CanBeEntered =
     (p : Part) (h : Hart) → IsRightPart p → AreApart (code_region p) (guarded_region p)
     → ((k : ℕ) → slice_index p.code k < 256)
-    → IsHart h → IsUnitStart p h.pc → HasReserved p h.registers → IsTyped p h.registers
+    → IsHart h → IsUnitStart p h.pc → HasReserved (reserved_of p) h.registers → IsTyped p h.registers
     → (m : Bytes) × IsEntry p (record { hart = h; memory = m })
 
 -- a sandbox that passes its tests, whose code is of bytes and lies apart from its data and guards,
@@ -114,9 +115,9 @@ BundlesAskTheSame =
 abbrev pub WordsAsk : Type 0
 WordsAsk =
     (p : Part) → has_words p.format ≡ true
-    → ((a : ℕ) → IsUnitStart p a ↔ IsWordStart p a)
+    → ((a : ℕ) → IsUnitStart p a ↔ IsWordStart (code_region p) a)
     × (reserved_of p ≡ reserved_for word_size (code_region p) (data_region p))
-    × ((registers : List ℕ) → IsTyped p registers ↔ AreWordsTyped p registers)
+    × ((registers : List ℕ) → IsTyped p registers ↔ AreWordsTyped (code_region p) (data_region p) registers)
 
 -- in the first format no register has a type: nothing is asked of x2, at an entry, after a reply or
 -- at a call

@@ -1,3 +1,4 @@
 pub mod Runs
 pub mod Safety
+pub mod Calling
 pub mod Laws

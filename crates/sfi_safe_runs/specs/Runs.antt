@@ -1,14 +1,14 @@
 -- Runs of a sandbox: its addresses, its typed registers, and what may happen to it.
-use Rattle.std.specs.Prelude.{◌≡◌, ◌+◌, ◌%◌, ◌<◌, ℕ, List, length, take, drop, slice_get, slice_index, Some, None, ◌≤◌, true, [], ◌∷◌, Option}
+use Rattle.std.specs.Prelude.{◌≡◌, ◌+◌, ◌<◌, ℕ, List, length, take, drop, slice_get, slice_index, Some, None, ◌≤◌, true, [], ◌∷◌, Option}
 use Rattle.std.specs.List.{Contains}
 use Rattle.sfi_formats.specs.Formats.{code_base_register, code_mask_register, data_base_register, data_mask_register, stack_pointer, is_data_register, code_register, offset_register, unit, has_stack, has_words}
 use Rattle.sfi_image.specs.declared.part.Gate.{Gate}
 use Rattle.sfi_image.specs.declared.span.Span.{Span}
-use Rattle.sfi_image.specs.Spelling.{Part, Holds, InGuards, code_region, data_region}
-use Rattle.sfi_image.specs.Parts.{reserved_of}
+use Rattle.sfi_image.specs.Spelling.{Part, Holds, InGuards, IsNear, code_region, data_region}
+use Rattle.sfi_image.specs.Parts.{IsStart, IsWordStart, HasReserved, reserved_of}
 use Rattle.rv_comp.specs.Fronts.{Spells}
 use Rattle.rv_mem.specs.Bytes.{Bytes, byte_at, address_after}
-use Rattle.sfi_formats.specs.Limits.{slack, word_size}
+use Rattle.sfi_formats.specs.Limits.{slack}
 use Rattle.rv_word.specs.declared.instr.Instr.TheVariants.{Ecall}
 use Rattle.rv_step.specs.declared.outcome.Outcome.{Outcome}
 use Rattle.rv_step.specs.declared.outcome.Outcome.TheVariants.{Next, Call, Trap}
@@ -33,18 +33,9 @@ InGuard p a = InGuards (data_region p) a
 abbrev pub IsGate : Part → ℕ → Type 0
 IsGate p a = (k : ℕ) × (g : Gate) × (slice_get p.gates k ≡ Some g) × (g.address ≡ a)
 
--- the address is a multiple, in the code region, of the size of the format's unit of code, a bundle
--- or a word
-pub record IsUnitStart (p : Part) (a : ℕ) : Type 0 where
-  pub held : InCode p a
-  pub aligned : a % unit p.format ≡ 0
-
--- the reserved registers hold the sandbox's values
-pub record HasReserved (p : Part) (registers : List ℕ) : Type 0 where
-  pub code_base : slice_index registers code_base_register ≡ (reserved_of p).code_base
-  pub code_mask : slice_index registers code_mask_register ≡ (reserved_of p).code_mask
-  pub data_base : slice_index registers data_base_register ≡ (reserved_of p).data_base
-  pub data_mask : slice_index registers data_mask_register ≡ (reserved_of p).data_mask
+-- a unit of the code, a bundle or a word, begins at the address
+abbrev pub IsUnitStart : Part → ℕ → Type 0
+IsUnitStart p = IsStart (unit p.format) (code_region p)
 
 -- a memory keeps its bytes, or their absence, outside a region
 abbrev pub StaysOutside : Span → Bytes → Bytes → Type 0
@@ -59,22 +50,11 @@ StackInData p registers = has_stack p.format ≡ true → InData p (slice_index 
 
 -- ---- of code in words
 
--- the address is a multiple of 4 in the code region
-pub record IsWordStart (p : Part) (a : ℕ) : Type 0 where
-  pub held : InCode p a
-  pub aligned : a % word_size ≡ 0
-
--- address `a` lies in the data region, or at most `far` bytes below its first byte or above its
--- last
-pub record IsNear (p : Part) (far a : ℕ) : Type 0 where
-  pub low : p.data_base ≤ a + far
-  pub high : a < p.data_base + p.data_size + far
-
--- each of the six typed registers of code in words holds what its type says
-pub record AreWordsTyped (p : Part) (registers : List ℕ) : Type 0 where
-  pub each_data : (d : ℕ) → is_data_register d ≡ true → IsNear p slack (slice_index registers d)
-  pub code : IsWordStart p (slice_index registers code_register)
-  pub offset : slice_index registers offset_register < p.data_size
+-- each of the six typed registers of code in words holds what its type says, in a sandbox with these regions
+pub record AreWordsTyped (code_at data_at : Span) (registers : List ℕ) : Type 0 where
+  pub each_data : (d : ℕ) → is_data_register d ≡ true → IsNear data_at slack (slice_index registers d)
+  pub code : IsWordStart code_at (slice_index registers code_register)
+  pub offset : slice_index registers offset_register < data_at.size
 
 -- ---- of any format
 
@@ -82,7 +62,7 @@ pub record AreWordsTyped (p : Part) (registers : List ℕ) : Type 0 where
 -- a stack pointer, and in words six registers are typed. The first format has none, so nothing is asked.
 pub record IsTyped (p : Part) (registers : List ℕ) : Type 0 where
   pub stack : has_stack p.format ≡ true → InData p (slice_index registers stack_pointer)
-  pub words : has_words p.format ≡ true → AreWordsTyped p registers
+  pub words : has_words p.format ≡ true → AreWordsTyped (code_region p) (data_region p) registers
 
 -- ==== How a host keeps a sandbox and answers its calls: the plain way, and others.
 
@@ -169,7 +149,7 @@ HasGuards Padded p m = Unit {0}
 pub record IsEntryAs (t : Setting) (p : Part) (s : State) : Type 0 where
   pub state : IsState s
   pub start : IsUnitStart p s.hart.pc
-  pub reserved : HasReserved p s.hart.registers
+  pub reserved : HasReserved (reserved_of p) s.hart.registers
   pub typed : IsTyped p s.hart.registers
   pub code : HasCodeAs t.calls p s.memory
   pub guards : HasGuards t.zones p s.memory

@@ -6,7 +6,8 @@ use Rattle.rv_comp.specs.declared.front.Front.TheVariants.{Read}
 use Rattle.rv_step.proofs.Facts.{one_instruction, stopped_stays, some_step, agreeing_stands_too, agreeing_steps_are_same, other_bytes_stay}
 use Rattle.sfi_image.specs.declared.span.Span.{Span}
 use Rattle.sfi_image.proofs.Facts.{code_ends}
-use Rattle.sfi_safe_runs.specs.Safety.{KeepsAllAs, IsTrap, TrapsIn, writable_region, IsSafeStateAs, IsSafeStepAs, IsSafeTurnAs, IsSafeRunAs, RunsSafelyAs, IsCalling, CallsTypedAs}
+use Rattle.sfi_safe_runs.specs.Safety.{IsTrap, TrapsIn, writable_region, IsSafeStateAs, IsSafeStepAs, IsSafeTurnAs, IsSafeRunAs, RunsSafelyAs}
+use Rattle.sfi_safe_runs.specs.Calling.{KeepsAllAs, IsCalling, CallsTypedAs}
 use Rattle.sfi_safe_runs.specs.Runs.{KeepsReserved, Zones, Empty, Padded, Calls, Direct, Setting, by_ecall, IsDirect, IsInBoard, HasEcall, HasCodeAs, HasGuards, KeepsGuards, KeepsBytesAs, StaysOutside, IsEntryAs, IsReplyAs, IsChangeAs, IsTurnAs, IsRunAs}
 use Rattle.sfi_safe_runs.proofs.Entries.{bytes_over, there, elsewhere}
 use Rattle.sfi_safe_runs.proofs.Stepping.{stands_there, guarded, data_alone}

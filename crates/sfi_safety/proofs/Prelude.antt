@@ -19,8 +19,9 @@ pub use Rattle.rv_step.specs.declared.outcome.Outcome.TheVariants.{Next, Call, T
 pub use Rattle.sfi_formats.specs.Formats.{code_most, has_stack, has_words, is_stack, unit, is_reserved}
 pub use Rattle.sfi_formats.specs.declared.format.Format.{Format}
 pub use Rattle.sfi_formats.specs.declared.format.Format.TheVariants.{Sfi1, Sfi2, Sfiw}
-pub use Rattle.sfi_image.specs.Parts.{is_gate_of, AreGates, IsRightPart, AreRight, IsRightLayout, AreOf, IsBundleStart}
-pub use Rattle.sfi_image.specs.Spelling.{code_region, AreApart, guarded_region, Part, AreGateWords}
+pub use Rattle.sfi_image.specs.Parts.{is_gate_of, AreGates, IsRightPart, AreRight, IsRightLayout, AreOf, IsBundleStart, HasReserved}
+pub use Rattle.sfi_image.specs.Spelling.{code_region, AreApart, guarded_region, Part}
+pub use Rattle.sfi_image.specs.Numbers.{AreGateWords}
 pub use Rattle.sfi_image.specs.declared.part.Gate.{Gate}
 pub use Rattle.sfi_rules.specs.Readings.{bundle_place, bundle_bytes, Piece, rest_of, IsReading, IsLongestReading, writes_stack, is_jump, follows_data_pair}
 pub use Rattle.sfi_rules.specs.Findings.{AreBundleFindings, AreReadingFindings, AreFindings, AreFindingsInBundles, AreFindingsFrom, all_rules, lowest, findings_from, rest_finding, AreFindingsOfFirst}
@@ -30,8 +31,9 @@ pub use Rattle.sfi_rules.specs.declared.finding.Finding.{Finding}
 pub use Rattle.sfi_safety.specs.Laws.{CleanCallsTyped, InstructionLeaves, TurnKeeps, EntryIsGood, CleanRunsSafely}
 pub use Rattle.sfi_safety.specs.Places.{Leaves, WritesResult, follows_mask, IsCleanPart, AreCleanBundles, IsGood, IsGoodIf, StackInDataBefore, IsAtPlace}
 pub use Rattle.sfi_safety.specs.Needed.{BreaksAloneInBundle, IsNeeded, EachRuleIsNeeded, HasOneFinding, HasUnsafeRun, StoresByte, IsAcceptedAndRuns, IsStricter, BreaksNoOther, BreaksAlone, BreaksAloneInWord, IsOwedBefore}
-pub use Rattle.sfi_safe_runs.specs.Runs.{InData, InGuard, HasReserved, IsGate, HasCode, IsUnitStart, InCode, StackInData, IsTyped, Turn, IsRun, after_turn, IsEntry, Steps, Replies, IsReply, IsTurn, after_step, KeepsBytes, Changes, IsChange}
-pub use Rattle.sfi_safe_runs.specs.Safety.{AllRunSafely, after_turns, IsSafeRun, RunsSafely, IsSafeStep, IsSafeState, CallsTyped}
+pub use Rattle.sfi_safe_runs.specs.Runs.{InData, InGuard, IsGate, HasCode, IsUnitStart, InCode, StackInData, IsTyped, Turn, IsRun, after_turn, IsEntry, Steps, Replies, IsReply, IsTurn, after_step, KeepsBytes, Changes, IsChange}
+pub use Rattle.sfi_safe_runs.specs.Safety.{AllRunSafely, IsSafeRun, RunsSafely, IsSafeStep, IsSafeState}
+pub use Rattle.sfi_safe_runs.specs.Calling.{after_turns, CallsTyped}
 pub use Rattle.sfi_safety.specs.Clean.{IsClean, IsAccepted, MayRun}
 pub use Rattle.rv_step.specs.declared.outcome.Outcome.{Outcome}
 pub use Rattle.rv_word.specs.declared.instr.ImmOp.TheVariants.{Addi}

@@ -1,7 +1,8 @@
 -- Code without a finding runs safely, whatever its format, with direct gates too.
 use Rattle.sfi_safety.proofs.Prelude.{◌≡◌, ℕ, ◌+◌, ◌*◌, ◌%◌, ◌≤◌, ◌⊎◌, List, length, sym, ap, ◌∙◌, subst, inl, inr, arith, Instr, Ecall, address_after, Outcome, Next, State, Stepped, Stands, IsStep, unit, Part, IsUnitStart, IsTyped, KeepsBytes, AreCleanBundles, ⊎_elim, drop, zero, suc, [], ◌∷◌, Bool, true, false, refl, All, has_words, AreApart, code_region, guarded_region, AreRight, Finding, AreFindings, AreFindingsFrom, RunsSafely, AllRunSafely, IsCleanPart, CleanRunsSafely, CleanCallsTyped, IsClean, MayRun}
 use Rattle.sfi_safe_runs.specs.Runs.{KeepsReserved, Zones, Empty, Padded, Calls, ByEcall, Direct, Setting, plain, by_ecall, KeepsBytesAs}
-use Rattle.sfi_safe_runs.specs.Safety.{RunsSafelyAs, CallsTyped, CallsTypedAs, AllCallTyped}
+use Rattle.sfi_safe_runs.specs.Safety.{RunsSafelyAs}
+use Rattle.sfi_safe_runs.specs.Calling.{CallsTyped, CallsTypedAs, AllCallTyped}
 use Rattle.sfi_safe_runs.proofs.SafeRuns.{kept_after}
 use Rattle.sfi_safe_runs.proofs.Entries.{bundles, to_bundle, of_bundle, words as unit_is_word, to_word, of_word}
 use Rattle.sfi_word_safety.proofs.Places.{bundles_whole, at_start as at_word_start, base_aligned, sized}

@@ -13,8 +13,10 @@ use Rattle.sfi_safe_runs.proofs.SafeRuns.{entry_keeps, reply_keeps, change_keeps
 use Rattle.sfi_safety.proofs.Prelude.{◌≡◌, ℕ, ◌+◌, ◌*◌, ◌^◌, ◌<◌, ◌≤◌, ◌⊎◌, List, [], ◌∷◌, length, true, refl, sym, ap, ◌∙◌, subst, arith, add-zero, false≢true, false, Instr, Ecall, InRange, Accesses, address_after, Hart, State, Stands, Part, bundle_place, is_empty, ends_region, InData, InGuard, IsGate, HasReserved, HasCode, IsTyped, Leaves, StackInDataBefore, AreCleanBundles, IsAtPlace, Next, Call, Trap, Stepped, IsStep, effect, after_step, Outcome, Turn, Steps, Replies, Changes, after_turn, IsSafeState, EntryIsGood, TurnKeeps, Option}
 use Rattle.std.specs.Prelude.{IfSome}
 use Rattle.sfi_safe_runs.specs.Runs.{Zones, Empty, by_ecall, IsEntryAs, IsReplyAs, IsChangeAs, IsTurnAs}
-use Rattle.sfi_safe_runs.specs.Safety.{IsSafeStepAs, IsSafeTurnAs, RunsSafelyAs, CallsTypedAs}
+use Rattle.sfi_safe_runs.specs.Safety.{IsSafeStepAs, IsSafeTurnAs, RunsSafelyAs}
+use Rattle.sfi_safe_runs.specs.Calling.{CallsTypedAs}
 use Rattle.sfi_safety.specs.Places.{IsGoodAs}
+use Rattle.sfi_image.specs.Parts.{reserved_of}
 
 -- ==== What stands at a place: one instruction, whose accesses fall into the data and the guards; and where a reply and a change by others lead from there.
 
@@ -70,7 +72,7 @@ module _ (sandbox : ℕ) (p : Part) (s : State) (clean : AreCleanBundles sandbox
   typed_at_ecall n asked = of_stack p s.hart.registers clean.bundles (stack_here p at.earlier at.here at.later s.hart.registers (sym (ap is_of_pair (only Ecall n asked).0)) at.stack)
 
   -- a reply to an ecall here leads to the place after it
-  pub place_replied : length s.hart.registers ≡ 32 → HasReserved p s.hart.registers → (after : Hart) (n : ℕ) → Stands s Ecall n → after.pc ≡ address_after s.hart.pc 4 → IsTyped p after.registers → IsAtPlace sandbox p after
+  pub place_replied : length s.hart.registers ≡ 32 → HasReserved (reserved_of p) s.hart.registers → (after : Hart) (n : ℕ) → Stands s Ecall n → after.pc ≡ address_after s.hart.pc 4 → IsTyped p after.registers → IsAtPlace sandbox p after
   place_replied count reserved after n asked pc typed =
       let e = only Ecall n asked in
       let four : n ≡ 4 = ecall_is_wide asked.bytes n asked.spelled in

@@ -3,7 +3,8 @@ use Rattle.std.specs.Prelude.{ℕ, List, []}
 use Rattle.sfi_image.specs.Parts.{IsImage, IsRightLayout}
 use Rattle.sfi_image.specs.Spelling.{Part}
 use Rattle.sfi_rules.specs.Findings.{AreImageFindings}
-use Rattle.sfi_safe_runs.specs.Safety.{AllRunSafely, AllCallTyped}
+use Rattle.sfi_safe_runs.specs.Safety.{AllRunSafely}
+use Rattle.sfi_safe_runs.specs.Calling.{AllCallTyped}
 
 -- the layout is right, and no rule is broken
 pub record IsClean (ps : List Part) : Type 0 where

@@ -5,9 +5,10 @@ use Rattle.rv_word.specs.Spelling.{InRange}
 use Rattle.rv_step.specs.State.{Hart, State}
 use Rattle.sfi_formats.specs.Formats.{has_words}
 use Rattle.sfi_image.specs.Spelling.{Part}
-use Rattle.sfi_image.specs.Parts.{IsRightPart}
-use Rattle.sfi_safe_runs.specs.Runs.{HasReserved, Zones, Empty, Padded, Setting, Turn, IsTurn, IsEntry, after_turn}
-use Rattle.sfi_safe_runs.specs.Safety.{IsSafeState, IsSafeTurn, RunsSafely, RunsSafelyAs, CallsTyped, CallsTypedAs}
+use Rattle.sfi_image.specs.Parts.{IsRightPart, HasReserved, reserved_of}
+use Rattle.sfi_safe_runs.specs.Runs.{Zones, Empty, Padded, Setting, Turn, IsTurn, IsEntry, after_turn}
+use Rattle.sfi_safe_runs.specs.Safety.{IsSafeState, IsSafeTurn, RunsSafely, RunsSafelyAs}
+use Rattle.sfi_safe_runs.specs.Calling.{CallsTyped, CallsTypedAs}
 use Rattle.sfi_safety.specs.Places.{Leaves, WritesResult, IsCleanPart, AreCleanBundles, IsGood, IsGoodIf}
 
 -- ---- of code in bundles
@@ -18,7 +19,7 @@ abbrev pub InstructionLeaves : Type 0
 InstructionLeaves =
     (p : Part) (before after : Hart) (i : Instr) (earlier : List Instr) → IsRightPart p
     → has_words p.format ≡ false
-    → length before.registers ≡ 32 → HasReserved p before.registers → InRange i
+    → length before.registers ≡ 32 → HasReserved (reserved_of p) before.registers → InRange i
     → WritesResult i before after
     → Leaves p earlier before.registers → Leaves p (i ∷ earlier) after.registers
 

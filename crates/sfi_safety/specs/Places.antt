@@ -12,7 +12,7 @@ use Rattle.sfi_rules.specs.Readings.{follows_data_pair, follows_code_pair, bundl
 use Rattle.sfi_safe_runs.specs.Runs.{InData, StackInData, Zones, Empty}
 use Rattle.sfi_formats.specs.Limits.{bundle_size}
 use Rattle.sfi_rules.specs.Findings.{findings_from, AreFindings, AreFindingsInBundles}
-use Rattle.sfi_safe_runs.specs.Safety.{KeepsAllAs}
+use Rattle.sfi_safe_runs.specs.Calling.{KeepsAllAs}
 
 -- ==== What the one or two instructions directly before a place leave in the registers.
 

@@ -9,7 +9,7 @@ use Rattle.rv_word.specs.declared.instr.StoreWidth.{StoreWidth}
 use Rattle.rv_word.specs.declared.instr.StoreWidth.TheVariants.{Sb, Sh, Sw}
 use Rattle.rv_word.specs.declared.instr.ImmOp.TheVariants.{Addi}
 use Rattle.sfi_scan.specs.private.Words.{IsMasking, IsPlacing, IsPair, IsStepOf, IsOffset, is_dropped, IsUseOf, IsUsedStep}
-use Rattle.sfi_rules.specs.words.Rules.{is_small}
+use Rattle.sfi_pairs.specs.Pairs.{is_small}
 use Rattle.sfi_scan.proofs.TableEntries.{any_of, kept, without_any, masking_word}
 
 pub masking_told : (word : ℕ) → word < 2 ^ 32 → (r : Bool) → r ≡ nat_eq (bit_and word kept) 28344243 → OnTrue r (IsMasking word)

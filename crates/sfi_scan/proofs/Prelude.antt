@@ -32,7 +32,8 @@ pub use Rattle.sfi_rules.specs.declared.owed.Owed.{Owed}
 pub use Rattle.sfi_rules.specs.declared.owed.Owed.TheVariants.{Code, MaskOrUse, Nothing}
 pub use Rattle.sfi_rules.specs.declared.rule.Rule.TheVariants.{V1, V2}
 pub use Rattle.sfi_rules.specs.words.Findings.{IsWordFound}
-pub use Rattle.sfi_rules.specs.words.Rules.{left, owed_by, uses}
+pub use Rattle.sfi_rules.specs.words.Rules.{left, owed_by}
+pub use Rattle.sfi_pairs.specs.Pairs.{uses}
 pub use Rattle.sfi_scan.specs.Stretches.{AreStretchFindings, AreWordStretchFindings, IsScanned, IsWordCodeScanned, stretch_place}
 pub use Rattle.sfi_scan.specs.declared.clean.Words.{Words}
 pub use Rattle.sfi_scan.specs.private.Scanning.{AreBundlesTo}

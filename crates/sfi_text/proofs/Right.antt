@@ -1,5 +1,5 @@
 -- What a line states is in range.
-use Rattle.sfi_text.proofs.Prelude.{rules, ◌≡◌, ℕ, ◌^◌, ◌<◌, ◌≤◌, Bool, true, false, cond, List, [], ◌∷◌, length, inl, inr, refl, sym, ap, ◌∙◌, subst, arith, ℤ, pos, negsuc, unsigned_abs, ◌==◌, All, flat_map, ints, Instr, IsImm12, Mnemonic, OperandPart, Nop, Li, DataWidth, Keyword, IsDataSize, IsStraight, name_of, form_of, IsNumberOf, OperandValues, HasForm, AllSuit, mnemonic_of, operands_of, Spells, is_small, add_lower, constant, data_bytes, directive_form, directive_states, pseudo_form, pseudo_states, branch_form, branch_states, jal_form, jal_states, position_of_keyword, IsRow, After, Stated, within, plain, IsRightStatement, position_of_stated}
+use Rattle.sfi_text.proofs.Prelude.{rules, ◌≡◌, ℕ, ◌^◌, ◌<◌, ◌≤◌, Bool, true, false, cond, List, [], ◌∷◌, length, inl, inr, refl, sym, ap, ◌∙◌, subst, arith, ℤ, pos, negsuc, unsigned_abs, ◌==◌, All, flat_map, ints, Instr, IsImm12, Mnemonic, OperandPart, Nop, Li, DataWidth, Keyword, IsDataSize, IsStraight, name_of, form_of, IsNumberOf, OperandValues, HasForm, AllSuit, mnemonic_of, operands_of, Spells, fits_addi, add_lower, constant, data_bytes, directive_form, directive_states, pseudo_form, pseudo_states, branch_form, branch_states, jal_form, jal_states, position_of_keyword, IsRow, After, Stated, within, plain, IsRightStatement, position_of_stated}
 use Rattle.sfi_source.specs.Source.{upper, lower}
 use Rattle.sfi_text.specs.declared.keyword.DataWidth.TheVariants.{Word, Half, Byte}
 use Rattle.sfi_text.specs.declared.keyword.Directive.{Directive}
@@ -58,12 +58,12 @@ jal_in_range rd d = (d, ((omega (arith, ints), omega (arith, ints)), refl))
 zero_imm : IsImm12 (pos 0)
 zero_imm = (omega (arith, ints), omega (arith, ints))
 
-small_imm : (z : ℤ) → is_small z ≡ true → IsImm12 z
+small_imm : (z : ℤ) → fits_addi z ≡ true → IsImm12 z
 small_imm z h = (grind (arith, ints), grind (arith, ints))
 
 constant_right : (rd : ℕ) (z : ℤ) → rd < 32 → AreRight (constant rd z)
 constant_right rd z d =
-    elim (is_small z) as (λ b. is_small z ≡ b → AreRight (cond b (instr.OpImm Addi rd 0 z ∷ []) (instr.Lui rd (upper z) ∷ add_lower rd z))) [
+    elim (fits_addi z) as (λ b. fits_addi z ≡ b → AreRight (cond b (instr.OpImm Addi rd 0 z ∷ []) (instr.Lui rd (upper z) ∷ add_lower rd z))) [
       | true ↦ λ e. one_right _ (add_in_range rd 0 z d (omega arith) (small_imm z e)) tt
       | false ↦ λ e. elim (unsigned_abs (lower z) == 0) as (λ b. AreRight (instr.Lui rd (upper z) ∷ cond b [] (instr.OpImm Addi rd rd (lower z) ∷ []))) [
         | true ↦ one_right _ (lui_in_range rd (upper z) d (upper_below z)) tt

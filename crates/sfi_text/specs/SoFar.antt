@@ -61,8 +61,8 @@ pub data Stated : Type 0 where
 -- ==== The instructions that put a number into a register, and the bytes of a number in data.
 
 -- one addi can put the number into a register
-abbrev pub is_small : ℤ → Bool
-is_small z = int_le (negsuc 2047) z && int_le z (pos 2047)
+abbrev pub fits_addi : ℤ → Bool
+fits_addi z = int_le (negsuc 2047) z && int_le z (pos 2047)
 
 -- an addi to the register itself, unless it adds 0
 abbrev pub add_lower : ℕ → ℤ → List Instr
@@ -72,7 +72,7 @@ add_lower rd z =
 -- what li stands for
 abbrev pub constant : ℕ → ℤ → List Instr
 constant rd z =
-    if is_small z then instr.OpImm Addi rd 0 z ∷ []
+    if fits_addi z then instr.OpImm Addi rd 0 z ∷ []
     else instr.Lui rd (upper z) ∷ add_lower rd z
 
 -- the bytes of a number in data, the lowest first

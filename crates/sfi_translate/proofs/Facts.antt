@@ -5,7 +5,8 @@ use Rattle.std.specs.Prelude.{IfSome}
 use Rattle.rv_step.specs.State.{State}
 use Rattle.sfi_formats.specs.Formats.{has_words}
 use Rattle.sfi_safe_runs.specs.Runs.{Turn, IsTurn, after_turn}
-use Rattle.sfi_safe_runs.specs.Safety.{KeepsAll, IsSafeState, IsSafeTurn}
+use Rattle.sfi_safe_runs.specs.Safety.{IsSafeState, IsSafeTurn}
+use Rattle.sfi_safe_runs.specs.Calling.{KeepsAll}
 use Rattle.sfi_rules.specs.Readings.{rest_of}
 use Rattle.sfi_rules.proofs.Facts.{in_bundles, in_words}
 use Rattle.sfi_report.specs.Listing.{unit_bytes}

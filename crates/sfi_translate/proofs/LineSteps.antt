@@ -16,10 +16,10 @@ use Rattle.rv_step.specs.Step.{Accesses, Stepped, Stands, IsStep, effect, after_
 use Rattle.rv_step.specs.declared.outcome.Outcome.TheVariants.{Next, Trap}
 use Rattle.rv_step.specs.declared.outcome.Cause.TheVariants as cause
 use Rattle.rv_step.specs.State.{State, register, past, Hart}
-use Rattle.sfi_image.specs.Parts.{IsRightPart}
+use Rattle.sfi_image.specs.Parts.{IsRightPart, HasReserved, reserved_of}
 use Rattle.sfi_image.specs.Spelling.{AreApart, code_region, guarded_region}
-use Rattle.sfi_safe_runs.specs.Runs.{InData, InGuard, HasReserved, Empty}
-use Rattle.sfi_safe_runs.specs.Safety.{KeepsAll}
+use Rattle.sfi_safe_runs.specs.Runs.{InData, InGuard, Empty}
+use Rattle.sfi_safe_runs.specs.Calling.{KeepsAll}
 use Rattle.sfi_safe_runs.proofs.Accessing.{load_sized, store_sized}
 use Rattle.sfi_safe_runs.proofs.Stepping.{in_data}
 use Rattle.sfi_translate.specs.Machine.{is_tested, row_step, is_done, fixed}
@@ -155,7 +155,7 @@ same_set : (l : List ℕ) (k v : ℕ) → get_or l k 0 ≡ v → set l k v ≡ l
 same_set l k v e = ap (λ (x : ℕ). set l k x) (sym e) ∙ set-get_or l k 0
 
 -- a hart that has these values is as lines take it
-pub fixed_is : (p : Part) (h : Hart) → register h 0 ≡ 0 → HasReserved p h.registers → fixed p h ≡ h
+pub fixed_is : (p : Part) (h : Hart) → register h 0 ≡ 0 → HasReserved (reserved_of p) h.registers → fixed p h ≡ h
 fixed_is p h zero_is has =
     let l = h.registers in
     let mask = length p.code - unit p.format in

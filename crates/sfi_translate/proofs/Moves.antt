@@ -7,12 +7,14 @@ use Rattle.rv_comp.specs.declared.front.Front.TheVariants.{Read}
 use Rattle.rv_step.specs.declared.outcome.Outcome.{Outcome}
 use Rattle.rv_step.specs.declared.outcome.Outcome.TheVariants.{Next, Call, Trap}
 use Rattle.rv_step.specs.State.{Hart, State, IsState}
-use Rattle.rv_step.specs.Step.{Stepped, IsStep, effect, LeadsTo, LeadTo}
+use Rattle.rv_step.specs.Step.{Stepped, IsStep, effect}
+use Rattle.rv_step.specs.Rows.{LeadsTo, LeadTo}
 use Rattle.rv_step.proofs.Facts.{step_keeps_state, stopped_stays, no_byte_goes}
 use Rattle.sfi_image.specs.Parts.{IsRightPart}
 use Rattle.sfi_image.specs.Spelling.{AreApart, code_region, guarded_region}
 use Rattle.sfi_safe_runs.specs.Runs.{Turn, Steps, IsTurn, IsRun, after_step, after_turn}
-use Rattle.sfi_safe_runs.specs.Safety.{after_turns, KeepsAll, IsSafeState, IsSafeTurn}
+use Rattle.sfi_safe_runs.specs.Safety.{IsSafeState, IsSafeTurn}
+use Rattle.sfi_safe_runs.specs.Calling.{after_turns, KeepsAll}
 use Rattle.sfi_translate.specs.Machine.{Cut, ControlPoint, Label, Slow, Loop, Stopped, Going, one_less, after_line, is_done, fixed, line_done, row_step, step_done, from_loop, IsLine, IsTranslatedStepAt, AreTranslatedSteps}
 use Rattle.sfi_translate.specs.Laws.{HasData, IsAsImage}
 use Rattle.sfi_translate.proofs.LinesStand.{stands, two_or_four, between_heads}

@@ -1,17 +1,18 @@
 -- What holds of translations.
-use Rattle.std.specs.Prelude.{◌≡◌, ◌≢◌, ℕ, ◌+◌, ◌*◌, ◌^◌, ◌<◌, ◌≤◌, Bool, List, [], ◌++◌, length, Some, IsSome}
+use Rattle.std.specs.Prelude.{◌≡◌, ◌≢◌, ℕ, ◌+◌, ◌*◌, ◌^◌, ◌<◌, ◌≤◌, List, [], ◌++◌, length, Some, IsSome}
 use Rattle.rv_word.specs.declared.instr.Instr.{Instr}
 use Rattle.rv_mem.specs.Bytes.{Bytes, byte_at}
 use Rattle.rv_step.specs.declared.outcome.Outcome.{Outcome}
 use Rattle.rv_step.specs.declared.outcome.Outcome.TheVariants.{Next}
 use Rattle.rv_step.specs.State.{State, IsState}
-use Rattle.rv_step.specs.Step.{IsStep, LeadTo}
+use Rattle.rv_step.specs.Step.{IsStep}
+use Rattle.rv_step.specs.Rows.{LeadTo}
 use Rattle.sfi_formats.specs.Formats.{unit}
 use Rattle.sfi_image.specs.Spelling.{Part}
 use Rattle.sfi_rules.specs.Readings.{Piece, IsLongestReading, rest_of}
 use Rattle.sfi_report.specs.Listing.{unit_bytes}
 use Rattle.sfi_safe_runs.specs.Runs.{InData, Turn, IsEntry, IsRun}
-use Rattle.sfi_safe_runs.specs.Safety.{after_turns}
+use Rattle.sfi_safe_runs.specs.Calling.{after_turns}
 use Rattle.sfi_safety.specs.Places.{IsCleanPart}
 use Rattle.sfi_translate.specs.Translation.{line_text, IsCodeText}
 use Rattle.sfi_translate.specs.Machine.{Cut, Going, Loop, Stopped, IsLine, AreTranslatedSteps}

@@ -5,6 +5,8 @@ use Rattle.std.specs.Prelude.{nat_le, nat_lt}
 use Rattle.rv_step.specs.declared.outcome.Cause.TheVariants as cause
 use Rattle.rv_step.specs.Step.{register_op}
 use Rattle.sfi_safe_runs.proofs.Stepping.{gate_of}
+use Rattle.sfi_image.specs.Parts.{reserved_of}
+use Rattle.sfi_image.specs.Spelling.{code_region}
 
 -- ==== What passes a test of the rules.
 
@@ -119,7 +121,7 @@ not_reserved i r free is e = by (destination i) e free
     by None e f = cc
     by (Some d) e f = let same : d ≡ r = cc in false≢true (sym f ∙ ap is_reserved same ∙ is)
 
-pub reserved_stay : (p : Part) (i : Instr) (h h' : Hart) → Writes i h h' → breaks_reserved i ≡ false → HasReserved p h.registers → HasReserved p h'.registers
+pub reserved_stay : (p : Part) (i : Instr) (h h' : Hart) → Writes i h h' → breaks_reserved i ≡ false → HasReserved (reserved_of p) h.registers → HasReserved (reserved_of p) h'.registers
 reserved_stay p i h h' w free has = record {
   code_base = others_stay i h h' 24 w (not_reserved i 24 free refl) ∙ has.code_base;
   code_mask = others_stay i h h' 25 w (not_reserved i 25 free refl) ∙ has.code_mask;
@@ -148,11 +150,11 @@ is_flow _ = false
 
 -- on to what stands after it, or by a jump or branch to a word's start; a call is at a gate
 abbrev pub Leads : Part → Instr → ℕ → Hart → Outcome → Hart → Type 0
-Leads p i n h Next h' = ((h'.pc ≡ address_after h.pc n) × (ends_region i ≡ false)) ⊎ (IsWordStart p h'.pc × (is_flow i ≡ true))
+Leads p i n h Next h' = ((h'.pc ≡ address_after h.pc n) × (ends_region i ≡ false)) ⊎ (IsWordStart (code_region p) h'.pc × (is_flow i ≡ true))
 Leads p i n h Call h' = IsGate p h.pc
 Leads p i n h (Trap cause at) h' = Unit {0}
 
-word_start : (p : Part) (a : ℕ) → not (is_word_start p.code_base (length p.code) a) ≡ false → IsWordStart p a
+word_start : (p : Part) (a : ℕ) → not (is_word_start p.code_base (length p.code) a) ≡ false → IsWordStart (code_region p) a
 word_start p a h =
     let x = and_parts (nat_le p.code_base a && nat_lt a (p.code_base + length p.code)) (a % 4 == 0) (not-false _ h) in
     let y = and_parts (nat_le p.code_base a) (nat_lt a (p.code_base + length p.code)) x.0 in
@@ -167,13 +169,13 @@ store_leads : (p : Part) (b : Bool) (i : Instr) (at n : ℕ) (w : Bytes) (h : Ha
 store_leads p true i at n w h m goes = inl (refl, goes)
 store_leads p false i at n w h m goes = tt
 
-branch_leads : (p : Part) (b : Bool) (i : Instr) (target n : ℕ) (h : Hart) → ends_region i ≡ false → is_flow i ≡ true → IsWordStart p target
+branch_leads : (p : Part) (b : Bool) (i : Instr) (target n : ℕ) (h : Hart) → ends_region i ≡ false → is_flow i ≡ true → IsWordStart (code_region p) target
     → Leads p i n h Next (cond b (with_pc h target) (past h n))
 branch_leads p true i target n h goes flow start = inr (start, flow)
 branch_leads p false i target n h goes flow start = inl (refl, goes)
 
-jalr_leads : (p : Part) (rd rs1 n : ℕ) (imm : ℤ) (h : Hart) → p.code_base + length p.code ≤ 2 ^ 32 → breaks_jump (Jalr rd rs1 imm) ≡ false → IsWordStart p (register h 30)
-    → IsWordStart p (even_of (offset_by (register h rs1) imm))
+jalr_leads : (p : Part) (rd rs1 n : ℕ) (imm : ℤ) (h : Hart) → p.code_base + length p.code ≤ 2 ^ 32 → breaks_jump (Jalr rd rs1 imm) ≡ false → IsWordStart (code_region p) (register h 30)
+    → IsWordStart (code_region p) (even_of (offset_by (register h rs1) imm))
 jalr_leads p rd rs1 n (pos k) h end kept start =
     let parts = and_parts (k == 0) (rs1 == 30) (not-false _ kept) in
     let none : k ≡ 0 = eqb-true k 0 parts.0 in
@@ -181,11 +183,11 @@ jalr_leads p rd rs1 n (pos k) h end kept start =
     let below : register h 30 < p.code_base + length p.code = start.held.1 in
     let aligned : register h 30 % 4 ≡ 0 = start.aligned in
     let same : register h 30 ≡ even_of ((register h rs1 + k) % 2 ^ 32) = omega arith in
-    subst (λ (a : ℕ). IsWordStart p a) same start
+    subst (λ (a : ℕ). IsWordStart (code_region p) a) same start
 jalr_leads p rd rs1 n (negsuc k) h end kept start = absurd (let e = kept in cc)
 
 module _ (p : Part) (h : Hart) (m : Bytes) (end : p.code_base + length p.code ≤ 2 ^ 32) where
-  pub leads : (i : Instr) (n : ℕ) → breaks_ecall (is_gate_of p.gates h.pc) i ≡ false → breaks_jump i ≡ false → breaks_target p.code_base (length p.code) h.pc i ≡ false → (is_flow i ≡ true → IsWordStart p (register h 30))
+  pub leads : (i : Instr) (n : ℕ) → breaks_ecall (is_gate_of p.gates h.pc) i ≡ false → breaks_jump i ≡ false → breaks_target p.code_base (length p.code) h.pc i ≡ false → (is_flow i ≡ true → IsWordStart (code_region p) (register h 30))
       → Leads p i n h (effect i n h m).outcome (effect i n h m).state.hart
   leads (Op op rd rs1 rs2) n ecall jump target code = inl (refl, refl)
   leads (OpImm op rd rs1 imm) n ecall jump target code = inl (refl, refl)

@@ -6,13 +6,15 @@ use Rattle.sfi_safe_runs.proofs.Entries.{words as word_unit}
 use Rattle.sfi_safe_runs.proofs.Accessing as at
 use Rattle.sfi_pairs.proofs.Facts.{masking_is, placing_is}
 use Rattle.sfi_word_safety.proofs.Effects.{data_register, writes_it, writes_other, or_is, step_is, small_within, writes, others_stay, result_there, step_there, is_flow}
+use Rattle.sfi_image.specs.Parts.{reserved_of}
+use Rattle.sfi_image.specs.Spelling.{code_region, data_region}
 
 step_range : (d : ℕ) (imm : ℤ) → InRange (OpImm Addi d d imm) → IsImm12 imm
 unfolding InRange
 step_range d imm h = h.2
 
 -- what holds where any instruction may stand is known before any
-pub typed_known : (p : Part) (registers : List ℕ) (pieces : List Piece) → AreWordsTyped p registers → AreKnown p registers pieces
+pub typed_known : (p : Part) (registers : List ℕ) (pieces : List Piece) → AreWordsTyped (code_region p) (data_region p) registers → AreKnown p registers pieces
 typed_known p registers pieces typed = record {
   each_data = λ d is. inl (typed.each_data d is);
   code = inl typed.code;
@@ -29,13 +31,13 @@ record IsPlain (i : Instr) : Type 0 where
   pub placing : (b t : ℕ) → is_placing b t i ≡ false
   pub masking : (m t : ℕ) → is_masking m t i ≡ false
 
-near_here : (p : Part) (d v : ℕ) (x : Piece) (later : List Piece) → IsPlain x.instr → IsKnown p d v (x ∷ later) → IsNear p 1020 v
+near_here : (p : Part) (d v : ℕ) (x : Piece) (later : List Piece) → IsPlain x.instr → IsKnown p d v (x ∷ later) → IsNear (data_region p) 1020 v
 near_here p d v x later plain (inl lies) = lies
 near_here p d v x later plain (inr (inl h)) = absurd (false≢true (sym (plain.places d) ∙ h))
 near_here p d v x later plain (inr (inr (inl h))) = absurd (false≢true (sym (plain.masks d) ∙ (and_parts (masks d x.instr) (begins_placing d later) h).0))
 near_here p d v x later plain (inr (inr (inr h))) = absurd (false≢true (sym (plain.uses d) ∙ h.1))
 
-start_here : (p : Part) (v : ℕ) (x : Piece) (later : List Piece) → IsPlain x.instr → IsCodeKnown p v (x ∷ later) → IsWordStart p v
+start_here : (p : Part) (v : ℕ) (x : Piece) (later : List Piece) → IsPlain x.instr → IsCodeKnown p v (x ∷ later) → IsWordStart (code_region p) v
 start_here p v x later plain (inl start) = start
 start_here p v x later plain (inr h) = absurd (false≢true (sym (plain.placing 24 30) ∙ h.0))
 
@@ -58,13 +60,13 @@ flow_no_step (Jalr rd rs1 imm) h d = refl
 flow_no_step _ h d = absurd (false≢true h)
 
 -- the code register is a word's start at a jump, and at an ecall the typed registers hold what is theirs
-pub code_at_flow : (p : Part) (registers : List ℕ) (x : Piece) (later : List Piece) → is_flow x.instr ≡ true → AreKnown p registers (x ∷ later) → IsWordStart p (slice_index registers 30)
+pub code_at_flow : (p : Part) (registers : List ℕ) (x : Piece) (later : List Piece) → is_flow x.instr ≡ true → AreKnown p registers (x ∷ later) → IsWordStart (code_region p) (slice_index registers 30)
 code_at_flow p registers x later flow known = start_here p _ x later (flow_plain x.instr flow) known.code
 
 ecall_plain : IsPlain Ecall
 ecall_plain = record { places = λ d. refl; masks = λ d. refl; uses = λ d. refl; placing = λ b t. refl; masking = λ m t. refl }
 
-pub typed_at_ecall : (p : Part) (registers : List ℕ) (x : Piece) (later : List Piece) → Ecall ≡ x.instr → AreKnown p registers (x ∷ later) → AreWordsTyped p registers
+pub typed_at_ecall : (p : Part) (registers : List ℕ) (x : Piece) (later : List Piece) → Ecall ≡ x.instr → AreKnown p registers (x ∷ later) → AreWordsTyped (code_region p) (data_region p) registers
 typed_at_ecall p registers x later e known =
     let plain = subst (λ (i : Instr). IsPlain i) e ecall_plain in
     record {
@@ -75,11 +77,11 @@ typed_at_ecall p registers x later e known =
 
 -- ---- accesses
 
-module _ (p : Part) (words : has_words p.format ≡ true) (right : IsRightPart p) (h : Hart) (reserved : HasReserved p h.registers) where
+module _ (p : Part) (words : has_words p.format ≡ true) (right : IsRightPart p) (h : Hart) (reserved : HasReserved (reserved_of p) h.registers) where
   -- the base of an access lies near, or twice as far and the offset is small
   base_lies : (x : Piece) (later : List Piece) (base : ℕ) (imm : ℤ) → AreKnown p h.registers (x ∷ later) → ((d : ℕ) → places d x.instr ≡ false) → ((d : ℕ) → masks d x.instr ≡ false)
       → ((d : ℕ) → uses d x.instr ≡ true → is_small imm ≡ true) → may_access base ≡ true
-      → IsNear p 1020 (register h base) ⊎ (IsNear p (1020 + 2048) (register h base) × (is_small imm ≡ true))
+      → IsNear (data_region p) 1020 (register h base) ⊎ (IsNear (data_region p) (1020 + 2048) (register h base) × (is_small imm ≡ true))
   base_lies x later base imm known none none' small may =
       ⊎_elim
       (λ (is : is_data_register base ≡ true). by (known.each_data base is))
@@ -89,13 +91,13 @@ module _ (p : Part) (words : has_words p.format ≡ true) (right : IsRightPart p
       inl (record { low = omega arith; high = omega arith }))
       (or_cases (is_data_register base) (base == 26) may)
     where
-      by : IsKnown p base (register h base) (x ∷ later) → IsNear p 1020 (register h base) ⊎ (IsNear p (1020 + 2048) (register h base) × (is_small imm ≡ true))
+      by : IsKnown p base (register h base) (x ∷ later) → IsNear (data_region p) 1020 (register h base) ⊎ (IsNear (data_region p) (1020 + 2048) (register h base) × (is_small imm ≡ true))
       by (inl lies) = inl lies
       by (inr (inl e)) = absurd (false≢true (sym (none base) ∙ e))
       by (inr (inr (inl e))) = absurd (false≢true (sym (none' base) ∙ (and_parts (masks base x.instr) (begins_placing base later) e).0))
       by (inr (inr (inr (lies, used_here)))) = inr (lies, small base used_here)
 
-  access_near : (v : ℕ) (imm : ℤ) (n a : ℕ) → IsImm12 imm → n ≤ 4 → IsNear p 1020 v ⊎ (IsNear p (1020 + 2048) v × (is_small imm ≡ true)) → Rattle.std.specs.List.Contains (Rattle.rv_mem.specs.Bytes.addresses (offset_by v imm) n) a → InData p a ⊎ InGuard p a
+  access_near : (v : ℕ) (imm : ℤ) (n a : ℕ) → IsImm12 imm → n ≤ 4 → IsNear (data_region p) 1020 v ⊎ (IsNear (data_region p) (1020 + 2048) v × (is_small imm ≡ true)) → Rattle.std.specs.List.Contains (Rattle.rv_mem.specs.Bytes.addresses (offset_by v imm) n) a → InData p a ⊎ InGuard p a
   access_near v imm n a range few (inl lies) has = near_access p right.guard_room v 1020 2048 imm n a lies (imm12_within imm range) (omega arith) few has
   access_near v imm n a range few (inr (lies, small)) has = near_access p right.guard_room v (1020 + 2048) 1020 imm n a lies (small_within imm small) (omega arith) few has
 
@@ -109,7 +111,7 @@ module _ (p : Part) (words : has_words p.format ≡ true) (right : IsRightPart p
   accesses_near other n later range free known a (k, below, is) = absurd (omega arith)
 
   -- a use that fell into the data leaves its base near them
-  uses_back : (d : ℕ) (i : Instr) → uses d i ≡ true → IsNear p (1020 + 2048) (register h d) → ((a : ℕ) → Accesses i h a → InData p a) → IsNear p 1020 (register h d)
+  uses_back : (d : ℕ) (i : Instr) → uses d i ≡ true → IsNear (data_region p) (1020 + 2048) (register h d) → ((a : ℕ) → Accesses i h a → InData p a) → IsNear (data_region p) 1020 (register h d)
   uses_back d (Load kind rd rs1 imm) u lies inside =
       let parts = and_parts (rs1 == d) (is_small imm) (and_parts ((rs1 == d) && is_small imm) (not (rd == 0)) u).0 in
       let e = eqb-true rs1 d parts.0 in
@@ -136,13 +138,13 @@ module _ (p : Part) (words : has_words p.format ≡ true) (right : IsRightPart p
     clash r i e dest none = writes_other r x.instr none (ap destination e ∙ dest)
 
     data_stays : (d : ℕ) → IsKnown p d (register h d) (x ∷ later) → writes_register d x.instr ≡ false → ((a : ℕ) → Accesses x.instr h a → InData p a) → IsKnown p d (register after d) later
-    data_stays d (inl lies) none inside = inl (subst (λ (a : ℕ). IsNear p 1020 a) (sym (stays d none)) lies)
+    data_stays d (inl lies) none inside = inl (subst (λ (a : ℕ). IsNear (data_region p) 1020 a) (sym (stays d none)) lies)
     data_stays d (inr (inl e)) none inside = absurd (clash d (Op Or d 31 26) (or_is d 31 26 x.instr e) refl none)
     data_stays d (inr (inr (inl e))) none inside = inr (inl (and_parts (masks d x.instr) (begins_placing d later) e).1)
     data_stays d (inr (inr (inr (lies, used_here)))) none inside =
-        inl (subst (λ (a : ℕ). IsNear p 1020 a) (sym (stays d none)) (uses_back d x.instr used_here lies inside))
+        inl (subst (λ (a : ℕ). IsNear (data_region p) 1020 a) (sym (stays d none)) (uses_back d x.instr used_here lies inside))
 
-    step_near : (d : ℕ) (imm : ℤ) → x.instr ≡ OpImm Addi d d imm → IsKnown p d (register h d) (x ∷ later) → IsNear p 1020 (register h d)
+    step_near : (d : ℕ) (imm : ℤ) → x.instr ≡ OpImm Addi d d imm → IsKnown p d (register h d) (x ∷ later) → IsNear (data_region p) 1020 (register h d)
     step_near d imm e known = near_here p d (register h d) (record { instr = OpImm Addi d d imm; size = x.size }) later
         (record { places = λ d. refl; masks = λ d. refl; uses = λ d. refl; placing = λ b t. refl; masking = λ m t. refl })
         (subst (λ (i : Instr). IsKnown p d (register h d) (record { instr = i; size = x.size } ∷ later)) e known)
@@ -168,7 +170,7 @@ module _ (p : Part) (words : has_words p.format ≡ true) (right : IsRightPart p
         let both = and_parts (is_pointer_step d x.instr) (begins_using d later) l in
         let step = step_is d x.instr both.0 in
         let value : register after d ≡ result_of Add (register h d) (word step.0) = step_there x.instr d d x.size step.0 h m step.1 o.some within in
-        inr (inr (inr (subst (λ (a : ℕ). IsNear p (1020 + 2048) a) (sym value) (stepped p right.guard_room (register h d) step.0 (step_near d step.0 step.1 (known.each_data d is)) (imm12_within step.0 (step_range d step.0 (subst (λ (i : Instr). InRange i) step.1 range)))), both.1))))
+        inr (inr (inr (subst (λ (a : ℕ). IsNear (data_region p) (1020 + 2048) a) (sym value) (stepped p right.guard_room (register h d) step.0 (step_near d step.0 step.1 (known.each_data d is)) (imm12_within step.0 (step_range d step.0 (subst (λ (i : Instr). InRange i) step.1 range)))), both.1))))
         (or_cases (places d x.instr || (not (is_jump x.instr) && begins_masking d later)) (is_pointer_step d x.instr && begins_using d later) may)
 
     data_after : (d : ℕ) → is_data_register d ≡ true → breaks_data x.instr later ≡ false → ((a : ℕ) → Accesses x.instr h a → InData p a) → IsKnown p d (register after d) later
@@ -180,17 +182,17 @@ module _ (p : Part) (words : has_words p.format ≡ true) (right : IsRightPart p
 
     -- the code register
     code_stays : IsCodeKnown p (register h 30) (x ∷ later) → writes_register 30 x.instr ≡ false → IsCodeKnown p (register after 30) later
-    code_stays (inl start) none = inl (subst (λ (a : ℕ). IsWordStart p a) (sym (stays 30 none)) start)
+    code_stays (inl start) none = inl (subst (λ (a : ℕ). IsWordStart (code_region p) a) (sym (stays 30 none)) start)
     code_stays (inr (e, masked)) none = absurd (clash 30 (Op Or 30 30 24) (placing_is 24 30 x.instr e) refl none)
 
-    code_placed : IsCodeKnown p (register h 30) (x ∷ later) → IsWordStart p (bit_or (register h 30) p.code_base)
+    code_placed : IsCodeKnown p (register h 30) (x ∷ later) → IsWordStart (code_region p) (bit_or (register h 30) p.code_base)
     code_placed (inl start) =
         let again = at.placed_again p.code_base (length p.code) 256 (code_most p.format) (register h 30) right.code_placed (record { from = start.held.0; below = start.held.1 }) in
-        subst (λ (a : ℕ). IsWordStart p a) (sym again) start
+        subst (λ (a : ℕ). IsWordStart (code_region p) a) (sym again) start
     code_placed (inr (e, (y, masked))) =
         let lies = masked_code p.code_base (length p.code) (code_most p.format) 2 y (omega arith) right.code_placed in
         let mask : register h 30 ≡ bit_and y (length p.code - 4) = masked ∙ ap (λ (u : ℕ). bit_and y (length p.code - u)) (word_unit p.format words) in
-        subst (λ (a : ℕ). IsWordStart p (bit_or a p.code_base)) (sym mask) (record { held = (lies.0.from, lies.0.below); aligned = lies.1 })
+        subst (λ (a : ℕ). IsWordStart (code_region p) (bit_or a p.code_base)) (sym mask) (record { held = (lies.0.from, lies.0.below); aligned = lies.1 })
 
     code_after : breaks_code x.instr later ≡ false → IsCodeKnown p (register after 30) later
     code_after free =
@@ -201,7 +203,7 @@ module _ (p : Part) (words : has_words p.format ≡ true) (right : IsRightPart p
         ⊎_elim
         (λ (e : is_placing 24 30 x.instr ≡ true).
         let value : register after 30 ≡ bit_or (register h 30) (register h 24) = result_there x.instr Or 30 30 24 x.size h m (placing_is 24 30 x.instr e) (λ z. omega arith) within in
-        inl (subst (λ (a : ℕ). IsWordStart p a) (sym (value ∙ ap (λ n. bit_or (register h 30) n) reserved.code_base)) (code_placed known.code)))
+        inl (subst (λ (a : ℕ). IsWordStart (code_region p) a) (sym (value ∙ ap (λ n. bit_or (register h 30) n) reserved.code_base)) (code_placed known.code)))
         (λ (e : (is_masking 25 30 x.instr && begins_code later) ≡ true).
         let both = and_parts (is_masking 25 30 x.instr) (begins_code later) e in
         let mask = masking_is 25 30 x.instr both.0 in
@@ -237,15 +239,15 @@ module _ (p : Part) (words : has_words p.format ≡ true) (right : IsRightPart p
     flow_other : (r : ℕ) → is_flow x.instr ≡ true → (destination x.instr ≡ Some r → ⊥) → register after r ≡ register h r
     flow_other r flow none = others_stay x.instr h after r (writes x.instr x.size h m) none
 
-    pub typed_after : is_flow x.instr ≡ true → breaks_data x.instr later ≡ false → breaks_code x.instr later ≡ false → breaks_offset x.instr ≡ false → AreWordsTyped p after.registers
+    pub typed_after : is_flow x.instr ≡ true → breaks_data x.instr later ≡ false → breaks_code x.instr later ≡ false → breaks_offset x.instr ≡ false → AreWordsTyped (code_region p) (data_region p) after.registers
     typed_after flow v10 v11 v12 =
         let plain = flow_plain x.instr flow in
         record {
           each_data = λ d is.
-              subst (λ (a : ℕ). IsNear p 1020 a)
+              subst (λ (a : ℕ). IsNear (data_region p) 1020 a)
               (sym (flow_other d flow (λ e. not_data d is e)))
               (near_here p d (register h d) x later plain (known.each_data d is));
-          code = subst (λ (a : ℕ). IsWordStart p a) (sym (flow_other 30 flow not_code)) (start_here p (register h 30) x later plain known.code);
+          code = subst (λ (a : ℕ). IsWordStart (code_region p) a) (sym (flow_other 30 flow not_code)) (start_here p (register h 30) x later plain known.code);
           offset = subst (λ (a : ℕ). a < p.data_size) (sym (flow_other 31 flow not_offset)) known.offset;
         }
       where

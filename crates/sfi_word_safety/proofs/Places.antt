@@ -5,6 +5,7 @@ use Rattle.sfi_image.proofs.Facts.{code_ends, whole_bundles}
 use Rattle.sfi_rules.proofs.OneList.{spelled_within}
 use Rattle.sfi_safe_runs.proofs.Stepping.{stands_there, state_safe}
 use Rattle.sfi_word_safety.proofs.Known.{typed_known}
+use Rattle.sfi_image.specs.Spelling.{code_region, data_region}
 
 -- ---- pieces
 
@@ -61,7 +62,7 @@ module _ (p : Part) (clean : IsCleanInWords p) where
       place_from k aligned below c.reading 0 c.is_reading c.whole (subst (λ (at : ℕ). BreakNone p at c.reading) (sym (add-zero p.code_base)) c.none) (omega arith) (omega arith)
 
   -- with the typed registers set
-  pub at_start : (h : Hart) → IsWordStart p h.pc → AreWordsTyped p h.registers → IsAtPlaceInWords p h
+  pub at_start : (h : Hart) → IsWordStart (code_region p) h.pc → AreWordsTyped (code_region p) (data_region p) h.registers → IsAtPlaceInWords p h
   at_start h start typed =
       let base = base_aligned in
       let from : p.code_base ≤ h.pc = start.held.0 in

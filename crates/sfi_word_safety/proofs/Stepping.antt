@@ -12,6 +12,7 @@ use Rattle.sfi_safe_runs.specs.Runs.{IsTyped}
 use Rattle.sfi_safe_runs.proofs.Entries.{to_word, of_words_typed}
 use Rattle.sfi_safe_runs.proofs.SafeRuns.{entry_keeps, reply_keeps, change_keeps, turn_safe, runs_safely, calls_typed}
 use Rattle.sfi_word_safety.specs.Laws.{CleanWordsCallTyped}
+use Rattle.sfi_image.specs.Spelling.{code_region, data_region}
 
 -- ==== One step from a good state is safe, and leads to a good state.
 
@@ -62,7 +63,7 @@ module _ (p : Part) (s : State) (clean : IsCleanInWords p) (good : IsGoodInWords
     place_after done (inr (start, flow)) =
         let none = good.place.place.none.0 in
         at_start p clean r.state.hart start
-        (subst (λ (x : Stepped). AreWordsTyped p x.state.hart.registers) (sym step_is)
+        (subst (λ (x : Stepped). AreWordsTyped (code_region p) (data_region p) x.state.hart.registers) (sym step_is)
         (typed_after p clean.words clean.right s.hart good.kept.reserved good.place.place.here good.place.place.later s.memory good.kept.count (spelled_in_range stands_here.bytes i n stands_here.spelled) good.place.known flow none.data_write none.code_write none.offset_write))
 
     by_outcome : (o : Outcome) → r.outcome ≡ o → Leads p good.place.place.here.instr good.place.place.here.size s.hart o r.state.hart → IsGoodInWordsIf p (after_step o r.state)

@@ -1,15 +1,14 @@
 -- Accepted code in words, and the places where its runs stand.
 use Rattle.std.specs.Prelude.{◌≡◌, ◌+◌, ℕ, List, [], ◌∷◌, true, false, length, ◌%◌, ◌<◌, ◌⊎◌, Option, IfSome, drop, slice_index, bit_and}
 use Rattle.sfi_formats.specs.Formats.{has_words, is_data_register, code_register, offset_register}
-use Rattle.sfi_image.specs.Spelling.{Part, AreApart, code_region, guarded_region}
-use Rattle.sfi_image.specs.Parts.{is_gate_of, IsRightPart, reserved_of}
+use Rattle.sfi_image.specs.Spelling.{Part, AreApart, code_region, data_region, guarded_region, IsNear}
+use Rattle.sfi_image.specs.Parts.{is_gate_of, IsRightPart, reserved_of, IsWordStart}
 use Rattle.sfi_rules.specs.Readings.{Piece, IsReading, rest_of}
 use Rattle.sfi_rules.specs.Rules.{breaks_reserved}
 use Rattle.sfi_rules.specs.words.Rules.{breaks_width, breaks_ecall, breaks_access, breaks_jump, breaks_target, breaks_end, breaks_data, breaks_code, breaks_offset, begins_placing, begins_masking, begins_using, begins_code}
 use Rattle.rv_step.specs.State.{Hart, State}
 use Rattle.sfi_formats.specs.Limits.{slack}
-use Rattle.sfi_safe_runs.specs.Safety.{KeepsAll}
-use Rattle.sfi_safe_runs.specs.Runs.{IsWordStart, IsNear}
+use Rattle.sfi_safe_runs.specs.Calling.{KeepsAll}
 
 -- ==== Which sandboxes of code in words have a right layout and break no rule.
 
@@ -53,16 +52,16 @@ pub record IsCleanInWords (p : Part) : Type 0 where
 -- piece uses it.
 abbrev pub IsKnown : Part → ℕ → ℕ → List Piece → Type 0
 IsKnown p d value pieces =
-    IsNear p slack value
+    IsNear (data_region p) slack value
     ⊎ ((begins_placing d pieces ≡ true)
     ⊎ ((begins_masking d pieces ≡ true)
-    ⊎ (IsNear p (slack + 2048) value × (begins_using d pieces ≡ true))))
+    ⊎ (IsNear (data_region p) (slack + 2048) value × (begins_using d pieces ≡ true))))
 
 -- What is known of the code register before these pieces: it is a word's start; or it is masked,
 -- and placed by the first piece.
 abbrev pub IsCodeKnown : Part → ℕ → List Piece → Type 0
 IsCodeKnown p value pieces =
-    IsWordStart p value
+    IsWordStart (code_region p) value
     ⊎ ((begins_code pieces ≡ true) × ((x : ℕ) × (value ≡ bit_and x (reserved_of p).code_mask)))
 
 -- what is known of the typed registers before these pieces

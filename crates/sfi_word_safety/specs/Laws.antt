@@ -6,7 +6,8 @@ use Rattle.sfi_image.specs.Parts.{IsRightPart}
 use Rattle.sfi_rules.specs.declared.finding.Finding.{Finding}
 use Rattle.sfi_rules.specs.words.Findings.{AreFindingsInWords}
 use Rattle.sfi_safe_runs.specs.Runs.{Turn, IsEntry, IsTurn, after_turn}
-use Rattle.sfi_safe_runs.specs.Safety.{IsSafeState, IsSafeTurn, RunsSafely, CallsTyped}
+use Rattle.sfi_safe_runs.specs.Safety.{IsSafeState, IsSafeTurn, RunsSafely}
+use Rattle.sfi_safe_runs.specs.Calling.{CallsTyped}
 use Rattle.sfi_word_safety.specs.Code.{AreWordsClean, IsCleanInWords, IsGoodInWords, IsGoodInWordsIf}
 
 -- an entry is a good state

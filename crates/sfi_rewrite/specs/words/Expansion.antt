@@ -1,16 +1,15 @@
 -- The expansion of an item in code in words, and how expansions stand in words.
-use Rattle.std.specs.Prelude.{◌≡◌, ◌==◌, ◌&&◌, ◌||◌, not, ℕ, ℤ, pos, negsuc, nat_le, nat_lt, List, [], ◌∷◌, ◌++◌, map, Bool, false, MatchBool, Option, Some, None, if◌then◌else◌}
+use Rattle.std.specs.Prelude.{◌≡◌, ◌==◌, ◌&&◌, ◌||◌, not, ℕ, ℤ, pos, negsuc, List, [], ◌∷◌, ◌++◌, map, Bool, false, MatchBool, Option, Some, None, if◌then◌else◌}
 use Rattle.rv_word.specs.declared.instr.ImmOp.TheVariants.{Addi}
 use Rattle.rv_word.specs.declared.instr.RegOp.TheVariants.{Add, And, Or}
 use Rattle.rv_word.specs.declared.instr.Instr.{Instr}
 use Rattle.rv_word.specs.declared.instr.Instr.TheVariants.{Op, OpImm, Load, Store, Jal, Jalr}
 use Rattle.rv_word.specs.Outlines.{destination}
-use Rattle.sfi_formats.specs.Limits.{slack}
 use Rattle.sfi_formats.specs.Formats.{data_base_register, data_mask_register, is_data_register, code_register, offset_register}
 use Rattle.sfi_source.specs.declared.item.Body.{Body}
 use Rattle.sfi_source.specs.declared.item.Body.TheVariants.{Plain, To, High, Low, Base}
 use Rattle.sfi_source.specs.declared.item.Item.{Item}
-use Rattle.sfi_pairs.specs.Pairs.{code_pair}
+use Rattle.sfi_pairs.specs.Pairs.{code_pair, uses}
 use Rattle.sfi_rewrite.specs.declared.slot.BundleSlot.{BundleSlot}
 use Rattle.sfi_rewrite.specs.declared.slot.BundleSlot.TheVariants.{Wide, Jump, Upper, Lower, Region, Short}
 use Rattle.sfi_rewrite.specs.Expansion.{address_register, IsAlone}
@@ -61,21 +60,10 @@ abbrev pub mask_after : Option ℕ → List BundleSlot
 mask_after None = []
 mask_after (Some d) = if is_data_register d then data_mask d d else []
 
--- the offset is from -1020 to 1020
-abbrev pub is_small : ℤ → Bool
-is_small (pos n) = nat_le n slack
-is_small (negsuc n) = nat_lt n slack
-
--- a load, other than into x0, or store on d with an offset from -1020 to 1020
-abbrev pub is_use : ℕ → Instr → Bool
-is_use d (Load kind rd a imm) = (a == d) && is_small imm && not (rd == 0)
-is_use d (Store width a rs2 imm) = (a == d) && is_small imm
-is_use d i = false
-
 -- the first body is `addi d, d, k` of a data register, and the second a load or store on d as
--- `is_use` says
+-- `uses` says
 abbrev pub is_step_to : Body → Body → Bool
-is_step_to (Plain (OpImm Addi d a k)) (Plain i) = is_data_register d && (a == d) && is_use d i
+is_step_to (Plain (OpImm Addi d a k)) (Plain i) = is_data_register d && (a == d) && uses d i
 is_step_to x y = false
 
 -- The item is a step of a data register that the first item of `later` uses: no label stands

@@ -2,7 +2,7 @@
 -- registers aside that the expansions write; a data register that the instruction writes has the
 -- address of the data region that its value masks to, but for a step, which leaves there what its
 -- instruction does.
-use Rattle.std.specs.Prelude.{◌≡◌, ◌≢◌, ◌+◌, ◌%◌, ◌==◌, ◌||◌, ◌++◌, ℕ, Bool, true, false, MatchBool, List, [], ◌∷◌, length, map, take, drop, Some, Option, None, not, ◌&&◌, ◌⊎◌, if◌then◌else◌}
+use Rattle.std.specs.Prelude.{◌≡◌, ◌≢◌, ◌+◌, ◌==◌, ◌||◌, ◌++◌, ℕ, Bool, true, false, MatchBool, List, [], ◌∷◌, length, map, take, drop, Some, Option, None, not, ◌&&◌, ◌⊎◌, if◌then◌else◌}
 use Rattle.std.specs.List.{AllZip}
 use Rattle.rv_word.specs.Spelling.{offset_by}
 use Rattle.rv_word.specs.declared.instr.Instr.{Instr}
@@ -11,12 +11,14 @@ use Rattle.rv_word.specs.Outlines.{destination}
 use Rattle.rv_mem.specs.Bytes.{address_after}
 use Rattle.rv_step.specs.declared.outcome.Outcome.TheVariants.{Next}
 use Rattle.rv_step.specs.State.{Hart, State, register}
-use Rattle.rv_step.specs.Step.{Stepped, effect, LeadTo}
+use Rattle.rv_step.specs.Step.{Stepped, effect}
+use Rattle.rv_step.specs.Rows.{LeadTo}
 use Rattle.sfi_source.specs.declared.item.Item.{Item}
 use Rattle.sfi_formats.specs.Formats.{data_base_register, is_data_register, code_register, offset_register, unit}
 use Rattle.sfi_formats.specs.declared.format.Format.TheVariants.{Sfiw}
 use Rattle.sfi_image.specs.declared.span.Span.{Span}
 use Rattle.sfi_image.specs.Spelling.{Holds}
+use Rattle.sfi_image.specs.Parts.{IsWordStart}
 use Rattle.sfi_rewrite.specs.declared.slot.BundleSlot.{BundleSlot}
 use Rattle.sfi_rewrite.specs.Expansion.{address_register, size_of, slots_of}
 use Rattle.sfi_rewrite.specs.Placement.{Placement}
@@ -34,10 +36,6 @@ is_own r = (r == address_register) || (r == code_register) || (r == offset_regis
 abbrev pub IsBased : Span → Hart → ℕ → Type 0
 IsBased data_at h a =
     MatchBool (is_data_register a || (a == 0)) (Unit {0}) (Holds data_at (register h a))
-
--- the address is a word's start of the code region
-abbrev pub IsWordStart : Span → ℕ → Type 0
-IsWordStart code_at a = Holds code_at a × (a % unit Sfiw ≡ 0)
 
 -- The instruction keeps to the sandbox: the base of a load or store, other than a data register and
 -- x0, lies in the data region, whatever the offset adds, and a jalr goes to a word's start. Of any

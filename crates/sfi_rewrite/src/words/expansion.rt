@@ -1,13 +1,13 @@
 //! What an item of the source becomes in code in words.
 ghost use Rattle.std.specs.Prelude.{◌≡◌, ◌∷◌, ◌++◌, ◌+◌, ◌≤◌, [], Some, length};
-ghost use Rattle.sfi_rewrite.specs.words.Expansion.{base_of, data_mask, makes_base, before, mask_after, IsConfined, IsPlainExpansion, IsExpansion, is_step_to, is_step_before_use, is_small, is_use, is_zero, is_move, moved, IsAround};
+ghost use Rattle.sfi_rewrite.specs.words.Expansion.{base_of, data_mask, makes_base, before, mask_after, IsConfined, IsPlainExpansion, IsExpansion, is_step_to, is_step_before_use, is_zero, is_move, moved, IsAround};
 ghost use Rattle.rv_word.specs.Outlines.{destination};
 
 use crate::expansion::{Expansion, alone};
 use crate::slot::BundleSlot;
 use rv_word::{ImmOp, Instr, Reg, RegOp};
-use sfi_formats::{CODE_REGISTER, DATA_BASE_REGISTER, DATA_MASK_REGISTER, OFFSET_REGISTER, SLACK};
-use sfi_pairs::{code_pair, is_data_register};
+use sfi_formats::{CODE_REGISTER, DATA_BASE_REGISTER, DATA_MASK_REGISTER, OFFSET_REGISTER};
+use sfi_pairs::{code_pair, is_data_register, is_use};
 use sfi_source::{Body, Item};
 
 /// The data register in which the expansions make addresses, x29.
@@ -206,27 +206,6 @@ fn of_part(part: BundleSlot, rd: Reg) -> Expansion
     slots
 }
 
-/// Whether the number is from -1020 to 1020.
-fn is_small(imm: i32) -> bool
-    ensures { result ≡ is_small imm }
-{
-    -(SLACK as i32) <= imm && imm <= SLACK as i32
-}
-
-/// Whether the instruction is a load, other than into x0, or a store on the register with an offset
-/// from -1020 to 1020.
-fn is_access_on(register: Reg, instr: &Instr) -> bool
-    ensures { result ≡ is_use register instr.now }
-{
-    match *instr {
-        Instr::Load { rd, rs1, imm, .. } => {
-            rs1.number() == register.number() && is_small(imm) && rd.number() != 0
-        }
-        Instr::Store { rs1, imm, .. } => rs1.number() == register.number() && is_small(imm),
-        _ => false,
-    }
-}
-
 /// Whether `body` is `addi d, d, k` of a data register, and `next` uses `d` with such an offset.
 fn is_step_to(body: &Body, next: &Body) -> bool
     ensures { result ≡ is_step_to body.now next.now }
@@ -242,7 +221,7 @@ fn is_step_to(body: &Body, next: &Body) -> bool
                 },
             ),
             Body::Plain(instr),
-        ) => is_data_register(*rd) && rs1.number() == rd.number() && is_access_on(*rd, instr),
+        ) => is_data_register(*rd) && rs1.number() == rd.number() && is_use(rd.number(), instr),
         _ => false,
     }
 }

@@ -1,13 +1,13 @@
 -- The rules of code in words, and what is owed by an instruction to the next ones.
-use Rattle.std.specs.Prelude.{◌+◌, ◌%◌, ◌==◌, ◌&&◌, ◌||◌, not, ℕ, ℤ, pos, negsuc, List, [], ◌∷◌, Bool, true, false, Option, Some, None, nat_lt, nat_le, if◌then◌else◌}
+use Rattle.std.specs.Prelude.{◌+◌, ◌%◌, ◌==◌, ◌&&◌, ◌||◌, not, ℕ, pos, negsuc, List, [], ◌∷◌, Bool, true, false, Option, Some, None, nat_lt, nat_le, if◌then◌else◌}
 use Rattle.rv_word.specs.declared.instr.Instr.{Instr}
 use Rattle.rv_word.specs.declared.instr.Instr.TheVariants.{Op, OpImm, Load, Store, Branch, Jal, Jalr, Ecall}
 use Rattle.rv_word.specs.declared.instr.RegOp.TheVariants.{And, Or}
 use Rattle.rv_word.specs.declared.instr.ImmOp.TheVariants.{Addi}
 use Rattle.rv_word.specs.Spelling.{offset_by}
 use Rattle.rv_word.specs.Outlines.{destination, writes_register}
-use Rattle.sfi_pairs.specs.Pairs.{is_masking, is_placing}
-use Rattle.sfi_formats.specs.Limits.{slack, word_size}
+use Rattle.sfi_pairs.specs.Pairs.{is_masking, is_placing, uses}
+use Rattle.sfi_formats.specs.Limits.{word_size}
 use Rattle.sfi_formats.specs.Formats.{code_base_register, code_mask_register, data_base_register, data_mask_register, is_data_register, code_register, offset_register}
 use Rattle.sfi_rules.specs.Readings.{Piece, is_jump}
 use Rattle.sfi_rules.specs.Rules.{is_empty, ends_region}
@@ -47,24 +47,12 @@ abbrev pub begins_masking : ℕ → List Piece → Bool
 begins_masking d [] = false
 begins_masking d (x ∷ later) = masks d x.instr && begins_placing d later
 
--- the offset is from -1020 to 1020
-abbrev pub is_small : ℤ → Bool
-is_small (pos n) = nat_le n slack
-is_small (negsuc n) = nat_lt n slack
-
 -- `addi d, d, k`: a pointer goes on by k bytes
 abbrev pub is_pointer_step : ℕ → Instr → Bool
 is_pointer_step d (OpImm Addi rd rs1 imm) = (rd == d) && (rs1 == d)
 is_pointer_step d _ = false
 
--- A load or store on d with an offset from -1020 to 1020. A load into x0 is none: a processor may
--- drop it, and then it doesn't trap in a guard zone.
-abbrev pub uses : ℕ → Instr → Bool
-uses d (Load kind rd rs1 imm) = (rs1 == d) && is_small imm && not (rd == 0)
-uses d (Store width rs1 rs2 imm) = (rs1 == d) && is_small imm
-uses d _ = false
-
--- the pieces begin with such a load or store on d
+-- the pieces begin with a load or store on d, with a small offset
 abbrev pub begins_using : ℕ → List Piece → Bool
 begins_using d [] = false
 begins_using d (x ∷ later) = uses d x.instr

@@ -10,7 +10,8 @@ use Rattle.sfi_formats.specs.Formats.{code_register, is_data_register, is_reserv
 use Rattle.sfi_image.specs.declared.bundle.BundlePlace.{BundlePlace}
 use Rattle.sfi_rules.specs.declared.owed.Owed.{Owed}
 use Rattle.sfi_rules.specs.words.Findings.{lowest, IsWordFound}
-use Rattle.sfi_rules.specs.words.Rules.{owed_next, may_access, is_word_start, is_pointer_step, uses}
+use Rattle.sfi_rules.specs.words.Rules.{owed_next, may_access, is_word_start, is_pointer_step}
+use Rattle.sfi_pairs.specs.Pairs.{uses}
 use Rattle.sfi_scan.specs.private.Blocks.{is_zero}
 use Rattle.rv_word.specs.declared.instr.Instr.TheVariants.{Op, Load, Store}
 use Rattle.rv_word.specs.declared.instr.RegOp.TheVariants.{And, Or}

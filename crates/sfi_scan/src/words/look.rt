@@ -20,7 +20,7 @@ ghost use Rattle.sfi_scan.specs.private.Words.{is_reserved_or_typed, is_clean_al
 use crate::clean::{half_at, word_at};
 use crate::rules::offset_by;
 use crate::words::owed::owed_by;
-use crate::words::rules::{is_access_base, is_use_after_step, is_word_start};
+use crate::words::rules::{is_access_base, is_word_start};
 use rv_comp::outline16;
 use rv_word::{
     Outline, Reg, RegOp, access32, computes32, decode32, op_word, outline_of, outline32,
@@ -28,7 +28,7 @@ use rv_word::{
 use sfi_formats::{
     CODE_BASE_REGISTER, CODE_REGISTER, DATA_BASE_REGISTER, DATA_MASK_REGISTER, OFFSET_REGISTER,
 };
-use sfi_pairs::{is_data_register, is_reserved};
+use sfi_pairs::{is_data_register, is_reserved, is_use};
 use sfi_rules::{BundlePlace, Owed};
 
 /// Whether the register is reserved or typed: a write of it has rules of its own.
@@ -271,7 +271,7 @@ fn is_clean_use(place: &BundlePlace, address: u32, d: u8, word: u32) -> bool
     let Some(instr) = decode32(word) else {
         return false;
     };
-    if !is_use_after_step(d, &instr) {
+    if !is_use(d, &instr) {
         return false;
     }
     is_clean_alone(place, address, outline_of(instr))

@@ -7,11 +7,11 @@ ghost use Rattle.sfi_rules.specs.words.Findings.{fails_data, fails_code, is_data
 use crate::before::is_masking;
 use crate::rules::is_jump;
 use crate::words::rules::{
-    is_code_placing, is_data_masking, is_data_placing, is_pointer_step, is_use_after_step,
+    is_code_placing, is_data_masking, is_data_placing, is_pointer_step,
 };
 use rv_word::Instr;
 use sfi_formats::{CODE_MASK_REGISTER, CODE_REGISTER};
-use sfi_pairs::is_data_register;
+use sfi_pairs::{is_data_register, is_use};
 use sfi_rules::Owed;
 
 /// Whether what is owed follows a write of a data register.
@@ -43,7 +43,7 @@ fn owed_still(owed: Owed, instr: &Instr) -> Option<Owed>
             if is_data_masking(d, instr) {
                 Some(Owed::PlaceOnly(d))
             } else {
-                is_use_after_step(d, instr).then_some(Owed::Nothing)
+                is_use(d, instr).then_some(Owed::Nothing)
             }
         }
         Owed::Code => is_code_placing(instr).then_some(Owed::Nothing),

@@ -2,7 +2,7 @@
 ghost use Rattle.std.specs.Prelude.{◌≡◌};
 ghost use Rattle.sfi_pairs.specs.Pairs.{is_placing};
 ghost use Rattle.sfi_rules.specs.Readings.{IsWithin};
-ghost use Rattle.sfi_rules.specs.words.Rules.{places, masks, is_small, is_pointer_step, uses, breaks_ecall, may_access, breaks_access, breaks_jump, is_word_start, breaks_target, breaks_offset};
+ghost use Rattle.sfi_rules.specs.words.Rules.{places, masks, is_pointer_step, breaks_ecall, may_access, breaks_access, breaks_jump, is_word_start, breaks_target, breaks_offset};
 ghost use Rattle.sfi_scan.specs.private.Scanning.{IsInside};
 ghost use Rattle.sfi_rules.specs.words.Findings.{breaks_last, is_at_gate, lowest};
 
@@ -15,8 +15,6 @@ use sfi_formats::{
 };
 use sfi_pairs::is_data_register;
 use sfi_rules::{BundlePlace, Owed, Rule};
-
-const SLACK: i32 = sfi_formats::SLACK as i32;
 
 /// Whether the instruction is `or x30, x30, x24`.
 pub(crate) fn is_code_placing(instr: &Instr) -> bool
@@ -63,13 +61,6 @@ pub(crate) fn is_data_masking(d: u8, instr: &Instr) -> bool
     }
 }
 
-/// Whether the offset is at most 1020, up or down, as one after a step has to be.
-fn is_small(imm: i32) -> bool
-    ensures { result ≡ is_small imm }
-{
-    -SLACK <= imm && imm <= SLACK
-}
-
 /// Whether the instruction steps data register `d`: an `addi` from it to itself.
 pub(crate) fn is_pointer_step(d: u8, instr: &Instr) -> bool
     ensures { result ≡ is_pointer_step d instr.now }
@@ -81,19 +72,6 @@ pub(crate) fn is_pointer_step(d: u8, instr: &Instr) -> bool
             rs1,
             ..
         } => rd.number() == d && rs1.number() == d,
-        _ => false,
-    }
-}
-
-/// Whether the instruction is an access on data register `d` that may follow a step of it.
-pub(crate) fn is_use_after_step(d: u8, instr: &Instr) -> bool
-    ensures { result ≡ uses d instr.now }
-{
-    match *instr {
-        Instr::Load { rd, rs1, imm, .. } => {
-            rs1.number() == d && is_small(imm) && rd.number() != 0
-        }
-        Instr::Store { rs1, imm, .. } => rs1.number() == d && is_small(imm),
         _ => false,
     }
 }

@@ -1,6 +1,6 @@
 use Rattle.sfi_check.proofs.Prelude.{◌≡◌, List, [], ◌∙◌, subst, sym, Sfi2, Part, views, format_of, IsRightLayout, AreImageFindings, IsImage}
 use Rattle.sfi_check.specs.private.{IsStackOf}
-use Rattle.sfi_image.specs.Spelling.{all_in_format}
+use Rattle.sfi_image.specs.Numbers.{all_in_format}
 use Rattle.sfi_check.proofs.Converted.{seen_as, fault_converts}
 use Rattle.sfi_check.proofs.conversion.convert_accepted.Goals as goal
 use Rattle.sfi_image.proofs.Facts.{right_in_second}
