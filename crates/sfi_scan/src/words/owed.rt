@@ -6,9 +6,7 @@ ghost use Rattle.sfi_rules.specs.words.Findings.{fails_data, fails_code, is_data
 
 use crate::before::is_masking;
 use crate::rules::is_jump;
-use crate::words::rules::{
-    is_code_placing, is_data_masking, is_data_placing, is_pointer_step,
-};
+use crate::words::rules::{is_code_placing, is_data_masking, is_data_placing, is_pointer_step};
 use rv_word::Instr;
 use sfi_formats::{CODE_MASK_REGISTER, CODE_REGISTER};
 use sfi_pairs::{is_data_register, is_use};
