@@ -19,10 +19,8 @@ from dataclasses import replace
 from itertools import groupby
 
 import measure
-from compiled import EXAMPLES, mean
-
-sys.path.insert(0, EXAMPLES)
 import programs
+from compiled import EXAMPLES, mean
 from translated import TURNS
 
 

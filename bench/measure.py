@@ -5,7 +5,10 @@ import subprocess
 import sys
 
 HERE = os.path.dirname(os.path.abspath(__file__))
-PROGRAM = os.path.join(os.path.dirname(HERE), "crates", "sfi", "out", "sfi")
+TOP = os.path.dirname(HERE)
+sys.dont_write_bytecode = True
+sys.path += [os.path.join(TOP, "tools"), os.path.join(TOP, "examples", "c")]
+PROGRAM = os.path.join(TOP, "crates", "sfi", "out", "sfi")
 
 
 def program_at(path):

@@ -12,21 +12,17 @@ import argparse
 import glob
 import os
 import subprocess
-import sys
 import tempfile
 from concurrent.futures import ThreadPoolExecutor
 
 import compiled
 import measure
-from compiled import EXAMPLES, RUNTIME, TOOLS, Count, answer, image, mean, section
-
-sys.path.insert(0, EXAMPLES)
-sys.path.append(os.path.join(compiled.TOP, "tools", "asm2sfi"))  # for its table of gates
 import programs
-from compilers import GCC, compiled as compiled_to
-from kept import kept, root
-from newlib import folder_of
-from runtime import OVERRIDDEN
+from compiled import RUNTIME, TOOLS, Count, answer, image, mean, section
+from suygapid.cc.compilers import GCC, compiled as compiled_to
+from suygapid.elf.runtime import OVERRIDDEN
+from suygapid.kept import kept, root
+from suygapid.library.newlib import folder_of
 
 PRICED = ("lua", "bzip2", "zlib", "cjson")
 AS = ["-march=rv32imc", "-mabi=ilp32"]

@@ -14,15 +14,11 @@ import argparse
 import os
 import shutil
 import subprocess
-import sys
 import tempfile
 
-HERE = os.path.dirname(os.path.abspath(__file__))
-TOP = os.path.dirname(HERE)
-sys.dont_write_bytecode = True
-sys.path.insert(0, os.path.join(TOP, "tools"))
-import libraries
 import measure
+import libraries
+from measure import HERE, TOP
 
 CODE, DATA = 65536, 65536
 SOURCES = {

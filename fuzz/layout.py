@@ -3,12 +3,9 @@
 It is untrusted: nothing is proved of it. `fuzz/verdicts.py` compares the program with it.
 """
 import dataclasses
-import os
 import struct
-import sys
 
-sys.path.append(os.path.join(os.path.dirname(os.path.dirname(os.path.abspath(__file__))), "tools", "asm2sfi"))
-import services
+from suygapid import services
 
 FORMATS = {b"SFI1": 1, b"SFI2": 2, b"SFIW": 3}
 MOST_CODE = {1: 65536, 2: 1048576, 3: 1048576}

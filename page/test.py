@@ -21,7 +21,6 @@ import threading
 PAGE = os.path.dirname(os.path.abspath(__file__))
 TOP = os.path.dirname(PAGE)
 sys.dont_write_bytecode = True
-sys.path.insert(0, PAGE)
 import chromium
 
 FORMATS = ["1", "2", "words"]

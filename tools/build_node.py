@@ -9,7 +9,6 @@ import sys
 TOP = os.path.dirname(os.path.dirname(os.path.abspath(__file__)))
 MODULE = os.path.join(TOP, "bindings", "node", "sfi_run.wasm")
 sys.dont_write_bytecode = True
-sys.path.insert(0, os.path.join(TOP, "tools"))
 import wasm_module
 
 

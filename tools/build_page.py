@@ -16,9 +16,8 @@ import sys
 TOP = os.path.dirname(os.path.dirname(os.path.abspath(__file__)))
 PAGE = os.path.join(TOP, "page")
 sys.dont_write_bytecode = True
-sys.path[:0] = [os.path.join(TOP, "tools"), os.path.join(TOP, "tools", "asm2sfi")]
-import services
 import wasm_module
+from suygapid import services
 
 # The path below examples, the title, and the input.
 SOURCES = [

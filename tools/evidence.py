@@ -15,7 +15,6 @@ above. That LOG is what a run over these sources printed is the word of whoever 
 """
 import hashlib
 import pathlib
-import re
 import shutil
 import subprocess
 import sys
@@ -23,7 +22,6 @@ from dataclasses import dataclass
 
 TOP = pathlib.Path(__file__).resolve().parent.parent
 sys.dont_write_bytecode = True
-sys.path.insert(0, str(TOP / "tools"))
 import declarations
 import definitions
 import installed

@@ -11,9 +11,8 @@ TOP = pathlib.Path(__file__).resolve().parent.parent
 SHARE = "share/suygapid"  # the tools, at the places that they have in the repository
 NOTED = f"{SHARE}/installed"  # the list of all that was installed
 TOOLS = ("sfi-cc", "sfi-gdb", "sfi-image", "sfi-library", "sfi-move", "sfi-trace")
-FOLDERS = ("tools/asm2elf", "tools/asm2sfi", "tools/sfi_cc", "tools/sfi_elf", "tools/sfi_gdb", "tools/sfi_trace",
-           "examples/c/include", "examples/c/library", "bindings/python", "bindings/rust", "bindings/node")
-SINGLE = ("examples/c/gates.h",)
+FOLDERS = ("tools/suygapid", "examples/c/include", "examples/c/library", "bindings/python", "bindings/rust", "bindings/node")
+SINGLE = ("tools/asm2elf", "examples/c/gates.h")
 PAGES = ("sfi.1", "sfi-cc.1", "sfi-gdb.1", "sfi-image.1", "sfi-library.1", "sfi-move.1",
          "sfi-trace.1")
 DOCUMENTS = ("README.md", "CHANGELOG.md", "CONTRIBUTING.md", "SECURITY.md", "docs/*.md", "docs/*.png")  # at the same places below share/doc/suygapid
@@ -44,7 +43,7 @@ class Item:
 def is_tool_file(path):
     """Whether a file of a tool's folder serves its user, and not its tests."""
     parts = path.relative_to(TOP).parts
-    made = any(it in ("__pycache__", "target", "build", "tests") or it.endswith(".egg-info") for it in parts)
+    made = any(it in ("__pycache__", "target", "build", "tests", "validate", "validate.py") or it.endswith(".egg-info") for it in parts)
     return path.is_file() and not made and not path.name.startswith(("test_", "test.", "random_c"))
 
 

@@ -16,7 +16,6 @@ import tempfile
 
 TOP = os.path.dirname(os.path.dirname(os.path.abspath(__file__)))
 sys.dont_write_bytecode = True
-sys.path.insert(0, os.path.join(TOP, "tools"))
 import version
 
 HEADERS = {"sfi_c": "sfi.h", "sfi_run": "sfi_run.h"}

@@ -27,7 +27,6 @@ import tempfile
 
 TOP = pathlib.Path(__file__).resolve().parent.parent
 sys.dont_write_bytecode = True
-sys.path.insert(0, str(TOP / "tools"))
 import checker_file
 import definitions
 import evidence

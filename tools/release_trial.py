@@ -3,7 +3,6 @@ program, both WebAssembly modules and the checker in one file of C say of the sm
 """
 import base64
 import hashlib
-import pathlib
 import re
 import shutil
 import subprocess

@@ -2,7 +2,6 @@
 each printed whole from its file, whose hash stands above it.
 """
 import hashlib
-import pathlib
 import re
 from dataclasses import dataclass
 

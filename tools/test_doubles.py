@@ -1,5 +1,5 @@
-"""Tests of sums, differences, products, quotients and square roots of doubles, and of integers as doubles: sfi_cc/double*.c
-and sfi_cc/newlib/sqrt.c: `tools/unit_tests.py tools`. The wanted bits are those of this machine's own floating point. They
+"""Tests of sums, differences, products, quotients and square roots of doubles, and of integers as doubles: suygapid/library/double*.c
+and newlib/sqrt.c there: `tools/unit_tests.py tools`. The wanted bits are those of this machine's own floating point. They
 are skipped where a compiler, GCC's sources or the program isn't there."""
 import os
 import subprocess
@@ -8,7 +8,7 @@ import unittest
 from test_floats import SOURCES
 from testing import COMPILERS, SFI, SFI_CC, TOOLS, Folder, needs
 
-FOLDER = TOOLS / "sfi_cc"
+FOLDER = TOOLS / "suygapid" / "library"
 SHARED, DOUBLES, QUOTIENTS, CONVERSIONS = (FOLDER / name for name in ("doubles.h", "doubles.c", "double_quotients.c",
                                                                      "double_conversions.c"))
 ROOTS = FOLDER / "newlib" / "sqrt.c"

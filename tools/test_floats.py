@@ -4,16 +4,12 @@ import glob
 import os
 import shutil
 import subprocess
-import sys
 import unittest
 from dataclasses import replace
 
-from testing import COMPILERS, GCC, SFI, SFI_CC, TOOLS, Folder, needs
-
-sys.path.insert(0, os.path.join(TOOLS, "sfi_cc"))
-
-import softfloat
-from sources import GCC_SOURCE
+from suygapid.library import softfloat
+from suygapid.library.sources import GCC_SOURCE
+from testing import COMPILERS, GCC, SFI, SFI_CC, Folder, needs
 
 SOURCES = GCC_SOURCE.where()
 

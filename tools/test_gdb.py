@@ -1,13 +1,8 @@
 """Tests of what sfi-gdb answers gdb: `tools/unit_tests.py tools`. Sessions of gdb itself are in examples/c/elf/test.sh."""
-import sys
 import unittest
 
-from testing import TOOLS, TOP
-
-sys.path[:0] = [str(TOOLS / "sfi_gdb"), str(TOOLS / "sfi_elf"), str(TOP / "bindings" / "python")]
-
 from sfi_run import OutsideData
-from stub import DONE, FEATURES, WRONG, Stub
+from suygapid.gdb.stub import DONE, FEATURES, WRONG, Stub
 
 
 class Machine:

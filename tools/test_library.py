@@ -9,9 +9,9 @@ import subprocess
 import tempfile
 import unittest
 
+from suygapid.library.sources import NEWLIB_SOURCE
 from test_floats import SOURCES  # finds the modules of sfi-cc, too
 from testing import GCC, SFI, SFI_CC, TOOLS, needs
-from sources import NEWLIB_SOURCE
 
 SFI_LIBRARY = os.path.join(TOOLS, "sfi-library")
 ALL_THERE = SOURCES and NEWLIB_SOURCE.where() and shutil.which(GCC) and os.path.exists(SFI)

@@ -68,7 +68,7 @@ STATED = [
     ("examples/device/host.h", " GATES_MOST = {},", "gates_most"),
     ("examples/device/host.h", "GUARD_ZONE = {},", "guard"),
     ("examples/device/host.h", "PUT_MOST = {},", "most_handed"),
-    ("tools/asm2sfi/typed.py", "REACH = {} ", "slack"),
+    ("tools/suygapid/passes/typed.py", "REACH = {} ", "slack"),
     ("tools/second_checker.py", "MOST_CODE = {1: {}, 2: {}, 3: {}}", "code_most Sfi1, code_most Sfi2, code_most Sfiw"),
     ("tools/second_checker.py", 'is_region(data_base, data_size, {}), "Data"', "data_most"),
     ("tools/second_checker.py", "and {} <= it.number <= {}", "-slack, slack"),

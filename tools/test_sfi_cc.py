@@ -5,8 +5,8 @@ import shutil
 import struct
 import subprocess
 
+from suygapid.services import GATES
 from testing import COMPILERS, FORMATS, GCC, SFI, SFI_CC, SFI_IMAGE, Folder, needs, needs_program
-from services import GATES  # which testing finds
 
 HELLO = '#include "gates.h"\n\nint main(void) {\n    put("Hi", 2);\n    return 105;\n}\n'
 ASSEMBLY = "\t.text\n\t.globl\tmain\nmain:\n\tli\ta0,7\n\tret\n"

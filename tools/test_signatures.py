@@ -5,7 +5,7 @@ import shutil
 import struct
 import subprocess
 
-from testing import COMPILERS, GCC, SFI, SFI_CC, SFI_IMAGE, Folder, needs, needs_a_compiler, needs_program
+from testing import COMPILERS, SFI, SFI_CC, SFI_IMAGE, Folder, needs, needs_a_compiler, needs_program
 
 WAYS = (("-O0", "2"), ("-O2", "words"), ("-Os", "2"), ("-O3", "words"))  # levels, and formats, which change nothing of it
 TYPES = """

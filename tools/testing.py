@@ -2,12 +2,10 @@
 import os
 import pathlib
 import shutil
-import sys
 import tempfile
 import unittest
 
 TOOLS = pathlib.Path(__file__).resolve().parent
-sys.path.append(str(TOOLS / "asm2sfi"))  # for its table of gates
 TOP = TOOLS.parent
 SFI = os.environ.get("SFI", str(TOP / "crates" / "sfi" / "out" / "sfi"))
 SFI_CC, SFI_IMAGE = str(TOOLS / "sfi-cc"), str(TOOLS / "sfi-image")

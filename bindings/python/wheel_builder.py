@@ -9,7 +9,6 @@ import zipfile
 
 HERE = pathlib.Path(__file__).resolve().parent
 sys.dont_write_bytecode = True
-sys.path.insert(0, str(HERE))
 from sfi_run import _library
 
 ALWAYS = (1980, 1, 1, 0, 0, 0)  # the time of each file: the same files make the same wheel

@@ -1,5 +1,5 @@
 /* Prints sums over what 64-bit arithmetic, counts of bits and the memory functions answer for pseudo-random operands.
-   Natively they are the processor's and the C library's; in a sandbox those of the runtime of tools/asm2sfi. */
+   Natively they are the processor's and the C library's; in a sandbox those of tools/suygapid/runtime. */
 #include "gates.h"
 #include "numbers.h"
 

@@ -1,4 +1,4 @@
-/* The gates that a sandboxed program calls, in C or C++, in the order of their services' numbers: tools/asm2sfi/services.py reads
+/* The gates that a sandboxed program calls, in C or C++, in the order of their services' numbers: tools/suygapid/services.py reads
    them here. docs/GATES.md says what the console answers. With -DNATIVE_GATES a program of one file has the gates in it, over
    standard input and output: compiled natively, it is the one sandbox, number 0. */
 #ifndef GATES_H

@@ -22,12 +22,12 @@ TOP = os.path.dirname(os.path.dirname(HERE))
 OWN = os.path.join(HERE, "programs")
 SFI_CC, SFI_IMAGE = (os.path.join(TOP, "tools", name) for name in ("sfi-cc", "sfi-image"))
 sys.dont_write_bytecode = True
-sys.path[:0] = [HERE, os.path.join(TOP, "tools", "sfi_cc"), os.path.join(TOP, "tools", "sfi_elf")]
+sys.path.insert(0, os.path.join(TOP, "tools"))
 
-from elf import Elf
 from inputs import input_of
-from kept import root
-from sources import GCC_SOURCE, unpacked
+from suygapid.elf.elf import Elf
+from suygapid.kept import root
+from suygapid.library.sources import GCC_SOURCE, unpacked
 
 FORMATS = ("1", "2", "words")
 GCC_PARTS = ("zlib", "libdecnumber", "libiberty", "include")

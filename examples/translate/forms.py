@@ -23,14 +23,11 @@ import sys
 import tempfile
 
 sys.dont_write_bytecode = True
-HERE = os.path.dirname(os.path.abspath(__file__))
-TOP = os.path.dirname(os.path.dirname(HERE))
-sys.path[:0] = [os.path.join(TOP, "fuzz"), os.path.join(TOP, "bench"), os.path.join(TOP, "tools")]
-
+import lines
 import form_mistakes
 import layout
-import lines
 import machine
+from lines import HERE, TOP
 
 INCLUDE = os.path.join(TOP, "crates/sfi_translate/include")
 HEADERS = ["sfi_native.h", "sfi_native_x86_64.h", "sfi_native_data.h"]

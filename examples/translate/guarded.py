@@ -1,17 +1,12 @@
 """Images whose data are large enough for guarded accesses (sfi_native_data.h): random accepted ones, and programs that each
 access a place near an end of the data.
 """
-import os
 import struct
 import subprocess
-import sys
 
-HERE = os.path.dirname(os.path.abspath(__file__))
-sys.path[:0] = [os.path.join(HERE, "..", "..", "fuzz")]
-
+import lines
 import corpus
 import layout
-import lines
 
 PAGE = 4096
 FORMATS = {1: b".format 1\n", 2: b".format 2\n", 3: b".format words\n"}

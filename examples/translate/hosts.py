@@ -18,16 +18,13 @@ import sys
 import tempfile
 
 sys.dont_write_bytecode = True
-HERE = os.path.dirname(os.path.abspath(__file__))
-TOP = os.path.dirname(os.path.dirname(HERE))
-sys.path[:0] = [os.path.join(TOP, "fuzz"), os.path.join(TOP, "bench"), os.path.join(TOP, "tools")]
-
+import guarded
 import calls
 import corpus
 import fuzzing
-import guarded
 import measure
 import worlds
+from lines import HERE, TOP
 
 RUN = os.path.join(TOP, "examples", "run")
 NATIVE = os.path.join(TOP, "crates/sfi_translate/include")

@@ -16,15 +16,12 @@ import sys
 import tempfile
 
 sys.dont_write_bytecode = True
-HERE = os.path.dirname(os.path.abspath(__file__))
-TOP = os.path.dirname(os.path.dirname(HERE))
-sys.path[:0] = [os.path.join(TOP, "fuzz"), os.path.join(TOP, "bench"), os.path.join(TOP, "tools")]
-
+import lines
 import corpus
 import guarded
-import lines
 import measure
 import whole_translation
+from lines import HERE, TOP
 
 INCLUDE = os.path.join(TOP, "crates/sfi_translate/include")
 GUARDED = (("gcc", "-O2"), ("clang", "-O1"))  # on x86-64 in its instructions, with guarded accesses where data are large enough

@@ -11,7 +11,6 @@ import argparse
 import os
 import random
 import shutil
-import subprocess
 import sys
 import tempfile
 from concurrent.futures import ThreadPoolExecutor
@@ -21,10 +20,10 @@ from multiprocessing import Pool
 HERE = os.path.dirname(os.path.abspath(__file__))
 TOP = os.path.dirname(os.path.dirname(os.path.dirname(HERE)))
 sys.dont_write_bytecode = True
-sys.path[:0] = [os.path.join(os.path.dirname(HERE), "torture"), os.path.join(TOP, "bindings", "python")]
+sys.path.insert(0, os.path.join(os.path.dirname(HERE), "torture"))
 
 import torture
-from compilers import Failed, ran
+from suygapid.cc.compilers import Failed, ran
 
 SOURCE = os.path.join(HERE, "functions.c")
 NUMBERS = (0, 12345, 4294967295)

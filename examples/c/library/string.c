@@ -1,4 +1,4 @@
-/* string.h, but for memcpy, memmove, memset, memcmp and strlen, which tools/asm2sfi/runtime.c has. */
+/* string.h, but for memcpy, memmove, memset, memcmp and strlen, which tools/suygapid/runtime/runtime.c has. */
 #include "library.h"
 #include <string.h>
 

@@ -28,10 +28,10 @@ from multiprocessing import Pool
 HERE = os.path.dirname(os.path.abspath(__file__))
 TOP = os.path.dirname(os.path.dirname(os.path.dirname(HERE)))
 sys.dont_write_bytecode = True
-sys.path.insert(0, os.path.join(TOP, "tools", "sfi_cc"))
+sys.path.insert(0, os.path.join(TOP, "tools"))
 
-from compilers import GCC, Failed, ran
-from sources import GCC_SOURCE, unpacked
+from suygapid.cc.compilers import GCC, Failed, ran
+from suygapid.library.sources import GCC_SOURCE, unpacked
 
 PICOLIBC = "/usr/lib/picolibc/riscv64-unknown-elf"
 QEMU = "qemu-riscv32"

@@ -7,7 +7,6 @@ import time
 import unittest
 
 sys.dont_write_bytecode = True
-sys.path.insert(0, os.path.dirname(os.path.abspath(__file__)))
 import device
 from images import A0, KINDS, NEXT, NOP, S1, UNITS, Image, addi, lui
 from model import Entries

@@ -9,7 +9,6 @@ import tempfile
 import unittest
 
 sys.dont_write_bytecode = True
-sys.path.insert(0, os.path.dirname(os.path.abspath(__file__)))
 import device
 from device import FORMATS, HERE, SLOTS, Device, image_of, names_of, place_of, program_of, verdict_of
 

@@ -1,0 +1,62 @@
+"""Rewrites one file of the assembly that a RISC-V compiler makes to GNU assembly for a sandbox.
+
+    python3 tools/asm2elf [--format N] [--passes NAMES] [-o OUT.s] IN.s
+    python3 tools/asm2elf [--format N] [--passes NAMES] --into FOLDER IN.s ..
+
+Only instructions change: each gets its masks, its size, and its place in a word or a bundle. Labels, data, symbols and
+sections go on to `as`, and debug information but for the places of variables that the passes make wrong; `ld` places,
+joins and relocates. Nothing of this is trusted: the
+checker reads the bytes of the image that tools/sfi-image makes. What can't be rewritten is told on standard error with its
+file and line, and the status is 1; it is 2 where a file can't be read or written. docs/C.md says more.
+"""
+import argparse
+import os
+import sys
+
+from suygapid.passes.assembly import Refused
+from suygapid.passes.improving import PASSES
+from suygapid.passes.rewriting import rewritten
+from suygapid.passes.typed import WORDS, format_of
+
+ENCODING = {"encoding": "utf-8", "errors": "surrogateescape"}
+
+
+def parsed(words):
+    parser = argparse.ArgumentParser(prog="asm2elf", description=__doc__.split("\n", maxsplit=1)[0])
+    parser.add_argument("files", nargs="+", metavar="IN.s", help="assembly of gcc or clang")
+    parser.add_argument("-o", dest="output", metavar="OUT.s", help="where to write; standard output if absent")
+    parser.add_argument("--into", metavar="FOLDER", help="where to write a file of the same name for each of several")
+    parser.add_argument("--format", type=format_of, choices=[1, 2, WORDS], default=2, help="the image's format; 2 if absent")
+    parser.add_argument("--passes", default=",".join(PASSES), metavar="NAMES",
+                        help="the passes that make the code cheaper; %(default)s if absent")
+    parser.add_argument("--movable", action="store_true", help="addresses are made from the bases of the sandbox's regions at run time")
+    options = parser.parse_args(words)
+    options.passes = tuple(name for name in options.passes.split(",") if name)
+    if not set(options.passes) <= set(PASSES):
+        parser.error(f"the passes are {', '.join(PASSES)}")
+    if len(options.files) > 1 and not options.into:
+        parser.error("several files want --into")
+    return options
+
+
+def rewrite(options, path):
+    """Writes what becomes of one file."""
+    with open(path, **ENCODING) as file:
+        text = rewritten(os.path.basename(path), file.read(), options.passes, options.format, options.movable)
+    output = os.path.join(options.into, os.path.basename(path)) if options.into else options.output
+    with open(output or sys.stdout.fileno(), "w", closefd=output is not None, **ENCODING) as file:
+        file.write(text)
+
+
+def main():
+    options = parsed(sys.argv[1:])
+    try:
+        for path in options.files:
+            rewrite(options, path)
+    except Refused as refused:
+        print(f"asm2elf: {refused}", file=sys.stderr)
+        return 1
+    except OSError as error:
+        print(f"asm2elf: {error.filename or 'standard output'}: {error.strerror}", file=sys.stderr)
+        return 2
+    return 0

@@ -1,0 +1,251 @@
+"""From linked ELF files to an image. docs/IMAGE.md has the format. Nothing here is trusted: `sfi check` reads the image."""
+import argparse
+import struct
+from dataclasses import dataclass, replace
+from itertools import zip_longest
+
+from suygapid.elf.elf import Wrong
+from suygapid.elf.moving import is_movable
+from suygapid.image.names import footer, moved_names
+
+FORMATS = {"1": b"SFI1", "2": b"SFI2", "words": b"SFIW"}  # the magic of each format
+LARGEST_CODE = {"1": 1 << 16, "2": 1 << 20, "words": 1 << 20}
+LARGEST_DATA = 1 << 20
+SMALLEST = 256  # bytes of a region
+GUARD, ADDRESSES = 4096, 1 << 32
+MOST_SANDBOXES = 16
+DEFAULT_STACK = 8192
+TOP = 16  # the first stack pointer lies so far below the data's end
+BREAK = b"\x02\x90"  # c.ebreak fills the code up
+
+
+def address(text):
+    """An address as `sfi run` prints it: hexadecimal digits."""
+    try:
+        found = int(text, 16)
+    except ValueError:
+        found = -1
+    if not 0 <= found < 1 << 32:
+        raise argparse.ArgumentTypeError(f"{text!r} is no address of 32 bits in hexadecimal digits")
+    return found
+
+
+def place(text):
+    """Where code and data begin, in hexadecimal digits."""
+    code, _, data = text.partition(":")
+    return address(code), address(data)
+
+
+def region(text):
+    """The size of a data region that an option gives."""
+    size = int(text) if text.isdigit() else 0
+    if not SMALLEST <= size <= LARGEST_DATA or size & (size - 1):
+        raise argparse.ArgumentTypeError(f"{text!r} is no power of two from {SMALLEST} to {LARGEST_DATA}")
+    return size
+
+
+@dataclass(frozen=True)
+class Frame:
+    function: str
+    size: int
+
+
+def power(count):
+    """The least size of a region that has room for `count` bytes."""
+    return max(SMALLEST, 1 << max(count - 1, 0).bit_length())
+
+
+def format_of(elf):
+    found = [name for name in FORMATS if f"__sfi_format_{name}" in elf.symbols]
+    if len(found) != 1:
+        raise Wrong(f"{elf.name} isn't code for a sandbox in one format: link it by tools/sfi-cc")
+    return found[0]
+
+
+def deepest_frame(elf):
+    """The largest frame of a function that the linker kept; others have an address below the code."""
+    frames = [(size, address) for address, size in struct.iter_unpack("<2I", elf.section(".debug_sfi_frames"))
+              if address >= elf.symbol("__sfi_code")]
+    size, address = max(frames, default=(0, 0))
+    return Frame(elf.function_at(address), size)
+
+
+def code_of(elf, image_format):
+    """The code region's bytes."""
+    text = b"".join(segment.content for segment in elf.loaded() if segment.is_code)
+    most = LARGEST_CODE[image_format]
+    if len(text) > most:
+        raise Wrong(f"{elf.name}: the code has {len(text)} bytes, {len(text) - most} more than format {image_format} has room for")
+    return text + BREAK * ((power(len(text)) - len(text)) // 2)
+
+
+def used_by(elf):
+    """The bytes of the data region up to the objects' end."""
+    used = elf.symbol("__sfi_end") - elf.symbol("__sfi_data")
+    if used < 0:
+        raise Wrong(f"{elf.name}: the data end below their beginning: link it by tools/sfi-cc")
+    if used > LARGEST_DATA:
+        raise Wrong(f"{elf.name}: the data have {used} bytes, {used - LARGEST_DATA} more than there is room for")
+    return used
+
+
+def stack_of(elf, stack):
+    """The bytes of the stack: those that are wanted, or that the program was linked with."""
+    return elf.symbols.get("__sfi_stack", DEFAULT_STACK) if stack is None else stack
+
+
+def data_of(elf, stack):
+    """The first bytes of the data region, up to the last that isn't zero."""
+    base = elf.symbol("__sfi_data")
+    content = bytearray(used_by(elf))
+    for segment in elf.loaded():
+        if segment.is_code:
+            continue
+        start = segment.address - base
+        if not 0 <= start <= start + len(segment.content) <= len(content):
+            raise Wrong(f"{elf.name}: bytes at {segment.address:#x} lie outside the data: link it by tools/sfi-cc")
+        content[start:start + len(segment.content)] = segment.content
+    at, table_end = footer(elf, stack_of(elf, stack))
+    content[at - base:at - base + len(table_end)] = table_end
+    return bytes(content).rstrip(b"\0")
+
+
+def data_size(elf, stack, wanted):
+    """The size of the data region: the one that is wanted, or the least that has room for the objects and the stack."""
+    used, above = used_by(elf), elf.symbol("__sfi_above") + TOP
+    stack = stack_of(elf, stack)
+    size = wanted or power(used + above + stack)
+    if used + above + stack > size or size > LARGEST_DATA:
+        most = min(size, LARGEST_DATA)
+        raise Wrong(f"{elf.name}: {used} bytes of data and {stack} of stack don't fit in {most}, by {used + above + stack - most}")
+    frame, room = deepest_frame(elf), size - used - above
+    if frame.size > room:
+        raise Wrong(f"{elf.name}: the frame of {frame.function} has {frame.size} bytes, and the stack has room for {room}: "
+                    f"give --stack {frame.size + TOP} or more")
+    return size
+
+
+@dataclass(frozen=True)
+class Sandbox:
+    """What the image says of one sandbox."""
+    path: str
+    code_base: int
+    code: bytes
+    data_base: int
+    data_size: int
+    data: bytes
+    start: int
+    gates: tuple
+
+    def numbers(self):
+        return (self.code_base, len(self.code), self.data_base, self.data_size, self.start, len(self.gates), len(self.data))
+
+    def spans(self):
+        """The addresses that belong to it alone."""
+        return ((self.code_base, self.code_base + len(self.code)),
+                (self.data_base - GUARD, self.data_base + self.data_size + GUARD))
+
+    def check_place(self):
+        for what, base, size in (("code", self.code_base, len(self.code)), ("data", self.data_base, self.data_size)):
+            if base % size:
+                raise Wrong(f"{self.path}: the {what} has {size} bytes, and lies at {base:#x}, which is no multiple of that")
+        if not GUARD <= self.data_base <= ADDRESSES - self.data_size - GUARD:
+            raise Wrong(f"{self.path}: there is no room for a guard zone beside the data at {self.data_base:#x}")
+
+    def moved(self, code_base, data_base):
+        """The same at another place: the code stays as it is, and of the data the addresses in the table of names change."""
+        in_code = range(self.code_base, self.code_base + len(self.code))
+        in_data = range(self.data_base, self.data_base + self.data_size)
+
+        def there(address):
+            if address in in_code:
+                return address - self.code_base + code_base
+            return address - self.data_base + data_base if address in in_data else address
+
+        made = replace(self, code_base=code_base, data_base=data_base, start=there(self.start),
+                       gates=tuple((there(at), service) for at, service in self.gates), data=moved_names(self.data, there))
+        made.check_place()
+        return made
+
+    def written(self):
+        head = struct.pack("<7I", *self.numbers())
+        return head + b"".join(struct.pack("<2I", *gate) for gate in self.gates) + self.code + self.data
+
+
+def sandbox_of(elf, stack, wanted):
+    gates = tuple(elf.gates().items())
+    made = Sandbox(elf.name, elf.symbol("__sfi_code"), code_of(elf, format_of(elf)), elf.symbol("__sfi_data"),
+                   data_size(elf, stack, wanted), data_of(elf, stack), elf.entry, gates)
+    made.check_place()
+    return made
+
+
+def at_place(elf, made, where):
+    """A program's sandbox at another place, if it is one that can be moved."""
+    if where is None or where == (made.code_base, made.data_base):
+        return made
+    if not is_movable(elf):
+        raise Wrong(f"{elf.name} can't be moved: link it with --movable, or with --at")
+    return made.moved(*where)
+
+
+def check_apart(sandboxes):
+    spans = sorted((*span, made.path) for made in sandboxes for span in made.spans())
+    for (_, end, first), (start, _, second) in zip(spans, spans[1:]):
+        if start < end:
+            raise Wrong(f"{first} and {second} lie at one place: link each with a --sandbox of its own")
+
+
+def image(elfs, stack=None, wanted=None, places=()):
+    """The image of some ELF files, each a sandbox, in their order, the first ones at these places."""
+    if len(elfs) > MOST_SANDBOXES:
+        raise Wrong(f"{len(elfs)} sandboxes, and an image has {MOST_SANDBOXES} at most")
+    formats = {format_of(elf): elf.name for elf in elfs}
+    if len(formats) > 1:
+        raise Wrong(f"{' and '.join(formats.values())} are of different formats")
+    sandboxes = [at_place(elf, sandbox_of(elf, stack, wanted), where) for elf, where in zip_longest(elfs, places)]
+    return written(FORMATS[format_of(elfs[0])], sandboxes)
+
+
+def written(magic, sandboxes):
+    """The image of some sandboxes."""
+    check_apart(sandboxes)
+    return magic + struct.pack("<I", len(sandboxes)) + b"".join(made.written() for made in sandboxes)
+
+
+class Reader:
+    """Takes the parts of an image one after another."""
+
+    def __init__(self, content):
+        self.content, self.at = content, 0
+
+    def bytes(self, count):
+        self.at += count
+        if self.at > len(self.content):
+            raise Wrong("the image is cut off")
+        return self.content[self.at - count:self.at]
+
+    def numbers(self, count):
+        return struct.unpack(f"<{count}I", self.bytes(4 * count))
+
+    def sandbox(self, number):
+        code_base, code_size, data_base, data_size, start, gates, first = self.numbers(7)
+        table = tuple(self.numbers(2) for _ in range(gates))
+        return Sandbox(f"sandbox {number}", code_base, self.bytes(code_size), data_base, data_size, self.bytes(first), start, table)
+
+
+def sandboxes_of(content):
+    """The magic of an image, and its sandboxes. What isn't right in it is told as far as that hinders to read it."""
+    reader = Reader(content)
+    magic, (count,) = reader.bytes(4), reader.numbers(1)
+    if magic not in FORMATS.values() or not 1 <= count <= MOST_SANDBOXES:
+        raise Wrong("this is no image")
+    found = [reader.sandbox(number) for number in range(count)]
+    if reader.at < len(content):
+        raise Wrong("bytes follow the image")
+    return magic, found
+
+
+def as_text(made):
+    """An image as the program sfi reads it."""
+    return made.hex().encode() + b"\n"

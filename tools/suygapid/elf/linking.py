@@ -1,0 +1,151 @@
+"""Links objects and archives to an ELF file of a sandbox."""
+import os
+
+from suygapid.cc.compilers import Failed, ran, tell
+from suygapid.elf import moving
+from suygapid.elf import runtime
+from suygapid.elf.elf import Elf, Wrong
+from suygapid.elf.tools import archived, assembled, binutil
+from suygapid.image.names import API, SERVICE, entries, marked, signatures
+from suygapid.library import small_library
+from suygapid.library.archives import SMALL, Libraries, folders_of
+from suygapid.services import GATES
+
+CODE, DATA = 0x01000000, 0x00800000  # a sandbox's place is its number plus 1 times the first, its data lie the second above
+WORDS = ["-m", "elf32lriscv", "--no-relax", "--gc-sections", "-z", "noexecstack", "--no-warn-rwx-segments"]
+UNDEFINED = b"undefined"  # what the linker says of a symbol
+START = ["-u", "_start"]  # what a C library does before main and after it, where one has it
+
+
+def place_of(options):
+    """Where the code and the data begin."""
+    base = (options.sandbox + 1) * CODE
+    return options.at or (base, base + DATA)
+
+
+def numbers_of(options, names):
+    """The numbers that the linker script asks for."""
+    numbers = dict(zip(("__sfi_code_base", "__sfi_data_base"), place_of(options)))
+    if options.stack is not None:
+        numbers["__sfi_stack"] = options.stack
+    if options.api is not None:
+        numbers[API] = options.api
+    if names.exports or names.imports or options.gate:
+        numbers["__sfi_entered"] = 1  # its host may enter functions, so it claims their room
+    return [f"--defsym={name}={value:#x}" for name, value in numbers.items()]
+
+
+class Names:
+    """The names that a host knows, by options and by what the sources mark."""
+
+    def __init__(self, options, objects):
+        named = [os.path.join(folder, f"lib{name}.a") for name in options.libraries for folder in options.folders]
+        exports, imports = marked([*objects, *named])
+        for name in filter(GATES.get, imports):
+            raise Wrong(f"SFI_IMPORT: {name!r} is the gate of service {GATES[name]} already")
+        self.exports = list(dict.fromkeys([*options.exports, *exports]))
+        self.imports = options.imports
+        self.marked = [name for name in imports if name not in options.imports]  # those are there if anything calls them
+        self.signatures, told = ({}, []) if options.no_signatures else signatures([*objects, *named], [*self.exports, *self.imports, *self.marked])
+        for line in told:
+            tell(line)
+        self.gates = {**dict.fromkeys([*self.imports, *self.marked], SERVICE), **dict(options.gate)}
+        self.format = options.format
+
+    def objects(self, folder):
+        """What the program has in any case: the gates, and the entries."""
+        made = [self.gate(folder, name) for name in self.gates if name not in self.marked]
+        if self.exports or self.imports:
+            made.append(os.path.join(folder, "names.o"))
+            assembled(entries(self.exports, self.imports, self.signatures).encode(), made[-1])
+        return made
+
+    def archives(self, folder):
+        """The gates that sources mark, each with its entry. The program has those that it calls and doesn't define."""
+        if not self.marked:
+            return []
+        output = os.path.join(folder, "libmarked.a")
+        archived(output, [self.gate(folder, name, entries([], [name], self.signatures)) for name in self.marked])
+        return [output]
+
+    def gate(self, folder, name, entry=""):
+        room = os.path.join(folder, "gates")
+        os.makedirs(room, exist_ok=True)
+        return runtime.gate_object(room, name, self.gates[name], self.format, entry)
+
+
+def heap_of(options, folder):
+    """The object of the heap that was asked for."""
+    return [] if options.heap is None else [runtime.heap_object(folder, options.heap)]
+
+
+def ran_linker(words, libraries):
+    """Runs the linker. Where functions of floating point aren't there, it is told what has them."""
+    try:
+        tell(ran(words)[1])
+    except Failed as failed:
+        if libraries.wanted:
+            failed.told += f"sfi-cc: for floating point {libraries.wanted}\n".encode()
+        raise
+
+
+def linked(options, objects, folder):
+    """The program that objects and archives make, with the libraries that are named. Where none is, and a source has headers of
+    the small library or an object calls one of its functions, with that."""
+    if options.library or not options.takes_small:
+        try:
+            return linked_with(options, options.library, objects, folder)
+        except Failed as failed:
+            if options.library or not small_library.is_called(failed.told):
+                raise
+    try:
+        return linked_with(options, folders_of([SMALL], options.cc), objects, folder)
+    except Failed as failed:
+        failed.told += small_library.advice(failed.told, UNDEFINED in failed.told)
+        raise
+
+
+def linked_with(options, folders, objects, folder):
+    """The program that objects, archives and the libraries in some folders make. One that can be moved is linked a second time:
+    with the list of the addresses in its data, or, if there are none, without what sets them right."""
+    libraries = Libraries(options, folders, objects)
+    fresh, first, last = words_of(options, libraries, objects, folder)
+    name = os.path.basename(options.output) if options.output else "the program"
+
+    def program(*words):
+        ran_linker([*first, *words, *last], libraries)
+        return Elf(fresh, name)
+
+    if not options.target.is_movable:
+        return program()
+    content = moving.made_movable(program(*moving.KEEPING, *settling_of(program(*moving.KEEPING, *moving.SETTLING), folder)))
+    with open(fresh, "wb") as file:
+        file.write(content)
+    return Elf(fresh, name)
+
+
+def settling_of(program, folder):
+    """What a program that was linked is linked with the second time."""
+    made = moving.list_of(program)
+    if made is None:
+        return []
+    output = os.path.join(folder, "places.o")
+    assembled(made.encode(), output)
+    return [*moving.SETTLING, output]
+
+
+def words_of(options, libraries, objects, folder):
+    """The path of the program to be, and the linker's words, in two parts: the script, in the second, sees the numbers that
+    stand before it."""
+    made = runtime.folder_of(options.target)
+    named = [*(f"-L{place}" for place in options.folders), *(f"-l{name}" for name in options.libraries)]
+    archives = [path for path in objects if path.endswith(".a")]
+    names = Names(options, objects)
+    main = ["libplugin.a"] if names.exports else []  # where a host calls functions, there need be no other
+    own = [os.path.join(made, name) for name in ("libruntime.a", "libgates.a", "libmovable.a", *main)]
+    fresh = os.path.join(folder, "program.elf")
+    first = [binutil("ld"), *WORDS, *numbers_of(options, names), *START]
+    return fresh, first, [
+        "-T", runtime.SCRIPT, *options.linker, "-o", fresh, os.path.join(made, "crt0.o"),
+        *(path for path in objects if path not in archives), *names.objects(folder), *heap_of(options, folder),
+        "--start-group", *archives, *named, *names.archives(folder), *libraries.archives, *own, "--end-group"]

@@ -1,0 +1,84 @@
+"""What each program is linked with: where it begins, the gates that it calls, and the functions that compilers call. These
+are made once for a format, and kept."""
+import glob
+import os
+
+from suygapid import TOOLS
+from suygapid.cc.compilers import ran, version
+from suygapid.elf.gates import stub
+from suygapid.elf.tools import archived, assembled, binutil, rewritten
+from suygapid.kept import kept
+from suygapid.services import GATES
+
+LIB = os.path.join(TOOLS, "suygapid", "runtime")
+SCRIPT = os.path.join(LIB, "sandbox.ld")
+FUNCTIONS = [os.path.join(LIB, f"{name}.asm") for name in ("constructors", "runtime", "atomics", "stack_protector")]
+OF_MOVABLE = [os.path.join(LIB, "movable.s"), os.path.join(LIB, "settle.asm")]  # what a moved program runs before all else
+OVERRIDDEN = ("memcpy", "memmove", "memset", "memcmp", "strlen")  # a program may have its own
+MADE_OF = ("suygapid/commands/asm2elf.py", "suygapid/passes/*.py", "suygapid/services.py", "suygapid/runtime/*.asm", "suygapid/runtime/*.s",
+           "suygapid/cc/compilers.py", "suygapid/elf/*.py", "suygapid/library/archives.py", "../examples/c/gates.h")
+
+
+# The heap of a library's malloc, which goes before the library's own.
+HEAP = """\
+    .bss
+    .globl __heap
+    .p2align 4
+__heap: .zero {size}
+    .section .rodata
+    .globl __heap_size
+    .p2align 2
+__heap_size: .4byte {size}
+"""
+
+
+def read(path):
+    with open(path, encoding="utf-8") as file:
+        return file.read()
+
+
+def ingredients(target):
+    """What the objects for a target depend on beside their assembly: the converter, and `as`."""
+    files = sorted(path for pattern in MADE_OF for path in glob.glob(os.path.join(TOOLS, pattern)))
+    return [*target.words(), version(binutil("as")), *(read(path) for path in files)]
+
+
+def name_of(path):
+    return os.path.splitext(os.path.basename(path))[0]
+
+
+def object_of(folder, assembly, target):
+    """The path of an object file that is made of a compiler's assembly."""
+    output = os.path.join(folder, name_of(assembly) + ".o")
+    assembled(rewritten(assembly, target), output)
+    return output
+
+
+def gate_object(folder, name, service, image_format, entry=""):
+    output = os.path.join(folder, name + ".o")
+    assembled((stub(name, service, image_format) + entry).encode(), output)
+    return output
+
+
+def heap_object(folder, size):
+    output = os.path.join(folder, "heap.o")
+    assembled(HEAP.format(size=size).encode(), output)
+    return output
+
+
+def make(folder, target):
+    """Fills a folder with crt0.o, libgates.a, libmovable.a, libplugin.a and libruntime.a."""
+    object_of(folder, os.path.join(LIB, "crt0.s"), target)
+    archived(os.path.join(folder, "libmovable.a"), [object_of(folder, path, target) for path in OF_MOVABLE])
+    archived(os.path.join(folder, "libgates.a"),
+             [gate_object(folder, name, service, target.format) for name, service in GATES.items()])
+    archived(os.path.join(folder, "libplugin.a"), [object_of(folder, os.path.join(LIB, "plugin.s"), target)])
+    objects = []
+    for path in FUNCTIONS:
+        objects.append(object_of(folder, path, target))
+        ran([binutil("objcopy"), *(f"--weaken-symbol={name}" for name in OVERRIDDEN), objects[-1]])
+    archived(os.path.join(folder, "libruntime.a"), objects)
+
+
+def folder_of(target):
+    return kept("runtime", ingredients(target), lambda folder: make(folder, target))

@@ -1,0 +1,58 @@
+"""Says what lies at an address of the image that is made of a linked program: the function and the line of an instruction, the
+object of a place in the data, the stack's room, or a guard zone."""
+from suygapid.elf.image import GUARD, TOP, data_size, used_by
+from suygapid.elf.tools import addresses_told
+
+UNKNOWN = "?"  # what addr2line says of a line that nothing tells
+
+
+def lines_of(program, addresses):
+    """The file and line of C of each address, as FILE:LINE, or nothing where that isn't known."""
+    for said in addresses_told(program.path, addresses):
+        place = said.split(" ")[0].rsplit("/", maxsplit=1)[-1]
+        yield "" if UNKNOWN in place or place.endswith(":0") else place
+
+
+class Where:
+    """Where all of a sandbox lies."""
+
+    def __init__(self, program, wanted=None):
+        self.program = program
+        self.code, self.data = program.symbol("__sfi_code"), program.symbol("__sfi_data")
+        self.size, self.used = data_size(program, None, wanted), used_by(program)
+        self.room = self.size - self.used - TOP
+        self.end = max(segment.address + len(segment.content) for segment in program.loaded() if segment.is_code)
+
+    def told(self, address, line):
+        """What lies at an address, whose line of C is given."""
+        if self.code <= address < self.end:
+            name = self.program.named_at(address, self.code)
+            return f"{name}, {line}" if line else name
+        below = address - self.data
+        if 0 <= below < self.used:
+            return self.told_of_object(address)
+        if 0 <= below < self.size:
+            return f"in the stack's room of {self.room} bytes, {below - self.used} of them below it"
+        if -GUARD <= below < 0:
+            return self.told_of_guard(f"{-below} bytes below")
+        if self.size <= below < self.size + GUARD:
+            return self.told_of_guard(f"{below - self.size + 1} bytes above")
+        return "neither the program's code nor its data"
+
+    def told_of_object(self, address):
+        name = self.program.named_at(address, self.data)
+        found = f"byte {address - self.program.symbols[name]} of {name}" if name else "in no object"
+        return f"{found}; where this is the stack pointer, {self.overflow('has')}"
+
+    def told_of_guard(self, where):
+        return f"in the guard zone, {where} the data: {self.overflow('has likely')}, or a pointer is wrong"
+
+    def overflow(self, has):
+        return f"the stack {has} overflowed its room of {self.room} bytes (--stack gives more)"
+
+
+def told(program, wanted, addresses):
+    """A line for each address."""
+    where = Where(program, wanted)
+    lines = lines_of(program, addresses)
+    return "".join(f"{address:08x}: {where.told(address, line)}\n" for address, line in zip(addresses, lines)).encode()

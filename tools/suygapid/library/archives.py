@@ -1,0 +1,89 @@
+"""Libraries as archives: a folder of assembly, or the one of a name, as tools/sfi-library makes it, and the functions of
+floating point. Each is converted once for a format, and kept."""
+import glob
+import hashlib
+import os
+from concurrent.futures import ThreadPoolExecutor
+
+from suygapid.cc.compilers import ASSEMBLY, HOSTED, Failed
+from suygapid.elf.runtime import ingredients
+from suygapid.elf.tools import archived, assembled, rewritten_into
+from suygapid.kept import kept
+from suygapid.library import newlib
+from suygapid.library import small_library
+from suygapid.library import softfloat
+from suygapid.library.sources import GCC_SOURCE
+
+ARCHIVE = "library.a"
+MANY = 40  # files of assembly: to convert more takes long
+SMALL = "small"  # what a program has that asks for a library and names none
+NAMED = {"newlib": newlib.folder_of, SMALL: small_library.folder_of}  # what makes the folder of a name, by a compiler
+
+
+def assembly_of(folder):
+    """The paths of the files of assembly in a folder."""
+    return sorted(path for path in glob.glob(os.path.join(glob.escape(folder), "*")) if path.endswith(ASSEMBLY))
+
+
+def digest_of(path):
+    with open(path, "rb") as file:
+        return os.path.basename(path) + " " + hashlib.sha256(file.read()).hexdigest()
+
+
+def make(folder, paths, target):
+    """Fills a folder with the archive."""
+    count = os.cpu_count()
+    with ThreadPoolExecutor(count) as pool:
+        parts = [part for part in (paths[number::count] for number in range(count)) if part]
+        texts = [text for found in pool.map(lambda part: rewritten_into(folder, part, target), parts) for text in found]
+        objects = list(pool.map(object_of, sorted(texts)))
+    archived(os.path.join(folder, ARCHIVE), objects)
+    for path in objects:
+        os.remove(path)
+
+
+def object_of(text):
+    """The path of the object that is made of a text, in the text's place."""
+    output = os.path.splitext(text)[0] + ".o"
+    with open(text, "rb") as file:
+        assembled(file.read(), output)
+    os.remove(text)
+    return output
+
+
+def archive_of(folder, target):
+    """The path of the archive that is made of a folder's assembly for a target."""
+    if not os.path.isdir(folder):
+        raise Failed(2, f"{folder} is no folder")
+    paths = assembly_of(folder)
+    words = [*ingredients(target), *map(digest_of, paths)]
+    long = f"{len(paths)} files of a library are converted for format {target.format}, which may take a minute; they are kept"
+    return os.path.join(kept("library", words, lambda room: make(room, paths, target), long if len(paths) > MANY else None), ARCHIVE)
+
+
+def folders_of(libraries, compiler):
+    """The folders of libraries that are named, or given as folders."""
+    return [NAMED[library](compiler) if library in NAMED else library for library in libraries]
+
+
+def headers(libraries):
+    """The options for the headers of libraries, with which a program is one of a hosted C. Where compilers know what
+    functions do, they make calls of others of it, which the small library may not have."""
+    folders = [os.path.join(library, "include") for library in libraries]
+    found = [word for folder in folders if os.path.isdir(folder) for word in ("-isystem", folder)]
+    is_whole = not any(os.path.exists(os.path.join(library, small_library.MARK)) for library in libraries)
+    return [HOSTED, *["-fbuiltin"] * is_whole, *found] if found else []
+
+
+class Libraries:
+    """The archives that a program of some objects is linked with."""
+
+    def __init__(self, options, folders, objects):
+        self.archives = [archive_of(folder, options.target) for folder in folders]
+        self.wanted = None  # what to install for floating point
+        if softfloat.speaks_of_floats([path for path in objects if os.path.exists(path)]):
+            folder = softfloat.folder_of(options.cc)
+            if folder is None:
+                self.wanted = GCC_SOURCE.wanted()
+            else:
+                self.archives.append(archive_of(folder, options.target))

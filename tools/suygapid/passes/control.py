@@ -1,0 +1,179 @@
+"""Where control goes from each piece of the code, and how often each piece is likely to run."""
+from suygapid.passes.instructions import written
+
+INVERSE = {"beq": "bne", "bne": "beq", "blt": "bge", "bge": "blt", "bltu": "bgeu", "bgeu": "bltu",
+           "beqz": "bnez", "bnez": "beqz"}
+LOOP = 8  # how often a loop is taken to go round
+DEEPEST = 4  # loops around a piece that count
+
+
+def is_branch(op):
+    return op.word in INVERSE
+
+
+def is_call(op):
+    return op.word == "call" or op.word in ("jal", "jalr") and written(op) != "zero"
+
+
+def is_jump(op):
+    """Whether it is a jump to a name that isn't a call."""
+    return op.word == "j" or op.word == "jal" and written(op) == "zero"
+
+
+def goes_on(piece):
+    """Whether control may go on to what stands after a label or an instruction."""
+    return piece.is_mark or not (is_jump(piece) or piece.word in ("ret", "jr", "ebreak")
+                                 or piece.word == "jalr" and written(piece) == "zero")
+
+
+def labels_of(code):
+    """The number of each label's piece."""
+    return {piece.name: number for number, piece in enumerate(code) if piece.is_mark}
+
+
+def successors(code):
+    """For each piece the numbers of those that may come after it in its own function. None
+    stands for elsewhere: where a jump goes to a gate, for instance."""
+    at = labels_of(code)
+    following = []
+    for number, piece in enumerate(code):
+        targets = [number + 1] if goes_on(piece) and number + 1 < len(code) else []
+        if not piece.is_mark and (is_branch(piece) or is_jump(piece)):
+            targets.append(at.get(piece.operands[-1]))
+        following.append(targets)
+    return following
+
+
+def predecessors(following):
+    """For each of some numbers those that it follows."""
+    before = [[] for _ in following]
+    for number, targets in enumerate(following):
+        for target in targets:
+            if target is not None:
+                before[target].append(number)
+    return before
+
+
+def spread(values, neighbours, combine):
+    """Combines the value of each number with those of its neighbours, until nothing changes."""
+    values, waiting = list(values), list(range(len(values)))
+    while waiting:
+        number = waiting.pop()
+        for other in neighbours[number]:
+            new = combine(values[other], values[number])
+            if new != values[other]:
+                values[other] = new
+                waiting.append(other)
+    return values
+
+
+def reachable(firsts, following):
+    """What control may come to from some numbers, in an order in which each stands before those
+    that follow it, but for what leads back."""
+    found, waiting, order = set(firsts), [(first, iter(following[first])) for first in firsts], []
+    while waiting:
+        number, targets = waiting[-1]
+        target = next((other for other in targets if other is not None and other not in found), None)
+        if target is None:
+            order.append(number)
+            waiting.pop()
+        else:
+            found.add(target)
+            waiting.append((target, iter(following[target])))
+    return order[::-1]
+
+
+def entries(code):
+    """The pieces where control comes from anywhere: the first, and the labels that are called or
+    whose address is taken, by an instruction or in the data."""
+    names = {piece.operands[-1] for piece in code
+             if not piece.is_mark and (piece.word == "la" or is_call(piece) and piece.word != "jalr")}
+    return {0} | {number for name, number in labels_of(code).items() if name in names or code[number].taken}
+
+
+class Blocks:
+    """The code in blocks: control enters one at its first piece alone, and leaves it after its
+    last."""
+
+    def __init__(self, code):
+        following = self.successors = successors(code)
+        starts = {0} | {number for number, piece in enumerate(code) if piece.is_mark}
+        starts |= {number + 1 for number, targets in enumerate(following) if targets != [number + 1]}
+        self.starts = sorted(start for start in starts if start < len(code))
+        self.ends = [*self.starts[1:], len(code)]
+        self.block_of = []
+        for block, (start, end) in enumerate(zip(self.starts, self.ends)):
+            self.block_of += [block] * (end - start)
+        self.following = [[self.block_of[target] for target in following[end - 1] if target is not None]
+                          for end in self.ends]
+        self.before = predecessors(self.following)
+        self.entries = {self.block_of[number] for number in entries(code)}
+        self.entries |= {block for block, others in enumerate(self.before) if not others}
+        self.order = reachable(sorted(self.entries), self.following)
+
+    def dominators(self):
+        """For each block the last other one that each way from an entry to it goes through; None
+        where there is none. Each comes after its own in the order, so two ways meet where the later
+        of both is followed to its own, again and again."""
+        rank = {block: number for number, block in enumerate(self.order)}
+        found = dict.fromkeys(self.entries)
+        changed = True
+        while changed:
+            changed = False
+            for block in self.order:
+                if block in self.entries:
+                    continue
+                ways = [other for other in self.before[block] if other in found]
+                common = ways[0]
+                for other in ways[1:]:
+                    common = meeting(common, other, found, rank)
+                if block not in found or found[block] != common:
+                    found[block], changed = common, True
+        return found, rank
+
+    def loops(self):
+        """By the block in which a loop begins, the blocks of the loop. A loop is what leads back
+        to a block that each way to it goes through."""
+        dominators, rank = self.dominators()
+        ends = {}  # by the block in which a loop begins, those that lead back to it
+        for block in self.order:
+            for head in self.following[block]:
+                above = block
+                while above is not None and rank[above] > rank[head]:
+                    above = dominators[above]
+                if above == head:
+                    ends.setdefault(head, []).append(block)
+        return {head: self.body(head, blocks) for head, blocks in ends.items()}
+
+    def body(self, head, ends):
+        """The blocks of a loop, from those that lead back to its head."""
+        found = {head, *ends}
+        waiting = [block for block in ends if block != head]
+        while waiting:
+            for other in self.before[waiting.pop()]:
+                if other not in found:
+                    found.add(other)
+                    waiting.append(other)
+        return found
+
+
+def meeting(block, other, dominators, rank):
+    """The last block that each way to both of two goes through, or None."""
+    while block != other:
+        if block is None or other is None:
+            return None
+        if rank[block] > rank[other]:
+            block = dominators[block]
+        else:
+            other = dominators[other]
+    return block
+
+
+def weights(code):
+    """How often each piece is taken to run: a factor for each loop around it."""
+    blocks = Blocks(code)
+    depth = [0] * len(blocks.starts)
+    for inside in blocks.loops().values():
+        for block in inside:
+            depth[block] += 1
+    return [LOOP ** min(depth[block], DEEPEST) for block in blocks.block_of]

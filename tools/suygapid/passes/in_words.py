@@ -1,0 +1,126 @@
+"""GNU assembly of code in words, the third format: what each instruction becomes. docs/SOURCE.md has the table."""
+from suygapid.passes.instructions import LOADS, RELATIVE, Op, is_access, offset_and_base, written
+from suygapid.passes.sizes import number_parts
+from suygapid.passes.spelling import plain, short
+from suygapid.passes.typed import DATA, is_free_step, is_move, masked_base
+from suygapid.passes.writer import NORVC, RVC, Writer
+
+MASKS_AFTER = ["and x31, {0}, x27", "or {0}, x31, x26"]  # keep a data register in the data region
+MASKS_BEFORE = ["and x31, {0}, x27", "or x29, x31, x26"]  # make an address of an access
+MASKS_OF_MOVE = ["and x31, {1}, x27", "or {0}, x31, x26"]
+MASKS_OF_JUMP = ["and x30, {0}, x25", "or x30, x30, x24"]
+
+
+def needs_no_masks(op, following):
+    """Whether an instruction is a step of a data register that the access after it makes right. A load into x0 doesn't."""
+    if not is_free_step(op, following):
+        return False
+    return not (following.word in LOADS and following.operands[0] == "zero")
+
+
+class InWords(Writer):
+    """Two 16-bit forms share a word; one that would have a word alone takes 32 bits."""
+    alignment = 2
+
+    def __init__(self, *all_of_it):
+        super().__init__(*all_of_it)
+        self.half = None  # a 16-bit form that waits for another: where its line is, and both spellings
+
+    # Sizes.
+
+    def short(self, in_half, in_word):
+        if self.half is None:
+            self.out.append("\t" + in_word)
+            self.half = len(self.out) - 1, in_half
+            return
+        at, first = self.half
+        self.out[at] = f"{RVC}\n\t{first}"
+        self.out += ["\t" + in_half, NORVC]
+        self.half = None
+
+    def end_word(self):
+        self.half = None
+
+    def wide(self, *texts):
+        self.end_word()
+        self.out += ["\t" + text for text in texts]
+
+    def itself(self, op):
+        in_half = short(op)
+        if in_half is None:
+            self.wide(plain(op))
+        else:
+            self.short(in_half, plain(op))
+
+    # Instructions.
+
+    def piece(self, op, following):
+        word = op.word
+        if word in ("ret", "jr", "jalr"):
+            self.jump(op)
+        elif word == "la":
+            self.address(op)
+        elif word == "li":
+            parts = number_parts(op)
+            for part, after in zip(parts, [*parts[1:], following]):
+                self.one(part, after)
+        elif word == "call":
+            self.call(op.operands[0])
+        else:
+            self.one(op, following)
+
+    def address(self, op):
+        """Gets an address into a register: from the data base, where it is that of a small object of this file. Masks make
+        that of a data register relative to the data base; elf/moving.py does it for others."""
+        register, text = op.operands
+        parts = [f"lui {register}, %hi({text})", f"addi {register}, {register}, %lo({text})"]
+        for part in [f"addi {register}, x26, %lo({text})"] if self.small.is_near(text) else parts:
+            self.wide(part)
+            self.mask(register)
+        if op.address == RELATIVE and register not in DATA:
+            self.itself(Op("add", (register, register, "x26"), None))
+
+    def mask(self, register):
+        if register in DATA:
+            self.wide(*(text.format(register) for text in MASKS_AFTER))
+
+    def jump(self, op):
+        if op.word == "jalr":
+            link, base = op.operands[0], offset_and_base(op)[1]
+        else:
+            link, base = "zero", "ra" if op.word == "ret" else op.operands[0]
+        self.wide(*(text.format(base) for text in MASKS_OF_JUMP), f"jalr {link}, 0(x30)")
+
+    def call(self, name):
+        if self.is_weak(name):
+            self.address(Op("la", ("ra", name), None, address=RELATIVE if self.is_movable else ""))
+            self.wide(*(text.format("ra") for text in MASKS_OF_JUMP), "jalr ra, 0(x30)")
+        else:
+            self.wide(f"jal ra, {name}")
+
+    def one(self, op, following):
+        """An instruction that is one of the machine's, but for masks."""
+        name = written(op)
+        if needs_no_masks(op, following):
+            self.itself(op)
+        elif is_move(op):
+            self.wide(*(text.format(name, self.source(op)) for text in MASKS_OF_MOVE))
+        elif masked_base(op):
+            self.access(op, [text.format(masked_base(op)) for text in MASKS_BEFORE], "x29")
+        elif is_access(op) and offset_and_base(op)[1] == "zero":
+            self.access(op, [], "x26")
+        else:
+            self.itself(op)
+            self.mask(name)
+
+    @staticmethod
+    def source(op):
+        """What a data register is set to."""
+        if op.word == "li" or op.word == "addi" and op.operands[1] == "zero":
+            return "zero"
+        return op.operands[2] if op.word == "add" else op.operands[1]
+
+    def access(self, op, before, base):
+        offset = self.small.text(offset_and_base(op)[0])
+        self.wide(*before, f"{op.word} {op.operands[0]}, {offset}({base})")
+        self.mask(written(op))
