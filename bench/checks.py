@@ -12,8 +12,8 @@ import argparse
 import os
 import tempfile
 
-import images
 import measure
+import images
 
 
 def commands_of(program, folder, checker):

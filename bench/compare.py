@@ -17,8 +17,8 @@ import struct
 import subprocess
 import tempfile
 
-import images
 import measure
+import images
 import odd_images
 
 EXAMPLES = os.path.join(os.path.dirname(measure.HERE), "examples")

@@ -14,9 +14,9 @@ import argparse
 import collections
 import random
 
+import measure
 import compare
 import images
-import measure
 import odd_words
 import word_machine
 import word_rules

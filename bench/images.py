@@ -2,6 +2,8 @@
 import random
 import struct
 
+from suygapid.isa.encoding import b_type, i_type, jal, r_type, s_type
+
 # mixed: accesses and indirect jumps after their pairs, branches, jumps, computations of both lengths; wide: 32-bit computations
 # alone; short: 16-bit forms alone; pairs: in each bundle one access after its pair, and one computation. In code in words accesses need no
 # pair; there mixed code has one for every two accesses, and steps of data registers.
@@ -13,12 +15,12 @@ DATA_REGISTERS = [2, 3, 4, 29]
 SIZES = [(1, 256, 0, 1), (1, 65536, 0, 1), (16, 65536, 0, 1), (16, 65536, 1048576, 1), (16, 1048576, 1048576, 2)]
 
 
-def r_word(funct7, rs2, rs1, funct3, rd):
-    return struct.pack("<I", funct7 << 25 | rs2 << 20 | rs1 << 15 | funct3 << 12 | rd << 7 | 0x33)
+def r_word(*fields):
+    return struct.pack("<I", r_type(*fields))
 
 
-def i_word(imm, rs1, funct3, rd, opcode):
-    return struct.pack("<I", (imm & 0xFFF) << 20 | rs1 << 15 | funct3 << 12 | rd << 7 | opcode)
+def i_word(*fields):
+    return struct.pack("<I", i_type(*fields))
 
 
 class Code:
@@ -62,8 +64,8 @@ class Code:
         target, pair = self.pair(27, 26)
         if self.random.random() < 0.5:
             return pair + i_word(self.random.randrange(4096), target, self.random.choice([0, 1, 2, 4, 5]), self.register(), 0x03)
-        store = self.register() << 20 | target << 15 | self.random.randrange(3) << 12 | self.random.randrange(32) << 7 | 0x23
-        return pair + struct.pack("<I", store)
+        rs2, three = self.register(), self.random.randrange(3)
+        return pair + struct.pack("<I", s_type(self.random.randrange(32), rs2, target, three))
 
     def indirect_jump(self):
         target, pair = self.pair(25, 24)
@@ -74,14 +76,10 @@ class Code:
         return min(max(at // 16 + self.random.randrange(-100, 100), 0), self.size // 16 - 1) * 16 - at
 
     def branch(self, at):
-        o = self.offset(at) & 0x1FFF
-        word = (o >> 12) << 31 | (o >> 5 & 63) << 25 | (o >> 1 & 15) << 8 | (o >> 11 & 1) << 7 | 0x63
-        return struct.pack("<I", self.register() << 20 | self.register() << 15 | word)
+        return struct.pack("<I", b_type(self.offset(at), self.register(), self.register(), 0))
 
     def jump(self, at):
-        o = self.offset(at) & 0x1FFFFF
-        word = (o >> 20) << 31 | (o >> 1 & 0x3FF) << 21 | (o >> 11 & 1) << 20 | (o >> 12 & 0xFF) << 12 | 0x6F
-        return struct.pack("<I", self.random.choice([0, 1]) << 7 | word)
+        return struct.pack("<I", jal(self.offset(at), self.random.choice([0, 1])))
 
     def bundle(self, kind, at):
         if kind == "wide":
@@ -114,9 +112,7 @@ class WordCode(Code):
     def on_data(self, target, offset):
         if self.random.random() < 0.6:
             return i_word(offset, target, self.random.choice([0, 1, 2, 4, 5]), self.register(), 0x03)
-        offset &= 0xFFF
-        word = offset >> 5 << 25 | self.register() << 20 | target << 15 | self.random.randrange(3) << 12 | (offset & 31) << 7 | 0x23
-        return struct.pack("<I", word)
+        return struct.pack("<I", s_type(offset, self.register(), target, self.random.randrange(3)))
 
     def put(self, target):
         """and x31, a, x27; or target, x31, x26"""

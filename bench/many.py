@@ -25,8 +25,8 @@ import sys
 import tempfile
 import time
 
-import images
 import measure
+import images
 import odd_images
 
 TOP = os.path.dirname(measure.HERE)

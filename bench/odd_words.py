@@ -5,6 +5,7 @@ import struct
 import images
 import odd_images
 import word_rules
+from suygapid.isa.encoding import b_type, jal, s_type
 
 CODE_BASE, DATA_SIZE = 0x01000000, 256
 REGISTERS = [0, 1, 2, 2, 3, 4, 5, 8, 10, 24, 25, 26, 26, 27, 28, 29, 30, 31]
@@ -84,9 +85,7 @@ class Pieces:
         if rd is not None or self.pick.random() < 0.5:
             rd = self.register() if rd is None else rd
             return images.i_word(self.number(), base, self.pick.choice([0, 1, 2, 4, 5]), rd, 0x03)
-        number = self.number() & 4095
-        word = number >> 5 << 25 | self.register() << 20 | base << 15 | self.pick.randrange(3) << 12 | (number & 31) << 7 | 0x23
-        return struct.pack("<I", word)
+        return struct.pack("<I", s_type(self.number(), self.register(), base, self.pick.randrange(3)))
 
     def access_short(self):
         """c.lwsp or c.swsp"""
@@ -102,12 +101,8 @@ class Pieces:
         step = 4 if self.pick.random() < 0.9 else 2
         offset = self.pick.randrange(max(0, at - 1000) & ~3, min(self.size + 8, at + 1000), step) - at
         if self.pick.random() < 0.5:
-            o = offset & 0x1FFF
-            word = (o >> 12) << 31 | (o >> 5 & 63) << 25 | (o >> 1 & 15) << 8 | (o >> 11 & 1) << 7 | 0x63
-            return struct.pack("<I", self.register() << 20 | self.register() << 15 | self.pick.choice([0, 1, 4, 5, 6, 7]) << 12 | word)
-        o = offset & 0x1FFFFF
-        word = (o >> 20) << 31 | (o >> 1 & 1023) << 21 | (o >> 11 & 1) << 20 | (o >> 12 & 255) << 12 | 0x6F
-        return struct.pack("<I", word | self.pick.choice([0, 1, 1, 5]) << 7)
+            return struct.pack("<I", b_type(offset, self.register(), self.register(), self.pick.choice([0, 1, 4, 5, 6, 7])))
+        return struct.pack("<I", jal(offset, self.pick.choice([0, 1, 1, 5])))
 
     def computed(self, _at):
         if self.pick.random() < 0.5:

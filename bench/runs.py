@@ -23,9 +23,9 @@ import re
 import tempfile
 from dataclasses import dataclass
 
+import measure
 import compiled
 import images
-import measure
 
 NAMES = ["compute", "memory", "mixed"]
 SANDBOXES = [1, 16]

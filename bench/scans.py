@@ -17,8 +17,8 @@ import re
 import subprocess
 import tempfile
 
-import images
 import measure
+import images
 
 LIBRARY = os.path.join(os.path.dirname(measure.HERE), "crates", "sfi_c")
 REPEATS = 10

@@ -4,10 +4,9 @@ What a computation but and, or and addi gives, what a load finds, and whether a 
 no rule knows of them: so data may be changed by others at any step. So is whether a load into x0 is done or dropped; one that is
 dropped traps nowhere.
 """
-import struct
-
 import odd_words
 import word_rules
+from suygapid.isa.decoding import BRANCHES, LOADS, WIDTHS, decode
 
 CODE_BASE, DATA_BASE, DATA_SIZE, GUARD = odd_words.CODE_BASE, 0x01800000, odd_words.DATA_SIZE, 4096
 NEAR = 1020
@@ -38,19 +37,14 @@ class Machine:
     def instruction(self, at):
         """What its bytes spell, wherever that is; None where they spell nothing or it isn't whole."""
         if at not in self.read:
-            front = int.from_bytes(self.code[at : at + 2], "little")
-            whole = self.code[at : at + 4]
-            if front & 3 != 3:
-                self.read[at] = word_rules.short(front)
-            else:
-                self.read[at] = word_rules.wide(struct.unpack("<I", whole)[0]) if len(whole) == 4 else None
+            self.read[at] = decode(self.code, at)
         return self.read[at]
 
     def value(self, it, after):
         """What it writes to its register."""
         a, b = self.registers[it.rs1], self.registers[it.rs2]
         known = {"and": a & b, "or": a | b, "addi": a + it.number, "jal": CODE_BASE + after, "jalr": CODE_BASE + after}
-        return known[it.kind] & 0xFFFFFFFF if it.kind in known else self.hostile()
+        return known[it.op] & 0xFFFFFFFF if it.op in known else self.hostile()
 
     def step(self, at):
         """The next place in the code, None after a trap; or why the step isn't safe."""
@@ -60,26 +54,26 @@ class Machine:
         if it is None:
             return f"reaches no instruction at {at}"
         after = at + it.size
-        if it.kind == "ecall" and at not in self.gates:
+        if it.op == "ecall" and at not in self.gates:
             return f"calls at no gate, at {at}"
-        if it.kind == "ecall":
+        if it.op == "ecall":
             self.enter()
             return after
-        if it.kind in word_rules.ACCESSES:
+        if it.op in WIDTHS:
             place = (self.registers[it.rs1] + it.number & 0xFFFFFFFF) - DATA_BASE
-            if not -GUARD <= place <= DATA_SIZE + GUARD - it.bytes:
+            if not -GUARD <= place <= DATA_SIZE + GUARD - WIDTHS[it.op]:
                 return f"accesses {place} in its data, at {at}"
-            is_dropped = it.kind == "load" and it.rd == 0 and self.pick.random() < 0.5
-            if not 0 <= place <= DATA_SIZE - it.bytes and not is_dropped:
+            is_dropped = it.op in LOADS and it.rd == 0 and self.pick.random() < 0.5
+            if not 0 <= place <= DATA_SIZE - WIDTHS[it.op] and not is_dropped:
                 return None
-        if it.kind == "ebreak":
+        if it.op == "ebreak":
             return None
         target = (self.registers[it.rs1] + it.number & 0xFFFFFFFE) - CODE_BASE
         if it.rd:
             self.registers[it.rd] = self.value(it, after)
-        if it.kind == "jalr":
+        if it.op == "jalr":
             return target
-        if it.kind == "jal" or it.kind == "branch" and self.pick.random() < 0.5:
+        if it.op == "jal" or it.op in BRANCHES and self.pick.random() < 0.5:
             return at + it.number
         return after
 

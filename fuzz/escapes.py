@@ -24,6 +24,7 @@ import measure
 import odd_images
 import odd_words
 import word_rules
+from suygapid.isa.decoding import WIDTHS
 
 NAMES = ["verdicts of images in the first format", "verdicts of images in the second format", "verdicts of images in words",
          "runs in the first format", "runs in the second format", "runs in words"]
@@ -84,7 +85,7 @@ class Hostile(machine.Machine):
         if stop.cause == 0 and stop.at not in self.part.gates:
             return f"calls at no gate, at {stop.at:08x}"
         if stop.cause in (machine.LOAD, machine.STORE):
-            length = machine.LENGTHS[self.fetch().op]
+            length = WIDTHS[self.fetch().op]
             place = stop.at - self.part.data_base
             if not -layout.GUARD <= place <= self.part.data_size + layout.GUARD - length:
                 return f"accesses {stop.at:08x}, at {self.pc:08x}"

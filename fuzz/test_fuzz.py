@@ -14,7 +14,6 @@ import commands
 import corpus
 import escapes
 import layout
-import machine
 import mutants
 import second
 import verdicts
@@ -22,13 +21,11 @@ import worlds
 
 import images
 import measure
+import second_checker
 import testing
-import word_rules
+from suygapid.isa import decoding
 
 MOST = 600  # cases in which a planted fault has to be found
-KINDS = dict(jal="jal", jalr="jalr", ecall="ecall", ebreak="ebreak", addi="addi")
-KINDS.update({"or": "or", "and": "and", "sb": "store", "sh": "store", "sw": "store"})
-KINDS.update({it: "load" for it, _ in machine.LOADS.values()}, **{it: "branch" for it in machine.TAKEN})
 needs_gcc = testing.needs("gcc")
 
 
@@ -49,26 +46,24 @@ def cases_until_found(tally, try_one):
 
 class Models(unittest.TestCase):
     def assert_read_alike(self, it, other, bits):
-        """The machine's instruction and that of word_rules.py."""
-        if it is None or other is None:
-            self.assertIs(it, other, bits)
-            return
-        kind = KINDS.get(it.op, "other")
-        self.assertEqual((kind, it.size, it.rd), (other.kind, other.size, other.rd), bits)
-        if kind in ("load", "store", "branch", "jal", "jalr", "addi"):
-            self.assertEqual((it.rs1, it.rs2, it.number), (other.rs1, other.rs2, other.number), bits)
+        """An instruction as the tools decode it, and as second_checker.py does, which keeps the fields of a fence."""
+        if it and it.op in ("lui", "auipc"):
+            it = it._replace(number=it.number >> 12)
+        if it and it.op == "fence":
+            other = other._replace(rd=0, rs1=0, number=0)
+        self.assertEqual(it and (it.size, it.op, *it[2:]), other and tuple(other), bits)
 
     def test_short_instructions_are_read_alike(self):
         for half in range(65536):
             if half & 3 != 3:
-                self.assert_read_alike(machine.decode_short(half), word_rules.short(half), hex(half))
+                self.assert_read_alike(decoding.decode16(half), second_checker.short(half), hex(half))
 
     def test_wide_instructions_are_read_alike(self):
         pick = random.Random(1)
         for _ in range(20000):
             word = pick.getrandbits(32) & ~127 | pick.choice([0x37, 0x17, 0x6F, 0x67, 0x63, 0x03, 0x23, 0x13, 0x33, 0x0F, 0x73])
             word = word & ~(127 << 25) | pick.choice([0, 1, 32]) << 25 if pick.random() < 0.5 else word
-            self.assert_read_alike(machine.decode_wide(word), word_rules.wide(word), hex(word))
+            self.assert_read_alike(decoding.decode32(word), second_checker.wide(word), hex(word))
 
     @needs_gcc
     def test_the_machine_runs_as_the_interpreter(self):

@@ -28,6 +28,7 @@ import form_mistakes
 import layout
 import machine
 from lines import HERE, TOP
+from suygapid.isa.decoding import Instruction
 
 INCLUDE = os.path.join(TOP, "crates/sfi_translate/include")
 HEADERS = ["sfi_native.h", "sfi_native_x86_64.h", "sfi_native_data.h"]
@@ -55,7 +56,7 @@ VECTORS = [  # of crates/rv_tests: kind, x11, x12, and x10 afterwards
 
 
 class Line:
-    """A line: the instruction as fuzz/machine.py has it, and the operands as `sfi dis` lists them."""
+    """A line: the instruction as it is decoded, and the operands as `sfi dis` lists them."""
 
     def __init__(self, pick, kind, at, targets, size=None, registers=None):
         rd, rs1, rs2, number = pick.choice(FREE), pick.randrange(32), pick.randrange(32), self.number_of(pick, kind)
@@ -73,9 +74,8 @@ class Line:
         self.number = number
         self.operands = [str(it) for it in self.listed(kind, rd, rs1, rs2, number)]
         wide = number << 12 if kind in ("lui", "auipc") else number
-        named = {"sltiu": "sltui"}.get(kind, kind)  # as fuzz/machine.py has it
         uses = (0, 0) if kind in ("lui", "auipc") else (rs1, rs2)
-        self.instruction = machine.Instruction(named, self.size, 0 if kind in lines.STORES + lines.BRANCHES else rd, *uses, wide)
+        self.instruction = Instruction(kind, self.size, 0 if kind in lines.STORES + lines.BRANCHES else rd, *uses, wide)
 
     @staticmethod
     def number_of(pick, kind):

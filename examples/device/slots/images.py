@@ -2,6 +2,8 @@
 import collections
 import struct
 
+from suygapid.isa.encoding import i_type, jal, r_type, s_type, u_type
+
 MAGICS = {"1": b"SFI1", "2": b"SFI2", "words": b"SFIW"}
 UNITS = {"1": 16, "2": 16, "words": 4}  # bytes: a sandbox is entered at multiples of it
 BUNDLE, DATA_SIZE = 16, 4096
@@ -13,24 +15,15 @@ RA, A0, S1, X24, X25, X26, X27, X29, X30, X31 = 1, 10, 9, 24, 25, 26, 27, 29, 30
 
 
 def lui(to, number):
-    return (number & 0xfffff) << 12 | to << 7 | 0x37
+    return u_type(number, to, 0x37)
 
 
 def addi(to, one, number):
-    return (number & 0xfff) << 20 | one << 15 | to << 7 | 0x13
+    return i_type(number, one, 0, to, 0x13)
 
 
 def logic(name, to, one, other):
-    return other << 20 | one << 15 | {"and": 7, "or": 6}[name] << 12 | to << 7 | 0x33
-
-
-def jal(to, offset):
-    bits = (offset >> 20 & 1) << 31 | (offset >> 1 & 0x3ff) << 21 | (offset >> 11 & 1) << 20 | (offset >> 12 & 0xff) << 12
-    return bits | to << 7 | 0x6f
-
-
-def store(value, base):
-    return value << 20 | base << 15 | 2 << 12 | 0x23
+    return r_type(0, other, one, {"and": 7, "or": 6}[name], to)
 
 
 class Image(collections.namedtuple("Image", "number image_format kind base size data")):
@@ -56,21 +49,21 @@ class Image(collections.namedtuple("Image", "number image_format kind base size 
 
     def returns(self, bundle, to):
         """Bundles that call another, after which the next one comes."""
-        return [NOP, NOP, NOP, jal(RA, BUNDLE * (to - bundle) - 12)]
+        return [NOP, NOP, NOP, jal(BUNDLE * (to - bundle) - 12, RA)]
 
     def exits(self, bundle):
         number = self.code_of(bundle)
-        return [lui(A0, number + 0x800 >> 12), addi(A0, A0, number), NOP, jal(RA, -BUNDLE * bundle - 12)]
+        return [lui(A0, number + 0x800 >> 12), addi(A0, A0, number), NOP, jal(-BUNDLE * bundle - 12, RA)]
 
     def stores(self, bundle):
         """In bundles it is the store alone that a wrong entry reaches: x31 is no address then."""
         base = X29 if self.image_format == "words" else X31
-        return [logic("and", X31, S1, X27), logic("or", base, X31, X26), store(A0, base), jal(RA, -BUNDLE * bundle - 12)]
+        return [logic("and", X31, S1, X27), logic("or", base, X31, X26), s_type(0, A0, base, 2), jal(-BUNDLE * bundle - 12, RA)]
 
     def bundle(self, number):
         to = X30 if self.image_format == "words" else X31
         stub = [ECALL, logic("and", to, RA, X25), logic("or", to, to, X24), to << 15 | 0x67]
-        loops = [jal(0, -BUNDLE), NOP, NOP, EBREAK]
+        loops = [jal(-BUNDLE, 0), NOP, NOP, EBREAK]
         if number in SERVICES:
             return stub
         if number == START and self.kind == "breaks":

@@ -5,6 +5,7 @@ import struct
 from dataclasses import dataclass
 
 from suygapid.elf.elf import Wrong
+from suygapid.isa.encoding import r_type
 
 MOVABLE = "__sfi_movable"  # a symbol that the linker script sees, and an image's tools
 START = "_sfi_start_movable"  # in runtime/movable.s
@@ -121,7 +122,7 @@ class Moving:
 
 
 def long_add(register, base):
-    return 0x33 | register << 7 | register << 15 | base << 20
+    return r_type(0, base, register, 0, register)
 
 
 def short_add(register, base):

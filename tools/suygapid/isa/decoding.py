@@ -1,144 +1,142 @@
-"""Machine code of RV32IMC, as the RISC-V manual's volume I lays it out (chapters 2, 12 and 26)."""
-from typing import NamedTuple
+"""Instructions of RV32IMC from their bits, as the RISC-V manual's volume I lays them out (chapters 2, 12 and 26).
 
-LOADS = {0: "lb", 1: "lh", 2: "lw", 4: "lbu", 5: "lhu"}
-STORES = {0: "sb", 1: "sh", 2: "sw"}
-BRANCHES = {0: "beq", 1: "bne", 4: "blt", 5: "bge", 6: "bltu", 7: "bgeu"}
-SUMS = {0: "add", 1: "sll", 2: "slt", 3: "sltu", 4: "xor", 5: "srl", 6: "or", 7: "and"}
-PRODUCTS = ("mul", "mulh", "mulhsu", "mulhu", "div", "divu", "rem", "remu")
+fuzz/test_fuzz.py compares this with the decoder of tools/second_checker.py, which shares nothing with it.
+"""
+from typing import NamedTuple, Optional
+
+MASK = 0xFFFFFFFF
+LOAD_OF = {0: "lb", 1: "lh", 2: "lw", 4: "lbu", 5: "lhu"}  # these by their field `funct3`
+STORE_OF = {0: "sb", 1: "sh", 2: "sw"}
+BRANCH_OF = {0: "beq", 1: "bne", 4: "blt", 5: "bge", 6: "bltu", 7: "bgeu"}
+LOADS, STORES, BRANCHES = (tuple(it.values()) for it in (LOAD_OF, STORE_OF, BRANCH_OF))
+COMPUTATIONS = {(0, 0): "add", (0, 1): "sll", (0, 2): "slt", (0, 3): "sltu", (0, 4): "xor", (0, 5): "srl", (0, 6): "or",
+                (0, 7): "and", (32, 0): "sub", (32, 5): "sra", (1, 0): "mul", (1, 1): "mulh", (1, 2): "mulhsu", (1, 3): "mulhu",
+                (1, 4): "div", (1, 5): "divu", (1, 6): "rem", (1, 7): "remu"}
+# The computations with a number, by those on registers that they do.
+ON_REGISTERS = {"addi": "add", "slli": "sll", "slti": "slt", "sltiu": "sltu", "xori": "xor", "srli": "srl", "srai": "sra",
+                "ori": "or", "andi": "and"}
+WITH_NUMBER = {name: number for number, name in ON_REGISTERS.items()}
+WIDTHS = {"lb": 1, "lh": 2, "lw": 4, "lbu": 1, "lhu": 2, "sb": 1, "sh": 2, "sw": 4}  # the bytes of an access
 
 
 class Instruction(NamedTuple):
-    """An instruction. Its word is that of the form with registers where it has a number: `add` for `addi`."""
-    word: str
-    target: int = 0
-    first: int = 0
-    second: int = 0
+    """An instruction by the manual's name of its form of 32 bits, with the bytes that it has, the numbers of its registers, and
+    its immediate, which is that of all 32 bits in lui and auipc."""
+    op: str
+    size: int
+    rd: int = 0
+    rs1: int = 0
+    rs2: int = 0
     number: int = 0
-    has_number: bool = False
-    size: int = 4
 
 
-def signed(value, bits):
-    value &= (1 << bits) - 1
-    return value - (1 << bits) if value >> bits - 1 else value
+def signed(value: int, width: int = 32) -> int:
+    return (value & (1 << width) - 1) - ((value >> width - 1 & 1) << width)
 
 
-def bits(code, *places):
-    """A number made of bits: for each place the highest and the lowest bit in the code, and where the lowest goes."""
-    return sum((code >> low & (1 << high - low + 1) - 1) << to for high, low, to in places)
+def field(value: int, high: int, low: int) -> int:
+    return value >> low & (1 << high - low + 1) - 1
 
 
-def decode(content, place):
-    """The instruction at a place."""
-    half = int.from_bytes(content[place:place + 2], "little")
-    if half & 3 != 3:
-        return decode_short(half)._replace(size=2)
-    return decode_long(int.from_bytes(content[place:place + 4], "little"))
+def gathered(value: int, *places: tuple[int, int, int]) -> int:
+    """A number made of fields: of each the highest and the lowest bit, and where the lowest goes."""
+    return sum(field(value, high, low) << to for high, low, to in places)
 
 
-def decode_long(code):
-    kind, target, first, second, choice = code & 127, code >> 7 & 31, code >> 15 & 31, code >> 20 & 31, code >> 12 & 7
-    number = signed(code >> 20, 12)
-    if kind in (0x37, 0x17):
-        return Instruction("lui" if kind == 0x37 else "auipc", target, number=signed(code & 0xfffff000, 32))
-    if kind == 0x6f:
-        return Instruction("jal", target, number=signed(bits(code, (31, 31, 20), (19, 12, 12), (20, 20, 11), (30, 21, 1)), 21))
-    if kind == 0x67 and choice == 0:
-        return Instruction("jalr", target, first, number=number)
-    if kind == 0x63 and choice in BRANCHES:
-        number = signed(bits(code, (31, 31, 12), (7, 7, 11), (30, 25, 5), (11, 8, 1)), 13)
-        return Instruction(BRANCHES[choice], 0, first, second, number)
-    if kind == 0x03 and choice in LOADS:
-        return Instruction(LOADS[choice], target, first, number=number)
-    if kind == 0x23 and choice in STORES:
-        return Instruction(STORES[choice], 0, first, second, signed(bits(code, (31, 25, 5), (11, 7, 0)), 12))
-    if kind == 0x13:
-        return decode_number(code, target, first, choice, number)
-    if kind == 0x33:
-        return decode_sum(code, target, first, second, choice)
-    names = {0x00000073: "ecall", 0x00100073: "ebreak"}
-    return Instruction("fence" if kind == 0x0f and choice == 0 else names.get(code, "unknown"))
+def decode(content: bytes, place: int = 0) -> Optional[Instruction]:
+    """The instruction at a place, or None where the bytes spell none or it isn't whole."""
+    code = content[place:place + 4]
+    if len(code) < 2 or code[0] & 3 == 3 and len(code) < 4:
+        return None
+    return decode32(int.from_bytes(code, "little")) if code[0] & 3 == 3 else decode16(int.from_bytes(code[:2], "little"))
 
 
-def decode_number(code, target, first, choice, number):
-    word = SUMS[choice]
-    if choice in (1, 5):
-        word = "sra" if code >> 30 & 1 and choice == 5 else word
-        number &= 31
-    return Instruction(word, target, first, number=number, has_number=True)
+def decode32(word: int) -> Optional[Instruction]:
+    opcode, rd, three, rs1, rs2, seven = (field(word, *it) for it in ((6, 0), (11, 7), (14, 12), (19, 15), (24, 20), (31, 25)))
+    number = signed(word >> 20, 12)
+    if opcode in (0x37, 0x17):
+        return Instruction("lui" if opcode == 0x37 else "auipc", 4, rd, number=word & 0xFFFFF000)
+    if opcode == 0x6F:
+        return Instruction("jal", 4, rd, number=signed(gathered(word, (31, 31, 20), (19, 12, 12), (20, 20, 11), (30, 21, 1)), 21))
+    if opcode == 0x67 and three == 0:
+        return Instruction("jalr", 4, rd, rs1, number=number)
+    if opcode == 0x63 and three in BRANCH_OF:
+        offset = signed(gathered(word, (31, 31, 12), (7, 7, 11), (30, 25, 5), (11, 8, 1)), 13)
+        return Instruction(BRANCH_OF[three], 4, 0, rs1, rs2, offset)
+    if opcode == 0x03 and three in LOAD_OF:
+        return Instruction(LOAD_OF[three], 4, rd, rs1, number=number)
+    if opcode == 0x23 and three in STORE_OF:
+        return Instruction(STORE_OF[three], 4, 0, rs1, rs2, signed(seven << 5 | rd, 12))
+    if opcode == 0x13 and three not in (1, 5):
+        return Instruction(WITH_NUMBER[COMPUTATIONS[0, three]], 4, rd, rs1, number=number)
+    if opcode == 0x13 and (seven, three) in ((0, 1), (0, 5), (32, 5)):
+        return Instruction(WITH_NUMBER[COMPUTATIONS[seven, three]], 4, rd, rs1, number=rs2)
+    if opcode == 0x33 and (seven, three) in COMPUTATIONS:
+        return Instruction(COMPUTATIONS[seven, three], 4, rd, rs1, rs2)
+    if opcode == 0x0F and three == 0:
+        return Instruction("fence", 4)
+    return {0x73: Instruction("ecall", 4), 0x100073: Instruction("ebreak", 4)}.get(word)
 
 
-def decode_sum(code, target, first, second, choice):
-    upper = code >> 25
-    if upper == 1:
-        return Instruction(PRODUCTS[choice], target, first, second)
-    if upper == 32 and choice in (0, 5):
-        return Instruction("sub" if choice == 0 else "sra", target, first, second)
-    return Instruction(SUMS[choice] if upper == 0 else "unknown", target, first, second)
+def decode16(half: int) -> Optional[Instruction]:
+    """The instruction of a halfword whose low two bits aren't 11, by its quadrant and its three highest bits."""
+    return (_access, _computation, _on_any_register)[half & 3](half, half >> 13)
 
 
-def with_number(word, target, first, number):
-    return Instruction(word, target, first, number=number, has_number=True)
-
-
-def decode_short(code):
-    """An instruction of 16 bits, by its quadrant and the three highest bits."""
-    return (short_access, short_number, short_register)[code & 3](code, code >> 13)
-
-
-def short_access(code, choice):
+def _access(half, three):
     """Quadrant 0: accesses on a register, and c.addi4spn."""
-    near, other = 8 + (code >> 7 & 7), 8 + (code >> 2 & 7)
-    if choice == 0 and code:
-        return with_number("add", other, 2, bits(code, (10, 7, 6), (12, 11, 4), (5, 5, 3), (6, 6, 2)))
-    offset = bits(code, (5, 5, 6), (12, 10, 3), (6, 6, 2))
-    if choice == 2:
-        return Instruction("lw", other, near, number=offset)
-    return Instruction("sw", 0, near, other, offset) if choice == 6 else Instruction("unknown")
+    low, high = 8 + field(half, 4, 2), 8 + field(half, 9, 7)
+    offset = gathered(half, (5, 5, 6), (12, 10, 3), (6, 6, 2))
+    if three == 0:
+        number = gathered(half, (10, 7, 6), (12, 11, 4), (5, 5, 3), (6, 6, 2))
+        return Instruction("addi", 2, low, 2, number=number) if number else None
+    return {2: Instruction("lw", 2, low, high, number=offset), 6: Instruction("sw", 2, 0, high, low, offset)}.get(three)
 
 
-def short_jump(code):
-    return signed(bits(code, (12, 12, 11), (8, 8, 10), (10, 9, 8), (6, 6, 7), (7, 7, 6), (2, 2, 5), (11, 11, 4), (5, 3, 1)), 12)
-
-
-def short_number(code, choice):
+def _computation(half, three):
     """Quadrant 1: sums with numbers, jumps and branches."""
-    target, near, number = code >> 7 & 31, 8 + (code >> 7 & 7), signed(bits(code, (12, 12, 5), (6, 2, 0)), 6)
-    if choice == 0 or choice == 2:
-        return with_number("add", target, target if choice == 0 else 0, number)
-    if choice in (1, 5):
-        return Instruction("jal", int(choice == 1), number=short_jump(code))
-    if choice == 3 and target == 2:
-        return with_number("add", 2, 2, signed(bits(code, (12, 12, 9), (4, 3, 7), (5, 5, 6), (2, 2, 5), (6, 6, 4)), 10))
-    if choice == 3:
-        return Instruction("lui", target, number=number << 12)
-    if choice == 4:
-        return short_sum(code, near, number)
-    offset = signed(bits(code, (12, 12, 8), (6, 5, 6), (2, 2, 5), (11, 10, 3), (4, 3, 1)), 9)
-    return Instruction("beq" if choice == 6 else "bne", 0, near, 0, offset)
+    rd, high, number = field(half, 11, 7), 8 + field(half, 9, 7), signed(gathered(half, (12, 12, 5), (6, 2, 0)), 6)
+    if three in (0, 2):
+        return Instruction("addi", 2, rd, 0 if three else rd, number=number)
+    if three in (1, 5):
+        places = (12, 12, 11), (8, 8, 10), (10, 9, 8), (6, 6, 7), (7, 7, 6), (2, 2, 5), (11, 11, 4), (5, 3, 1)
+        return Instruction("jal", 2, int(three == 1), number=signed(gathered(half, *places), 12))
+    if three == 3 and number == 0:
+        return None
+    if three == 3 and rd == 2:
+        number = signed(gathered(half, (12, 12, 9), (4, 3, 7), (5, 5, 6), (2, 2, 5), (6, 6, 4)), 10)
+        return Instruction("addi", 2, 2, 2, number=number)
+    if three == 3:
+        return Instruction("lui", 2, rd, number=number << 12 & MASK)
+    if three == 4:
+        return _on_near_registers(half, high, number)
+    offset = signed(gathered(half, (12, 12, 8), (6, 5, 6), (2, 2, 5), (11, 10, 3), (4, 3, 1)), 9)
+    return Instruction("beq" if three == 6 else "bne", 2, 0, high, 0, offset)
 
 
-def short_sum(code, near, number):
-    kind = code >> 10 & 3
-    if kind < 3:
-        return with_number(("srl", "sra", "and")[kind], near, near, number if kind == 2 else number & 31)
-    word = ("sub", "xor", "or", "and")[code >> 5 & 3] if not code >> 12 & 1 else "unknown"
-    return Instruction(word, near, near, 8 + (code >> 2 & 7))
+def _on_near_registers(half, high, number):
+    """c.srli, c.srai, c.andi, and the four of two registers."""
+    kind = field(half, 11, 10)
+    if kind == 2:
+        return Instruction("andi", 2, high, high, number=number)
+    if half >> 12 & 1:
+        return None
+    if kind == 3:
+        return Instruction(("sub", "xor", "or", "and")[field(half, 6, 5)], 2, high, high, 8 + field(half, 4, 2))
+    return Instruction("srai" if kind else "srli", 2, high, high, number=number & 31)
 
 
-def short_register(code, choice):
+def _on_any_register(half, three):
     """Quadrant 2: shifts, accesses on the stack pointer, and forms of two registers."""
-    target, second = code >> 7 & 31, code >> 2 & 31
-    if choice == 0:
-        return with_number("sll", target, target, second)
-    if choice == 2:
-        return Instruction("lw", target, 2, number=bits(code, (3, 2, 6), (12, 12, 5), (6, 4, 2)))
-    if choice == 6:
-        return Instruction("sw", 0, 2, second, bits(code, (8, 7, 6), (12, 9, 2)))
-    if choice != 4:
-        return Instruction("unknown")
-    is_long = code >> 12 & 1
-    if second:
-        return Instruction("add", target, target if is_long else 0, second)
-    return Instruction("jalr", is_long, target) if target else Instruction("ebreak")
+    rd, rs2, bit = field(half, 11, 7), field(half, 6, 2), half >> 12 & 1
+    if three == 0 and not bit:
+        return Instruction("slli", 2, rd, rd, number=rs2)
+    if three == 2 and rd:
+        return Instruction("lw", 2, rd, 2, number=gathered(half, (3, 2, 6), (12, 12, 5), (6, 4, 2)))
+    if three == 6:
+        return Instruction("sw", 2, 0, 2, rs2, gathered(half, (8, 7, 6), (12, 9, 2)))
+    if three == 4 and rs2:
+        return Instruction("add", 2, rd, rd if bit else 0, rs2)
+    if three == 4 and rd:
+        return Instruction("jalr", 2, bit, rd)
+    return Instruction("ebreak", 2) if three == 4 and bit else None

@@ -2,12 +2,11 @@
 from functools import lru_cache
 from typing import NamedTuple
 
-from suygapid.isa.decoding import decode
+from suygapid.isa.decoding import BRANCHES, Instruction, decode
 from suygapid.validate.objects import LOCAL, WEAK
 
 LINE = "sfi_line_"  # begins labels that tell the line of an assembly
 CALLER_SAVED = frozenset([1, *range(5, 8), *range(10, 18), *range(28, 32)])  # what a call may overwrite
-BRANCHES = ("beq", "bne", "blt", "bge", "bltu", "bgeu")
 READING = {"word", "hi", "lo", "pcrel_hi", "got"}  # relocations by which an address is taken
 WRITTEN_BESIDE = frozenset([3, 4])  # gp and tp: the compiler's code leaves them alone, and a call doesn't keep them
 SMALL = (".sdata", ".sbss", ".srodata")
@@ -76,7 +75,8 @@ class Code:
         """The instruction at a place, and its relocation or None."""
         section = self.sections[place.section]
         found = [one for one in section.relocations.get(place.offset, ()) if one.kind != "number 51"]
-        return decode(section.content, place.offset), found[0] if found else None
+        size = 4 if section.content[place.offset] & 3 == 3 else 2
+        return decode(section.content, place.offset) or Instruction("unknown", size), found[0] if found else None
 
     def target(self, place, instruction, relocation):
         """Where a branch or a jump leads."""
@@ -107,7 +107,7 @@ class Code:
 
     def adds_base(self, place, register):
         instruction = self.at(place)[0]
-        return instruction.word == "add" and (instruction.target, instruction.first, instruction.second) == (register, register, DATA_BASE)
+        return instruction.op == "add" and (instruction.rd, instruction.rs1, instruction.rs2) == (register, register, DATA_BASE)
 
     def owner(self, place):
         """The function that a place belongs to, or None."""
@@ -130,16 +130,16 @@ class Code:
 
     def add_written(self, name, place, instruction, relocation, own, leads):
         """Adds what an instruction of a function writes."""
-        own[name].add(instruction.target)
+        own[name].add(instruction.rd)
         everything = CALLER_SAVED if self.is_left else CALLER_SAVED | WRITTEN_BESIDE
-        if instruction.word in ("jal", *BRANCHES) or relocation is not None and relocation.kind == "call":
+        if instruction.op in ("jal", *BRANCHES) or relocation is not None and relocation.kind == "call":
             target = self.target(place, instruction, relocation)
             other = self.owner(target) if isinstance(target, SectionOffset) else None
             if other is None:
                 own[name] |= everything
             elif other != name:
                 leads[name].add(other)
-        elif instruction.word == "jalr" and (instruction.target or self.is_left and instruction.first != 1):
+        elif instruction.op == "jalr" and (instruction.rd or self.is_left and instruction.rs1 != 1):
             before = self.at(place._replace(offset=place.offset - 4))[1] if place.offset >= 4 else None
             own[name] |= set() if before is not None and before.kind == "call" else everything
 

@@ -2,12 +2,11 @@
 from dataclasses import dataclass, field
 from typing import NamedTuple
 
+from suygapid.isa.decoding import BRANCHES, LOADS, ON_REGISTERS, STORES, WIDTHS
 from suygapid.validate import values
-from suygapid.validate.machine_code import BRANCHES, Name, SectionOffset
+from suygapid.validate.machine_code import Name, SectionOffset
 from suygapid.validate.values import ZERO, Value, computed, number, of
 
-LOADS, STORES = ("lb", "lh", "lw", "lbu", "lhu"), ("sb", "sh", "sw")
-WIDTHS = {"b": 1, "h": 2, "w": 4}
 LINK, STACK = 1, 2
 PART = 2048  # the addends of which the compiler pairs parts lie in one block of this number of bytes
 DATA_REGISTERS = (2, 3, 4)  # sp, gp and tp
@@ -24,7 +23,7 @@ class Access(NamedTuple):
     place: SectionOffset
 
     def width(self):
-        return WIDTHS[self.word[1]]
+        return WIDTHS[self.word]
 
 
 class Event(NamedTuple):
@@ -89,21 +88,21 @@ class Runner:
         """Runs one instruction; the event that it is, or None."""
         place, (instruction, relocation) = self.place, self.code.at(self.place)
         self.place = following = place._replace(offset=place.offset + instruction.size)
-        if instruction.word == "jal":
+        if instruction.op == "jal":
             return self.jump(place, instruction, relocation, following)
-        if instruction.word == "jalr":
+        if instruction.op == "jalr":
             return self.indirect(place, instruction, following)
         if relocation is not None and relocation.kind == "call":
             return self.far_jump(place, relocation)
-        if instruction.word in BRANCHES:
-            pair = self.stretch.registers[instruction.first], self.stretch.registers[instruction.second]
-            return Event("branch", place, instruction.word, pair, self.code.target(place, instruction, relocation), following)
-        if instruction.word == "ebreak":
+        if instruction.op in BRANCHES:
+            pair = self.stretch.registers[instruction.rs1], self.stretch.registers[instruction.rs2]
+            return Event("branch", place, instruction.op, pair, self.code.target(place, instruction, relocation), following)
+        if instruction.op == "ebreak":
             return Event("break", place)
-        if instruction.word in (*LOADS, *STORES, "fence"):
+        if instruction.op in WIDTHS or instruction.op == "fence":
             self.access(place, instruction, relocation)
         else:
-            self.write(place, instruction.target, self.value(place, instruction, relocation))
+            self.write(place, instruction.rd, self.value(place, instruction, relocation))
         return None
 
     # Control.
@@ -113,10 +112,10 @@ class Runner:
         name = self.code.function_at.get(target) if isinstance(target, SectionOffset) else target.name
         if name and relocation and not relocation.addend and relocation.symbol.name in self.code.functions:
             name = self.code.called(relocation.symbol.name)
-        if instruction.target:
+        if instruction.rd:
             if name is None:
                 raise Unknown(place, "a call of what is no function")
-            return Event("call", place, str(instruction.target), target=Name(name), following=following)
+            return Event("call", place, str(instruction.rd), target=Name(name), following=following)
         if name is not None:
             return Event("jump", place, target=Name(name))
         self.place = target
@@ -124,7 +123,7 @@ class Runner:
 
     def far_jump(self, place, relocation):
         """An `auipc` and the `jalr` after it, by which the assembler reaches any name."""
-        register = self.code.at(self.place)[0].target
+        register = self.code.at(self.place)[0].rd
         following = self.place._replace(offset=self.place.offset + 4)
         target = Name(self.code.called(relocation.symbol.name))
         if register:
@@ -132,17 +131,17 @@ class Runner:
         return Event("jump", place, target=target)
 
     def indirect(self, place, instruction, following):
-        goal = self.stretch.registers[instruction.first].plus(number(instruction.number))
+        goal = self.stretch.registers[instruction.rs1].plus(number(instruction.number))
         atom = goal.only_atom()
         if atom and atom[0] == "code":
             goal = atom[1]
         atom = goal.only_atom()
-        if instruction.target:
+        if instruction.rd:
             target = Name(self.code.called(atom[1])) if atom and atom[0] == "address" else None
-            return Event("call", place, str(instruction.target), (goal,), target, following)
+            return Event("call", place, str(instruction.rd), (goal,), target, following)
         if atom and atom[0] == "address" and atom[1] in self.code.functions:
             return Event("jump", place, target=Name(self.code.called(atom[1])))
-        is_return = self.code.is_left and instruction.first == LINK
+        is_return = self.code.is_left and instruction.rs1 == LINK
         return Event("return" if is_return else "indirect", place, values=(goal,))
 
     # Values.
@@ -163,9 +162,9 @@ class Runner:
     def relative(self, place, instruction, upper):
         """The upper part of an address in a program that can be moved: less its region's base, which is added after it. Masks
         take the place of that in a data register."""
-        if self.code.is_relative(place, instruction.target):
+        if self.code.is_relative(place, instruction.rd):
             return upper.minus(of(*values.DATA_BASE))
-        if instruction.target in DATA_REGISTERS:
+        if instruction.rd in DATA_REGISTERS:
             return upper
         raise Unknown(place, "an address that isn't relative to its region")
 
@@ -184,17 +183,17 @@ class Runner:
         return value
 
     def value(self, place, instruction, relocation):
-        word, first = instruction.word, self.stretch.registers[instruction.first]
+        word, first = instruction.op, self.stretch.registers[instruction.rs1]
         if word in ("lui", "auipc"):
             if word == "auipc" and relocation is None:
                 raise Unknown(place, "an auipc without a name")
             return self.part(place, instruction, relocation)
         if word in ("unknown", "ecall"):
             raise Unknown(place, f"an instruction that is {word}")
-        second = self.stretch.registers[instruction.second]
-        if instruction.has_number:
+        second = self.stretch.registers[instruction.rs2]
+        if word in ON_REGISTERS:
             second = self.part(place, instruction, relocation)
-        found = computed(word, first, second)
+        found = computed(ON_REGISTERS.get(word, word), first, second)
         return found if self.code.is_left else self.based(found)
 
     def write(self, place, register, value):
@@ -206,15 +205,15 @@ class Runner:
             self.stretch.stacks.append(value)
 
     def access(self, place, instruction, relocation):
-        base = self.stretch.registers[instruction.first]
-        stored, register = None, instruction.target
-        address = ZERO if instruction.word == "fence" else base.plus(self.part(place, instruction, relocation))
-        if instruction.word in STORES:
-            register, stored = instruction.second, self.stretch.registers[instruction.second]
+        base = self.stretch.registers[instruction.rs1]
+        stored, register = None, instruction.rd
+        address = ZERO if instruction.op == "fence" else base.plus(self.part(place, instruction, relocation))
+        if instruction.op in STORES:
+            register, stored = instruction.rs2, self.stretch.registers[instruction.rs2]
         if not self.code.is_left:
             address = self.based(address)
-        access = Access(instruction.word, register, address, stored, place)
+        access = Access(instruction.op, register, address, stored, place)
         self.stretch.accesses.append(access)
         value = self.met(len(self.stretch.accesses) - 1, access)
-        if instruction.word in LOADS:
+        if instruction.op in LOADS:
             self.write(place, register, value)
