@@ -2,13 +2,13 @@
 import random
 import struct
 
+from suygapid.image.layout import MAGICS, Part, spelled
 from suygapid.isa.encoding import b_type, i_type, jal, r_type, s_type
 
 # mixed: accesses and indirect jumps after their pairs, branches, jumps, computations of both lengths; wide: 32-bit computations
 # alone; short: 16-bit forms alone; pairs: in each bundle one access after its pair, and one computation. In code in words accesses need no
 # pair; there mixed code has one for every two accesses, and steps of data registers.
 KINDS = ["mixed", "wide", "short", "pairs"]
-MAGICS = {1: b"SFI1", 2: b"SFI2", 3: b"SFIW"}
 DATA_REGISTERS = [2, 3, 4, 29]
 
 # From the smallest image to the largest: how many sandboxes, the bytes of code and the first bytes of data of each, and the format.
@@ -150,16 +150,13 @@ def code_of(seed, size, format):
 def image(kind, sandboxes=16, code_size=65536, init=0, format=1, seed=0):
     """The bytes of an image with that many sandboxes, each with that much code, 1 MiB of data, and that many first data bytes. Another
     seed makes other code."""
-    out = [MAGICS[format], struct.pack("<I", sandboxes)]
+    parts = []
     for n in range(sandboxes):
-        code = code_of(seed + n, code_size, format)
-        code_base = 0x01000000 * (n + 1)
+        code, code_base = code_of(seed + n, code_size, format), 0x01000000 * (n + 1)
         bundles = [code.bundle(kind, at) for at in range(0, code_size - 16, 16)]
         bundles.append(struct.pack("<H", 0x9002) * 8)  # c.ebreak: control can't run off the end
-        out.append(struct.pack("<7I", code_base, code_size, code_base + 0x800000, 1048576, code_base, 0, init))
-        out += bundles
-        out.append(bytes(init))
-    return b"".join(out)
+        parts.append(Part(code_base, b"".join(bundles), code_base + 0x800000, 1048576, code_base, init=bytes(init)))
+    return spelled(MAGICS[format], parts)
 
 
 def as_text(data):

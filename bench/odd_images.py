@@ -3,6 +3,7 @@ import random
 import struct
 
 import images
+from suygapid.image.layout import Part, spelled
 
 STUB = bytes.fromhex("73000000b3ff9001b3ef8f0167800f00")
 REGISTERS = [0, 1, 2, 2, 8, 9, 10, 24, 25, 26, 27, 31]
@@ -122,7 +123,7 @@ def odd_bundle(pick, code, pieces, place):
 
 
 def sandbox(pick, number, size, format, bundle_at):
-    """The bytes of a sandbox with gates in some places, whose other bundles are asked for by place."""
+    """A sandbox with gates in some places, whose other bundles are asked for by place."""
     base = 0x01000000 * (number + 1)
     gates = sorted(pick.sample(range(0, size, 16), pick.choice([0, 0, 1, 3])))
     bundles = [bundle_at(place) for place in range(0, size, 16)]
@@ -131,9 +132,8 @@ def sandbox(pick, number, size, format, bundle_at):
     for place in gates:
         bundles[place // 16] = pick.choice([STUB, STUB, STUB, flipped(pick, STUB, 1)])
     init = pick.choice([0, 0, 5])
-    numbers = struct.pack("<7I", base, size, base + 0x800000, 256, base, len(gates), init)
-    listed = b"".join(struct.pack("<2I", base + place, pick.randrange(6)) for place in gates)
-    return numbers + listed + b"".join(bundles) + bytes(init)
+    services = {base + place: pick.randrange(6) for place in gates}
+    return Part(base, b"".join(bundles), base + 0x800000, 256, base, services, bytes(init))
 
 
 def odd_image(seed, sandboxes, size, format):
@@ -141,7 +141,7 @@ def odd_image(seed, sandboxes, size, format):
     pick = random.Random(seed)
     code, pieces = images.Code(seed, size, format), Pieces(pick)
     made = [sandbox(pick, n, size, format, lambda place: odd_bundle(pick, code, pieces, place)) for n in range(sandboxes)]
-    return b"SFI%d" % format + struct.pack("<I", sandboxes) + b"".join(made)
+    return spelled(images.MAGICS[format], made)
 
 
 def accepted_image(pick, seed, format):

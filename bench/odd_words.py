@@ -5,6 +5,7 @@ import struct
 import images
 import odd_images
 import word_rules
+from suygapid.image.layout import Part, spelled
 from suygapid.isa.encoding import b_type, jal, s_type
 
 CODE_BASE, DATA_SIZE = 0x01000000, 256
@@ -171,13 +172,9 @@ def made_code(pick, size, but=()):
 
 def image(sandboxes):
     """The bytes of an image with these sandboxes, each its code and the places of its gates."""
-    made = [b"SFIW", struct.pack("<I", len(sandboxes))]
-    for n, (code, gates) in enumerate(sandboxes):
-        base = CODE_BASE * (n + 1)
-        made.append(struct.pack("<7I", base, len(code), base + 0x800000, DATA_SIZE, base, len(gates), 0))
-        made += [struct.pack("<2I", base + place, 1) for place in gates]
-        made.append(code)
-    return b"".join(made)
+    bases = [CODE_BASE * (n + 1) for n in range(len(sandboxes))]
+    return spelled(images.MAGICS[3], [Part(base, code, base + 0x800000, DATA_SIZE, base, {base + place: 1 for place in gates})
+                                      for base, (code, gates) in zip(bases, sandboxes)])
 
 
 def odd_sandbox(pick, size):

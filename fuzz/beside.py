@@ -18,11 +18,11 @@ import tempfile
 import fuzzing
 import calls
 import corpus
-import layout
 import verdicts
 import worlds
 
 import measure
+from suygapid.image import layout
 
 CALLS_OF_A_WORLD = 80
 MODULES = 6  # of a world

@@ -6,7 +6,7 @@
 Each case is an image in one of the three formats (of odd code, or an accepted one with changes), given as text of random
 spelling, now and then with a wrong digit, or as its bytes, to a command with random options, or to words that are no
 command. Compared are the status, the verdict with its first finding, and the report. What is expected comes from
-bench/checker.c, bench/word_rules.py and fuzz/layout.py. `--plant V5` leaves rule V5 out of these: then it has to fail.
+bench/checker.c, bench/word_rules.py and tools/suygapid/image/layout.py. `--plant V5` leaves rule V5 out of these: then it has to fail.
 It wants gcc.
 """
 import sys

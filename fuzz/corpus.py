@@ -6,13 +6,13 @@ import os
 import struct
 
 import fuzzing
-import layout
 
 import compare
 import images
 import measure
 import odd_images
 import odd_words
+from suygapid.image import layout
 
 EXAMPLES = os.path.join(fuzzing.TOP, "examples")
 FORMAT_LINES = (b".format 1\n", b".format 2\n", b".format words\n")

@@ -17,13 +17,13 @@ import sys
 
 import fuzzing
 import corpus
-import layout
 import machine
 
 import measure
 import odd_images
 import odd_words
 import word_rules
+from suygapid.image import layout
 from suygapid.isa.decoding import WIDTHS
 
 NAMES = ["verdicts of images in the first format", "verdicts of images in the second format", "verdicts of images in words",

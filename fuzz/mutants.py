@@ -5,8 +5,8 @@ changed.
     fuzz/mutants.py [--program PATH] [--rounds N] [--seconds S] [--plant RULE] [SEED ..]
 
 Each case is an image of the examples, or a small one of random code, in one of the three formats, with changes. Every command
-gets it: none may crash, and each has to end in the status that docs/sfi.1 has for it. The verdict has to be the one that
-bench/checker.c, bench/word_rules.py and fuzz/layout.py give; `check`, `check --raw` and `check --report` have to agree; what
+gets it: none may crash, and each has to end in the status that README.md has for it. The verdict has to be the one that
+bench/checker.c, bench/word_rules.py and tools/suygapid/image/layout.py give; `check`, `check --raw` and `check --report` have to agree; what
 is accepted is run as bench/interpreter.c runs it, and of the first format converted to an image that is accepted, too; what
 isn't is refused by `run` and `convert`, and listed where it is an image. `--plant V5` leaves rule V5 out of the expected
 verdicts: then it has to fail. It wants gcc.
@@ -17,10 +17,10 @@ import tempfile
 
 import fuzzing
 import corpus
-import layout
 import verdicts
 
 import measure
+from suygapid.image import layout
 
 NAMES = ["statuses", "check", "check --raw", "check --report", "the report", "the layout by checker.c", "dis", "run",
          "run of what is accepted", "run --report", "convert", "what is converted"]

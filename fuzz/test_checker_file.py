@@ -8,10 +8,10 @@ import subprocess
 import unittest
 
 import corpus
-import layout
 import checker_file
 import second_checker
 import testing
+from suygapid.image import layout
 
 COMPILERS = [it for it in ("gcc", "clang") if shutil.which(it)]
 MUTANTS = 1000
@@ -86,7 +86,7 @@ class CheckerFile(testing.Folder):
         self.assertEqual(bytes(again), bytes(verdict))
 
     def compare_parts(self, library, data):
-        """The regions and gates, as fuzz/layout.py reads them."""
+        """The regions and gates, as tools/suygapid/image/layout.py reads them."""
         length = ctypes.c_size_t(len(data))
         for number, part in enumerate(layout.parts(data)):
             told, gates = Part(), (ctypes.c_uint32 * 128)()

@@ -13,7 +13,6 @@ import calls
 import commands
 import corpus
 import escapes
-import layout
 import mutants
 import second
 import verdicts
@@ -23,6 +22,7 @@ import images
 import measure
 import second_checker
 import testing
+from suygapid.image import layout
 from suygapid.isa import decoding
 
 MOST = 600  # cases in which a planted fault has to be found

@@ -8,10 +8,10 @@ import os
 import re
 
 import fuzzing
-import layout
 
 import measure
 import word_rules
+from suygapid.image import layout
 
 with open(os.path.join(fuzzing.TOP, "docs", "IMAGE.md"), encoding="utf-8") as file:
     IN_BUNDLES, IN_WORDS = (dict(re.findall(r"^\| (V\d+) \| `(\w+)` \|", text, re.MULTILINE))

@@ -9,8 +9,8 @@ import re
 import subprocess
 
 import fuzzing
-import layout
 import machine
+from suygapid.image import layout
 
 NONE, READY, CALL, EXITED, TRAPPED, STOPPED = range(6)
 CHANGED, NO_WORLD, NO_MODULE, NO_SANDBOX, MEETS, FULL, NO_MEMORY = range(7)

@@ -25,9 +25,9 @@ import tempfile
 sys.dont_write_bytecode = True
 import lines
 import form_mistakes
-import layout
 import machine
 from lines import HERE, TOP
+from suygapid.image import layout
 from suygapid.isa.decoding import Instruction
 
 INCLUDE = os.path.join(TOP, "crates/sfi_translate/include")
@@ -172,7 +172,7 @@ def filled(text):
 
 
 def part(size=DATA_SIZE):
-    return layout.Part(3, CODE, CODE_SIZE, DATA, size, CODE, {}, bytes(CODE_SIZE), b"", 0)
+    return layout.Part(CODE, bytes(CODE_SIZE), DATA, size, CODE, format=3)
 
 
 def word(pick, size):

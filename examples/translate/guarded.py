@@ -6,7 +6,7 @@ import subprocess
 
 import lines
 import corpus
-import layout
+from suygapid.image import layout
 
 PAGE = 4096
 FORMATS = {1: b".format 1\n", 2: b".format 2\n", 3: b".format words\n"}

@@ -10,7 +10,6 @@ import argparse
 import os
 import random
 import shutil
-import struct
 import subprocess
 import sys
 import tempfile
@@ -22,6 +21,7 @@ import guarded
 import measure
 import whole_translation
 from lines import HERE, TOP
+from suygapid.image.layout import MAGICS, Part, spelled
 
 INCLUDE = os.path.join(TOP, "crates/sfi_translate/include")
 GUARDED = (("gcc", "-O2"), ("clang", "-O1"))  # on x86-64 in its instructions, with guarded accesses where data are large enough
@@ -35,8 +35,8 @@ INPUT = "00ff10203040506070809a0b0c0d0e0f11"
 
 def straight():
     """128 steps with no jump, from where the steps that are left are looked at."""
-    fields = (1, 0x01000000, 512, 0x01800000, 256, 0x01000000, 0, 0)
-    return b"SFI1" + struct.pack("<8I", *fields) + b"\x01\x00" * 128 + b"\x02\x90" * 128  # c.nop, c.ebreak
+    code = b"\x01\x00" * 128 + b"\x02\x90" * 128  # c.nop, c.ebreak
+    return spelled(MAGICS[1], [Part(0x01000000, code, 0x01800000, 256, 0x01000000)])
 
 
 def written(folder, text):

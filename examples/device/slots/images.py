@@ -2,9 +2,9 @@
 import collections
 import struct
 
+from suygapid.image.layout import NAMED, Part, spelled
 from suygapid.isa.encoding import i_type, jal, r_type, s_type, u_type
 
-MAGICS = {"1": b"SFI1", "2": b"SFI2", "words": b"SFIW"}
 UNITS = {"1": 16, "2": 16, "words": 4}  # bytes: a sandbox is entered at multiples of it
 BUNDLE, DATA_SIZE = 16, 4096
 KINDS = ("reports", "lives", "silent", "breaks", "refused")
@@ -82,6 +82,6 @@ class Image(collections.namedtuple("Image", "number image_format kind base size 
 
     def bytes(self):
         words = [word for number in range(self.size // BUNDLE) for word in self.bundle(number)]
-        gates = [word for bundle, service in SERVICES.items() for word in (self.base + BUNDLE * bundle, service)]
-        head = [1, self.base, self.size, self.data, DATA_SIZE, self.base + BUNDLE * START, len(SERVICES), 0]
-        return MAGICS[self.image_format] + struct.pack(f"<{len(head + gates + words)}I", *head, *gates, *words)
+        gates = {self.base + BUNDLE * bundle: service for bundle, service in SERVICES.items()}
+        code = struct.pack(f"<{len(words)}I", *words)
+        return spelled(NAMED[self.image_format], [Part(self.base, code, self.data, DATA_SIZE, self.base + BUNDLE * START, gates)])

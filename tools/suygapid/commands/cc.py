@@ -22,10 +22,11 @@ from suygapid.cc.compilers import (
 from suygapid.cc.signatures import lines_of
 from suygapid.elf import linking
 from suygapid.elf.elf import Wrong
-from suygapid.elf.image import FORMATS, MOST_SANDBOXES, address, as_text, image, place, region
+from suygapid.elf.image import address, as_text, image, place, region
 from suygapid.elf.small import ROOM, options_of, small_bytes
 from suygapid.elf.tools import Target, assembled, rewritten
 from suygapid.elf.where import told
+from suygapid.image.layout import MOST_SANDBOXES, NAMED as FORMATS
 from suygapid.image.names import LONGEST, SERVICE, is_name, too_long_lists
 from suygapid.library import small_library
 from suygapid.library.archives import NAMED, SMALL, folders_of, headers

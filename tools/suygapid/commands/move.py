@@ -14,7 +14,11 @@ import sys
 from suygapid import TOP
 from suygapid.cc.compilers import Failed, ran
 from suygapid.elf.elf import Wrong
-from suygapid.elf.image import as_text, check_apart, place, sandboxes_of
+from suygapid.elf.image import Sandbox, as_text, check_apart, place
+from suygapid.image import layout
+
+FAULTS = {"Magic": ": this is no image", "Count": ": this is no image", "Short": ": the image is cut off",
+          "Trailing": ": bytes follow the image"}
 
 
 def parsed(words):
@@ -38,13 +42,15 @@ def content_of(read, is_raw):
 def reason(content, number, where):
     """Why a sandbox can't lie there, in words, or nothing where that isn't known here."""
     try:
-        _, sandboxes = sandboxes_of(content)
+        sandboxes = [Sandbox(**vars(part), path=f"sandbox {at}") for at, part in enumerate(layout.parts(content))]
         if not 0 <= number < len(sandboxes):
             raise Wrong(f"the image has no sandbox {number}")
         sandboxes[number] = sandboxes[number].moved(*where)
         check_apart(sandboxes)
     except Wrong as wrong:
         return f": {wrong}"
+    except layout.Fault as fault:
+        return FAULTS.get(layout.FAULTS[fault.number], "")
     return ""
 
 

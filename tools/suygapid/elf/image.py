@@ -6,14 +6,11 @@ from itertools import zip_longest
 
 from suygapid.elf.elf import Wrong
 from suygapid.elf.moving import is_movable
+from suygapid.image.layout import FORMATS, GUARD, MOST_CODE, MOST_DATA, MOST_SANDBOXES, NAMED, Part, spelled
 from suygapid.image.names import footer, moved_names
 
-FORMATS = {"1": b"SFI1", "2": b"SFI2", "words": b"SFIW"}  # the magic of each format
-LARGEST_CODE = {"1": 1 << 16, "2": 1 << 20, "words": 1 << 20}
-LARGEST_DATA = 1 << 20
 SMALLEST = 256  # bytes of a region
-GUARD, ADDRESSES = 4096, 1 << 32
-MOST_SANDBOXES = 16
+ADDRESSES = 1 << 32
 DEFAULT_STACK = 8192
 TOP = 16  # the first stack pointer lies so far below the data's end
 BREAK = b"\x02\x90"  # c.ebreak fills the code up
@@ -39,8 +36,8 @@ def place(text):
 def region(text):
     """The size of a data region that an option gives."""
     size = int(text) if text.isdigit() else 0
-    if not SMALLEST <= size <= LARGEST_DATA or size & (size - 1):
-        raise argparse.ArgumentTypeError(f"{text!r} is no power of two from {SMALLEST} to {LARGEST_DATA}")
+    if not SMALLEST <= size <= MOST_DATA or size & (size - 1):
+        raise argparse.ArgumentTypeError(f"{text!r} is no power of two from {SMALLEST} to {MOST_DATA}")
     return size
 
 
@@ -56,7 +53,7 @@ def power(count):
 
 
 def format_of(elf):
-    found = [name for name in FORMATS if f"__sfi_format_{name}" in elf.symbols]
+    found = [name for name in NAMED if f"__sfi_format_{name}" in elf.symbols]
     if len(found) != 1:
         raise Wrong(f"{elf.name} isn't code for a sandbox in one format: link it by tools/sfi-cc")
     return found[0]
@@ -73,7 +70,7 @@ def deepest_frame(elf):
 def code_of(elf, image_format):
     """The code region's bytes."""
     text = b"".join(segment.content for segment in elf.loaded() if segment.is_code)
-    most = LARGEST_CODE[image_format]
+    most = MOST_CODE[FORMATS[NAMED[image_format]]]
     if len(text) > most:
         raise Wrong(f"{elf.name}: the code has {len(text)} bytes, {len(text) - most} more than format {image_format} has room for")
     return text + BREAK * ((power(len(text)) - len(text)) // 2)
@@ -84,8 +81,8 @@ def used_by(elf):
     used = elf.symbol("__sfi_end") - elf.symbol("__sfi_data")
     if used < 0:
         raise Wrong(f"{elf.name}: the data end below their beginning: link it by tools/sfi-cc")
-    if used > LARGEST_DATA:
-        raise Wrong(f"{elf.name}: the data have {used} bytes, {used - LARGEST_DATA} more than there is room for")
+    if used > MOST_DATA:
+        raise Wrong(f"{elf.name}: the data have {used} bytes, {used - MOST_DATA} more than there is room for")
     return used
 
 
@@ -115,8 +112,8 @@ def data_size(elf, stack, wanted):
     used, above = used_by(elf), elf.symbol("__sfi_above") + TOP
     stack = stack_of(elf, stack)
     size = wanted or power(used + above + stack)
-    if used + above + stack > size or size > LARGEST_DATA:
-        most = min(size, LARGEST_DATA)
+    if used + above + stack > size or size > MOST_DATA:
+        most = min(size, MOST_DATA)
         raise Wrong(f"{elf.name}: {used} bytes of data and {stack} of stack don't fit in {most}, by {used + above + stack - most}")
     frame, room = deepest_frame(elf), size - used - above
     if frame.size > room:
@@ -125,25 +122,10 @@ def data_size(elf, stack, wanted):
     return size
 
 
-@dataclass(frozen=True)
-class Sandbox:
-    """What the image says of one sandbox."""
-    path: str
-    code_base: int
-    code: bytes
-    data_base: int
-    data_size: int
-    data: bytes
-    start: int
-    gates: tuple
-
-    def numbers(self):
-        return (self.code_base, len(self.code), self.data_base, self.data_size, self.start, len(self.gates), len(self.data))
-
-    def spans(self):
-        """The addresses that belong to it alone."""
-        return ((self.code_base, self.code_base + len(self.code)),
-                (self.data_base - GUARD, self.data_base + self.data_size + GUARD))
+@dataclass
+class Sandbox(Part):
+    """A sandbox, and how it is told."""
+    path: str = ""
 
     def check_place(self):
         for what, base, size in (("code", self.code_base, len(self.code)), ("data", self.data_base, self.data_size)):
@@ -163,19 +145,14 @@ class Sandbox:
             return address - self.data_base + data_base if address in in_data else address
 
         made = replace(self, code_base=code_base, data_base=data_base, start=there(self.start),
-                       gates=tuple((there(at), service) for at, service in self.gates), data=moved_names(self.data, there))
+                       gates={there(at): service for at, service in self.gates.items()}, init=moved_names(self.init, there))
         made.check_place()
         return made
 
-    def written(self):
-        head = struct.pack("<7I", *self.numbers())
-        return head + b"".join(struct.pack("<2I", *gate) for gate in self.gates) + self.code + self.data
-
 
 def sandbox_of(elf, stack, wanted):
-    gates = tuple(elf.gates().items())
-    made = Sandbox(elf.name, elf.symbol("__sfi_code"), code_of(elf, format_of(elf)), elf.symbol("__sfi_data"),
-                   data_size(elf, stack, wanted), data_of(elf, stack), elf.entry, gates)
+    made = Sandbox(elf.symbol("__sfi_code"), code_of(elf, format_of(elf)), elf.symbol("__sfi_data"), data_size(elf, stack, wanted),
+                   elf.entry, elf.gates(), data_of(elf, stack), path=elf.name)
     made.check_place()
     return made
 
@@ -190,7 +167,7 @@ def at_place(elf, made, where):
 
 
 def check_apart(sandboxes):
-    spans = sorted((*span, made.path) for made in sandboxes for span in made.spans())
+    spans = sorted((*span, made.path) for made in sandboxes for span in made.spans(GUARD))
     for (_, end, first), (start, _, second) in zip(spans, spans[1:]):
         if start < end:
             raise Wrong(f"{first} and {second} lie at one place: link each with a --sandbox of its own")
@@ -204,46 +181,8 @@ def image(elfs, stack=None, wanted=None, places=()):
     if len(formats) > 1:
         raise Wrong(f"{' and '.join(formats.values())} are of different formats")
     sandboxes = [at_place(elf, sandbox_of(elf, stack, wanted), where) for elf, where in zip_longest(elfs, places)]
-    return written(FORMATS[format_of(elfs[0])], sandboxes)
-
-
-def written(magic, sandboxes):
-    """The image of some sandboxes."""
     check_apart(sandboxes)
-    return magic + struct.pack("<I", len(sandboxes)) + b"".join(made.written() for made in sandboxes)
-
-
-class Reader:
-    """Takes the parts of an image one after another."""
-
-    def __init__(self, content):
-        self.content, self.at = content, 0
-
-    def bytes(self, count):
-        self.at += count
-        if self.at > len(self.content):
-            raise Wrong("the image is cut off")
-        return self.content[self.at - count:self.at]
-
-    def numbers(self, count):
-        return struct.unpack(f"<{count}I", self.bytes(4 * count))
-
-    def sandbox(self, number):
-        code_base, code_size, data_base, data_size, start, gates, first = self.numbers(7)
-        table = tuple(self.numbers(2) for _ in range(gates))
-        return Sandbox(f"sandbox {number}", code_base, self.bytes(code_size), data_base, data_size, self.bytes(first), start, table)
-
-
-def sandboxes_of(content):
-    """The magic of an image, and its sandboxes. What isn't right in it is told as far as that hinders to read it."""
-    reader = Reader(content)
-    magic, (count,) = reader.bytes(4), reader.numbers(1)
-    if magic not in FORMATS.values() or not 1 <= count <= MOST_SANDBOXES:
-        raise Wrong("this is no image")
-    found = [reader.sandbox(number) for number in range(count)]
-    if reader.at < len(content):
-        raise Wrong("bytes follow the image")
-    return magic, found
+    return spelled(NAMED[format_of(elfs[0])], sandboxes)
 
 
 def as_text(made):

@@ -1,13 +1,16 @@
-"""The layout of an image, read by docs/IMAGE.md, apart from the proved reader.
+"""The layout of an image, read and written by docs/IMAGE.md, apart from the proved reader and writer.
 
 It is untrusted: nothing is proved of it. `fuzz/verdicts.py` compares the program with it.
 """
 import dataclasses
 import struct
+from typing import Callable, Iterable
 
 from suygapid import services
 
 FORMATS = {b"SFI1": 1, b"SFI2": 2, b"SFIW": 3}
+MAGICS = {number: magic for magic, number in FORMATS.items()}
+NAMED = {"1": b"SFI1", "2": b"SFI2", "words": b"SFIW"}  # as options name them
 MOST_CODE = {1: 65536, 2: 1048576, 3: 1048576}
 MOST_DATA, GUARD, MOST_GATES, MOST_SANDBOXES = 1048576, 4096, 64, 16
 MOST_SERVICE = max(services.GATES.values())
@@ -24,17 +27,21 @@ class Fault(Exception):
 
 @dataclasses.dataclass
 class Part:
-    """A sandbox of an image. gates has the service of each gate by its address."""
-    format: int
+    """A sandbox of an image. `gates` has the service of each gate by its address, `init` the first bytes of the data, and
+    `code_offset` the place of the code in the image that it was read from."""
     code_base: int
-    code_size: int
+    code: bytes
     data_base: int
     data_size: int
     start: int
-    gates: dict
-    code: bytes
-    init: bytes
-    code_offset: int
+    gates: dict = dataclasses.field(default_factory=dict)
+    init: bytes = b""
+    format: int = 0
+    code_offset: int = 0
+
+    @property
+    def code_size(self):
+        return len(self.code)
 
     def unit(self):
         """The bytes between the places at which it may be entered."""
@@ -119,10 +126,10 @@ def read_part(read, format, spans):
     gates = read_gates(read, gate_count, is_start)
     offset = read.at
     code, init = read.take(code_size), read.take(init_size)
-    return Part(format, code_base, code_size, data_base, data_size, start, gates, code, init, offset)
+    return Part(code_base, code, data_base, data_size, start, gates, init, format, offset)
 
 
-def parts(data):
+def parts(data: bytes) -> list[Part]:
     """The sandboxes of an image; Fault where the bytes are none."""
     read, spans = Bytes(data), []
     format = FORMATS.get(read.take(4))
@@ -134,17 +141,17 @@ def parts(data):
     return found
 
 
-def spelled(magic, sandboxes):
-    """The bytes of an image of these sandboxes."""
-    made = magic + struct.pack("<I", len(sandboxes))
+def spelled(magic: bytes, sandboxes: Iterable[Part]) -> bytes:
+    """The bytes of an image of these sandboxes, whether they are right or not."""
+    made = []
     for part in sandboxes:
-        made += struct.pack("<7I", part.code_base, part.code_size, part.data_base, part.data_size, part.start, len(part.gates), len(part.init))
-        made += b"".join(struct.pack("<2I", address, service) for address, service in part.gates.items())
-        made += part.code + part.init
-    return made
+        numbers = (part.code_base, part.code_size, part.data_base, part.data_size, part.start, len(part.gates), len(part.init))
+        gates = (number for gate in part.gates.items() for number in gate)
+        made += [struct.pack(f"<{len(numbers) + 2 * len(part.gates)}I", *numbers, *gates) + part.code + part.init]
+    return magic + struct.pack("<I", len(made)) + b"".join(made)
 
 
-def moved(data, place_of):
+def moved(data: bytes, place_of: Callable[[Part], tuple[int, int]]) -> bytes:
     """The image with each sandbox at another place, where it is an image, too, and no byte of its code changed: `place_of` gives
     the bases of a part's code and data."""
     def at_place(part):
