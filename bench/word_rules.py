@@ -1,14 +1,12 @@
 """Code in words, read and judged by its table of rules in docs/IMAGE.md, apart from the proved checker.
 
-It is untrusted: nothing is proved of it. `bench/compare_words.py` compares it with the program.
+It is untrusted: nothing is proved of it. `fuzz/verdicts.py` compares the program with it.
 """
 import struct
 
 from suygapid.isa.decoding import BRANCHES, LOADS, WIDTHS, Instruction, decode16, decode32
 
 DATA_REGISTERS = (2, 3, 4, 29)
-RULES = ["V1", "V2", "V3", "V4", "V5", "V6", "V7", "V8", "V10", "V11", "V12"]
-
 NONE = Instruction("none", 0)
 JUMPS = ("jal", "jalr")
 

@@ -7,7 +7,6 @@ import struct
 
 import fuzzing
 
-import compare
 import images
 import measure
 import odd_images
@@ -23,7 +22,7 @@ EBREAK, NOP, SHORT_EBREAK, SHORT_NOP = 0x00100073, 0x13, 0x9002, 0x0001
 @functools.lru_cache(maxsize=None)
 def example_sources():
     """The source texts of the examples, without a line that says their format."""
-    found = sorted(glob.glob(os.path.join(EXAMPLES, "*.s")) + glob.glob(os.path.join(EXAMPLES, "*", "*.s")))
+    found = sorted(glob.glob(os.path.join(EXAMPLES, "**", "*.s"), recursive=True))
     lines = [measure.contents(path).splitlines(keepends=True) for path in found]
     return [b"".join(it for it in each if not it.startswith(b".format")) for each in lines]
 
@@ -31,7 +30,8 @@ def example_sources():
 @functools.lru_cache(maxsize=None)
 def examples(program):
     """The images of the examples, in each format in which they can be built."""
-    return [image for text in example_sources() for line in FORMAT_LINES for image in compare.built(program, line + text)]
+    made = [fuzzing.run([program, "build"], line + text) for text in example_sources() for line in FORMAT_LINES]
+    return [bytes.fromhex("".join(it.lines)) for it in made if it.status == 0]
 
 
 def small_accepted(pick):

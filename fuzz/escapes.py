@@ -24,7 +24,7 @@ import odd_images
 import odd_words
 import word_rules
 from suygapid.image import layout
-from suygapid.isa.decoding import WIDTHS
+from suygapid.isa.decoding import LOADS, WIDTHS
 
 NAMES = ["verdicts of images in the first format", "verdicts of images in the second format", "verdicts of images in words",
          "runs in the first format", "runs in the second format", "runs in words"]
@@ -71,6 +71,11 @@ class Hostile(machine.Machine):
     def interrupt(self):
         """Others change data, as a neighbour or a host may."""
         self.change_data(self.pick.randrange(0, self.part.data_size, 4), 4)
+
+    def access(self, it, at, value):
+        """A load into x0 may be dropped, and then traps nowhere."""
+        is_dropped = it.op in LOADS and it.rd == 0 and self.pick.random() < 0.5
+        return None if is_dropped else super().access(it, at, value)
 
     def result(self, op, a, b):
         return super().result(op, a, b) if not self.is_loose or op in KNOWN else self.word()

@@ -1,17 +1,22 @@
 #!/usr/bin/env python3
-"""Whether tools/second_checker.py, which was written from docs/IMAGE.md alone, says what `sfi check` says.
+"""Whether tools/second_checker.py, which was written from docs/IMAGE.md alone, says what `sfi check` says, and what
+bench/checker.c says of code in bundles.
 
     fuzz/second.py [--program PATH] [--rounds N] [--seconds S] [--without RULE] [SEED ..]
 
 Each case is an image of the examples, one of random code, or either with changes, as its bytes or as hexadecimal text, now
 and then with a fault. Compared are the status and all lines: of `check --report` each finding with its place, its rule and the
-instruction, and the verdict. So are all examples, and a large image in each format. `--without V5` drops the findings of
-that rule from the second checker's: then it has to fail.
+instruction, and the verdict. So are all examples, and large images in each format. The checker in C, in both of its ways,
+gives the verdicts of the images in bundles, and the findings of the large ones and examples; and its ways are compared on twice
+as many odd images. `--without V5` drops the findings of that rule from the second checker's: then it has to fail.
 """
 import functools
 import itertools
 import multiprocessing
+import os
+import struct
 import sys
+import tempfile
 
 import fuzzing
 import commands
@@ -24,8 +29,10 @@ import odd_words
 import second_checker
 
 TEXTS, BYTES, FAULTS = "check --report", "check --raw", "text with a fault"
-EXAMPLES, LARGE = "examples", "large images"
-NAMES = [TEXTS, BYTES, FAULTS, EXAMPLES, LARGE]
+EXAMPLES, LARGE, KINDS = "examples", "large images", "the kinds of bench/images.py are accepted"
+VERDICTS, FINDINGS, WAYS = "verdicts in C", "findings in C", "both ways in C"
+IN_C = [VERDICTS, FINDINGS, WAYS]
+NAMES = [TEXTS, BYTES, FAULTS, EXAMPLES, LARGE, KINDS]
 BATCH = 2000  # cases that are handed out at a time
 
 
@@ -49,10 +56,47 @@ def image(pick, program):
     return data if choice < 0.5 else corpus.mutant(pick, data)
 
 
+class CheckerInC:
+    """bench/checker.c, compiled in a folder, in both of its ways to class instructions, beside the second checker."""
+
+    def __init__(self, folder, tally):
+        self.ways, self.path, self.tally = measure.checkers("checker.c", folder), os.path.join(folder, "images"), tally
+
+    def verdicts(self, way, some):
+        """A line of each image, by a process for each thousand, whose file it can hold."""
+        lines = []
+        for k in range(0, len(some), 1000):
+            measure.written(self.path, b"".join(struct.pack("<I", len(data)) + data for data in some[k : k + 1000]))
+            lines += fuzzing.output([way, "--many", self.path]).splitlines()
+        return lines
+
+    def see_verdicts(self, cases):
+        """Compares the verdicts of those images that are in bundles: of each case its name, the image and the verdict."""
+        cases = [it for it in cases if it[1][:4] != images.MAGICS[3]]
+        for way in self.ways.values():
+            found = self.verdicts(way, [data for _, data, _ in cases])
+            for (self.tally.case, data, verdict), line in itertools.zip_longest(cases, found, fillvalue=("", b"", None)):
+                self.tally.see(VERDICTS, verdict, line, data)
+
+    def see_findings(self, data, lines):
+        """Compares all findings of an image in bundles with those of a report."""
+        wanted = [" ".join(it.split()[:3]) for it in lines[:-1]]
+        for way in self.ways.values():
+            measure.written(self.path, data)
+            self.tally.see(FINDINGS, wanted, fuzzing.output([way, "--list", self.path]).splitlines()[:-1], data)
+
+    def see_ways(self, seed, count):
+        """Compares both ways on images that the second checker doesn't see."""
+        some = [odd_images.small_image(seed + n) for n in range(count)]
+        for self.tally.case, (data, *lines) in enumerate(zip(some, *(self.verdicts(way, some) for way in self.ways.values()))):
+            self.tally.see(WAYS, *lines, data)
+
+
 def compared(program, without, case):
-    """A case's name, and what is compared in it: the comparison, what is wanted, what is found and the image."""
+    """A case's name, what is compared in it (the comparison, what is wanted, what is found and the image), and the verdict."""
     name, pick = case
     data, choice = image(pick, program), pick.random()
+    status, lines = expected(data, without)
     if choice < 0.05:
         text, line = commands.misspelled(pick, data)
         try:
@@ -60,44 +104,66 @@ def compared(program, without, case):
         except second_checker.Fault as fault:
             said = str(fault)
         found = program_says(program, ["check"], text.encode())
-        return name, [(FAULTS, (2, [line]), found, data), (FAULTS, line, said, data)]
+        return name, [(FAULTS, (2, [line]), found, data), (FAULTS, line, said, data)], lines[-1]
     if choice < 0.2:
-        status, lines = expected(data, without)
-        return name, [(BYTES, (status, lines[-1:]), program_says(program, ["check", "--raw"], data), data)]
+        return name, [(BYTES, (status, lines[-1:]), program_says(program, ["check", "--raw"], data), data)], lines[-1]
     text = commands.spelled(pick, data).encode()
     found = program_says(program, ["check", "--report"], text)
-    return name, [(TEXTS, expected(second_checker.image_of(text), without), found, data)]
+    return name, [(TEXTS, expected(second_checker.image_of(text), without), found, data)], lines[-1]
 
 
-def large_images(seed):
-    """An image of odd code in each format, and an accepted one of each kind."""
-    kinds = [images.image(kind, 1, 16384, 3, format, seed) for kind in images.KINDS for format in (1, 2, 3)]
-    return kinds + [odd_images.odd_image(seed, 1, 65536, format) for format in (1, 2)] + [odd_words.image(odd_words.large_sandboxes(seed))]
+def kinds(seed):
+    """An image of each kind in each format."""
+    return [images.image(kind, 1, 16384, 3, format, seed) for kind in images.KINDS for format in (1, 2, 3)]
 
 
-def compare_whole(program, without, tally, seed):
+def odd_ones(seed):
+    """A large image of odd code in each format."""
+    return [*(odd_images.odd_image(seed, 2, 65536, format) for format in (1, 2)), odd_words.image(odd_words.large_sandboxes(seed))]
+
+
+def compare_whole(program, without, tally, in_c, seed):
     """Compares each example and each large image."""
-    for name, some in ((EXAMPLES, corpus.examples(program)), (LARGE, large_images(seed))):
+    for name, some in ((EXAMPLES, corpus.examples(program)), (KINDS, kinds(seed)), (LARGE, odd_ones(seed))):
         for tally.case, data in enumerate(some):
-            found = program_says(program, ["check", "--report"], data.hex().encode())
-            tally.see(name, expected(data, without), found, data)
+            status, lines = expected(data, without)
+            tally.see(name, (0 if name == KINDS else status, lines), program_says(program, ["check", "--report"], data.hex().encode()), data)
+            tally.see(BYTES, (status, lines[-1:]), program_says(program, ["check", "--raw"], data), data)
+            if in_c and data[:4] != images.MAGICS[3]:
+                in_c.see_findings(data, lines)
+                in_c.see_verdicts([(tally.case, data, lines[-1])])
 
 
 def main(words=None):
     parser = fuzzing.options(__doc__, 10000)
     parser.add_argument("--without", metavar="RULE", help="drop the findings of this rule from the second checker's")
     given = parser.parse_args(words)
-    tally = fuzzing.tally_of(parser, given, NAMES)
+    has_c = fuzzing.has_gcc()
+    tally = fuzzing.tally_of(parser, given, NAMES + IN_C * has_c)
     program = measure.program_at(given.program)
-    if given.round is None:
-        compare_whole(program, given.without, tally, given.seeds[0])
+    with tempfile.TemporaryDirectory() as folder:
+        in_c = CheckerInC(folder, tally) if has_c else None
+        if not has_c:
+            tally.skip(len(IN_C), "the checker in C beside the second one", "gcc isn't there")
+        if given.round is None:
+            compare_whole(program, given.without, tally, in_c, given.seeds[0])
+        if has_c and given.round is None:
+            in_c.see_ways(given.seeds[0], 2 * given.rounds)
+        compare_cases(program, given, tally, in_c)
+    return tally.end()
+
+
+def compare_cases(program, given, tally, in_c):
     all_cases = fuzzing.cases(given)
     with multiprocessing.Pool() as pool:
         while batch := list(itertools.islice(all_cases, BATCH)):
-            for tally.case, rows in pool.imap(functools.partial(compared, program, given.without), batch, chunksize=50):
+            seen = []
+            for tally.case, rows, verdict in pool.imap(functools.partial(compared, program, given.without), batch, chunksize=50):
                 for row in rows:
                     tally.see(*row)
-    return tally.end()
+                seen.append((tally.case, rows[0][3], verdict))
+            if in_c:
+                in_c.see_verdicts(seen)
 
 
 if __name__ == "__main__":

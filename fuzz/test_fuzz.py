@@ -125,6 +125,7 @@ class Planted(testing.Folder):
             tried.builder = testing.SFI
             self.found(tally, tried.try_one, name)
 
+    @testing.needs_program
     def test_escapes_are_found_without_a_rule(self):
         findings = calls.findings_by(verdicts.Judge(self.folder))
         for format, rules in verdicts.NAMES.items():
@@ -132,10 +133,13 @@ class Planted(testing.Folder):
                 self.found_without(rule, format, findings)
 
     def found_without(self, rule, format, findings):
+        """An image that the program refuses for this rule alone has a run that isn't safe."""
         tally = fuzzing.Tally()
 
         def try_one(pick):
-            escapes.try_image(pick, escapes.random_image(pick, format), findings, {rule}, tally)
+            data = escapes.try_image(pick, escapes.random_image(pick, format), findings, {rule}, tally)
+            if tally.wrong:
+                self.assertEqual({it[2] for it in corpus.findings_of(testing.SFI, data)[1]}, {rule})
 
         self.found(tally, try_one, f"a run that isn't safe without {rule} in format {format}")
 
