@@ -1,5 +1,5 @@
 """Tests of sums, differences, products, quotients and square roots of doubles, and of integers as doubles: suygapid/library/double*.c
-and newlib/sqrt.c there: `tools/unit_tests.py tools`. The wanted bits are those of this machine's own floating point. They
+and newlib_glue/sqrt.c there: `tools/unit_tests.py tools`. The wanted bits are those of this machine's own floating point. They
 are skipped where a compiler, GCC's sources or the program isn't there."""
 import os
 import subprocess
@@ -11,7 +11,7 @@ from testing import COMPILERS, SFI, SFI_CC, TOOLS, Folder, needs
 FOLDER = TOOLS / "suygapid" / "library"
 SHARED, DOUBLES, QUOTIENTS, CONVERSIONS = (FOLDER / name for name in ("doubles.h", "doubles.c", "double_quotients.c",
                                                                      "double_conversions.c"))
-ROOTS = FOLDER / "newlib" / "sqrt.c"
+ROOTS = FOLDER / "newlib_glue" / "sqrt.c"
 FILES = (SHARED, DOUBLES, QUOTIENTS, CONVERSIONS, ROOTS)
 
 # Pairs of numbers: `edge` has each of some exponents with each of some digits, `choose` takes random ones of ten kinds.

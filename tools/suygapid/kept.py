@@ -3,23 +3,24 @@ import hashlib
 import os
 import sys
 import tempfile
+from typing import Callable, Iterable, Optional
 
-told = []  # what was said of folders that take long to make
+told: list[str] = []  # what was said of folders that take long to make
 
 
-def tell_once(text):
+def tell_once(text: str) -> None:
     """Says on standard error, before it begins, that something takes long: in one line of a run, however much does."""
     if not told:
         print(f"{os.path.basename(sys.argv[0])}: {text}", file=sys.stderr, flush=True)
     told.append(text)
 
 
-def root():
+def root() -> str:
     home = os.environ.get("XDG_CACHE_HOME") or os.path.join(os.path.expanduser("~"), ".cache")
     return os.path.join(home, "sfi-cc")
 
 
-def kept(name, words, make, long=None):
+def kept(name: str, words: Iterable[str], make: Callable[[str], object], long: Optional[str] = None) -> str:
     """The folder of a name that `make` fills; `words` are all that it is made of, so that another goes by another name;
     `long` is what to tell where it isn't there, if that takes long. It is whole as soon as it is there: two runs at once may
     make it, and one of theirs stays."""

@@ -115,7 +115,7 @@ class Loading(unittest.TestCase):
         sandbox.turn(1000).reply(0)
         before = sandbox.steps
         with concurrent.futures.ThreadPoolExecutor(4) as pool:
-            list(pool.map(lambda _: [sandbox.turn(7) for _ in range(200)], range(8)))
+            list(pool.map(lambda _, turn=sandbox.turn: [turn(7) for _ in range(200)], range(8)))
         self.assertEqual(sandbox.steps, before + 8 * 200 * 7)
         freed, close = [], sfi_run.World.close
 

@@ -2,8 +2,7 @@
 import math
 import unittest
 
-from test_sfi_run import HERE  # which also finds the package
-import sfi_run
+from test_sfi_run import sfi_run  # which finds the package
 from sfi_run import signatures
 from sfi_run.signatures import Signature, claimed, parsed
 

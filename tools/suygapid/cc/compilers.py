@@ -4,6 +4,7 @@ import re
 import shutil
 import subprocess
 import sys
+from typing import Iterable, Sequence
 
 from suygapid import TOP
 
@@ -32,13 +33,13 @@ WITH_VALUE = ("-I", "-D", "-U", "-include", "-imacros", "-isystem", "-iquote", "
 class Failed(Exception):
     """A program that failed, or couldn't be run: the status to end in, and what the program said."""
 
-    def __init__(self, status, reason, told=b""):
+    def __init__(self, status: int, reason: str, told: bytes = b"") -> None:
         super().__init__(reason)
         self.status = status
         self.told = told
 
 
-def ran(words, data=b""):
+def ran(words: Sequence[str], data: bytes = b"") -> tuple[bytes, bytes]:
     """What a program prints, and what it says on standard error. Where it fails, that includes what it printed."""
     try:
         done = subprocess.run(words, input=data, stdout=subprocess.PIPE, stderr=subprocess.PIPE, check=False)
@@ -50,24 +51,24 @@ def ran(words, data=b""):
     return done.stdout, done.stderr
 
 
-def is_source(word):
+def is_source(word: str) -> bool:
     """Whether a word of a command line, which isn't the value of the one before it, is a file to compile."""
     return word.endswith((*SOURCES, *PLUS_PLUS_SOURCES, *WITH_MACROS, *ASSEMBLY)) and not word.startswith("-")
 
 
-def tell(said):
+def tell(said: bytes) -> None:
     sys.stderr.buffer.write(said)
     sys.stderr.flush()
 
 
-def run(words, data=b""):
+def run(words: Sequence[str], data: bytes = b"") -> bytes:
     """What a program prints; what it says goes on to standard error."""
     printed, said = ran(words, data)
     tell(said)
     return printed
 
 
-def name_of(words):
+def name_of(words: Sequence[str]) -> str:
     """How a program is told: by its own name, and by the tool or the command that it was to run."""
     if words[0] == sys.executable:
         return os.path.basename(words[2])
@@ -91,20 +92,20 @@ def for_language(file, given):
     return [word for word in given if word != HOSTED] if file.endswith(PLUS_PLUS_SOURCES) else given
 
 
-def is_clang(compiler):
+def is_clang(compiler: str) -> bool:
     return "clang" in os.path.basename(compiler)
 
 
-def default_compiler():
+def default_compiler() -> str:
     return CLANG if shutil.which(CLANG) and not shutil.which(GCC) else GCC
 
 
-def version(compiler):
+def version(compiler: str) -> str:
     """What tells one compiler from another."""
     return ran([compiler, "--version"])[0].decode("utf-8", "replace")
 
 
-def reserved(image_format):
+def reserved(image_format: str) -> tuple[int, ...]:
     """The registers that are the sandbox's own in a format."""
     return RESERVED_IN_WORDS if image_format == "words" else RESERVED
 
@@ -121,7 +122,7 @@ def without_own_convention(line):
     return OWN_CONVENTION.sub(r"\1", line) if line[:1] not in "@!" else line
 
 
-def by_llc(llc, middle, words, assembly, registers):
+def by_llc(llc: str, middle: str, words: Iterable[str], assembly: str, registers: Iterable[int]) -> bytes:
     """Makes the assembly of LLVM's text; what llc said."""
     with open(middle, encoding="utf-8", errors="surrogateescape") as file:
         text = "".join(map(without_own_convention, file))
@@ -139,7 +140,7 @@ def by_clang(compiler, given, file, assembly, registers):
     return first[1] + by_llc(llc, middle, [level(given)], assembly, registers)
 
 
-def object_of(compiler, given, file, output):
+def object_of(compiler: str, given: Iterable[str], file: str, output: str) -> None:
     """Makes an object as the compiler does by itself, whose code no sandbox has."""
     beside = TARGET if is_clang(compiler) else GCC_HEADERS
     ran([compiler, "-c", "-O2", *COMMON, *beside, *language(file), *for_language(file, given), *LAST, *HEADERS, "-o", output, file])
@@ -150,7 +151,7 @@ def preprocessed(compiler, given, file, assembly, _):
     return ran([compiler, "-E", *target, *COMMON, *given, *HEADERS, "-o", assembly, file])[1]
 
 
-def compiled(compiler, given, file, place, registers=RESERVED_IN_WORDS):
+def compiled(compiler: str, given: Iterable[str], file: str, place: str, registers: tuple[int, ...] = RESERVED_IN_WORDS) -> tuple[str, bytes]:
     """The path of a file's assembly, which leaves some registers alone, and what the compiler said. Each has a folder
     `place` of its own, since two may have one name."""
     if file.endswith(ASSEMBLY):

@@ -3,6 +3,7 @@ information. A source that has such functions is compiled once more for that, un
 program is what it would be without."""
 import os
 import re
+from typing import Iterable
 
 from suygapid.cc import debug_entries as debug
 from suygapid.cc.compilers import PLUS_PLUS_SOURCES, SOURCES, Failed, object_of
@@ -172,7 +173,7 @@ def signatures_of(compiler, given, file, place, imports):
     return {}
 
 
-def lines_of(compiler, given, file, assembly, names):
+def lines_of(compiler: str, given: Iterable[str], file: str, assembly: str, names: tuple[list[str], list[str]]) -> bytes:
     """GNU assembly with a symbol for each signature, which image/names.py finds in the object. `names` are lists of exports and
     imports beside those that the source marks."""
     if not file.endswith((*SOURCES, *PLUS_PLUS_SOURCES)):

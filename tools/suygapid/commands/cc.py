@@ -33,7 +33,7 @@ from suygapid.library.archives import NAMED, SMALL, folders_of, headers
 from suygapid.services import GATES
 
 LINKED = (".o", ".a")
-SMALLER = ([], ["-msmall-data-limit=8"], ["-msmall-data-limit=0"])
+SMALLER: tuple[list[str], ...] = ([], ["-msmall-data-limit=8"], ["-msmall-data-limit=0"])
 TOO_MANY_SMALL = b"the small objects and the room below them exceed"  # what the linker script says
 KEEPING = "known,sharing,stepping"  # passes that leave the stack pointer, variables and the order of instructions as they were
 

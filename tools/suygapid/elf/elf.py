@@ -1,6 +1,7 @@
 """Reads what an image needs of a linked ELF file of 32 bits: segments, sections and symbols."""
 import struct
 from dataclasses import dataclass
+from typing import Iterator, Optional
 
 LOADED, EXECUTABLE = 1, 1  # a segment's kind, and its flag
 SYMBOLS = 2  # a section's kind
@@ -30,7 +31,7 @@ class Segment:
 class Elf:
     """A linked file, and how it is told: by its path if no other name is given."""
 
-    def __init__(self, path, name=None):
+    def __init__(self, path: str, name: Optional[str] = None) -> None:
         with open(path, "rb") as file:
             self.content = file.read()
         self.path, self.name = path, name or path
@@ -47,53 +48,53 @@ class Elf:
         except (struct.error, IndexError, ValueError) as error:
             raise Wrong(f"{path} is cut off, or no ELF file") from error
 
-    def segment(self, at):
+    def segment(self, at: int) -> tuple[int, Segment]:
         kind, offset, address, _, stored, size, flags, _ = struct.unpack_from("<8I", self.content, at)
         return kind, Segment(address, self.content[offset:offset + stored], size, bool(flags & EXECUTABLE))
 
-    def loaded(self):
+    def loaded(self) -> list[Segment]:
         """The segments that have bytes in memory."""
         return [segment for kind, segment in self.segments if kind == LOADED and segment.size]
 
-    def text(self, section, offset):
+    def text(self, section: int, offset: int) -> str:
         """A name of a section of names."""
         start = self.headers[section][4] + offset
         return self.content[start:self.content.index(b"\0", start)].decode("utf-8", "replace")
 
-    def bytes_of(self, header):
+    def bytes_of(self, header: tuple[int, ...]) -> bytes:
         return self.content[header[4]:header[4] + header[5]]
 
-    def section(self, name):
+    def section(self, name: str) -> bytes:
         """A section's bytes, none where it isn't there."""
         found = [header for header in self.headers if self.text(self.names, header[0]) == name]
         return self.bytes_of(found[0]) if found else b""
 
-    def read_symbols(self):
+    def read_symbols(self) -> Iterator[Symbol]:
         for header in self.headers:
             if header[1] == SYMBOLS:
                 for name, value, size, kind, _, section in struct.iter_unpack("<3I2BH", self.bytes_of(header)):
                     if section:
                         yield Symbol(self.text(header[6], name), value, size, kind & 15)
 
-    def symbol(self, name):
+    def symbol(self, name: str) -> int:
         if name not in self.symbols:
             raise Wrong(f"{self.name} has no symbol {name}: link it by tools/sfi-cc, and leave its symbols there")
         return self.symbols[name]
 
-    def function_at(self, address):
+    def function_at(self, address: int) -> str:
         return next((name for name, value in self.symbols.items() if value == address), f"{address:#x}")
 
-    def named(self):
+    def named(self) -> list[Symbol]:
         """The symbols of functions and objects, with labels of assembly."""
         return [symbol for symbol in self.table
                 if symbol.kind in (NOTHING, OBJECT, FUNCTION) and symbol.name and not symbol.name.startswith((".", "$", "__sfi_"))]
 
-    def named_at(self, address, base):
+    def named_at(self, address: int, base: int) -> str:
         """The name of the function or object that an address belongs to, of those from a base on, or nothing."""
         found = [symbol for symbol in self.named() if base <= symbol.value <= address]
         last = max(found, key=lambda symbol: symbol.value, default=None)
         return last.name if last else ""
 
-    def gates(self):
+    def gates(self) -> dict[int, int]:
         """The address and the service of each gate's stub."""
-        return dict(sorted(struct.iter_unpack("<2I", self.section(".sfi.gates"))))
+        return {at: service for at, service in sorted(struct.iter_unpack("<2I", self.section(".sfi.gates")))}

@@ -21,5 +21,5 @@ STUB = """\
 """
 
 
-def stub(name, service, image_format):
+def stub(name: str, service: int, image_format: str) -> str:
     return STUB.format(name=name, service=service, scratch=SCRATCH[image_format], format=image_format)

@@ -3,8 +3,9 @@ import argparse
 import struct
 from dataclasses import dataclass, replace
 from itertools import zip_longest
+from typing import Iterable, Optional, Sequence
 
-from suygapid.elf.elf import Wrong
+from suygapid.elf.elf import Elf, Wrong
 from suygapid.elf.moving import is_movable
 from suygapid.image.layout import FORMATS, GUARD, MOST_CODE, MOST_DATA, MOST_SANDBOXES, NAMED, Part, spelled
 from suygapid.image.names import footer, moved_names
@@ -13,10 +14,11 @@ SMALLEST = 256  # bytes of a region
 ADDRESSES = 1 << 32
 DEFAULT_STACK = 8192
 TOP = 16  # the first stack pointer lies so far below the data's end
+Place = tuple[int, int]  # where code and data begin
 BREAK = b"\x02\x90"  # c.ebreak fills the code up
 
 
-def address(text):
+def address(text: str) -> int:
     """An address as `sfi run` prints it: hexadecimal digits."""
     try:
         found = int(text, 16)
@@ -27,13 +29,13 @@ def address(text):
     return found
 
 
-def place(text):
+def place(text: str) -> Place:
     """Where code and data begin, in hexadecimal digits."""
     code, _, data = text.partition(":")
     return address(code), address(data)
 
 
-def region(text):
+def region(text: str) -> int:
     """The size of a data region that an option gives."""
     size = int(text) if text.isdigit() else 0
     if not SMALLEST <= size <= MOST_DATA or size & (size - 1):
@@ -47,19 +49,19 @@ class Frame:
     size: int
 
 
-def power(count):
+def power(count: int) -> int:
     """The least size of a region that has room for `count` bytes."""
     return max(SMALLEST, 1 << max(count - 1, 0).bit_length())
 
 
-def format_of(elf):
+def format_of(elf: Elf) -> str:
     found = [name for name in NAMED if f"__sfi_format_{name}" in elf.symbols]
     if len(found) != 1:
         raise Wrong(f"{elf.name} isn't code for a sandbox in one format: link it by tools/sfi-cc")
     return found[0]
 
 
-def deepest_frame(elf):
+def deepest_frame(elf: Elf) -> Frame:
     """The largest frame of a function that the linker kept; others have an address below the code."""
     frames = [(size, address) for address, size in struct.iter_unpack("<2I", elf.section(".debug_sfi_frames"))
               if address >= elf.symbol("__sfi_code")]
@@ -67,7 +69,7 @@ def deepest_frame(elf):
     return Frame(elf.function_at(address), size)
 
 
-def code_of(elf, image_format):
+def code_of(elf: Elf, image_format: str) -> bytes:
     """The code region's bytes."""
     text = b"".join(segment.content for segment in elf.loaded() if segment.is_code)
     most = MOST_CODE[FORMATS[NAMED[image_format]]]
@@ -76,7 +78,7 @@ def code_of(elf, image_format):
     return text + BREAK * ((power(len(text)) - len(text)) // 2)
 
 
-def used_by(elf):
+def used_by(elf: Elf) -> int:
     """The bytes of the data region up to the objects' end."""
     used = elf.symbol("__sfi_end") - elf.symbol("__sfi_data")
     if used < 0:
@@ -86,12 +88,12 @@ def used_by(elf):
     return used
 
 
-def stack_of(elf, stack):
+def stack_of(elf: Elf, stack: Optional[int]) -> int:
     """The bytes of the stack: those that are wanted, or that the program was linked with."""
     return elf.symbols.get("__sfi_stack", DEFAULT_STACK) if stack is None else stack
 
 
-def data_of(elf, stack):
+def data_of(elf: Elf, stack: Optional[int]) -> bytes:
     """The first bytes of the data region, up to the last that isn't zero."""
     base = elf.symbol("__sfi_data")
     content = bytearray(used_by(elf))
@@ -107,7 +109,7 @@ def data_of(elf, stack):
     return bytes(content).rstrip(b"\0")
 
 
-def data_size(elf, stack, wanted):
+def data_size(elf: Elf, stack: Optional[int], wanted: Optional[int]) -> int:
     """The size of the data region: the one that is wanted, or the least that has room for the objects and the stack."""
     used, above = used_by(elf), elf.symbol("__sfi_above") + TOP
     stack = stack_of(elf, stack)
@@ -127,19 +129,19 @@ class Sandbox(Part):
     """A sandbox, and how it is told."""
     path: str = ""
 
-    def check_place(self):
+    def check_place(self) -> None:
         for what, base, size in (("code", self.code_base, len(self.code)), ("data", self.data_base, self.data_size)):
             if base % size:
                 raise Wrong(f"{self.path}: the {what} has {size} bytes, and lies at {base:#x}, which is no multiple of that")
         if not GUARD <= self.data_base <= ADDRESSES - self.data_size - GUARD:
             raise Wrong(f"{self.path}: there is no room for a guard zone beside the data at {self.data_base:#x}")
 
-    def moved(self, code_base, data_base):
+    def moved(self, code_base: int, data_base: int) -> "Sandbox":
         """The same at another place: the code stays as it is, and of the data the addresses in the table of names change."""
         in_code = range(self.code_base, self.code_base + len(self.code))
         in_data = range(self.data_base, self.data_base + self.data_size)
 
-        def there(address):
+        def there(address: int) -> int:
             if address in in_code:
                 return address - self.code_base + code_base
             return address - self.data_base + data_base if address in in_data else address
@@ -150,14 +152,14 @@ class Sandbox(Part):
         return made
 
 
-def sandbox_of(elf, stack, wanted):
+def sandbox_of(elf: Elf, stack: Optional[int], wanted: Optional[int]) -> Sandbox:
     made = Sandbox(elf.symbol("__sfi_code"), code_of(elf, format_of(elf)), elf.symbol("__sfi_data"), data_size(elf, stack, wanted),
                    elf.entry, elf.gates(), data_of(elf, stack), path=elf.name)
     made.check_place()
     return made
 
 
-def at_place(elf, made, where):
+def at_place(elf: Elf, made: Sandbox, where: Optional[Place]) -> Sandbox:
     """A program's sandbox at another place, if it is one that can be moved."""
     if where is None or where == (made.code_base, made.data_base):
         return made
@@ -166,14 +168,14 @@ def at_place(elf, made, where):
     return made.moved(*where)
 
 
-def check_apart(sandboxes):
+def check_apart(sandboxes: Iterable[Sandbox]) -> None:
     spans = sorted((*span, made.path) for made in sandboxes for span in made.spans(GUARD))
     for (_, end, first), (start, _, second) in zip(spans, spans[1:]):
         if start < end:
             raise Wrong(f"{first} and {second} lie at one place: link each with a --sandbox of its own")
 
 
-def image(elfs, stack=None, wanted=None, places=()):
+def image(elfs: Sequence[Elf], stack: Optional[int] = None, wanted: Optional[int] = None, places: Iterable[Place] = ()) -> bytes:
     """The image of some ELF files, each a sandbox, in their order, the first ones at these places."""
     if len(elfs) > MOST_SANDBOXES:
         raise Wrong(f"{len(elfs)} sandboxes, and an image has {MOST_SANDBOXES} at most")
@@ -185,6 +187,6 @@ def image(elfs, stack=None, wanted=None, places=()):
     return spelled(NAMED[format_of(elfs[0])], sandboxes)
 
 
-def as_text(made):
+def as_text(made: bytes) -> bytes:
     """An image as the program sfi reads it."""
     return made.hex().encode() + b"\n"

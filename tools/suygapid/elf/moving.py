@@ -3,8 +3,9 @@ the addresses in its data is linked with it, by which the program sets them righ
 (runtime/settle.c). The linker's relocations say where they are."""
 import struct
 from dataclasses import dataclass
+from typing import Optional
 
-from suygapid.elf.elf import Wrong
+from suygapid.elf.elf import Elf, Wrong
 from suygapid.isa.encoding import r_type
 
 MOVABLE = "__sfi_movable"  # a symbol that the linker script sees, and an image's tools
@@ -26,7 +27,7 @@ class Relocation:
     """Where a linked program has a part of an address, of which kind, and in which region this is, None of a number."""
     place: int
     kind: int
-    region: str
+    region: Optional[str]
 
 
 class Moving:
@@ -121,19 +122,19 @@ class Moving:
         return bytes(self.content)
 
 
-def long_add(register, base):
+def long_add(register: int, base: int) -> int:
     return r_type(0, base, register, 0, register)
 
 
-def short_add(register, base):
+def short_add(register: int, base: int) -> int:
     return 0x9002 | register << 7 | base << 2
 
 
-def is_movable(elf):
+def is_movable(elf: Elf) -> bool:
     return MOVABLE in elf.symbols
 
 
-def list_of(elf):
+def list_of(elf: Elf) -> Optional[str]:
     """The list as GNU assembly, for the next link; nothing where the program has no addresses but those two."""
     moving = Moving(elf)
     if len(moving.addresses()) == OWN:
@@ -141,5 +142,5 @@ def list_of(elf):
     return '\t.section .sfi.places,"a",@progbits\n' + "".join(f"\t.byte {number}\n" for number in moving.encoded())
 
 
-def made_movable(elf):
+def made_movable(elf: Elf) -> bytes:
     return Moving(elf).made()

@@ -6,7 +6,7 @@ import os
 from suygapid import TOOLS
 from suygapid.cc.compilers import ran, version
 from suygapid.elf.gates import stub
-from suygapid.elf.tools import archived, assembled, binutil, rewritten
+from suygapid.elf.tools import Target, archived, assembled, binutil, rewritten
 from suygapid.kept import kept
 from suygapid.services import GATES
 
@@ -32,41 +32,41 @@ __heap_size: .4byte {size}
 """
 
 
-def read(path):
+def read(path: str) -> str:
     with open(path, encoding="utf-8") as file:
         return file.read()
 
 
-def ingredients(target):
+def ingredients(target: Target) -> list[str]:
     """What the objects for a target depend on beside their assembly: the converter, and `as`."""
     files = sorted(path for pattern in MADE_OF for path in glob.glob(os.path.join(TOOLS, pattern)))
     return [*target.words(), version(binutil("as")), *(read(path) for path in files)]
 
 
-def name_of(path):
+def name_of(path: str) -> str:
     return os.path.splitext(os.path.basename(path))[0]
 
 
-def object_of(folder, assembly, target):
+def object_of(folder: str, assembly: str, target: Target) -> str:
     """The path of an object file that is made of a compiler's assembly."""
     output = os.path.join(folder, name_of(assembly) + ".o")
     assembled(rewritten(assembly, target), output)
     return output
 
 
-def gate_object(folder, name, service, image_format, entry=""):
+def gate_object(folder: str, name: str, service: int, image_format: str, entry: str = "") -> str:
     output = os.path.join(folder, name + ".o")
     assembled((stub(name, service, image_format) + entry).encode(), output)
     return output
 
 
-def heap_object(folder, size):
+def heap_object(folder: str, size: int) -> str:
     output = os.path.join(folder, "heap.o")
     assembled(HEAP.format(size=size).encode(), output)
     return output
 
 
-def make(folder, target):
+def make(folder: str, target: Target) -> None:
     """Fills a folder with crt0.o, libgates.a, libmovable.a, libplugin.a and libruntime.a."""
     object_of(folder, os.path.join(LIB, "crt0.s"), target)
     archived(os.path.join(folder, "libmovable.a"), [object_of(folder, path, target) for path in OF_MOVABLE])
@@ -80,5 +80,5 @@ def make(folder, target):
     archived(os.path.join(folder, "libruntime.a"), objects)
 
 
-def folder_of(target):
+def folder_of(target: Target) -> str:
     return kept("runtime", ingredients(target), lambda folder: make(folder, target))

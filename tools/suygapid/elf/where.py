@@ -1,12 +1,16 @@
 """Says what lies at an address of the image that is made of a linked program: the function and the line of an instruction, the
 object of a place in the data, the stack's room, or a guard zone."""
-from suygapid.elf.image import GUARD, TOP, data_size, used_by
+from typing import Iterable, Iterator, Optional, Sequence
+
+from suygapid.elf.elf import Elf
+from suygapid.elf.image import TOP, data_size, used_by
 from suygapid.elf.tools import addresses_told
+from suygapid.image.layout import GUARD
 
 UNKNOWN = "?"  # what addr2line says of a line that nothing tells
 
 
-def lines_of(program, addresses):
+def lines_of(program: Elf, addresses: Iterable[int]) -> Iterator[str]:
     """The file and line of C of each address, as FILE:LINE, or nothing where that isn't known."""
     for said in addresses_told(program.path, addresses):
         place = said.split(" ")[0].rsplit("/", maxsplit=1)[-1]
@@ -16,14 +20,14 @@ def lines_of(program, addresses):
 class Where:
     """Where all of a sandbox lies."""
 
-    def __init__(self, program, wanted=None):
+    def __init__(self, program: Elf, wanted: Optional[int] = None) -> None:
         self.program = program
         self.code, self.data = program.symbol("__sfi_code"), program.symbol("__sfi_data")
         self.size, self.used = data_size(program, None, wanted), used_by(program)
         self.room = self.size - self.used - TOP
         self.end = max(segment.address + len(segment.content) for segment in program.loaded() if segment.is_code)
 
-    def told(self, address, line):
+    def told(self, address: int, line: str) -> str:
         """What lies at an address, whose line of C is given."""
         if self.code <= address < self.end:
             name = self.program.named_at(address, self.code)
@@ -51,7 +55,7 @@ class Where:
         return f"the stack {has} overflowed its room of {self.room} bytes (--stack gives more)"
 
 
-def told(program, wanted, addresses):
+def told(program: Elf, wanted: Optional[int], addresses: Sequence[int]) -> bytes:
     """A line for each address."""
     where = Where(program, wanted)
     lines = lines_of(program, addresses)

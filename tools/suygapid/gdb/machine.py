@@ -6,6 +6,7 @@ another, a second sandbox goes on from there, with a copy of the data; when the 
 first, with the data that the second left."""
 from dataclasses import dataclass
 from itertools import count
+from typing import Optional
 
 from sfi_run import Call, Cause, Exited, Registers, Sandbox, Trapped, World
 from sfi_run.console import Console
@@ -22,7 +23,7 @@ FAR, OFTEN = 1000000, 1000  # the steps of one run, and how many single steps ar
 class Stop:
     """The program has stopped, by a signal; and where a watched object has changed, its address."""
     signal: int = TRAP
-    watched: int = None
+    watched: Optional[int] = None
 
 
 @dataclass(frozen=True)
@@ -37,7 +38,7 @@ class Level:
     """A sandbox in which the program runs, and of one that runs a function that gdb calls, the address to which gdb has it
     return, which is none of the code, and its stack pointer then."""
     box: Sandbox
-    back: int = None
+    back: Optional[int] = None
     stack: int = 0
 
 

@@ -20,7 +20,7 @@ FAULTS = ["", "Magic", "Count", "Short", "Code", "Data", "GuardRoom", "Start", "
 class Fault(Exception):
     """Bytes that are no image. The number is that of the first test that fails."""
 
-    def __init__(self, name):
+    def __init__(self, name: str) -> None:
         super().__init__(name)
         self.number = FAULTS.index(name)
 
@@ -34,35 +34,35 @@ class Part:
     data_base: int
     data_size: int
     start: int
-    gates: dict = dataclasses.field(default_factory=dict)
+    gates: dict[int, int] = dataclasses.field(default_factory=dict)
     init: bytes = b""
     format: int = 0
     code_offset: int = 0
 
     @property
-    def code_size(self):
+    def code_size(self) -> int:
         return len(self.code)
 
-    def unit(self):
+    def unit(self) -> int:
         """The bytes between the places at which it may be entered."""
         return 4 if self.format == 3 else 16
 
-    def reserved(self):
+    def reserved(self) -> list[int]:
         """What x24 to x27 hold."""
         return [self.code_base, self.code_size - self.unit(), self.data_base, self.data_size - 1]
 
-    def has_code(self, address):
+    def has_code(self, address: int) -> bool:
         return 0 <= address - self.code_base < self.code_size
 
-    def has_data(self, address, length):
+    def has_data(self, address: int, length: int) -> bool:
         return 0 <= address - self.data_base <= self.data_size - length
 
-    def spans(self, guard):
+    def spans(self, guard: int) -> list[tuple[int, int]]:
         """What it takes up, with so many bytes on each side of its data: from the first address to that after the last."""
         data_end = self.data_base + self.data_size
         return [(self.code_base, self.code_base + self.code_size), (self.data_base - guard, data_end + guard)]
 
-    def meets(self, other):
+    def meets(self, other: "Part") -> bool:
         return not all(are_apart(it, that) for it in self.spans(GUARD) for that in other.spans(GUARD))
 
 
@@ -86,7 +86,7 @@ def is_region(base, size, most):
     return 256 <= size <= most and size & (size - 1) == 0 and base % size == 0
 
 
-def are_apart(one, other):
+def are_apart(one: tuple[int, int], other: tuple[int, int]) -> bool:
     return one[1] <= other[0] or other[1] <= one[0]
 
 
@@ -131,7 +131,7 @@ def read_part(read, format, spans):
 
 def parts(data: bytes) -> list[Part]:
     """The sandboxes of an image; Fault where the bytes are none."""
-    read, spans = Bytes(data), []
+    read, spans = Bytes(data), list[tuple[int, int]]()
     format = FORMATS.get(read.take(4))
     need(format, "Magic")
     (count,) = read.words(1)

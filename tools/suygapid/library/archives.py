@@ -4,14 +4,13 @@ import glob
 import hashlib
 import os
 from concurrent.futures import ThreadPoolExecutor
+from typing import Iterable, Sequence
 
 from suygapid.cc.compilers import ASSEMBLY, HOSTED, Failed
 from suygapid.elf.runtime import ingredients
-from suygapid.elf.tools import archived, assembled, rewritten_into
+from suygapid.elf.tools import Target, archived, assembled, rewritten_into
 from suygapid.kept import kept
-from suygapid.library import newlib
-from suygapid.library import small_library
-from suygapid.library import softfloat
+from suygapid.library import newlib, small_library, softfloat
 from suygapid.library.sources import GCC_SOURCE
 
 ARCHIVE = "library.a"
@@ -20,19 +19,19 @@ SMALL = "small"  # what a program has that asks for a library and names none
 NAMED = {"newlib": newlib.folder_of, SMALL: small_library.folder_of}  # what makes the folder of a name, by a compiler
 
 
-def assembly_of(folder):
+def assembly_of(folder: str) -> list[str]:
     """The paths of the files of assembly in a folder."""
     return sorted(path for path in glob.glob(os.path.join(glob.escape(folder), "*")) if path.endswith(ASSEMBLY))
 
 
-def digest_of(path):
+def digest_of(path: str) -> str:
     with open(path, "rb") as file:
         return os.path.basename(path) + " " + hashlib.sha256(file.read()).hexdigest()
 
 
-def make(folder, paths, target):
+def make(folder: str, paths: Sequence[str], target: Target) -> None:
     """Fills a folder with the archive."""
-    count = os.cpu_count()
+    count = os.cpu_count() or 1
     with ThreadPoolExecutor(count) as pool:
         parts = [part for part in (paths[number::count] for number in range(count)) if part]
         texts = [text for found in pool.map(lambda part: rewritten_into(folder, part, target), parts) for text in found]
@@ -42,7 +41,7 @@ def make(folder, paths, target):
         os.remove(path)
 
 
-def object_of(text):
+def object_of(text: str) -> str:
     """The path of the object that is made of a text, in the text's place."""
     output = os.path.splitext(text)[0] + ".o"
     with open(text, "rb") as file:
@@ -51,7 +50,7 @@ def object_of(text):
     return output
 
 
-def archive_of(folder, target):
+def archive_of(folder: str, target: Target) -> str:
     """The path of the archive that is made of a folder's assembly for a target."""
     if not os.path.isdir(folder):
         raise Failed(2, f"{folder} is no folder")
@@ -61,12 +60,12 @@ def archive_of(folder, target):
     return os.path.join(kept("library", words, lambda room: make(room, paths, target), long if len(paths) > MANY else None), ARCHIVE)
 
 
-def folders_of(libraries, compiler):
+def folders_of(libraries: Iterable[str], compiler: str) -> list[str]:
     """The folders of libraries that are named, or given as folders."""
     return [NAMED[library](compiler) if library in NAMED else library for library in libraries]
 
 
-def headers(libraries):
+def headers(libraries: Sequence[str]) -> list[str]:
     """The options for the headers of libraries, with which a program is one of a hosted C. Where compilers know what
     functions do, they make calls of others of it, which the small library may not have."""
     folders = [os.path.join(library, "include") for library in libraries]

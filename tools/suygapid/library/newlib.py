@@ -4,12 +4,12 @@ import os
 import shutil
 from concurrent.futures import ThreadPoolExecutor
 
-from suygapid.cc.compilers import RESERVED_IN_WORDS, Failed, compiled, is_clang, version
+from suygapid.cc.compilers import RESERVED_IN_WORDS, compiled, is_clang, version
 from suygapid.kept import kept
 from suygapid.library import softfloat
 from suygapid.library.sources import GCC_SOURCE, NEWLIB_SOURCE, identity, unpacked
 
-GLUE = os.path.join(os.path.dirname(os.path.abspath(__file__)), "newlib")
+GLUE = os.path.join(os.path.dirname(os.path.abspath(__file__)), "newlib_glue")
 MARK = "newlib-of-sfi-cc"  # a file that says what the folder is
 PARTS = ("newlib/libc", "newlib/libm")
 FOLDERS = [f"libc/{name}" for name in ("ctype", "errno", "locale", "misc", "reent", "search", "signal", "stdio", "stdlib",
@@ -63,7 +63,7 @@ def headers(tree, folder):
     shutil.copy(os.path.join(GLUE, "newlib.h"), folder)
 
 
-def compile_all(compiler, folder):
+def compile_all(compiler: str, folder: str) -> None:
     """Fills a folder with the library."""
     tree = os.path.join(unpacked(NEWLIB_SOURCE, *PARTS), "newlib")
     include, room = os.path.join(folder, "include"), os.path.join(folder, "room")
@@ -71,7 +71,7 @@ def compile_all(compiler, folder):
     headers(tree, include)
     own = [word for word in OPTIONS if not (is_clang(compiler) and word in OF_GCC)]
     options = [*own, "-isystem", include, *(word for part in SEARCHED for word in ("-I", f"{tree}/{part}"))]
-    glue = [(os.path.join(GLUE, f"{name}.c"), f"sandbox-{name}", []) for name in ("system", "heap", "pow", "sqrt")]
+    glue: list[tuple[str, str, list[str]]] = [(os.path.join(GLUE, f"{name}.c"), f"sandbox-{name}", []) for name in ("system", "heap", "pow", "sqrt")]
 
     def compile_one(job):
         path, name, more = job
@@ -85,22 +85,20 @@ def compile_all(compiler, folder):
         os.remove(os.path.join(include, name))
     shutil.rmtree(os.path.join(include, "rpc"))
     shutil.copy(os.path.join(GLUE, "setjmp.asm"), folder)
-    shutil.copytree(softfloat.folder_of(compiler), folder, dirs_exist_ok=True)
+    shutil.copytree(softfloat.folder_of(compiler) or "", folder, dirs_exist_ok=True)
     with open(os.path.join(folder, MARK), "w", encoding="utf-8") as file:
         file.write(f"newlib of {NEWLIB_SOURCE.where()}, by {compiler}\n")
 
 
-def folder_of(compiler):
+def folder_of(compiler: str) -> str:
     """The folder of the library by a compiler, which is kept."""
-    for package in (NEWLIB_SOURCE, GCC_SOURCE):
-        if package.where() is None:
-            raise Failed(2, package.wanted())
+    sources = [identity(package.path()) for package in (NEWLIB_SOURCE, GCC_SOURCE)]
     own = []
     for path in sorted(glob.glob(os.path.join(GLUE, "*"))):
         with open(path, encoding="utf-8") as file:
             own.append(file.read())
-    words = [version(compiler), identity(NEWLIB_SOURCE.where()), identity(GCC_SOURCE.where()), *own, *OPTIONS,
+    words = [version(compiler), *sources, *own, *OPTIONS,
              *sorted(LEFT_OUT), *FOLDERS, *POSIX, *WITHOUT_FUNCTIONS, str(VARIANTS), str(RESERVED_IN_WORDS),
-             os.path.basename(softfloat.folder_of(compiler))]
+             os.path.basename(softfloat.folder_of(compiler) or "")]
     return kept("newlib", words, lambda folder: compile_all(compiler, folder),
                 "newlib is compiled and converted, which takes some minutes; it is kept")

@@ -21,11 +21,11 @@ OF_NEWLIB = {f"{name}.h".encode() for name in """assert complex ctype errno intt
 NOT_HERE = {b"FILE", b"stdin", b"stdout", b"stderr", b"errno"}
 
 
-def headers():
+def headers() -> list[str]:
     return sorted(glob.glob(os.path.join(HEADERS, "*.h")))
 
 
-def functions():
+def functions() -> set[bytes]:
     """What stands before a bracket in the headers, and so the library's functions."""
     texts = []
     for path in headers():
@@ -34,22 +34,22 @@ def functions():
     return set(re.findall(rb"\b(\w+)\(", b"".join(texts)))
 
 
-def is_asked_for(told):
+def is_asked_for(told: bytes) -> bool:
     """Whether what a compiler complained of is that it doesn't find one of the headers."""
     return bool({os.path.basename(path).encode() for path in headers()} & set(MISSING.findall(told)))
 
 
-def is_called(told):
+def is_called(told: bytes) -> bool:
     """Whether what the linker complained of speaks of one of the functions."""
     return bool(functions() & set(WORD.findall(told)))
 
 
-def speaks_of_others(told):
+def speaks_of_others(told: bytes) -> bool:
     """Whether what a compiler complained of speaks of what stdio.h hasn't here."""
     return bool(NOT_HERE & set(WORD.findall(told)))
 
 
-def advice(told, is_too_small=False):
+def advice(told: bytes, is_too_small: bool = False) -> bytes:
     """A line that names newlib, where a header isn't there that newlib has, or where this library hasn't what is missing."""
     missing = next((name.decode() for name in MISSING.findall(told) if name in OF_NEWLIB), None)
     if missing is None and is_too_small:
@@ -57,7 +57,7 @@ def advice(told, is_too_small=False):
     return f"sfi-cc: {missing}: try --library newlib, a whole C library\n".encode() if missing else b""
 
 
-def make(compiler, folder):
+def make(compiler: str, folder: str) -> None:
     """Fills a folder with the library's assembly and its headers."""
     shutil.copytree(HEADERS, os.path.join(folder, "include"))
     for path in sorted(glob.glob(os.path.join(SOURCES, "*.c"))):
@@ -69,7 +69,7 @@ def make(compiler, folder):
         pass
 
 
-def folder_of(compiler):
+def folder_of(compiler: str) -> str:
     """The folder of the library by a compiler, which is kept."""
     words = [version(compiler), str(RESERVED_IN_WORDS), MARK]
     for path in [*headers(), *sorted(glob.glob(os.path.join(SOURCES, "*"))), GATES]:

@@ -5,6 +5,7 @@ import os
 import re
 import shutil
 from concurrent.futures import ThreadPoolExecutor
+from typing import Iterable, Optional
 
 from suygapid.cc.compilers import RESERVED_IN_WORDS, compiled, version
 from suygapid.kept import kept
@@ -37,7 +38,7 @@ LONGLONG = """\
 EMPTY_HEADERS = ("tconfig.h", "tsystem.h", "coretypes.h", "tm.h", "libgcc_tm.h")
 
 
-def speaks_of_floats(assemblies):
+def speaks_of_floats(assemblies: Iterable[str]) -> bool:
     """Whether files of assembly call functions of floating point."""
     for path in assemblies:
         with open(path, "rb") as file:
@@ -79,15 +80,16 @@ def compile_all(compiler, tree, folder):
     shutil.rmtree(room)
 
 
-def folder_of(compiler):
+def folder_of(compiler: str) -> Optional[str]:
     """The folder of assembly that a compiler made of these functions; None where the sources aren't there."""
-    if GCC_SOURCE.where() is None:
+    source = GCC_SOURCE.where()
+    if source is None:
         return None
     own = []
     for name in (OWN_HEADER, *(f"{name}.c" for name in OWN)):
         with open(os.path.join(FOLDER, name), encoding="utf-8") as file:
             own.append(file.read())
-    words = [version(compiler), identity(GCC_SOURCE.where()), *LIBGCC2, SOFT_FP.pattern, *MODES, LONGLONG, *own,
+    words = [version(compiler), identity(source), *LIBGCC2, SOFT_FP.pattern, *MODES, LONGLONG, *own,
              str(RESERVED_IN_WORDS)]
     return kept("softfloat", words, lambda folder: compile_all(compiler, unpacked(GCC_SOURCE, *PARTS), folder),
                 "the functions of floating point are compiled, which may take a minute; they are kept")

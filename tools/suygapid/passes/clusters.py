@@ -56,7 +56,7 @@ class Cluster:
 class Beginning(NamedTuple):
     """An access that a cluster may begin with: its index, how far its base has moved there, and
     what a cluster from it would gain in all, less what its accesses spare that come later."""
-    index: int
+    index: int  # type: ignore[assignment]
     moved: int
     gain: int
 

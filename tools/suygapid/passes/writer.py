@@ -1,4 +1,5 @@
 """What both ways of writing GNU assembly share: the sections, and beside each piece the soft items and the line of C."""
+from typing import Optional
 
 from suygapid.passes.places import Places
 from suygapid.passes.shown import AllShown
@@ -9,7 +10,7 @@ OPTIONS = ["\t.option norelax", NORVC, "\t.option nopic"]  # after the file's ow
 
 class Writer:
     """Writes the code of a file. What becomes of a piece is a subclass's to say."""
-    alignment = None  # of a section, as a power of two
+    alignment: Optional[int] = None  # of a section, as a power of two
 
     def __init__(self, unit, small, image_format, is_movable=False):
         self.unit, self.small, self.format, self.is_movable = unit, small, image_format, is_movable

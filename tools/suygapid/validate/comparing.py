@@ -5,7 +5,7 @@ A requirement is an equation, of a sum over the rewritten code's registers with 
 near one that the compiler's code has accessed."""
 from functools import lru_cache
 from math import gcd
-from typing import NamedTuple
+from typing import NamedTuple, Optional
 
 from suygapid.validate.stretches import DATA_REGISTERS
 from suygapid.validate.values import COMMUTATIVE, MASK, ZERO, Value, of, replaced, signed
@@ -17,7 +17,7 @@ class Equation(NamedTuple):
     """`right` is equal to `left`; where `accessed` is an address that is accessed later, it may be so but for masks."""
     right: Value
     left: Value
-    accessed: Value = None
+    accessed: Optional[Value] = None
 
 
 class Near(NamedTuple):

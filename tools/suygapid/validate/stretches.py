@@ -1,6 +1,6 @@
 """Stretches of code: what runs from a place to the next branch, call, or jump by a register, as values and accesses."""
 from dataclasses import dataclass, field
-from typing import NamedTuple
+from typing import NamedTuple, Optional
 
 from suygapid.isa.decoding import BRANCHES, LOADS, ON_REGISTERS, STORES, WIDTHS
 from suygapid.validate import values
@@ -42,7 +42,7 @@ class Stretch:
     registers: list
     accesses: list = field(default_factory=list)
     stacks: list = field(default_factory=list)  # what the stack pointer holds, one after another
-    event: Event = None
+    event: Optional[Event] = None
 
 
 class Unknown(Exception):

@@ -1,6 +1,7 @@
 """Goes through both codes at once: from a pair of places, one of each code, over the stretches to the next branch, call or
 jump, to the pairs of places that come after it, with what has to be equal there."""
 from dataclasses import dataclass, field
+from typing import Optional
 
 from suygapid.validate.machine_code import CALLER_SAVED, WRITTEN_BESIDE
 from suygapid.validate.pairing import Pairs
@@ -17,8 +18,8 @@ OWN = 31  # what the rewritten code alone uses, in every format
 class Node:
     """A place of each code that control comes to in both, the stretches from there, the ways to it, and what has to hold
     there."""
-    left: Stretch = None
-    right: Stretch = None
+    left: Optional[Stretch] = None
+    right: Optional[Stretch] = None
     is_entry: bool = False
     incoming: list = field(default_factory=list)
     required: set = field(default_factory=set)

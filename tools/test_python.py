@@ -1,0 +1,31 @@
+"""Tests of the Python of this repository by linters: `tools/unit_tests.py tools test_python.py`. It has nothing that pyflakes
+complains of, and mypy finds no type of the package suygapid wrong."""
+import subprocess
+import unittest
+
+from testing import TOOLS, TOP, needs
+
+WORDS = ["--explicit-package-bases", "--ignore-missing-imports", "--cache-dir=/dev/null", "-p", "suygapid"]
+
+
+class Linters(unittest.TestCase):
+    def said(self, *words):
+        done = subprocess.run(words, cwd=TOOLS, capture_output=True, text=True, check=False)
+        return done.stdout + done.stderr
+
+    @needs("pyflakes3")
+    def test_names(self):
+        listed = subprocess.run(["git", "-C", TOP, "ls-files"], capture_output=True, text=True, check=False)
+        if listed.returncode:
+            self.skipTest("this isn't a repository of git")
+        paths = [TOP / it for it in listed.stdout.splitlines() if not it.startswith("crates/")]
+        scripts = [it for it in paths if it.suffix == ".py" or not it.suffix and it.read_bytes().startswith(b"#!/usr/bin/env python3\n")]
+        self.assertEqual(self.said("pyflakes3", *scripts), "")
+
+    @needs("mypy")
+    def test_types(self):
+        self.assertIn("Success", self.said("mypy", *WORDS))
+
+
+if __name__ == "__main__":
+    unittest.main()
