@@ -1,8 +1,8 @@
 """Tests of what sfi-gdb answers gdb: `tools/unit_tests.py tools`. Sessions of gdb itself are in examples/c/elf/test.sh."""
 import unittest
 
-from sfi_run import OutsideData
 from suygapid.gdb.stub import DONE, FEATURES, WRONG, Stub
+from sfi_run import OutsideData  # which the package finds
 
 
 class Machine:

@@ -8,7 +8,7 @@ import unittest
 
 sys.dont_write_bytecode = True
 import device
-from images import A0, KINDS, NEXT, NOP, S1, UNITS, Image, addi, lui
+from walked_images import A0, KINDS, NEXT, NOP, S1, UNITS, Image, addi, lui
 from model import Entries
 from walk import BASES, DATA, Walk
 

@@ -2,7 +2,7 @@
 entries. Images in three formats come to places that overlap, and places that were dropped come to other slots."""
 import random
 
-from images import FIRST, KINDS, UNITS, Image
+from walked_images import FIRST, KINDS, UNITS, Image
 from model import Model
 
 PIECE = 256

@@ -16,13 +16,13 @@ import tempfile
 from concurrent.futures import ThreadPoolExecutor
 from dataclasses import dataclass
 
-from suygapid import TOP
 from suygapid.cc.compilers import (
     CLANG, GCC, WITH_VALUE, Failed, compiled, default_compiler, is_source, reserved, run, tell)
 from suygapid.cc.signatures import lines_of
+from suygapid.commands.options import add_program, address, place, region
 from suygapid.elf import linking
 from suygapid.elf.elf import Wrong
-from suygapid.elf.image import address, as_text, image, place, region
+from suygapid.elf.image import as_text, image
 from suygapid.elf.small import ROOM, options_of, small_bytes
 from suygapid.elf.tools import Target, assembled, rewritten
 from suygapid.elf.where import told
@@ -107,8 +107,7 @@ def options_parser():
     parser.add_argument("--where", type=address, action="append", default=[], metavar="ADDRESS",
                         help="writes what lies at an address of the image, such as a line of C, in place of the image")
     parser.add_argument("--cc", metavar="COMPILER", help=f"the compiler; {GCC} if absent, or {CLANG} where that isn't there")
-    parser.add_argument("--program", default=os.environ.get("SFI") or os.path.join(TOP, "sfi"), metavar="SFI",
-                        help="the program sfi; that which SFI names, or ./sfi at the top, if absent")
+    add_program(parser)
     return parser
 
 

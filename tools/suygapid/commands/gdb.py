@@ -14,17 +14,11 @@ import sys
 
 import sfi_run
 from suygapid import TOOLS
+from suygapid.commands.options import digits
 from suygapid.elf.elf import Elf, Wrong
 from suygapid.gdb.machine import Machine
 from suygapid.gdb.packets import over_pipe, over_port
 from suygapid.gdb.stub import Stub
-
-
-def digits(text):
-    try:
-        return bytes.fromhex(text)
-    except ValueError as error:
-        raise argparse.ArgumentTypeError(f"{text!r} isn't hexadecimal") from error
 
 
 def parsed(words):

@@ -9,8 +9,9 @@ image. docs/C.md says more.
 import argparse
 import sys
 
+from suygapid.commands.options import place, region
 from suygapid.elf.elf import Elf, Wrong
-from suygapid.elf.image import as_text, image, place, region
+from suygapid.elf.image import as_text, image
 
 
 def count(text):

@@ -8,13 +8,12 @@ was made for any place, as by `tools/sfi-cc --movable`. What is wrong is told in
 than the program has, and the status is 1. docs/C.md says more.
 """
 import argparse
-import os
 import sys
 
-from suygapid import TOP
 from suygapid.cc.compilers import Failed, ran
+from suygapid.commands.options import add_program, place
 from suygapid.elf.elf import Wrong
-from suygapid.elf.image import Sandbox, as_text, check_apart, place
+from suygapid.elf.image import Sandbox, as_text, check_apart
 from suygapid.image import layout
 
 FAULTS = {"Magic": ": this is no image", "Count": ": this is no image", "Short": ": the image is cut off",
@@ -26,8 +25,7 @@ def parsed(words):
     parser.add_argument("--at", type=place, required=True, metavar="CODE:DATA", help="where it is to lie, in hexadecimal")
     parser.add_argument("--sandbox", type=int, default=0, metavar="N", help="the sandbox, counted from 0; 0 if absent")
     parser.add_argument("--raw", action="store_true", help="reads and writes bytes, and not their digits")
-    parser.add_argument("--program", default=os.environ.get("SFI") or os.path.join(TOP, "sfi"), metavar="SFI",
-                        help="the program sfi; that which SFI names, or ./sfi at the top, if absent")
+    add_program(parser)
     return parser.parse_args(words)
 
 

@@ -7,11 +7,10 @@ An image has no names; those of a source text are its labels; C is compiled by t
 what sfi-cc linked with -g. The last lines are those of `sfi run`. docs/TRACE.md says more.
 """
 import argparse
-import os
 import sys
 
 import sfi_run
-from suygapid import TOP
+from suygapid.commands.options import add_program, digits
 from suygapid.trace.programs import Failed, program
 from suygapid.trace.tracing import Breaks, Calls, Instructions, Profile, Tracer
 
@@ -20,13 +19,6 @@ def count(text):
     if not text.isdigit() or not int(text):
         raise argparse.ArgumentTypeError(f"{text!r} is no number from 1 on")
     return int(text)
-
-
-def digits(text):
-    try:
-        return bytes.fromhex(text)
-    except ValueError as error:
-        raise argparse.ArgumentTypeError(f"{text!r} isn't hexadecimal") from error
 
 
 def parsed(words):
@@ -42,8 +34,7 @@ def parsed(words):
     parser.add_argument("--steps", type=count, default=1000000, metavar="N", help="the most steps of a sandbox; 1000000 if absent")
     parser.add_argument("--quantum", type=count, default=1000, metavar="Q", help="the most steps of a turn; 1000 if absent")
     parser.add_argument("--input", type=digits, default=b"", metavar="HEX", help="what the sandboxes read")
-    parser.add_argument("--program", default=os.environ.get("SFI") or os.path.join(TOP, "sfi"), metavar="SFI",
-                        help="the program sfi; that which SFI names, or ./sfi at the top, if absent")
+    add_program(parser)
     options, files = parser.parse_known_args(words)
     if not files:
         parser.error("an image, a source text or a FILE of C is wanted")

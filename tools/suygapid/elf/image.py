@@ -1,5 +1,4 @@
 """From linked ELF files to an image. docs/IMAGE.md has the format. Nothing here is trusted: `sfi check` reads the image."""
-import argparse
 import struct
 from dataclasses import dataclass, replace
 from itertools import zip_longest
@@ -16,31 +15,6 @@ DEFAULT_STACK = 8192
 TOP = 16  # the first stack pointer lies so far below the data's end
 Place = tuple[int, int]  # where code and data begin
 BREAK = b"\x02\x90"  # c.ebreak fills the code up
-
-
-def address(text: str) -> int:
-    """An address as `sfi run` prints it: hexadecimal digits."""
-    try:
-        found = int(text, 16)
-    except ValueError:
-        found = -1
-    if not 0 <= found < 1 << 32:
-        raise argparse.ArgumentTypeError(f"{text!r} is no address of 32 bits in hexadecimal digits")
-    return found
-
-
-def place(text: str) -> Place:
-    """Where code and data begin, in hexadecimal digits."""
-    code, _, data = text.partition(":")
-    return address(code), address(data)
-
-
-def region(text: str) -> int:
-    """The size of a data region that an option gives."""
-    size = int(text) if text.isdigit() else 0
-    if not SMALLEST <= size <= MOST_DATA or size & (size - 1):
-        raise argparse.ArgumentTypeError(f"{text!r} is no power of two from {SMALLEST} to {MOST_DATA}")
-    return size
 
 
 @dataclass(frozen=True)

@@ -1,5 +1,5 @@
-"""The passes that make the code cheaper, in the order in which they run. The code does the same
-without them."""
+"""The passes that make the code cheaper, in the order in which they run. The code does the same without them: each keeps calls
+and jumps in their order, what is stored where, and the registers that are read later. tools/sfi-validate looks at that."""
 from suygapid.passes.control import successors
 from suygapid.passes.hoisting import with_hoisted_masks
 from suygapid.passes.instructions import written

@@ -1,0 +1,44 @@
+"""Options that several commands have, and what their values are."""
+import argparse
+import os
+
+from suygapid import TOP
+from suygapid.elf.image import SMALLEST, Place
+from suygapid.image.layout import MOST_DATA
+
+
+def add_program(parser: argparse.ArgumentParser) -> None:
+    parser.add_argument("--program", default=os.environ.get("SFI") or os.path.join(TOP, "sfi"), metavar="SFI",
+                        help="the program sfi; that which SFI names, or ./sfi at the top, if absent")
+
+
+def digits(text: str) -> bytes:
+    try:
+        return bytes.fromhex(text)
+    except ValueError as error:
+        raise argparse.ArgumentTypeError(f"{text!r} isn't hexadecimal") from error
+
+
+def address(text: str) -> int:
+    """An address as `sfi run` prints it: hexadecimal digits."""
+    try:
+        found = int(text, 16)
+    except ValueError:
+        found = -1
+    if not 0 <= found < 1 << 32:
+        raise argparse.ArgumentTypeError(f"{text!r} is no address of 32 bits in hexadecimal digits")
+    return found
+
+
+def place(text: str) -> Place:
+    """Where code and data begin, in hexadecimal digits."""
+    code, _, data = text.partition(":")
+    return address(code), address(data)
+
+
+def region(text: str) -> int:
+    """The size of a data region that an option gives."""
+    size = int(text) if text.isdigit() else 0
+    if not SMALLEST <= size <= MOST_DATA or size & (size - 1):
+        raise argparse.ArgumentTypeError(f"{text!r} is no power of two from {SMALLEST} to {MOST_DATA}")
+    return size
