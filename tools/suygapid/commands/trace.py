@@ -4,7 +4,7 @@ breakpoints, or where its steps go.
     tools/sfi-trace [OPTIONS] IMAGE.hex | TEXT.s | PROGRAM.elf | FILE.c .. [OPTIONS OF sfi-cc]
 
 An image has no names; those of a source text are its labels; C is compiled by tools/sfi-cc with -g, and has lines, and so has
-what sfi-cc linked with -g. The last lines are those of `sfi run`. docs/TRACE.md says more.
+what sfi-cc linked with -g. The last lines are those of `sfi run`. docs/C.md says more.
 """
 import argparse
 import sys
