@@ -51,7 +51,7 @@ class Steps(Calls):
         status, image, told = self.made()
         self.assertEqual((status, told), (0, []))
         self.assertEqual(self.read("check.input"), image)
-        self.assertEqual(bytes.fromhex(image)[:4], b"SFI2")
+        self.assertEqual(bytes.fromhex(image)[:4], b"SFIW")
 
     def test_which_fails(self):
         rows = [
@@ -146,8 +146,8 @@ cp {self.folder}/main.asm "$2"
 
     def test_headers_of_images(self):
         """The format, and the size of the data region."""
-        rows = [(["--format", "1"], b"SFI1", 16384), ([], b"SFI2", 16384), (["--stack", "100000"], b"SFI2", 131072),
-                (["--data", "65536"], b"SFI2", 65536), (["--format", "words"], b"SFIW", 16384)]
+        rows = [(["--format", "1"], b"SFI1", 16384), ([], b"SFIW", 16384), (["--stack", "100000"], b"SFIW", 131072),
+                (["--data", "65536"], b"SFIW", 65536), (["--format", "words"], b"SFIW", 16384), (["--format", "2"], b"SFI2", 16384)]
         for options, magic, size in rows:
             image = bytes.fromhex(self.made(*options)[1])
             self.assertEqual((image[:4], int.from_bytes(image[20:24], "little")), (magic, size))
@@ -203,8 +203,8 @@ cp {self.folder}/main.asm "$2"
         at = self.listed()
         self.assertNotIn("idle", at)
         entries = struct.pack("<IB", at["add"], 3) + b"add" + struct.pack("<IB", at["print"], 5) + b"print"
-        for words in ([], ["--format", "words"]):
-            image = bytes.fromhex(self.made(*words)[1])
+        for image_format in FORMATS:
+            image = bytes.fromhex(self.made("--format", image_format)[1])
             self.assertTrue(image.endswith(wanted))
         self.assertIn(entries, bytes.fromhex(self.made()[1]))
         self.assertIn(struct.pack("<2I", at["print"], 3), bytes.fromhex(self.made()[1]))
@@ -262,9 +262,9 @@ cp {self.folder}/main.asm "$2"
         self.assertIn("-O1 -I headers -DX=1 -include other.c", " ".join(words))
         self.assertEqual(words[-1], self.file)
         self.assertLess(words.index("-O2"), words.index("-O1"))
-        self.assertNotIn("-ffixed-x30", words)
-        self.made("--format", "words")
-        self.assertIn("-ffixed-x29 -ffixed-x30", self.read("words").splitlines()[-1])
+        self.assertLess({"-ffixed-x29", "-ffixed-x30"}, set(words))
+        self.made("--format", "2")
+        self.assertNotIn("-ffixed-x30", self.read("words").splitlines()[-1])
         for options, told in [(["--format", "3"], "argument --format: invalid choice: '3' (choose from '1', '2', 'words')"),
                               (["--gate", "a=0", "--gate", "a=1"], "argument --gate: 'a' is given twice"),
                               (["--gate", "a=99"], f"argument --gate: 'a=99' isn't NAME=SERVICE with a service from 0 to {max(GATES.values())}"),
@@ -334,7 +334,7 @@ class Libraries(Calls):
             for number in range(count):
                 self.write(f"{name}/f{number}.asm", f"\t.globl\t{name}{number}\n{name}{number}:\n\tret\n")
         words = ["-o", self.path("made.elf"), self.write("main.s", ASSEMBLY)]
-        told = "files of a library are converted for format 2, which may take a minute; they are kept"
+        told = "files of a library are converted for format words, which may take a minute; they are kept"
         home = {**os.environ, "XDG_CACHE_HOME": self.path("home")}
         for names, lines in ((["few"], []), (["large", "larger"], [f"sfi-cc: 41 {told}"]), (["larger", "large"], [])):
             libraries = [word for name in names for word in ("--library", self.path(name))]
@@ -365,15 +365,15 @@ class Programs(Calls):
         lines = subprocess.run([SFI, "dis"], input=image, stdout=subprocess.PIPE, check=True, text=True).stdout.splitlines()
         return sorted(f"{line.split()[0]} {line.split()[2]}" for line in lines if line.startswith(("export ", "import ")))
 
-    def compare(self, *words):
+    def compare(self, rows, *words):
         file = self.write("hello.c", HELLO)
-        for image_format in FORMATS:
-            self.assertEqual(self.runs("--format", image_format, *words, file), ["sandbox=0", "exit=105", "out=4869"])
+        for number, options in enumerate(rows):
+            for image_format in FORMATS:
+                self.assertEqual(self.runs("--format", image_format, *words, *options, file), ["sandbox=0", "exit=105", "out=4869"])
 
     @needs(GCC)
     def test_gcc(self):
-        for options in ([], ["-O0", "-g"], ["-Os", "--stack", "65536"], ["-Os", "-msave-restore"]):
-            self.compare("--cc", GCC, *options)
+        self.compare(([], ["-O0", "-g"], ["-Os", "--stack", "65536"], ["-Os", "-msave-restore"]), "--cc", GCC)
 
     @needs(GCC)
     def test_code_on_the_stack(self):
@@ -385,10 +385,22 @@ class Programs(Calls):
             self.assertEqual((status, image), (1, ""))
             self.assertIn(wanted, "".join(told))
 
+    @needs(GCC)
+    def test_assembly_that_names_a_register_of_words(self):
+        """What is told names the line of the source; in bundles these two are the program's."""
+        inline = self.write("inline.c", 'int main(void) {\n    int it;\n    __asm__("li t4,42\\n\\tmv %0,t4" : "=r"(it) : : "t4");\n    return it;\n}\n')
+        macros = self.write("macros.S", "#define KEPT x30\n/* two\n   lines */\n.globl main\nmain:\tli KEPT,42\nmv a0,KEPT\nret\n")
+        plain = self.write("plain.s", ".globl main\nmain:\n\tli t5,42\n\tmv a0,t5\n\tret\n")
+        for file, line, name, number in ((inline, 3, "t4", 29), (macros, 5, "t5", 30), (plain, 3, "t5", 30)):
+            told = (f"asm2elf: {os.path.basename(file)}:{line}: {name} (x{number}) is the sandbox's own register in words: "
+                    f"compile with -ffixed-x{number}; assembly that names it wants --format 2")
+            self.assertEqual(self.call("--program", SFI, "--cc", GCC, file)[2], [told, "sfi-cc: asm2elf failed, in status 1"])
+            for image_format in ("1", "2"):
+                self.assertEqual(self.runs("--cc", GCC, "--format", image_format, file), ["sandbox=0", "exit=42", "out="])
+
     @needs("clang", "llc")
     def test_clang(self):
-        for options in ([], ["-O0", "-g"], ["-Os"], ["-Os", "-msave-restore"]):
-            self.compare("--cc", "clang", *options)
+        self.compare(([], ["-O0", "-g"], ["-Os"], ["-Os", "-msave-restore"]), "--cc", "clang")
 
     @needs(GCC)
     def test_assembly_and_cpp(self):

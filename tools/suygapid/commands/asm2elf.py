@@ -26,7 +26,7 @@ def parsed(words):
     parser.add_argument("files", nargs="+", metavar="IN.s", help="assembly of gcc or clang")
     parser.add_argument("-o", dest="output", metavar="OUT.s", help="where to write; standard output if absent")
     parser.add_argument("--into", metavar="FOLDER", help="where to write a file of the same name for each of several")
-    parser.add_argument("--format", type=format_of, choices=[1, 2, WORDS], default=2, help="the image's format; 2 if absent")
+    parser.add_argument("--format", type=format_of, choices=[1, 2, WORDS], default=WORDS, help="the image's format; words if absent")
     parser.add_argument("--passes", default=",".join(PASSES), metavar="NAMES",
                         help="the passes that make the code cheaper; %(default)s if absent")
     parser.add_argument("--movable", action="store_true", help="addresses are made from the bases of the sandbox's regions at run time")

@@ -80,7 +80,7 @@ def options_parser():
     parser.add_argument("-l", dest="libraries", action="append", default=[], metavar="NAME", help="links libNAME.a, after the files")
     parser.add_argument("-L", dest="folders", action="append", default=[], metavar="FOLDER", help="where libraries are")
     parser.add_argument("--keep", metavar="NAME.elf", help="a file to write the linked program into, beside the image")
-    parser.add_argument("--format", choices=list(FORMATS), default="2", help="the image's format; 2 if absent")
+    parser.add_argument("--format", choices=list(FORMATS), default="words", help="the image's format; words if absent")
     parser.add_argument("--movable", action="store_true",
                         help="makes code that does the same wherever its image is moved (tools/sfi-move, sfi_c_move)")
     parser.add_argument("--stack", type=number(0, 1 << 20), metavar="N", help="room for the stack at least, in bytes; 8192 if absent")

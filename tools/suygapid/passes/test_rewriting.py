@@ -28,7 +28,8 @@ class Refusals(Folder):
                 self.assertEqual(str(caught.exception), f"a.s:3: {wanted}")
         with self.assertRaises(Refused) as caught:
             rewritten("a.s", "main:\tmv a0,t4\n", PASSES, WORDS)
-        self.assertEqual(str(caught.exception), "a.s:1: t4 is the sandbox's own register: compile with -ffixed-x29")
+        self.assertEqual(str(caught.exception), "a.s:1: t4 (x29) is the sandbox's own register in words: compile with -ffixed-x29; "
+                                                "assembly that names it wants --format 2")
 
 
 @needs(f"{BINUTILS}as")

@@ -120,7 +120,8 @@ def check_registers(ops):
     for op in ops:
         for name in sorted(reads(op) | writes(op)):
             if name in OWN:
-                raise Refused(op.place, f"{name} is the sandbox's own register: compile with -ffixed-x{OWN[name]}")
+                raise Refused(op.place, f"{name} (x{OWN[name]}) is the sandbox's own register in words: compile with "
+                                        f"-ffixed-x{OWN[name]}; assembly that names it wants --format 2")
         if op.word in ("jal", "jalr") and written(op) in DATA:
             raise Refused(op.place, f"{op.word} into {written(op)}, which holds an address of the data")
 
