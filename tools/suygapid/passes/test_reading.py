@@ -21,6 +21,11 @@ class Reading(unittest.TestCase):
             Statement("lw", ("a0", "4(sp)"), SourceLine("a.s", 1)),
             Statement(".ascii", ('"#;,\\""', '"b"'), SourceLine("a.s", 3)), Statement("ret", (), SourceLine("a.s", 3))])
 
+    def test_lines_of_the_source(self):
+        """By gcc's markers around inline assembly, where they say so."""
+        pieces = read_assembly("a.s", 'nop\n#APP\n# 7 "dir/b.c" 1\n\tnop\n\tnop\n# 0 "" 2\n#NO_APP\n\tnop # 9 "c"\n\tnop')
+        self.assertEqual([str(piece.place) for piece in pieces], ["a.s:1", "b.c:7", "b.c:8", "a.s:8", "a.s:9"])
+
     def test_labels_that_are_numbers(self):
         pieces = list(read_assembly("a.s", "1:\nbeqz a0, 1f\nj 1b\n1:\nj 1b"))
         names = [piece.name if isinstance(piece, Label) else piece.operands[-1] for piece in pieces]
