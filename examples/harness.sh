@@ -46,6 +46,24 @@ c_image() { # a program, a format, the image's file; fails where a compiler isn'
 
 formats="1 2 words"
 
+# What compilers make is tried in words each time, and in bundles by turns, of which the number of commits says whose it is: all
+# have it where EACH_FORMAT is set (by `./test --all`), or git knows no commits.
+commits=$(git -C "$programs" rev-list --count HEAD 2>"$room/which") || EACH_FORMAT=1
+is_due() { # a format, a test's number, and one of how many has its turn
+    [ "$1" = words ] || [ -n "${EACH_FORMAT:-}" ] || [ $(((commits + $2 + ($1 - 1) * $3 / 2) % $3)) = 0 ]
+}
+
+due() { # one of how many has its turn; tests: a line for each of them and each format that it is tried in
+    local count=$1 number=0 name format
+    shift
+    for name; do
+        for format in $formats; do ! is_due "$format" "$number" "$count" || echo "$name $format"; done
+        number=$((number + 1))
+    done
+}
+
+formats_due() { due 2 it | cut -d' ' -f2; } # of tests that all take their turn at once
+
 in_format() { # a source text's file, a format; the text in that format
     grep -v '^\.format' "$1" | sed "1i .format $2"
 }

@@ -6,7 +6,7 @@ import subprocess
 import unittest
 
 from test_floats import SOURCES
-from testing import COMPILERS, SFI, SFI_CC, TOOLS, Folder, needs
+from testing import COMPILERS, SFI, SFI_CC, TOOLS, Folder, formats_due, needs
 
 FOLDER = TOOLS / "suygapid" / "library"
 SHARED, DOUBLES, QUOTIENTS, CONVERSIONS = (FOLDER / name for name in ("doubles.h", "doubles.c", "double_quotients.c",
@@ -259,8 +259,8 @@ class Doubles(Folder):
     def test_in_a_sandbox(self):
         wanted = subprocess.run([self.program(MIXED)], stdout=subprocess.PIPE, check=True).stdout.hex()
         path = self.write("mixed.c", MIXED)
-        for compiler in COMPILERS:
-            for image_format in ("2", "words"):
+        for number, compiler in enumerate(COMPILERS):
+            for image_format in formats_due(number, 4):
                 words = [SFI_CC, "--program", SFI, "--cc", compiler, "-w", path, str(ROOTS), "--format", image_format]
                 image = subprocess.run(words, stdout=subprocess.PIPE, check=True).stdout
                 run = subprocess.run([SFI, "run", "--rounds", "20", "--quantum", "1000000"], input=image, stdout=subprocess.PIPE, check=True)

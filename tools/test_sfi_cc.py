@@ -6,7 +6,7 @@ import struct
 import subprocess
 
 from suygapid.services import GATES
-from testing import COMPILERS, FORMATS, GCC, SFI, SFI_CC, SFI_IMAGE, Folder, needs, needs_program
+from testing import COMPILERS, FORMATS, GCC, SFI, SFI_CC, SFI_IMAGE, Folder, formats_due, needs, needs_program
 
 HELLO = '#include "gates.h"\n\nint main(void) {\n    put("Hi", 2);\n    return 105;\n}\n'
 ASSEMBLY = "\t.text\n\t.globl\tmain\nmain:\n\tli\ta0,7\n\tret\n"
@@ -368,7 +368,7 @@ class Programs(Calls):
     def compare(self, rows, *words):
         file = self.write("hello.c", HELLO)
         for number, options in enumerate(rows):
-            for image_format in FORMATS:
+            for image_format in formats_due(number, len(rows)):
                 self.assertEqual(self.runs("--format", image_format, *words, *options, file), ["sandbox=0", "exit=105", "out=4869"])
 
     @needs(GCC)
@@ -420,7 +420,7 @@ int main() { return twice(19) + corners_of(Square()); }
         """gcc reaches a local array from above the function's frame."""
         file = self.write("array.c", "int seed;\nint f(void) {\n    volatile int numbers[8];\n    int sum = 0;\n    for (int at = 0; at < 8; at++) "
                                      "numbers[at] = seed + at;\n    for (int at = 0; at < 8; at++) sum += numbers[at];\n    return sum;\n}\n")
-        for image_format in FORMATS:
+        for image_format in formats_due(0, 2):
             self.assertEqual(self.names("--cc", GCC, "--format", image_format, "--export", "f", file), ["export .f()i", "export f", "import .room", "import .stack"])
 
     @needs(GCC)

@@ -1,7 +1,10 @@
 """What the unit tests share: the program and the compilers that they run, and a folder for what a test makes."""
+import functools
 import os
 import pathlib
 import shutil
+import subprocess
+import sys
 import tempfile
 import unittest
 
@@ -11,6 +14,7 @@ SFI = os.environ.get("SFI", str(TOP / "crates" / "sfi" / "out" / "sfi"))
 SFI_CC, SFI_IMAGE = str(TOOLS / "sfi-cc"), str(TOOLS / "sfi-image")
 GCC = "riscv64-unknown-elf-gcc"
 FORMATS = ("1", "2", "words")
+EACH_FORMAT = "EACH_FORMAT"  # in the environment: what compilers make is tried in each format, as by ./test --all
 COMPILERS = [it for it in (GCC, "clang") if shutil.which(it)]
 
 needs_program = unittest.skipUnless(os.access(SFI, os.X_OK), f"{SFI} isn't built")
@@ -21,6 +25,22 @@ def needs(*commands):
     """Skips a test, or all of a class, where one of these commands isn't there."""
     missing = [it for it in commands if not shutil.which(it)]
     return unittest.skipIf(missing, f"{' and '.join(missing)} {'is' if len(missing) == 1 else 'are'}n't there")
+
+
+@functools.cache
+def commits():
+    """How many commits stand here, by which what is tried changes; 0 where git knows none."""
+    ran = subprocess.run(["git", "-C", TOP, "rev-list", "--count", "HEAD"], capture_output=True, text=True, check=False)
+    return int(ran.stdout) if ran.returncode == 0 else 0
+
+
+def formats_due(number, count):
+    """The formats in which a test of what compilers make is tried: words each time, and in bundles by turns. `count` tests,
+    of which this is the one of a number, take turns."""
+    turn = commits()
+    if not turn or os.environ.get(EACH_FORMAT):
+        return FORMATS
+    return tuple(it for it in FORMATS if it == "words" or (turn + number + (it == "2") * count // 2) % count == 0)
 
 
 class Folder(unittest.TestCase):

@@ -1,13 +1,13 @@
 #!/usr/bin/env bash
-# Compiles the C examples by `sfi-cc --movable` in each format, moves each image to two other places, and compares what it does
-# there, on the inputs of expected.txt, with what the native program did, and addresses.c with an image that is built there.
+# Compiles the C examples by `sfi-cc --movable` in words, and by turns in bundles, moves each image to two other places, and
+# compares what it does there, on the inputs of expected.txt, with what the native program did, and addresses.c with an image that is built there.
 #
-#     examples/c/moved.sh [--all] [SFI]   # SFI is the program; ./sfi at the top if absent. Without --all: some of the programs
+#     examples/c/moved.sh [--all] [SFI]   # SFI is the program; ./sfi at the top if absent. Without --all: some of them
 set -uo pipefail
 unset CDPATH
 here=$(cd "$(dirname "${BASH_SOURCE[0]}")" && pwd)
 wanted_programs="sort json regex"
-[ "${1:-}" != --all ] || { wanted_programs= && shift; }
+[ "${1:-}" != --all ] || { wanted_programs= EACH_FORMAT=1 && shift; }
 sfi=$(realpath "${1:-$here/../../sfi}")
 export SFI=$sfi
 cd "$here" || exit 1
@@ -72,7 +72,7 @@ try_addresses() { # format, compiler; options of sfi-cc
 try_putting() { # format
     local image="$room/addresses"
     "$tools/sfi-cc" --program "$sfi" --movable --format "$1" -O2 -o "$image" elf/addresses.c elf/elsewhere.c
-    report "addresses, format $format: put" 1 "$(run_of "$image" "" | grep -c "^exit=0 out=[0-9a-f]\{4992\}$")"
+    report "addresses, format $1: put" 1 "$(run_of "$image" "" | grep -c "^exit=0 out=[0-9a-f]\{4992\}$")"
 }
 
 # What can't be moved is refused.
@@ -82,8 +82,12 @@ try_refusals() {
     "$tools/sfi-cc" --program "$sfi" -c -o "$room/fixed.o" elf/addresses.c
     report "an object that can't be moved" "can't be moved: compile all of it with --movable" \
         "$(refusal "$tools/sfi-cc" --program "$sfi" --movable elf/elsewhere.c "$room/fixed.o" | grep -o "can't be moved.*")"
-    report "an address at an odd place" "sfi-cc: the program: odd has an address at 0x1800001, which is no multiple of 4, so it can't be moved" \
-        "$(refusal "$tools/sfi-cc" --program "$sfi" --movable elf/odd.c)"
+    local format at
+    while read -r format at; do # in words the data begin with room for a step of a pointer
+        report "an address at an odd place, format $format" \
+            "sfi-cc: the program: odd has an address at $at, which is no multiple of 4, so it can't be moved" \
+            "$(refusal "$tools/sfi-cc" --program "$sfi" --format "$format" --movable elf/odd.c)"
+    done < <(printf '%s\n' "words 0x1800041" "2 0x1800001")
     "$tools/sfi-cc" --program "$sfi" -o "$room/fixed.elf" elf/odd.c
     report "a program that can't be moved" "sfi-image: $room/fixed.elf can't be moved: link it with --movable, or with --at" \
         "$(refusal "$tools/sfi-image" --at 02000000:02800000 "$room/fixed.elf")"
@@ -129,11 +133,9 @@ if ! has riscv64-unknown-elf-gcc; then
 fi
 wanted_programs=${wanted_programs:-$(cut -d' ' -f1 expected.txt | uniq)}
 export -f compile
-for format in $formats; do
-    for program in $wanted_programs; do echo "compile $program $format"; done
-done | xargs -P 2 -I WORDS bash -c WORDS 2>"$room/messages"
-for format in $formats; do
-    for program in $wanted_programs; do try_program "$program" "$format"; done
+due 3 $wanted_programs | sed 's/^/compile /' | xargs -P 2 -I WORDS bash -c WORDS 2>"$room/messages"
+while read -r program format <&3; do try_program "$program" "$format"; done 3< <(due 3 $wanted_programs)
+for format in $(formats_due); do
     try_putting "$format"
     try_addresses "$format" -O2
     try_addresses "$format" -O1 -msmall-data-limit=0 --passes=

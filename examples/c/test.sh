@@ -1,6 +1,6 @@
 #!/usr/bin/env bash
-# Compiles, checks and runs the C examples in each format, on each input of expected.txt, and compares what they do with
-# what the native programs did. Then reads the headers as C++, and compiles the programs of std.sh and compares them
+# Compiles, checks and runs the C examples in words, two in each other format, on each input of expected.txt, and compares
+# what they do with what the native programs did. Then reads the headers as C++, and compiles the programs of std.sh and compares them
 # with native ones.
 #
 #     examples/c/test.sh [SFI]      # SFI is the program; ./sfi at the top if absent
@@ -36,22 +36,19 @@ headers_in_cpp() {
 export -f c_image has
 export programs room
 names=$(cut -d' ' -f1 expected.txt | uniq)
-for format in $formats; do
-    for program in $names; do echo "c_image $program $format $room/$program.$format"; done
-done | xargs -P 2 -I WORDS bash -c WORDS 2>"$room/messages"
-for format in $formats; do
-    for program in $names; do
-        if [ ! -s "$room/$program.$format" ]; then
-            has riscv64-unknown-elf-gcc && report "$program, format $format: compiled" image "$(cat "$room/messages")" ||
-                skip "$(grep -c "^$program " expected.txt)" "$program, format $format" "riscv64-unknown-elf-gcc isn't there"
-            continue
-        fi
-        check_image "$program" "$format"
-        while read -r name input wanted; do
-            [ "$name" = "$program" ] && run_case "$program" "$format" "$input" "$wanted"
-        done <expected.txt
-    done
-done
+due 6 $names | while read -r program format; do echo "c_image $program $format $room/$program.$format"; done |
+    xargs -P 2 -I WORDS bash -c WORDS 2>"$room/messages"
+while read -r program format; do
+    if [ ! -s "$room/$program.$format" ]; then
+        has riscv64-unknown-elf-gcc && report "$program, format $format: compiled" image "$(cat "$room/messages")" ||
+            skip "$(grep -c "^$program " expected.txt)" "$program, format $format" "riscv64-unknown-elf-gcc isn't there"
+        continue
+    fi
+    check_image "$program" "$format"
+    while read -r name input wanted; do
+        [ "$name" = "$program" ] && run_case "$program" "$format" "$input" "$wanted"
+    done <expected.txt
+done < <(due 6 $names)
 headers_in_cpp
 std_programs_as_natively
 finish

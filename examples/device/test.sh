@@ -60,12 +60,17 @@ compare_examples() { # format
     done
 }
 
-# The last input of each program, or all of them.
+# The last input of each program, or all of them. In bundles a third of the programs are tried.
 compare_programs() { # format
-    local program input last=''
+    local program input last='' number=0
     while read -r program input _; do
-        [ "$program" = "$last" ] && [ -z "$all" ] && continue
+        if [ "$program" = "$last" ]; then
+            [ -n "$all" ] || continue
+        else
+            number=$((number + 1))
+        fi
         last=$program
+        [ -n "$all" ] || is_due "$1" "$number" 3 || continue
         c_image "$program" "$1" "$room/image.hex" || report "$program, format $1" image none
         compare "$program on $input, format $1" "$room/image.hex" \
             "$(../c/inputs.py "$input" | digits_of)" steps

@@ -127,7 +127,7 @@ long_input() {
 }
 
 examples_beside_run() {
-    local source format name input
+    local source format name
     for format in $formats; do
         for source in "$here"/../*.s "$here"/*.s; do
             name=$(basename "$source" .s)
@@ -135,13 +135,17 @@ examples_beside_run() {
             image "$source" "$format" "$name" || report "$name is built in format $format" image none
             beside_run "$name, format $format" "$name" 48656c6c6f 1:1000 7:13 40:1 3:97 200:1000
         done
-        input=$(head -c 3000 "$here/../c/inputs/prose" | digits_of)
-        for name in base64 crc32 hash json sort stack; do
-            c_image "$name" "$format" "$room/$name.hex" || { skip 1 "$name.c, format $format" "riscv64-unknown-elf-gcc isn't there" && continue; }
-            xxd -r -p "$room/$name.hex" >"$room/$name.image"
-            beside_run "$name.c, format $format" "$name" "$input" 1:100000 300:7 50:9999 100:1000000
-        done
     done
+}
+
+programs_beside_run() {
+    local name format input
+    input=$(head -c 3000 "$here/../c/inputs/prose" | digits_of)
+    while read -r name format <&3; do
+        c_image "$name" "$format" "$room/$name.hex" || { skip 1 "$name.c, format $format" "riscv64-unknown-elf-gcc isn't there" && continue; }
+        xxd -r -p "$room/$name.hex" >"$room/$name.image"
+        beside_run "$name.c, format $format" "$name" "$input" 1:100000 300:7 50:9999 100:1000000
+    done 3< <(due 3 base64 crc32 hash json sort stack)
 }
 
 # ---- the other two examples, by hand
@@ -212,7 +216,7 @@ compiled_anew() {
     report "words_plugin.c is compiled" "Two Words 28" "$("$room/words" "$room/anew.image" "two words" 2>&1 | head -n 1)"
     printf 'int add(int a, int b) { return a + b; }\n' >"$room/add.c"
     local format
-    for format in $formats; do
+    for format in $(formats_due); do
         "$top/tools/sfi-cc" --program "$SFI" --format "$format" --export add "$room/add.c" -o "$room/add.image" 2>"$room/log"
         says "a function by its name, format $format" add "5
 status 0" "$room/add.image"
@@ -386,6 +390,7 @@ build_rust
 find_node
 if has xxd; then
     examples_beside_run
+    programs_beside_run
     long_input
     plug_ins
     no_images

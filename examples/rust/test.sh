@@ -1,5 +1,6 @@
 #!/usr/bin/env bash
-# Compiles Rust programs for sandboxes in each format, and compares what they do with the same programs compiled natively.
+# Compiles Rust programs for sandboxes in words, one in each other format, and compares what they do with the same programs
+# compiled natively.
 #
 #     examples/rust/test.sh [SFI]      # SFI is the program; ./sfi at the top if absent
 set -uo pipefail
@@ -84,7 +85,7 @@ try_memory() {
 
 # The line of a trap by debug information, and the whole way.
 try_line() {
-    ./sfi-rustc --program "$sfi" -g --format words -o "$room/debugged.elf" programs/panics.rs
+    ./sfi-rustc --program "$sfi" -g -o "$room/debugged.elf" programs/panics.rs
     report "where a panic traps" 1 "$(riscv64-unknown-elf-objdump -dl "$room/debugged.elf" | grep -B2 ebreak | grep -c panicking.rs)"
 }
 
@@ -96,10 +97,8 @@ fi
 for program in words median panics calls; do
     silently "$program natively" ./sfi-rustc --native "$room/$program" "programs/$program.rs"
     silently "$program as assembly" ./sfi-rustc -S -o "$room/$program.s" "programs/$program.rs"
-    for format in $formats; do
-        try_program "$program" "$format"
-    done
 done
+while read -r program format <&3; do try_program "$program" "$format"; done 3< <(due 4 words median panics calls)
 try_memory
 try_line
 finish

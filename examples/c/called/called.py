@@ -3,8 +3,8 @@
 
     examples/c/called/called.py [--program SFI] [--library LIBRARY] [--sample N] [--seed N]
 
-First the ten of functions.c, by gcc and clang, at each level of optimization and in each format: what each answers, beside
-what it answers natively. Then a sample of GCC's torture tests, whose `main` is called by its name; they have to do what they
+First the ten of functions.c, by gcc and clang, at each level of optimization in words, and by turns in bundles: what each
+answers, beside what it answers natively. Then a sample of GCC's torture tests, whose `main` is called by its name; they have to do what they
 do natively (torture.py says how, and which can't pass). The last line is `N passed, M failed[, K skipped]`.
 """
 import argparse
@@ -24,11 +24,13 @@ sys.path.insert(0, os.path.join(os.path.dirname(HERE), "torture"))
 
 import torture
 from suygapid.cc.compilers import Failed, ran
+from testing import commits, formats_due
 
 SOURCE = os.path.join(HERE, "functions.c")
 NUMBERS = (0, 12345, 4294967295)
 STEPS = 10 ** 9
-SAMPLE = 60  # of the torture tests: what the gate has time for
+SAMPLE = 50  # of the torture tests: what the gate has time for
+OTHERS = 1 << 20  # added to the number of commits: a seed that takes others than torture.py does
 
 
 def natively(folder):
@@ -40,8 +42,9 @@ def natively(folder):
 
 
 def ways_of(options):
-    return [(compiler, level, image_format) for level in torture.LEVELS for image_format in torture.FORMATS
-            for compiler in options.compiler]
+    """The ways in words, and those in bundles whose turn it is."""
+    pairs = [(compiler, level) for level in options.level for compiler in options.compiler]
+    return [(*pair, image_format) for number, pair in enumerate(pairs) for image_format in formats_due(number, 5)]
 
 
 def image_of(options, folder, way):
@@ -114,10 +117,9 @@ def tests(options, folder):
         return {"skipped": 1}
     room = torture.room_of(options, folder)
     room = replace(room, more=("--program", options.program, "--export", "main"))
-    ways = ways_of(options)
     names = torture.names_of(room)
     random.Random(options.seed).shuffle(names)
-    cases = [torture.Case(name, *ways[number % len(ways)]) for number, name in enumerate(names[:options.sample])]
+    cases = torture.sample_of(options, names, options.sample)
     with Pool(2) as pool:
         return torture.count(pool.imap(tried, [(room, case) for case in cases]), None)
 
@@ -128,10 +130,10 @@ def parsed(words):
     parser.add_argument("--library", default=os.path.join(TOP, "crates", "sfi_run", "out", "libsfi_run.a"),
                         help="a libsfi_run.a that rt built")
     parser.add_argument("--sample", type=int, default=SAMPLE, help="how many torture tests; %(default)s if absent")
-    parser.add_argument("--seed", type=int, default=2, help="which ones; %(default)s if absent")
+    parser.add_argument("--seed", type=int, default=commits() + OTHERS, help="which ones; by the number of commits if absent")
     options = parser.parse_args(words)
     options.program, options.library_file, options.library = os.path.abspath(options.program), os.path.abspath(options.library), None
-    options.csmith, options.ieee, options.moved = 0, False, False  # of torture.py
+    options.csmith, options.ieee, options.moved, options.level, options.format = 0, False, False, torture.LEVELS, None  # of torture.py
     options.compiler = [name for name, needed in (("gcc", [torture.GCC]), ("clang", ["clang", "llc"])) if all(map(shutil.which, needed))]
     return options
 

@@ -1,5 +1,6 @@
 #!/usr/bin/env bash
-# Links archives, libraries, two sandboxes and constructors in each format, debugs programs by gdb, and tries what is refused.
+# Links archives, libraries, two sandboxes and constructors in words, and in the first or the second format by turns, debugs
+# programs by gdb, and tries what is refused.
 #
 #     examples/c/elf/test.sh [SFI]      # SFI is the program; ./sfi at the top if absent
 set -uo pipefail
@@ -110,7 +111,7 @@ try_step() {
 try_many() {
     { for number in $(seq 60); do echo "volatile int objects$number[16];"; done
         echo "int main(void) { return 40"; printf ' + (objects%s[3] = 1)' $(seq 60); echo "; }"; } >"$room/many.c"
-    elf_of many.elf 2 "$room/many.c"
+    elf_of many.elf words "$room/many.c"
     report "more small objects than there is room for" "sandbox=0 exit=100 out=" "$(line_of "$room/many.elf")"
 }
 
@@ -160,7 +161,7 @@ try_debugging() {
     [ -f "$runtime" ] || { skip 1 "programs in gdb" "$runtime isn't built" && return; }
     succeeds "the library is linked" "$tools/libraries.py" sfi_run "$runtime" "$room/lib"
     export SFI_RUN_LIBRARY=$room/lib/libsfi_run.so
-    for format in $formats; do
+    for format in $(formats_due); do
         try_gdb "$format"
         try_kept "$format" -O2
         try_kept "$format" -Og
@@ -170,23 +171,23 @@ try_debugging() {
 
 try_refusals() {
     report "an undefined symbol" "undefined reference to \`absent'" \
-        "$(refusal elf_of x.elf 2 elf/undefined.c >/dev/null; grep -o 'undefined reference.*' "$room/messages" | head -n 1)"
-    report "an ecall" "asm2elf: ecall.s:4: ecall: a sandbox calls its host through gates alone" "$(refusal elf_of x.elf 2 elf/ecall.s)"
+        "$(refusal elf_of x.elf words elf/undefined.c >/dev/null; grep -o 'undefined reference.*' "$room/messages" | head -n 1)"
+    report "an ecall" "asm2elf: ecall.s:4: ecall: a sandbox calls its host through gates alone" "$(refusal elf_of x.elf words elf/ecall.s)"
     report "objects of two formats" "objects of several formats: compile all of them with one --format" \
-        "$(elf_of two.o words -c elf/twice.c && refusal elf_of x.elf 2 elf/calls_twice.c "$room/two.o" >/dev/null
+        "$(elf_of two.o 2 -c elf/twice.c && refusal elf_of x.elf words elf/calls_twice.c "$room/two.o" >/dev/null
         grep -o 'objects of several.*' "$room/messages" | head -n 1)"
     report "two sandboxes at one place" \
-        "sfi-image: $room/post.2.elf and $room/post.2.elf lie at one place: link each with a --sandbox of its own" \
-        "$(refusal "$tools/sfi-image" "$room/post.2.elf" "$room/post.2.elf")"
-    report "two formats in one image" "sfi-image: $room/post.2.elf and $room/take.words.elf are of different formats" \
-        "$(refusal "$tools/sfi-image" "$room/post.2.elf" "$room/take.words.elf")"
+        "sfi-image: $room/post.words.elf and $room/post.words.elf lie at one place: link each with a --sandbox of its own" \
+        "$(refusal "$tools/sfi-image" "$room/post.words.elf" "$room/post.words.elf")"
+    report "two formats in one image" "sfi-image: $room/post.words.elf and $room/take.elf are of different formats" \
+        "$(elf_of take.elf 2 --sandbox 1 primes_take.c && refusal "$tools/sfi-image" "$room/post.words.elf" "$room/take.elf")"
     report "no ELF file" "sfi-image: elf/null.c is no linked ELF file of 32-bit RISC-V" "$(refusal "$tools/sfi-image" elf/null.c)"
-    head -c 3000 "$room/post.2.elf" >"$room/short.elf"
+    head -c 3000 "$room/post.words.elf" >"$room/short.elf"
     report "an ELF file that is cut off" "sfi-image: $room/short.elf is cut off, or no ELF file" \
         "$(refusal "$tools/sfi-image" "$room/short.elf")"
-    riscv64-unknown-elf-strip -o "$room/bare.elf" "$room/post.2.elf"
+    riscv64-unknown-elf-strip -o "$room/bare.elf" "$room/post.words.elf"
     report "an ELF file without symbols" 1 "$(refusal "$tools/sfi-image" "$room/bare.elf" | grep -c 'link it by tools/sfi-cc')"
-    report "a data region that is too small" 1 "$(refusal "$tools/sfi-image" --data 4096 "$room/post.2.elf" | grep -c "don't fit in 4096")"
+    report "a data region that is too small" 1 "$(refusal "$tools/sfi-image" --data 4096 "$room/post.words.elf" | grep -c "don't fit in 4096")"
 }
 
 if ! has riscv64-unknown-elf-gcc || ! has riscv64-unknown-elf-ld; then
@@ -197,7 +198,7 @@ primes=$(seq 2 99 | factor | awk 'NF == 2 { print $2 }')
 mkdir "$room/library"
 riscv64-unknown-elf-gcc -S -O2 -march=rv32imc -mabi=ilp32 $(printf -- '-ffixed-x%s ' 24 25 26 27 29 30 31) \
     -o "$room/library/twice.asm" elf/twice.c
-for format in $formats; do
+for format in $(formats_due); do
     try_archive "$format"
     try_pair "$format"
     try_linked "$format"

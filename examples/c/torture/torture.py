@@ -4,8 +4,9 @@
     examples/c/torture/torture.py [OPTIONS] [NAME ..]
 
 Each test is compiled twice by one compiler: for qemu-riscv32 with picolibc, and by the way of sfi-cc. Where the first exits
-with 0, the second has to, and to print the same. A fixed sample runs, each test in another of the ways, if no names and
-no --all are given, and so do the programs of --csmith. The last line is `N passed, M failed[, K skipped]`; a line `skipped: WHAT: WHY` tells each that can't pass.
+with 0, the second has to, and to print the same. A sample runs if no names and no --all are given, each test in another of
+the ways, three of five in words; the number of commits says which, so that each change tries others. In these ways the
+programs of --csmith run, too. The last line is `N passed, M failed[, K skipped]`; a line `skipped: WHAT: WHY` tells each that can't pass.
 
 Of --all with --library newlib all passed in the second format (2026-11-26, by a converter of whole programs) but pr60822, whose
 data exceed 1 MiB (so 1,577 of 1,578 by gcc -O2), by clang pr79286, which reads an unset variable, and of --ieee cdivchkld, which
@@ -32,6 +33,7 @@ sys.path.insert(0, os.path.join(TOP, "tools"))
 
 from suygapid.cc.compilers import GCC, Failed, ran
 from suygapid.library.sources import GCC_SOURCE, unpacked
+from testing import commits
 
 PICOLIBC = "/usr/lib/picolibc/riscv64-unknown-elf"
 QEMU = "qemu-riscv32"
@@ -39,9 +41,10 @@ TESTS = "gcc/testsuite/gcc.c-torture/execute"
 COMPILERS = {"gcc": GCC, "clang": "clang"}
 LEVELS = ("-O0", "-O1", "-O2", "-O3", "-Os")
 FORMATS = ("1", "2", "words")
+OF_SAMPLE = ("words", "words", "1", "words", "2")  # the formats of a sample's tests
 TOOLS = os.path.join(TOP, "tools")
 PACKAGES = {GCC: "gcc-riscv64-unknown-elf", "clang": "clang", "llc": "llvm", QEMU: "qemu-user", "csmith": "csmith libcsmith-dev"}
-SAMPLE, SEED = 120, 1
+SAMPLE = 100
 CSMITH = ["csmith", "--max-funcs", "4", "--max-block-depth", "3"]  # some 20 KB of C each
 CSMITH_HEADERS = "/usr/include/csmith"
 STACKS = (540000, 65536)  # the second where the data leave no room for the first
@@ -186,16 +189,25 @@ def names_of(room):
     return sorted(os.path.basename(path)[:-2] for path in glob.glob(os.path.join(room.tests, "*.c")))
 
 
+def ways_of(options, formats):
+    """The ways by each compiler at each level in formats, one after another."""
+    return [(compiler, level, image_format) for level in options.level for image_format in formats for compiler in options.compiler]
+
+
+def sample_of(options, names, count):
+    """Cases of some tests, each in another of the ways of a sample."""
+    ways = ways_of(options, options.format or OF_SAMPLE)
+    return [Case(name, *ways[number % len(ways)]) for number, name in enumerate(names[:count])]
+
+
 def cases_of(options, room):
     """The cases that are asked for, in an order that is always the same."""
     names = names_of(room)
-    ways = [(compiler, level, image_format) for level in options.level for image_format in options.format
-            for compiler in options.compiler]
     if options.names or options.all or options.ieee:
-        return [Case(name, *way) for name in options.names or names for way in ways]
+        return [Case(name, *way) for name in options.names or names for way in ways_of(options, options.format or FORMATS)]
     if not options.csmith:
-        random.Random(SEED).shuffle(names)
-    return [Case(name, *ways[number % len(ways)]) for number, name in enumerate(names[:options.csmith or SAMPLE])]
+        random.Random(options.seed).shuffle(names)
+    return sample_of(options, names, options.csmith or SAMPLE)
 
 
 def parsed(words):
@@ -204,7 +216,8 @@ def parsed(words):
     parser.add_argument("--all", action="store_true", help="all tests in each way")
     parser.add_argument("--ieee", action="store_true", help="the tests of the folder ieee, all in each way")
     parser.add_argument("--csmith", type=int, default=0, metavar="COUNT", help="COUNT programs by csmith in place of the tests")
-    parser.add_argument("--seed", type=int, default=SEED, help="the first one's seed; %(default)s if absent")
+    parser.add_argument("--seed", type=int, default=commits(), help="the sample's seed, or that of csmith's first program; "
+                        "the number of commits, %(default)s, if absent")
     parser.add_argument("--compiler", action="append", choices=COMPILERS, help="gcc and clang if absent")
     parser.add_argument("--level", action="append", choices=LEVELS, help="such as --level=-O2; all if absent")
     parser.add_argument("--format", action="append", choices=FORMATS, help="all if absent")
@@ -213,7 +226,7 @@ def parsed(words):
     parser.add_argument("--jobs", type=int, default=2, help="how many run side by side; 2 if absent")
     parser.add_argument("--program", default=os.path.join(TOP, "sfi"), help="the program sfi; ./sfi at the top if absent")
     options = parser.parse_args(words)
-    options.level, options.format = options.level or LEVELS, options.format or FORMATS
+    options.level = options.level or LEVELS
     options.asked = options.compiler
     options.compiler = options.compiler or [name for name in COMPILERS if shutil.which(name) or name == "gcc"]
     return options

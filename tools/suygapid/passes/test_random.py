@@ -3,21 +3,20 @@
     [SFI=PATH] [SEED=N] [COUNT=N] tools/unit_tests.py tools/suygapid/passes test_random.py
 
 Each program goes through gcc at -O0 to -O3 and -Os and, where it is there, through clang at -O2, then
-through the tool with all its passes, and runs in each format. The same
-programs are tried each time, so that the gate's answer can be repeated; SEED=N in the environment
-takes others, and COUNT=N takes N of them. A failure names its seed. Where a compiler isn't there the
-test is skipped."""
+through the tool with all its passes. Two programs, the same each time, run in words; one runs in each
+format, whose seed is the number of commits, so that the gate's answer can be repeated. SEED=N in the
+environment takes COUNT=N others from there on, each in each format. A failure names its seed. Where a
+compiler isn't there the test is skipped."""
 import os
 import shutil
 import subprocess
 
 from suygapid.passes.random_c import Program
-from testing import FORMATS, GCC, SFI, SFI_CC, TOP, Folder, needs, needs_program
+from testing import FORMATS, GCC, SFI, SFI_CC, TOP, Folder, commits, needs, needs_program
 
 HERE = os.path.dirname(os.path.abspath(__file__))
 EXAMPLES = os.path.join(TOP, "examples", "c")
-SEED = int(os.environ.get("SEED", 1))
-COUNT = int(os.environ.get("COUNT", 3))
+IN_WORDS = (1, 2)  # the seeds of what is tried each time
 STACK = 1 << 19  # the programs call themselves some hundred times
 CLANG, LLC, NATIVE = "clang", "llc", "gcc"
 GCC_WAYS = [["-O0"], ["-O1"], ["-O2", "-fno-section-anchors", "-mno-explicit-relocs"], ["-Os"], ["-O3", "-funroll-loops"]]
@@ -35,6 +34,14 @@ def native_answer(path, folder):
     subprocess.run(words, check=True)
     done = run(program)
     return f"exit={done.returncode} out={done.stdout.hex()}"
+
+
+def programs():
+    """The seeds of the programs, each with its formats."""
+    if "SEED" in os.environ:
+        first = int(os.environ["SEED"])
+        return [(seed, FORMATS) for seed in range(first, first + int(os.environ.get("COUNT", 1)))]
+    return [(seed, ("words",)) for seed in IN_WORDS] + [(max(IN_WORDS) + 1 + commits(), FORMATS)]
 
 
 def ways():
@@ -57,10 +64,10 @@ def sandboxed_answer(compiler, way, path, image_format):
 @needs(GCC, NATIVE)
 class RandomPrograms(Folder):
     def test_answers(self):
-        for seed in range(SEED, SEED + COUNT):
+        for seed, formats in programs():
             path = self.write("random.c", Program(seed).text())
             wanted = native_answer(path, self.folder)
             for compiler, way in ways():
-                for image_format in FORMATS:
+                for image_format in formats:
                     found = sandboxed_answer(compiler, way, path, image_format)
                     self.assertEqual(found, wanted, f"SEED={seed}, {compiler} {' '.join(way)}, format {image_format}")

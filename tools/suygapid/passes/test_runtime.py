@@ -1,8 +1,8 @@
 """Tests of the functions that compilers call by themselves: `tools/unit_tests.py tools/suygapid/passes`. C programs give
-their native answers, by gcc and by clang, in both formats of bundles. They are skipped where a compiler or the program isn't there."""
+their native answers, by gcc and by clang, in words, and by turns in bundles. They are skipped where a compiler or the program isn't there."""
 import subprocess
 
-from testing import COMPILERS, SFI, SFI_CC, Folder, needs, needs_a_compiler, needs_program
+from testing import COMPILERS, SFI, SFI_CC, Folder, formats_due, needs, needs_a_compiler, needs_program
 
 # `say` mixes each answer into a sum and counts it; the program puts all sums of 64 bits, the lowest byte first.
 FRAME = r'''
@@ -150,14 +150,14 @@ class Runtime(Folder):
 
     def compare(self, text, wanted, options=((), ("-O0",)), given="00"):
         path = self.write("program.c", text)
-        for compiler in COMPILERS:
-            for number, more in enumerate(options):
-                words = [SFI_CC, "--program", SFI, "--cc", compiler, "-w", path, *more,
-                         "--format", str(2 - number)]
+        ways = [(compiler, more) for more in options for compiler in COMPILERS]
+        for number, (compiler, more) in enumerate(ways):
+            for image_format in formats_due(number, len(ways)):
+                words = [SFI_CC, "--program", SFI, "--cc", compiler, "-w", path, *more, "--format", image_format]
                 image = subprocess.run(words, stdout=subprocess.PIPE, stderr=subprocess.PIPE, check=True).stdout
                 run = [SFI, "run", "--rounds", "10", "--quantum", "1000000", "--input", given]
                 found = subprocess.run(run, input=image, stdout=subprocess.PIPE, check=True, text=False).stdout.decode()
-                self.assertRegex(found, wanted, f"{compiler} {more}")
+                self.assertRegex(found, wanted, f"{compiler} {more}, format {image_format}")
 
     @needs("gcc")
     def test_numbers(self):

@@ -10,7 +10,7 @@ from suygapid.cc.compilers import compiled, reserved
 from suygapid.validate.files import compilers_object, rewritten_object
 from suygapid.validate.mistakes import MISTAKES, MOVABLE
 from suygapid.validate.validating import complaints
-from testing import COMPILERS, FORMATS, TOOLS, TOP, Folder, needs, needs_a_compiler
+from testing import COMPILERS, TOOLS, TOP, Folder, formats_due, needs, needs_a_compiler
 
 EXAMPLES = ("arithmetic", "base64", "crc32", "hash", "json", "lz", "matrix", "regex", "sha256", "sort", "stack", "wordcount")
 PASSES = os.path.join(os.path.dirname(os.path.abspath(__file__)), "passes.s")
@@ -87,8 +87,8 @@ class Aliases(Validation):
 
     @needs_a_compiler
     def test_equal_functions(self):
-        for compiler in COMPILERS:
-            for image_format in FORMATS:
+        for number, compiler in enumerate(COMPILERS):
+            for image_format in formats_due(number, 2):
                 assembly, _ = compiled(compiler, [], self.write("equal.c", EQUAL), self.path(f"{compiler}.{image_format}"), reserved(image_format))
                 output = self.path(f"{image_format}.s")
                 self.converted(assembly, {image_format: output})
@@ -110,14 +110,16 @@ class Aliases(Validation):
 @needs("riscv64-unknown-elf-as")
 @needs_a_compiler
 class Examples(Validation):
-    def one(self, compiler, name):
-        """What is said of an example by a compiler, in each format, movable or not. In words the compiler leaves more registers alone."""
+    def one(self, compiler, name, formats):
+        """What is said of an example by a compiler, in these formats, and if they are several also where it can be moved. In words
+        the compiler leaves more registers alone."""
         found, source = [], os.path.join(TOP, "examples", "c", f"{name}.c")
-        for formats in (("words",), ("1", "2")):
-            place = self.path(f"{name}.{compiler}.{formats[0]}")
+        for image_format in formats:
+            place = self.path(f"{name}.{compiler}.{image_format}")
             small = [] if "clang" in compiler else ["-msmall-data-limit=64"]
-            assembly, _ = compiled(compiler, small, source, place, reserved(formats[0]))
-            outputs = {way: os.path.join(place, f"{way}.s") for it in formats for way in (it, it + MOVED)}
+            assembly, _ = compiled(compiler, small, source, place, reserved(image_format))
+            ways = (image_format, image_format + MOVED) if len(formats) > 1 else (image_format,)
+            outputs = {way: os.path.join(place, f"{way}.s") for way in ways}
             self.converted(assembly, outputs)
             left = compilers_object(assembly)
             found += [line for way, path in outputs.items()
@@ -125,11 +127,11 @@ class Examples(Validation):
         return found
 
     def test_nothing_to_say(self):
-        self.assertEqual(set(FORMATS), {"1", "2", "words"})
         pairs = [(compiler, name) for compiler in COMPILERS for name in EXAMPLES]
+        cases = [(*pair, formats_due(number, 6)) for number, pair in enumerate(pairs)]
         with ThreadPoolExecutor(2) as pool:
-            for pair, found in zip(pairs, pool.map(lambda pair: self.one(*pair), pairs)):
-                with self.subTest(" ".join(pair)):
+            for case, found in zip(cases, pool.map(lambda case: self.one(*case), cases)):
+                with self.subTest(case):
                     self.assertEqual(found, [])
 
 
