@@ -402,6 +402,15 @@ class Programs(Calls):
     def test_clang(self):
         self.compare(([], ["-O0", "-g"], ["-Os"], ["-Os", "-msave-restore"]), "--cc", "clang")
 
+    @needs("clang", "llc")
+    def test_addresses_of_labels_by_clang(self):
+        """A later function, into which that of the labels is inlined, speaks of them, too."""
+        file = self.write("labels.c", "static short table[2];\nint run(short *at) {\n    static void *base = &&first;\n    if (!at) {\n"
+                                      "        table[0] = &&first - &&first;\n        table[1] = &&last - &&first;\n        return 0;\n    }\n"
+                                      "    goto *(base + *at++);\nfirst:\n    goto *(base + *at++);\nlast:\n    return 42;\n}\n"
+                                      "int main(void) {\n    run(0);\n    short code[] = {table[0], table[1]};\n    return run(code);\n}\n")
+        self.assertEqual(self.runs("--cc", "clang", file), ["sandbox=0", "exit=42", "out="])
+
     @needs(GCC)
     def test_assembly_and_cpp(self):
         main = self.write("main.cc", '''extern "C" int twice(int number);

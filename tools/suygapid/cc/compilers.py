@@ -20,6 +20,7 @@ HOSTED = "-fhosted"  # what undoes -ffreestanding, which C++ isn't compiled with
 GCC_HEADERS = ["-idirafter", os.path.join(os.path.dirname(__file__), "plus_plus")]  # what C++ by gcc has where there is no C library
 LAST = ["-fno-lto", "-mno-save-restore"]  # what outweighs the options that are given
 TARGET = ["--target=riscv32-unknown-elf", "-fno-jump-tables"]  # llc makes tables of any five cases, or none
+NAMES = "-fno-discard-value-names"  # llc takes no address of a block without a name after the block's function
 LLC = ["-march=riscv32", "-target-abi=ilp32", "--function-sections", "--data-sections"]
 HEADERS = ["-I", os.path.join(TOP, "examples", "c")]
 SOURCES = (".c", ".i")
@@ -135,7 +136,7 @@ def by_clang(compiler, given, file, assembly, registers):
     middle = assembly + ".ll"
     folder, name = os.path.split(compiler)
     llc = os.path.join(folder, name.replace("clang", "llc"))
-    first = ran([compiler, "-S", "-emit-llvm", "-O2", *TARGET, *COMMON, *language(file), *for_language(file, given),
+    first = ran([compiler, "-S", "-emit-llvm", NAMES, "-O2", *TARGET, *COMMON, *language(file), *for_language(file, given),
                  *LAST, *HEADERS, "-o", middle, file])
     return first[1] + by_llc(llc, middle, [level(given)], assembly, registers)
 
