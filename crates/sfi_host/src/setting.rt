@@ -89,8 +89,9 @@ impl Sandbox {
     fn holds_reserved(&self, cpu: &Cpu) -> bool
         requires code_size { 16 ≤ self.now.code.size }
         requires data_size { 16 ≤ self.now.data.size }
-        ensures { IsTrue result
-            ↔ HasReserved (reserved_for (unit self.now.format) (span_of self.now.code) (span_of self.now.data)) cpu.now.registers }
+        ensures { IsTrue result ↔ HasReserved
+            (reserved_for (unit self.now.format) (span_of self.now.code) (span_of self.now.data))
+            cpu.now.registers }
     {
         cpu.reg(Reg::numbered(CODE_BASE_REGISTER)) == self.code.base
             && cpu.reg(Reg::numbered(CODE_MASK_REGISTER)) == self.code.size - self.format.unit()

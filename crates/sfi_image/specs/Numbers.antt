@@ -1,4 +1,5 @@
--- The numbers of an image, as its readers and writers take them: how many bytes each has, and which have 32 bits.
+-- The numbers of an image, as its readers and writers take them: how many bytes each has, and which have 32 bits; and the same
+-- sandboxes in another format.
 use Rattle.std.specs.Prelude.{ℕ, List, map}
 use Rattle.std.specs.List.{All}
 use Rattle.sfi_formats.specs.declared.format.Format.{Format}

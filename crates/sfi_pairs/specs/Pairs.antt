@@ -1,6 +1,7 @@
 -- The masked pairs (Wahbe and others, "Efficient Software-Based Fault Isolation", 1993): an `and`
 -- keeps an address's offset in the region, of a code address the offset of its bundle, or in code in
--- words of its word, and an `or` sets the region's bits.
+-- words of its word, and an `or` sets the region's bits. And the accesses that may stand in the place
+-- of a pair.
 use Rattle.std.specs.Prelude.{◌==◌, ◌&&◌, ℕ, ℤ, pos, negsuc, nat_le, nat_lt, not, List, [], ◌∷◌, ◌++◌, Bool, false}
 use Rattle.rv_word.specs.declared.instr.RegOp.TheVariants.{And, Or}
 use Rattle.rv_word.specs.declared.instr.Instr.{Instr}

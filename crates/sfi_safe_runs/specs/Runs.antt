@@ -61,7 +61,7 @@ pub record AreWordsTyped (code_at data_at : Span) (registers : List ℕ) : Type 
 -- The typed registers of its format hold what their types say: x2 lies in the data region where it is
 -- a stack pointer, and in words six registers are typed. The first format has none, so nothing is asked.
 pub record IsTyped (p : Part) (registers : List ℕ) : Type 0 where
-  pub stack : has_stack p.format ≡ true → InData p (slice_index registers stack_pointer)
+  pub stack : StackInData p registers
   pub words : has_words p.format ≡ true → AreWordsTyped (code_region p) (data_region p) registers
 
 -- ==== How a host keeps a sandbox and answers its calls: the plain way, and others.

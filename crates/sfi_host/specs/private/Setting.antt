@@ -1,4 +1,4 @@
--- Whether registers may be set from outside: the tests, one by one.
+-- What a test of registers that are set from outside looks at first.
 use Rattle.std.specs.Prelude.{ℕ, List, slice_index}
 use Rattle.sfi_formats.specs.Limits.{slack}
 use Rattle.sfi_image.specs.declared.span.Span.{Span}

@@ -52,7 +52,7 @@ abbrev pub is_pointer_step : ℕ → Instr → Bool
 is_pointer_step d (OpImm Addi rd rs1 imm) = (rd == d) && (rs1 == d)
 is_pointer_step d _ = false
 
--- the pieces begin with a load or store on d, with a small offset
+-- the pieces begin with a use of d
 abbrev pub begins_using : ℕ → List Piece → Bool
 begins_using d [] = false
 begins_using d (x ∷ later) = uses d x.instr
