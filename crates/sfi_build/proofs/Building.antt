@@ -1,5 +1,5 @@
 -- A text has one build or one fault, and as many lists as sandboxes.
-use Rattle.sfi_text.proofs.Prelude.{◌≡◌, refl, sym, ap, subst, ◌∙◌, ℕ, ◌+◌, inl, inr, List, [], ◌∷◌, ◌++◌, Option, None, Some, length, length-append, arith, Sandbox, Begun, SharedNames, SoFar, nothing, begin, last_sandbox, sandboxes, tables, Stated, format, sandbox, within, Does, LabelsLead, RestLeads, uncommented, lines, LinesLead, MeansText}
+use Rattle.sfi_text.proofs.Prelude.{◌≡◌, refl, sym, ap, subst, ◌∙◌, ℕ, ◌+◌, inl, inr, List, [], ◌∷◌, ◌++◌, Option, None, Some, length, length-append, arith, Sandbox, Begun, SharedNames, SoFar, nothing, last_sandbox, Stated, format, sandbox, within, Does, LabelsLead, RestLeads, uncommented, lines, LinesLead, MeansText}
 use Rattle.sfi_text.specs.SoFar.{last_shared}
 use Rattle.sfi_link.proofs.Prelude.{◌⊎◌, Vec, Global, Result, Ok, Err, IfOk, IfErr, Placement, Place, IsLinkFault}
 use Rattle.std.specs.Prelude.{◌≢◌}
@@ -7,10 +7,10 @@ use Rattle.std.proofs.lemmas.Result.{IfOk-weaker}
 use Rattle.sfi_text.specs.Texts.{MeansSource}
 use Rattle.sfi_source.specs.Source.{IsSource, IsSandbox}
 use Rattle.std.proofs.lemmas.List.Elements.{recursion_from_All}
-use Rattle.sfi_build.specs.Tables.{tails_from, each_with, sandbox_with}
+use Rattle.sfi_build.specs.Tables.{tails_from, sandbox_with}
 use Rattle.sfi_build.proofs.Tails.{source_right}
 use Rattle.sfi_build.proofs.Fitting.{tails_fit, same_ok, same_err, ok_not_err}
-use Rattle.sfi_link.specs.Linked.{IsLinkedImage, ArePlacements, IsBuild}
+use Rattle.sfi_link.specs.Linked.{IsLinkedImage, ArePlacements, IsBuild, each_with}
 use Rattle.sfi_link.specs.Standing.{ImageRunsAs}
 use Rattle.sfi_build.specs.Texts.{IsPlainBuild, MeansWhole, IsTextBuild, IsTextMap, IsCleanImage, IsBuildFault, IsWantOfMemory, AnswersBuild, AnswersBuildFault}
 use Rattle.sfi_build.specs.declared.fault.BuildFault.{BuildFault}
@@ -71,7 +71,7 @@ IsEarly _ = Unit {0}
 same_placed : (text : List ℕ) (s t : List Sandbox) (l m : List SharedNames) (p q : List Placement) → MeansText text s l → MeansText text t m → AreRewritten s p → AreRewritten t q → p ≡ q
 same_placed text s t l m p q a b x y = sources.one_rewriting t p q (subst (λ u. AreRewritten u p) (texts.one_text text s t l m a b).0 x) y
 
-listed_means : (text : List ℕ) (s : List Sandbox) (l : List SharedNames) → MeansText text s l → MeansSource text s
+pub listed_means : (text : List ℕ) (s : List Sandbox) (l : List SharedNames) → MeansText text s l → MeansSource text s
 listed_means text s l (new, last, leads, begun, is, shared) = (new, last, leads, begun, is)
 
 -- the tables are the same, and the sandboxes to whose data they belong

@@ -1,5 +1,5 @@
 -- Tables are made step by step: what their bytes are made of.
-use Rattle.sfi_link.proofs.Prelude.{◌≡◌, sym, subst, ℕ, ◌+◌, ◌^◌, ◌<◌, List, length, get_or, arith, Place, Placement, IsPlacedPart, IsPlaced, bases_of, AreNear, refl, ap, ◌∙◌, [], ◌∷◌, ◌++◌, Option, None, Some, Result, Ok, Err, map, slice_get, take, drop, append_assoc, append-nil, Sandbox, inl, inr, ◌≤◌, ◌==◌, true, false, take_more, map_push, length-take-le, All}
+use Rattle.sfi_link.proofs.Prelude.{◌≡◌, sym, subst, ℕ, ◌+◌, ◌^◌, ◌<◌, List, length, get_or, arith, Place, Placement, IsPlacedPart, IsPlaced, bases_of, AreNear, refl, ap, ◌∙◌, [], ◌∷◌, ◌++◌, Option, None, Some, Result, Ok, Err, map, slice_get, take, drop, append_assoc, append-nil, Sandbox, inl, inr, ◌≤◌, true, false, take_more, map_push, length-take-le, All, each_with}
 use Rattle.sfi_link.specs.Linked.{IsLinkedImage}
 use Rattle.sfi_link.proofs.Linking.{near_of}
 use Rattle.sfi_link.proofs.Parts.{linked_at, start_fits}
@@ -9,7 +9,7 @@ use Rattle.sfi_text.specs.declared.source_text.Listed.{Listed}
 use Rattle.sfi_text.specs.SoFar.{SharedNames}
 use Rattle.sfi_build.specs.declared.table_fault.TableFault.{TableFault}
 use Rattle.sfi_build.specs.declared.table_fault.TableFault.TheVariants.{Unknown, NoRoom}
-use Rattle.sfi_build.specs.Tables.{address_in, on_ok, entry_with, entry_before, entries_of, tail_of, tails_from, each_with, sandbox_with, table_of, bytes_within, is_unlisted, room_of}
+use Rattle.sfi_build.specs.Tables.{address_in, on_ok, entry_with, entry_before, entries_of, tail_of, tails_from, sandbox_with, table_of, bytes_within, is_unlisted, room_of}
 use Rattle.std.proofs.Common.{cond}
 use Rattle.std.specs.List.{AllByRecursion}
 use Rattle.std.proofs.lemmas.List.Elements.{recursion_from_All}
@@ -51,10 +51,6 @@ one_more made x (Err f) = refl
 -- the next of what is listed, if there is one, is its first
 pub next : {X : Type 0} (xs : List X) (k : ℕ) (x : X) → k < length xs → x ≡ get_or xs k x → drop k xs ≡ x ∷ drop (k + 1) xs
 next xs k x less is = at_drop_more (λ l. l) xs k x less ∙ ap (λ y. y ∷ drop (k + 1) xs) (sym is)
-
-pub each_with_none : {X : Type 0} (add : List ℕ → X → X) (bs : List (List ℕ)) → each_with add bs [] ≡ []
-each_with_none add [] = refl
-each_with_none add (b ∷ bs) = refl
 
 pub each_with_push : {X : Type 0} (add : List ℕ → X → X) (bs : List (List ℕ)) (b : List ℕ) (xs : List X) (x : X) → length bs ≡ length xs
     → each_with add (bs ++ b ∷ []) (xs ++ x ∷ []) ≡ each_with add bs xs ++ add b x ∷ []

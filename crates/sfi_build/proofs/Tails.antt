@@ -1,5 +1,5 @@
--- A source whose first data bytes end in tables is right, and is placed and linked as it is without them.
-use Rattle.sfi_link.proofs.Prelude.{◌≡◌, refl, sym, ap, subst, ℕ, zero, suc, ◌+◌, ◌<◌, ◌≤◌, List, [], ◌∷◌, ◌++◌, length, length-append, arith, map, slice_get, All, AllPairs, All-append, Sandbox, IsSandbox, Placement, Place, Part, AreApart, spans, spans_of, fields_of, bases_of, IsLinked, AreLinkedFrom, AreLinked, entries_in, map_from, PlacedName}
+-- A source whose first data bytes end in tables is right, and is placed as it is without them.
+use Rattle.sfi_link.proofs.Prelude.{◌≡◌, refl, sym, ap, subst, ℕ, zero, suc, ◌+◌, ◌<◌, ◌≤◌, List, [], ◌∷◌, ◌++◌, length, length-append, arith, map, slice_get, All, All-append, Sandbox, IsSandbox, Placement, Place, bases_of, with_bytes, each_with, entries_in, map_from, PlacedName}
 use Rattle.sfi_link.specs.declared.bases.Bases.{Bases}
 use Rattle.std.specs.List.{AllByRecursion}
 use Rattle.std.proofs.lemmas.List.Elements.{All-from_recursion, recursion_from_All}
@@ -8,16 +8,13 @@ use Rattle.sfi_source.specs.Source.{IsSource, IsThere, AreOf, format_of}
 use Rattle.sfi_source.specs.declared.item.Named.{Named}
 use Rattle.sfi_source.specs.declared.item.Named.TheVariants.{Gate, Code, Data, Unknown}
 use Rattle.sfi_rewrite.specs.Rewriting.{IsRewritten, AreRewritten}
-use Rattle.sfi_build.specs.Tables.{each_with, sandbox_with}
-use Rattle.sfi_build.specs.private.{set_init}
+use Rattle.sfi_link.proofs.Linking.{length-each_with}
+use Rattle.sfi_build.specs.Tables.{sandbox_with}
 
 -- ---- first data bytes of a list in the place of those that are there
 
 abbrev pub sandbox_of : List ℕ → Sandbox → Sandbox
 sandbox_of b s = record s { bytes = b }
-
-abbrev pub placement_of : List ℕ → Placement → Placement
-placement_of b p = record p { bytes = b }
 
 -- the first data bytes of all sandboxes
 abbrev pub inits_of : List Sandbox → List (List ℕ)
@@ -30,14 +27,9 @@ tails_as_inits [] (s ∷ source) = ap (λ l. s ∷ l) (tails_as_inits [] source)
 tails_as_inits (t ∷ tails) [] = refl
 tails_as_inits (t ∷ tails) (s ∷ source) = ap (λ l. sandbox_with t s ∷ l) (tails_as_inits tails source)
 
-pub length-each_with : {X : Type 0} (add : List ℕ → X → X) (bs : List (List ℕ)) (xs : List X) → length (each_with add bs xs) ≡ length xs
-length-each_with add [] xs = refl
-length-each_with add (b ∷ bs) [] = refl
-length-each_with add (b ∷ bs) (x ∷ xs) = omega (arith, length-each_with add bs xs)
-
 -- ---- placed
 
-part_as : (b : List ℕ) (s : Sandbox) (p : Placement) → IsRewritten s p → IsRewritten (sandbox_of b s) (placement_of b p)
+part_as : (b : List ℕ) (s : Sandbox) (p : Placement) → IsRewritten s p → IsRewritten (sandbox_of b s) (with_bytes b p)
 part_as b s p h =
     let l = h.placement in
     record {
@@ -59,52 +51,12 @@ part_as b s p h =
     }
 
 pub rewritten_as : (bs : List (List ℕ)) (source : List Sandbox) (placed : List Placement) → AreRewritten source placed
-    → AreRewritten (each_with sandbox_of bs source) (each_with placement_of bs placed)
+    → AreRewritten (each_with sandbox_of bs source) (each_with with_bytes bs placed)
 rewritten_as [] source placed h = h
 rewritten_as (b ∷ bs) [] [] h = h
 rewritten_as (b ∷ bs) [] (p ∷ placed) h = h
 rewritten_as (b ∷ bs) (s ∷ source) [] h = h
 rewritten_as (b ∷ bs) (s ∷ source) (p ∷ placed) h = (part_as b s p h.0, rewritten_as bs source placed h.1)
-
--- ---- linked
-
-linked_part_as : (given : List Place) (number : ℕ) (b : List ℕ) (p : Placement) (q : Part) → IsLinked given number p q → IsLinked given number (placement_of b p) (set_init b q)
-linked_part_as given number b p q h =
-    let c = h.code in
-    let l = h.lies in
-    let size = c.size in
-    record {
-      code = record {
-        size = record { has_room = record { power = size.has_room.power; size_is = size.has_room.size_is; at_least = size.has_room.at_least; at_most = size.has_room.at_most; room = size.has_room.room }; least = size.least };
-        fill = c.fill;
-        bytes = c.bytes;
-        slots = c.slots;
-        code_is = c.code_is;
-      };
-      lies = record { word = l.word; code = l.code; «data» = l.«data»; guard_room = l.guard_room };
-      is = ap (set_init b) h.is;
-    }
-
-linked_from_as : (given : List Place) (number : ℕ) (bs : List (List ℕ)) (placed : List Placement) (parts : List Part) → AreLinkedFrom given number placed parts
-    → AreLinkedFrom given number (each_with placement_of bs placed) (each_with set_init bs parts)
-linked_from_as given number [] placed parts h = h
-linked_from_as given number (b ∷ bs) [] parts h = ap (each_with set_init (b ∷ bs)) h
-linked_from_as given number (b ∷ bs) (p ∷ placed) [] h = h
-linked_from_as given number (b ∷ bs) (p ∷ placed) (q ∷ parts) h =
-    (linked_part_as given number b p q h.0, linked_from_as given (number + 1) bs placed parts h.1)
-
-spans_stay : (bs : List (List ℕ)) (parts : List Part) → spans (each_with set_init bs parts) ≡ spans parts
-spans_stay [] parts = refl
-spans_stay (b ∷ bs) [] = refl
-spans_stay (b ∷ bs) (q ∷ parts) = ap (λ l. spans_of (fields_of q) ++ l) (spans_stay bs parts)
-
-pub linked_as : (given : List Place) (bs : List (List ℕ)) (placed : List Placement) (parts : List Part) → AreLinked given placed parts
-    → AreLinked given (each_with placement_of bs placed) (each_with set_init bs parts)
-linked_as given bs placed parts h = record {
-  used = omega (arith, h.used, length-each_with placement_of bs placed);
-  each = linked_from_as given 0 bs placed parts h.each;
-  apart = subst (λ l. AllPairs AreApart l) (sym (spans_stay bs parts)) h.apart;
-}
 
 -- ---- right
 
@@ -169,7 +121,7 @@ entries_stay number at names (b ∷ bs) (s ∷ source) zero = refl
 entries_stay number at names (b ∷ bs) (s ∷ source) (suc k) = entries_stay number at names bs source k
 
 pub map_as : (given : List Place) (number : ℕ) (bs : List (List ℕ)) (source : List Sandbox) (cs : List (List ℕ)) (placed : List Placement)
-    → map_from given number (each_with sandbox_of bs source) (each_with placement_of cs placed) ≡ map_from given number source placed
+    → map_from given number (each_with sandbox_of bs source) (each_with with_bytes cs placed) ≡ map_from given number source placed
 map_as given number bs source [] [] = refl
 map_as given number bs source (c ∷ cs) [] = refl
 map_as given number bs source [] (p ∷ placed) =

@@ -1,22 +1,20 @@
--- The image with its tables: it is that without them, a text has one or a fault, and what begins
--- at labels.
+-- The image with its tables: a text has one or a fault, and what begins at labels.
 use Rattle.sfi_image.specs.Spelling.{spelling}
 use Rattle.sfi_link.specs.Names.{MapEntry, BeginsUnit}
 use Rattle.sfi_text.specs.SoFar.{SharedNames, tables}
-use Rattle.sfi_text.proofs.Facts as texts
-use Rattle.sfi_image.specs.Parts.{IsImage, IsRightLayout}
+use Rattle.sfi_image.specs.Parts.{IsImage}
 use Rattle.sfi_rewrite.specs.Rewriting.{AreRewritten}
 use Rattle.sfi_rewrite.proofs.Facts as sources
 use Rattle.sfi_link.specs.Linked.{IsLinkedImage}
 use Rattle.sfi_formats.specs.Limits.{sandboxes_most}
-use Rattle.sfi_link.proofs.Parts.{linked_is_right, labels_begin_units}
-use Rattle.sfi_link.proofs.LinkedClean.{all_are_clean}
-use Rattle.sfi_build.specs.Tables.{tails_from, each_with, sandbox_with}
+use Rattle.sfi_link.proofs.Parts.{labels_begin_units}
+use Rattle.sfi_link.proofs.Linking.{length-each_with, linked_as, image_of_parts}
+use Rattle.sfi_build.specs.Tables.{tails_from, sandbox_with}
 use Rattle.sfi_image.proofs.Facts.{one_image}
-use Rattle.sfi_build.specs.private.{MayHave, HasInits, set_init}
-use Rattle.sfi_build.specs.Texts.{IsPlainBuild, MeansWhole, IsTextBuild, IsTextMap, IsBuildFault}
-use Rattle.sfi_build.proofs.Tails.{placement_of, inits_of, tails_as_inits, length-each_with, rewritten_as, linked_as, map_as}
-use Rattle.sfi_build.proofs.Building.{whole_right, one_build}
+use Rattle.sfi_build.specs.Texts.{IsPlainBuild, MeansWhole, IsTextBuild, IsTextMap, IsBuildFault, IsWantOfMemory}
+use Rattle.sfi_build.specs.private.{IsTableStop}
+use Rattle.sfi_build.proofs.Tails.{inits_of, tails_as_inits, rewritten_as, map_as}
+use Rattle.sfi_build.proofs.Building.{listed_means, whole_right, one_build}
 use Rattle.sfi_build.specs.Laws.{CodeLabelsBeginUnits, SomeBuilding}
 use Rattle.std.proofs.Common.{Result, Err, inl, inr, ◌⊎◌}
 use Rattle.sfi_text.specs.Texts.{MeansSource, MeansText}
@@ -26,7 +24,7 @@ use Rattle.sfi_build.specs.declared.fault.BuildFault.TheVariants.{Text, Rewrite,
 use Rattle.sfi_text.proofs.Facts.{some_source, sources_are_right}
 use Rattle.sfi_rewrite.proofs.Facts.{some_rewriting, rewritten_is_placed}
 use Rattle.sfi_link.proofs.SomeLinking.{some_linking}
-use Rattle.sfi_link.proofs.Prelude.{◌≡◌, refl, sym, ap, subst, ◌∙◌, ℕ, ◌+◌, ◌≤◌, List, [], ◌∷◌, Ok, length, length-map, arith, Sandbox, Placement, Place, Part, AreLinkedFrom, AreLinked, IsPlaced, map_from, Some, All, slice_get}
+use Rattle.sfi_link.proofs.Prelude.{◌≡◌, refl, sym, ap, subst, ◌∙◌, ℕ, ◌+◌, ◌≤◌, List, [], ◌∷◌, Ok, length, arith, Sandbox, Placement, Place, Part, AreLinkedFrom, AreLinked, IsPlaced, map_from, Some, All, slice_get, with_bytes, each_with, set_init, parts_with, AreLinkedCodes}
 
 -- ==== The image of a source with its tables is that without them, with other first data bytes.
 
@@ -47,6 +45,13 @@ pub few : (given : List Place) (source : List Sandbox) (placed : List Placement)
 few given source placed bytes rewritten image =
     omega (arith, image.image.layout.at_most, linked_count given 0 placed image.parts image.linked.each, rewritten_count source placed rewritten)
 
+-- code for all that is placed of it
+pub plain_build : (given : List Place) (text : List ℕ) (source : List Sandbox) (shared : List SharedNames) (placed : List Placement) (codes : List (List ℕ)) → MeansText text source shared → AreRewritten source placed → AreLinkedCodes given placed codes
+    → IsPlainBuild given text source shared placed
+plain_build given text source shared placed codes means rewritten h =
+    let right = rewritten_is_placed source placed (sources_are_right text source (listed_means text source shared means)) rewritten in
+    record { means = means; rewritten = rewritten; bytes = _; image = image_of_parts given placed (parts_with given 0 placed codes) right h.few h.linked }
+
 module _ (given : List Place) (text : List ℕ) (source : List Sandbox) (shared : List SharedNames) (placed : List Placement) (plain : IsPlainBuild given text source shared placed)
     (tails : List (List ℕ)) (tails_are : tails_from given placed 0 shared source ≡ Ok tails) where
   pub means : MeansWhole given text (each_with sandbox_with tails source)
@@ -56,7 +61,7 @@ module _ (given : List Place) (text : List ℕ) (source : List Sandbox) (shared 
   inits = inits_of (each_with sandbox_with tails source)
 
   abbrev placed_as : List Placement
-  placed_as = each_with placement_of inits placed
+  placed_as = each_with with_bytes inits placed
 
   abbrev parts_as : List Part
   parts_as = each_with set_init inits plain.image.parts
@@ -64,54 +69,35 @@ module _ (given : List Place) (text : List ℕ) (source : List Sandbox) (shared 
   rewritten : AreRewritten (each_with sandbox_with tails source) placed_as
   rewritten = subst (λ w. AreRewritten w placed_as) (sym (tails_as_inits tails source)) (rewritten_as inits source placed plain.rewritten)
 
-  is_placed : IsPlaced placed_as
+  pub is_placed : IsPlaced placed_as
   is_placed = sources.rewritten_is_placed (each_with sandbox_with tails source) placed_as (whole_right given text (each_with sandbox_with tails source) means) rewritten
 
   linked : AreLinked given placed_as parts_as
   linked = linked_as given inits placed plain.image.parts plain.image.linked
 
-  pub layout : IsRightLayout parts_as
-  layout =
-      linked_is_right given placed_as parts_as is_placed
-      (omega (arith, plain.image.image.layout.at_most, linked_count given 0 placed plain.image.parts plain.image.linked.each, length-each_with placement_of inits placed)) linked
+  -- what is linked of them is an image
+  pub image : IsLinkedImage given placed_as (spelling parts_as)
+  image =
+      image_of_parts given placed_as parts_as is_placed
+      (omega (arith, plain.image.image.layout.at_most, linked_count given 0 placed plain.image.parts plain.image.linked.each, length-each_with with_bytes inits placed)) linked
 
-  pub may_have : (bytes : List ℕ) (bs : List (List ℕ)) → bytes ≡ plain.bytes → bs ≡ inits → length placed ≡ length source → MayHave bytes bs
-  may_have bytes bs bytes_are are count = record {
-    parts = plain.image.parts;
-    image = subst (λ b. IsImage b plain.image.parts) (sym bytes_are) plain.image.image;
-    enough = omega (
-      arith,
-      ap length are,
-      length-map (each_with sandbox_with tails source) (λ (s : Sandbox). s.bytes),
-      length-each_with sandbox_with tails source,
-      linked_count given 0 placed plain.image.parts plain.image.linked.each,
-      count,
-    );
-    right = subst (λ bs. IsRightLayout (each_with set_init bs plain.image.parts)) (sym are) layout;
-  }
-
-  pub built : (bytes : List ℕ) → IsImage bytes parts_as → IsTextBuild given text bytes
-  built bytes image = record {
-    source = each_with sandbox_with tails source;
-    means = means;
-    placed = placed_as;
-    rewritten = rewritten;
-    image = record { parts = parts_as; linked = linked; image = image; none_found = all_are_clean given 0 placed_as parts_as is_placed.each linked.each };
-  }
-
-  pub has_inits : (bytes : List ℕ) (bs : List (List ℕ)) (new : List ℕ) → bytes ≡ plain.bytes → bs ≡ inits → HasInits bytes bs new → IsTextBuild given text new
-  has_inits bytes bs new bytes_are are h =
-      let same = one_image plain.bytes h.parts plain.image.parts (subst (λ b. IsImage b h.parts) bytes_are h.old) plain.image.image in
-      built new (subst (λ ps. IsImage new ps) (λ i. each_with set_init (are i) (same i)) h.image)
+  pub built : (bytes : List ℕ) → IsLinkedImage given placed_as bytes → IsTextBuild given text bytes
+  built bytes is = record { source = each_with sandbox_with tails source; means = means; placed = placed_as; rewritten = rewritten; image = is }
 
   -- a map of the source without its tables is that of the source with them
   pub mapped : (entries : List MapEntry) → entries ≡ map_from given 0 source placed → IsTextMap given text entries
   unfolding built
   mapped entries are = record {
     bytes = spelling parts_as;
-    build = built (spelling parts_as) (record { bytes_are = refl; layout = layout });
+    build = built (spelling parts_as) image;
     entries_are = are ∙ sym (ap (λ w. map_from given 0 w placed_as) (tails_as_inits tails source) ∙ map_as given 0 inits source inits placed);
   }
+
+-- what stops tables stops the build
+pub table_stop : (given : List Place) (text : List ℕ) (source : List Sandbox) (shared : List SharedNames) (placed : List Placement) → IsPlainBuild given text source shared placed → (due : Result (List (List ℕ)) TableFault) → due ≡ tails_from given placed 0 shared source
+    → (f : BuildFault) → IsTableStop due f → IsWantOfMemory f ⊎ IsBuildFault given text f
+table_stop given text source shared placed plain due is f (inl memory) = inl memory
+table_stop given text source shared placed plain due is f (inr (g, e, h)) = inr (subst (IsBuildFault given text) (sym e) (source, shared, placed, plain, sym is ∙ h))
 
 -- ==== At each label in the code of a text's map a unit of its sandbox's code begins in the text's image.
 
@@ -134,7 +120,7 @@ with_tables : (given : List Place) (text : List ℕ) (source : List Sandbox) (sh
     → ((bytes : List ℕ) × IsTextBuild given text bytes) ⊎ ((f : BuildFault) × IsBuildFault given text f)
 with_tables given text source shared placed plain (Err f) is = inr (Names f, (source, shared, placed, plain, is))
 with_tables given text source shared placed plain (Ok tails) is =
-    inl (_, built given text source shared placed plain tails is _ (record { bytes_are = refl; layout = layout given text source shared placed plain tails is }))
+    inl (_, built given text source shared placed plain tails is _ (image given text source shared placed plain tails is))
 
 pub some_building : SomeBuilding
 some_building given text =

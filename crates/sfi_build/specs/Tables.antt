@@ -1,5 +1,5 @@
 -- The tables of names for which a text asks, and the source whose first data bytes end in them.
-use Rattle.std.specs.Prelude.{◌≡◌, ◌+◌, ◌-◌, ◌++◌, ◌==◌, ◌&&◌, ℕ, List, [], ◌∷◌, Bool, length, map, slice_get, nat_lt, if◌then◌else◌, Option, None, Some, Result, Ok, Err}
+use Rattle.std.specs.Prelude.{◌+◌, ◌-◌, ◌++◌, ◌==◌, ◌&&◌, ℕ, List, [], ◌∷◌, Bool, length, map, slice_get, nat_lt, if◌then◌else◌, Option, None, Some, Result, Ok, Err}
 use Rattle.sfi_formats.specs.declared.place.Place.{Place}
 use Rattle.sfi_names.specs.Tables.{Named, Table, spelling}
 use Rattle.sfi_source.specs.Source.{Sandbox}
@@ -81,11 +81,6 @@ tails_from given placed number (l ∷ shared) (s ∷ source) =
     on_ok (tail_of (address_in given number (slice_get placed number)) number l s) (λ t.
     on_ok (tails_from given placed (number + 1) shared source) (λ tails. Ok (t ∷ tails)))
 tails_from given placed number _ _ = Ok []
-
--- each with what it has of the list: what comes after the list's end stays as it is
-abbrev pub each_with : {X : Type 0} → (List ℕ → X → X) → List (List ℕ) → List X → List X
-each_with add (t ∷ tails) (x ∷ xs) = add t x ∷ each_with add tails xs
-each_with add _ xs = xs
 
 -- the sandbox whose first data bytes end in the tail
 abbrev pub sandbox_with : List ℕ → Sandbox → Sandbox

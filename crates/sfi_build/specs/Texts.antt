@@ -15,8 +15,8 @@ use Rattle.sfi_rewrite.specs.Rewriting.{IsSourceFault, AreRewritten}
 use Rattle.sfi_link.specs.declared.fault.LinkFault.TheVariants as linker
 use Rattle.sfi_build.specs.declared.fault.BuildFault.{BuildFault}
 use Rattle.sfi_build.specs.declared.fault.BuildFault.TheVariants.{Text, Rewrite, Link, Names}
-use Rattle.sfi_build.specs.Tables.{tails_from, each_with, sandbox_with}
-use Rattle.sfi_link.specs.Linked.{IsLinkedImage}
+use Rattle.sfi_build.specs.Tables.{tails_from, sandbox_with}
+use Rattle.sfi_link.specs.Linked.{IsLinkedImage, each_with}
 use Rattle.sfi_link.specs.Faults.{IsLinkFault}
 use Rattle.sfi_link.specs.Names.{MapEntry, map_from}
 

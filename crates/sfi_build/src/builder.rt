@@ -12,16 +12,15 @@ ghost use Rattle.sfi_link.specs.Standing.{ImageRunsAs};
 ghost use Rattle.sfi_build.specs.Texts.{MeansWhole, IsTextBuild, IsTextMap, IsCleanImage, IsBuildFault, IsWantOfMemory, AnswersBuild, AnswersBuildFault};
 
 use crate::fault::BuildFault;
-use crate::inits::image_with;
 use crate::tables::inits_of;
 use sfi_formats::Place;
-use sfi_link::{NameAddress, link_at, names_of};
+use sfi_link::{NameAddress, codes_at, image_of, names_of};
 use sfi_rewrite::rewrite;
 use sfi_text::{SourceText, parse_text};
 use std::alloc::Global;
 
-/// The build of the text, or its fault: its image without tables is made first, which has all
-/// addresses.
+/// The build of the text, or its fault: its code, for which all names get their addresses, comes
+/// before its tables of names.
 fn build_from_text(alloc: Global, text: &str, places: &[Place]) -> Result<Vec<u8>, BuildFault>
     ensures built { IfOk result (λ bytes. IsTextBuild places.now text.now bytes.items) }
     ensures fault { IfErr result (λ f. IsWantOfMemory f ⊎ IsBuildFault places.now text.now f) }
@@ -29,9 +28,9 @@ fn build_from_text(alloc: Global, text: &str, places: &[Place]) -> Result<Vec<u8
 {
     let SourceText { source, shared } = parse_text(alloc, text)?;
     let placed = rewrite(alloc, &source)?;
-    let bytes = link_at(alloc, &placed, places)?;
+    let codes = codes_at(alloc, &placed, places)?;
     let inits = inits_of(alloc, &placed, places, &shared, source.parts())?;
-    Ok(image_with(alloc, &bytes, &inits)?)
+    Ok(image_of(alloc, &placed, places, &codes, &inits)?)
 }
 
 /// Reads a source, places it, links it and makes its tables of names: the image of a text, or the

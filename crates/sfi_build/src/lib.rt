@@ -9,7 +9,6 @@
 mod address;
 mod builder;
 mod fault;
-mod inits;
 mod table_fault;
 mod tables;
 

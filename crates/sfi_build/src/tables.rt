@@ -5,9 +5,9 @@ ghost use Rattle.sfi_formats.specs.Limits.{sandboxes_most};
 ghost use Rattle.sfi_source.specs.Names.{IsShortLabel};
 ghost use Rattle.sfi_source.specs.Source.{IsSandbox};
 ghost use Rattle.sfi_names.specs.Tables.{Named, IsNamed, entry, entries};
-ghost use Rattle.sfi_link.specs.Linked.{IsLinkedImage};
-ghost use Rattle.sfi_build.specs.Tables.{address_in, entry_with, entries_of, is_unlisted, tail_of, tails_from, each_with, sandbox_with};
-ghost use Rattle.sfi_build.specs.private.{IsEntryStop, IsTableStop, contents};
+ghost use Rattle.sfi_link.specs.Linked.{IsLinkedImage, contents, each_with};
+ghost use Rattle.sfi_build.specs.Tables.{address_in, entry_with, entries_of, is_unlisted, tail_of, tails_from, sandbox_with};
+ghost use Rattle.sfi_build.specs.private.{IsEntryStop, IsTableStop};
 
 use crate::address::placed_address;
 use crate::fault::BuildFault;

@@ -1,5 +1,5 @@
 -- From the code of each sandbox to the image.
-use Rattle.sfi_link.proofs.Prelude.{◌≡◌, ℕ, zero, suc, ◌+◌, ◌-◌, ◌*◌, ◌/◌, ◌^◌, ◌<◌, ◌≤◌, List, [], ◌∷◌, ◌++◌, length, drop, get_or, replicate, refl, sym, ap, ◌∙◌, subst, arith, append_assoc, append-nil, length-append, inl, inr, Vec, Global, max, Result, Ok, Err, IfOk, All, AllPairs, repeat, cases_lt, All-nil, Format, code_most, Sandbox, Span, Part, stub_of, PlacedName, size_of, slots_of, Placement, IsPlacedPart, IsPlacedThere, Place, Bases, LinkFault, place_of, IsRightPlace, spans_at, AreApart, spans, bases_of, AreSlots, c_ebreak, needed, HasRoom, IsCodeSize, gates_from, IsLinkedCode, IsLinked, AreLinkedFrom, AreLinked, MayLie, IsSlotFault, HasPartFault, IsPartFault, IsLinkFault, IsNear, AreNear, HasRoomFor, AreWritten, LiesBeside, IsCodeBeside, AreCodes, Links, part_with, parts_with, All-push, with_guards}
+use Rattle.sfi_link.proofs.Prelude.{◌≡◌, ℕ, zero, suc, ◌+◌, ◌-◌, ◌*◌, ◌/◌, ◌^◌, ◌<◌, ◌≤◌, List, [], ◌∷◌, ◌++◌, length, drop, get_or, replicate, refl, sym, ap, ◌∙◌, subst, arith, append_assoc, append-nil, length-append, inl, inr, Vec, Global, max, Result, Ok, Err, IfOk, IfErr, All, AllPairs, repeat, cases_lt, All-nil, Format, code_most, Sandbox, Span, Part, stub_of, PlacedName, size_of, slots_of, Placement, IsPlacedPart, IsPlacedThere, Place, Bases, LinkFault, place_of, IsRightPlace, spans_at, AreApart, spans, bases_of, AreSlots, c_ebreak, needed, HasRoom, IsCodeSize, gates_from, IsLinkedCode, IsLinked, AreLinkedFrom, AreLinked, MayLie, IsSlotFault, HasPartFault, IsPartFault, IsLinkFault, IsNear, AreNear, HasRoomFor, AreWritten, LiesBeside, IsCodeBeside, AreCodes, Links, part_with, parts_with, All-push, with_guards, contents, AreLinkedCodes, IsPlaced, with_bytes, each_with, set_init, spans_of, fields_of}
 use Rattle.sfi_source.specs.declared.item.SourceGate.{SourceGate}
 use Rattle.sfi_image.specs.Sources.{IsBounded}
 use Rattle.sfi_link.specs.Faults.{UnlessMemory, AnswersItems, AnswersFault}
@@ -7,14 +7,15 @@ use Rattle.sfi_link.specs.Linked.{IsLinkedImage, ArePlacements, IsBuild}
 use Rattle.sfi_formats.specs.declared.format.Format.TheVariants.{Sfi1}
 use Rattle.std.proofs.Math.Nat.{pow-suc}
 use Rattle.std.proofs.Math.Pow.{pow_mono}
-use Rattle.std.proofs.lemmas.List.{at_drop_more}
+use Rattle.std.proofs.lemmas.List.{at_drop_more, at_drop_all}
 use Rattle.sfi_image.specs.Spelling.{spelling}
 use Rattle.sfi_image.proofs.Formats.{code_at_most}
 use Rattle.sfi_rewrite.specs.declared.placed.PlacedName.TheVariants as name
 use Rattle.sfi_link.specs.declared.fault.LinkFault.TheVariants as named
 use Rattle.sfi_rewrite.proofs.Sizes.{size_even}
 use Rattle.sfi_link.proofs.Bytes.{length_stubs}
-use Rattle.sfi_link.proofs.Parts.{sixteens, well_placed}
+use Rattle.sfi_link.proofs.LinkedClean.{all_are_clean}
+use Rattle.sfi_link.proofs.Parts.{sixteens, well_placed, linked_is_right}
 use Rattle.sfi_link.proofs.Pushed.{slots-append, written_length, fill_slots, memory_or, then_unless}
 use Rattle.sfi_link.proofs.OneLinking.{one_size, one_linking, one_fault, never_both}
 
@@ -202,10 +203,11 @@ linked_length given number [] qs none = ap length none
 linked_length given number (p ∷ ps) [] all = absurd all
 linked_length given number (p ∷ ps) (q ∷ qs) all = ap suc (linked_length given (number + 1) ps qs all.1)
 
-pub codes_length : (given : List Place) (number : ℕ) (before : List Span) (ps : List Placement) (cs : List (List ℕ)) → AreCodes given number before ps cs → length cs ≡ length ps
-codes_length given number before [] cs h = ap length h
-codes_length given number before (p ∷ ps) [] h = absurd h
-codes_length given number before (p ∷ ps) (c ∷ cs) h = ap suc (codes_length given (number + 1) h.0 ps cs h.2)
+-- there is as much code as placed sandboxes
+pub codes_enough : (given : List Place) (number : ℕ) (ps : List Placement) (cs : List (List ℕ)) → AreLinkedFrom given number ps (parts_with given number ps cs) → length ps ≤ length cs
+codes_enough given number [] cs h = omega arith
+codes_enough given number (p ∷ ps) [] h = absurd h
+codes_enough given number (p ∷ ps) (c ∷ cs) h = omega (arith, codes_enough given (number + 1) ps cs h.1)
 
 -- the sandbox with this code
 pub linked_with : (given : List Place) (number : ℕ) (p : Placement) (c : List ℕ) (old new : List Span) → IsCodeBeside given number p c old new → IsLinked given number p (part_with given number p c)
@@ -247,12 +249,12 @@ all_coded given k placed left so_far now none h =
     subst (AreCodes given 0 [] placed) (append-nil so_far) (h.codes [] (subst (λ (l : List Placement). AreCodes given k now l []) (sym none) refl))
 
 -- the code of the sandbox at a place
-pub code_at : (given : List Place) (number k n : ℕ) (before : List Span) (ps : List Placement) (cs : List (List ℕ)) (p : Placement) (c : List ℕ) → n ≡ number + k → k < length ps → p ≡ get_or ps k p → c ≡ get_or cs k c → AreCodes given number before ps cs
-    → IsLinkedCode given n p c × IsRightPlace p (length c) (place_of given n)
-code_at given number k n before [] cs p c e lt ep ec h = absurd (omega arith)
-code_at given number k n before (r ∷ ps) [] p c e lt ep ec h = absurd h
-code_at given number zero n before (r ∷ ps) (b ∷ cs) p c e lt ep ec (now, one, h) = let z : n ≡ number = omega arith in rw (z, ep, ec) (one.code, one.lies.right)
-code_at given number (suc k) n before (r ∷ ps) (b ∷ cs) p c e lt ep ec (now, one, h) = code_at given (number + 1) k n now ps cs p c (omega arith) (omega arith) ep ec h
+pub code_at : (given : List Place) (number k n : ℕ) (ps : List Placement) (cs : List (List ℕ)) (p : Placement) (c : List ℕ) → n ≡ number + k → k < length ps → p ≡ get_or ps k p → c ≡ get_or cs k c
+    → AreLinkedFrom given number ps (parts_with given number ps cs) → IsLinkedCode given n p c × IsRightPlace p (length c) (place_of given n)
+code_at given number k n [] cs p c e lt ep ec h = absurd (omega arith)
+code_at given number k n (r ∷ ps) [] p c e lt ep ec h = absurd h
+code_at given number zero n (r ∷ ps) (b ∷ cs) p c e lt ep ec h = let z : n ≡ number = omega arith in rw (z, ep, ec) (h.0.code, h.0.lies)
+code_at given number (suc k) n (r ∷ ps) (b ∷ cs) p c e lt ep ec h = code_at given (number + 1) k n ps cs p c (omega arith) (omega arith) ep ec h.1
 
 -- sandboxes with their code are linked, and no two of their spans meet
 pub codes_linked : (given : List Place) (number : ℕ) (before : List Span) (ps : List Placement) (cs : List (List ℕ)) → AreCodes given number before ps cs → AllPairs AreApart before
@@ -266,10 +268,90 @@ codes_linked given number before (p ∷ ps) (c ∷ cs) (now, one, h) apart =
       subst (AllPairs AreApart) (ap (λ l. l ++ spans later) one.lies.spans_are ∙ append_assoc before (spans_at p (length c) (place_of given number)) (spans later)) rest.1,
     )
 
-pub are_linked : (given : List Place) (ps qs : List Placement) (cs : List (List ℕ)) (parts : List Part) → ps ≡ qs → length given ≤ length ps → AreCodes given 0 [] ps cs → parts ≡ parts_with given 0 ps cs → AreLinked given qs parts
-are_linked given ps qs cs parts same used codes is =
-    let all = codes_linked given 0 [] ps cs codes none_apart in
-    subst (λ (l : List Placement). AreLinked given l parts) same (subst (λ (l : List Part). AreLinked given ps l) (sym is) (record { used = used; each = all.0; apart = all.1 }))
+pub all_linked : (given : List Place) (ps : List Placement) (cs : List (List ℕ)) → length given ≤ length ps → AreCodes given 0 [] ps cs → AreLinked given ps (parts_with given 0 ps cs)
+all_linked given ps cs used codes = let all = codes_linked given 0 [] ps cs codes none_apart in record { used = used; each = all.0; apart = all.1 }
+
+pub codes_found : (given : List Place) (ps qs : List Placement) → ps ≡ qs → length ps ≤ 16 → length given ≤ length ps → (r : Result (Vec (Vec ℕ Global) Global) LinkFault) → Links (λ v. AreCodes given 0 [] ps (contents v.items)) (IsPartFault given 0 [] ps) r
+    → IfOk r (λ v. AreLinkedCodes given qs (contents v.items)) × IfErr r (UnlessMemory (IsLinkFault given qs))
+codes_found given ps qs same few used (Ok v) h = (subst (λ l. AreLinkedCodes given l (contents v.items)) same (record { few = few; linked = all_linked given ps (contents v.items) used h }), tt)
+codes_found given ps qs same few used (Err f) h = (tt, then_unless (IsPartFault given 0 [] ps) (IsLinkFault given qs) (λ g x. subst (λ l. IsLinkFault given l g) same (inr (inr (few, used, x)))) f h)
+
+-- ---- other first data bytes
+
+pub length-each_with : {X : Type 0} (add : List ℕ → X → X) (bs : List (List ℕ)) (xs : List X) → length (each_with add bs xs) ≡ length xs
+length-each_with add [] xs = refl
+length-each_with add (b ∷ bs) [] = refl
+length-each_with add (b ∷ bs) (x ∷ xs) = omega (arith, length-each_with add bs xs)
+
+pub each_with_none : {X : Type 0} (add : List ℕ → X → X) (bs : List (List ℕ)) → each_with add bs [] ≡ []
+each_with_none add [] = refl
+each_with_none add (b ∷ bs) = refl
+
+linked_part_as : (given : List Place) (number : ℕ) (b : List ℕ) (p : Placement) (q : Part) → IsLinked given number p q → IsLinked given number (with_bytes b p) (set_init b q)
+linked_part_as given number b p q h =
+    let c = h.code in
+    let l = h.lies in
+    let size = c.size in
+    record {
+      code = record {
+        size = record { has_room = record { power = size.has_room.power; size_is = size.has_room.size_is; at_least = size.has_room.at_least; at_most = size.has_room.at_most; room = size.has_room.room }; least = size.least };
+        fill = c.fill;
+        bytes = c.bytes;
+        slots = c.slots;
+        code_is = c.code_is;
+      };
+      lies = record { word = l.word; code = l.code; «data» = l.«data»; guard_room = l.guard_room };
+      is = ap (set_init b) h.is;
+    }
+
+linked_from_as : (given : List Place) (number : ℕ) (bs : List (List ℕ)) (placed : List Placement) (parts : List Part) → AreLinkedFrom given number placed parts
+    → AreLinkedFrom given number (each_with with_bytes bs placed) (each_with set_init bs parts)
+linked_from_as given number [] placed parts h = h
+linked_from_as given number (b ∷ bs) [] parts h = ap (each_with set_init (b ∷ bs)) h
+linked_from_as given number (b ∷ bs) (p ∷ placed) [] h = h
+linked_from_as given number (b ∷ bs) (p ∷ placed) (q ∷ parts) h =
+    (linked_part_as given number b p q h.0, linked_from_as given (number + 1) bs placed parts h.1)
+
+spans_stay : (bs : List (List ℕ)) (parts : List Part) → spans (each_with set_init bs parts) ≡ spans parts
+spans_stay [] parts = refl
+spans_stay (b ∷ bs) [] = refl
+spans_stay (b ∷ bs) (q ∷ parts) = ap (λ l. spans_of (fields_of q) ++ l) (spans_stay bs parts)
+
+pub linked_as : (given : List Place) (bs : List (List ℕ)) (placed : List Placement) (parts : List Part) → AreLinked given placed parts
+    → AreLinked given (each_with with_bytes bs placed) (each_with set_init bs parts)
+linked_as given bs placed parts h = record {
+  used = omega (arith, h.used, length-each_with with_bytes bs placed);
+  each = linked_from_as given 0 bs placed parts h.each;
+  apart = subst (λ l. AllPairs AreApart l) (sym (spans_stay bs parts)) h.apart;
+}
+
+-- the next sandbox has those of the list, or its own where that ends
+pub init_next : (inits : List (List ℕ)) (k : ℕ) (b : List ℕ) (q : Part) (rest : List Part) → (k < length inits → b ≡ get_or inits k b) → (length inits ≤ k → b ≡ q.init)
+    → each_with set_init (drop k inits) (q ∷ rest) ≡ set_init b q ∷ each_with set_init (drop (k + 1) inits) rest
+init_next inits k b q rest listed own =
+    elim (cases_lt k (length inits)) [
+      | inl less ↦ at_drop_more (λ l. each_with set_init l (q ∷ rest)) inits k b less ∙ ap (λ x. set_init x q ∷ each_with set_init (drop (k + 1) inits) rest) (sym (listed less))
+      | inr past ↦
+          at_drop_all (λ l. each_with set_init l (q ∷ rest)) inits k past ∙ ap (λ x. set_init x q ∷ rest) (sym (own past))
+          ∙ sym (at_drop_all (λ l. set_init b q ∷ each_with set_init l rest) inits (k + 1) (omega (arith, past)))
+    ]
+
+-- the sandboxes with that code and other first data bytes are linked, too
+pub linked_with_inits : (given : List Place) (placed ps : List Placement) (codes inits : List (List ℕ)) (parts : List Part) → ps ≡ placed → AreLinkedCodes given placed codes → parts ≡ each_with set_init inits (parts_with given 0 ps codes)
+    → AreLinked given (each_with with_bytes inits placed) parts × (length (each_with with_bytes inits placed) ≤ 16)
+linked_with_inits given placed ps codes inits parts same h is = (
+  subst (λ (l : List Part). AreLinked given (each_with with_bytes inits placed) l) (sym (is ∙ ap (λ l. each_with set_init inits (parts_with given 0 l codes)) same)) (linked_as given inits placed (parts_with given 0 placed codes) h.linked),
+  omega (arith, h.few, length-each_with with_bytes inits placed),
+)
+
+-- what is linked is an image
+pub image_of_parts : (given : List Place) (placed : List Placement) (parts : List Part) → IsPlaced placed → length placed ≤ 16 → AreLinked given placed parts → IsLinkedImage given placed (spelling parts)
+image_of_parts given placed parts right few linked = record {
+  parts = parts;
+  linked = linked;
+  image = record { bytes_are = refl; layout = linked_is_right given placed parts right few linked };
+  none_found = all_are_clean given 0 placed parts right.each linked.each;
+}
 
 -- ---- what a linker answers that way
 

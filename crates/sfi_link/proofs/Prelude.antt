@@ -33,8 +33,8 @@ pub use Rattle.sfi_rewrite.specs.declared.slot.BundleSlot.{BundleSlot}
 pub use Rattle.sfi_rewrite.specs.declared.slot.BundleSlot.TheVariants.{Wide, Short, Jump, Upper, Lower, Region}
 pub use Rattle.sfi_link.specs.Code.{IsNear, AreNear, target_at, value_at, base_at, with_offset, bases_of, of_name, target_of, stub_size, resolved, made_of, AreSlots, IsSlot}
 pub use Rattle.sfi_link.specs.Faults.{IsLinkFault, MayLie, IsSlotFault, HasPartFault, IsPartFault, HasSlotFault}
-pub use Rattle.sfi_link.specs.Linked.{c_ebreak, needed, gates_from, part_with, IsLinked, AreLinkedFrom, HasRoom, IsCodeSize, IsLinkedCode, AreLinked, IsRightPlace, spans_at}
+pub use Rattle.sfi_link.specs.Linked.{c_ebreak, needed, gates_from, part_with, IsLinked, AreLinkedFrom, HasRoom, IsCodeSize, IsLinkedCode, AreLinked, IsRightPlace, spans_at, contents, parts_with, AreLinkedCodes, with_bytes, each_with}
 pub use Rattle.sfi_link.specs.Names.{kind_of, entry_of, entries_of, entries_in, map_from}
 pub use Rattle.sfi_link.specs.declared.bases.Bases.{Bases}
 pub use Rattle.sfi_link.specs.declared.fault.LinkFault.{LinkFault}
-pub use Rattle.sfi_link.specs.private.{LiesBeside, HasRoomFor, AreWritten, IsCodeBeside, AreCodes, Links, IsPushed, contents, parts_with}
+pub use Rattle.sfi_link.specs.private.{LiesBeside, HasRoomFor, AreWritten, IsCodeBeside, AreCodes, Links, IsPushed, set_init}

@@ -1,5 +1,6 @@
 -- The image of what is placed.
-use Rattle.std.specs.Prelude.{ℕ, List, [], ◌∷◌, ◌≡◌, ◌+◌, ◌*◌, ◌^◌, ◌≤◌, ◌++◌, length, replicate}
+use Rattle.std.specs.Prelude.{ℕ, List, [], ◌∷◌, ◌≡◌, ◌+◌, ◌*◌, ◌^◌, ◌≤◌, ◌++◌, length, map, replicate, Vec}
+use Rattle.std.specs.Global.{Global}
 use Rattle.sfi_image.specs.declared.span.Span.{Span}
 use Rattle.sfi_image.specs.Spelling.{IsWord, Part, spelling, with_guards, AreApart, spans}
 use Rattle.sfi_image.specs.Parts.{IsCodeRegion, IsDataRegion, HasGuardRoom, IsImage}
@@ -10,7 +11,7 @@ use Rattle.rv_comp.specs.declared.form.Form16.TheVariants.{CEbreak}
 use Rattle.sfi_formats.specs.declared.format.Format.{Format}
 use Rattle.sfi_formats.specs.Formats.{code_most}
 use Rattle.sfi_source.specs.declared.item.SourceGate.{SourceGate}
-use Rattle.sfi_formats.specs.Limits.{region_least}
+use Rattle.sfi_formats.specs.Limits.{region_least, sandboxes_most}
 use Rattle.sfi_formats.specs.Places.{place_of}
 use Rattle.sfi_image.specs.declared.part.Gate.{Gate}
 use Rattle.sfi_rewrite.specs.declared.slot.BundleSlot.{BundleSlot}
@@ -117,6 +118,35 @@ pub record AreLinked (given : List Place) (placed : List Placement) (parts : Lis
   pub used : length given ≤ length placed
   pub each : AreLinkedFrom given 0 placed parts
   pub apart : AllPairs AreApart (spans parts)
+
+-- ==== The code of each sandbox, and other first data bytes.
+
+-- the bytes of each
+abbrev pub contents : List (Vec ℕ Global) → List (List ℕ)
+contents vs = map (λ v. v.items) vs
+
+-- the sandboxes of the image that have this code, the first of which has that number
+abbrev pub parts_with : List Place → ℕ → List Placement → List (List ℕ) → List Part
+parts_with given number [] codes = []
+parts_with given number (p ∷ placed) [] = []
+parts_with given number (p ∷ placed) (code ∷ codes) =
+    part_with given number p code ∷ parts_with given (number + 1) placed codes
+
+-- the placed sandboxes, of which there are no more than an image may have, make sandboxes with this
+-- code, as `AreLinked` says
+pub record AreLinkedCodes (given : List Place) (placed : List Placement)
+    (codes : List (List ℕ)) : Type 0 where
+  pub few : length placed ≤ sandboxes_most
+  pub linked : AreLinked given placed (parts_with given 0 placed codes)
+
+-- the placed sandbox with these first data bytes
+abbrev pub with_bytes : List ℕ → Placement → Placement
+with_bytes bytes p = record p { bytes = bytes }
+
+-- each with what it has of the list: what comes after the list's end stays as it is
+abbrev pub each_with : {X : Type 0} → (List ℕ → X → X) → List (List ℕ) → List X → List X
+each_with add (t ∷ tails) (x ∷ xs) = add t x ∷ each_with add tails xs
+each_with add _ xs = xs
 
 -- ==== When bytes are the image of what is placed, and when they are a source's build.
 

@@ -1,7 +1,6 @@
 -- Words that private contracts and proofs alone cite: no public statement rests on them.
-use Rattle.std.specs.Prelude.{◌≡◌, ℕ, ◌+◌, ◌^◌, ◌<◌, ◌≤◌, List, [], ◌∷◌, ◌++◌, length, map, Result, Ok, Err, Vec}
+use Rattle.std.specs.Prelude.{◌≡◌, ℕ, ◌+◌, ◌^◌, ◌<◌, ◌≤◌, List, [], ◌∷◌, ◌++◌, length, Result, Ok, Err}
 use Rattle.std.specs.List.{All, AllPairs}
-use Rattle.std.specs.Global.{Global}
 use Rattle.sfi_formats.specs.declared.format.Format.TheVariants.{Sfi2}
 use Rattle.sfi_formats.specs.Formats.{code_most}
 use Rattle.sfi_image.specs.declared.span.Span.{Span}
@@ -16,7 +15,7 @@ use Rattle.sfi_link.specs.declared.bases.Bases.{Bases}
 use Rattle.sfi_link.specs.declared.fault.LinkFault.{LinkFault}
 use Rattle.sfi_link.specs.Faults.{UnlessMemory}
 use Rattle.sfi_link.specs.Code.{IsSlot, AreSlots}
-use Rattle.sfi_link.specs.Linked.{IsRightPlace, spans_at, IsLinkedCode, part_with}
+use Rattle.sfi_link.specs.Linked.{IsRightPlace, spans_at, IsLinkedCode}
 
 -- ==== What fits the linker's numbers, what is written so far, and what a step answers.
 
@@ -61,16 +60,9 @@ AreCodes given number before (p ∷ placed) (code ∷ codes) =
     (now : List Span) × IsCodeBeside given number p code before now
     × AreCodes given (number + 1) now placed codes
 
--- the sandboxes of the image that have this code, the first of which has that number
-abbrev pub parts_with : List Place → ℕ → List Placement → List (List ℕ) → List Part
-parts_with given number [] codes = []
-parts_with given number (p ∷ placed) [] = []
-parts_with given number (p ∷ placed) (code ∷ codes) =
-    part_with given number p code ∷ parts_with given (number + 1) placed codes
-
--- the bytes of each
-abbrev pub contents : List (Vec ℕ Global) → List (List ℕ)
-contents codes = map (λ code. code.items) codes
+-- the sandbox of an image with these first data bytes
+abbrev pub set_init : List ℕ → Part → Part
+set_init init q = record q { init = init }
 
 -- the value that was made meets Made, or the fault meets Faulty, or memory ran out
 abbrev pub Links : {X : Type 0} → (X → Type 0) → (LinkFault → Type 0) → Result X LinkFault → Type 0

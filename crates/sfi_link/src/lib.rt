@@ -1,9 +1,10 @@
 //! From what is placed to an image.
 //!
 //! [`link`] gives names their addresses and gates their stubs, and fills the rest of each code
-//! region with c.ebreaks; [`link_at`] does the same at places that the caller gives. The image has
-//! a right layout and breaks no rule, so the checker accepts it: this is proved of the bytes, and
-//! no scan is run. [`names_of`] answers the addresses of a source's gates and labels.
+//! region with c.ebreaks; [`link_at`] does the same at places that the caller gives, and [`codes_at`]
+//! and [`image_of`] in two steps, for a caller that knows the first data bytes only after the first.
+//! The image has a right layout and breaks no rule, so the checker accepts it: this is proved of the
+//! bytes, and no scan is run. [`names_of`] answers the addresses of a source's gates and labels.
 #![tactic(auto)]
 
 mod address;
@@ -19,6 +20,6 @@ mod stub;
 pub use address::address_at;
 pub use bases::{Bases, bases_of};
 pub use fault::LinkFault;
-pub use linker::{link, link_at};
+pub use linker::{codes_at, image_of, link, link_at};
 pub use names::{NameAddress, NameKind, names_of};
 pub use sfi_formats::Place;

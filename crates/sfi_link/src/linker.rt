@@ -1,5 +1,5 @@
 //! From what is placed to an image.
-ghost use Rattle.std.specs.Prelude.{◌≡◌, ◌≢◌, ◌+◌, ◌*◌, ◌<◌, ◌≤◌, ◌^◌, ℕ, List, [], length, Err, IfOk, IfErr};
+ghost use Rattle.std.specs.Prelude.{◌≡◌, ◌≢◌, ◌+◌, ◌*◌, ◌<◌, ◌≤◌, ◌^◌, ℕ, List, [], length, get_or, Err, IfOk, IfErr};
 ghost use Rattle.std.specs.List.{All};
 ghost use Rattle.sfi_source.specs.Source.{Sandbox};
 ghost use Rattle.sfi_image.specs.Spelling.{view, views};
@@ -9,11 +9,12 @@ ghost use Rattle.sfi_link.specs.declared.fault.LinkFault.TheVariants.{TooManySan
 ghost use Rattle.sfi_link.specs.declared.fault.LinkFault.TheVariants as fault;
 ghost use Rattle.sfi_formats.specs.Places.{place_of};
 ghost use Rattle.sfi_link.specs.Linked.{IsRightPlace};
-ghost use Rattle.sfi_link.specs.Linked.{gates_from, part_with, IsLinkedCode};
+ghost use Rattle.sfi_link.specs.Linked.{gates_from, part_with, IsLinkedCode, AreLinkedFrom};
+ghost use Rattle.sfi_link.specs.Linked.{contents, parts_with, AreLinkedCodes, with_bytes, each_with};
 ghost use Rattle.sfi_link.specs.Linked.{IsLinkedImage, ArePlacements, IsBuild};
 ghost use Rattle.sfi_formats.specs.Limits.{bundle_size, gates_most, sandboxes_most};
 ghost use Rattle.sfi_link.specs.Faults.{IsPartFault, IsLinkFault};
-ghost use Rattle.sfi_link.specs.private.{AreCodes, parts_with, contents, Links};
+ghost use Rattle.sfi_link.specs.private.{AreCodes, Links, set_init};
 ghost use Rattle.sfi_link.specs.Faults.{UnlessMemory, AnswersItems, AnswersFault};
 
 use crate::bases::bases_of;
@@ -41,20 +42,21 @@ fn gates_from(alloc: Global, address: u32, gates: &[SourceGate]) -> Result<Vec<G
     Ok(listed)
 }
 
-/// Sandbox `number`, with this code, as a part of an image.
+/// Sandbox `number`, with this code and these first data bytes, as a part of an image.
 fn linked_part<'a>(
     alloc: Global,
     given: &[Place],
     number: u32,
-    placed: &'a PlacedPart,
+    placed: &PlacedPart,
     code: &'a [u8],
+    init: &'a [u8],
 ) -> Result<SandboxPart<'a>, AllocError>
     requires few { number < sandboxes_most }
     requires right { IsPlacedPart placed.now }
     requires made { IsLinkedCode given.now number placed.now code.now
         × IsRightPlace placed.now (length code.now) (place_of given.now number) }
-    ensures { IfOk result (λ part. view placed.entry.now.format part
-        ≡ part_with given.now number placed.entry.now code.entry.now) }
+    ensures { IfOk result (λ part. view placed.now.format part
+        ≡ set_init init.entry.now (part_with given.now number placed.now code.entry.now)) }
 {
     let at = bases_of(given, number, placed);
     let gates = gates_from(alloc, at.code, placed.gates())?;
@@ -65,7 +67,7 @@ fn linked_part<'a>(
         start: at.start,
         gates,
         code,
-        init: placed.bytes(),
+        init,
     })
 }
 
@@ -89,27 +91,88 @@ fn codes_of(
     Ok(codes)
 }
 
-/// Each sandbox, all of this format, with its code.
+/// The first data bytes of sandbox `number`: those of the list, or its own where that ends.
+fn init_of<'a>(inits: &'a [Vec<u8>], number: usize, placed: &'a PlacedPart) -> &'a [u8]
+    ensures listed { number < length inits.entry.now
+        → result.now ≡ get_or (contents inits.entry.now) number result.now }
+    ensures own { length inits.entry.now ≤ number → result.now ≡ placed.entry.now.bytes }
+{
+    match inits.get(number) {
+        Some(init) => init,
+        None => placed.bytes(),
+    }
+}
+
+/// Each sandbox, all of this format, with its code and its first data bytes.
 fn linked_parts<'a>(
     alloc: Global,
     given: &[Place],
     format: Format,
     placed: &'a [PlacedPart],
     codes: &'a [Vec<u8>],
+    inits: &'a [Vec<u8>],
 ) -> Result<Vec<SandboxPart<'a>>, AllocError>
     requires right { All IsPlacedPart placed.now }
     requires few { length placed.now ≤ sandboxes_most }
     requires format { AreOf format placed.now }
-    requires codes { AreCodes given.now 0 [] placed.now (contents codes.now) }
+    requires linked { AreLinkedFrom given.now 0 placed.now (parts_with given.now 0 placed.now (contents codes.now)) }
     ensures { IfOk result (λ parts. views format parts.items
-        ≡ parts_with given.now 0 placed.entry.now (contents codes.entry.now)) }
+        ≡ each_with set_init (contents inits.entry.now)
+        (parts_with given.now 0 placed.entry.now (contents codes.entry.now))) }
 {
     let mut parts = Vec::new(alloc);
     for (number, part) in placed.iter().enumerate() {
-        let linked = linked_part(alloc, given, number as u32, part, &codes[number])?;
+        let init = init_of(inits, number, part);
+        let linked = linked_part(alloc, given, number as u32, part, &codes[number], init)?;
         parts.push(linked)?;
     }
     Ok(parts)
+}
+
+/// The code of each sandbox of what is placed, in its image at these places, or the fault that
+/// there is in the place of an image: the names have their addresses.
+pub fn codes_at(alloc: Global, placed: &Placed, places: &[Place]) -> Result<Vec<Vec<u8>>, LinkFault>
+    ensures codes { IfOk result
+        (λ codes. AreLinkedCodes places.now placed.now (contents codes.items)) }
+    ensures fault { IfErr result (UnlessMemory (IsLinkFault places.now placed.now)) }
+    ensures too_many { sandboxes_most < length placed.now → result ≡ Err TooManySandboxes }
+    // What the type of `placed` keeps.
+    ensures placed { IsPlaced placed.now }
+{
+    let placed = placed.parts();
+    if placed.len() > SANDBOX_COUNT_MOST {
+        return Err(LinkFault::TooManySandboxes);
+    }
+    if places.len() > placed.len() {
+        return Err(LinkFault::Place {
+            sandbox: placed.len() as u32,
+        });
+    }
+    codes_of(alloc, places, placed)
+}
+
+/// Writes the image of what is placed, whose sandboxes have this code, with the first data bytes of
+/// the list; where that ends, a sandbox has its own. The image has a right layout and breaks no
+/// rule.
+pub fn image_of(
+    alloc: Global,
+    placed: &Placed,
+    places: &[Place],
+    codes: &[Vec<u8>],
+    inits: &[Vec<u8>],
+) -> Result<Vec<u8>, AllocError>
+    requires codes { AreLinkedCodes places.now placed.now (contents codes.now) }
+    requires inits { IsPlaced (each_with with_bytes (contents inits.now) placed.now) }
+    ensures { IfOk result (λ bytes. IsLinkedImage places.now
+        (each_with with_bytes (contents inits.now) placed.now) bytes.items) }
+{
+    let format = placed.format();
+    let parts = linked_parts(alloc, places, format, placed.parts(), codes, inits)?;
+    match write_image_as(alloc, format, &parts) {
+        Ok(bytes) => Ok(bytes),
+        Err(ImageFault::Memory) => Err(AllocError),
+        Err(ImageFault::Layout(_)) => unreachable!(),
+    }
 }
 
 /// The image of what is placed, or its fault.
@@ -120,23 +183,8 @@ fn linked_image(alloc: Global, placed: &Placed, places: &[Place]) -> Result<Vec<
     ensures placed { IsPlaced placed.now }
     ensures too_many { sandboxes_most < length placed.now → result ≡ Err TooManySandboxes }
 {
-    let format = placed.format();
-    let placed = placed.parts();
-    if placed.len() > SANDBOX_COUNT_MOST {
-        return Err(LinkFault::TooManySandboxes);
-    }
-    if places.len() > placed.len() {
-        return Err(LinkFault::Place {
-            sandbox: placed.len() as u32,
-        });
-    }
-    let codes = codes_of(alloc, places, placed)?;
-    let parts = linked_parts(alloc, places, format, placed, &codes)?;
-    match write_image_as(alloc, format, &parts) {
-        Ok(bytes) => Ok(bytes),
-        Err(ImageFault::Memory) => Err(LinkFault::Memory),
-        Err(ImageFault::Layout(_)) => unreachable!(),
-    }
+    let codes = codes_at(alloc, placed, places)?;
+    Ok(image_of(alloc, placed, places, &codes, &[])?)
 }
 
 /// Gives the names their addresses, and writes the image: sandbox after sandbox its stubs,

@@ -1,5 +1,4 @@
-use Rattle.sfi_link.proofs.Prelude.{◌≡◌, ◌∙◌, sym, ap, ℕ, List, Ok, length, arith}
-use Rattle.std.proofs.Common.{rules}
+use Rattle.sfi_link.proofs.Prelude.{◌≡◌, ◌∙◌, sym, ap, Ok, length, arith}
 use Rattle.sfi_text.specs.Texts.{MeansText}
 use Rattle.sfi_build.specs.Tables.{tails_from}
 use Rattle.sfi_build.specs.Texts.{IsPlainBuild}

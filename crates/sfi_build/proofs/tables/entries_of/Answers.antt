@@ -1,4 +1,4 @@
-use Rattle.sfi_link.proofs.Prelude.{◌≡◌, ◌+◌, ◌++◌, ◌∙◌, ◌⊎◌, inl, inr, sym, ap, subst, refl, ℕ, List, [], ◌∷◌, Option, map, drop, slice_get, get_or, arith, All, All-push, err_from_is_err_and}
+use Rattle.sfi_link.proofs.Prelude.{◌≡◌, ◌+◌, ◌++◌, ◌∙◌, inl, inr, sym, ap, subst, ℕ, List, [], ◌∷◌, Option, map, drop, slice_get, get_or, arith, All-push, err_from_is_err_and}
 use Rattle.std.specs.Prelude.{IfErr}
 use Rattle.sfi_names.specs.Tables.{Named, IsNamed, entry}
 use Rattle.sfi_text.specs.declared.source_text.Listed.{Listed}

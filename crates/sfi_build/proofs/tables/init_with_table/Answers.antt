@@ -1,8 +1,8 @@
-use Rattle.sfi_link.proofs.Prelude.{◌≡◌, ◌+◌, ◌-◌, ◌<◌, ◌≤◌, ◌++◌, ◌∙◌, sym, ap, subst, refl, ℕ, List, Ok, Err, inl, inr, false, length, map, slice_get, arith, cases_lt, err_from_is_err_and, ◌^◌}
+use Rattle.sfi_link.proofs.Prelude.{◌≡◌, ◌+◌, ◌<◌, ◌≤◌, ◌++◌, ◌∙◌, sym, ap, subst, refl, Ok, inl, inr, false, length, map, slice_get, arith, cases_lt, err_from_is_err_and, ◌^◌}
 use Rattle.std.proofs.lemmas.Bool.{false≢true}
 use Rattle.std.proofs.Common.{rules}
 use Rattle.std.specs.Prelude.{IfErr}
-use Rattle.sfi_names.specs.Tables.{Named, Table, IsTable, IsNamed, IsNamesOf, entries, spelling}
+use Rattle.sfi_names.specs.Tables.{IsNamesOf, entries, spelling}
 use Rattle.sfi_build.specs.Tables.{address_in, entries_of, is_unlisted, room_of, tail_of}
 use Rattle.sfi_build.specs.private.{IsTableStop}
 use Rattle.sfi_build.specs.declared.table_fault.TableFault.TheVariants.{NoRoom}

@@ -1,8 +1,7 @@
-use Rattle.sfi_link.proofs.Prelude.{◌≡◌, ◌+◌, ◌<◌, ◌++◌, ◌∙◌, sym, ap, subst, ℕ, List, [], ◌∷◌, length, length-append, map, drop, slice_get, arith, map_push, err_from_is_err_and}
-use Rattle.std.proofs.Common.{rules}
+use Rattle.sfi_link.proofs.Prelude.{◌≡◌, ◌+◌, ◌<◌, ◌++◌, ◌∙◌, sym, ap, subst, [], ◌∷◌, length, length-append, drop, slice_get, arith, map_push, err_from_is_err_and, contents}
 use Rattle.std.specs.Prelude.{IfErr}
 use Rattle.sfi_build.specs.Tables.{address_in, tail_of, tails_from}
-use Rattle.sfi_build.specs.private.{IsTableStop, contents}
+use Rattle.sfi_build.specs.private.{IsTableStop}
 use Rattle.sfi_build.proofs.Making.{carried, tails_stopped, tails_passed, inits_more, next}
 use Rattle.sfi_build.proofs.tables.inits_of.Goals as goal
 

@@ -1,6 +1,5 @@
-use Rattle.sfi_link.proofs.Prelude.{◌≡◌, ℕ, List, length, map, take, drop}
-use Rattle.sfi_build.specs.Tables.{tails_from, each_with, sandbox_with}
-use Rattle.sfi_build.specs.private.{contents}
+use Rattle.sfi_link.proofs.Prelude.{◌≡◌, ℕ, List, length, map, take, drop, contents, each_with}
+use Rattle.sfi_build.specs.Tables.{tails_from, sandbox_with}
 use Rattle.sfi_build.proofs.Making.{after}
 use Rattle.sfi_build.proofs.tables.inits_of.Given as goal
 

@@ -1,8 +1,8 @@
-use Rattle.sfi_link.proofs.Prelude.{◌≡◌, ◌∙◌, sym, ap, ℕ, List, Option, Some, map, slice_get}
+use Rattle.sfi_link.proofs.Prelude.{◌≡◌, ◌∙◌, sym, ap, Some, map, slice_get}
 use Rattle.std.proofs.Common.{rules}
 use Rattle.std.specs.Option.{option_copied}
 use Rattle.sfi_image.specs.Spelling.{IsWord}
-use Rattle.sfi_names.specs.Tables.{Named, IsNamed}
+use Rattle.sfi_names.specs.Tables.{Named}
 use Rattle.sfi_build.specs.Tables.{address_in, entry_with}
 use Rattle.sfi_build.proofs.Fitting.{at_place, label_named}
 use Rattle.sfi_build.proofs.Making.{names_short}
