@@ -34,8 +34,8 @@ pub use Rattle.sfi_rules.specs.declared.rule.Rule.TheVariants.{V1, V2}
 pub use Rattle.sfi_rules.specs.words.Findings.{IsWordFound}
 pub use Rattle.sfi_rules.specs.words.Rules.{left, owed_by}
 pub use Rattle.sfi_pairs.specs.Pairs.{uses}
-pub use Rattle.sfi_scan.specs.Stretches.{AreStretchFindings, AreWordStretchFindings, IsScanned, IsWordCodeScanned, stretch_place}
+pub use Rattle.sfi_scan.specs.Stretches.{AreStretchFindings, AreWordStretchFindings, IsScanned, stretch_place}
 pub use Rattle.sfi_scan.specs.declared.clean.Words.{Words}
-pub use Rattle.sfi_scan.specs.private.Scanning.{AreBundlesTo}
+pub use Rattle.sfi_scan.specs.private.Scanning.{AreBundlesTo, IsWordCodeScanned}
 pub use Rattle.sfi_scan.specs.private.Words.{AreCleanWords, IsCleanWord, IsPairAt, IsSteppedWord, IsBeforeEnd, IsQuiet, IsQuietThere, is_reserved_or_typed, is_clean_alone}
 pub use Rattle.std.proofs.Math.Facts.{Fits-lt-pow}

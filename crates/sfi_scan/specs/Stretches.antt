@@ -72,15 +72,6 @@ AreFoundInStretch b owed bytes n found next = MatchBool (has_words b.format)
     (AreWordStretchFindings b owed bytes n found next)
     (AreStretchFindings b bytes n found × (next ≡ Nothing))
 
--- the first n bundles of a stretch of code in words are scanned: the sink took their findings
-pub record IsWordCodeScanned {F : Type 0} (takes : F → List Finding → F → Type 0)
-    (b : BundlePlace) (owed : Owed) (bytes : List ℕ) (n : ℕ) (next : Owed)
-    (before after : F) : Type 0 where
-  pub found : List Finding
-  pub found_are : AreWordStretchFindings b owed bytes n found next
-  pub few : length found ≤ findings_most * n
-  pub handed : takes before found after
-
 -- the first n bundles of a stretch of any format are scanned: the sink took their findings
 pub record IsStretchScanned {F : Type 0} (takes : F → List Finding → F → Type 0)
     (b : BundlePlace) (owed : Owed) (bytes : List ℕ) (n : ℕ) (next : Owed)

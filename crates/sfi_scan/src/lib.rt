@@ -4,7 +4,7 @@
 //! once (`block.rt`), then at each bundle that this leaves (`clean.rt`), and reads what neither sees
 //! to be clean instruction by instruction (`scan.rt`, `rules.rt`). Code in words, the third format,
 //! is scanned alike by `words.rt` and the modules in `words/`: first eight bundles at once, then
-//! word by word, with what is owed before each ([`scan_word_code`]).
+//! word by word, with what is owed before each ([`scan_words`]).
 #![tactic(auto)]
 
 mod ahead;
@@ -30,4 +30,4 @@ pub use scan::scan_bundle;
 pub use sfi_formats::Format;
 pub use sfi_rules::{BundlePlace, Finding, Owed, Rule};
 pub use sink::FindingSink;
-pub use words::{scan_word_code, scan_words};
+pub use words::scan_words;

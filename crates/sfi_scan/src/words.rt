@@ -3,8 +3,8 @@ ghost use Rattle.std.specs.Prelude.{◌≡◌, ◌*◌, ◌≤◌, ◌<◌, ℕ,
 ghost use Rattle.sfi_formats.specs.Limits.{bundle_size};
 ghost use Rattle.sfi_rules.specs.Readings.{IsWithin};
 ghost use Rattle.sfi_rules.specs.words.Findings.{AreFoundInBundle};
-ghost use Rattle.sfi_scan.specs.Stretches.{IsStretch, IsWordCodeScanned};
-ghost use Rattle.sfi_scan.specs.private.Scanning.{IsFrontClean, IsRunClean, IsWordFrontScanned};
+ghost use Rattle.sfi_scan.specs.Stretches.{IsStretch};
+ghost use Rattle.sfi_scan.specs.private.Scanning.{IsFrontClean, IsRunClean, IsWordCodeScanned, IsWordFrontScanned};
 
 mod block;
 mod look;
@@ -198,7 +198,8 @@ fn scan_next_words<F: FindingSink, const BLOCKS: bool>(
     scan_bundles(place, code, end, stop, left, sink, findings)
 }
 
-/// Scans a stretch of code in words, in blocks or bundle by bundle.
+/// Scans a stretch of code in words, in blocks or bundle by bundle, with `owed` owed before it, and
+/// hands the findings of each 16 bytes to the sink, in order. Answers what is owed after it.
 pub(crate) fn scan_words_as<F: FindingSink, const BLOCKS: bool>(
     place: &BundlePlace,
     code: &[u8],
@@ -218,19 +219,4 @@ pub(crate) fn scan_words_as<F: FindingSink, const BLOCKS: bool>(
         left = next;
     }
     left
-}
-
-/// Scans a stretch of code in words, with `owed` owed before it, and hands the findings of each 16
-/// bytes to the sink, in order. Answers what is owed after it.
-pub fn scan_word_code<F: FindingSink>(
-    place: &BundlePlace,
-    code: &[u8],
-    owed: Owed,
-    sink: &mut F,
-) -> Owed
-    requires { (n : ℕ) × IsStretch place.now code.now n }
-    ensures { (n : ℕ) → IsStretch place.now code.now n
-        → IsWordCodeScanned F.takes place.now owed code.now n result sink.old sink.new }
-{
-    scan_words_as::<F, true>(place, code, owed, sink)
 }

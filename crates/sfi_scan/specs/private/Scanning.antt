@@ -4,7 +4,7 @@ use Rattle.sfi_image.specs.declared.bundle.BundlePlace.{BundlePlace}
 use Rattle.std.proofs.Common.{List, Bool, [], ◌++◌, ap, sym, ◌∙◌, append_assoc}
 use Rattle.std.proofs.lemmas.List.{append-nil}
 use Rattle.sfi_rules.specs.declared.finding.Finding.{Finding}
-use Rattle.sfi_scan.specs.Stretches.{Lists, stretch_place, IsScanned, IsWordCodeScanned, AreWordStretchFindings}
+use Rattle.sfi_scan.specs.Stretches.{Lists, stretch_place, findings_most, IsScanned, AreWordStretchFindings}
 use Rattle.sfi_formats.specs.Limits.{bundle_size}
 use Rattle.sfi_rules.specs.Readings.{IsWithinBlock}
 use Rattle.sfi_rules.specs.declared.owed.Owed.{Owed}
@@ -73,6 +73,15 @@ abbrev pub IsFrontScanned : {F : Type 0} → (F → List Finding → F → Type 
 IsFrontScanned takes b bytes k end before after =
     AreSomeBundlesTo bytes k end (λ n.
     IsScanned takes (stretch_place b k) (drop (bundle_size * k) bytes) n before after)
+
+-- the first n bundles of a stretch of code in words are scanned: the sink took their findings
+pub record IsWordCodeScanned {F : Type 0} (takes : F → List Finding → F → Type 0)
+    (b : BundlePlace) (owed : Owed) (bytes : List ℕ) (n : ℕ) (next : Owed)
+    (before after : F) : Type 0 where
+  pub found : List Finding
+  pub found_are : AreWordStretchFindings b owed bytes n found next
+  pub few : length found ≤ findings_most * n
+  pub handed : takes before found after
 
 -- the bundles from bundle k to byte `end`, at least one, are scanned as code in words, with `owed`
 -- before them and `next` after them
