@@ -4,8 +4,8 @@ use Rattle.sfi_image.specs.FieldTests.{IsFirstFault, field_tests}
 use Rattle.sfi_image.specs.declared.span.Span.{Span}
 use Rattle.sfi_image.specs.declared.want.Want.{Want}
 use Rattle.sfi_image.specs.declared.want.Want.TheVariants as wants
-use Rattle.sfi_check.specs.declared.ends.FeedEnd.{FeedEnd}
-use Rattle.sfi_check.specs.declared.ends.FeedEnd.TheVariants as ends
+use Rattle.sfi_check.specs.declared.piece.FeedEnd.{FeedEnd}
+use Rattle.sfi_check.specs.declared.piece.FeedEnd.TheVariants as ends
 use Rattle.sfi_check.specs.private.{IsTakenOff, Steps}
 use Rattle.sfi_check.proofs.Tallying.{fault_onwards}
 use Rattle.sfi_image.proofs.Facts.{whole_bundles}
@@ -124,3 +124,7 @@ fault_on so_far at k xs h =
 -- the rest of a piece, as a slice
 pub tail_is : (at : ℕ) (xs : List ℕ) → take (length xs - at) (drop at xs) ≡ drop at xs
 tail_is at xs = take_all (length xs - at) (drop at xs) (omega (arith, length-drop at xs))
+
+-- a step on that
+pub step_at : (T : List Finding → Type 0) (old new : LayoutReader) (t : Tally) (so_far : List ℕ) (at : ℕ) (xs : List ℕ) (end : FeedEnd) → Steps T old new t (so_far ++ take at xs) (take (length xs - at) (drop at xs)) end → Steps T old new t (so_far ++ take at xs) (drop at xs) end
+step_at T old new t so_far at xs end h = subst (λ (l : List ℕ). Steps T old new t (so_far ++ take at xs) l end) (tail_is at xs) h

@@ -29,7 +29,7 @@ pub use Rattle.sfi_safety.specs.Clean.{IsAccepted}
 pub use Rattle.sfi_check.specs.declared.stream_answer.StreamAnswer.{StreamAnswer}
 pub use Rattle.sfi_check.specs.declared.tally.Tally.{Tally}
 pub use Rattle.sfi_scan.specs.Stretches.{findings_most, IsStretch, AreFoundInStretch, stretch_place}
-pub use Rattle.sfi_check.specs.private.{AddsFindings, Counts, verdict_of, verdict_by, HoldsOfSome, Goes, LeadsOn, left_to_feed}
+pub use Rattle.sfi_check.specs.private.{AddsFindings, Counts, verdict_of, verdict_by, HoldsOfSome, LeadsOn, left_to_feed}
 pub use Rattle.sfi_check.specs.OneVerdict.{IfLayoutFault}
 pub use Rattle.sfi_check.specs.declared.refusal.Refusal.{Refusal}
 pub use Rattle.sfi_image.specs.declared.fault.LayoutFault.{LayoutFault}

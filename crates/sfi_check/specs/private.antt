@@ -1,5 +1,5 @@
 -- Words that private contracts and proofs alone cite: no public statement rests on them.
-use Rattle.std.specs.Prelude.{◌≢◌, ℕ, List, [], Result, Vec, IfOk, IfErr, slice_get, ◌-◌, Option, Some, None, ◌⊎◌, take}
+use Rattle.std.specs.Prelude.{◌≢◌, ℕ, List, [], Result, Vec, IfOk, IfErr, slice_get, ◌-◌, Option, Some, None, take}
 use Rattle.std.specs.Global.{Global}
 use Rattle.sfi_formats.specs.declared.format.Format.TheVariants.{Sfi2}
 use Rattle.sfi_image.specs.Spelling.{Part}
@@ -28,10 +28,8 @@ use Rattle.sfi_image.specs.declared.want.Stage.TheVariants as stage
 use Rattle.sfi_image.specs.Prefixes.{ImagePrefix, prefix_bytes, HasFaultWhateverFollows}
 use Rattle.sfi_image.specs.declared.layout_reader.LayoutReader.{LayoutReader}
 use Rattle.sfi_check.specs.declared.stream_answer.StreamAnswer.TheVariants as answers
-use Rattle.sfi_check.specs.declared.ends.FeedEnd.{FeedEnd}
-use Rattle.sfi_check.specs.declared.ends.FeedEnd.TheVariants as steps
-use Rattle.sfi_check.specs.declared.ends.PieceEnd.{PieceEnd}
-use Rattle.sfi_check.specs.declared.ends.PieceEnd.TheVariants as ways
+use Rattle.sfi_check.specs.declared.piece.FeedEnd.{FeedEnd}
+use Rattle.sfi_check.specs.declared.piece.FeedEnd.TheVariants as steps
 
 -- ==== What a conversion answers.
 
@@ -162,18 +160,6 @@ Steps holds old new t so_far rest steps.Short =
     IsSoFar holds new t so_far × IsCut new (length rest) × (left new ≤ left old)
 Steps holds old new t so_far rest steps.Whole = IsSoFar holds new t so_far × (new.next ≡ stage.End)
 Steps holds old new t so_far rest (steps.Fault k) =
-    HasFaultWhateverFollows (so_far ++ rest) k × HoldsOfSome holds
-
--- all steps on a piece that follows the bytes so far
-abbrev pub Goes : (List Finding → Type 0) → LayoutReader → LayoutReader → Tally → List ℕ → List ℕ
-    → PieceEnd → Type 0
-Goes holds old new t so_far rest (ways.More n) =
-    (n ≤ length rest) × IsSoFar holds new t (so_far ++ take n rest) × IsCut new (length rest - n)
-    × ((left new < left old) ⊎ ((n ≡ 0) × (left new ≤ left old)))
-Goes holds old new t so_far rest (ways.Whole n) =
-    (n ≤ length rest) × IsSoFar holds new t (so_far ++ take n rest) × (new.next ≡ stage.End)
-    × ((left new < left old) ⊎ ((n ≡ 0) × (left new ≤ left old)))
-Goes holds old new t so_far rest (ways.Fault k) =
     HasFaultWhateverFollows (so_far ++ rest) k × HoldsOfSome holds
 
 -- from the bytes so far a piece leads on, whatever the sink was first

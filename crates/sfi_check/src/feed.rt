@@ -8,8 +8,7 @@ ghost use Rattle.sfi_check.specs.Feeds.{IsSoFar, IsCut};
 ghost use Rattle.sfi_check.specs.Feeds.{IsFed, IsFedFinding};
 ghost use Rattle.sfi_check.specs.private.{IsFedOn, left_to_feed};
 
-use crate::ends::PieceEnd;
-use crate::piece::{take_piece, verdict};
+use crate::piece::{FeedEnd, feed_next, verdict};
 use crate::sink::Nowhere;
 use crate::stream_answer::StreamAnswer;
 use crate::tally::Tally;
@@ -74,7 +73,8 @@ impl Feed {
         self.count = bytes.len();
     }
 
-    /// Takes a piece that begins with the held bytes.
+    /// Takes a piece that begins with the held bytes: hands it to the reader and the scan, as far as
+    /// what comes next is whole, and holds what is left.
     fn take_all<F: FindingSink, const BLOCKS: bool>(&mut self, bytes: &[u8], sink: &mut F)
         requires fault { self.old.fault ≡ None }
         requires long { length self.old.held ≡ 64 }
@@ -86,15 +86,23 @@ impl Feed {
         ensures falls { self.old.count < length bytes.now
             → left_to_feed self.new < left_to_feed self.old }
     {
-        match take_piece::<F, BLOCKS>(&mut self.reader, &mut self.tally, sink, bytes) {
-            PieceEnd::Fault(fault) => self.fault = Some(fault),
-            PieceEnd::Whole(at) => {
-                self.count = 0;
-                if at < bytes.len() {
-                    self.fault = Some(LayoutFault::Trailing);
+        let mut at = 0;
+        loop {
+            match feed_next::<F, BLOCKS>(&mut self.reader, &mut self.tally, sink, &bytes[at..]) {
+                FeedEnd::Took(len) => at += len,
+                FeedEnd::Short => return self.hold(&bytes[at..]),
+                FeedEnd::Whole => {
+                    self.count = 0;
+                    if at < bytes.len() {
+                        self.fault = Some(LayoutFault::Trailing);
+                    }
+                    return;
+                }
+                FeedEnd::Fault(fault) => {
+                    self.fault = Some(fault);
+                    return;
                 }
             }
-            PieceEnd::More(at) => self.hold(&bytes[at..]),
         }
     }
 

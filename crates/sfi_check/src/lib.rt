@@ -11,7 +11,6 @@
 
 mod accepted;
 mod conversion;
-mod ends;
 mod feed;
 mod for_c;
 mod piece;

@@ -1,17 +1,29 @@
-//! Hands one piece of bytes to the reader and the scan.
+//! Hands what comes next of an image to the reader and the scan.
 ghost use Rattle.std.specs.Prelude.{◌≡◌, ℕ, List, length};
 ghost use Rattle.sfi_image.specs.Prefixes.{ImagePrefix, want_of, IsLengthOf};
 ghost use Rattle.sfi_image.specs.Keeping.{StandsFor};
 ghost use Rattle.sfi_check.specs.Feeds.{IsSoFar};
-ghost use Rattle.sfi_check.specs.private.{IsTakenOff, Steps, Goes, verdict_of};
+ghost use Rattle.sfi_check.specs.private.{IsTakenOff, Steps, verdict_of};
 
-use crate::ends::{FeedEnd, PieceEnd};
 use crate::sink::scan_counted;
 use crate::stream_answer::StreamAnswer;
 use crate::tally::Tally;
 use sfi_formats::BUNDLE_BYTES;
-use sfi_image::{LayoutReader, Want};
+use sfi_image::{LayoutFault, LayoutReader, Want};
 use sfi_scan::{BundlePlace, FindingSink};
+
+/// How one step ends.
+#[derive(Clone, Copy)]
+pub(crate) enum FeedEnd {
+    /// It took this number of bytes.
+    Took(usize),
+    /// More bytes are wanted than there are.
+    Short,
+    /// The image is whole.
+    Whole,
+    /// A test of the layout failed.
+    Fault(LayoutFault),
+}
 
 /// Hands these bytes to the reader.
 #[inline(always)]
@@ -61,7 +73,7 @@ fn feed_code<F: FindingSink, const BLOCKS: bool>(
 
 /// Hands what comes next to the reader, if its bytes are there, and scans it if it is code.
 #[inline(always)]
-fn feed_next<F: FindingSink, const BLOCKS: bool>(
+pub(crate) fn feed_next<F: FindingSink, const BLOCKS: bool>(
     reader: &mut LayoutReader,
     tally: &mut Tally,
     sink: &mut F,
@@ -90,31 +102,6 @@ fn feed_next<F: FindingSink, const BLOCKS: bool>(
         }
         Want::End => FeedEnd::Whole,
         Want::Nothing => unreachable!(),
-    }
-}
-
-/// Hands a piece's bytes to the reader and the scan, as far as what comes next is whole.
-pub(crate) fn take_piece<F: FindingSink, const BLOCKS: bool>(
-    reader: &mut LayoutReader,
-    tally: &mut Tally,
-    sink: &mut F,
-    piece: &[u8],
-) -> PieceEnd
-    requires { (first : F) × (so_far : List ℕ)
-        × IsSoFar (λ found. F.takes first found sink.old) reader.old tally.old so_far }
-    ensures { (first : F) (so_far : List ℕ)
-        → IsSoFar (λ found. F.takes first found sink.old) reader.old tally.old so_far
-        → Goes (λ found. F.takes first found sink.new)
-        reader.old reader.new tally.new so_far piece.now result }
-{
-    let mut at = 0;
-    loop {
-        match feed_next::<F, BLOCKS>(reader, tally, sink, &piece[at..]) {
-            FeedEnd::Took(len) => at += len,
-            FeedEnd::Short => return PieceEnd::More(at),
-            FeedEnd::Whole => return PieceEnd::Whole(at),
-            FeedEnd::Fault(fault) => return PieceEnd::Fault(fault),
-        }
     }
 }
 
