@@ -1,5 +1,5 @@
 -- Tables are made step by step: what their bytes are made of.
-use Rattle.sfi_link.proofs.Prelude.{◌≡◌, sym, subst, ℕ, ◌+◌, ◌^◌, ◌<◌, List, length, get_or, arith, Place, Placement, IsPlacedPart, IsPlaced, bases_of, AreNear, refl, ap, ◌∙◌, [], ◌∷◌, ◌++◌, Option, None, Some, Result, Ok, Err, map, slice_get, take, drop, append_assoc, append-nil, Sandbox, inl, inr, ◌≤◌, true, false, take_more, map_push, length-take-le, All, each_with}
+use Rattle.sfi_link.proofs.Prelude.{◌≡◌, sym, subst, ℕ, ◌+◌, ◌^◌, ◌<◌, List, length, get_or, arith, Place, Placement, IsPlacedPart, IsPlaced, bases_of, AreInReach, refl, ap, ◌∙◌, [], ◌∷◌, ◌++◌, Option, None, Some, Result, Ok, Err, map, slice_get, take, drop, append_assoc, append-nil, Sandbox, inl, inr, ◌≤◌, true, false, take_more, map_push, length-take-le, All, each_with}
 use Rattle.sfi_link.specs.Linked.{IsLinkedImage}
 use Rattle.sfi_link.proofs.Linking.{near_of}
 use Rattle.sfi_link.proofs.Parts.{linked_at, start_fits}
@@ -24,7 +24,7 @@ use Rattle.sfi_build.proofs.Fitting.{AreShort}
 -- ==== The addresses of names in an image have 32 bits.
 
 pub near_at : (given : List Place) (placed : List Placement) (bytes : List ℕ) → IsPlaced placed → IsLinkedImage given placed bytes → (k : ℕ) (p : Placement) → k < length placed → p ≡ get_or placed k p
-    → AreNear (bases_of given k p) p.names × ((bases_of given k p).start < 2 ^ 32)
+    → AreInReach (bases_of given k p) p.names × ((bases_of given k p).start < 2 ^ 32)
 near_at given placed bytes right image k p less is =
     let q = linked_at given 0 k k placed image.parts p (omega arith) less is image.linked.each in
     let room = q.1.code.size.has_room in

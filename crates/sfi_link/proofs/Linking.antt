@@ -1,5 +1,5 @@
 -- From the code of each sandbox to the image.
-use Rattle.sfi_link.proofs.Prelude.{◌≡◌, ℕ, zero, suc, ◌+◌, ◌-◌, ◌*◌, ◌/◌, ◌^◌, ◌<◌, ◌≤◌, List, [], ◌∷◌, ◌++◌, length, drop, get_or, replicate, refl, sym, ap, ◌∙◌, subst, arith, append_assoc, append-nil, length-append, inl, inr, Vec, Global, max, Result, Ok, Err, IfOk, IfErr, All, AllPairs, repeat, cases_lt, All-nil, Format, code_most, Sandbox, Span, Part, stub_of, PlacedName, size_of, slots_of, Placement, IsPlacedPart, IsPlacedThere, Place, Bases, LinkFault, place_of, IsRightPlace, spans_at, AreApart, spans, bases_of, AreSlots, c_ebreak, needed, HasRoom, IsCodeSize, gates_from, IsLinkedCode, IsLinked, AreLinkedFrom, AreLinked, MayLie, IsSlotFault, HasPartFault, IsPartFault, IsLinkFault, IsNear, AreNear, HasRoomFor, AreWritten, LiesBeside, IsCodeBeside, AreCodes, Links, part_with, parts_with, All-push, with_guards, contents, AreLinkedCodes, IsPlaced, with_bytes, each_with, set_init, spans_of, fields_of}
+use Rattle.sfi_link.proofs.Prelude.{◌≡◌, ℕ, zero, suc, ◌+◌, ◌-◌, ◌*◌, ◌/◌, ◌^◌, ◌<◌, ◌≤◌, List, [], ◌∷◌, ◌++◌, length, drop, get_or, replicate, refl, sym, ap, ◌∙◌, subst, arith, append_assoc, append-nil, length-append, inl, inr, Vec, Global, max, Result, Ok, Err, IfOk, IfErr, All, AllPairs, repeat, cases_lt, All-nil, Format, code_most, Sandbox, Span, Part, stub_of, PlacedName, size_of, slots_of, Placement, IsPlacedPart, IsPlacedThere, Place, Bases, LinkFault, place_of, IsRightPlace, spans_at, AreApart, spans, bases_of, AreSlots, c_ebreak, needed, HasRoom, IsCodeSize, gates_from, IsLinkedCode, IsLinked, AreLinkedFrom, AreLinked, MayLie, IsSlotFault, HasPartFault, IsPartFault, IsLinkFault, IsInReach, AreInReach, HasRoomFor, AreWritten, LiesBeside, IsCodeBeside, AreCodes, Links, part_with, parts_with, All-push, with_guards, contents, AreLinkedCodes, IsPlaced, with_bytes, each_with, set_init, spans_of, fields_of}
 use Rattle.sfi_source.specs.declared.item.SourceGate.{SourceGate}
 use Rattle.sfi_image.specs.Sources.{IsBounded}
 use Rattle.sfi_link.specs.Faults.{UnlessMemory, AnswersItems, AnswersFault}
@@ -85,7 +85,7 @@ lies_beside p size place old new right bounded apart is =
 -- ---- what is near
 
 near_name : (given : List Place) (number : ℕ) (p : Placement) (size : ℕ) → IsPlacedPart p → HasRoom p.format (needed p) size → IsRightPlace p size (place_of given number) → (n : PlacedName) → IsPlacedThere p n
-    → IsNear (bases_of given number p) n
+    → IsInReach (bases_of given number p) n
 near_name given number p size placed room lies (name.Gate k) there =
     let end = (well_placed p size (place_of given number) lies).end in
     let bound = code_at_most p.format in
@@ -99,7 +99,7 @@ near_name given number p size placed room lies (name.Data offset) there =
     record { fits = omega arith; within = tt }
 near_name given number p size placed room lies name.Unknown there = record { fits = tt; within = tt }
 
-pub near_of : (given : List Place) (number : ℕ) (p : Placement) (size : ℕ) → IsPlacedPart p → HasRoom p.format (needed p) size → IsRightPlace p size (place_of given number) → AreNear (bases_of given number p) p.names
+pub near_of : (given : List Place) (number : ℕ) (p : Placement) (size : ℕ) → IsPlacedPart p → HasRoom p.format (needed p) size → IsRightPlace p size (place_of given number) → AreInReach (bases_of given number p) p.names
 near_of given number p size placed room lies = λ k d lt. near_name given number p size placed room lies (get_or p.names k d) (placed.names k d lt)
 
 -- ---- the code of one sandbox

@@ -31,7 +31,7 @@ pub use Rattle.sfi_rewrite.specs.Expansion.{slot_size, size_of, c_nop, slots_of}
 pub use Rattle.sfi_rewrite.specs.declared.placed.PlacedName.{PlacedName}
 pub use Rattle.sfi_rewrite.specs.declared.slot.BundleSlot.{BundleSlot}
 pub use Rattle.sfi_rewrite.specs.declared.slot.BundleSlot.TheVariants.{Wide, Short, Jump, Upper, Lower, Region}
-pub use Rattle.sfi_link.specs.Code.{IsNear, AreNear, target_at, value_at, base_at, with_offset, bases_of, of_name, target_of, stub_size, resolved, made_of, AreSlots, IsSlot}
+pub use Rattle.sfi_link.specs.Code.{IsInReach, AreInReach, target_at, value_at, base_at, with_offset, bases_of, of_name, target_of, stub_size, resolved, made_of, AreSlots, IsSlot}
 pub use Rattle.sfi_link.specs.Faults.{IsLinkFault, MayLie, IsSlotFault, HasPartFault, IsPartFault, HasSlotFault}
 pub use Rattle.sfi_link.specs.Linked.{c_ebreak, needed, gates_from, part_with, IsLinked, AreLinkedFrom, HasRoom, IsCodeSize, IsLinkedCode, AreLinked, IsRightPlace, spans_at, contents, parts_with, AreLinkedCodes, with_bytes, each_with}
 pub use Rattle.sfi_link.specs.Names.{kind_of, entry_of, entries_of, entries_in, map_from}

@@ -67,13 +67,13 @@ abbrev pub IsInCode : Bases → ℕ → Type 0
 IsInCode at address = (at.code ≤ address) × (address ≤ at.code + code_most Sfi2)
 
 -- the name's address has 32 bits, and a jump's is one of the code
-pub record IsNear (at : Bases) (name : PlacedName) : Type 0 where
+pub record IsInReach (at : Bases) (name : PlacedName) : Type 0 where
   pub fits : IfSome (address_of at name) (λ a. a < 2 ^ 32)
   pub within : IfSome (target_of at name) (IsInCode at)
 
--- each of the names is near
-abbrev pub AreNear : Bases → List PlacedName → Type 0
-AreNear at names = All (IsNear at) names
+-- each of the names is
+abbrev pub AreInReach : Bases → List PlacedName → Type 0
+AreInReach at names = All (IsInReach at) names
 
 -- what `f` gives for the name, if there is a name
 abbrev pub of_name : (PlacedName → Option ℕ) → Option PlacedName → Option ℕ

@@ -1,7 +1,7 @@
 //! Addresses for names, and what an instruction holds of them.
 ghost use Rattle.std.specs.Prelude.{◌≡◌, ◌+◌, ◌<◌, ◌≤◌, ◌^◌, pos, ◌-ℤ◌, IfSome, slice_get};
 ghost use Rattle.sfi_source.specs.Source.{upper, lower};
-ghost use Rattle.sfi_link.specs.Code.{address_of, target_of, address_at, offset_of, base_of, value_at, base_at, target_at, of_name, with_offset, IsInCode, IsNear, AreNear};
+ghost use Rattle.sfi_link.specs.Code.{address_of, target_of, address_at, offset_of, base_of, value_at, base_at, target_at, of_name, with_offset, IsInCode, IsInReach, AreInReach};
 
 use crate::bases::Bases;
 use rv_word::{Instr, Reg};
@@ -10,7 +10,7 @@ use sfi_rewrite::PlacedName;
 
 /// The address of what the name names; none where that is unknown.
 pub(crate) fn address_of(at: Bases, name: PlacedName) -> Option<u32>
-    requires near { IsNear at name }
+    requires near { IsInReach at name }
     ensures is { result ≡ address_of at name }
 {
     match name {
@@ -23,7 +23,7 @@ pub(crate) fn address_of(at: Bases, name: PlacedName) -> Option<u32>
 
 /// The address to which a jump to the name goes; none where the name is no place of the code.
 fn target_of(at: Bases, name: PlacedName) -> Option<u32>
-    requires near { IsNear at name }
+    requires near { IsInReach at name }
     ensures is { result ≡ target_of at name }
     ensures near { IfSome result (IsInCode at) }
 {
@@ -35,7 +35,7 @@ fn target_of(at: Bases, name: PlacedName) -> Option<u32>
 
 /// How far the name's address is from the base of its region; none where the name is unknown.
 fn offset_of(at: Bases, name: PlacedName) -> Option<u32>
-    requires near { IsNear at name }
+    requires near { IsInReach at name }
     ensures is { result ≡ offset_of at name }
 {
     match name {
@@ -61,7 +61,7 @@ fn base_register_of(name: PlacedName) -> Option<Reg>
 /// The address of what name number `place` of a sandbox names, if `at` is where the sandbox lies;
 /// none where that is unknown.
 pub fn address_at(at: Bases, names: &[PlacedName], place: usize) -> Option<u32>
-    requires { AreNear at names.now }
+    requires { AreInReach at names.now }
     ensures is { result ≡ address_at at names.now place }
 {
     match names.get(place) {
@@ -72,7 +72,7 @@ pub fn address_at(at: Bases, names: &[PlacedName], place: usize) -> Option<u32>
 
 /// How far that is from the base of its region.
 fn offset_at(at: Bases, names: &[PlacedName], place: usize) -> Option<u32>
-    requires { AreNear at names.now }
+    requires { AreInReach at names.now }
     ensures is { result ≡ of_name (offset_of at) (slice_get names.now place) }
 {
     match names.get(place) {
@@ -83,7 +83,7 @@ fn offset_at(at: Bases, names: &[PlacedName], place: usize) -> Option<u32>
 
 /// The number that the lui and the addi of `la` hold of name `place`.
 pub(crate) fn value_at(at: Bases, names: &[PlacedName], place: usize) -> Option<u32>
-    requires { AreNear at names.now }
+    requires { AreInReach at names.now }
     ensures is { result ≡ value_at at names.now place }
 {
     if at.movable {
@@ -105,7 +105,7 @@ pub(crate) fn base_at(names: &[PlacedName], place: usize) -> Option<Reg>
 
 /// The address to which a jump to name `place` goes.
 pub(crate) fn target_at(at: Bases, names: &[PlacedName], place: usize) -> Option<u32>
-    requires { AreNear at names.now }
+    requires { AreInReach at names.now }
     ensures is { result ≡ target_at at names.now place }
     ensures near { IfSome result (IsInCode at) }
 {

@@ -12,7 +12,7 @@ ghost use Rattle.sfi_rewrite.specs.Expansion.{size_of, slots_of};
 ghost use Rattle.sfi_rewrite.specs.Placed.{Encodes};
 ghost use Rattle.sfi_source.specs.Source.{lower};
 ghost use Rattle.sfi_link.specs.Code.{value_at, base_at};
-ghost use Rattle.sfi_link.specs.Code.{AreNear};
+ghost use Rattle.sfi_link.specs.Code.{AreInReach};
 ghost use Rattle.sfi_link.specs.private.{HasRoomFor, IsPushed, AreWritten, Links};
 ghost use Rattle.sfi_link.specs.Faults.{IsUnknown, HasSlotFault, IsSlotFault};
 ghost use Rattle.sfi_rewrite.specs.declared.slot.BundleSlot.TheVariants.{Jump};
@@ -58,7 +58,7 @@ fn push_named_jump(
     place: usize,
     line: u32,
 ) -> Result<(), LinkFault>
-    requires near { AreNear at names.now }
+    requires near { AreInReach at names.now }
     requires room { HasRoomFor at (length code.old.items) 0 }
     ensures { Links
         (λ _. IsPushed at names.now (Jump instr place line) code.old.items code.new.items)
@@ -79,7 +79,7 @@ fn push_named_jump(
 
 /// The number for which name `place` stands, or the fault that `line` uses a name without one.
 fn known_value(at: Bases, names: &[PlacedName], place: usize, line: u32) -> Result<u32, LinkFault>
-    requires near { AreNear at names.now }
+    requires near { AreInReach at names.now }
     ensures ok { IfOk result (λ value. value_at at names.now place ≡ Some value) }
     ensures err { IfErr result (IsUnknown (value_at at names.now place) line) }
 {
@@ -131,7 +131,7 @@ fn push_slot(
     names: &[PlacedName],
     slot: BundleSlot,
 ) -> Result<(), LinkFault>
-    requires near { AreNear at names.now }
+    requires near { AreInReach at names.now }
     requires encodes { Encodes slot }
     requires room { HasRoomFor at (length code.old.items) 0 }
     ensures { Links (λ _. IsPushed at names.now slot code.old.items code.new.items)
@@ -166,7 +166,7 @@ fn push_linked_slots(
     names: &[PlacedName],
     slots: &[BundleSlot],
 ) -> Result<(), LinkFault>
-    requires near { AreNear at names.now }
+    requires near { AreInReach at names.now }
     requires encodes { All Encodes slots.now }
     requires room { HasRoomFor at (length code.old.items) (size_of slots.now) }
     ensures { Links (λ _. AreWritten at names.now slots.now code.old.items code.new.items)
@@ -185,7 +185,7 @@ pub(crate) fn push_bundles(
     names: &[PlacedName],
     bundles: &[Bundle],
 ) -> Result<(), LinkFault>
-    requires near { AreNear at names.now }
+    requires near { AreInReach at names.now }
     requires encodes { All Encodes (slots_of bundles.now) }
     requires room { HasRoomFor at (length code.old.items) (size_of (slots_of bundles.now)) }
     ensures { Links

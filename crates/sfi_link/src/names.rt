@@ -7,7 +7,7 @@ ghost use Rattle.sfi_image.specs.Spelling.{Part};
 ghost use Rattle.sfi_link.specs.declared.fault.LinkFault.{LinkFault};
 ghost use Rattle.sfi_link.specs.declared.fault.LinkFault.TheVariants.{TooManySandboxes};
 ghost use Rattle.sfi_link.specs.declared.fault.LinkFault.TheVariants as fault;
-ghost use Rattle.sfi_link.specs.Code.{address_of, IsNear, AreNear};
+ghost use Rattle.sfi_link.specs.Code.{address_of, IsInReach, AreInReach};
 ghost use Rattle.sfi_link.specs.Faults.{UnlessMemory, AnswersItems, AnswersFault};
 ghost use Rattle.sfi_link.specs.Faults.{IsLinkFault};
 ghost use Rattle.sfi_link.specs.Linked.{AreLinkedFrom};
@@ -108,7 +108,7 @@ fn list_name(
     name: &str,
     named: PlacedName,
 ) -> Result<(), AllocError>
-    requires near { IsNear at named }
+    requires near { IsInReach at named }
     ensures { OnOk result (listed.new.items
         ≡ listed.old.items ++ entry_of number (Some name.now) (kind_of named) (address_of at named)) }
 {
@@ -133,7 +133,7 @@ fn list_names(
     names: &Names,
     placed: &[PlacedName],
 ) -> Result<(), AllocError>
-    requires near { AreNear at placed.now }
+    requires near { AreInReach at placed.now }
     ensures { OnOk result (listed.new.items
         ≡ listed.old.items ++ entries_of number at (map (λ e. e.0) names.now) 0 placed.now) }
 {

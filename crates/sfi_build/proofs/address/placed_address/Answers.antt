@@ -1,4 +1,4 @@
-use Rattle.sfi_link.proofs.Prelude.{◌≡◌, ◌<◌, ◌∙◌, ◌^◌, ℕ, sym, subst, ap, refl, List, length, get_or, Some, Place, Placement, IsPlaced, IsPlacedPart, bases_of, AreNear, slice_get}
+use Rattle.sfi_link.proofs.Prelude.{◌≡◌, ◌<◌, ◌∙◌, ◌^◌, ℕ, sym, subst, ap, refl, List, length, get_or, Some, Place, Placement, IsPlaced, IsPlacedPart, bases_of, AreInReach, slice_get}
 use Rattle.std.proofs.lemmas.Option.{slice_get_read}
 use Rattle.sfi_rewrite.specs.declared.placed.PlacedName.{PlacedName}
 use Rattle.sfi_link.specs.declared.bases.Bases.{Bases}
@@ -10,7 +10,7 @@ use Rattle.sfi_build.proofs.address.placed_address.Goals as goal
 
 -- `near_at` of a list of parts that is what is placed
 near_in : (given : List Place) (parts placed : List Placement) (k : ℕ) (p : Placement) → parts ≡ placed → IsPlaced placed → (bytes : List ℕ) → IsLinkedImage given placed bytes → k < length parts → p ≡ get_or parts k p
-    → AreNear (bases_of given k p) p.names × ((bases_of given k p).start < 2 ^ 32)
+    → AreInReach (bases_of given k p) p.names × ((bases_of given k p).start < 2 ^ 32)
 near_in given parts placed k p same right bytes image less is =
     near_at given parts bytes (subst (λ (ps : List Placement). IsPlaced ps) (sym same) right) (subst (λ (ps : List Placement). IsLinkedImage given ps bytes) (sym same) image) k p less is
 
@@ -30,8 +30,8 @@ pub address_at-requires : goal.address_at-requires
 address_at-requires c =
     let there = c.in_ok-part.ensures.lookup in
     let near = near_in c.args.places.now c.parts.result.now c.args.placed.now c.args.sandbox c.in_ok-part.part.now c.parts.ensures.parts c.parts.ensures.right c.requires.linked.0 c.requires.linked.1 there.3.0 there.1 in
-    subst (λ (b : Bases). AreNear b c.names.result.now) (sym c.bases_of-bases.ensures.is)
-    (subst (λ (l : List PlacedName). AreNear (bases_of c.args.places.now c.args.sandbox c.in_ok-part.part.now) l) (sym c.names.ensures) near.0)
+    subst (λ (b : Bases). AreInReach b c.names.result.now) (sym c.bases_of-bases.ensures.is)
+    (subst (λ (l : List PlacedName). AreInReach (bases_of c.args.places.now c.args.sandbox c.in_ok-part.part.now) l) (sym c.names.ensures) near.0)
 
 pub returns : goal.returns
 returns c =
