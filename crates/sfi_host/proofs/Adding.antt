@@ -131,7 +131,7 @@ module _ (w : Sandboxes) (ps : List Part) (world : IsSafeWorld w) (owned : AreOw
             (get_either w.seats (map first_seat ps) i s e);
       }
 
-      enterable : AreEnterable w → AreEnterable (with_image w ps)
+      pub enterable : AreEnterable w → AreEnterable (with_image w ps)
       enterable old i s e = ⊎_elim
           (λ (h : slice_get w.seats i ≡ Some s).
           let x = old i s h in
@@ -146,7 +146,7 @@ module _ (w : Sandboxes) (ps : List Part) (world : IsSafeWorld w) (owned : AreOw
           (λ (h : IsNew i s). all_enterable ps layout w.bytes free memory safe calls h.0 s h.2)
           (get_either w.seats (map first_seat ps) i s e)
 
-      all_owned : AreOwned (with_image w ps)
+      pub all_owned : AreOwned (with_image w ps)
       all_owned a there = ⊎_elim
           (λ (h : IsSome (byte_at w.bytes a)). let o = owned a h in let it : IsOwned (with_image w ps) a = (o.0, o.1, get_front w.seats (map first_seat ps) o.0 o.1 o.2, o.3) in it)
           (λ (h : IsOf ps a). let it : IsOwned (with_image w ps) a = (length w.seats + h.0, first_seat h.1, get_back w.seats (map first_seat ps) h.0 (first_seat h.1) (get_map first_seat ps h.0 h.1 h.2), h.3) in it)

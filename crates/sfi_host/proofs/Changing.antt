@@ -18,7 +18,7 @@ use Rattle.sfi_host.proofs.AfterCalls.{stays_outside, whole_in, whole_of}
 
 -- no code lies in the data of any
 module _ (w : Sandboxes) (safe : IsSafeWorld w) (i : ℕ) (s : Seat) (at : slice_get w.seats i ≡ Some s) (p : Part) (is : s.bounds ≡ bounds_of p) (a : ℕ) (inside : InCode p a) where
-  code_out : (j : ℕ) (t : Seat) → slice_get w.seats j ≡ Some t → Holds t.bounds.data a → ⊥
+  pub code_out : (j : ℕ) (t : Seat) → slice_get w.seats j ≡ Some t → Holds t.bounds.data a → ⊥
   code_out j t there h = ⊎_elim
       (λ (same : j ≡ i).
       let one : t ≡ s = same_Some t s (sym there ∙ ap (slice_get w.seats) same ∙ at) in
@@ -27,7 +27,7 @@ module _ (w : Sandboxes) (safe : IsSafeWorld w) (i : ℕ) (s : Seat) (at : slice
       (cases_eq j i)
 
 -- where each lies as before, and only data changed, each may be entered as before
-still_enterable : (w o : Sandboxes) → IsSafeWorld w → bounds_in o ≡ bounds_in w → StaysOutsideData w o.bytes → AreEnterable w → AreEnterable o
+pub still_enterable : (w o : Sandboxes) → IsSafeWorld w → bounds_in o ≡ bounds_in w → StaysOutsideData w o.bytes → AreEnterable w → AreEnterable o
 still_enterable w o safe same outside enterable i t at =
     let x = map_get (λ (s : Seat). s.bounds) w.seats i t.bounds (ap (λ (l : List Bounds). slice_get l i) (sym same) ∙ get_map (λ (s : Seat). s.bounds) o.seats i t at) in
     let e = enterable i x.0 x.1 in

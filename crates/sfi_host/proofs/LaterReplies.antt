@@ -1,5 +1,5 @@
 -- A host that replies between turns, and one that answers at once, come to the same.
-use Rattle.sfi_host.proofs.Prelude.{◌≡◌, ℕ, zero, suc, List, [], ◌∷◌, Option, Some, None, slice_get, slice_set, refl, sym, ap, ◌∙◌, subst, Outcome, State, Status, Ready, Slot, state_of, Call, Answer, Limited, limited, Machine, Moved, moved, moved_if, slot_after_step, call_of, next_after, replied, IsReplied, after_replies, and_more, turned, Turn, StepResult, Continue, RunEnds, Joined, joined, joint, turn_and, and_plan, IsJoint, set, set-set, Bytes, IsMemory, Bounds, own, bytes_in, IsWhole, StaysOutside, with_data, with_arguments, word, after_way, status_after, one_more, Seat, slot_of, slots_of}
+use Rattle.sfi_host.proofs.Prelude.{◌≡◌, ℕ, zero, suc, List, [], ◌∷◌, Option, Some, None, slice_get, slice_set, refl, sym, ap, ◌∙◌, subst, Outcome, State, Status, Ready, Slot, state_of, Call, Answer, Limited, limited, Machine, Moved, moved, moved_if, slot_after_step, after_answer, Host, call_of, next_after, replied, IsReplied, after_replies, and_more, turned, Turn, StepResult, Continue, RunEnds, Joined, joined, joint, turn_and, and_plan, IsJoint, set, set-set, Bytes, IsMemory, Bounds, own, bytes_in, IsWhole, StaysOutside, with_data, with_arguments, word, after_way, status_after, one_more, Seat, slot_of, slots_of}
 use Rattle.sfi_host.proofs.AfterCalls.{put_back, data_of_own}
 use Rattle.sfi_host.proofs.OwnSteps.{set_itself, slots_are}
 use Rattle.rv_step.specs.declared.outcome.Outcome.TheVariants as outcome
@@ -9,40 +9,42 @@ use Rattle.sfi_host.proofs.Plans.{one_turn}
 use Rattle.sfi_host.proofs.Quiet.{answered_is}
 use Rattle.sfi_host.proofs.SlotSteps.{one_step}
 
+-- ---- a host that refuses each call
+
+-- a step or a turn with the host that answers no call, as one with another host in this state
+abbrev with_host : {S : Type 0} → S → Moved (Unit {0}) → Moved S
+with_host s m = record { slot = m.slot; host = s; replies = m.replies; next = m.next }
+
+module _ {S : Type 0} (machine : Machine) (host : Host S) (s : S) (refuses : (call : Call) → host s call ≡ None) (i : ℕ) where
+  outcome_same : (slot : Slot) (o : Outcome) (state : State) → slot_after_step host i slot s o state ≡ with_host s (slot_after_step silent i slot tt o state)
+  outcome_same slot outcome.Call state = ap (after_answer slot s) (refuses (call_of i slot))
+  outcome_same slot o state = refl
+
+  status_same : (slot : Slot) (status : Status) → moved_if machine host i slot s status ≡ with_host s (moved_if machine silent i slot tt status)
+  status_same slot Ready = let r = machine (state_of slot) in outcome_same slot r.outcome r.state
+  status_same slot status = refl
+
+  step_same : (slot : Slot) → moved machine host i slot s ≡ with_host s (moved machine silent i slot tt)
+  unfolding moved
+  step_same slot = status_same slot slot.status
+
+  more_same : (next : StepResult) (m : Moved (Unit {0})) (rest : Slot → S → Moved S) (later : Slot → Unit {0} → Moved (Unit {0}))
+      → ((slot : Slot) → rest slot s ≡ with_host s (later slot tt)) → and_more next (with_host s m) rest ≡ with_host s (and_more next m later)
+  more_same Continue m rest later more = ap (after_replies m.replies) (more m.slot)
+  more_same next m rest later more = refl
+
+  pub turn_same : (k : ℕ) (slot : Slot) → turned machine host i k slot s ≡ with_host s (turned machine silent i k slot tt)
+  unfolding turned
+  turn_same zero slot = refl
+  turn_same (suc k) slot =
+      let t = moved machine silent i slot tt in
+      ap (λ (m : Moved S). and_more m.next m (turned machine host i k)) (step_same slot)
+      ∙ more_same t.next t (turned machine host i k) (turned machine silent i k) (turn_same k)
+
 module _ {S : Type 0} (machine : Machine) (answer : S → Call → Answer S) (s : S) where
   -- no call is left
   abbrev none : Limited S
   none = record { host = s; left = Some 0 }
-
-  -- a step or a turn with the host that answers no call, as one with that host
-  abbrev with_none : Moved (Unit {0}) → Moved (Limited S)
-  with_none m = record { slot = m.slot; host = none; replies = m.replies; next = m.next }
-
-  module _ (i : ℕ) where
-    outcome_same : (slot : Slot) (o : Outcome) (state : State) → slot_after_step (limited answer) i slot none o state ≡ with_none (slot_after_step silent i slot tt o state)
-    outcome_same slot outcome.Call state = refl
-    outcome_same slot o state = refl
-
-    status_same : (slot : Slot) (status : Status) → moved_if machine (limited answer) i slot none status ≡ with_none (moved_if machine silent i slot tt status)
-    status_same slot Ready = let r = machine (state_of slot) in outcome_same slot r.outcome r.state
-    status_same slot status = refl
-
-    step_same : (slot : Slot) → moved machine (limited answer) i slot none ≡ with_none (moved machine silent i slot tt)
-    unfolding moved
-    step_same slot = status_same slot slot.status
-
-    more_same : (next : StepResult) (m : Moved (Unit {0})) (rest : Slot → Limited S → Moved (Limited S)) (later : Slot → Unit {0} → Moved (Unit {0}))
-        → ((slot : Slot) → rest slot none ≡ with_none (later slot tt)) → and_more next (with_none m) rest ≡ with_none (and_more next m later)
-    more_same Continue m rest later more = ap (after_replies m.replies) (more m.slot)
-    more_same next m rest later more = refl
-
-    turn_same : (k : ℕ) (slot : Slot) → turned machine (limited answer) i k slot none ≡ with_none (turned machine silent i k slot tt)
-    unfolding turned
-    turn_same zero slot = refl
-    turn_same (suc k) slot =
-        let t = moved machine silent i slot tt in
-        ap (λ (m : Moved (Limited S)). and_more m.next m (turned machine (limited answer) i k)) (step_same slot)
-        ∙ more_same t.next t (turned machine (limited answer) i k) (turned machine silent i k) (turn_same k)
 
   -- ---- a plan of one turn
 
@@ -50,7 +52,7 @@ module _ {S : Type 0} (machine : Machine) (answer : S → Call → Answer S) (s 
   run_with_none j = record { slots = j.slots; host = none; replies = j.replies; turns = j.turns; is_ended = j.is_ended }
 
   module _ (t : Turn) (slots : List Slot) where
-    plan_same : (next : StepResult) (m : Moved (Unit {0})) → and_plan next t.sandbox (with_none m) slots (joined machine (limited answer) []) ≡ run_with_none (and_plan next t.sandbox m slots (joined machine silent []))
+    plan_same : (next : StepResult) (m : Moved (Unit {0})) → and_plan next t.sandbox (with_host none m) slots (joined machine (limited answer) []) ≡ run_with_none (and_plan next t.sandbox m slots (joined machine silent []))
     unfolding joined
     plan_same RunEnds m = refl
     plan_same next m = refl
@@ -60,7 +62,7 @@ module _ {S : Type 0} (machine : Machine) (answer : S → Call → Answer S) (s 
     found_same None = refl
     found_same (Some slot) =
         let q = turned machine silent t.sandbox t.steps slot tt in
-        ap (λ (m : Moved (Limited S)). and_plan m.next t.sandbox m slots (joined machine (limited answer) [])) (turn_same t.sandbox t.steps slot) ∙ plan_same q.next q
+        ap (λ (m : Moved (Limited S)). and_plan m.next t.sandbox m slots (joined machine (limited answer) [])) (turn_same machine (limited answer) none (λ call. refl) t.sandbox t.steps slot) ∙ plan_same q.next q
 
     run_same : joint machine answer (t ∷ []) slots s (Some 0) ≡ run_with_none (to_call machine (t ∷ []) slots)
     unfolding joined

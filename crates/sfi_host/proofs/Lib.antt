@@ -31,4 +31,8 @@ pub mod Turns
 pub mod UpToStop
 pub mod Waited
 pub mod Worlds
+pub mod Acted
+pub mod Sessions
+pub mod OwnSessions
+pub mod PlanActions
 pub mod Facts

@@ -48,7 +48,7 @@ module _ (w : Sandboxes) (i : ℕ) (world : IsSafeWorld w) where
   was : (j : ℕ) (s : Seat) → slice_get (remove w.seats i) j ≡ Some s → slice_get w.seats (old_number i j) ≡ Some s
   was j s e = sym (get_removed w.seats i j) ∙ e
 
-  rest_owned : AreOwned rest
+  pub rest_owned : AreOwned rest
   rest_owned a there = elim (is_own_of (remove w.seats i) a) as (λ t. is_own_of (remove w.seats i) a ≡ t → IsOwned rest a) [
     | true ↦ λ t. whose (remove w.seats i) a t
     | false ↦ λ t.
@@ -57,7 +57,7 @@ module _ (w : Sandboxes) (i : ℕ) (world : IsSafeWorld w) where
         absurd (cc)
   ] refl
 
-  rest_enterable : AreEnterable w → AreEnterable rest
+  pub rest_enterable : AreEnterable w → AreEnterable rest
   rest_enterable old j s e =
       let x = old (old_number i j) s (was j s e) in
       record {
@@ -77,7 +77,7 @@ module _ (w : Sandboxes) (i : ℕ) (world : IsSafeWorld w) where
         (decoded.each (old_number i j) p s (sym (get_removed programs i j) ∙ e) (was j s f));
   }
 
-  rest_same : RestIsSame w i rest
+  pub rest_same : RestIsSame w i rest
   rest_same j other =
       slice_get-map (slot_of left) (remove w.seats i) (number_without i j)
       ∙ ap (option_map (slot_of left)) (get_rest w.seats i j other)
@@ -98,7 +98,7 @@ module _ (w : Sandboxes) (i : ℕ) (world : IsSafeWorld w) where
         keep.changed w.bytes s seat left memory (keeps j s other e seat.part seat.bounds)
         (λ a h. ap is_some (stays j s other e a (inr h)) ∙ seat.has_data a h)
 
-    rest_safe : IsSafeWorld rest
+    pub rest_safe : IsSafeWorld rest
     rest_safe = record {
       each = λ j s e. seat_stays (old_number i j) s (old_other i j) (was j s e);
       others = λ j k s t ne e f. world.others (old_number i j) (old_number i k) s t
@@ -118,7 +118,7 @@ pub record IsRemoved (w : Sandboxes) (i : ℕ) (programs : List Program) (o : Sa
   pub rest : RestIsSame w i o
   pub changes : AreChangesToRest w i o
 
-is_there : (seats : List Seat) (i : ℕ) → i < length seats → (s : Seat) × (slice_get seats i ≡ Some s)
+pub is_there : (seats : List Seat) (i : ℕ) → i < length seats → (s : Seat) × (slice_get seats i ≡ Some s)
 is_there [] i below = absurd (omega (arith, below))
 is_there (s ∷ seats) zero below = (s, refl)
 is_there (s ∷ seats) (suc i) below = is_there seats i (omega (arith, below))

@@ -50,7 +50,7 @@ module _ (machine : Machine) where
   then_alone m t rest n rest' e first later more h =
       ap (λ (x : Moved (List Reply)). and_more x.next x rest') (first more h) ∙ ap (λ (x : StepResult). and_more x (alone m more) rest') e
 
-  turn_alone : {S : Type 0} (host : Host S) (i k : ℕ) (slot : Slot) (s : S) → Follows (turned machine replay 0 k slot) (turned machine host i k slot s)
+  pub turn_alone : {S : Type 0} (host : Host S) (i k : ℕ) (slot : Slot) (s : S) → Follows (turned machine replay 0 k slot) (turned machine host i k slot s)
   unfolding turned
   turn_alone host i zero slot s more h = refl
   turn_alone host i (suc k) slot s more h =

@@ -36,7 +36,7 @@ held_or_out (x ∷ seats) a = elim (is_in x.bounds.data a) as (λ b. is_in x.bou
     out b none (suc i) s e h = none i s e h
 
 -- where another world's sandboxes lie as those of this do, one of this lies where one of that does
-out_too : (w n : Sandboxes) (a : ℕ) → bounds_in n ≡ bounds_in w → IsOut w.seats a → IsOut n.seats a
+pub out_too : (w n : Sandboxes) (a : ℕ) → bounds_in n ≡ bounds_in w → IsOut w.seats a → IsOut n.seats a
 out_too w n a same out i t at h =
     let x = map_get (λ (s : Seat). s.bounds) w.seats i t.bounds (ap (λ (l : List Bounds). slice_get l i) (sym same) ∙ get_map (λ (s : Seat). s.bounds) n.seats i t at) in
     out i x.0 x.1 (subst (λ (b : Bounds). Holds b.data a) x.2 h)

@@ -14,3 +14,4 @@ pub mod WorldSteps
 pub mod Owning
 pub mod private
 pub mod Waiting
+pub mod Sessions

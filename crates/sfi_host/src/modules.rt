@@ -10,6 +10,7 @@ ghost use Rattle.sfi_host.specs.Adding.{MeetsSome};
 ghost use Rattle.sfi_host.specs.Loading.{first_seat, with_parts, AreEntered, HaveFirstData};
 ghost use Rattle.sfi_host.specs.Modules.{part_of, parts_of, program_in, HavePrograms};
 ghost use Rattle.sfi_host.specs.Programs.{IsProgramOf, programs_of};
+ghost use Rattle.sfi_host.specs.Sessions.{IsSoundWorld};
 ghost use Rattle.sfi_host.specs.Worlds.{seats_of, world_of};
 ghost use Rattle.sfi_host.specs.Worlds.{IsSafeWorld};
 ghost use Rattle.sfi_host.specs.private.Programs.{AreProgramsOf};
@@ -137,6 +138,7 @@ impl Module {
         ensures entered { IfOk result (λ w. AreEntered self.now w.bytes) }
         ensures first_data { IfOk result (λ w. HaveFirstData self.now w.bytes) }
         ensures safe { IfOk result (λ w. IsSafeWorld w) }
+        ensures sound { IfOk result (λ w. IsSoundWorld w) }
     {
         let mut memory = memory;
         let sandboxes = self.load(alloc, &mut memory)?;

@@ -18,6 +18,7 @@ ghost use Rattle.sfi_host.specs.Worlds.{world_of};
 ghost use Rattle.sfi_host.specs.Slots.{Slot};
 ghost use Rattle.sfi_host.specs.Changing.{with_stop};
 ghost use Rattle.sfi_host.specs.Loading.{first_seat, with_parts, AreEntered, HaveFirstData};
+ghost use Rattle.sfi_host.specs.Sessions.{IsAction, IsSoundWorld, On, Run, GiveReply, Write, Stop, Enter};
 ghost use Rattle.sfi_host.specs.Waiting.{AsksAtGate, IsAtCall, Waits, to_call, later_reply, later_answer};
 ghost use Rattle.sfi_host.specs.Worlds.{slots_of, status_at, steps_at, data_byte_of, HaveStoppedThemselves, IsSafeWorld, StaysOutsideData};
 
@@ -98,6 +99,9 @@ impl<M: Memory> World<M> {
         // Each sandbox is safe, and its data lie outside each other one:
         // the premise of the laws on steps and neighbours.
         ensures safe { IfOk result (λ w. IsSafeWorld w) }
+
+        // The premise of the laws on sessions.
+        ensures sound { IfOk result (λ w. IsSoundWorld w) }
     {
         let module = Module::from_accepted(alloc, accepted)?;
         module.instance(alloc, memory)
@@ -192,6 +196,10 @@ impl<M: Memory> World<M> {
         ensures there { IsSome result ↔ IsAtCall (slots_of self.new) turn.sandbox }
         ensures gate { IfSome result (λ r. AsksAtGate (slots_of self.new) turn.sandbox r) }
 
+        // It is this action of a session.
+        ensures action { (machine : Machine) → IsMachine machine
+            → IsAction machine self.old (On turn.sandbox (Run turn.steps [])) self.new }
+
         // As after a plan.
         ensures safe { IsSafeWorld self.new }
         ensures stops { HaveStoppedThemselves self.new }
@@ -251,6 +259,9 @@ impl<M: Memory> World<M> {
             → slots_of self.new ≡ slice_set (slots_of self.old) i
             (replied slot (later_reply reply (call_of i slot)))) }
         ensures refused { OnFalse result (self.new ≡ self.old) }
+
+        ensures action { (machine : Machine) → IsMachine machine
+            → IsAction machine self.old (On i (GiveReply reply)) self.new }
 
         // It is one world step in the one memory, as in `run_plan`: the theorem's reply to the
         // ecall, or, if the sandbox is to stop, its last step.
@@ -371,6 +382,8 @@ impl<M: Memory> World<M> {
             ↔ IsSome (data_bytes_of (slice_get (slots_of self.old) i) at (length bytes.now)) }
         ensures done { OnTrue result (self.new ≡ with_world_bytes self.old at bytes.now) }
         ensures refused { OnFalse result (self.new ≡ self.old) }
+        ensures action { (machine : Machine) → IsMachine machine
+            → IsAction machine self.old (On i (Write at bytes.now)) self.new }
 
         // No other sandbox has changed, nor a byte that lies in no sandbox's data.
         ensures others { OthersAreSame self.old i self.new }
@@ -405,6 +418,8 @@ impl<M: Memory> World<M> {
         ensures may { IsTrue result ↔ MayEnterAt (slots_of self.old) i pc }
         ensures done { OnTrue result (self.new ≡ with_entry self.old i pc arguments.now) }
         ensures refused { OnFalse result (self.new ≡ self.old) }
+        ensures action { (machine : Machine) → IsMachine machine
+            → IsAction machine self.old (On i (Enter pc arguments.now)) self.new }
 
         // No other sandbox has changed.
         ensures others { OthersAreSame self.old i self.new }
@@ -435,6 +450,8 @@ impl<M: Memory> World<M> {
         // Of all that the world is, this sandbox's status alone changes.
         ensures done { OnTrue result (self.new ≡ with_stop self.old i) }
         ensures refused { OnFalse result (self.new ≡ self.old) }
+        ensures action { (machine : Machine) → IsMachine machine
+            → IsAction machine self.old (On i Stop) self.new }
         ensures others { OthersAreSame self.old i self.new }
 
         // The world is safe as before, and what is said of plans holds of those that follow.

@@ -3,7 +3,9 @@ ghost use Rattle.std.specs.Prelude.{◌≡◌, ◌+◌, ◌^◌, ◌<◌, ◌↔
 ghost use Rattle.std.specs.FinMap.{empty};
 ghost use Rattle.sfi_host.specs.Adding.{MeetsSome, AreTooMany, with_image, EarlierAreSame};
 ghost use Rattle.sfi_host.specs.Changing.{AreChanges};
+ghost use Rattle.sfi_host.specs.Joint.{Machine, IsMachine};
 ghost use Rattle.sfi_host.specs.Loading.{AreEntered, HaveFirstData};
+ghost use Rattle.sfi_host.specs.Sessions.{IsAction, Add};
 ghost use Rattle.sfi_host.specs.Worlds.{IsSafeWorld};
 
 use crate::copying::copy_all_sandboxes;
@@ -80,6 +82,8 @@ impl<M: Memory> World<M> {
         ensures first { IfOk result (λ first. first ≡ length self.old.seats) }
         ensures added { OnOk result (self.new ≡ with_image self.old module.now) }
         ensures refused { OnErr result (self.new ≡ self.old) }
+        ensures action { OnOk result ((machine : Machine) → IsMachine machine
+            → IsAction machine self.old (Add module.now) self.new) }
 
         // What that comes to for those that were added, as `load` says of a first world.
         ensures entered { OnOk result (AreEntered module.now self.new.bytes) }

@@ -3,7 +3,9 @@ ghost use Rattle.std.specs.Prelude.{◌≡◌, ◌↔◌, IsTrue};
 ghost use Rattle.std.specs.Bool.{OnTrue, OnFalse};
 ghost use Rattle.sfi_host.specs.Changing.{MayCallBackAt, with_callback};
 ghost use Rattle.sfi_host.specs.Changing.{OthersAreSame};
+ghost use Rattle.sfi_host.specs.Joint.{Machine, IsMachine};
 ghost use Rattle.sfi_host.specs.Loading.{IsAtEntry};
+ghost use Rattle.sfi_host.specs.Sessions.{IsAction, On, CallBack};
 ghost use Rattle.sfi_host.specs.Worlds.{slots_of, IsSafeWorld};
 
 use crate::world::World;
@@ -22,6 +24,8 @@ impl<M: Memory> World<M> {
         ensures may { IsTrue result ↔ MayCallBackAt (slots_of self.old) i pc arguments.now }
         ensures done { OnTrue result (self.new ≡ with_callback self.old i pc arguments.now) }
         ensures refused { OnFalse result (self.new ≡ self.old) }
+        ensures action { (machine : Machine) → IsMachine machine
+            → IsAction machine self.old (On i (CallBack pc arguments.now)) self.new }
 
         // No other sandbox has changed.
         ensures others { OthersAreSame self.old i self.new }

@@ -1,6 +1,8 @@
 //! What a debugger asks of a world.
-ghost use Rattle.std.specs.Prelude.{◌≡◌, ◌↔◌, ℕ, IfSome, IsSome};
+ghost use Rattle.std.specs.Prelude.{◌≡◌, ◌↔◌, ℕ, [], IfSome, IsSome};
+ghost use Rattle.sfi_host.specs.Joint.{Machine, IsMachine};
 ghost use Rattle.sfi_host.specs.private.Sandboxes.{bounds_in};
+ghost use Rattle.sfi_host.specs.Sessions.{IsAction, On, Run};
 ghost use Rattle.sfi_host.specs.Waiting.{IsUpToStop, HasRunUntil};
 ghost use Rattle.sfi_host.specs.Waiting.{AsksAtGate, IsAtCall, Waits};
 ghost use Rattle.sfi_host.specs.Worlds.{slots_of, HaveStoppedThemselves, IsSafeWorld, StaysOutsideData};
@@ -18,6 +20,10 @@ impl<M: Memory> World<M> {
     pub fn run_until(&mut self, turn: Turn, stops: &[u32]) -> Option<Request>
         // It is a turn that ends after the first step that leads its sandbox to a stop.
         ensures ran { HasRunUntil stops.now turn self.old self.new }
+
+        // It is this action of a session, with the steps that it did.
+        ensures action { (count : ℕ) × ((machine : Machine) → IsMachine machine
+            → IsAction machine self.old (On turn.sandbox (Run count [])) self.new) }
 
         // The answer is as that of `waiting`.
         ensures waits { IfSome result (λ r. Waits (slots_of self.new) turn.sandbox r) }

@@ -2,7 +2,9 @@
 ghost use Rattle.std.specs.Prelude.{◌≡◌, ◌↔◌, ◌<◌, Err, None, OnErr, OnOk, length, slice_get};
 ghost use Rattle.std.specs.FinMap.{empty};
 ghost use Rattle.sfi_host.specs.Adding.{without, RestIsSame, AreChangesToRest};
+ghost use Rattle.sfi_host.specs.Joint.{Machine, IsMachine};
 ghost use Rattle.sfi_host.specs.Owning.{AreOwned};
+ghost use Rattle.sfi_host.specs.Sessions.{IsAction, Remove};
 ghost use Rattle.sfi_host.specs.Worlds.{slots_of, IsSafeWorld};
 
 use crate::copying::copy_other_sandboxes;
@@ -32,6 +34,9 @@ impl<M: Memory> World<M> {
             ↔ (slice_get (slots_of self.old) i ≡ None) }
         ensures removed { OnOk result (self.new ≡ without self.old i) }
         ensures refused { OnErr result (self.new ≡ self.old) }
+
+        ensures action { OnOk result ((machine : Machine) → IsMachine machine
+            → IsAction machine self.old (Remove i) self.new) }
 
         // Nothing else is left: each byte is one of another sandbox's code or data.
         ensures owned { AreOwned self.new }

@@ -3,7 +3,9 @@ ghost use Rattle.std.specs.Prelude.{◌≡◌, ◌↔◌, IsSome, IsTrue, slice_
 ghost use Rattle.std.specs.Bool.{OnTrue, OnFalse};
 ghost use Rattle.sfi_host.specs.Changing.{OthersAreSame};
 ghost use Rattle.sfi_host.specs.Loading.{IsAtEntry};
+ghost use Rattle.sfi_host.specs.Joint.{Machine, IsMachine};
 ghost use Rattle.sfi_host.specs.Loading.{with_reset};
+ghost use Rattle.sfi_host.specs.Sessions.{IsAction, On, Reset};
 ghost use Rattle.sfi_host.specs.Worlds.{slots_of, IsSafeWorld, StaysOutsideData};
 
 use crate::world::World;
@@ -20,6 +22,8 @@ impl<M: Memory> World<M> {
         ensures may { IsTrue result ↔ IsSome (slice_get (slots_of self.old) i) }
         ensures done { OnTrue result (self.new ≡ with_reset self.old i) }
         ensures refused { OnFalse result (self.new ≡ self.old) }
+        ensures action { (machine : Machine) → IsMachine machine
+            → IsAction machine self.old (On i Reset) self.new }
 
         // No other sandbox has changed, nor a byte that lies in no sandbox's data.
         ensures others { OthersAreSame self.old i self.new }

@@ -3,7 +3,9 @@ ghost use Rattle.std.specs.Prelude.{◌≡◌, ◌↔◌, IsTrue};
 ghost use Rattle.std.specs.Bool.{OnTrue, OnFalse};
 ghost use Rattle.rv_step.specs.State.{IsHart};
 ghost use Rattle.sfi_host.specs.Changing.{OthersAreSame};
+ghost use Rattle.sfi_host.specs.Joint.{Machine, IsMachine};
 ghost use Rattle.sfi_host.specs.Loading.{IsAtEntry};
+ghost use Rattle.sfi_host.specs.Sessions.{IsAction, On, SetRegisters};
 ghost use Rattle.sfi_host.specs.Changing.{hart_of, with_hart, MaySetAt};
 ghost use Rattle.sfi_host.specs.Worlds.{slots_of, IsSafeWorld};
 
@@ -22,6 +24,8 @@ impl<M: Memory> World<M> {
         ensures may { IsTrue result ↔ MaySetAt (slots_of self.old) i (hart_of pc registers.now) }
         ensures done { OnTrue result (self.new ≡ with_hart self.old i (hart_of pc registers.now)) }
         ensures refused { OnFalse result (self.new ≡ self.old) }
+        ensures action { (machine : Machine) → IsMachine machine
+            → IsAction machine self.old (On i (SetRegisters pc registers.now)) self.new }
 
         // No other sandbox has changed.
         ensures others { OthersAreSame self.old i self.new }

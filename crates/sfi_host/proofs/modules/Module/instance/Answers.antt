@@ -1,6 +1,7 @@
 use Rattle.sfi_host.proofs.Prelude.{◌≡◌, List, map, sym, ap, ◌∙◌, subst, empty, Bytes, IsMemory, Part, first_seat, with_parts, AreEntered, HaveFirstData, AreProgramsOf, Program, Seat, Sandboxes, seats_of}
 use Rattle.sfi_safety.specs.Clean.{MayRun}
 use Rattle.sfi_host.specs.Programs.{programs_of}
+use Rattle.sfi_host.specs.Sessions.{IsSoundWorld}
 use Rattle.sfi_host.proofs.Entries.{IsFirst, is_first}
 use Rattle.sfi_host.proofs.modules.Module.instance.Goals as goal
 
@@ -27,3 +28,8 @@ returns-clause-first_data g c =
     subst (λ (w : Sandboxes). HaveFirstData c.args.self.now w.bytes) (sym c.of_parts.ensures)
     (first c.args.self.now _ (g.M.Memory.bytes c.load.new.memory) (seats_of c.in_ok-sandboxes.sandboxes.items) (programs_of c.in_ok-programs.programs.items)
     c.load.ensures.runs c.requires (g.met.M.Memory.in_range c.load.new.memory) c.in_ok-sandboxes.ensures.bytes c.in_ok-sandboxes.ensures.seats c.in_ok-programs.ensures).first_data
+
+pub returns-clause-sound : goal.returns-clause-sound
+returns-clause-sound g c =
+    let kept = of_parts-requires g c.before in
+    subst (λ (w : Sandboxes). IsSoundWorld w) (sym c.of_parts.ensures) (record { safe = kept.safe; enterable = kept.enterable; owned = kept.owned })

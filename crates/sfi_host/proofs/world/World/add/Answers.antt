@@ -1,6 +1,7 @@
 use Rattle.sfi_host.proofs.Prelude.{List, length, length-map, refl, ap, sym, subst, arith, Sandbox, seat_of, world_of, Sandboxes, IsSafeWorld}
 use Rattle.sfi_host.specs.Adding.{MeetsSome}
 use Rattle.sfi_host.proofs.Meetings.{not_meeting}
+use Rattle.sfi_host.proofs.Acted.{in_range}
 use Rattle.sfi_host.proofs.world.World.add.Goals as goal
 
 pub meets-requires : goal.meets-requires
@@ -44,3 +45,9 @@ returns-in-None-clause-full g c =
     let count = length-map items seat_of in
     let many = c.in-None.ensures.none.0 refl in
     (λ e. (clear, omega (arith, many, c.len.ensures, seats, count, c.len-2.ensures.count)), λ x. refl)
+
+pub returns-in-Ok-clause-action : goal.returns-in-Ok-clause-action
+returns-in-Ok-clause-action g c machine is =
+    let clear : MeetsSome c.args.self.now c.args.module.now → ⊥ = not_meeting c.args.self.now (g.M.Memory.bytes c.self.inside.memory) c.self.inside.sandboxes.items c.deref.result.now c.args.module.now
+    (c.if-meets.ensures (g.M.Memory.bytes c.self.inside.memory)) c.deref.ensures.value c.self.view_is in
+    record { range = in_range c.extend.new.self c.extend.ensures.safe; makes = (c.len-2.ensures.runs, clear, c.in-Ok.ensures.added) }

@@ -4,6 +4,8 @@ use Rattle.sfi_host.proofs.WorldBytes.{found_there, seat_at}
 use Rattle.sfi_host.proofs.Changing.{others_same}
 use Rattle.sfi_safe_runs.proofs.Entries.{even_unit}
 use Rattle.sfi_host.proofs.Entries.{sizes, HasEntered, has_entered, no_entry, entry_where}
+use Rattle.sfi_host.specs.Sessions.{Enter}
+use Rattle.sfi_host.proofs.Acted.{past_acts, never_acts, done_acts}
 use Rattle.sfi_host.proofs.world.World.enter.Given as given
 use Rattle.sfi_host.proofs.world.World.enter.Goals as goal
 
@@ -56,11 +58,21 @@ invariant_of-self g c = (after g c).after.kept
 pub returns : goal.returns
 returns g c =
     let a = after g c in
+    let allowed = entry_where c.args.self.now (g.M.Memory.bytes c.self.inside.memory) c.self.inside.sandboxes.items c.self.view_is c.args.i c.args.pc c.index_mut.result.now true (at g c) (λ e. may g c, λ h. refl) in
     record {
-      may = entry_where c.args.self.now (g.M.Memory.bytes c.self.inside.memory) c.self.inside.sandboxes.items c.self.view_is c.args.i c.args.pc c.index_mut.result.now true (at g c) (λ e. may g c, λ h. refl);
+      may = allowed;
       done = a.world;
       refused = tt;
+      action = done_acts c.args.self.now _ c.args.i (Enter c.args.pc c.args.arguments.now) a.after.kept.0 (allowed.0 refl) (λ machine is. (c.told-arguments, a.world));
       others = others_same c.args.self.now c.args.i _ _ a.after.slots;
       entry = a.entry;
       safe = a.after.kept.0;
     }
+
+pub returns-then-place-len-clause-action : goal.returns-then-place-len-clause-action
+returns-then-place-len-clause-action g c =
+    past_acts c.args.self.now (g.M.Memory.bytes c.self.inside.memory) c.self.inside.sandboxes.items c.self.view_is c.args.i (Enter c.args.pc c.args.arguments.now) c.self.invariant.0 (omega (arith, c.len.ensures, c.if-place-len.true))
+
+pub returns-then-not-may_enter-clause-action : goal.returns-then-not-may_enter-clause-action
+returns-then-not-may_enter-clause-action g c =
+    never_acts c.args.self.now (g.M.Memory.bytes c.self.inside.memory) c.self.inside.sandboxes.items c.self.view_is c.args.i (Enter c.args.pc c.args.arguments.now) c.self.invariant.0 (returns-then-not-may_enter-clause-may g c)

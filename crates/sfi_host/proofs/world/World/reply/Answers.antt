@@ -8,6 +8,8 @@ use Rattle.sfi_host.proofs.Joined.{joined_are}
 use Rattle.sfi_host.proofs.LaterReplies.{reply_is_answer}
 use Rattle.sfi_host.proofs.Stops.{have_stopped}
 use Rattle.sfi_host.proofs.Waited.{waits_at, is_told}
+use Rattle.sfi_host.specs.Sessions.{GiveReply}
+use Rattle.sfi_host.proofs.Acted.{past_acts, never_acts, done_acts}
 use Rattle.sfi_host.proofs.world.World.reply.Given as given
 use Rattle.sfi_host.proofs.world.World.reply.Goals as goal
 
@@ -102,6 +104,7 @@ returns g c =
       done = done g c;
       replied = got g c;
       refused = tt;
+      action = done_acts c.args.self.now _ i (GiveReply c.args.reply) a.kept.0 w.at (λ machine is slot there. record { slots_are = got g c slot there; outside = a.outside });
       runs = λ machine is.
           world_runs joined_are machine is later_answer (record { sandbox = i; steps = 1 } ∷ []) c.args.self.now _ c.args.reply (subst (λ (x : Sandboxes). IsSafeWorld x) c.self.view_is c.self.invariant.0)
           a.bounds a.outside None (done g c machine is).slots;
@@ -110,3 +113,11 @@ returns g c =
       stops = have_stopped _ a.kept.0;
       outside = a.outside;
     }
+
+pub returns-then-place-len-clause-action : goal.returns-then-place-len-clause-action
+returns-then-place-len-clause-action g c =
+    past_acts c.args.self.now (g.M.Memory.bytes c.self.inside.memory) c.self.inside.sandboxes.items c.self.view_is c.args.i (GiveReply c.args.reply) c.self.invariant.0 (omega (arith, c.len.ensures, c.if-place-len.true))
+
+pub returns-in_default-clause-action : goal.returns-in_default-clause-action
+returns-in_default-clause-action g c =
+    never_acts c.args.self.now (g.M.Memory.bytes c.self.inside.memory) c.self.inside.sandboxes.items c.self.view_is c.args.i (GiveReply c.args.reply) c.self.invariant.0 (returns-in_default-clause-may g c)

@@ -4,6 +4,8 @@ use Rattle.sfi_host.proofs.WorldBytes.{found_there, seat_at}
 use Rattle.sfi_host.proofs.Changing.{others_same, whole_at}
 use Rattle.sfi_host.proofs.Entries.{sizes}
 use Rattle.sfi_host.proofs.ResetSeats.{HasReset, has_reset, none_reset, some_reset, start_even, init_fits}
+use Rattle.sfi_host.specs.Sessions.{Reset}
+use Rattle.sfi_host.proofs.Acted.{past_acts, done_acts}
 use Rattle.sfi_host.proofs.world.World.reset.Given as given
 use Rattle.sfi_host.proofs.world.World.reset.Goals as goal
 
@@ -49,12 +51,18 @@ invariant_of-self g c = (after g c).after.kept
 pub returns : goal.returns
 returns g c =
     let a = after g c in
+    let may = some_reset c.args.self.now (g.M.Memory.bytes c.self.inside.memory) c.self.inside.sandboxes.items c.self.view_is c.args.i c.index_mut.result.now (at g c) in
     record {
-      may = some_reset c.args.self.now (g.M.Memory.bytes c.self.inside.memory) c.self.inside.sandboxes.items c.self.view_is c.args.i c.index_mut.result.now (at g c);
+      may = may;
       done = a.world;
       refused = tt;
+      action = done_acts c.args.self.now _ c.args.i Reset a.after.kept.0 (may.0 refl) (λ machine is. a.world);
       others = others_same c.args.self.now c.args.i _ _ a.after.slots;
       outside = a.after.outside;
       entry = a.entry;
       safe = a.after.kept.0;
     }
+
+pub returns-then-place-len-clause-action : goal.returns-then-place-len-clause-action
+returns-then-place-len-clause-action g c =
+    past_acts c.args.self.now (g.M.Memory.bytes c.self.inside.memory) c.self.inside.sandboxes.items c.self.view_is c.args.i (Reset) c.self.invariant.0 (omega (arith, c.len.ensures, c.if-place-len.true))

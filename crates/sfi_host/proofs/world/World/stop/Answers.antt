@@ -3,6 +3,8 @@ use Rattle.sfi_host.specs.Programs.{programs_of}
 use Rattle.sfi_host.proofs.WorldBytes.{found_there}
 use Rattle.sfi_host.proofs.Changing.{others_same}
 use Rattle.sfi_host.proofs.FromOutside.{HasStopped, has_stopped, none_ready, ready_where}
+use Rattle.sfi_host.specs.Sessions.{Stop}
+use Rattle.sfi_host.proofs.Acted.{past_acts, never_acts, done_acts}
 use Rattle.sfi_host.proofs.world.World.stop.Given as given
 use Rattle.sfi_host.proofs.world.World.stop.Goals as goal
 
@@ -44,10 +46,20 @@ invariant_of-self g c = (after g c).after.kept
 pub returns : goal.returns
 returns g c =
     let a = after g c in
+    let may = ready_where c.args.self.now (g.M.Memory.bytes c.self.inside.memory) c.self.inside.sandboxes.items c.self.view_is c.args.i c.index_mut.result.now true (at g c) (λ e. ready g c, λ h. refl) in
     record {
-      may = ready_where c.args.self.now (g.M.Memory.bytes c.self.inside.memory) c.self.inside.sandboxes.items c.self.view_is c.args.i c.index_mut.result.now true (at g c) (λ e. ready g c, λ h. refl);
+      may = may;
       done = a.world;
       refused = tt;
+      action = done_acts c.args.self.now _ c.args.i Stop a.after.kept.0 (may.0 refl) (λ machine is. a.world);
       others = others_same c.args.self.now c.args.i _ _ a.after.slots;
       safe = a.after.kept.0;
     }
+
+pub returns-then-place-len-clause-action : goal.returns-then-place-len-clause-action
+returns-then-place-len-clause-action g c =
+    past_acts c.args.self.now (g.M.Memory.bytes c.self.inside.memory) c.self.inside.sandboxes.items c.self.view_is c.args.i (Stop) c.self.invariant.0 (omega (arith, c.len.ensures, c.if-place-len.true))
+
+pub returns-then-not-is_ready-clause-action : goal.returns-then-not-is_ready-clause-action
+returns-then-not-is_ready-clause-action g c =
+    never_acts c.args.self.now (g.M.Memory.bytes c.self.inside.memory) c.self.inside.sandboxes.items c.self.view_is c.args.i (Stop) c.self.invariant.0 (returns-then-not-is_ready-clause-may g c)

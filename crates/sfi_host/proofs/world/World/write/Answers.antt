@@ -3,6 +3,9 @@ use Rattle.sfi_host.specs.Programs.{programs_of}
 use Rattle.sfi_host.specs.Changing.{AreChanges}
 use Rattle.sfi_host.proofs.WorldBytes.{found_there, data_bytes_is}
 use Rattle.sfi_host.proofs.Changing.{whole_at, data_written, others_same, AfterTurn}
+use Rattle.sfi_host.specs.Sessions.{Write}
+use Rattle.sfi_host.specs.Changing.{with_world_bytes}
+use Rattle.sfi_host.proofs.Acted.{past_acts, never_acts, done_acts}
 use Rattle.sfi_host.proofs.world.World.write.Given as given
 use Rattle.sfi_host.proofs.world.World.write.Goals as goal
 use Rattle.sfi_host.proofs.world.World.write.Goals.{After-write}
@@ -46,14 +49,25 @@ returns g c =
     let m = g.M.Memory.bytes c.self.inside.memory in
     let items = c.self.inside.sandboxes.items in
     let a = after g c in
+    let there = subst (λ (o : Option (List ℕ)). IsTrue true ↔ IsSome o)
+    (data_bytes_is c.args.self.now m items c.self.view_is c.args.i c.index.result.now c.args.at (length c.args.bytes.now) (here g c))
+    (c.if-not-covers.ensures.there m (whole_at m items c.args.i c.index.result.now c.self.invariant.0 (here g c))) in
+    let done : world_of (g.M.Memory.bytes c.write.new.memory) items ≡ with_world_bytes c.args.self.now c.args.at c.args.bytes.now = search rules in
     record {
-      there = subst (λ (o : Option (List ℕ)). IsTrue true ↔ IsSome o)
-          (data_bytes_is c.args.self.now m items c.self.view_is c.args.i c.index.result.now c.args.at (length c.args.bytes.now) (here g c))
-          (c.if-not-covers.ensures.there m (whole_at m items c.args.i c.index.result.now c.self.invariant.0 (here g c)));
-      done = search rules;
+      there = there;
+      done = done;
       refused = tt;
+      action = done_acts c.args.self.now _ c.args.i (Write c.args.at c.args.bytes.now) a.0.kept.0 (there.0 refl) (λ machine is. done);
       others = others_same c.args.self.now c.args.i _ _ a.0.slots;
       outside = a.0.outside;
       changes = a.1;
       safe = a.0.kept.0;
     }
+
+pub returns-then-place-len-clause-action : goal.returns-then-place-len-clause-action
+returns-then-place-len-clause-action g c =
+    past_acts c.args.self.now (g.M.Memory.bytes c.self.inside.memory) c.self.inside.sandboxes.items c.self.view_is c.args.i (Write c.args.at c.args.bytes.now) c.self.invariant.0 (omega (arith, c.len.ensures, c.if-place-len.true))
+
+pub returns-then-not-covers-clause-action : goal.returns-then-not-covers-clause-action
+returns-then-not-covers-clause-action g c =
+    never_acts c.args.self.now (g.M.Memory.bytes c.self.inside.memory) c.self.inside.sandboxes.items c.self.view_is c.args.i (Write c.args.at c.args.bytes.now) c.self.invariant.0 (returns-then-not-covers-clause-there g c)
