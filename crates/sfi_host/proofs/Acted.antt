@@ -1,5 +1,5 @@
 -- What a call of a world answers is an action of a session.
-use Rattle.sfi_host.proofs.Prelude.{◌≡◌, ◌↔◌, inl, inr, ◌∙◌, ℕ, Bool, false, true, List, [], ◌∷◌, set, Option, Some, None, IsTrue, OnTrue, OnFalse, slice_get, slice_get_past, option_map, is_some, length, ◌≤◌, refl, sym, ap, subst, Bytes, Sandbox, world_of, status_at, Ready, Slot, Sandboxes, slots_of, StaysOutsideData, IsSafeWorld, Moved, Machine, IsMachine, Reply, replay, turned, joined, Turn}
+use Rattle.sfi_host.proofs.Prelude.{◌≡◌, ◌↔◌, inl, inr, ◌∙◌, ℕ, false, true, List, [], ◌∷◌, set, Option, Some, None, IsTrue, slice_get, slice_get_past, option_map, is_some, length, ◌≤◌, refl, sym, ap, subst, Bytes, Sandbox, world_of, status_at, Ready, Slot, Sandboxes, slots_of, StaysOutsideData, IsSafeWorld, Moved, Machine, IsMachine, Reply, replay, joined, Turn}
 use Rattle.sfi_host.specs.Sessions.{SandboxAction, Run, GiveReply, Write, Stop, Enter, SetRegisters, CallBack, Reset, On, IsAllowed, IsDone, Makes, AreInRange, IsAction, AnswersAreActions}
 use Rattle.sfi_host.specs.Changing.{data_bytes_of}
 use Rattle.sfi_host.specs.Waiting.{silent, to_call, turn_of}

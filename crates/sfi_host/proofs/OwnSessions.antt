@@ -1,8 +1,8 @@
 -- In each session a sandbox is what its own actions make of it alone.
 use Rattle.rv_step.specs.declared.outcome.Outcome.TheVariants as outcome
-use Rattle.sfi_host.proofs.Prelude.{◌≡◌, ◌≢◌, ◌⊎◌, inl, inr, ⊎_elim, ◌==◌, ℕ, zero, suc, ◌+◌, ◌-◌, ◌<◌, ◌≤◌, arith, Bool, false, true, cond, eqb-true, eqb-false, List, [], ◌∷◌, map, set, length, Option, Some, None, IsSome, is_some, slice_get, slice_get_within, option_map, refl, sym, ap, ◌∙◌, subst, same_Some, map-set, cases_eq, Bytes, byte_at, bytes_at, with_bytes, insert, range_with_len, Holds, State, Outcome, IsState, state_in, Part, InCode, Status, Ready, Reply, replay, Machine, IsMachine, Moved, moved, moved_if, slot_after_step, after_replies, StepResult, Continue, and_more, turned, joined, call_of, replied, bounds_in, bytes_in, Bounds, Slot, is_own, own, state_of, Seat, Sandboxes, slot_of, slots_of, StaysOutsideData, entered_seat, with_entry_of}
-use Rattle.sfi_host.specs.Adding.{number_without, with_image, without_of}
-use Rattle.sfi_host.specs.Changing.{data_bytes_of, stopped_seat, set_seat, called_back_hart, hart_of, with_stop_of, with_hart_of, with_callback_of, with_world_bytes}
+use Rattle.sfi_host.proofs.Prelude.{◌≡◌, ◌≢◌, inl, inr, ⊎_elim, ◌==◌, ℕ, zero, suc, ◌+◌, ◌-◌, ◌<◌, ◌≤◌, arith, false, true, cond, eqb-true, eqb-false, List, [], ◌∷◌, map, set, length, Option, Some, None, IsSome, is_some, slice_get, slice_get_within, option_map, refl, sym, ap, ◌∙◌, subst, same_Some, map-set, Bytes, byte_at, bytes_at, with_bytes, insert, range_with_len, Holds, State, Outcome, IsState, state_in, Part, Status, Ready, Reply, replay, Machine, IsMachine, Moved, moved, moved_if, slot_after_step, after_replies, StepResult, Continue, and_more, turned, call_of, replied, bytes_in, Bounds, Slot, is_own, own, state_of, Seat, Sandboxes, slot_of, slots_of, StaysOutsideData, entered_seat, with_entry_of}
+use Rattle.sfi_host.specs.Adding.{number_without, without_of}
+use Rattle.sfi_host.specs.Changing.{data_bytes_of, stopped_seat, set_seat, called_back_hart, hart_of, with_stop_of, with_hart_of, with_callback_of}
 use Rattle.sfi_host.specs.Loading.{reset_seat, with_reset_of, with_first_bytes, first_bytes}
 use Rattle.sfi_host.specs.Sessions.{SandboxAction, Run, GiveReply, Write, Stop, Enter, SetRegisters, CallBack, Reset, HostAction, On, Add, Remove, IsAllowed, HasSlots, IsDone, Makes, AreInRange, IsAction, AreActions, IsSoundWorld, SessionsAreOne, alone, own_actions, number_after, IsItsOwn, SandboxesAreTheirOwn, OthersMakeNoDifference}
 use Rattle.sfi_host.specs.Waiting.{IsAtCall, later_reply, turn_of}

@@ -1,7 +1,7 @@
 -- A plan is a session, one turn after another.
-use Rattle.sfi_host.proofs.Prelude.{◌≡◌, inl, Bool, false, true, cond, List, [], ◌∷◌, ◌++◌, append-nil, map, set, Option, Some, None, slice_get, refl, sym, ap, ◌∙◌, subst, ℕ, Reply, Host, replay, Machine, IsMachine, Given, given, Moved, turned, Joined, joined, and_plan, StepResult, RunEnds, Turn, bounds_in, Slot, Sandboxes, slots_of, StaysOutsideData}
+use Rattle.sfi_host.proofs.Prelude.{◌≡◌, inl, false, true, cond, List, [], ◌∷◌, ◌++◌, append-nil, map, set, Some, None, slice_get, refl, sym, ap, ◌∙◌, subst, ℕ, Reply, Host, replay, Machine, IsMachine, Given, given, Moved, turned, Joined, joined, and_plan, StepResult, RunEnds, Turn, bounds_in, Slot, Sandboxes, slots_of, StaysOutsideData}
 use Rattle.sfi_host.specs.Plans.{after_run}
-use Rattle.sfi_host.specs.Sessions.{Run, On, HasSlots, AreActions, IsSoundWorld, plan_actions, PlansAreSessions}
+use Rattle.sfi_host.specs.Sessions.{HasSlots, AreActions, IsSoundWorld, plan_actions, PlansAreSessions}
 use Rattle.sfi_host.proofs.Acted.{in_range}
 use Rattle.sfi_host.proofs.Changing.{still_enterable}
 use Rattle.sfi_host.proofs.Joined.{joined_are}

@@ -1,12 +1,12 @@
 -- Each action of a host, and so each session, keeps a world sound.
-use Rattle.sfi_host.proofs.Prelude.{◌≡◌, ◌⊎◌, arith, inl, inr, ⊎_elim, ℕ, ◌+◌, ◌<◌, Bool, false, true, cond, byte_at, retain_keys, Part, IsState, state_in, first_seat, List, [], ◌∷◌, map, set, length, Option, Some, None, IsSome, is_some, slice_get, slice_get-map, option_map, refl, sym, ap, ◌∙◌, subst, same_Some, Bytes, IsMemory, bytes_at, with_bytes, range_with_len, with_parts, Hart, IsHart, Way, Replied, Exit, Reply, Host, replay, Machine, IsMachine, Moved, moved, replied, next_after, StepResult, after_answer, and_more, turned, joined, call_of, Turn, bounds_in, bytes_in, IsWhole, Bounds, Slot, Seat, Sandboxes, slot_of, slots_of, IsSafeSeat, IsSafeWorld, StaysSafe, StaysOutside, StaysOutsideData, HaveStoppedThemselves, Ready, state_of, entered_seat, entered_hart, with_entry_of, MayEnter}
+use Rattle.sfi_host.proofs.Prelude.{◌≡◌, ◌⊎◌, arith, inl, inr, ⊎_elim, ℕ, ◌+◌, ◌<◌, Bool, false, true, cond, byte_at, retain_keys, Part, IsState, state_in, first_seat, List, [], ◌∷◌, map, set, length, Option, Some, None, IsSome, is_some, slice_get, slice_get-map, option_map, refl, sym, ap, ◌∙◌, subst, same_Some, Bytes, IsMemory, bytes_at, with_bytes, range_with_len, with_parts, Hart, IsHart, Way, Replied, Reply, Host, replay, Machine, IsMachine, Moved, replied, next_after, after_answer, and_more, turned, joined, call_of, Turn, bounds_in, bytes_in, IsWhole, Bounds, Slot, Seat, Sandboxes, slot_of, slots_of, IsSafeSeat, StaysSafe, StaysOutside, StaysOutsideData, Ready, state_of, entered_seat, entered_hart, with_entry_of, MayEnter}
 use Rattle.rv_step.specs.declared.outcome.Outcome.TheVariants.{Call as Calls}
 use Rattle.std.specs.List.{remove}
 use Rattle.sfi_host.specs.Adding.{is_own_of, with_image, without_of}
 use Rattle.sfi_host.specs.Changing.{stopped_seat, set_seat, called_back_hart, IsEntryHart, with_stop_of, with_hart_of, with_callback_of, with_world_bytes, data_bytes_of, hart_of}
 use Rattle.sfi_host.specs.Loading.{reset_seat, with_reset_of, with_first_bytes, first_bytes}
 use Rattle.sfi_host.specs.Sessions.{SandboxAction, Run, GiveReply, Write, Stop, Enter, SetRegisters, CallBack, Reset, HostAction, On, Add, Remove, IsAllowed, HasSlots, IsDone, AreInRange, IsAction, AreActions, IsSoundWorld, SessionsAreSafe}
-use Rattle.sfi_host.specs.Waiting.{IsAtCall, later_reply, turn_of}
+use Rattle.sfi_host.specs.Waiting.{later_reply, turn_of}
 use Rattle.sfi_host.proofs.Adding as added
 use Rattle.sfi_host.proofs.AfterCalls.{data_of_own, stays_outside, whole_in, whole_of}
 use Rattle.sfi_host.proofs.Changing.{still_enterable}

@@ -189,7 +189,7 @@ pub record IsItsOwn (machine : Machine) (own : List HostAction) (old : Slot) (n 
   pub is : AreActions machine (alone old) own (alone slot)
 
 -- Whatever a session does to others, each sandbox that isn't removed is what its own actions make
--- of it alone, the same of them refused.
+-- of it alone; the same of these are refused. Of one that is added it says so from there on.
 abbrev pub SandboxesAreTheirOwn : Type 0
 SandboxesAreTheirOwn =
     (machine : Machine) → IsMachine machine → (actions : List HostAction) (w n : Sandboxes)

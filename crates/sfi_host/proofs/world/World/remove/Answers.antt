@@ -1,4 +1,4 @@
-use Rattle.sfi_host.proofs.Prelude.{ap, ◌∙◌, length, length-map, arith, is_some, Sandboxes, seat_of}
+use Rattle.sfi_host.proofs.Prelude.{ap, length, length-map, arith, is_some, Sandboxes, seat_of}
 use Rattle.sfi_host.proofs.Acted.{in_range}
 use Rattle.sfi_host.proofs.Removing.{is_there}
 use Rattle.sfi_host.proofs.world.World.remove.Goals as goal

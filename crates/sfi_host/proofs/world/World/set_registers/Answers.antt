@@ -1,6 +1,6 @@
-use Rattle.sfi_host.proofs.Prelude.{◌≡◌, false, refl, ◌↔◌, IsTrue, Hart, Sandboxes, slots_of, subst}
+use Rattle.sfi_host.proofs.Prelude.{◌≡◌, false, refl, ◌↔◌, IsTrue, Hart, slots_of, subst}
 use Rattle.std.specs.Bool.{OnTrue}
-use Rattle.sfi_host.specs.Changing.{hart_of, MaySetAt, with_hart}
+use Rattle.sfi_host.specs.Changing.{MaySetAt, with_hart}
 use Rattle.sfi_host.proofs.FromOutside.{odd_set}
 use Rattle.sfi_host.specs.Sessions.{SetRegisters}
 use Rattle.sfi_host.proofs.Acted.{answers_are_actions}
