@@ -21,9 +21,11 @@ use Rattle.sfi_host.specs.Adding.{MeetsSome, with_image, without, number_without
 
 -- What a host does to one sandbox. `Run` is a turn of at most so many steps, with the replies that
 -- are given at once, one at each call; the call after these ends it. So it is what
--- `World::run_to_call` does, with no reply; `World::run_until`, with the steps that it did; and
--- `World::run_plan` in each turn, with the replies of that turn. The others are the calls of
--- `World` of the same names, with their arguments.
+-- `World::run_to_call` does, with no reply; `World::run_until`, with the steps that are allowed up to
+-- the stop; and `World::run_plan` in each turn, with the replies of that turn. The others are the
+-- calls of `World` of the same names, with their arguments. A host's handlers, its console and C's
+-- loops make these calls, too; what only reads changes nothing, and is no action. What a host tells
+-- one sandbox of another is in the replies and writes that it gives it, which are its own actions.
 pub data SandboxAction : Type 0 where
   Run : ℕ → List Reply → SandboxAction
   GiveReply : Later → SandboxAction
@@ -43,7 +45,7 @@ pub data HostAction : Type 0 where
 
 -- ---- when it is done, and what it makes of the world
 
--- it isn't refused
+-- the call is done, not refused
 abbrev pub IsAllowed : Sandboxes → ℕ → SandboxAction → Type 0
 IsAllowed w i (Run steps replies) = Unit {0}
 IsAllowed w i (GiveReply reply) = IsAtCall (slots_of w) i
@@ -54,7 +56,7 @@ IsAllowed w i (SetRegisters pc registers) = MaySetAt (slots_of w) i (hart_of pc 
 IsAllowed w i (CallBack pc arguments) = MayCallBackAt (slots_of w) i pc arguments
 IsAllowed w i Reset = IsSome (slice_get (slots_of w) i)
 
--- the sandboxes are these then, and no byte outside the data of all has changed
+-- the sandboxes are these then, and no byte that lies in no sandbox's data has changed
 pub record HasSlots (w n : Sandboxes) (slots : List Slot) : Type 0 where
   pub slots_are : slots_of n ≡ slots
   pub outside : StaysOutsideData w n.bytes
@@ -85,8 +87,8 @@ Makes machine w (Add parts) n =
     MayRun parts × (MeetsSome w parts → ⊥) × (n ≡ with_image w parts)
 Makes machine w (Remove i) n = IsSome (slice_get w.seats i) × (n ≡ without w i)
 
--- each sandbox is in a state of the machine: its pc and registers are words, and the memory's bytes
--- bytes, as all numbers that a host hands to the program are
+-- A host hands over only words of 32 bits and bytes, so pc, registers and memory hold such: asked of
+-- the world after an action.
 abbrev pub AreInRange : Sandboxes → Type 0
 AreInRange w = (i : ℕ) (s : Seat) → slice_get w.seats i ≡ Some s → IsState (state_in w.bytes s)
 
@@ -96,8 +98,8 @@ pub record IsAction (machine : Machine) (w : Sandboxes) (action : HostAction)
   pub range : AreInRange n
   pub makes : Makes machine w action n
 
--- What a call says that answers whether it is done: exactly when it is, what it makes of the world
--- then, that it changes nothing else, and that the world is safe. By this it is that action.
+-- A call that answers whether it was done is this action, if its contract says: done exactly where
+-- allowed, and then this; else nothing has changed; and the world is safe.
 abbrev pub AnswersAreActions : Type 0
 AnswersAreActions =
     (machine : Machine) (w n : Sandboxes) (i : ℕ) (action : SandboxAction) (answer : Bool)
@@ -110,8 +112,8 @@ AreActions machine w [] n = n ≡ w
 AreActions machine w (action ∷ more) n =
     (mid : Sandboxes) × IsAction machine w action mid × AreActions machine mid more n
 
--- what is kept of a world: each sandbox is safe and may be entered, and each byte of the memory is
--- a sandbox's
+-- what is kept of a world: each sandbox is safe, its data outside each other one, and may be entered,
+-- and each byte of the memory is a sandbox's
 pub record IsSoundWorld (w : Sandboxes) : Type 0 where
   pub safe : IsSafeWorld w
   pub enterable : AreEnterable w
@@ -138,14 +140,15 @@ PlansAreSessions S =
 
 -- ==== Each session keeps the world safe.
 
--- from a sound world each session leads to a sound world, whose sandboxes have stopped by themselves
--- alone; so after each action, too, since the actions up to it are a session
+-- From a sound world each session leads to a sound world, in which each sandbox that has exited or
+-- trapped did so itself; so after each action, too, since the actions up to it are a session. (The
+-- steps within a `Run` are safe by `joined_world_steps`, of the world before it.)
 abbrev pub SessionsAreSafe : Type 0
 SessionsAreSafe =
     (machine : Machine) → IsMachine machine → (actions : List HostAction) (w n : Sandboxes)
     → IsSoundWorld w → AreActions machine w actions n → IsSoundWorld n × HaveStoppedThemselves n
 
--- each session comes to one world only
+-- each session comes to one world at most
 abbrev pub SessionsAreOne : Type 0
 SessionsAreOne =
     (machine : Machine) (actions : List HostAction) (w n other : Sandboxes)
@@ -165,8 +168,8 @@ alone slot = record {
   } ∷ [];
 }
 
--- the actions on sandbox `i`, in their order, as those on number 0; once another is removed,
--- sandbox `i` has the number that it has then
+-- the actions on sandbox `i`, in their order, as those on number 0; once one of a lower number is
+-- removed, its number is less by one
 abbrev pub own_actions : ℕ → List HostAction → List HostAction
 own_actions i [] = []
 own_actions i (On j action ∷ more) =
@@ -188,8 +191,9 @@ pub record IsItsOwn (machine : Machine) (own : List HostAction) (old : Slot) (n 
   pub there : slice_get (slots_of n) k ≡ Some slot
   pub is : AreActions machine (alone old) own (alone slot)
 
--- Whatever a session does to others, each sandbox that isn't removed is what its own actions make
--- of it alone; the same of these are refused. Of one that is added it says so from there on.
+-- Whatever a session does to others, each sandbox of the first world that isn't removed is what its
+-- own actions make of it alone. So, by each beginning of the session, the same of them are refused;
+-- and of one that is added the rest of the session says so.
 abbrev pub SandboxesAreTheirOwn : Type 0
 SandboxesAreTheirOwn =
     (machine : Machine) → IsMachine machine → (actions : List HostAction) (w n : Sandboxes)
