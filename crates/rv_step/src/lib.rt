@@ -8,7 +8,6 @@ mod alu;
 pub mod cpu;
 mod execute;
 pub mod fetch;
-pub mod laws;
 pub mod machine;
 pub mod outcome;
 

@@ -1,3 +1,4 @@
 pub mod Limits
 pub mod Formats
 pub mod Places
+pub mod Laws

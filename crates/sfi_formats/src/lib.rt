@@ -3,19 +3,17 @@
 //!
 //! Each has its name here, and crates above cite it by that; the tables of the first looks (`sfi_masks`,
 //! `sfi_scan`) have the registers in their entries, and are proved to agree. The definitions in
-//! `specs/` decide; the constants are proved to agree with them ([`limits_agree`],
-//! [`registers_agree`]). No instruction is known here, so that images don't wait for them: the pairs
-//! and a gate's stub are in `sfi_pairs`.
+//! `specs/` decide; the constants are proved to agree with them (`limits_agree`, `registers_agree` of
+//! proofs/Facts). No instruction is known here, so that images don't wait for them: the pairs and a
+//! gate's stub are in `sfi_pairs`.
 #![tactic(auto)]
 
 mod format;
-mod laws;
 mod limits;
 mod place;
 mod registers;
 
 pub use format::Format;
-pub use laws::{limits_agree, registers_agree};
 pub use limits::{
     BUNDLE_BYTES, BUNDLE_SIZE, DATA_MOST, FIRST_FRAME, GATE_COUNT_MOST, GATES_MOST, GUARD,
     ITEM_COUNT_MOST, ITEMS_MOST, NAME_MOST, NAME_MOST_BYTES, REGION_LEAST, REGION_LEAST_BYTES,

@@ -4,16 +4,14 @@
 //! withheld from a source of code in bundles; and of accesses that may follow a step of a data register.
 //!
 //! The definitions in `specs/`, of registers those of `sfi_formats`, decide; the stub's bytes are
-//! proved to agree ([`stub_agrees`]).
+//! proved to agree (`stub_agrees` of proofs/Facts).
 #![tactic(auto)]
 
-mod laws;
 mod pairs;
 mod registers;
 mod stub;
 mod uses;
 
-pub use laws::stub_agrees;
 pub use pairs::{code_pair, data_pair};
 pub use registers::{is_data_register, is_reserved, is_withheld};
 pub use stub::STUB;
