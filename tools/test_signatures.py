@@ -5,9 +5,10 @@ import shutil
 import struct
 import subprocess
 
-from testing import COMPILERS, SFI, SFI_CC, SFI_IMAGE, Folder, needs, needs_a_compiler, needs_program
+from testing import COMPILERS, SFI, SFI_CC, SFI_IMAGE, Folder, formats_due, needs, needs_a_compiler, needs_program
 
-WAYS = (("-O0", "2"), ("-O2", "words"), ("-Os", "2"), ("-O3", "words"))  # levels, and formats, which change nothing of it
+LEVELS = {"1": ("-Os",), "2": ("-O3",), "words": ("-O0", "-O2")}  # by formats: neither changes anything of it
+WAYS = [(level, it) for it in formats_due(0, 2) for level in LEVELS[it]]
 TYPES = """
 #include "gates.h"
 #include <stdarg.h>

@@ -195,10 +195,11 @@ class OfC(Traces):
             self.assertEqual(self.traced(*options, linked), self.traced(*options, self.file))
 
     def test_a_break_at_a_line(self):
-        named = self.traced("--break", "main", self.file)[0]
+        """With -Og, so that no pass moves an instruction of another line to the front."""
+        named = self.traced("--break", "main", "-Og", self.file)[0]
         line = re.search(r"main, (\S+:14)$", named)
         self.assertTrue(line, named)
-        arrivals = [it for it in self.traced("--break", line[1], self.file) if it.startswith("sandbox=0 step=")]
+        arrivals = [it for it in self.traced("--break", line[1], "-Og", self.file) if it.startswith("sandbox=0 step=")]
         self.assertEqual(arrivals[0], named)
         status, _, said = self.call("--break", "slow.c:99", self.file)
         self.assertEqual((status, said), (1, "sfi-trace: no instruction is of slow.c:99\n"))

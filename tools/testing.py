@@ -33,6 +33,12 @@ def commits():
     return int(ran.stdout) if ran.returncode == 0 else 0
 
 
+def sample():
+    """Which of the six samples of compilers' tests is tried, in turns by the number of commits. They are fixed, so a gate
+    meets none that hasn't been seen to pass."""
+    return commits() % 6
+
+
 def formats_due(number, count):
     """The formats in which a test of what compilers make is tried: words each time, and in bundles by turns. `count` tests,
     of which this is the one of a number, take turns."""

@@ -24,13 +24,13 @@ sys.path.insert(0, os.path.join(os.path.dirname(HERE), "torture"))
 
 import torture
 from suygapid.cc.compilers import Failed, ran
-from testing import commits, formats_due
+from testing import formats_due, sample
 
 SOURCE = os.path.join(HERE, "functions.c")
 NUMBERS = (0, 12345, 4294967295)
 STEPS = 10 ** 9
 SAMPLE = 50  # of the torture tests: what the gate has time for
-OTHERS = 1 << 20  # added to the number of commits: a seed that takes others than torture.py does
+OTHERS = 1 << 20  # added to the number of a sample: a seed that takes others than torture.py does
 
 
 def natively(folder):
@@ -130,7 +130,7 @@ def parsed(words):
     parser.add_argument("--library", default=os.path.join(TOP, "crates", "sfi_run", "out", "libsfi_run.a"),
                         help="a libsfi_run.a that rt built")
     parser.add_argument("--sample", type=int, default=SAMPLE, help="how many torture tests; %(default)s if absent")
-    parser.add_argument("--seed", type=int, default=commits() + OTHERS, help="which ones; by the number of commits if absent")
+    parser.add_argument("--seed", type=int, default=sample() + OTHERS, help="which ones; by the number of commits if absent")
     options = parser.parse_args(words)
     options.program, options.library_file, options.library = os.path.abspath(options.program), os.path.abspath(options.library), None
     options.csmith, options.ieee, options.moved, options.level, options.format = 0, False, False, torture.LEVELS, None  # of torture.py

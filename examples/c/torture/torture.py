@@ -5,7 +5,7 @@
 
 Each test is compiled twice by one compiler: for qemu-riscv32 with picolibc, and by the way of sfi-cc. Where the first exits
 with 0, the second has to, and to print the same. A sample runs if no names and no --all are given, each test in another of
-the ways, three of five in words; the number of commits says which, so that each change tries others. In these ways the
+the ways, three of five in words; the number of commits says which of six samples. In these ways the
 programs of --csmith run, too. The last line is `N passed, M failed[, K skipped]`; a line `skipped: WHAT: WHY` tells each that can't pass.
 
 Of --all with --library newlib all passed in the second format (2026-11-26, by a converter of whole programs) but pr60822, whose
@@ -33,7 +33,7 @@ sys.path.insert(0, os.path.join(TOP, "tools"))
 
 from suygapid.cc.compilers import GCC, Failed, ran
 from suygapid.library.sources import GCC_SOURCE, unpacked
-from testing import commits
+from testing import sample
 
 PICOLIBC = "/usr/lib/picolibc/riscv64-unknown-elf"
 QEMU = "qemu-riscv32"
@@ -216,8 +216,8 @@ def parsed(words):
     parser.add_argument("--all", action="store_true", help="all tests in each way")
     parser.add_argument("--ieee", action="store_true", help="the tests of the folder ieee, all in each way")
     parser.add_argument("--csmith", type=int, default=0, metavar="COUNT", help="COUNT programs by csmith in place of the tests")
-    parser.add_argument("--seed", type=int, default=commits(), help="the sample's seed, or that of csmith's first program; "
-                        "the number of commits, %(default)s, if absent")
+    parser.add_argument("--seed", type=int, default=sample(), help="the sample's seed, or that of csmith's first program; "
+                        "by the number of commits one of 0 to 5, %(default)s, if absent")
     parser.add_argument("--compiler", action="append", choices=COMPILERS, help="gcc and clang if absent")
     parser.add_argument("--level", action="append", choices=LEVELS, help="such as --level=-O2; all if absent")
     parser.add_argument("--format", action="append", choices=FORMATS, help="all if absent")

@@ -4,7 +4,7 @@
 
 Each program goes through gcc at -O0 to -O3 and -Os and, where it is there, through clang at -O2, then
 through the tool with all its passes. Two programs, the same each time, run in words; one runs in each
-format, whose seed is the number of commits, so that the gate's answer can be repeated. SEED=N in the
+format, one of six, by the number of commits. SEED=N in the
 environment takes COUNT=N others from there on, each in each format. A failure names its seed. Where a
 compiler isn't there the test is skipped."""
 import os
@@ -12,7 +12,7 @@ import shutil
 import subprocess
 
 from suygapid.passes.random_c import Program
-from testing import FORMATS, GCC, SFI, SFI_CC, TOP, Folder, commits, needs, needs_program
+from testing import FORMATS, GCC, SFI, SFI_CC, TOP, Folder, needs, needs_program, sample
 
 HERE = os.path.dirname(os.path.abspath(__file__))
 EXAMPLES = os.path.join(TOP, "examples", "c")
@@ -41,7 +41,7 @@ def programs():
     if "SEED" in os.environ:
         first = int(os.environ["SEED"])
         return [(seed, FORMATS) for seed in range(first, first + int(os.environ.get("COUNT", 1)))]
-    return [(seed, ("words",)) for seed in IN_WORDS] + [(max(IN_WORDS) + 1 + commits(), FORMATS)]
+    return [(seed, ("words",)) for seed in IN_WORDS] + [(max(IN_WORDS) + 1 + sample(), FORMATS)]
 
 
 def ways():
