@@ -11,8 +11,9 @@ use Rattle.sfi_check.specs.declared.conversion.ConvertFault.{ConvertFault}
 use Rattle.sfi_check.specs.declared.conversion.ConvertFault.TheVariants.{Refused, NotOld, Stack, Memory}
 use Rattle.sfi_check.specs.declared.refusal.Refusal.TheVariants as refusal
 use Rattle.sfi_answers.specs.private.{HasFound, AnswersConvertFault}
-use Rattle.sfi_answers.specs.Answers.{refused_line, HasSomeFault, Answers, IsStop, AnswersStatus}
-use Rattle.sfi_answers.specs.Building.{image_output, SaysConversion, convert}
+use Rattle.sfi_answers.specs.Answers.{refused_line, Answers, IsStop, AnswersStatus}
+use Rattle.sfi_answers.specs.Building.{image_output, IsNotConverted, SaysConversion, convert}
+use Rattle.sfi_answers.specs.declared.fault.InputFault.TheVariants as input
 use Rattle.sfi_answers.specs.declared.fault.Stop.{Stop}
 use Rattle.sfi_answers.specs.declared.fault.Stop.TheVariants as stop
 use Rattle.sfi_answers.specs.declared.verdict.Answer.{Answer}
@@ -25,7 +26,7 @@ pub converted : (raw : Bool) (bytes new : List ℕ) (a : Answer) → IsConversio
     → Answers (convert raw) bytes (Ok a)
 converted raw bytes new a is status text layout first found stack words = record {
   says = inl (record { new = new; conversion = is; status_is = status; text_is = text });
-  stop = tt;
+  which = tt;
   only_done = λ _. status;
   only_refused = λ h. refused h.0 h.1;
   only_fault = fault;
@@ -35,10 +36,11 @@ converted raw bytes new a is status text layout first found stack words = record
     refused others (inl g) = absurd (found others g.0 g.1)
     refused others (inr g) = absurd (stack others g)
 
-    fault : HasSomeFault bytes ⊎ (IsSecond bytes ⊎ IsOfWords bytes) → IsErr {T = Answer} {E = Stop} (Ok a)
-    fault (inl wrong) = absurd (layout wrong.0 first wrong.1)
-    fault (inr (inl second)) = absurd (first second)
-    fault (inr (inr third)) = absurd (words third)
+    fault : (why : Stop) → IsNotConverted bytes why → IsErr {T = Answer} {E = Stop} (Ok a)
+    fault (stop.Layout k) wrong = absurd (layout k wrong.0 wrong.1)
+    fault (stop.Input input.NotOld) second = absurd (first second)
+    fault (stop.Input input.Words) third = absurd (words third)
+    fault _ none = absurd none
 
 -- ---- a fault
 
@@ -63,24 +65,22 @@ fault_says raw bytes fault (Ok a) only is h = findings_say raw bytes fault h.1.0
 fault_says raw bytes fault (Err s) only is h = tt
 
 fault_stops : (bytes : List ℕ) (fault : ConvertFault) (answer : Result Answer Stop) → IsConvertFault bytes fault
-    → AnswersConvertFault fault answer → IfErr answer (IsStop (HasSomeFault bytes ⊎ (IsSecond bytes ⊎ IsOfWords bytes)))
+    → AnswersConvertFault fault answer → IfErr answer (IsStop (IsNotConverted bytes))
 fault_stops bytes fault (Ok a) is h = tt
-fault_stops bytes fault (Err (stop.Input other)) is (inl h) = inr (inl (subst (IsConvertFault bytes) h is))
-fault_stops bytes fault (Err (stop.Input other)) is (inr h) = inr (inr (subst (IsConvertFault bytes) h is))
-fault_stops bytes fault (Err (stop.Layout k)) is h =
-    let wrong : IsConvertFault bytes (Refused (refusal.Layout k)) = subst (IsConvertFault bytes) h is in
-    inl (k, wrong.1)
-fault_stops bytes fault (Err (stop.Build other)) is h = absurd h
+fault_stops bytes fault (Err (stop.Input input.NotOld)) is h = subst (IsConvertFault bytes) h is
+fault_stops bytes fault (Err (stop.Input input.Words)) is h = subst (IsConvertFault bytes) h is
+fault_stops bytes fault (Err (stop.Layout k)) is h = subst (IsConvertFault bytes) h is
 fault_stops bytes fault (Err stop.Memory) is h = tt
+fault_stops bytes fault (Err _) is h = absurd h
 
 -- an answer that is no other than want of memory
 memory_answer : (status : ℕ) (answer : Result Answer Stop) → AnswersConvertFault Memory answer → AnswersStatus status answer
 memory_answer status (Ok a) h = absurd h.1.1
-memory_answer status (Err (stop.Input other)) (inl h) = absurd (cc)
-memory_answer status (Err (stop.Input other)) (inr h) = absurd (cc)
+memory_answer status (Err (stop.Input input.NotOld)) h = absurd (cc)
+memory_answer status (Err (stop.Input input.Words)) h = absurd (cc)
 memory_answer status (Err (stop.Layout k)) h = absurd (cc)
-memory_answer status (Err (stop.Build other)) h = absurd h
 memory_answer status (Err stop.Memory) h = tt
+memory_answer status (Err _) h = absurd h
 
 done_after : (new : List ℕ) (fault : ConvertFault) (answer : Result Answer Stop) → AnswersConversion new (Err fault) → AnswersConvertFault fault answer → AnswersStatus 0 answer
 done_after new Memory answer only h = memory_answer 0 answer h
@@ -89,11 +89,11 @@ done_after new _ answer only h = absurd only
 -- findings are answered by status 1
 findings_status : (fault : ConvertFault) (found : List Finding) (answer : Result Answer Stop) → HasFound fault found → AnswersConvertFault fault answer → AnswersStatus 1 answer
 findings_status fault found (Ok a) f h = h.0
-findings_status fault found (Err (stop.Input other)) f (inl h) = absurd (subst (λ (x : ConvertFault). HasFound x found) h f)
-findings_status fault found (Err (stop.Input other)) f (inr h) = absurd (subst (λ (x : ConvertFault). HasFound x found) h f)
+findings_status fault found (Err (stop.Input input.NotOld)) f h = absurd (subst (λ (x : ConvertFault). HasFound x found) h f)
+findings_status fault found (Err (stop.Input input.Words)) f h = absurd (subst (λ (x : ConvertFault). HasFound x found) h f)
 findings_status fault found (Err (stop.Layout k)) f h = absurd (subst (λ (x : ConvertFault). HasFound x found) h f)
-findings_status fault found (Err (stop.Build other)) f h = absurd h
 findings_status fault found (Err stop.Memory) f h = tt
+findings_status fault found (Err _) f h = absurd h
 
 first_after : (found : List Finding) (fault : ConvertFault) (answer : Result Answer Stop) → AnswersFindings found (Err fault) → AnswersConvertFault fault answer → AnswersStatus 1 answer
 first_after found (Refused (refusal.Findings others)) answer only h = findings_status (Refused (refusal.Findings others)) found answer only h
@@ -124,7 +124,7 @@ pub not_converted : (raw : Bool) (bytes : List ℕ) (fault : ConvertFault) (answ
     → AnswersConvertFault fault answer → Answers (convert raw) bytes answer
 not_converted raw bytes fault answer is only_not_old only_layout only_findings only_stack only_words only_converted h = record {
   says = fault_says raw bytes fault answer only_not_old is h;
-  stop = fault_stops bytes fault answer is h;
+  which = fault_stops bytes fault answer is h;
   only_done = λ done. done_after done.0 fault answer (only_converted done.0 done.1) h;
   only_refused = λ refused. status refused.0 refused.1;
   only_fault = error answer h;
@@ -134,10 +134,9 @@ not_converted raw bytes fault answer is only_not_old only_layout only_findings o
     status found (inl g) = first_after found fault answer (only_findings found g.0 g.1) h
     status found (inr g) = second_after found fault answer (only_stack found g) h
 
-    error : (r : Result Answer Stop) → AnswersConvertFault fault r → HasSomeFault bytes ⊎ (IsSecond bytes ⊎ IsOfWords bytes) → IsErr r
-    error (Err s) e wrong = refl
-    error (Ok a) e (inl wrong) =
-        let none : IsSecond bytes → ⊥ = not_second bytes fault e.1.0 only_not_old e.1.1 in
-        absurd (no_layout fault e.1.0 wrong.0 e.1.1 (only_layout wrong.0 none wrong.1))
-    error (Ok a) e (inr (inl second)) = absurd (not_second bytes fault e.1.0 only_not_old e.1.1 second)
-    error (Ok a) e (inr (inr third)) = absurd (no_words fault e.1.0 e.1.1 (only_words third))
+    error : (r : Result Answer Stop) → AnswersConvertFault fault r → (why : Stop) → IsNotConverted bytes why → IsErr r
+    error (Err s) e why wrong = refl
+    error (Ok a) e (stop.Layout k) wrong = absurd (no_layout fault e.1.0 k e.1.1 (only_layout k wrong.0 wrong.1))
+    error (Ok a) e (stop.Input input.NotOld) second = absurd (not_second bytes fault e.1.0 only_not_old e.1.1 second)
+    error (Ok a) e (stop.Input input.Words) third = absurd (no_words fault e.1.0 e.1.1 (only_words third))
+    error (Ok a) e _ none = absurd none

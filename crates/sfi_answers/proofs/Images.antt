@@ -5,16 +5,18 @@ use Rattle.sfi_check.specs.declared.refusal.Refusal.TheVariants.{Layout, Finding
 use Rattle.sfi_image.specs.Faults.{IsFault}
 use Rattle.sfi_image.specs.declared.fault.LayoutFault.{LayoutFault}
 use Rattle.sfi_rules.specs.declared.finding.Finding.{Finding}
-use Rattle.sfi_answers.specs.Answers.{IsRefusalText, SaysRefused, on_verdict, Refuses, Answers, IsLayoutStop, IsStop, GivesImageThat, HasSomeFault, SaysVerdict, accepted_text, refused_line, refused_text}
-use Rattle.sfi_answers.specs.FaultTexts.{IsLayoutLine, stop_text}
+use Rattle.sfi_answers.specs.Answers.{IsRefusalText, SaysRefused, on_verdict, on_image, check, Meaning, Refuses, Answers, IsLayoutFault, IsStop, SaysVerdict, accepted_text, refused_line, refused_text}
+use Rattle.sfi_answers.specs.FaultTexts.{IsFaultLine, layout_text, stop_text}
+use Rattle.sfi_answers.specs.declared.fault.InputFault.TheVariants.{TooLarge}
 use Rattle.sfi_answers.specs.declared.fault.Stop.{Stop}
 use Rattle.sfi_answers.specs.declared.fault.Stop.TheVariants as stop
 use Rattle.sfi_answers.specs.declared.verdict.Answer.{Answer}
 use Rattle.std.specs.Prelude.{IfOk, IsTrue, Result}
 use Rattle.std.specs.Io.KnownBytes.{Consumes}
 use Rattle.std.specs.Fmt.{option_append}
-use Rattle.sfi_io.specs.Hexadecimal.{BeginsAsImage, GivesNoImage, IsInput}
+use Rattle.sfi_io.specs.Hexadecimal.{BeginsAsImage, IsInput}
 use Rattle.sfi_io.specs.declared.streams.Input.TheVariants.{Whole}
+use Rattle.sfi_io.specs.declared.streams.Input.TheVariants as inputs
 use Rattle.std.proofs.lemmas.List.{append-nil}
 use Rattle.sfi_image.specs.Prefixes.{HasFaultWhateverFollows}
 use Rattle.sfi_image.specs.Sources.{Streams}
@@ -25,15 +27,20 @@ use Rattle.sfi_answers.specs.private.{IsJudged}
 
 -- ==== What is answered on the bytes of an image that is accepted or refused.
 
+-- a fault of the layout is no other
+pub no_layout : {P : Type 0} (bytes : List ℕ) (fault : Stop) → ((k : LayoutFault) → IsFault bytes k → P) → IsLayoutFault bytes fault → P
+no_layout bytes (stop.Layout k) follows is = follows k is
+no_layout bytes _ follows is = absurd is
+
 -- an image without findings
 pub accepted : (says : List ℕ → ℕ → List ℕ → Type 0) (bytes : List ℕ) (a : Answer) → a.status ≡ 0 → says bytes a.status a.output.items
     → ((found : List Finding) → ¬ HasFindings bytes found) → ((k : LayoutFault) → ¬ IsFault bytes k) → Answers (on_verdict says) bytes (Ok a)
 accepted says bytes a status said found layout = record {
   says = said;
-  stop = tt;
+  which = tt;
   only_done = λ _. status;
   only_refused = λ h. absurd (found h.0 h.1);
-  only_fault = λ h. absurd (layout h.0 h.1);
+  only_fault = λ fault h. absurd (no_layout {P = ⊥} bytes fault layout h);
 }
 
 -- one with findings
@@ -41,46 +48,49 @@ pub has_findings : (report : Bool) (bytes : List ℕ) (found : Vec Finding Globa
     → IsRefusalText report bytes found.items a.output.items → Answers (on_verdict (SaysRefused report)) bytes (Ok a)
 has_findings report bytes found a refused status text = record {
   says = record { found = found.items; refused = refused.findings; status_is = status; text_is = text };
-  stop = tt;
+  which = tt;
   only_done = λ h. absurd (refused.only_accepted h.0 h.1);
   only_refused = λ _. status;
-  only_fault = λ h. absurd (refused.only_layout h.0 h.1);
+  only_fault = λ fault h. absurd (no_layout {P = ⊥} bytes fault refused.only_layout h);
 }
 
 -- no image
 pub has_fault : (says : List ℕ → ℕ → List ℕ → Type 0) (bytes : List ℕ) (k : LayoutFault) → Refuses bytes (Layout k) → Answers (on_verdict says) bytes (Err (stop.Layout k))
 has_fault says bytes k refused = record {
   says = tt;
-  stop = (k, refused.layout);
+  which = refused.layout;
   only_done = λ h. refused.only_accepted h.0 h.1;
   only_refused = λ h. refused.only_findings h.0 h.1;
-  only_fault = λ _. refl;
+  only_fault = λ _ _. refl;
 }
 
 -- a stop that is no want of memory
-pub of_stop : (P : Type 0) (s : Stop) → IsStop P s → s ≢ stop.Memory → P
-of_stop P (stop.Input fault) is other = is
-of_stop P (stop.Layout fault) is other = is
-of_stop P (stop.Build fault) is other = is
-of_stop P stop.Memory is other = absurd (other refl)
+pub of_stop : (faults : Stop → Type 0) (s : Stop) → IsStop faults s → s ≢ stop.Memory → faults s
+of_stop faults (stop.Input fault) is other = is
+of_stop faults (stop.Layout fault) is other = is
+of_stop faults (stop.Build fault) is other = is
+of_stop faults stop.Memory is other = absurd (other refl)
 
--- the line of such a stop on an image's bytes
-pub line_of_stop : {E : Type 0} (bytes : List ℕ) (why : Stop) (r : Result Answer E) → IsLayoutStop bytes why → IfOk r (λ a. why ≢ stop.Memory) → IfOk r (λ a. a.output.items ≡ stop_text why)
-    → IfOk r (λ a. a.status ≡ 2 → IsLayoutLine bytes a.output.items)
-line_of_stop bytes (stop.Layout k) (Ok a) is other text = λ _. (k, is, text)
-line_of_stop bytes (stop.Input fault) (Ok a) is other text = absurd is
-line_of_stop bytes (stop.Build fault) (Ok a) is other text = absurd is
-line_of_stop bytes stop.Memory (Ok a) is other text = absurd (other refl)
-line_of_stop bytes why (Err e) is other text = tt
+-- the line of such a stop
+pub line_of_stop : {E : Type 0} (command : Meaning) (input : List ℕ) (why : Stop) (r : Result Answer E) → IsStop (command.why input) why → IfOk r (λ a. why ≢ stop.Memory) → IfOk r (λ a. a.output.items ≡ stop_text why)
+    → IfOk r (λ a. a.status ≡ 2 → IsFaultLine command input a.output.items)
+line_of_stop command input why (Ok a) is other text = λ _. (why, of_stop (command.why input) why is other, text)
+line_of_stop command input why (Err e) is other text = tt
 
 -- ==== What is answered on an image that is read, by its first bytes.
 
--- what holds of the bytes that a reader held is a fault of its input, which is these
-pub fault_of_whole : (held : Option (List ℕ)) (bytes : Vec ℕ Global) (has_fault : List ℕ → Type 0) → IsInput held (Whole bytes) → has_fault bytes.items
-    → IfSome held (λ input. BeginsAsImage input → GivesNoImage input ⊎ GivesImageThat has_fault input)
-fault_of_whole None bytes has_fault is h = tt
-fault_of_whole (Some input) bytes has_fault is h =
-    λ begins. inr (input, inl (record { begins = begins; short = is.1; same = refl }), subst has_fault is.0 h)
+-- the line of a fault of the bytes that a reader held is one of its input, which is these
+pub line_of_whole : (command : Meaning) (held : Option (List ℕ)) (bytes : Vec ℕ Global) (line : List ℕ) → IsInput held (Whole bytes) → IsFaultLine command bytes.items line
+    → IfSome held (λ input. BeginsAsImage input → IsFaultLine (on_image command) input line)
+line_of_whole command None bytes line is h = tt
+line_of_whole command (Some input) bytes line is h =
+    λ begins. (h.0, inr (input, inl (record { begins = begins; short = is.1; same = refl }), subst (λ (b : List ℕ). command.why b h.0) is.0 h.1), h.2)
+
+-- and that of a reader that holds too much
+pub line_of_large : (command : Meaning) (held : Option (List ℕ)) (line : List ℕ) → IsInput held inputs.TooLarge → line ≡ stop_text (stop.Input TooLarge)
+    → IfSome held (λ input. BeginsAsImage input → IsFaultLine (on_image command) input line)
+line_of_large command None line is text = tt
+line_of_large command (Some input) line is text = λ begins. (stop.Input TooLarge, inl is, text)
 
 -- the front begins as an image, and so does the input; or neither does
 pub all_begin : (old : Option (List ℕ)) (front read : List ℕ) (b : Bool) → read ≡ front → IsTrue b ↔ BeginsAsImage read
@@ -132,15 +142,15 @@ says_refused count first text all is j =
     (inr (record { found = v.1; refused = v.2; status_is = refl; text_is = is ∙ line_of_count count first v.1 v.3 }))
 
 -- and one with a fault, whether the stream was read to its end or not
-pub streamed_is : (k : LayoutFault) (all : List ℕ) → IsJudged (answers.Layout k) all → IsFault all k
+streamed_is : (k : LayoutFault) (all : List ℕ) → IsJudged (answers.Layout k) all → IsFault all k
 streamed_is k all j = by j.verdict.layout
   where
     by : ((j.ends ≡ true) × IsFault j.given k) ⊎ HasFaultWhateverFollows j.given k → IsFault all k
     by (inl at_end) = subst (λ (l : List ℕ). IsFault l k) (gave_all _ all j at_end.0) at_end.1
     by (inr onwards) = subst (λ (l : List ℕ). IsFault l k) (sym j.all_are) (onwards j.rest)
 
-pub streamed_fault : (k : LayoutFault) (all : List ℕ) → IsJudged (answers.Layout k) all → HasSomeFault all
-streamed_fault k all j = (k, streamed_is k all j)
+pub streamed_line : (k : LayoutFault) (all line : List ℕ) → line ≡ layout_text k → IsJudged (answers.Layout k) all → IsFaultLine (check false) all line
+streamed_line k all line text j = (stop.Layout k, streamed_is k all j, text)
 
 -- the verdict on a stream of a reader is one on all that the reader told
 pub judged : {S : Type 0} (known : S → Option (List ℕ)) (failed : S → Bool) (s t : S) (answer : StreamAnswer) (told : Option (List ℕ)) (P : List ℕ → Type 0) → known s ≡ told

@@ -12,12 +12,13 @@ use Rattle.sfi_image.specs.declared.fault.LayoutFault.{LayoutFault}
 use Rattle.sfi_rules.specs.declared.finding.Finding.{Finding}
 use Rattle.sfi_safety.specs.Clean.{IsAccepted}
 use Rattle.sfi_check.specs.Verdict.{HasFindings}
-use Rattle.sfi_places.specs.Moving.{IsMoved, IsMoveFault, IsWrongPlace}
+use Rattle.sfi_places.specs.Moving.{IsMoved, IsMoveFault}
 use Rattle.sfi_places.specs.declared.moving.MoveFault.{MoveFault}
-use Rattle.sfi_places.specs.declared.moving.MoveFault.TheVariants.{NoSandbox, NoPlace}
-use Rattle.sfi_answers.specs.Answers.{Answers, AnswersStatus, IsStop, HasSomeFault, IsAcceptedImage, SaysRefused, on_verdict}
+use Rattle.sfi_places.specs.declared.moving.MoveFault.TheVariants.{NoImage, NoSandbox, NoPlace}
+use Rattle.sfi_answers.specs.Answers.{Answers, AnswersStatus, IsStop, IsLayoutFault, IsAcceptedImage, SaysRefused, on_verdict}
 use Rattle.sfi_answers.specs.Building.{image_output}
-use Rattle.sfi_answers.specs.Moving.{CannotMove, move}
+use Rattle.sfi_answers.specs.Moving.{IsNotMoved, move}
+use Rattle.sfi_answers.specs.declared.fault.InputFault.TheVariants as input
 use Rattle.sfi_answers.specs.private.{IsMovedCopy, IsMovedOrMemory, IsMoveStop}
 use Rattle.sfi_answers.specs.declared.fault.Stop.{Stop}
 use Rattle.sfi_answers.specs.declared.fault.Stop.TheVariants as stop
@@ -35,13 +36,9 @@ copied bytes image new kept number to same all moves accepted =
     let made : IsMovedCopy image number to new = record { moved = moves; still_accepted = λ a. (_, (accepted a.0 _ a.1.image moves.image).0 a.1) } in
     subst (λ (b : List ℕ). IsMovedCopy b number to kept) same (subst (λ (n : List ℕ). IsMovedCopy image number to n) (sym all) made)
 
--- where no fault of a move is that of the copy, none is that of the bytes
-pub can_move : (bytes image : List ℕ) (number : ℕ) (to : Place) → image ≡ bytes → ((e : MoveFault) → IsMoveFault image number to e → ⊥) → CannotMove number to bytes → ⊥
-can_move bytes image number to same none (inl beyond) = none NoSandbox (subst (λ (b : List ℕ). IsBeyond b number) (sym same) beyond)
-can_move bytes image number to same none (inr wrong) = none NoPlace (subst (λ (b : List ℕ). IsWrongPlace b number to) (sym same) wrong)
-
-pub no_image : (bytes image : List ℕ) (number : ℕ) (to : Place) (k : LayoutFault) → image ≡ bytes → IsFault image k → HasSomeFault bytes ⊎ CannotMove number to bytes
-no_image bytes image number to k same wrong = inl (k, subst (λ (b : List ℕ). IsFault b k) same wrong)
+-- what is wrong with the copy is wrong with the bytes
+pub of_copy : (bytes image : List ℕ) (number : ℕ) (to : Place) (e : MoveFault) → image ≡ bytes → IsMoveFault image number to e → IsMoveFault bytes number to e
+of_copy bytes image number to e same wrong = subst (λ (b : List ℕ). IsMoveFault b number to e) same wrong
 
 pub no_move : (bytes image : List ℕ) (number : ℕ) (to : Place) → image ≡ bytes → ((now : List ℕ) → IsMoved image number to now → ⊥) → (now : List ℕ) → IsMoved bytes number to now → ⊥
 no_move bytes image number to same none now moves = none now (subst (λ (b : List ℕ). IsMoved b number to now) (sym same) moves)
@@ -50,9 +47,9 @@ no_move bytes image number to same none now moves = none now (subst (λ (b : Lis
 
 -- a sandbox that is moved
 pub moved : (raw : Bool) (number : ℕ) (to : Place) (bytes now : List ℕ) (parts : List Part) (a : Answer) → IsAccepted bytes parts → IsMovedCopy bytes number to now
-    → (CannotMove number to bytes → ⊥) → ((found : List Finding) → ¬ HasFindings bytes found) → ((k : LayoutFault) → ¬ IsFault bytes k)
+    → ((e : MoveFault) → IsMoveFault bytes number to e → ⊥) → ((found : List Finding) → ¬ HasFindings bytes found)
     → a.status ≡ 0 → a.output.items ≡ image_output raw now → Answers (move raw number to) bytes (Ok a)
-moved raw number to bytes now parts a accepted copy can found layout status text = record {
+moved raw number to bytes now parts a accepted copy can found status text = record {
   says = inl (record {
     parts = parts;
     now = now;
@@ -62,22 +59,31 @@ moved raw number to bytes now parts a accepted copy can found layout status text
     status_is = status;
     text_is = text;
   });
-  stop = tt;
+  which = tt;
   only_done = λ _. status;
   only_refused = λ h. absurd (found h.0 h.1);
   only_fault = fault;
 }
   where
-    fault : HasSomeFault bytes ⊎ (IsAcceptedImage bytes × CannotMove number to bytes) → IsErr {T = Answer} {E = Stop} (Ok a)
-    fault (inl wrong) = absurd (layout wrong.0 wrong.1)
-    fault (inr wrong) = absurd (can wrong.1)
+    fault : (why : Stop) → IsNotMoved number to bytes why → IsErr {T = Answer} {E = Stop} (Ok a)
+    fault (stop.Layout k) wrong = absurd (can (NoImage k) wrong)
+    fault (stop.Input input.NoSandbox) wrong = absurd (can NoSandbox wrong.1)
+    fault (stop.Input input.NoPlace) wrong = absurd (can NoPlace wrong.1)
+    fault _ none = absurd none
 
--- a fault that follows from another
-follows : (P Q : Type 0) → (P → Q) → (s : Stop) → IsStop P s → IsStop Q s
-follows P Q h (stop.Input fault) is = h is
-follows P Q h (stop.Layout fault) is = h is
-follows P Q h (stop.Build fault) is = h is
-follows P Q h stop.Memory is = tt
+-- the stop of an accepted image's move
+of_accepted : (number : ℕ) (to : Place) (bytes : List ℕ) (s : Stop) → IsAcceptedImage bytes → IsMoveStop bytes number to s → IsStop (IsNotMoved number to bytes) s
+of_accepted number to bytes (stop.Input input.NoSandbox) accepted is = (accepted, is)
+of_accepted number to bytes (stop.Input input.NoPlace) accepted is = (accepted, is)
+of_accepted number to bytes (stop.Layout k) accepted is = is
+of_accepted number to bytes stop.Memory accepted is = tt
+of_accepted number to bytes _ accepted is = absurd is
+
+-- and that of an image that is refused
+of_refused : (number : ℕ) (to : Place) (bytes : List ℕ) (s : Stop) → IsStop (IsLayoutFault bytes) s → IsStop (IsNotMoved number to bytes) s
+of_refused number to bytes (stop.Layout k) is = is
+of_refused number to bytes stop.Memory is = tt
+of_refused number to bytes _ is = absurd is
 
 -- a stop where the sandbox would have been moved is want of memory
 done_status : (s : Stop) → IsMovedOrMemory (Err s) → AnswersStatus 0 (Err s)
@@ -92,15 +98,11 @@ pub not_moved : (raw : Bool) (number : ℕ) (to : Place) (bytes : List ℕ) (par
     → Answers (move raw number to) bytes (Err s)
 not_moved raw number to bytes parts s accepted why only found = record {
   says = tt;
-  stop = follows _ _ fault s why;
+  which = of_accepted number to bytes s (parts, accepted) why;
   only_done = λ h. done_status s (only h.1.0 h.1.1);
   only_refused = λ h. absurd (found h.0 h.1);
-  only_fault = λ _. refl;
+  only_fault = λ _ _. refl;
 }
-  where
-    fault : HasSomeFault bytes ⊎ CannotMove number to bytes → HasSomeFault bytes ⊎ (IsAcceptedImage bytes × CannotMove number to bytes)
-    fault (inl wrong) = inl wrong
-    fault (inr wrong) = inr ((parts, accepted), wrong)
 
 pub stopped : (raw : Bool) (number : ℕ) (to : Place) (bytes : List ℕ) (parts : List Part) (why : Stop) (r : Result Answer Stop) → IsAccepted bytes parts → IsMoveStop bytes number to why
     → ((now : List ℕ) → IsMoved bytes number to now → IsMovedOrMemory (Err why)) → ((found : List Finding) → ¬ HasFindings bytes found)
@@ -113,7 +115,7 @@ stopped raw number to bytes parts why (Err s) accepted is only found stops =
 pub refused : (raw : Bool) (number : ℕ) (to : Place) (bytes : List ℕ) (r : Result Answer Stop) → Answers (on_verdict (SaysRefused false)) bytes r → Answers (move raw number to) bytes r
 refused raw number to bytes r a = record {
   says = IfOk-weaker r _ _ (λ x h. inr h) a.says;
-  stop = IfErr-weaker r _ _ (follows _ _ (λ h. inl h)) a.stop;
+  which = IfErr-weaker r _ _ (of_refused number to bytes) a.which;
   only_done = λ h. a.only_done h.0;
   only_refused = a.only_refused;
   only_fault = fault r a;
@@ -125,7 +127,9 @@ refused raw number to bytes r a = record {
         let one : x.status ≡ 1 = b.says.status_is in
         absurd (omega (arith, zero, one))
 
-    fault : (r : Result Answer Stop) → Answers (on_verdict (SaysRefused false)) bytes r → HasSomeFault bytes ⊎ (IsAcceptedImage bytes × CannotMove number to bytes) → IsErr r
-    fault r b (inl wrong) = b.only_fault wrong
-    fault (Err s) b (inr wrong) = refl
-    fault (Ok x) b (inr wrong) = absurd (other x b wrong.0)
+    fault : (r : Result Answer Stop) → Answers (on_verdict (SaysRefused false)) bytes r → (why : Stop) → IsNotMoved number to bytes why → IsErr r
+    fault r b (stop.Layout k) wrong = b.only_fault (stop.Layout k) wrong
+    fault (Err s) b why wrong = refl
+    fault (Ok x) b (stop.Input input.NoSandbox) wrong = absurd (other x b wrong.0)
+    fault (Ok x) b (stop.Input input.NoPlace) wrong = absurd (other x b wrong.0)
+    fault (Ok x) b _ none = absurd none

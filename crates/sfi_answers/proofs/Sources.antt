@@ -1,10 +1,12 @@
 -- What is answered on a source text: of which nothing is made, and its map.
-use Rattle.std.proofs.Common.{◌≡◌, ◌⊎◌, ℕ, List, Result, Err, refl, sym, subst, inl, inr, ◌∙◌, ◌+◌, ◌<◌, ◌≤◌, arith, [], ◌∷◌, ◌++◌, length, take, get_or, ap, add-zero, append_assoc}
-use Rattle.std.specs.Prelude.{IsErrAnd}
+use Rattle.std.proofs.Common.{◌≡◌, ◌⊎◌, ℕ, List, Result, Ok, Err, refl, sym, subst, inl, inr, ◌∙◌, ◌+◌, ◌<◌, ◌≤◌, arith, [], ◌∷◌, ◌++◌, length, take, get_or, ap, add-zero, append_assoc}
+use Rattle.std.specs.Prelude.{IsErrAnd, IsUtf8}
 use Rattle.sfi_build.specs.declared.fault.BuildFault.{BuildFault}
 use Rattle.sfi_build.specs.Texts.{IsBuildFault, IsWantOfMemory}
 use Rattle.sfi_formats.specs.declared.place.Place.{Place}
-use Rattle.sfi_answers.specs.Building.{of_source, lines_in, IsTableText, IsMapFrom}
+use Rattle.sfi_answers.specs.Building.{of_source, lines_in, IsNotMade, IsSourceText, IsTableText, IsMapFrom}
+use Rattle.sfi_answers.specs.declared.fault.InputFault.TheVariants as input
+use Rattle.sfi_io.specs.Hexadecimal.{limit}
 use Rattle.sfi_answers.specs.Answers.{Answers, StopsBuild}
 use Rattle.sfi_answers.specs.declared.fault.Stop.{Stop}
 use Rattle.sfi_answers.specs.declared.fault.Stop.TheVariants as stop
@@ -21,24 +23,47 @@ fault_of : (places : List Place) (source : List ℕ) (f : BuildFault) → (¬ Is
 fault_of places source f enough (inl want) = absurd (enough want)
 fault_of places source f enough (inr is) = is
 
-pub not_made : {A : Type 0} (places : List Place) (is_made : List Place → List ℕ → A → Type 0) (text_of : A → List ℕ) (input source : List ℕ) (f : BuildFault) (r : Result Answer Stop)
-    → source ≡ input → IsWantOfMemory f ⊎ IsBuildFault places source f → ((x : A) → is_made places source x → IsWantOfMemory f) → IsErrAnd r (StopsBuild f)
-    → Answers (of_source is_made text_of places) input r
-not_made places is_made text_of input source f (Err (stop.Build fault)) same why only stops = record {
+pub not_made : {A : Type 0} (places : List Place) (is_made : List Place → List ℕ → A → Type 0) (text_of : A → List ℕ) (text source : List ℕ) (f : BuildFault) (r : Result Answer Stop)
+    → source ≡ text → IsSourceText source → IsWantOfMemory f ⊎ IsBuildFault places source f → ((x : A) → is_made places source x → IsWantOfMemory f) → IsErrAnd r (StopsBuild f)
+    → Answers (of_source is_made text_of places) text r
+not_made places is_made text_of text source f (Err (stop.Build fault)) same is why only stops = record {
   says = tt;
-  stop = inr (f, subst (λ (t : List ℕ). IsBuildFault places t f) same (fault_of places source f stops.1 why));
+  which = (
+    subst IsSourceText same is,
+    subst (IsBuildFault places text) (sym stops.0) (subst (λ (t : List ℕ). IsBuildFault places t f) same (fault_of places source f stops.1 why)),
+  );
   only_done = λ h. stops.1 (only h.0 (subst (λ (t : List ℕ). is_made places t h.0) (sym same) h.2));
   only_refused = λ h. absurd h;
-  only_fault = λ _. refl;
+  only_fault = λ _ _. refl;
 }
-not_made places is_made text_of input source f (Err stop.Memory) same why only stops = record {
+not_made places is_made text_of text source f (Err stop.Memory) same is why only stops = record {
   says = tt;
-  stop = tt;
+  which = tt;
   only_done = λ _. tt;
   only_refused = λ _. tt;
-  only_fault = λ _. refl;
+  only_fault = λ _ _. refl;
 }
-not_made places is_made text_of input source f _ same why only stops = absurd stops
+not_made places is_made text_of text source f _ same is why only stops = absurd stops
+
+-- of what is no UTF-8 nothing is made
+pub no_source : {A : Type 0} (places : List Place) (is_made : List Place → List ℕ → A → Type 0) (text_of : A → List ℕ) (text : List ℕ) (why : Stop) (r : Result Answer Stop)
+    → length text ≤ limit → (why ≡ stop.Input input.Utf8) × ¬ IsUtf8 text → IsErrAnd r (λ (s : Stop). s ≡ why) → Answers (of_source is_made text_of places) text r
+no_source places is_made text_of text why (Ok a) short is stops = absurd stops
+no_source places is_made text_of text why (Err s) short is stops =
+    subst (λ (x : Stop). Answers (of_source is_made text_of places) text (Err x)) (sym (stops ∙ is.0)) (record {
+      says = tt;
+      which = (short, is.1);
+      only_done = λ h. absurd (is.1 h.1.utf8);
+      only_refused = λ h. absurd h;
+      only_fault = λ _ _. refl;
+    })
+
+-- and of a source text of which something is made there is no fault
+pub no_fault : {P : Type 0} (places : List Place) (text : List ℕ) (why : Stop) → IsSourceText text → ((f : BuildFault) → IsBuildFault places text f → P) → IsNotMade places text why → P
+no_fault places text (stop.Input input.TooLarge) source none over = absurd (omega (arith, source.short, over))
+no_fault places text (stop.Input input.Utf8) source none wrong = absurd (wrong.1 source.utf8)
+no_fault places text (stop.Build f) source none wrong = none f wrong.1
+no_fault places text _ source none wrong = absurd wrong
 
 -- ==== The map of an image, one sandbox more.
 

@@ -1,17 +1,24 @@
 -- What is answered on the bytes that a text spells, read in pieces.
-use Rattle.std.proofs.Common.{◌≡◌, ◌≢◌, ℕ, ◌⊎◌, arith, Bool, true, false, List, [], ◌∷◌, ◌++◌, Option, Some, None, Result, Ok, Err, length, cond, refl, sym, ap, ◌∙◌, subst, inl, inr, IfSome}
+use Rattle.std.proofs.Common.{◌≡◌, ◌≢◌, ◌<◌, ℕ, ◌⊎◌, arith, Bool, true, false, List, [], ◌∷◌, ◌++◌, Option, Some, None, Result, Ok, Err, length, cond, refl, sym, ap, ◌∙◌, subst, inl, inr, IfSome}
 use Rattle.std.specs.Prelude.{◌||◌, IsErr, IsOk, filter, nat_lt, option_map, if◌then◌else◌}
 use Rattle.std.proofs.lemmas.Bool.Decides.{nat_tests}
 use Rattle.hex.specs.Hex.{decode_of}
 use Rattle.hex.specs.declared.error.FromHexError.{FromHexError}
+use Rattle.hex.specs.declared.error.FromHexError.TheVariants.{OddLength, InvalidHexCharacter, InvalidStringLength, OutOfMemory}
 use Rattle.sfi_image.specs.Sources.{OneRead, IsChain, Streams, bytes_handed_out, bytes_of, finds_end, is_end}
 use Rattle.sfi_check.specs.Verdict.{IsVerdictOn}
 use Rattle.sfi_check.specs.declared.stream_answer.StreamAnswer.{StreamAnswer}
-use Rattle.sfi_io.specs.Hexadecimal.{IsUnreadable, SpellsBytes, is_kept, limit}
+use Rattle.sfi_answers.specs.Answers.{Meaning, on_image}
+use Rattle.sfi_answers.specs.FaultTexts.{IsFaultLine, stop_text}
+use Rattle.sfi_answers.specs.declared.fault.InputFault.TheVariants.{Hex}
+use Rattle.sfi_answers.specs.declared.fault.InputFault.TheVariants as input
+use Rattle.sfi_answers.specs.declared.fault.Stop.TheVariants as stops
+use Rattle.sfi_io.specs.Hexadecimal.{BeginsAsImage, SpellsBytes, is_kept, limit}
+use Rattle.sfi_io.specs.declared.hexadecimal.HexFault.{HexFault}
 use Rattle.sfi_io.specs.Pieces.{Leads, or_fault, outcome, prepend, start_of}
 use Rattle.sfi_io.specs.declared.text.TextStop.{TextStop}
-use Rattle.sfi_io.specs.declared.text.TextStop.TheVariants.{TooLarge, Failed}
-use Rattle.sfi_io.proofs.Facts.{comes_to_its_bytes}
+use Rattle.sfi_io.specs.declared.text.TextStop.TheVariants.{Fault, TooLarge, Failed}
+use Rattle.sfi_io.proofs.Facts.{comes_to_its_bytes, comes_to_its_fault}
 use Rattle.sfi_io.proofs.Leads.{failed_leads, leads_more, leads_nowhere, of_leads}
 use Rattle.sfi_answers.specs.private.{HandsOut, IsJudged}
 
@@ -114,16 +121,28 @@ module _ {S : Type 0} (told : S → Option (Result (List ℕ) TextStop)) (failed
 
 -- ---- of the whole text
 
-unreadable : (text : List ℕ) (stop : TextStop) → outcome (start_of text) ≡ Err stop → IsUnreadable text
-unreadable text stop e = by (nat_lt limit (length text)) refl
-  where
-    wrong : (d : Result (List ℕ) FromHexError) → or_fault d ≡ Err stop → IsErr d
-    wrong (Ok bytes) e = absurd (cc)
-    wrong (Err other) e = refl
+-- the line of its fault
+pub line_of_fault : (command : Meaning) (text : List ℕ) (fault : HexFault) (line : List ℕ) → outcome (start_of text) ≡ Err (Fault fault) → line ≡ stop_text (stops.Input (Hex fault))
+    → (¬ BeginsAsImage text) → IsFaultLine (on_image command) text line
+line_of_fault command text fault line comes is other =
+    let has = (comes_to_its_fault text fault).0 comes in
+    (stops.Input (Hex fault), inl (has.0, other, has.1), is)
 
-    by : (b : Bool) → nat_lt limit (length text) ≡ b → IsUnreadable text
-    by true is = inl (grind (arith, nat_tests, is))
-    by false is = inr (wrong _ (sym (ap (λ (b : Bool). if b then Err TooLarge else or_fault (decode_of (filter is_kept text))) is) ∙ e))
+-- the line where it is above its limit
+pub line_of_large_text : (command : Meaning) (text line : List ℕ) → outcome (start_of text) ≡ Err TooLarge → line ≡ stop_text (stops.Input input.TooLarge) → (¬ BeginsAsImage text)
+    → IsFaultLine (on_image command) text line
+line_of_large_text command text line comes is other = (stops.Input input.TooLarge, inl (over (nat_lt limit (length text)) refl), is)
+  where
+    no_large : (d : Result (List ℕ) FromHexError) → or_fault d ≡ Err TooLarge → ⊥
+    no_large (Ok bytes) e = absurd (cc)
+    no_large (Err OddLength) e = absurd (cc)
+    no_large (Err (InvalidHexCharacter byte place)) e = absurd (cc)
+    no_large (Err InvalidStringLength) e = absurd (cc)
+    no_large (Err OutOfMemory) e = absurd (cc)
+
+    over : (b : Bool) → nat_lt limit (length text) ≡ b → limit < length text
+    over true is = grind (arith, nat_tests, is)
+    over false is = absurd (no_large _ (sym (ap (λ (b : Bool). if b then Err TooLarge else or_fault (decode_of (filter is_kept text))) is) ∙ comes))
 
 -- where the text was read to its end, the verdict is one on its bytes
 pub says_text : {S : Type 0} (told : S → Option (Result (List ℕ) TextStop)) (failed : S → Bool) (s t : S) (answer : StreamAnswer) (read : Option (List ℕ)) (P : List ℕ → Type 0) → told s ≡ option_map (λ text. outcome (start_of text)) read
@@ -134,15 +153,15 @@ says_text told failed s t answer (Some text) P e h ok holds =
     let all = judged_front told failed s t (outcome (start_of text)) answer e h ok in
     holds text all.0 ((comes_to_its_bytes text all.0).0 all.1) all.2
 
--- where a fault of it was found, it is unreadable
+-- where a fault of it was found, the text comes to that
 pub stops_text : {S : Type 0} (told : S → Option (Result (List ℕ) TextStop)) (failed : S → Bool) (s t : S) (answer : StreamAnswer) (read : Option (List ℕ)) (stop : TextStop) (P : List ℕ → Type 0) → told s ≡ option_map (λ text. outcome (start_of text)) read
     → ((bytes : List ℕ) × (ends : Bool) × Streams (reads_spelled told failed) 4096 s t bytes ends × IsVerdictOn bytes ends answer) → Leads (told t) (Some (Err stop)) [] → stop ≢ Failed
-    → ((text : List ℕ) → IsUnreadable text → P text) → IfSome read P
+    → ((text : List ℕ) → outcome (start_of text) ≡ Err stop → P text) → IfSome read P
 stops_text told failed s t answer None stop P e h leads named holds = tt
 stops_text told failed s t answer (Some text) stop P e h leads named holds =
     let front = spelled_front told failed h.2.chain s t h.2.is_chain in
     let there = subst (λ (k : Option (Result (List ℕ) TextStop)). Leads k (told t) (bytes_handed_out h.2.chain)) e front.0 in
     elim (of_leads (outcome (start_of text)) (Err stop) (bytes_handed_out h.2.chain ++ []) (leads_more (Some (outcome (start_of text))) (told t) (Some (Err stop)) (bytes_handed_out h.2.chain) [] there leads)) [
       | inl failed ↦ absurd (named (cc))
-      | inr is ↦ holds text (unreadable text stop is)
+      | inr is ↦ holds text is
     ]

@@ -1,11 +1,11 @@
 -- What is said of a command, and what `check`, `dis` and `translate` answer on an image's bytes.
-use Rattle.std.specs.Prelude.{◌⊎◌, ℕ, List, ◌≡◌, Result, Ok, Err, IfErr, IfOk, IsErr, [], ◌∷◌, ◌++◌, length, codes, decimal, Bool, true, false}
-use Rattle.sfi_io.specs.Hexadecimal.{GivesImage, GivesNoImage}
+use Rattle.std.specs.Prelude.{◌⊎◌, ℕ, List, ◌≡◌, ◌<◌, ◌≤◌, Result, Ok, Err, IfErr, IfOk, IsErr, [], ◌∷◌, ◌++◌, length, codes, decimal, Bool, true, false}
+use Rattle.sfi_io.specs.Hexadecimal.{GivesImage, BeginsAsImage, IsHexFault, limit}
 use Rattle.sfi_io.specs.declared.hexadecimal.HexStop.{HexStop}
 use Rattle.sfi_io.specs.declared.hexadecimal.HexStop.TheVariants as hex
 use Rattle.sfi_build.specs.declared.fault.BuildFault.{BuildFault}
 use Rattle.sfi_build.specs.Texts.{IsWantOfMemory}
-use Rattle.sfi_answers.specs.declared.fault.InputFault.TheVariants.{Hex}
+use Rattle.sfi_answers.specs.declared.fault.InputFault.TheVariants.{Hex, TooLarge}
 use Rattle.sfi_answers.specs.declared.fault.Stop.{Stop}
 use Rattle.sfi_answers.specs.declared.fault.Stop.TheVariants as stop
 use Rattle.sfi_answers.specs.declared.verdict.Answer.{Answer}
@@ -34,12 +34,20 @@ pub record Meaning : Type 1 where
   pub is_done : List ℕ → Type 0
   -- status 1 is due: it is refused for findings
   pub is_refused : List ℕ → Type 0
-  -- status 2 is due: what was read has a fault
-  pub has_fault : List ℕ → Type 0
+  -- status 2 is due: what was read has this fault, and is to be answered with it
+  pub why : List ℕ → Stop → Type 0
 
 -- the input is an image's bytes, or spells them, and this holds of the bytes
 abbrev pub GivesImageThat : (List ℕ → Type 0) → List ℕ → Type 0
 GivesImageThat holds input = (bytes : List ℕ) × GivesImage input bytes × holds bytes
+
+-- why input gives no image: it is above its limit; or it keeps that, doesn't begin as an image, and
+-- its digits have this fault
+abbrev pub IsNoImage : List ℕ → Stop → Type 0
+IsNoImage input (stop.Input TooLarge) = limit < length input
+IsNoImage input (stop.Input (Hex fault)) =
+    (length input ≤ limit) × (¬ BeginsAsImage input) × IsHexFault input fault
+IsNoImage input _ = ⊥
 
 -- the command on an image that comes as its bytes or as hexadecimal text: the same is said of the
 -- bytes; and input that is neither has a fault
@@ -48,7 +56,7 @@ on_image command = record {
   says = λ input status answer. GivesImageThat (λ bytes. command.says bytes status answer) input;
   is_done = GivesImageThat command.is_done;
   is_refused = GivesImageThat command.is_refused;
-  has_fault = λ input. GivesNoImage input ⊎ GivesImageThat command.has_fault input;
+  why = λ input fault. IsNoImage input fault ⊎ GivesImageThat (λ bytes. command.why bytes fault) input;
 }
 
 -- where a text spells no bytes, its command stops so
@@ -63,12 +71,12 @@ StopsBuild f (stop.Layout fault) = ⊥
 StopsBuild f (stop.Build fault) = (fault ≡ f) × ¬ IsWantOfMemory f
 StopsBuild f stop.Memory = Unit {0}
 
--- a command stops so for want of memory, or for a fault, where its input has one
-abbrev pub IsStop : Type 0 → Stop → Type 0
-IsStop faulty (stop.Input fault) = faulty
-IsStop faulty (stop.Layout fault) = faulty
-IsStop faulty (stop.Build fault) = faulty
-IsStop faulty stop.Memory = Unit {0}
+-- a command stops so for want of memory, or for a fault that is one of these
+abbrev pub IsStop : (Stop → Type 0) → Stop → Type 0
+IsStop faults (stop.Input fault) = faults (stop.Input fault)
+IsStop faults (stop.Layout fault) = faults (stop.Layout fault)
+IsStop faults (stop.Build fault) = faults (stop.Build fault)
+IsStop faults stop.Memory = Unit {0}
 
 -- the answer has this status, or memory ran out
 abbrev pub AnswersStatus : ℕ → Result Answer Stop → Type 0
@@ -81,17 +89,10 @@ AnswersStatus status (Err stop.Memory) = Unit {0}
 -- what a command answers on what was read, or why it stops
 pub record Answers (command : Meaning) (input : List ℕ) (result : Result Answer Stop) : Type 0 where
   pub says : IfOk result (λ a. command.says input a.status a.output.items)
-  pub stop : IfErr result (IsStop (command.has_fault input))
+  pub which : IfErr result (IsStop (command.why input))
   pub only_done : command.is_done input → AnswersStatus 0 result
   pub only_refused : command.is_refused input → AnswersStatus 1 result
-  pub only_fault : command.has_fault input → IsErr result
-
--- a command on an image's bytes stops so: for the fault of their layout, or for want of memory
-abbrev pub IsLayoutStop : List ℕ → Stop → Type 0
-IsLayoutStop bytes (stop.Input fault) = ⊥
-IsLayoutStop bytes (stop.Layout k) = IsFault bytes k
-IsLayoutStop bytes (stop.Build fault) = ⊥
-IsLayoutStop bytes stop.Memory = Unit {0}
+  pub only_fault : (fault : Stop) → command.why input fault → IsErr result
 
 -- ==== The command `check`, on an image's bytes.
 
@@ -163,20 +164,21 @@ IsAcceptedImage bytes = (parts : List Part) × IsAccepted bytes parts
 abbrev pub HasSomeFindings : List ℕ → Type 0
 HasSomeFindings bytes = (found : List Finding) × HasFindings bytes found
 
--- they are no image: the layout has a fault
-abbrev pub HasSomeFault : List ℕ → Type 0
-HasSomeFault bytes = (fault : LayoutFault) × IsFault bytes fault
+-- they are no image: this is the fault of the layout
+abbrev pub IsLayoutFault : List ℕ → Stop → Type 0
+IsLayoutFault bytes (stop.Layout k) = IsFault bytes k
+IsLayoutFault bytes _ = ⊥
 
 -- ---- the command
 
 -- a command with this answer, which is done on an image without findings, refused on one with
--- findings, and has a fault where the bytes are no image
+-- findings, and has the fault of the layout where the bytes are no image
 abbrev pub on_verdict : (List ℕ → ℕ → List ℕ → Type 0) → Meaning
 on_verdict says = record {
   says = says;
   is_done = IsAcceptedImage;
   is_refused = HasSomeFindings;
-  has_fault = HasSomeFault;
+  why = IsLayoutFault;
 }
 
 -- `check`, with the report or without
@@ -212,7 +214,7 @@ dis = record {
   says = SaysListing;
   is_done = λ bytes. (parts : List Part) × IsImage bytes parts;
   is_refused = λ bytes. ⊥;
-  has_fault = HasSomeFault;
+  why = IsLayoutFault;
 }
 
 -- ==== The command `translate`, on an image's bytes.

@@ -10,12 +10,16 @@ use Rattle.sfi_link.specs.declared.names.NameKind.{NameKind}
 use Rattle.sfi_link.specs.declared.names.NameKind.TheVariants.{Gate, Code, Data}
 use Rattle.sfi_report.specs.Listing.{hex_digits, line_end, IsNamesText}
 use Rattle.hex.specs.Hex.{encode_lower}
-use Rattle.sfi_build.specs.declared.fault.BuildFault.{BuildFault}
 use Rattle.sfi_build.specs.Texts.{IsTextBuild, IsTextMap, IsBuildFault}
 use Rattle.sfi_formats.specs.declared.place.Place.{Place}
 use Rattle.sfi_io.specs.Hexadecimal.{limit}
-use Rattle.sfi_answers.specs.Answers.{Meaning, refused_line, SaysRefused, HasSomeFault}
-use Rattle.sfi_check.specs.Converting.{IsSecond, IsOfWords, IsConversion, HasStackFindings}
+use Rattle.sfi_answers.specs.Answers.{Meaning, refused_line, SaysRefused}
+use Rattle.sfi_answers.specs.declared.fault.InputFault.TheVariants.{Utf8, TooLarge, NotOld, Words}
+use Rattle.sfi_answers.specs.declared.fault.Stop.{Stop}
+use Rattle.sfi_answers.specs.declared.fault.Stop.TheVariants as stop
+use Rattle.sfi_check.specs.Converting.{IsSecond, IsConversion, HasStackFindings, IsConvertFault}
+use Rattle.sfi_check.specs.declared.conversion.ConvertFault.TheVariants as conversion
+use Rattle.sfi_check.specs.declared.refusal.Refusal.TheVariants as refusal
 use Rattle.sfi_check.specs.Verdict.{HasFindings}
 use Rattle.sfi_rules.specs.declared.finding.Finding.{Finding}
 
@@ -78,9 +82,13 @@ pub record IsSourceText (input : List ℕ) : Type 0 where
   pub short : length input ≤ limit
   pub utf8 : IsUtf8 input
 
--- what was read is above its limit or isn't UTF-8
-abbrev pub IsNoSourceText : List ℕ → Type 0
-IsNoSourceText input = (limit < length input) ⊎ ¬ IsUtf8 input
+-- why nothing is made of what was read, with the sandboxes of a source at these places: it is above
+-- its limit; or it keeps that, and isn't UTF-8; or it is a source text that has this fault
+abbrev pub IsNotMade : List Place → List ℕ → Stop → Type 0
+IsNotMade places input (stop.Input TooLarge) = limit < length input
+IsNotMade places input (stop.Input Utf8) = (length input ≤ limit) × ¬ IsUtf8 input
+IsNotMade places input (stop.Build fault) = IsSourceText input × IsBuildFault places input fault
+IsNotMade places input _ = ⊥
 
 -- it is a source text of which something is made: status 0 and the text of that
 pub record SaysMade {A : Type 0} (is_made : List ℕ → A → Type 0) (text_of : A → List ℕ)
@@ -92,15 +100,14 @@ pub record SaysMade {A : Type 0} (is_made : List ℕ → A → Type 0) (text_of 
   pub text_is : text ≡ text_of made
 
 -- a command that says what is made of a source text with its sandboxes at these places, and never
--- refuses for findings; a fault of the source, or of what the source makes, is one of the input
+-- refuses for findings
 abbrev pub of_source : {A : Type 0}
     → (List Place → List ℕ → A → Type 0) → (A → List ℕ) → List Place → Meaning
 of_source {A} is_made text_of places = record {
   says = SaysMade (is_made places) text_of;
   is_done = λ input. (made : A) × IsSourceText input × is_made places input made;
   is_refused = λ input. ⊥;
-  has_fault = λ input.
-      IsNoSourceText input ⊎ ((fault : BuildFault) × IsBuildFault places input fault);
+  why = IsNotMade places;
 }
 
 -- the bytes in lower-case digits, on one line
@@ -156,14 +163,22 @@ HasFindingsForConvert bytes =
     (found : List Finding)
     × (((¬ IsSecond bytes) × HasFindings bytes found) ⊎ HasStackFindings bytes found)
 
+-- why the bytes aren't converted: they begin with the magic of the second format, whatever follows;
+-- they don't, and this is the fault of their layout; or they are an accepted image of code in words
+abbrev pub IsNotConverted : List ℕ → Stop → Type 0
+IsNotConverted bytes (stop.Input NotOld) = IsConvertFault bytes conversion.NotOld
+IsNotConverted bytes (stop.Layout k) =
+    IsConvertFault bytes (conversion.Refused (refusal.Layout k))
+IsNotConverted bytes (stop.Input Words) = IsConvertFault bytes conversion.Words
+IsNotConverted bytes _ = ⊥
+
 -- ---- the command
 
--- `convert`. Bytes that begin with the magic of the second format have a fault, whatever follows,
--- and so has an accepted image of code in words
+-- `convert`
 abbrev pub convert : Bool → Meaning
 convert raw = record {
   says = SaysConversion raw;
   is_done = λ bytes. (new : List ℕ) × IsConversion bytes new;
   is_refused = HasFindingsForConvert;
-  has_fault = λ bytes. HasSomeFault bytes ⊎ (IsSecond bytes ⊎ IsOfWords bytes);
+  why = IsNotConverted;
 }

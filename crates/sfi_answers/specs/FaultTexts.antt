@@ -3,6 +3,8 @@ use Rattle.std.specs.Prelude.{◌≡◌, ℕ, List, [], ◌++◌, codes, decimal
 use Rattle.sfi_report.specs.Listing.{line_end}
 use Rattle.sfi_io.specs.declared.hexadecimal.HexFault.TheVariants.{Odd, Digit}
 use Rattle.sfi_image.specs.Faults as layouts
+use Rattle.sfi_check.specs.Converting as converting
+use Rattle.sfi_check.specs.declared.conversion.ConvertFault.TheVariants as conversion
 use Rattle.sfi_image.specs.declared.fault.LayoutFault.{LayoutFault}
 use Rattle.sfi_image.specs.declared.fault.LayoutFault.TheVariants as layout
 use Rattle.sfi_text.specs.Tokens.{cause_number}
@@ -21,14 +23,15 @@ use Rattle.sfi_build.specs.declared.table_fault.TableFault.TheVariants as table
 use Rattle.sfi_build.specs.declared.fault.BuildFault.{BuildFault}
 use Rattle.sfi_build.specs.declared.fault.BuildFault.TheVariants as build
 use Rattle.sfi_answers.specs.declared.fault.InputFault.{InputFault}
-use Rattle.sfi_answers.specs.declared.fault.InputFault.TheVariants.{Hex, Utf8, NotOld, Words, NoSandbox, NoPlace, NoFile}
+use Rattle.sfi_answers.specs.declared.fault.InputFault.TheVariants.{Hex, Utf8, TooLarge, NotOld, Words, NoSandbox, NoPlace, NoFile}
 use Rattle.sfi_answers.specs.declared.fault.Stop.{Stop}
 use Rattle.sfi_answers.specs.declared.fault.Stop.TheVariants as stop
+use Rattle.sfi_answers.specs.Answers.{Meaning}
 
--- the line of a fault of this kind, with its number, its name and where it is
+-- the line of a fault of this kind, with its number, and what it is: its name and where it is
 abbrev pub fault_text : List ℕ → ℕ → List ℕ → List ℕ
-fault_text kind number name =
-    kind ++ codes " fault " ++ decimal number ++ codes " " ++ name ++ line_end
+fault_text kind number what =
+    kind ++ codes " fault " ++ decimal number ++ codes " " ++ what ++ line_end
 
 -- ---- of a layout
 
@@ -48,11 +51,6 @@ layout_name layout.Trailing = codes "Trailing"
 abbrev pub layout_text : LayoutFault → List ℕ
 layout_text k = fault_text (codes "layout") (layouts.number_of k) (layout_name k)
 
--- the line of the fault of these bytes, which are no image
-abbrev pub IsLayoutLine : List ℕ → List ℕ → Type 0
-IsLayoutLine bytes text =
-    (k : LayoutFault) × layouts.IsFault bytes k × (text ≡ layout_text k)
-
 -- ---- of what was read
 
 -- a fault of `convert`, `move` and `exec` by its number among theirs
@@ -60,11 +58,14 @@ abbrev pub input_text : InputFault → List ℕ
 input_text (Hex Odd) = codes "input fault hex odd" ++ line_end
 input_text (Hex (Digit place)) = codes "input fault hex digit " ++ decimal place ++ line_end
 input_text Utf8 = codes "input fault utf8" ++ line_end
-input_text NotOld = codes "convert fault 2 NotOld" ++ line_end
-input_text Words = codes "convert fault 5 Words" ++ line_end
+input_text TooLarge = codes "input fault too large" ++ line_end
+input_text NotOld =
+    fault_text (codes "convert") (converting.number_of conversion.NotOld) (codes "NotOld")
+input_text Words =
+    fault_text (codes "convert") (converting.number_of conversion.Words) (codes "Words")
 input_text NoSandbox = codes "move fault 2 NoSandbox" ++ line_end
 input_text NoPlace = codes "move fault 3 NoPlace" ++ line_end
-input_text NoFile = codes "exec fault no file" ++ line_end
+input_text NoFile = codes "exec fault 7 NoFile" ++ line_end
 
 -- ---- of a source, by the line or the sandbox where it is
 
@@ -114,3 +115,8 @@ stop_text (stop.Input fault) = input_text fault
 stop_text (stop.Layout fault) = layout_text fault
 stop_text (stop.Build fault) = build_text fault
 stop_text stop.Memory = []
+
+-- the line of the fault that the command has on what was read
+abbrev pub IsFaultLine : Meaning → List ℕ → List ℕ → Type 0
+IsFaultLine command input line =
+    (fault : Stop) × command.why input fault × (line ≡ stop_text fault)

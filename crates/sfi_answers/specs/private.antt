@@ -2,9 +2,10 @@
 use Rattle.std.specs.Prelude.{◌≡◌, ◌≢◌, ◌⊎◌, List, [], Result, Ok, Err, ℕ, Bool, true, false, ◌++◌, Option, Some, None, IfSome, Vec}
 use Rattle.std.specs.declared.alloc.Global.{Global}
 use Rattle.sfi_formats.specs.declared.place.Place.{Place}
-use Rattle.sfi_places.specs.Moving.{IsMoved}
-use Rattle.sfi_answers.specs.Answers.{IsStop, refused_line, HasSomeFault, IsAcceptedImage}
-use Rattle.sfi_answers.specs.Moving.{CannotMove}
+use Rattle.sfi_places.specs.Moving.{IsMoved, IsMoveFault}
+use Rattle.sfi_places.specs.declared.moving.MoveFault.TheVariants as moving
+use Rattle.sfi_answers.specs.Answers.{refused_line, IsAcceptedImage}
+use Rattle.sfi_answers.specs.declared.fault.InputFault.TheVariants as faults
 use Rattle.sfi_rules.specs.declared.finding.Finding.{Finding}
 use Rattle.sfi_check.specs.declared.conversion.ConvertFault.{ConvertFault}
 use Rattle.sfi_check.specs.declared.conversion.ConvertFault.TheVariants.{Refused, NotOld, Stack, Memory, Words}
@@ -12,7 +13,6 @@ use Rattle.sfi_check.specs.declared.refusal.Refusal.TheVariants as refusal
 use Rattle.sfi_answers.specs.declared.fault.Stop.{Stop}
 use Rattle.sfi_answers.specs.declared.fault.Stop.TheVariants as stop
 use Rattle.sfi_answers.specs.declared.verdict.Answer.{Answer}
-use Rattle.sfi_answers.specs.Building.{IsNoSourceText}
 use Rattle.sfi_image.specs.Sources.{bytes_of, is_end}
 use Rattle.sfi_check.specs.Verdict.{IsVerdictOn}
 use Rattle.sfi_check.specs.declared.stream_answer.StreamAnswer.{StreamAnswer}
@@ -41,16 +41,24 @@ HoldsSome fault = (found : List Finding) → HasFound fault found → found ≢ 
 abbrev pub AnswersConvertFault : ConvertFault → Result Answer Stop → Type 0
 AnswersConvertFault fault (Ok answer) = (answer.status ≡ 1) × ((found : List Finding)
     × HasFound fault found × (answer.output.items ≡ refused_line found))
-AnswersConvertFault fault (Err (stop.Input other)) = (fault ≡ NotOld) ⊎ (fault ≡ Words)
+AnswersConvertFault fault (Err (stop.Input faults.NotOld)) = fault ≡ NotOld
+AnswersConvertFault fault (Err (stop.Input faults.Words)) = fault ≡ Words
+AnswersConvertFault fault (Err (stop.Input other)) = ⊥
 AnswersConvertFault fault (Err (stop.Layout k)) = fault ≡ Refused (refusal.Layout k)
 AnswersConvertFault fault (Err (stop.Build other)) = ⊥
 AnswersConvertFault fault (Err stop.Memory) = Unit {0}
 
 -- ---- a sandbox that is moved
 
--- a move stops for want of memory, or for a fault, where there is one
+-- a move stops so: for its fault, or for want of memory
 abbrev pub IsMoveStop : List ℕ → ℕ → Place → Stop → Type 0
-IsMoveStop bytes number to why = IsStop (HasSomeFault bytes ⊎ CannotMove number to bytes) why
+IsMoveStop bytes number to (stop.Input faults.NoSandbox) =
+    IsMoveFault bytes number to moving.NoSandbox
+IsMoveStop bytes number to (stop.Input faults.NoPlace) = IsMoveFault bytes number to moving.NoPlace
+IsMoveStop bytes number to (stop.Input other) = ⊥
+IsMoveStop bytes number to (stop.Layout k) = IsMoveFault bytes number to (moving.NoImage k)
+IsMoveStop bytes number to (stop.Build fault) = ⊥
+IsMoveStop bytes number to stop.Memory = Unit {0}
 
 -- the bytes are those of the image with the sandbox at that place, which is accepted if it was
 pub record IsMovedCopy (bytes : List ℕ) (number : ℕ) (to : Place) (now : List ℕ) : Type 0 where
@@ -64,15 +72,6 @@ IsMovedOrMemory (Err (stop.Input fault)) = ⊥
 IsMovedOrMemory (Err (stop.Layout k)) = ⊥
 IsMovedOrMemory (Err (stop.Build fault)) = ⊥
 IsMovedOrMemory (Err stop.Memory) = Unit {0}
-
--- ---- a source text that isn't read
-
--- a source text isn't read only where what was read is none
-abbrev pub IsSourceStop : List ℕ → Stop → Type 0
-IsSourceStop input (stop.Input fault) = IsNoSourceText input
-IsSourceStop input (stop.Layout fault) = ⊥
-IsSourceStop input (stop.Build fault) = ⊥
-IsSourceStop input stop.Memory = ⊥
 
 -- ---- bytes of which a stream hands out a front, and the bytes that a text spells as such a stream
 

@@ -1,8 +1,9 @@
 //! The command `build`.
-ghost use Rattle.std.specs.Prelude.{◌≡◌, ◌≤◌, IfErr, IfOk, length};
+ghost use Rattle.std.specs.Prelude.{◌≡◌, ◌≤◌, IfErr, IfOk, IsUtf8, length};
 ghost use Rattle.sfi_answers.specs.Building.{IsSourceText, build};
 ghost use Rattle.sfi_answers.specs.Answers.{Answers};
-ghost use Rattle.sfi_answers.specs.private.{IsSourceStop};
+ghost use Rattle.sfi_answers.specs.declared.fault.InputFault.TheVariants.{Utf8};
+ghost use Rattle.sfi_answers.specs.declared.fault.Stop.TheVariants.{Input};
 ghost use Rattle.sfi_io.specs.Hexadecimal.{limit};
 
 use crate::fault::{InputFault, Stop};
@@ -15,7 +16,7 @@ use std::alloc::Global;
 pub(crate) fn source_text(text: &[u8]) -> Result<&str, Stop>
     requires { length text.now ≤ limit }
     ensures text { IfOk result (λ source. (source.now ≡ text.now) × IsSourceText source.now) }
-    ensures stop { IfErr result (IsSourceStop text.now) }
+    ensures stop { IfErr result (λ why. (why ≡ Input Utf8) × ¬ IsUtf8 text.now) }
 {
     match std::str::from_utf8(text) {
         Ok(source) => Ok(source),

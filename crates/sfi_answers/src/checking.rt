@@ -1,9 +1,9 @@
 //! The command `check`.
 
-ghost use Rattle.std.specs.Prelude.{◌≡◌, ◌<◌, ◌≤◌, IfErr, IfOk, string_bytes};
+ghost use Rattle.std.specs.Prelude.{◌≡◌, ◌<◌, ◌≤◌, IfOk, string_bytes};
 ghost use Rattle.sfi_check.specs.Verdict.{HasFindings};
-ghost use Rattle.sfi_answers.specs.Answers.{Answers, IsLayoutStop};
-ghost use Rattle.sfi_answers.specs.FaultTexts.{IsLayoutLine};
+ghost use Rattle.sfi_answers.specs.Answers.{Answers};
+ghost use Rattle.sfi_answers.specs.FaultTexts.{IsFaultLine};
 ghost use Rattle.sfi_answers.specs.Answers.{Refuses, IsRefusalText, IsReportOf, SaysRefused, check, on_verdict};
 
 use crate::fault::{Stop, stop_answer};
@@ -56,8 +56,7 @@ pub fn refusal_answer(
     refusal: Refusal,
 ) -> Result<Answer, Stop>
     requires { Refuses bytes.now refusal }
-    ensures answers { Answers (on_verdict (SaysRefused report)) bytes.now result }
-    ensures which { IfErr result (IsLayoutStop bytes.now) }
+    ensures { Answers (on_verdict (SaysRefused report)) bytes.now result }
 {
     match refusal {
         Refusal::Findings(findings) => Ok(Answer::lines(
@@ -71,8 +70,7 @@ pub fn refusal_answer(
 
 /// The verdict on the image with these bytes, with a report on its findings or without.
 pub fn check_answer(alloc: Global, report: bool, bytes: &[u8]) -> Result<Answer, Stop>
-    ensures answers { Answers (check report) bytes.now result }
-    ensures which { IfErr result (IsLayoutStop bytes.now) }
+    ensures { Answers (check report) bytes.now result }
 {
     match check(alloc, bytes) {
         Ok(accepted) => Ok(Answer::lines(
@@ -89,8 +87,8 @@ pub fn bytes_answer(alloc: Global, report: bool, bytes: &[u8]) -> Result<Answer,
     ensures statuses { IfOk result (λ a. a.status ≤ 2) }
     ensures says { IfOk result
         (λ a. a.status < 2 → (check report).says bytes.now a.status a.output.items) }
-    ensures fault { IfOk result (λ a. a.status ≡ 2 → (check report).has_fault bytes.now) }
-    ensures names { IfOk result (λ a. a.status ≡ 2 → IsLayoutLine bytes.now a.output.items) }
+    ensures line { IfOk result
+        (λ a. a.status ≡ 2 → IsFaultLine (check report) bytes.now a.output.items) }
 {
     match check_answer(alloc, report, bytes) {
         Ok(answer) => Ok(answer),

@@ -23,6 +23,8 @@ pub const TOO_LARGE_LINE: &str = "input fault too large\n";
 pub enum InputFault {
     Hex(HexFault),
     Utf8,
+    /// It passes the limit.
+    TooLarge,
     /// It begins as an image of the second format does, which `convert` makes.
     NotOld,
     /// It is an accepted image of code in words, which has no other format.

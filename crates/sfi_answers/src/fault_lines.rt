@@ -4,8 +4,9 @@ ghost use Rattle.std.specs.Prelude.{◌≡◌, ◌≢◌, IfOk, string_bytes};
 ghost use Rattle.sfi_answers.specs.FaultTexts.{build_text, cause_name, fault_text, input_text, layout_name, layout_text, link_name, rewrite_name, source_name, stop_text, table_name};
 ghost use Rattle.sfi_answers.specs.declared.fault.Stop.TheVariants.{Memory};
 
-use crate::fault::{InputFault, Stop};
+use crate::fault::{InputFault, Stop, TOO_LARGE_LINE};
 use sfi_build::{BuildFault, TableFault};
+use sfi_check::ConvertFault;
 use sfi_image::LayoutFault;
 use sfi_io::HexFault;
 use sfi_link::LinkFault;
@@ -13,12 +14,12 @@ use sfi_rewrite::RewriteFault;
 use sfi_text::{TextCause, TextFault};
 use std::alloc::{AllocError, Global};
 
-/// The line of a fault of this kind, with its number, its name and where it is.
-fn fault_line(alloc: Global, kind: &str, number: u32, name: &str) -> Result<String, AllocError>
+/// The line of a fault of this kind, with its number, and what it is: its name and where it is.
+fn fault_line(alloc: Global, kind: &str, number: u32, what: &str) -> Result<String, AllocError>
     ensures { IfOk result
-        (λ line. string_bytes line ≡ fault_text kind.now number name.now) }
+        (λ line. string_bytes line ≡ fault_text kind.now number what.now) }
 {
-    format!(in alloc; "{kind} fault {number} {name}\n")
+    format!(in alloc; "{kind} fault {number} {what}\n")
 }
 
 /// The name of a fault of the layout.
@@ -57,11 +58,12 @@ fn input_line(alloc: Global, fault: InputFault) -> Result<String, AllocError>
             format!(in alloc; "input fault hex digit {place}\n")
         }
         InputFault::Utf8 => String::from_str(alloc, "input fault utf8\n"),
-        InputFault::NotOld => String::from_str(alloc, "convert fault 2 NotOld\n"),
-        InputFault::Words => String::from_str(alloc, "convert fault 5 Words\n"),
+        InputFault::TooLarge => String::from_str(alloc, TOO_LARGE_LINE),
+        InputFault::NotOld => fault_line(alloc, "convert", ConvertFault::NotOld.number(), "NotOld"),
+        InputFault::Words => fault_line(alloc, "convert", ConvertFault::Words.number(), "Words"),
         InputFault::NoSandbox => String::from_str(alloc, "move fault 2 NoSandbox\n"),
         InputFault::NoPlace => String::from_str(alloc, "move fault 3 NoPlace\n"),
-        InputFault::NoFile => String::from_str(alloc, "exec fault no file\n"),
+        InputFault::NoFile => String::from_str(alloc, "exec fault 7 NoFile\n"),
     }
 }
 

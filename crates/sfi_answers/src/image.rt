@@ -4,9 +4,10 @@ ghost use Rattle.std.specs.Prelude.{◌≡◌, ◌<◌, ◌≤◌, false, IfOk, 
 ghost use Rattle.sfi_io.specs.Hexadecimal.{BeginsAsImage};
 ghost use Rattle.sfi_answers.specs.Answers.{on_image};
 ghost use Rattle.sfi_answers.specs.Answers.{check};
+ghost use Rattle.sfi_answers.specs.FaultTexts.{IsFaultLine};
 
 use crate::checking::bytes_answer;
-use crate::fault::TOO_LARGE_LINE;
+use crate::fault::{InputFault, Stop, stop_answer};
 use crate::text::text_answer;
 use crate::verdict::Answer;
 use sfi_io::{Input, ReadStop, begins_as_image, read_first_bytes, read_input};
@@ -18,12 +19,13 @@ fn held_answer<R: Read>(alloc: Global, reader: &mut R) -> Result<Answer, ReadSto
     ensures statuses { IfOk result (λ a. a.status ≤ 2) }
     ensures says { IfOk result (λ a. a.status < 2 → IfSome (R.remaining reader.old)
         (λ input. BeginsAsImage input → (on_image (check false)).says input a.status a.output.items)) }
-    ensures fault { IfOk result (λ a. a.status ≡ 2 → IfSome (R.remaining reader.old)
-        (λ input. BeginsAsImage input → (on_image (check false)).has_fault input)) }
+    ensures line { IfOk result (λ a. a.status ≡ 2 → IfSome (R.remaining reader.old)
+        (λ input. BeginsAsImage input
+        → IsFaultLine (on_image (check false)) input a.output.items)) }
 {
     match read_input(alloc, reader)? {
         Input::Whole(bytes) => Ok(bytes_answer(alloc, false, &bytes)?),
-        Input::TooLarge => Ok(Answer::lines(2, String::from_str(alloc, TOO_LARGE_LINE)?)),
+        Input::TooLarge => Ok(stop_answer(alloc, Stop::Input(InputFault::TooLarge))?),
     }
 }
 
@@ -34,8 +36,8 @@ pub fn image_answer<R: Read>(alloc: Global, reader: &mut R) -> Result<Answer, Re
     ensures statuses { IfOk result (λ a. a.status ≤ 2) }
     ensures says { IfOk result (λ a. a.status < 2 → IfSome (R.remaining reader.old)
         (λ input. (on_image (check false)).says input a.status a.output.items)) }
-    ensures fault { IfOk result (λ a. a.status ≡ 2
-        → IfSome (R.remaining reader.old) (on_image (check false)).has_fault) }
+    ensures line { IfOk result (λ a. a.status ≡ 2 → IfSome (R.remaining reader.old)
+        (λ input. IsFaultLine (on_image (check false)) input a.output.items)) }
 {
     let front = read_first_bytes(alloc, reader)?;
     let mut whole = front.as_slice().chain(reader);

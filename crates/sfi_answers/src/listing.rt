@@ -1,8 +1,6 @@
 //! The command `dis`.
 
-ghost use Rattle.std.specs.Prelude.{IfErr};
-ghost use Rattle.sfi_answers.specs.Answers.{Answers, IsLayoutStop};
-ghost use Rattle.sfi_answers.specs.Answers.{dis};
+ghost use Rattle.sfi_answers.specs.Answers.{Answers, dis};
 
 use crate::fault::Stop;
 use crate::verdict::Answer;
@@ -12,8 +10,7 @@ use std::alloc::Global;
 
 /// The listing of the image with these bytes.
 pub fn listing_answer(alloc: Global, bytes: &[u8]) -> Result<Answer, Stop>
-    ensures answers { Answers dis bytes.now result }
-    ensures which { IfErr result (IsLayoutStop bytes.now) }
+    ensures { Answers dis bytes.now result }
 {
     match parse_image(alloc, bytes) {
         Ok(image) => Ok(Answer::lines(0, listing_text(alloc, &image)?)),

@@ -1,10 +1,10 @@
 //! The command `move`.
 
 ghost use Rattle.std.specs.Prelude.{ℕ, List, IfErr, IfOk, IsErr};
-ghost use Rattle.sfi_places.specs.Moving.{IsMoved};
+ghost use Rattle.sfi_places.specs.Moving.{IsMoved, IsMoveFault};
+ghost use Rattle.sfi_places.specs.declared.moving.MoveFault.{MoveFault};
 ghost use Rattle.sfi_answers.specs.Answers.{Answers};
-ghost use Rattle.sfi_answers.specs.Answers.{HasSomeFault};
-ghost use Rattle.sfi_answers.specs.Moving.{CannotMove, move};
+ghost use Rattle.sfi_answers.specs.Moving.{move};
 ghost use Rattle.sfi_answers.specs.private.{IsMovedCopy, IsMovedOrMemory, IsMoveStop};
 
 use crate::checking::refusal_answer;
@@ -21,7 +21,7 @@ fn moved_copy(alloc: Global, bytes: &[u8], number: u32, to: Place) -> Result<Vec
     ensures stop { IfErr result (IsMoveStop bytes.now number to) }
     ensures only_moved { (now : List ℕ) → IsMoved bytes.now number to now
         → IsMovedOrMemory result }
-    ensures only_fault { CannotMove number to bytes.now → IsErr result }
+    ensures only_fault { (e : MoveFault) → IsMoveFault bytes.now number to e → IsErr result }
 {
     let mut image = Vec::new(alloc);
     image.extend_from_slice(bytes)?;

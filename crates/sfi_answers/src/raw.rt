@@ -2,8 +2,8 @@
 
 ghost use Rattle.std.specs.Prelude.{◌≡◌, ◌<◌, ◌≤◌, ℕ, List, Bool, true, false, IfOk, IfSome, string_bytes};
 ghost use Rattle.sfi_check.specs.Verdict.{IsVerdictOn};
-ghost use Rattle.sfi_answers.specs.Answers.{HasSomeFault, check};
-ghost use Rattle.sfi_answers.specs.FaultTexts.{IsLayoutLine};
+ghost use Rattle.sfi_answers.specs.Answers.{check};
+ghost use Rattle.sfi_answers.specs.FaultTexts.{IsFaultLine};
 ghost use Rattle.sfi_answers.specs.private.{IsJudged};
 
 use crate::fault_lines::layout_line;
@@ -20,10 +20,8 @@ pub(crate) fn stream_answer(alloc: Global, verdict: StreamAnswer) -> Result<Answ
     ensures statuses { IfOk result (λ a. a.status ≤ 2) }
     ensures says { IfOk result (λ a. a.status < 2 → (all : List ℕ) → IsJudged verdict all
         → (check false).says all a.status a.output.items) }
-    ensures fault { IfOk result (λ a. a.status ≡ 2 → (all : List ℕ) → IsJudged verdict all
-        → HasSomeFault all) }
-    ensures names { IfOk result (λ a. a.status ≡ 2 → (all : List ℕ) → IsJudged verdict all
-        → IsLayoutLine all a.output.items) }
+    ensures line { IfOk result (λ a. a.status ≡ 2 → (all : List ℕ) → IsJudged verdict all
+        → IsFaultLine (check false) all a.output.items) }
 {
     match verdict {
         StreamAnswer::Accepted { sandboxes, bundles } => Ok(Answer::lines(
@@ -46,10 +44,8 @@ pub fn raw_answer<R: Read>(alloc: Global, reader: &mut R) -> Result<Answer, Read
     ensures says { IfOk result (λ a. a.status < 2
         → IfSome (R.remaining reader.old)
         (λ bytes. (check false).says bytes a.status a.output.items)) }
-    ensures fault { IfOk result
-        (λ a. a.status ≡ 2 → IfSome (R.remaining reader.old) (check false).has_fault) }
-    ensures names { IfOk result (λ a. a.status ≡ 2 → IfSome (R.remaining reader.old)
-        (λ bytes. IsLayoutLine bytes a.output.items)) }
+    ensures line { IfOk result (λ a. a.status ≡ 2 → IfSome (R.remaining reader.old)
+        (λ bytes. IsFaultLine (check false) bytes a.output.items)) }
 {
     let mut source = ReaderSource::new(reader);
     let verdict = check_stream(&mut source);

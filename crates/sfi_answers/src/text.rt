@@ -3,9 +3,10 @@
 ghost use Rattle.std.specs.Prelude.{◌≡◌, ◌<◌, ◌≤◌, false, IfOk, IfSome, string_bytes};
 ghost use Rattle.sfi_answers.specs.Answers.{on_image};
 ghost use Rattle.sfi_answers.specs.Answers.{check};
+ghost use Rattle.sfi_answers.specs.FaultTexts.{IsFaultLine};
 ghost use Rattle.sfi_io.specs.Hexadecimal.{BeginsAsImage};
 
-use crate::fault::{InputFault, Stop, TOO_LARGE_LINE, stop_answer};
+use crate::fault::{InputFault, Stop, stop_answer};
 use crate::raw::stream_answer;
 use crate::verdict::Answer;
 use sfi_check::check_stream;
@@ -97,9 +98,9 @@ pub(crate) fn text_answer<R: Read>(alloc: Global, reader: &mut R) -> Result<Answ
     ensures says { IfOk result (λ a. a.status < 2
         → IfSome (R.remaining reader.old)
         (λ text. (on_image (check false)).says text a.status a.output.items)) }
-    ensures fault { IfOk result (λ a. a.status ≡ 2
-        → IfSome (R.remaining reader.old)
-        (λ text. (¬ BeginsAsImage text) → (on_image (check false)).has_fault text)) }
+    ensures line { IfOk result (λ a. a.status ≡ 2
+        → IfSome (R.remaining reader.old) (λ text. (¬ BeginsAsImage text)
+        → IsFaultLine (on_image (check false)) text a.output.items)) }
 {
     let mut source = SpelledBytes {
         text: HexReader::new(reader),
@@ -109,7 +110,7 @@ pub(crate) fn text_answer<R: Read>(alloc: Global, reader: &mut R) -> Result<Answ
     match source.end() {
         Ok(()) => stream_answer(alloc, verdict),
         Err(TextStop::Fault(fault)) => Ok(stop_answer(alloc, Stop::Input(InputFault::Hex(fault)))?),
-        Err(TextStop::TooLarge) => Ok(Answer::lines(2, String::from_str(alloc, TOO_LARGE_LINE)?)),
+        Err(TextStop::TooLarge) => Ok(stop_answer(alloc, Stop::Input(InputFault::TooLarge))?),
         Err(TextStop::Failed) => Err(ReadStop::Failed),
     }
 }

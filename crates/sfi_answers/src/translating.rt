@@ -1,7 +1,7 @@
 //! The command `translate`.
 
-ghost use Rattle.std.specs.Prelude.{◌≡◌, IfErr, IfOk, string_bytes};
-ghost use Rattle.sfi_answers.specs.Answers.{Answers, IsLayoutStop};
+ghost use Rattle.std.specs.Prelude.{◌≡◌, IfOk, string_bytes};
+ghost use Rattle.sfi_answers.specs.Answers.{Answers};
 ghost use Rattle.sfi_answers.specs.Answers.{IsTranslationText, back_text, front_text, translate};
 
 use crate::checking::refusal_answer;
@@ -46,8 +46,7 @@ fn translated_text(alloc: Global, whole: bool, image: &Image<'_>) -> Result<Stri
 /// The image with these bytes as C, for a host or as a whole program; or the verdict where it has
 /// findings.
 pub fn translation_answer(alloc: Global, whole: bool, bytes: &[u8]) -> Result<Answer, Stop>
-    ensures answers { Answers (translate whole) bytes.now result }
-    ensures which { IfErr result (IsLayoutStop bytes.now) }
+    ensures { Answers (translate whole) bytes.now result }
 {
     match check(alloc, bytes) {
         Ok(accepted) => Ok(Answer::lines(0, translated_text(alloc, whole, accepted.image())?)),

@@ -3,8 +3,8 @@ use Rattle.sfi_answers.specs.Answers.{SaysVerdict}
 use Rattle.sfi_answers.proofs.Images.{accepted}
 use Rattle.sfi_answers.proofs.checking.check_answer.Goals as goal
 
-pub returns-in_ok-accepted_line-in-Ok-clause-answers : goal.returns-in_ok-accepted_line-in-Ok-clause-answers
-returns-in_ok-accepted_line-in-Ok-clause-answers c =
+pub returns-in_ok-accepted_line-in-Ok : goal.returns-in_ok-accepted_line-in-Ok
+returns-in_ok-accepted_line-in-Ok c =
     accepted (SaysVerdict c.args.report) c.args.bytes.now c.lines.result c.lines.ensures.status
     (inl (record {
       parts = c.in-Ok.accepted;

@@ -6,17 +6,14 @@ use Rattle.sfi_answers.specs.Answers.{IsRefusalText, SaysRefused, Refuses}
 use Rattle.sfi_answers.proofs.Images.{has_fault, has_findings}
 use Rattle.sfi_answers.proofs.checking.refusal_answer.Goals as goal
 
-pub returns-in_ok-refusal_text-in-Findings-clause-answers : goal.returns-in_ok-refusal_text-in-Findings-clause-answers
-returns-in_ok-refusal_text-in-Findings-clause-answers c =
+pub returns-in_ok-refusal_text-in-Findings : goal.returns-in_ok-refusal_text-in-Findings
+returns-in_ok-refusal_text-in-Findings c =
     let text = c.in_ok-refusal_text-in-Findings.field-0 in
     has_findings c.args.report c.args.bytes.now c.in-Findings.findings c.lines.result (subst (λ (r : Refusal). Refuses c.args.bytes.now r) c.in-Findings.is c.requires)
     c.lines.ensures.status
     (subst (IsRefusalText c.args.report c.args.bytes.now c.in-Findings.findings.items) (sym c.lines.ensures.output)
     (subst (λ (found : List Finding). IsRefusalText c.args.report c.args.bytes.now found (string_bytes text)) c.as_slice.ensures.value c.in_ok-refusal_text-in-Findings.ensures))
 
-pub returns-in-Layout-clause-answers : goal.returns-in-Layout-clause-answers
-returns-in-Layout-clause-answers c =
+pub returns-in-Layout : goal.returns-in-Layout
+returns-in-Layout c =
     has_fault (SaysRefused c.args.report) c.args.bytes.now c.in-Layout.fault (subst (λ (r : Refusal). Refuses c.args.bytes.now r) c.in-Layout.is c.requires)
-
-pub returns-in-Layout-clause-which : goal.returns-in-Layout-clause-which
-returns-in-Layout-clause-which c = (subst (λ (r : Refusal). Refuses c.args.bytes.now r) c.in-Layout.is c.requires).layout

@@ -2,6 +2,7 @@ use Rattle.std.proofs.Common.{false}
 use Rattle.std.proofs.lemmas.Result.{IfOk-weaker}
 use Rattle.sfi_io.specs.Hexadecimal.{BeginsAsImage}
 use Rattle.sfi_answers.specs.Answers.{on_image, check}
+use Rattle.sfi_answers.specs.FaultTexts.{IsFaultLine}
 use Rattle.sfi_answers.proofs.Images.{all_begin, none_begins, of_front}
 use Rattle.sfi_answers.proofs.image.image_answer.Goals as goal
 
@@ -13,18 +14,18 @@ returns-then-begins_as_image-clause-says g c =
     (all_begin (g.R.Read.remaining c.args.reader.now) c.in_ok-front.front.items c.deref.result.now c.begins_as_image.result c.deref.ensures.value c.begins_as_image.ensures c.in_ok-front.ensures.begins c.if-begins_as_image.true) (h less))
     c.held_answer.ensures.says
 
-pub returns-then-begins_as_image-clause-fault : goal.returns-then-begins_as_image-clause-fault
-returns-then-begins_as_image-clause-fault g c =
+pub returns-then-begins_as_image-clause-line : goal.returns-then-begins_as_image-clause-line
+returns-then-begins_as_image-clause-line g c =
     IfOk-weaker c.held_answer.result _ _
     (λ a h two. of_front (g.R.Read.remaining c.args.reader.now) (g.R.Read.remaining c.read_first_bytes.new.reader) _ c.in_ok-front.front.items c.as_slice.result.now
-    BeginsAsImage (on_image (check false)).has_fault c.in_ok-front.ensures.front c.as_slice.ensures.value c.chain-whole.ensures.bytes
+    BeginsAsImage (λ input. IsFaultLine (on_image (check false)) input a.output.items) c.in_ok-front.ensures.front c.as_slice.ensures.value c.chain-whole.ensures.bytes
     (all_begin (g.R.Read.remaining c.args.reader.now) c.in_ok-front.front.items c.deref.result.now c.begins_as_image.result c.deref.ensures.value c.begins_as_image.ensures c.in_ok-front.ensures.begins c.if-begins_as_image.true) (h two))
-    c.held_answer.ensures.fault
+    c.held_answer.ensures.line
 
-pub returns-clause-fault : goal.returns-clause-fault
-returns-clause-fault g c =
+pub returns-clause-line : goal.returns-clause-line
+returns-clause-line g c =
     IfOk-weaker c.text_answer.result _ _
     (λ a h two. of_front (g.R.Read.remaining c.args.reader.now) (g.R.Read.remaining c.read_first_bytes.new.reader) _ c.in_ok-front.front.items c.as_slice.result.now
-    (λ input. ¬ BeginsAsImage input) (on_image (check false)).has_fault c.in_ok-front.ensures.front c.as_slice.ensures.value c.chain-whole.ensures.bytes
+    (λ input. ¬ BeginsAsImage input) (λ input. IsFaultLine (on_image (check false)) input a.output.items) c.in_ok-front.ensures.front c.as_slice.ensures.value c.chain-whole.ensures.bytes
     (none_begins (g.R.Read.remaining c.args.reader.now) c.in_ok-front.front.items c.deref.result.now c.begins_as_image.result c.deref.ensures.value c.begins_as_image.ensures c.in_ok-front.ensures.begins c.if-begins_as_image.false) (h two))
-    c.text_answer.ensures.fault
+    c.text_answer.ensures.line

@@ -1,5 +1,5 @@
 use Rattle.std.proofs.Common.{refl}
-use Rattle.sfi_answers.proofs.Moves.{moved, stopped}
+use Rattle.sfi_answers.proofs.Moves.{moved, refused, stopped}
 use Rattle.sfi_answers.proofs.moving.move_answer.Goals as goal
 
 pub returns-in_err-image-in-Ok : goal.returns-in_err-image-in-Ok
@@ -10,5 +10,8 @@ returns-in_err-image-in-Ok c =
 pub returns-in-Ok : goal.returns-in-Ok
 returns-in-Ok c =
     moved c.args.raw c.args.number c.args.to c.args.bytes.now c.in_ok-image-in-Ok.image.items c.in-Ok.field-0 _
-    c.in-Ok.ensures.accepted c.in_ok-image-in-Ok.ensures.moved (λ h. let e = c.in_ok-image-in-Ok.ensures.only_fault h in absurd cc)
-    c.in-Ok.ensures.only_findings c.in-Ok.ensures.only_layout refl c.in_ok-image_output-in-Ok.ensures
+    c.in-Ok.ensures.accepted c.in_ok-image-in-Ok.ensures.moved (λ e h. let no = c.in_ok-image-in-Ok.ensures.only_fault e h in absurd cc)
+    c.in-Ok.ensures.only_findings refl c.in_ok-image_output-in-Ok.ensures
+
+pub returns : goal.returns
+returns c = refused c.args.raw c.args.number c.args.to c.args.bytes.now c.refusal_answer.result c.refusal_answer.ensures

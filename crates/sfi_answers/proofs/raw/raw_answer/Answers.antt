@@ -1,7 +1,7 @@
 use Rattle.std.proofs.Common.{false}
 use Rattle.std.proofs.lemmas.Result.{IfOk-weaker}
-use Rattle.sfi_answers.specs.Answers.{HasSomeFault, SaysVerdict}
-use Rattle.sfi_answers.specs.FaultTexts.{IsLayoutLine}
+use Rattle.sfi_answers.specs.Answers.{SaysVerdict, check}
+use Rattle.sfi_answers.specs.FaultTexts.{IsFaultLine}
 use Rattle.sfi_answers.proofs.Images.{judged}
 use Rattle.sfi_answers.proofs.raw.raw_answer.Goals as goal
 
@@ -17,16 +17,9 @@ returns-clause-says g c =
     (g.R.Read.remaining c.args.reader.now) (λ all. SaysVerdict false all a.status a.output.items) c.new-source.ensures.reader c.check_stream-verdict.ensures.judged (says refused))
     c.stream_answer.ensures.says
 
-pub returns-clause-fault : goal.returns-clause-fault
-returns-clause-fault g c =
+pub returns-clause-line : goal.returns-clause-line
+returns-clause-line g c =
     IfOk-weaker c.stream_answer.result _ _
-    (λ a faulty two. judged (λ s. g.R.Read.remaining s.reader.now) (λ s. s.failed) c.new-source.result c.check_stream-verdict.new.source c.check_stream-verdict.result
-    (g.R.Read.remaining c.args.reader.now) HasSomeFault c.new-source.ensures.reader c.check_stream-verdict.ensures.judged (faulty two))
-    c.stream_answer.ensures.fault
-
-pub returns-clause-names : goal.returns-clause-names
-returns-clause-names g c =
-    IfOk-weaker c.stream_answer.result _ _
-    (λ a names two. judged (λ s. g.R.Read.remaining s.reader.now) (λ s. s.failed) c.new-source.result c.check_stream-verdict.new.source c.check_stream-verdict.result
-    (g.R.Read.remaining c.args.reader.now) (λ bytes. IsLayoutLine bytes a.output.items) c.new-source.ensures.reader c.check_stream-verdict.ensures.judged (names two))
-    c.stream_answer.ensures.names
+    (λ a line two. judged (λ s. g.R.Read.remaining s.reader.now) (λ s. s.failed) c.new-source.result c.check_stream-verdict.new.source c.check_stream-verdict.result
+    (g.R.Read.remaining c.args.reader.now) (λ bytes. IsFaultLine (check false) bytes a.output.items) c.new-source.ensures.reader c.check_stream-verdict.ensures.judged (line two))
+    c.stream_answer.ensures.line

@@ -2,7 +2,7 @@ use Rattle.std.proofs.Common.{◌∙◌, ℕ, false, subst, sym}
 use Rattle.sfi_answers.specs.Answers.{SaysVerdict}
 use Rattle.sfi_check.specs.declared.stream_answer.StreamAnswer.{StreamAnswer}
 use Rattle.sfi_answers.specs.private.{IsJudged}
-use Rattle.sfi_answers.proofs.Images.{says_accepted, says_refused, streamed_fault, streamed_is}
+use Rattle.sfi_answers.proofs.Images.{says_accepted, says_refused, streamed_line}
 use Rattle.sfi_answers.proofs.raw.stream_answer.Goals as goal
 
 pub returns-in_ok-accepted_line-in-Accepted-clause-says : goal.returns-in_ok-accepted_line-in-Accepted-clause-says
@@ -17,13 +17,7 @@ returns-in_ok-refused_line-in-Findings-clause-says c _ all j =
     (says_refused c.in-Findings.count c.in-Findings.first c.lines-in-Findings.result.output.items all (c.lines-in-Findings.ensures.output ∙ c.in_ok-refused_line-in-Findings.ensures)
     (subst (λ (a : StreamAnswer). IsJudged a all) c.in-Findings.is j))
 
-pub returns-in_ok-layout_line-in-Layout-clause-fault : goal.returns-in_ok-layout_line-in-Layout-clause-fault
-returns-in_ok-layout_line-in-Layout-clause-fault c _ all j =
-    streamed_fault c.in-Layout.fault all (subst (λ (a : StreamAnswer). IsJudged a all) c.in-Layout.is j)
-
-pub returns-in_ok-layout_line-in-Layout-clause-names : goal.returns-in_ok-layout_line-in-Layout-clause-names
-returns-in_ok-layout_line-in-Layout-clause-names c _ all j = (
-  c.in-Layout.fault,
-  streamed_is c.in-Layout.fault all (subst (λ (a : StreamAnswer). IsJudged a all) c.in-Layout.is j),
-  c.lines-in-Layout.ensures.output ∙ c.in_ok-layout_line-in-Layout.ensures,
-)
+pub returns-in_ok-layout_line-in-Layout-clause-line : goal.returns-in_ok-layout_line-in-Layout-clause-line
+returns-in_ok-layout_line-in-Layout-clause-line c _ all j =
+    streamed_line c.in-Layout.fault all c.lines-in-Layout.result.output.items (c.lines-in-Layout.ensures.output ∙ c.in_ok-layout_line-in-Layout.ensures)
+    (subst (λ (a : StreamAnswer). IsJudged a all) c.in-Layout.is j)

@@ -5,8 +5,8 @@ use Rattle.sfi_answers.specs.Answers.{IsTranslationText, SaysTranslation}
 use Rattle.sfi_answers.proofs.Images.{accepted}
 use Rattle.sfi_answers.proofs.translating.translation_answer.Goals as goal
 
-pub returns-in_ok-translated_text-in-Ok-clause-answers : goal.returns-in_ok-translated_text-in-Ok-clause-answers
-returns-in_ok-translated_text-in-Ok-clause-answers c =
+pub returns-in_ok-translated_text-in-Ok : goal.returns-in_ok-translated_text-in-Ok
+returns-in_ok-translated_text-in-Ok c =
     let text = c.in_ok-translated_text-in-Ok.field-0 in
     accepted (SaysTranslation c.args.whole) c.args.bytes.now c.lines.result c.lines.ensures.status
     (inl (record {
