@@ -71,10 +71,10 @@ class CheckerInC:
         return lines
 
     def see_verdicts(self, cases):
-        """Compares the verdicts of those images that are in bundles: of each case its name, the image and the verdict."""
+        """Compares the verdicts of those images that are in bundles: of each case its name, the image and the verdict's line."""
         cases = [it for it in cases if it[1][:4] != images.MAGICS[3]]
         for way in self.ways.values():
-            found = self.verdicts(way, [data for _, data, _ in cases])
+            found = ([line] for line in self.verdicts(way, [data for _, data, _ in cases]))
             for (self.tally.case, data, verdict), line in itertools.zip_longest(cases, found, fillvalue=("", b"", None)):
                 self.tally.see(VERDICTS, verdict, line, data)
 
@@ -88,8 +88,9 @@ class CheckerInC:
     def see_ways(self, seed, count):
         """Compares both ways on images that the second checker doesn't see."""
         some = [odd_images.small_image(seed + n) for n in range(count)]
-        for self.tally.case, (data, *lines) in enumerate(zip(some, *(self.verdicts(way, some) for way in self.ways.values()))):
-            self.tally.see(WAYS, *lines, data)
+        lines = itertools.zip_longest(some, *(self.verdicts(way, some) for way in self.ways.values()))
+        for self.tally.case, (data, switches, table) in enumerate(lines, seed):
+            self.tally.see(WAYS, switches or "a line", table, data)
 
 
 def compared(program, without, case):
@@ -104,12 +105,12 @@ def compared(program, without, case):
         except second_checker.Fault as fault:
             said = str(fault)
         found = program_says(program, ["check"], text.encode())
-        return name, [(FAULTS, (2, [line]), found, data), (FAULTS, line, said, data)], lines[-1]
+        return name, [(FAULTS, (2, [line]), found, data), (FAULTS, line, said, data)], lines[-1:]
     if choice < 0.2:
-        return name, [(BYTES, (status, lines[-1:]), program_says(program, ["check", "--raw"], data), data)], lines[-1]
+        return name, [(BYTES, (status, lines[-1:]), program_says(program, ["check", "--raw"], data), data)], lines[-1:]
     text = commands.spelled(pick, data).encode()
     found = program_says(program, ["check", "--report"], text)
-    return name, [(TEXTS, expected(second_checker.image_of(text), without), found, data)], lines[-1]
+    return name, [(TEXTS, expected(second_checker.image_of(text), without), found, data)], lines[-1:]
 
 
 def kinds(seed):
@@ -131,7 +132,7 @@ def compare_whole(program, without, tally, in_c, seed):
             tally.see(BYTES, (status, lines[-1:]), program_says(program, ["check", "--raw"], data), data)
             if in_c and data[:4] != images.MAGICS[3]:
                 in_c.see_findings(data, lines)
-                in_c.see_verdicts([(tally.case, data, lines[-1])])
+                in_c.see_verdicts([(tally.case, data, lines[-1:])])
 
 
 def main(words=None):
