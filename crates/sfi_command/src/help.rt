@@ -171,6 +171,7 @@ Where there is no run, or it can't go on, standard error says why, by the line o
   exec fault 4 Read                  standard input can't be read
   exec fault 5 Write                 standard output can't be written
   exec fault 6 TooLong               18446744073709551615 turns are over
+  exec fault 7 NoFile                no file can be opened, as from C
 
 Exit status: that of the first sandbox that has one other than 0, or else 0:
   0 to 255  the low 8 bits of its exit code; where it is one of the following,

@@ -1,16 +1,22 @@
 -- What a job answers on a text, and what `exec` does.
 use Rattle.sfi_tool.proofs.Prelude.{◌≡◌, ◌∙◌, ℕ, List, refl, ap, subst, length, slots_of, Part, Result, sym, inl, arith, Bool}
-use Rattle.std.proofs.Common.{[], ◌++◌, Option, Some, None, map, Vec, Global, ◌≢◌, Ok, Err, ◌⊎◌, inr, ◌≤◌, true, false, ◌<◌}
+use Rattle.std.proofs.Common.{⊎_elim}
+use Rattle.std.proofs.lemmas.Bool.{cases_eq}
+use Rattle.std.proofs.lemmas.List.{length-replicate}
+use Rattle.std.proofs.Common.{[], ◌++◌, ◌+◌, replicate, Option, Some, None, map, Vec, Global, ◌≢◌, Ok, Err, ◌⊎◌, inr, ◌≤◌, true, false, ◌<◌}
 use Rattle.std.specs.FinMap.{empty}
 use Rattle.std.specs.Io.KnownBytes.{Appends, Keeps}
 use Rattle.rv_mem.specs.Bytes.{Bytes}
-use Rattle.sfi_answers.specs.Answers.{GivesImageThat, stop_of, IsAcceptedImage, Meaning, on_image, Answers, IsStop, SaysVerdict, SaysRefused, SaysTranslation}
+use Rattle.sfi_answers.specs.Answers.{GivesImageThat, stop_of, IsAcceptedImage, IsNoImage, Meaning, on_image, Answers, IsStop, SaysVerdict, SaysRefused, SaysTranslation}
+use Rattle.sfi_answers.specs.FaultTexts.{IsFaultLine, stop_text}
+use Rattle.sfi_answers.specs.declared.fault.InputFault.TheVariants.{Hex, TooLarge}
 use Rattle.sfi_answers.specs.declared.fault.Stop.TheVariants as stop
 use Rattle.sfi_io.specs.Hexadecimal.{WritesPart, GivesBytes, IsInput, IsHexFault, IsHexStop, IsNoHexadecimal, GivesImage, GivesNoImage, limit}
 use Rattle.sfi_io.specs.declared.hexadecimal.HexStop.{HexStop}
 use Rattle.sfi_io.specs.declared.hexadecimal.HexStop.TheVariants as hex
 use Rattle.sfi_tool.specs.declared.execution.ExecFault.{ExecFault}
 use Rattle.sfi_io.specs.declared.streams.Input.TheVariants.{Whole}
+use Rattle.sfi_io.specs.declared.streams.Input.TheVariants as inputs
 use Rattle.sfi_host.specs.Consoles.{ConsoleState, new_console}
 use Rattle.sfi_host.specs.Joint.{Machine, IsMachine}
 use Rattle.sfi_host.specs.Loading.{first_seat, with_parts}
@@ -18,9 +24,9 @@ use Rattle.sfi_host.specs.Slots.{Slot}
 use Rattle.sfi_host.specs.Worlds.{Sandboxes, Seat}
 use Rattle.std.specs.Bool.{OnTrue, OnFalse}
 use Rattle.sfi_tool.specs.declared.execution.Ended.{Ended}
-use Rattle.sfi_tool.specs.Executing.{AreExecuted, Begins, ExecutesKnown, HaveExecuted, IsBegun, IsExecution, IsStopText, IsTold, first_streams, status_among, streams}
+use Rattle.sfi_tool.specs.Executing.{AreExecuted, Begins, ExecutesText, HaveExecuted, IsBegun, IsNotAccepted, IsStopText, IsTold, ReadsThat, WritesRefusal, first_streams, status_among, streams}
 use Rattle.sfi_tool.specs.Running.{first_slots, SaysRun}
-use Rattle.sfi_tool.specs.private.{AreCut, AreStreamed, AreWithin, IfKnown, Ran, RanImage, kept}
+use Rattle.sfi_tool.specs.private.{AreCut, AreStreamed, AreWithin, IfKnown, Ran, RanImage, Runs, kept}
 use Rattle.sfi_tool.proofs.Budgets.{first_within}
 use Rattle.sfi_tool.proofs.Turns.{appends_kept, appends_none, cut_at_end, cut_kept, keeps_appends, no_turn, some_same}
 use Rattle.std.specs.Prelude.{IfErr, IfOk, IfSome, IsErr, IsErrAnd}
@@ -30,7 +36,7 @@ use Rattle.sfi_io.specs.declared.hexadecimal.HexFault.TheVariants.{Odd, Digit}
 use Rattle.sfi_answers.specs.declared.fault.Stop.{Stop}
 use Rattle.sfi_answers.specs.declared.verdict.Answer.{Answer}
 use Rattle.sfi_tool.specs.declared.serving.Interruption.{Interruption}
-use Rattle.sfi_tool.specs.Says.{OnlyAppends, Says, HasInputFault, IsDone, IsRefused}
+use Rattle.sfi_tool.specs.Says.{OnlyAppends, Says, HasInputFault, IsDone, IsRefused, meaning_of}
 use Rattle.sfi_formats.specs.declared.place.Place.{Place}
 use Rattle.sfi_answers.specs.Building.{SaysConversion}
 use Rattle.sfi_answers.specs.Moving.{SaysMoved}
@@ -122,11 +128,6 @@ begins_none budget ps input out outs keeps = record {
   ));
 }
 
--- what holds of the text that was read holds of the text that the reader told
-pub where_known : (o : Option (List ℕ)) (text : List ℕ) (holds : List ℕ → Type 0) → ((known : List ℕ) → o ≡ Some known → text ≡ known) → holds text → IfSome o holds
-where_known None text holds is h = tt
-where_known (Some known) text holds is h = subst holds (is known refl) h
-
 -- a beginning is appended, and so is nothing, and a part of a text
 pub begins_appends : (budget : ℕ) (ps : List Part) (input out outs : Option (List ℕ)) → Begins budget ps input out outs → OnlyAppends out outs
 begins_appends budget ps input out outs b = (b.written, b.writes)
@@ -145,30 +146,80 @@ pub told_is : (told : Bool) (err errs : Option (List ℕ)) (said : List ℕ) →
 told_is true err errs said whole part = whole
 told_is false err errs said whole part = part
 
+pub told_appends : (told : Bool) (err errs : Option (List ℕ)) (said : List ℕ) → IsTold told err errs said → OnlyAppends err errs
+told_appends true err errs said tells = (said, tells)
+told_appends false err errs said tells = part_appends err errs said tells
+
 -- what was read, where the reader told its bytes
-pub whole_is : (o : Option (List ℕ)) (text : Vec ℕ Global) (known : List ℕ) → o ≡ Some known → IsInput o (Whole text) → text.items ≡ known
-whole_is o text known is input = (subst (λ (x : Option (List ℕ)). IsInput x (Whole text)) is input).0
+pub read_is : (told : Option (List ℕ)) (text : Vec ℕ Global) (read : List ℕ) → read ≡ text.items → IsInput told (Whole text) → IfSome told (λ bytes. read ≡ bytes)
+read_is None text read same is = tt
+read_is (Some bytes) text read same is = same ∙ is.0
+
+-- some text is longer than that
+longer : (n : ℕ) → (text : List ℕ) × (n < length text)
+longer n = (replicate (n + 1) 0, omega (arith, length-replicate {A = ℕ} (n + 1) 0))
+
+-- a text above its limit was read
+pub large_read : (told : Option (List ℕ)) → IsInput told inputs.TooLarge → ReadsThat told (λ text. limit < length text)
+large_read None over = let text = longer limit in (text.0, tt, text.1)
+large_read (Some bytes) over = (bytes, refl, over)
+
+pub reads_that : (told : Option (List ℕ)) (P Q : List ℕ → Type 0) → ((text : List ℕ) → P text → Q text) → ReadsThat told P → ReadsThat told Q
+reads_that told P Q follows r = (r.0, r.1, follows r.0 r.2)
 
 -- the image that a text is or spells was executed
-pub executes : (budget : ℕ) (text input left out outs err errs : Option (List ℕ)) (ended : Ended) (whole : List ℕ)
-    → ((known : List ℕ) → text ≡ Some known → whole ≡ known) → GivesImageThat (RanImage budget input left out outs err errs ended) whole
-    → ExecutesKnown budget text input left out outs err errs ended
-executes budget None input left out outs err errs ended whole is ran = tt
-executes budget (Some text) None left out outs err errs ended whole is ran =
-    subst (λ (t : List ℕ). GivesImageThat IsAcceptedImage t) (is text refl) (ran.0, ran.1, (ran.2.parts, ran.2.accepted))
-executes budget (Some text) (Some input) None out outs err errs ended whole is ran = absurd ran.2.ran.ran
-executes budget (Some text) (Some input) (Some left) out outs err errs ended whole is ran =
+pub executes : (budget : ℕ) (input left out outs err errs : Option (List ℕ)) (ended : Ended) (text : List ℕ)
+    → GivesImageThat (RanImage budget input left out outs err errs ended) text → ExecutesText budget input left out outs err errs ended text
+executes budget None left out outs err errs ended text ran = (ran.0, ran.1, (ran.2.parts, ran.2.accepted))
+executes budget (Some input) None out outs err errs ended text ran = absurd ran.2.ran.ran
+executes budget (Some input) (Some left) out outs err errs ended text ran =
     let r = ran.2.ran in
     record {
       written = r.written;
       said = r.said;
-      executed = subst (λ (t : List ℕ). GivesImageThat (IsExecution budget input left r.written r.said ended.status) t) (is text refl)
-          (ran.0, ran.1, record { parts = ran.2.parts; accepted = ran.2.accepted; ran = r.ran });
+      executed = (ran.0, ran.1, record { parts = ran.2.parts; accepted = ran.2.accepted; ran = r.ran });
       writes = r.writes;
       says = r.says;
     }
 
+-- what holds of the bytes, if nothing else does, holds of the text that spells them
+pub or_image : (A : Type 0) (P : List ℕ → Type 0) (text bytes read : List ℕ) → GivesImage text bytes → read ≡ bytes → A ⊎ P read → A ⊎ GivesImageThat P text
+or_image A P text bytes read gives same (inl a) = inl a
+or_image A P text bytes read gives same (inr p) = inr (bytes, gives, subst P same p)
+
 -- ---- a refusal
+
+-- what gives an image keeps the limit
+pub keeps_limit : (input bytes : List ℕ) → GivesImage input bytes → length input ≤ limit
+keeps_limit input bytes (inl own) = own.short
+keeps_limit input bytes (inr spells) = spells.short
+
+-- the verdict with findings
+pub as_first : (bytes : List ℕ) (status : ℕ) (text : List ℕ) → SaysRefused false bytes status text → SaysRefused false bytes 1 text
+as_first bytes status text says = record { found = says.found; refused = says.refused; status_is = refl; text_is = says.text_is }
+
+-- the line for the bytes is that for the text that spells them
+pub refusal_on_image : (command : Meaning) (text bytes read : List ℕ) (err errs : Option (List ℕ)) → GivesImage text bytes → read ≡ bytes → WritesRefusal command err errs read
+    → WritesRefusal (on_image command) err errs text
+refusal_on_image command text bytes read err errs gives same (line, inl says, writes) = (line, inl (bytes, gives, subst (λ (b : List ℕ). command.says b 1 line) same says), writes)
+refusal_on_image command text bytes read err errs gives same (line, inr (fault, why, is), writes) =
+    (line, inr (fault, inr (bytes, gives, subst (λ (b : List ℕ). command.why b fault) same why), is), writes)
+
+-- the line where it spells none
+pub refusal_of_digits : (command : Meaning) (text : List ℕ) (why : HexStop) (err errs : Option (List ℕ)) → length text ≤ limit → IsHexStop text why
+    → ((bytes : List ℕ) → GivesImage text bytes → GivesBytes {Z = Global} bytes (Err why)) → stop_of why ≢ stop.Memory → Appends err errs (stop_text (stop_of why))
+    → WritesRefusal (on_image command) err errs text
+refusal_of_digits command text (hex.Fault fault) err errs short is only some writes =
+    (stop_text (stop.Input (Hex fault)), inr (stop.Input (Hex fault), inl (short, λ begins. only text (inl (record { begins = begins; short = short; same = refl })), is), refl), writes)
+refusal_of_digits command text hex.Memory err errs short is only some writes = absurd (some refl)
+
+-- and where it is above its limit
+pub refusal_of_large : (command : Meaning) (text : List ℕ) (err errs : Option (List ℕ)) → limit < length text → Appends err errs (stop_text (stop.Input TooLarge))
+    → WritesRefusal (on_image command) err errs text
+refusal_of_large command text err errs over writes = (stop_text (stop.Input TooLarge), inr (stop.Input TooLarge, inl over, refl), writes)
+
+pub large_not_accepted : (text : List ℕ) → limit < length text → IsNotAccepted text
+large_not_accepted text over h = absurd (omega (arith, over, keeps_limit text h.0 h.1))
 
 -- text that spells no bytes, where memory sufficed, gives none
 pub no_bytes : (why : HexStop) (bytes : List ℕ) → stop_of why ≢ stop.Memory → GivesBytes {Z = Global} bytes (Err why) → ⊥
@@ -185,17 +236,27 @@ same_fault one two e = ap (fault_or one) e
 -- ==== What a job answers on a text: by the bytes that it spells, with which statuses, and above the limit.
 
 -- a fault that follows from another
-stops_more : (P Q : Type 0) → (P → Q) → (s : Stop) → IsStop P s → IsStop Q s
-stops_more P Q follows (stop.Input fault) is = follows is
-stops_more P Q follows (stop.Layout fault) is = follows is
-stops_more P Q follows (stop.Build fault) is = follows is
+stops_more : (P Q : Stop → Type 0) → ((s : Stop) → P s → Q s) → (s : Stop) → IsStop P s → IsStop Q s
+stops_more P Q follows (stop.Input fault) is = follows (stop.Input fault) is
+stops_more P Q follows (stop.Layout fault) is = follows (stop.Layout fault) is
+stops_more P Q follows (stop.Build fault) is = follows (stop.Build fault) is
 stops_more P Q follows stop.Memory is = tt
+
+-- digits with a fault spell no bytes
+pub no_digits : (input : List ℕ) (fault : HexFault) → IsHexFault input fault → IsNoHexadecimal input
+no_digits input Odd is = subst IsErr (sym is) refl
+no_digits input (Digit place) is = subst IsErr (sym is.1) refl
+
+none_given : (input : List ℕ) (fault : Stop) → IsNoImage input fault → GivesNoImage input
+none_given input (stop.Input TooLarge) over = inl over
+none_given input (stop.Input (Hex fault)) wrong = inr (wrong.1, no_digits input fault wrong.2)
+none_given input _ none = absurd none
 
 pub on_bytes : (command : Meaning) (text bytes read : List ℕ) (r : Result Answer Stop) → GivesImage text bytes
     → ((b : List ℕ) → GivesImage text b → bytes ≡ b) → (¬ GivesNoImage text) → read ≡ bytes → Answers command read r → Answers (on_image command) text r
 on_bytes command text bytes read r spells one readable same read_says = record {
   says = IfOk-weaker r _ _ (λ x h. (bytes, spells, h)) a.says;
-  stop = IfErr-weaker r _ _ (stops_more (command.has_fault bytes) ((on_image command).has_fault text) (λ h. inr (bytes, spells, h))) a.stop;
+  which = IfErr-weaker r _ _ (stops_more (command.why bytes) ((on_image command).why text) (λ fault h. inr (bytes, spells, h))) a.which;
   only_done = λ h. a.only_done (subst command.is_done (sym (one h.0 h.1)) h.2);
   only_refused = λ h. a.only_refused (subst command.is_refused (sym (one h.0 h.1)) h.2);
   only_fault = fault;
@@ -204,14 +265,9 @@ on_bytes command text bytes read r spells one readable same read_says = record {
     a : Answers command bytes r
     a = subst (λ (b : List ℕ). Answers command b r) same read_says
 
-    fault : (on_image command).has_fault text → IsErr r
-    fault (inl unreadable) = absurd (readable unreadable)
-    fault (inr h) = a.only_fault (subst command.has_fault (sym (one h.0 h.1)) h.2)
-
--- digits with a fault spell no bytes
-no_digits : (input : List ℕ) (fault : HexFault) → IsHexFault input fault → IsNoHexadecimal input
-no_digits input Odd is = subst IsErr (sym is) refl
-no_digits input (Digit place) is = subst IsErr (sym is.1) refl
+    fault : (why : Stop) → (on_image command).why text why → IsErr r
+    fault why (inl unreadable) = absurd (readable (none_given text why unreadable))
+    fault why (inr h) = a.only_fault why (subst (λ (b : List ℕ). command.why b why) (sym (one h.0 h.1)) h.2)
 
 -- where the input gives no image, or memory ran out, each command stops
 pub on_no_bytes : (command : Meaning) (input : List ℕ) (why : HexStop) (r : Result Answer Stop) → length input ≤ limit → IsHexStop input why
@@ -220,18 +276,18 @@ on_no_bytes command input why (Ok a) short is only stops = absurd stops
 on_no_bytes command input (hex.Fault fault) (Err s) short is only stops =
     subst (λ (x : Stop). Answers (on_image command) input (Err x)) (sym stops) (record {
       says = tt;
-      stop = inl (inr (λ begins. only input (inl (record { begins = begins; short = short; same = refl })), no_digits input fault is));
+      which = inl (short, λ begins. only input (inl (record { begins = begins; short = short; same = refl })), is);
       only_done = λ h. absurd (only h.0 h.1);
       only_refused = λ h. absurd (only h.0 h.1);
-      only_fault = λ _. refl;
+      only_fault = λ _ _. refl;
     })
 on_no_bytes command input hex.Memory (Err s) short is only stops =
     subst (λ (x : Stop). Answers (on_image command) input (Err x)) (sym stops) (record {
       says = tt;
-      stop = tt;
+      which = tt;
       only_done = λ _. tt;
       only_refused = λ _. tt;
-      only_fault = λ _. refl;
+      only_fault = λ _ _. refl;
     })
 
 -- ---- statuses
@@ -272,15 +328,18 @@ status_of_answer (Translate whole) input status text says = of_translation whole
 -- ---- a text above its limit
 
 -- is a fault to each job that reads a text
-pub too_large : (job : Job) (text : List ℕ) → is_raw job ≡ false → limit < length text → HasInputFault job text
+too_large : (job : Job) (text : List ℕ) → is_raw job ≡ false → limit < length text → HasInputFault job text (stop.Input TooLarge)
 too_large (Check true report) text read over = absurd (cc)
-too_large (Exec image budget) text read over = tt
-too_large _ text read over = inl (inl over)
+too_large (Build raw places) text read over = over
+too_large (Map places) text read over = over
+too_large (Exec image budget) text read over = over
+too_large _ text read over = inl over
 
--- what gives an image keeps the limit
-keeps_limit : (input bytes : List ℕ) → GivesImage input bytes → length input ≤ limit
-keeps_limit input bytes (inl own) = own.short
-keeps_limit input bytes (inr spells) = spells.short
+-- which is answered with its line
+pub too_large_line : {E : Type 0} (job : Job) (text : List ℕ) (r : Result Answer E) → is_raw job ≡ false → limit < length text → IfOk r (λ a. a.output.items ≡ stop_text (stop.Input TooLarge))
+    → IfOk r (λ a. a.status ≡ 2 → IsFaultLine (meaning_of job) text a.output.items)
+too_large_line job text (Ok a) read over is = λ _. (stop.Input TooLarge, too_large job text read over, is)
+too_large_line job text (Err e) read over is = tt
 
 -- no such job is done on it
 pub not_done : (job : Job) (text : List ℕ) → is_raw job ≡ false → limit < length text → IsDone job text → ⊥
@@ -298,3 +357,47 @@ not_refused (Build raw places) text read over refused = absurd refused
 not_refused (Map places) text read over refused = absurd refused
 not_refused (Exec image budget) text read over refused = refused
 not_refused _ text read over refused = absurd (omega (arith, over, keeps_limit text refused.0 refused.1))
+
+-- ==== A job whose answer is made while its input is read.
+
+on_input : (input : Option (List ℕ)) {P Q : List ℕ → Type 0} → ((bytes : List ℕ) → P bytes → Q bytes) → IfSome input P → IfSome input Q
+on_input None to has = tt
+on_input (Some bytes) to has = to bytes has
+
+-- the status that is given is the answer's, unless a write failed
+pub ran_streamed : (job : Job) (input old new : Option (List ℕ)) (told given : ℕ) (text written : List ℕ) → written ≡ text → told ≤ 2
+    → (told < 2 → IfSome input (λ bytes. Says job bytes told text)) → (told ≡ 2 → IfSome input (λ bytes. IsFaultLine (meaning_of job) bytes text))
+    → (given ≢ 5 → given ≡ told) → (given ≢ 5 → Appends old new written) → OnlyAppends old new → Runs job input old new given
+ran_streamed job input old new told given text written is_text few says line same whole_written appends =
+  let whole : given ≢ 5 → Appends old new text = λ other. subst (λ (t : List ℕ). Appends old new t) is_text (whole_written other) in record {
+  statuses = ⊎_elim (λ (five : given ≡ 5). omega arith) (λ (other : given ≢ 5). let e = same other in omega (arith, e, few)) (cases_eq given 5);
+  says = λ less.
+      let other : given ≢ 5 = λ five. absurd (omega (arith, five, less)) in
+      let e : given ≡ told = same other in
+      subst (λ (s : ℕ). IfSome input (λ bytes. (t : List ℕ) × Says job bytes s t × Appends old new t)) (sym e)
+      (on_input input (λ bytes is. (text, is, whole other)) (says (omega (arith, e, less))));
+  line = λ two.
+      let other : given ≢ 5 = λ five. absurd (omega (arith, five, two)) in
+      let e : given ≡ told = same other in
+      on_input input (λ bytes is. (text, is, whole other)) (line (sym e ∙ two));
+  usage = λ three.
+      let other : given ≢ 5 = λ five. absurd (omega (arith, five, three)) in
+      let e = same other in absurd (omega (arith, e, three, few));
+  appends = appends;
+}
+
+-- what a job comes to on a text that was read whole
+pub ran_read : (job : Job) (told old new : Option (List ℕ)) {status : ℕ} (text : Vec ℕ Global) (read : List ℕ) → read ≡ text.items → IsInput told (Whole text)
+    → Runs job (Some read) old new status → Runs job told old new status
+ran_read job None old new text read same is ran = record { statuses = ran.statuses; says = λ less. tt; line = λ two. tt; usage = ran.usage; appends = ran.appends }
+ran_read job (Some bytes) old new {status} text read same is ran = subst (λ (b : List ℕ). Runs job (Some b) old new status) (same ∙ is.0) ran
+
+-- and on one that is too large
+pub ran_too_large : (job : Job) (told old new : Option (List ℕ)) {given : ℕ} (text : List ℕ) → is_raw job ≡ false → IsInput told inputs.TooLarge → text ≡ stop_text (stop.Input TooLarge)
+    → (given ≢ 5 → given ≡ 2) → (given ≢ 5 → Appends old new text) → OnlyAppends old new → Runs job told old new given
+ran_too_large job told old new text read large is same whole appends =
+    ran_streamed job told old new 2 _ text text refl (omega arith) (λ less. absurd (omega (arith, less))) (λ two. lines told large) same whole appends
+  where
+    lines : (told : Option (List ℕ)) → IsInput told inputs.TooLarge → IfSome told (λ bytes. IsFaultLine (meaning_of job) bytes text)
+    lines None over = tt
+    lines (Some bytes) over = (stop.Input TooLarge, too_large job bytes read over, is)

@@ -4,3 +4,5 @@ pub mod Turns
 pub mod Budgets
 pub mod Calls
 pub mod Jobs
+mod OneFault
+pub mod Facts

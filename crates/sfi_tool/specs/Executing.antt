@@ -1,6 +1,6 @@
 -- The command `exec`: the sandboxes of an image run one after another, each to its end, and their
 -- put and get are those of a process.
-use Rattle.std.specs.Prelude.{◌≡◌, ◌≤◌, ◌==◌, ◌+◌, ◌%◌, ◌^◌, ℕ, zero, suc, min, Bool, true, false, if◌then◌else◌, List, [], ◌∷◌, ◌++◌, length, take, drop, map, Option, Some, None, IfSome, Result, Ok, Err, slice_get, codes, decimal}
+use Rattle.std.specs.Prelude.{◌≡◌, ◌⊎◌, ◌≤◌, ◌==◌, ◌+◌, ◌%◌, ◌^◌, ℕ, zero, suc, min, Bool, true, false, if◌then◌else◌, List, [], ◌∷◌, ◌++◌, length, take, drop, map, Option, Some, None, IfSome, Result, Ok, Err, slice_get, codes, decimal}
 use Rattle.std.specs.List.{range_with_len}
 use Rattle.std.specs.Io.KnownBytes.{Appends}
 use Rattle.rv_mem.specs.Bytes.{with_bytes}
@@ -14,8 +14,9 @@ use Rattle.sfi_host.specs.Hosts.{Answer, Call, Replied}
 use Rattle.sfi_host.specs.Joint.{Machine, IsMachine}
 use Rattle.sfi_host.specs.Plans.{IsJoint}
 use Rattle.sfi_host.specs.Slots.{Slot}
-use Rattle.sfi_answers.specs.Answers.{GivesImageThat, IsAcceptedImage}
-use Rattle.sfi_io.specs.Hexadecimal.{GivesImage, WritesPart}
+use Rattle.sfi_answers.specs.Answers.{GivesImageThat, IsAcceptedImage, Meaning}
+use Rattle.sfi_answers.specs.FaultTexts.{IsFaultLine}
+use Rattle.sfi_io.specs.Hexadecimal.{WritesPart}
 use Rattle.sfi_safety.specs.Clean.{IsAccepted}
 use Rattle.sfi_tool.specs.declared.execution.Ended.{Ended}
 use Rattle.sfi_tool.specs.declared.execution.ExecFault.{ExecFault}
@@ -229,16 +230,18 @@ pub record Executes (budget : ℕ) (text input left : List ℕ) (out outs err er
   pub writes : Appends out outs written
   pub says : IsTold ended.told err errs said
 
--- What is said where the reader of the image tells its bytes: where that of the input does too,
--- what was executed, and else that the image is accepted.
-abbrev pub ExecutesKnown : ℕ → Option (List ℕ) → Option (List ℕ) → Option (List ℕ)
-    → Option (List ℕ) → Option (List ℕ) → Option (List ℕ) → Option (List ℕ) → Ended → Type 0
-ExecutesKnown budget None input left out outs err errs ended = Unit {0}
-ExecutesKnown budget (Some text) None left out outs err errs ended =
-    GivesImageThat IsAcceptedImage text
-ExecutesKnown budget (Some text) (Some input) None out outs err errs ended = ⊥
-ExecutesKnown budget (Some text) (Some input) (Some left) out outs err errs ended =
+-- What is said of a text that was executed: where the reader of the input tells its bytes, what came
+-- of them, and else that the image is accepted.
+abbrev pub ExecutesText : ℕ → Option (List ℕ) → Option (List ℕ) → Option (List ℕ) → Option (List ℕ)
+    → Option (List ℕ) → Option (List ℕ) → Ended → List ℕ → Type 0
+ExecutesText budget None left out outs err errs ended text = GivesImageThat IsAcceptedImage text
+ExecutesText budget (Some input) None out outs err errs ended text = ⊥
+ExecutesText budget (Some input) (Some left) out outs err errs ended text =
     Executes budget text input left out outs err errs ended
+
+-- a text was read, the reader's bytes where it tells them, and this holds of it
+abbrev pub ReadsThat : Option (List ℕ) → (List ℕ → Type 0) → Type 0
+ReadsThat told holds = (text : List ℕ) × IfSome told (λ bytes. text ≡ bytes) × holds text
 
 -- ---- what an error leaves
 
@@ -275,14 +278,22 @@ pub record Begins (budget : ℕ) (ps : List Part) (input out outs : Option (List
   pub begun : IfSome input (λ x. (machine : Machine) → IsMachine machine → (cuts : List ℕ)
       × IsBegun machine budget (first_slots ps) (first_streams x cuts (length ps)) written)
 
--- this holds of the parts of the image that the text is or spells, where that is accepted
-abbrev pub WhereAccepted : (List Part → Type 0) → List ℕ → Type 0
-WhereAccepted holds text =
-    (bytes : List ℕ) (parts : List Part) → GivesImage text bytes → IsAccepted bytes parts → holds parts
+-- the text is an accepted image or spells one, and so does what was written of what its sandboxes put
+abbrev pub HasBegun :
+    ℕ → Option (List ℕ) → Option (List ℕ) → Option (List ℕ) → List ℕ → Type 0
+HasBegun budget input out outs text = GivesImageThat
+    (λ bytes. (ps : List Part) × IsAccepted bytes ps × Begins budget ps input out outs) text
 
 -- the text is no image that is accepted, nor does it spell one
 abbrev pub IsNotAccepted : List ℕ → Type 0
 IsNotAccepted text = ¬ GivesImageThat IsAcceptedImage text
+
+-- the line was written with which a command refuses what was read: that of the verdict on an image
+-- with findings, or that of a fault
+abbrev pub WritesRefusal :
+    Meaning → Option (List ℕ) → Option (List ℕ) → List ℕ → Type 0
+WritesRefusal command err errs input = (line : List ℕ)
+    × (command.says input 1 line ⊎ IsFaultLine command input line) × Appends err errs line
 
 -- what may be answered on such a text: that it isn't accepted, or that memory ran out, that the image
 -- can't be read or that what is said can't be written

@@ -3,7 +3,8 @@ use Rattle.std.specs.Prelude.{◌≡◌, ◌≢◌, ◌⊎◌, ◌<◌, ◌≤�
 use Rattle.std.specs.Io.KnownBytes.{Consumes, IsAtEnd, Appends}
 use Rattle.std.specs.List.{range_with_len}
 use Rattle.sfi_command.specs.declared.job.Job.{Job}
-use Rattle.sfi_tool.specs.Says.{OnlyAppends, HasInputFault, Says}
+use Rattle.sfi_answers.specs.FaultTexts.{IsFaultLine}
+use Rattle.sfi_tool.specs.Says.{OnlyAppends, Says, meaning_of}
 use Rattle.sfi_host.specs.Consoles.{ConsoleState, console, most_handed}
 use Rattle.sfi_host.specs.Joint.{Machine, IsMachine, call_of, replied}
 use Rattle.sfi_host.specs.Plans.{IsJoint}
@@ -27,7 +28,8 @@ pub record Runs (job : Job) (input old new : Option (List ℕ)) (status : ℕ) :
   pub statuses : status ≤ 5
   pub says : status < 2
       → IfSome input (λ bytes. (text : List ℕ) × Says job bytes status text × Appends old new text)
-  pub fault : status ≡ 2 → IfSome input (HasInputFault job)
+  pub line : status ≡ 2 → IfSome input
+      (λ bytes. (text : List ℕ) × IsFaultLine (meaning_of job) bytes text × Appends old new text)
   pub usage : status ≢ 3
   pub appends : OnlyAppends old new
 

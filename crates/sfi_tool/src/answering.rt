@@ -1,6 +1,8 @@
 //! What a job answers on what was read.
 
 ghost use Rattle.std.specs.Prelude.{◌≡◌, ◌≤◌, ◌<◌, false, length, IfOk};
+ghost use Rattle.sfi_answers.specs.FaultTexts.{IsFaultLine};
+ghost use Rattle.sfi_answers.specs.declared.fault.Stop.{Stop};
 ghost use Rattle.sfi_command.specs.Command.{is_raw};
 ghost use Rattle.sfi_io.specs.Hexadecimal.{limit};
 ghost use Rattle.sfi_tool.specs.Says.{HasInputFault, IsDone, IsRefused, Says, meaning_of};
@@ -8,8 +10,8 @@ ghost use Rattle.sfi_answers.specs.Answers.{Answers};
 
 use crate::running::run_answer;
 use sfi_answers::{
-    Answer, InputFault, Stop, TOO_LARGE_LINE, build_answer, check_answer, conversion_answer,
-    listing_answer, map_answer, move_answer, stop_answer, translation_answer,
+    Answer, InputFault, Stop, build_answer, check_answer, conversion_answer, listing_answer,
+    map_answer, move_answer, stop_answer, translation_answer,
 };
 use sfi_command::Job;
 use sfi_io::{INPUT_LIMIT, image_bytes};
@@ -56,7 +58,7 @@ fn job_answer(alloc: Global, job: &Job, text: &[u8]) -> Result<Answer, Stop>
 /// Input above 134217728 bytes goes first. Of an image's digits an odd number goes next, then the
 /// first byte that is no digit, and then the layout; of a source, that it is no UTF-8, and then its own
 /// faults. The one error is that an allocation was refused.
-#[tactic(auto, using(crate::proofs::Jobs::too_large, crate::proofs::Jobs::not_done, crate::proofs::Jobs::not_refused))]
+#[tactic(auto, using(crate::proofs::Jobs::not_done, crate::proofs::Jobs::not_refused))]
 pub fn answer_job(alloc: Global, job: &Job, text: &[u8]) -> Result<Answer, AllocError>
     requires { is_raw job.now ≡ false }
 
@@ -64,15 +66,17 @@ pub fn answer_job(alloc: Global, job: &Job, text: &[u8]) -> Result<Answer, Alloc
     ensures statuses { IfOk result (λ a. a.status ≤ 2) }
     ensures says { IfOk result (λ a. a.status < 2
         → Says job.now text.now a.status a.output.items) }
-    ensures fault { IfOk result (λ a. a.status ≡ 2 → HasInputFault job.now text.now) }
+    ensures line { IfOk result
+        (λ a. a.status ≡ 2 → IsFaultLine (meaning_of job.now) text.now a.output.items) }
 
     // Which text gets it.
     ensures only_done { IsDone job.now text.now → IfOk result (λ a. a.status ≡ 0) }
     ensures only_refused { IsRefused job.now text.now → IfOk result (λ a. a.status ≡ 1) }
-    ensures only_fault { HasInputFault job.now text.now → IfOk result (λ a. a.status ≡ 2) }
+    ensures only_fault { (fault : Stop) → HasInputFault job.now text.now fault
+        → IfOk result (λ a. a.status ≡ 2) }
 {
     if text.len() > INPUT_LIMIT {
-        return Ok(Answer::lines(2, String::from_str(alloc, TOO_LARGE_LINE)?));
+        return stop_answer(alloc, Stop::Input(InputFault::TooLarge));
     }
     match job_answer(alloc, job, text) {
         Ok(answer) => Ok(answer),

@@ -1,12 +1,14 @@
 //! The command `exec`, over readers and writers.
 
-ghost use Rattle.std.specs.Prelude.{◌≡◌, ◌≢◌, Err, IfErr, IfOk, IfSome, ℕ, List, Some};
-ghost use Rattle.sfi_answers.specs.Answers.{GivesImageThat};
-ghost use Rattle.sfi_answers.specs.Answers.{IsAcceptedImage, Refuses};
+ghost use Rattle.std.specs.Prelude.{◌≡◌, ◌≢◌, ◌⊎◌, Err, IfErr, IfOk, ℕ, List, Some, false};
+ghost use Rattle.std.specs.Io.KnownBytes.{Appends};
+ghost use Rattle.sfi_answers.specs.Answers.{GivesImageThat, IsAcceptedImage, Refuses, check, on_image};
+ghost use Rattle.sfi_answers.specs.FaultTexts.{stop_text};
+ghost use Rattle.sfi_answers.specs.declared.fault.InputFault.TheVariants.{TooLarge};
 ghost use Rattle.sfi_answers.specs.declared.fault.Stop.TheVariants as stops;
 ghost use Rattle.sfi_image.specs.Spelling.{Part};
 ghost use Rattle.sfi_safety.specs.Clean.{IsAccepted};
-ghost use Rattle.sfi_tool.specs.Executing.{Begins, ExecutesKnown, IsNotAccepted, MayRefuse, WhereAccepted, number_of};
+ghost use Rattle.sfi_tool.specs.Executing.{Begins, ExecutesText, HasBegun, IsNotAccepted, MayRefuse, ReadsThat, WritesRefusal, number_of};
 ghost use Rattle.sfi_tool.specs.Says.{OnlyAppends};
 ghost use Rattle.sfi_io.specs.Hexadecimal.{IsInput};
 ghost use Rattle.sfi_tool.specs.declared.execution.ExecFault.TheVariants.{NotAccepted};
@@ -98,6 +100,8 @@ impl From<Interruption> for ExecFault {
 
 /// Writes a whole text to where errors are told.
 fn say<E: Write>(errors: &mut E, text: &[u8]) -> ExecFault
+    ensures whole { result ≡ NotAccepted
+        → Appends (E.contents errors.old) (E.contents errors.new) text.now }
     ensures may_refuse { MayRefuse (Err result) }
     ensures appends { OnlyAppends (E.contents errors.old) (E.contents errors.new) }
 {
@@ -149,6 +153,8 @@ fn execute_accepted<R: Read, W: Write, E: Write>(
 /// Says why there is no run.
 fn say_stop<E: Write>(alloc: Global, stop: Stop, errors: &mut E) -> ExecFault
     ensures not_memory { result ≡ NotAccepted → stop ≢ stops.Memory }
+    ensures line { result ≡ NotAccepted
+        → Appends (E.contents errors.old) (E.contents errors.new) (stop_text stop) }
     ensures may_refuse { MayRefuse (Err result) }
     ensures appends { OnlyAppends (E.contents errors.old) (E.contents errors.new) }
 {
@@ -162,6 +168,8 @@ fn say_stop<E: Write>(alloc: Global, stop: Stop, errors: &mut E) -> ExecFault
 fn say_refusal<E: Write>(alloc: Global, bytes: &[u8], refusal: Refusal, errors: &mut E) -> ExecFault
     requires { Refuses bytes.now refusal }
     ensures not_accepted { result ≡ NotAccepted → ¬ IsAcceptedImage bytes.now }
+    ensures line { result ≡ NotAccepted → WritesRefusal (check false) (E.contents errors.old)
+        (E.contents errors.new) bytes.now }
     ensures may_refuse { MayRefuse (Err result) }
     ensures appends { OnlyAppends (E.contents errors.old) (E.contents errors.new) }
 {
@@ -173,6 +181,8 @@ fn say_refusal<E: Write>(alloc: Global, bytes: &[u8], refusal: Refusal, errors: 
 
 /// Says that the text passes the limit.
 fn say_too_large<E: Write>(errors: &mut E) -> ExecFault
+    ensures line { result ≡ NotAccepted → Appends (E.contents errors.old)
+        (E.contents errors.new) (stop_text (stops.Input TooLarge)) }
     ensures may_refuse { MayRefuse (Err result) }
     ensures appends { OnlyAppends (E.contents errors.old) (E.contents errors.new) }
 {
@@ -192,16 +202,16 @@ fn execute_image<R: Read, W: Write, E: Write>(
         (R.remaining reader.new) (W.contents writer.old) (W.contents writer.new)
         (E.contents errors.old) (E.contents errors.new) ended bytes.now) }
     ensures not_accepted { result ≡ Err NotAccepted → ¬ IsAcceptedImage bytes.now }
-    ensures only_not_accepted { (¬ IsAcceptedImage bytes.now) → MayRefuse result }
-    ensures untouched { (¬ IsAcceptedImage bytes.now)
-        → (reader.new ≡ reader.old) × (writer.new ≡ writer.old) }
-    ensures begins { IfErr result (λ e. (parts : List Part) → IsAccepted bytes.now parts
-        → Begins budget parts (R.remaining reader.old) (W.contents writer.old)
-        (W.contents writer.new)) }
-    ensures appends { IfErr result
-        (λ e. OnlyAppends (W.contents writer.old) (W.contents writer.new)) }
-    ensures says { IfErr result
-        (λ e. OnlyAppends (E.contents errors.old) (E.contents errors.new)) }
+    ensures line { result ≡ Err NotAccepted → WritesRefusal (check false)
+        (E.contents errors.old) (E.contents errors.new) bytes.now }
+    ensures may_refuse { (¬ IsAcceptedImage bytes.now) → MayRefuse result }
+    ensures unread { (reader.new ≡ reader.old) ⊎ IsAcceptedImage bytes.now }
+    ensures silent { (writer.new ≡ writer.old) ⊎ IsAcceptedImage bytes.now }
+    ensures begins { IfErr result (λ e. (writer.new ≡ writer.old) ⊎ ((ps : List Part)
+        × IsAccepted bytes.now ps × Begins budget ps (R.remaining reader.old)
+        (W.contents writer.old) (W.contents writer.new))) }
+    ensures appends { OnlyAppends (W.contents writer.old) (W.contents writer.new) }
+    ensures says { OnlyAppends (E.contents errors.old) (E.contents errors.new) }
 {
     match check(alloc, bytes) {
         Ok(accepted) => Ok(execute_accepted(alloc, &accepted, budget, reader, writer, errors)?),
@@ -222,15 +232,16 @@ fn execute_image_text<R: Read, W: Write, E: Write>(
         (R.remaining reader.new) (W.contents writer.old) (W.contents writer.new)
         (E.contents errors.old) (E.contents errors.new) ended) text.now) }
     ensures not_accepted { result ≡ Err NotAccepted → IsNotAccepted text.now }
-    ensures only_not_accepted { IsNotAccepted text.now → MayRefuse result }
-    ensures untouched { IsNotAccepted text.now
-        → (reader.new ≡ reader.old) × (writer.new ≡ writer.old) }
-    ensures begins { IfErr result (λ e. WhereAccepted (λ parts. Begins budget parts
-        (R.remaining reader.old) (W.contents writer.old) (W.contents writer.new)) text.now) }
-    ensures appends { IfErr result
-        (λ e. OnlyAppends (W.contents writer.old) (W.contents writer.new)) }
-    ensures says { IfErr result
-        (λ e. OnlyAppends (E.contents errors.old) (E.contents errors.new)) }
+    ensures line { result ≡ Err NotAccepted → WritesRefusal (on_image (check false))
+        (E.contents errors.old) (E.contents errors.new) text.now }
+    ensures may_refuse { IsNotAccepted text.now → MayRefuse result }
+    ensures unread { (reader.new ≡ reader.old) ⊎ GivesImageThat IsAcceptedImage text.now }
+    ensures silent { (writer.new ≡ writer.old) ⊎ GivesImageThat IsAcceptedImage text.now }
+    ensures begins { IfErr result (λ e. (writer.new ≡ writer.old)
+        ⊎ HasBegun budget (R.remaining reader.old) (W.contents writer.old)
+        (W.contents writer.new) text.now) }
+    ensures appends { OnlyAppends (W.contents writer.old) (W.contents writer.new) }
+    ensures says { OnlyAppends (E.contents errors.old) (E.contents errors.new) }
 {
     if text.len() > INPUT_LIMIT {
         return Err(say_too_large(errors));
@@ -259,24 +270,32 @@ pub fn exec<I: Read + Drop, R: Read, W: Write, E: Write>(
     writer: &mut W,
     errors: &mut E,
 ) -> Result<Ended, ExecFault>
-    ensures executes { IfOk result (ExecutesKnown budget (I.remaining image)
-        (R.remaining reader.old) (R.remaining reader.new) (W.contents writer.old)
-        (W.contents writer.new) (E.contents errors.old) (E.contents errors.new)) }
+    // What came of the text that was read.
+    ensures executes { IfOk result (λ ended. ReadsThat (I.remaining image)
+        (ExecutesText budget (R.remaining reader.old) (R.remaining reader.new)
+        (W.contents writer.old) (W.contents writer.new) (E.contents errors.old)
+        (E.contents errors.new) ended)) }
     ensures not_accepted { result ≡ Err NotAccepted
-        → IfSome (I.remaining image) IsNotAccepted }
-    ensures only_not_accepted { (text : List ℕ) → I.remaining image ≡ Some text
-        → IsNotAccepted text → MayRefuse result }
+        → ReadsThat (I.remaining image) IsNotAccepted }
+    ensures line { result ≡ Err NotAccepted → ReadsThat (I.remaining image)
+        (WritesRefusal (on_image (check false)) (E.contents errors.old) (E.contents errors.new)) }
+    ensures begins { IfErr result (λ e. (writer.new ≡ writer.old) ⊎ ReadsThat (I.remaining image)
+        (HasBegun budget (R.remaining reader.old) (W.contents writer.old)
+        (W.contents writer.new))) }
+
+    // What stays.
+    ensures unread { (reader.new ≡ reader.old)
+        ⊎ ReadsThat (I.remaining image) (GivesImageThat IsAcceptedImage) }
+    ensures silent { (writer.new ≡ writer.old)
+        ⊎ ReadsThat (I.remaining image) (GivesImageThat IsAcceptedImage) }
     ensures untouched { result ≡ Err NotAccepted
         → (reader.new ≡ reader.old) × (writer.new ≡ writer.old) }
-    ensures refused { (text : List ℕ) → I.remaining image ≡ Some text → IsNotAccepted text
-        → (reader.new ≡ reader.old) × (writer.new ≡ writer.old) }
-    ensures begins { IfErr result (λ e. IfSome (I.remaining image) (WhereAccepted (λ parts.
-        Begins budget parts (R.remaining reader.old) (W.contents writer.old)
-        (W.contents writer.new)))) }
-    ensures appends { IfErr result
-        (λ e. OnlyAppends (W.contents writer.old) (W.contents writer.new)) }
-    ensures says { IfErr result
-        (λ e. OnlyAppends (E.contents errors.old) (E.contents errors.new)) }
+    ensures appends { OnlyAppends (W.contents writer.old) (W.contents writer.new) }
+    ensures says { OnlyAppends (E.contents errors.old) (E.contents errors.new) }
+
+    // What may be answered on a text that isn't accepted.
+    ensures may_refuse { (text : List ℕ) → I.remaining image ≡ Some text
+        → IsNotAccepted text → MayRefuse result }
 {
     match read_image(alloc, image) {
         Ok(Input::Whole(text)) => execute_image_text(alloc, &text, budget, reader, writer, errors),

@@ -5,7 +5,8 @@ ghost use Rattle.std.specs.Io.KnownBytes.{Appends};
 ghost use Rattle.sfi_command.specs.Command.{Asks, AsksNothing, is_raw, number_of};
 ghost use Rattle.sfi_command.specs.declared.job.Job.{Job};
 ghost use Rattle.sfi_command.specs.declared.job.Job.TheVariants.{Check};
-ghost use Rattle.sfi_tool.specs.Says.{WritesAnswer, MeetsFault, OnlyAppends, HasInputFault, Says};
+ghost use Rattle.sfi_answers.specs.FaultTexts.{IsFaultLine};
+ghost use Rattle.sfi_tool.specs.Says.{WritesAnswer, WritesFault, OnlyAppends, Says, hex_line, meaning_of};
 ghost use Rattle.sfi_tool.specs.private.{Runs};
 
 use crate::answering::answer_job;
@@ -28,6 +29,7 @@ fn status_after_writing<W: Write>(writer: &mut W, status: u8, output: &[u8]) -> 
 fn status_of_fault<W: Write>(writer: &mut W, fault: &JobFault) -> u8
     ensures statuses { (2 ≤ result) × (result ≤ 5) }
     ensures hex { result ≡ 2 → number_of fault.now ≡ 2 }
+    ensures line { result ≡ 2 → Appends (W.contents writer.old) (W.contents writer.new) hex_line }
     ensures usage { result ≡ 3 → number_of fault.now ≡ 1 }
     ensures memory { result ≡ 4 → writer.new ≡ writer.old }
     ensures appends { OnlyAppends (W.contents writer.old) (W.contents writer.new) }
@@ -45,8 +47,8 @@ fn streamed_answer<R: Read>(alloc: Global, raw: bool, reader: &mut R) -> Result<
     ensures statuses { IfOk result (λ a. a.status ≤ 2) }
     ensures says { IfOk result (λ a. a.status < 2 → IfSome (R.remaining reader.old)
         (λ bytes. Says (Check raw false) bytes a.status a.output.items)) }
-    ensures fault { IfOk result (λ a. a.status ≡ 2
-        → IfSome (R.remaining reader.old) (HasInputFault (Check raw false))) }
+    ensures line { IfOk result (λ a. a.status ≡ 2 → IfSome (R.remaining reader.old)
+        (λ bytes. IsFaultLine (meaning_of (Check raw false)) bytes a.output.items)) }
 {
     if raw {
         raw_answer(alloc, reader)
@@ -124,7 +126,8 @@ pub fn run_tool<R: Read, W: Write>(
     ensures statuses { result ≤ 5 }
     ensures says { result < 2 → WritesAnswer (map string_bytes words.now) (R.remaining reader.old)
         (W.contents writer.old) (W.contents writer.new) result }
-    ensures fault { result ≡ 2 → MeetsFault (map string_bytes words.now) (R.remaining reader.old) }
+    ensures line { result ≡ 2 → WritesFault (map string_bytes words.now) (R.remaining reader.old)
+        (W.contents writer.old) (W.contents writer.new) }
     ensures usage { result ≡ 3 → AsksNothing (map string_bytes words.now) }
     ensures unread { ((job : Job) → ¬ Asks (map string_bytes words.now) job)
         → reader.new ≡ reader.old }

@@ -4,7 +4,8 @@ use Rattle.std.specs.List.{flat_map}
 use Rattle.clap.specs.Walk.{Text}
 use Rattle.sfi_command.specs.declared.job.Job.{Job}
 use Rattle.sfi_command.specs.Command.{Asks, AsksNoInput, AsksNothing}
-use Rattle.sfi_tool.specs.Says.{Says, HasInputFault}
+use Rattle.sfi_answers.specs.FaultTexts.{IsFaultLine}
+use Rattle.sfi_tool.specs.Says.{Says, hex_line, meaning_of}
 
 -- ==== The words of a command line, as bytes.
 
@@ -52,9 +53,16 @@ pub record IsAnswerWritten (words input : List ℕ) (status : ℕ) (old new : Li
 abbrev pub SpellsNoCommand : List ℕ → Type 0
 SpellsNoCommand words = (spelled : List Text) → SpellsWords words spelled → AsksNothing spelled
 
--- the words ask for a job, and what was read has one of its faults; or they ask for a run whose
--- `--input` spells no bytes
-pub record HasFaultOf (words : List ℕ) (input : List ℕ) : Type 0 where
+-- the words ask for a job, and this is the line of the fault that it has on what was read; or they ask
+-- for a run whose `--input` spells no bytes, and it is the line of that
+pub record IsFaultAnswer (words : List ℕ) (input : List ℕ) (line : List ℕ) : Type 0 where
   pub spelled : List Text
   pub words_are : SpellsWords words spelled
-  pub fault : ((job : Job) × Asks spelled job × HasInputFault job input) ⊎ AsksNoInput spelled
+  pub is : ((job : Job) × Asks spelled job × IsFaultLine (meaning_of job) input line)
+      ⊎ (AsksNoInput spelled × (line ≡ hex_line))
+
+-- that line was written to the caller's array; `len` is its length
+pub record IsFaultWritten (words input : List ℕ) (old new : List ℕ) (len : ℕ) : Type 0 where
+  pub line : List ℕ
+  pub answer : IsFaultAnswer words input line
+  pub tells : IsTextWritten line old new len

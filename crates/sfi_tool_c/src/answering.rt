@@ -1,8 +1,9 @@
 //! The call that C makes.
 ghost use Rattle.std.specs.Prelude.{◌≡◌, ◌≢◌, ◌⊎◌, ◌≤◌, ◌<◌, ℕ, List, IfOk};
 ghost use Rattle.sfi_command.specs.Command.{number_of};
-ghost use Rattle.sfi_tool.specs.Says.{Says, HasInputFault};
-ghost use Rattle.sfi_tool_c.specs.CommandAnswers.{IsAnswer, IsAnswerWritten, IsTextWritten, HasFaultOf, SpellsNoCommand};
+ghost use Rattle.sfi_answers.specs.FaultTexts.{IsFaultLine};
+ghost use Rattle.sfi_tool.specs.Says.{Says, hex_line, meaning_of};
+ghost use Rattle.sfi_tool_c.specs.CommandAnswers.{IsAnswer, IsAnswerWritten, IsFaultAnswer, IsFaultWritten, IsTextWritten, SpellsNoCommand};
 
 use crate::output::write_front;
 use crate::words::{WordsFault, words_of};
@@ -18,7 +19,8 @@ fn answer_to(alloc: Global, job: &Job, input: &[u8]) -> Result<Answer, AllocErro
     ensures statuses { IfOk result (λ a. a.status ≤ 2) }
     ensures says { IfOk result (λ a. a.status < 2
         → Says job.now input.now a.status a.output.items) }
-    ensures fault { IfOk result (λ a. a.status ≡ 2 → HasInputFault job.now input.now) }
+    ensures line { IfOk result
+        (λ a. a.status ≡ 2 → IsFaultLine (meaning_of job.now) input.now a.output.items) }
 {
     match job {
         Job::Check { raw: true, report } => bytes_answer(alloc, *report, input),
@@ -30,6 +32,7 @@ fn answer_to(alloc: Global, job: &Job, input: &[u8]) -> Result<Answer, AllocErro
 fn answer_to_fault(alloc: Global, fault: JobFault) -> Result<Answer, AllocError>
     ensures statuses { IfOk result (λ a. (2 ≤ a.status) × (a.status ≤ 3)) }
     ensures hex { IfOk result (λ a. a.status ≡ 2 → number_of fault ≡ 2) }
+    ensures line { IfOk result (λ a. a.status ≡ 2 → a.output.items ≡ hex_line) }
     ensures usage { IfOk result (λ a. a.status ≡ 3 → number_of fault ≡ 1) }
 {
     match fault {
@@ -44,7 +47,8 @@ fn answer_to_words(alloc: Global, words: &[u8], input: &[u8]) -> Result<Answer, 
     ensures statuses { IfOk result (λ a. a.status ≤ 3) }
     ensures says { IfOk result (λ a. a.status < 2
         → IsAnswer words.now input.now a.status a.output.items) }
-    ensures fault { IfOk result (λ a. a.status ≡ 2 → HasFaultOf words.now input.now) }
+    ensures line { IfOk result
+        (λ a. a.status ≡ 2 → IsFaultAnswer words.now input.now a.output.items) }
     ensures usage { IfOk result (λ a. a.status ≡ 3 → SpellsNoCommand words.now) }
     ensures only_usage { SpellsNoCommand words.now → IfOk result (λ a. a.status ≡ 3) }
 {
@@ -74,7 +78,8 @@ pub extern "C" fn sfi_tool_answer(
     ensures statuses { result ≤ 4 }
     ensures says { result < 2
         → IsAnswerWritten words.now input.now result output.old output.new length.new }
-    ensures fault { result ≡ 2 → HasFaultOf words.now input.now }
+    ensures line { result ≡ 2
+        → IsFaultWritten words.now input.now output.old output.new length.new }
     ensures usage { result ≡ 3 → SpellsNoCommand words.now }
     ensures only_usage { SpellsNoCommand words.now → (result ≡ 3) ⊎ (result ≡ 4) }
     ensures written { result ≢ 4 → (text : List ℕ)

@@ -28,14 +28,14 @@ returns-in_ok-image_bytes-in-Check c =
     as_job _ _ _ c.check_answer.result (text_check c.args.job.now c.in-Check.raw c.in-Check.report c.in-Check.is c.requires.reads_text)
     (on_bytes (check c.in-Check.report) c.args.text.now c.in_ok-image_bytes-in-Check.field-0.items c.deref.result.now c.check_answer.result
     c.in_ok-image_bytes-in-Check.ensures.bytes c.in_ok-image_bytes-in-Check.ensures.only_bytes (λ u. let e = c.in_ok-image_bytes-in-Check.ensures.only_stop u in absurd cc) c.deref.ensures.value
-    c.check_answer.ensures.answers)
+    c.check_answer.ensures)
 
 pub returns-in_ok-image_bytes-in-Dis : goal.returns-in_ok-image_bytes-in-Dis
 returns-in_ok-image_bytes-in-Dis c =
     as_job _ _ _ c.listing_answer.result c.in-Dis.is
     (on_bytes dis c.args.text.now c.in_ok-image_bytes-in-Dis.field-0.items c.deref-in-Dis.result.now c.listing_answer.result
     c.in_ok-image_bytes-in-Dis.ensures.bytes c.in_ok-image_bytes-in-Dis.ensures.only_bytes (λ u. let e = c.in_ok-image_bytes-in-Dis.ensures.only_stop u in absurd cc) c.deref-in-Dis.ensures.value
-    c.listing_answer.ensures.answers)
+    c.listing_answer.ensures)
 
 pub returns-in_ok-image_bytes-in-Run : goal.returns-in_ok-image_bytes-in-Run
 returns-in_ok-image_bytes-in-Run c =
@@ -63,7 +63,7 @@ returns-in_ok-image_bytes-in-Translate c =
     as_job _ _ _ c.translation_answer.result c.in-Translate.is
     (on_bytes (translate c.in-Translate.whole) c.args.text.now c.in_ok-image_bytes-in-Translate.field-0.items c.deref-in-Translate.result.now c.translation_answer.result
     c.in_ok-image_bytes-in-Translate.ensures.bytes c.in_ok-image_bytes-in-Translate.ensures.only_bytes (λ u. let e = c.in_ok-image_bytes-in-Translate.ensures.only_stop u in absurd cc) c.deref-in-Translate.ensures.value
-    c.translation_answer.ensures.answers)
+    c.translation_answer.ensures)
 
 pub returns-in_err-image_bytes-in-Check : goal.returns-in_err-image_bytes-in-Check
 returns-in_err-image_bytes-in-Check c =

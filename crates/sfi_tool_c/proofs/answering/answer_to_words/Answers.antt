@@ -1,4 +1,4 @@
-use Rattle.std.proofs.Common.{map, string_bytes, sym, ap, ◌∙◌, inr, arith, subst, ℕ, ◌≡◌, ◌≤◌}
+use Rattle.std.proofs.Common.{map, string_bytes, sym, ap, ◌∙◌, inl, inr, arith, subst, ℕ, ◌≡◌, ◌≤◌}
 use Rattle.std.proofs.lemmas.Result.{IfOk-weaker}
 use Rattle.sfi_command.specs.Command.{AsksNothing, number_of}
 use Rattle.sfi_tool_c.proofs.Spelling.{same_spelled, if_both, of_hex, of_usage, same_words}
@@ -28,13 +28,21 @@ returns-in-Ok-job_of-clause-only_usage c none =
     (same_spelled _ _ _ c.in-Ok.ensures.words (ap (λ ws. map string_bytes ws) (sym c.deref.ensures.value)))).no_job
     c.in-Ok-job_of.job c.in-Ok-job_of.ensures.job)
 
-pub returns-clause-fault : goal.returns-clause-fault
-returns-clause-fault c =
-    IfOk-weaker c.answer_to_fault.result _ _ (λ a h two. record {
+pub returns-in-Ok-job_of-clause-line : goal.returns-in-Ok-job_of-clause-line
+returns-in-Ok-job_of-clause-line c =
+    IfOk-weaker c.answer_to.result _ _ (λ a h two. record {
       spelled = map string_bytes c.deref.result.now;
       words_are = same_spelled _ _ _ c.in-Ok.ensures.words (ap (λ ws. map string_bytes ws) (sym c.deref.ensures.value));
-      fault = inr (of_hex _ c.in-Err.fault c.in-Err.ensures.fault (h two));
-    }) c.answer_to_fault.ensures.hex
+      is = inl (c.in-Ok-job_of.job, c.in-Ok-job_of.ensures.job, h two);
+    }) c.answer_to.ensures.line
+
+pub returns-clause-line : goal.returns-clause-line
+returns-clause-line c =
+    if_both c.answer_to_fault.result _ _ _ (λ a hex line two. record {
+      spelled = map string_bytes c.deref.result.now;
+      words_are = same_spelled _ _ _ c.in-Ok.ensures.words (ap (λ ws. map string_bytes ws) (sym c.deref.ensures.value));
+      is = inr (of_hex _ c.in-Err.fault c.in-Err.ensures.fault (hex two), line two);
+    }) c.answer_to_fault.ensures.hex c.answer_to_fault.ensures.line
 
 pub returns-clause-usage : goal.returns-clause-usage
 returns-clause-usage c =
