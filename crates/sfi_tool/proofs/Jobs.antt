@@ -369,22 +369,22 @@ pub ran_streamed : (job : Job) (input old new : Option (List ℕ)) (told given :
     → (told < 2 → IfSome input (λ bytes. Says job bytes told text)) → (told ≡ 2 → IfSome input (λ bytes. IsFaultLine (meaning_of job) bytes text))
     → (given ≢ 5 → given ≡ told) → (given ≢ 5 → Appends old new written) → OnlyAppends old new → Runs job input old new given
 ran_streamed job input old new told given text written is_text few says line same whole_written appends =
-  let whole : given ≢ 5 → Appends old new text = λ other. subst (λ (t : List ℕ). Appends old new t) is_text (whole_written other) in record {
-  statuses = ⊎_elim (λ (five : given ≡ 5). omega arith) (λ (other : given ≢ 5). let e = same other in omega (arith, e, few)) (cases_eq given 5);
-  says = λ less.
-      let other : given ≢ 5 = λ five. absurd (omega (arith, five, less)) in
-      let e : given ≡ told = same other in
-      subst (λ (s : ℕ). IfSome input (λ bytes. (t : List ℕ) × Says job bytes s t × Appends old new t)) (sym e)
-      (on_input input (λ bytes is. (text, is, whole other)) (says (omega (arith, e, less))));
-  line = λ two.
-      let other : given ≢ 5 = λ five. absurd (omega (arith, five, two)) in
-      let e : given ≡ told = same other in
-      on_input input (λ bytes is. (text, is, whole other)) (line (sym e ∙ two));
-  usage = λ three.
-      let other : given ≢ 5 = λ five. absurd (omega (arith, five, three)) in
-      let e = same other in absurd (omega (arith, e, three, few));
-  appends = appends;
-}
+    let whole : given ≢ 5 → Appends old new text = λ other. subst (λ (t : List ℕ). Appends old new t) is_text (whole_written other) in record {
+      statuses = ⊎_elim (λ (five : given ≡ 5). omega arith) (λ (other : given ≢ 5). let e = same other in omega (arith, e, few)) (cases_eq given 5);
+      says = λ less.
+          let other : given ≢ 5 = λ five. absurd (omega (arith, five, less)) in
+          let e : given ≡ told = same other in
+          subst (λ (s : ℕ). IfSome input (λ bytes. (t : List ℕ) × Says job bytes s t × Appends old new t)) (sym e)
+          (on_input input (λ bytes is. (text, is, whole other)) (says (omega (arith, e, less))));
+      line = λ two.
+          let other : given ≢ 5 = λ five. absurd (omega (arith, five, two)) in
+          let e : given ≡ told = same other in
+          on_input input (λ bytes is. (text, is, whole other)) (line (sym e ∙ two));
+      usage = λ three.
+          let other : given ≢ 5 = λ five. absurd (omega (arith, five, three)) in
+          let e = same other in absurd (omega (arith, e, three, few));
+      appends = appends;
+    }
 
 -- what a job comes to on a text that was read whole
 pub ran_read : (job : Job) (told old new : Option (List ℕ)) {status : ℕ} (text : Vec ℕ Global) (read : List ℕ) → read ≡ text.items → IsInput told (Whole text)
