@@ -10,6 +10,7 @@ ghost use Rattle.sfi_check.specs.Verdict.{HasFindings, bundle_count};
 ghost use Rattle.sfi_check.specs.ForC.{number_of, acceptance, refusal, no_image, IsAcceptance, IsRefusal, IsLayoutFault};
 ghost use Rattle.sfi_safety.specs.Clean.{IsAccepted};
 ghost use Rattle.sfi_host.specs.Worlds.{Sandboxes, IsSafeWorld};
+ghost use Rattle.sfi_host.specs.Sessions.{IsSoundWorld};
 ghost use Rattle.sfi_run.specs.Held.{flag_of};
 ghost use Rattle.sfi_run.specs.Held.{first_world, fault_number};
 
@@ -136,6 +137,7 @@ pub extern "C" fn sfi_run_instance(
     ensures none { OnFalse result (world.new.inner.world ≡ None) }
     ensures no_module { from.old.inner.parts ≡ None → result ≡ false }
     ensures safe { (n : Sandboxes) → world.new.inner.world ≡ Some n → IsSafeWorld n }
+    ensures sound { (n : Sandboxes) → world.new.inner.world ≡ Some n → IsSoundWorld n }
 {
     sfi_run_free(alloc, world);
     let Some(shared) = from.take(alloc) else {

@@ -9,6 +9,7 @@ ghost use Rattle.sfi_check.specs.Verdict.{IsVerdictOn};
 ghost use Rattle.sfi_check.specs.ForC.{number_of, acceptance, refusal, no_image, IsAcceptance, IsRefusal, IsLayoutFault};
 ghost use Rattle.sfi_safety.specs.Clean.{IsAccepted};
 ghost use Rattle.sfi_host.specs.Worlds.{Sandboxes, slots_of, IsSafeWorld};
+ghost use Rattle.sfi_host.specs.Sessions.{IsSoundWorld};
 ghost use Rattle.sfi_run.specs.Held.{first_world, fault_number, Means};
 
 use crate::holding::SfiRunWorld;
@@ -78,7 +79,8 @@ pub(crate) fn module_of(
 
 /// A world of a module, in its box. An error means that memory ran out.
 pub(crate) fn new_instance(alloc: Global, from: &Module) -> Result<Box<World<Pages>>, AllocError>
-    ensures { IfOk result (λ b. b.value ≡ first_world from.now) }
+    ensures made { IfOk result (λ b. b.value ≡ first_world from.now) }
+    ensures sound { IfOk result (λ b. IsSoundWorld b.value) }
 {
     let Ok(world) = from.instance(alloc, Pages::new(alloc)) else {
         return Err(AllocError);
@@ -99,6 +101,7 @@ pub(crate) fn load_world(
     requires read { answer ≢ StreamAnswer.ReadFault }
     ensures loaded { IfOk result (λ b. (ps : List Part) × IsAccepted image.now ps
         × (b.value ≡ first_world ps)) }
+    ensures sound { IfOk result (λ b. IsSoundWorld b.value) }
     ensures fault { IfErr result (Means image.now) }
 {
     match module_of(alloc, image, answer) {
@@ -133,6 +136,7 @@ pub extern "C" fn sfi_run_load(
     ensures known { result ≤ fault_number LoadFault.Memory }
     ensures none { result ≢ 0 → world.new.inner.world ≡ None }
     ensures safe { (n : Sandboxes) → world.new.inner.world ≡ Some n → IsSafeWorld n }
+    ensures sound { (n : Sandboxes) → world.new.inner.world ≡ Some n → IsSoundWorld n }
 
     // What each status of the verdict means. Accepted means that every run of each sandbox is safe.
     ensures verdict_known { verdict.new.status ≤ 2 }

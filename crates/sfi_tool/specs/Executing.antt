@@ -239,7 +239,8 @@ ExecutesText budget (Some input) None out outs err errs ended text = ⊥
 ExecutesText budget (Some input) (Some left) out outs err errs ended text =
     Executes budget text input left out outs err errs ended
 
--- a text was read, the reader's bytes where it tells them, and this holds of it
+-- there is a text, the reader's bytes where it tells them, of which this holds; where it tells none, any text
+-- will do
 abbrev pub ReadsThat : Option (List ℕ) → (List ℕ → Type 0) → Type 0
 ReadsThat told holds = (text : List ℕ) × IfSome told (λ bytes. text ≡ bytes) × holds text
 

@@ -270,7 +270,7 @@ pub fn exec<I: Read + Drop, R: Read, W: Write, E: Write>(
     writer: &mut W,
     errors: &mut E,
 ) -> Result<Ended, ExecFault>
-    // What came of the text that was read.
+    // What came of the text, where the image's reader tells its bytes: a file doesn't.
     ensures executes { IfOk result (λ ended. ReadsThat (I.remaining image)
         (ExecutesText budget (R.remaining reader.old) (R.remaining reader.new)
         (W.contents writer.old) (W.contents writer.new) (E.contents errors.old)
