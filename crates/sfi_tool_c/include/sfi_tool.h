@@ -3,8 +3,8 @@
  *
  * A call reads nothing but its arguments, keeps nothing, starts no thread, and reads and writes no file. It takes memory by
  * malloc and has given all of it back by free when it returns. What is proved (docs/PROOFS.md): status 0 or 1 means that the
- * text is the command's answer on what was read, status 2 that what was read has a fault, or that `--input` spells no bytes,
- * and status 3 that the words ask for no command.
+ * text is the command's answer on what was read, status 2 that it is the line of the fault that the command has on what was
+ * read, or of an `--input` that spells no bytes, and status 3 that the words ask for no command.
  *
  * What a caller owes, since nothing checks it:
  *
