@@ -34,8 +34,8 @@ def commits():
 
 
 def sample():
-    """Which of the six samples of compilers' tests is tried, in turns by the number of commits. They are fixed, so a gate
-    meets none that hasn't been seen to pass."""
+    """Which of the six samples of compilers' tests is tried, in turns by the number of commits. They are fixed, so that
+    what one run meets can be repeated."""
     return commits() % 6
 
 
