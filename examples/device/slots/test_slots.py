@@ -53,7 +53,7 @@ class OnDevice(unittest.TestCase):
         return line
 
     def put_of(self, slot):
-        return int(re.search(r" put=(\d+) ", self.device.ask("show", slot))[1])
+        return int(re.search(r" put=(\d+)\b", self.device.ask("show", slot))[1])
 
 
 class Slots(OnDevice):
