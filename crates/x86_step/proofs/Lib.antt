@@ -1,0 +1,4 @@
+pub mod Bytes
+pub mod Shifts
+pub mod Fixed
+pub mod Facts

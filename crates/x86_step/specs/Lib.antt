@@ -1,0 +1,4 @@
+pub mod State
+pub mod Step
+pub mod Held
+pub mod Laws

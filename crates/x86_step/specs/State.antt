@@ -1,0 +1,61 @@
+-- The state of a processor, as far as the instructions of `x86_instr` touch it. Intel 64 and IA-32 Architectures
+-- Software Developer's Manual, volume 1, 3.3.7 and 3.4. Not modelled: modes but 64-bit mode, single steps and alignment
+-- checks (TF and AC are 0), CET (it is off), other writers of the memory, and pages mapped at two addresses.
+use Rattle.std.specs.Prelude.{◌≡◌, ℕ, zero, suc, ◌+◌, ◌-◌, ◌*◌, ◌/◌, ◌%◌, ◌^◌, ◌<◌, ◌≤◌, ◌==◌, nat_lt, nat_le, ◌&&◌, Bool, true, false, List, length, Option, Some, None, if◌then◌else◌}
+use Rattle.x86_step.specs.declared.machine.Flags.{Flags}
+
+-- 16 registers of 64 bits, by number; the flags; the byte at each address that may be read; which may be written
+pub record Core : Type 0 where
+  pub registers : ℕ → ℕ
+  pub flags : Flags
+  pub memory : ℕ → Option ℕ
+  pub writable : ℕ → Bool
+
+-- the address of the instruction that comes next, and the rest
+pub record Machine : Type 0 where
+  pub rip : ℕ
+  pub core : Core
+
+-- code: bytes from an address on
+pub record Text : Type 0 where
+  pub base : ℕ
+  pub bytes : List ℕ
+
+-- Code stays what it is: no byte of it may be written. A host maps its pages executable and not writable, none of them the
+-- last below 2^64. No step changes that (`Laws`), so that it is asked once, before the first.
+pub record IsFixed (t : Text) (c : Core) : Type 0 where
+  pub ends : t.base + length t.bytes < 2 ^ 64
+  pub apart : (a : ℕ) → t.base ≤ a → a < t.base + length t.bytes → c.writable a ≡ false
+
+abbrev pub updated : (ℕ → ℕ) → ℕ → ℕ → ℕ → ℕ
+updated f r v k = if k == r then v else f k
+
+abbrev pub with_register : Core → ℕ → ℕ → Core
+with_register c r v = record { registers = updated c.registers r v; flags = c.flags; memory = c.memory; writable = c.writable }
+
+abbrev pub with_flags : Core → Flags → Core
+with_flags c f = record { registers = c.registers; flags = f; memory = c.memory; writable = c.writable }
+
+abbrev pub with_memory : Core → (ℕ → Option ℕ) → Core
+with_memory c m = record { registers = c.registers; flags = c.flags; memory = m; writable = c.writable }
+
+-- ==== Memory: numbers with the lowest byte first (volume 1, 1.3.1).
+
+-- a byte, and what the bytes behind it make, if all are there
+abbrev pub joined : Option ℕ → Option ℕ → Option ℕ
+joined (Some b) (Some n) = Some (b + 256 * n)
+joined _ _ = None
+
+-- the number that n bytes from an address on make
+abbrev pub number_at : (ℕ → Option ℕ) → ℕ → ℕ → Option ℕ
+number_at m zero at = Some 0
+number_at m (suc n) at = joined (m at) (number_at m n (at + 1))
+
+-- n bytes from an address on may be written
+abbrev pub may_write : (ℕ → Bool) → ℕ → ℕ → Bool
+may_write w zero at = true
+may_write w (suc n) at = w at && may_write w n (at + 1)
+
+-- the memory in which n bytes from an address on make v
+abbrev pub written : (ℕ → Option ℕ) → ℕ → ℕ → ℕ → ℕ → Option ℕ
+written m n at v q = if nat_le at q && nat_lt q (at + n) then Some (v / 256 ^ (q - at) % 256) else m q
