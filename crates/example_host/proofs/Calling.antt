@@ -4,6 +4,7 @@ use Rattle.std.specs.List.{range_with_len}
 use Rattle.rv_mem.specs.Bytes.{Bytes, bytes_at}
 use Rattle.sfi_formats.specs.Formats.{unit}
 use Rattle.sfi_image.specs.declared.span.Span.{Span}
+use Rattle.sfi_image.specs.Parts.{IsStart}
 use Rattle.sfi_image.specs.Spelling.{Holds}
 use Rattle.sfi_host.specs.declared.turn.RunAnswer.{RunAnswer}
 use Rattle.sfi_host.specs.declared.turn.RunAnswer.TheVariants as answers
@@ -19,7 +20,7 @@ use Rattle.sfi_host.specs.Plans.{IsJoint, IsCutJoint}
 use Rattle.sfi_host.specs.Slots.{bytes_in, IsWhole, Bounds, Slot}
 use Rattle.sfi_host.specs.Worlds.{Seat, Sandboxes, slot_of, slots_of, IsSafeWorld, StaysOutsideData}
 use Rattle.sfi_host.proofs.AfterCalls.{data_of_own, whole_in}
-use Rattle.sfi_host.proofs.OwnSteps.{get_set_same, get_set_other}
+use Rattle.sfi_decoded.proofs.Lists.{get_set_same, get_set_other}
 use Rattle.sfi_host.proofs.Plans.{joined_cons, joined_nil}
 use Rattle.sfi_host.proofs.RegionBytes.{held}
 use Rattle.sfi_host.proofs.Runs.{all_there, each_there, ends_within}
@@ -47,8 +48,7 @@ enter_too m n seats i pc may =
       there = get_map (slot_of n) seats i s found.1;
       may = record {
         stopped = λ ready. may.may.stopped (ap (λ (x : Slot). x.status) same ∙ ready);
-        held = subst (λ (x : Slot). Holds x.bounds.code pc) same may.may.held;
-        aligned = subst (λ (x : Slot). pc % unit x.bounds.format ≡ 0) same may.may.aligned;
+        start = subst (λ (x : Slot). IsStart (unit x.bounds.format) x.bounds.code pc) same may.may.start;
       };
     }
 

@@ -3,9 +3,10 @@ use Rattle.sfi_host.proofs.Prelude.{◌≡◌, ◌⊎◌, inl, inr, ⊎_elim, �
 use Rattle.sfi_host.specs.Adding.{TakesUp, MeetsSome, with_image, EarlierAreSame}
 use Rattle.sfi_host.specs.Changing.{AreChanges}
 use Rattle.sfi_host.specs.Owning.{IsOwned, AreOwned}
-use Rattle.sfi_host.specs.Programs.{AreDecoded}
+use Rattle.sfi_host.specs.Modules.{AreDecoded}
 use Rattle.sfi_host.proofs.Changing.{IsKept}
-use Rattle.sfi_host.proofs.Decoding.{decoded_still, first_decoded}
+use Rattle.sfi_decoded.proofs.Decoding.{decoded_still}
+use Rattle.sfi_host.proofs.Decoded.{first_decoded}
 use Rattle.sfi_host.proofs.Entered.{LieApart, lie_apart, all_outside, has_data, data_guarded, guard_in}
 use Rattle.sfi_host.proofs.WorldBytes.{IsOf, of_parts, get_map}
 use Rattle.sfi_host.proofs.OwnSteps.{own_is, own_there, own_missing, same_own}
@@ -161,7 +162,7 @@ module _ (w : Sandboxes) (ps : List Part) (world : IsSafeWorld w) (owned : AreOw
           count = length-append programs more ∙ (let a = decoded.count in let b = first_are.count in omega (arith, a, b)) ∙ sym (length-append w.seats (map first_seat ps));
           each = λ i p s e f. ⊎_elim
               (λ (h : slice_get w.seats i ≡ Some s). ⊎_elim
-              (λ (k : slice_get programs i ≡ Some p). decoded_still s.bounds w.bytes (with_parts w.bytes ps) (λ a c. stays i s h a (inl c)) p (decoded.each i p s k h))
+              (λ (k : slice_get programs i ≡ Some p). decoded_still s.bounds.code w.bytes (with_parts w.bytes ps) (λ a c. stays i s h a (inl c)) p (decoded.each i p s k h))
               (λ (k : (j : ℕ) × (i ≡ length programs + j) × (slice_get more j ≡ Some p)).
               let below : i < length w.seats = slice_get_within w.seats i s h in
               absurd (omega (arith, below, k.1, decoded.count)))

@@ -6,10 +6,11 @@ use Rattle.std.specs.Arc.{arc_value}
 use Rattle.std.specs.Global.{Global}
 use Rattle.std.specs.declared.sync.Arc.{Arc}
 use Rattle.sfi_host.specs.Owning.{AreOwned}
-use Rattle.sfi_host.specs.Programs.{programs_of, AreDecoded}
+use Rattle.sfi_host.specs.Modules.{programs_of, AreDecoded}
 use Rattle.sfi_host.proofs.WorldBytes.{found_there, seat_at, still_owned, get_map, same_bounds}
-use Rattle.sfi_host.proofs.Decoding.{are_decoded}
-use Rattle.sfi_host.proofs.OwnSteps.{slots_are, world_safe, get_set_other, set_itself, neighbours_are}
+use Rattle.sfi_host.proofs.Decoded.{are_decoded}
+use Rattle.sfi_host.proofs.OwnSteps.{slots_are, world_safe, neighbours_are}
+use Rattle.sfi_decoded.proofs.Lists.{get_set_other, set_itself}
 use Rattle.sfi_host.proofs.SafeSeats as keep
 use Rattle.sfi_host.proofs.Worlds.{map_get}
 use Rattle.sfi_host.proofs.AfterCalls.{stays_outside, whole_in, whole_of}

@@ -4,9 +4,9 @@ use Rattle.std.specs.Ordering.{nat_cmp}
 use Rattle.sfi_formats.specs.Formats.{unit}
 use Rattle.sfi_safe_runs.specs.Runs.{IsUnitStart}
 use Rattle.sfi_host.proofs.WorldBytes.{seat_at, slot_is, no_slot, first_owned}
-use Rattle.sfi_host.proofs.Decoding.{first_decoded}
+use Rattle.sfi_host.proofs.Decoded.{first_decoded}
 use Rattle.sfi_host.proofs.Entered.{lie_apart}
-use Rattle.sfi_host.proofs.OwnSteps.{get_set_same}
+use Rattle.sfi_decoded.proofs.Lists.{get_set_same}
 use Rattle.sfi_host.proofs.SafeSeats as keep
 use Rattle.sfi_host.proofs.Changing.{IsKept, AfterTurn, turn_taken}
 use Rattle.sfi_host.proofs.Worlds.{AreFreshOf, fresh_are, stack_set, fresh_pc, reserved_at, typed_at, AreFree, entered, first_data_there, world_safe, all_enterable}

@@ -16,7 +16,7 @@ use Rattle.sfi_image.specs.declared.span.Span.{Span}
 use Rattle.sfi_host.specs.private.Setting.{LieNear}
 use Rattle.std.specs.Prelude.{slice_index}
 use Rattle.sfi_formats.specs.Limits.{slack}
-use Rattle.sfi_host.proofs.OwnSteps.{get_set_same}
+use Rattle.sfi_decoded.proofs.Lists.{get_set_same}
 
 -- ==== A sandbox that is called back by its host.
 

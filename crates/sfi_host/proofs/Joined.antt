@@ -9,7 +9,8 @@ use Rattle.rv_step.specs.declared.outcome.Outcome.TheVariants as outcome
 use Rattle.sfi_host.proofs.Continuing.{way_goes}
 use Rattle.sfi_host.proofs.AfterCalls.{get_with_data}
 use Rattle.sfi_host.proofs.WorldSteps.{turn_of, Taken, IsTaken, AreTaken, are_world_steps, taken_follow, safe_after, slots_after, are_runs, safe_runs}
-use Rattle.sfi_host.proofs.OwnSteps.{get_set_same, set_itself, steps_own}
+use Rattle.sfi_decoded.proofs.Lists.{get_set_same, set_itself}
+use Rattle.sfi_host.proofs.OwnSteps.{steps_own}
 use Rattle.sfi_host.proofs.Plans.{joined_nil, joined_cons}
 use Rattle.sfi_host.proofs.RegionBytes.{get_kept, same_bytes, is_in-true}
 use Rattle.sfi_host.proofs.Runs.{there_below}

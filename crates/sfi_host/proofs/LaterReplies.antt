@@ -1,7 +1,8 @@
 -- A host that replies between turns, and one that answers at once, come to the same.
 use Rattle.sfi_host.proofs.Prelude.{◌≡◌, ℕ, zero, suc, List, [], ◌∷◌, Option, Some, None, slice_get, slice_set, refl, sym, ap, ◌∙◌, subst, Outcome, State, Status, Ready, Slot, state_of, Call, Answer, Limited, limited, Machine, Moved, moved, moved_if, slot_after_step, after_answer, Host, call_of, next_after, replied, IsReplied, after_replies, and_more, turned, Turn, StepResult, Continue, RunEnds, Joined, joined, joint, turn_and, and_plan, IsJoint, set, set-set, Bytes, IsMemory, Bounds, own, bytes_in, IsWhole, StaysOutside, with_data, with_arguments, word, after_way, status_after, one_more, Seat, slot_of, slots_of}
 use Rattle.sfi_host.proofs.AfterCalls.{put_back, data_of_own}
-use Rattle.sfi_host.proofs.OwnSteps.{set_itself, slots_are}
+use Rattle.sfi_decoded.proofs.Lists.{set_itself}
+use Rattle.sfi_host.proofs.OwnSteps.{slots_are}
 use Rattle.rv_step.specs.declared.outcome.Outcome.TheVariants as outcome
 use Rattle.sfi_host.specs.Waiting.{ToCallIsJoint, ReplyIsAnswer, WritesAreReplies, silent, to_call, later_reply}
 use Rattle.sfi_host.proofs.Continuing.{first_call, no_call, way_goes}

@@ -1,8 +1,6 @@
 pub mod Prelude
 pub mod Solo
-pub mod Decoding
-pub mod Blocks
-pub mod Apart
+pub mod Decoded
 pub mod SafeSeats
 pub mod RegionBytes
 pub mod Joined

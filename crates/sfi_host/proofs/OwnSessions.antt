@@ -9,7 +9,8 @@ use Rattle.sfi_host.specs.Waiting.{IsAtCall, later_reply, turn_of}
 use Rattle.sfi_host.proofs.Adding as added
 use Rattle.sfi_host.proofs.AfterCalls.{data_of_own}
 use Rattle.sfi_host.proofs.Changing.{code_out}
-use Rattle.sfi_host.proofs.OwnSteps.{get_set_same, get_set_other, set_itself, own_is, own_data, own_there, own_missing, same_own}
+use Rattle.sfi_decoded.proofs.Lists.{get_set_same, get_set_other, set_itself}
+use Rattle.sfi_host.proofs.OwnSteps.{own_is, own_data, own_there, own_missing, same_own}
 use Rattle.sfi_host.proofs.RegionBytes.{kept_put, held}
 use Rattle.sfi_host.proofs.Removing as removed
 use Rattle.sfi_host.proofs.Runs.{each_there}

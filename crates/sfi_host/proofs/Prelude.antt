@@ -29,7 +29,7 @@ unfoldable pub use Rattle.sfi_host.specs.Joint.{moved, joined, turned}
 pub use Rattle.sfi_host.specs.Plans.{IsJoint, IsRefusedIn, IsCutJoint}
 pub use Rattle.sfi_host.specs.Slots.{bytes_in, bytes_outside, IsWhole, is_in, span_of, Slot, Bounds, bounds_of, state_of, one_more, is_own, own}
 pub use Rattle.sfi_host.specs.Worlds.{seat_of, seats_of, world_of, Sandboxes, slot_of, slots_of, data_byte_of, Seat, IsSafeSeat, IsSafeWorld, StaysOutsideData, state_in, LiesOutside, status_at, HaveStoppedThemselves}
-pub use Rattle.sfi_host.specs.declared.program.Program.{Program}
+pub use Rattle.sfi_decoded.specs.declared.program.Program.{Program}
 pub use Rattle.sfi_host.specs.declared.sandbox.Sandbox.{Sandbox}
 pub use Rattle.sfi_host.specs.declared.status.Status.{Status}
 pub use Rattle.sfi_host.specs.declared.status.Status.TheVariants.{Ready, Trapped, Exited, Stopped}
@@ -37,6 +37,6 @@ pub use Rattle.sfi_host.specs.declared.turn.StepResult.{StepResult}
 pub use Rattle.sfi_host.specs.declared.turn.StepResult.TheVariants.{Continue, TurnEnds, RunEnds}
 pub use Rattle.sfi_host.specs.declared.turn.Turn.{Turn}
 pub use Rattle.sfi_host.specs.private.Turns.{allow, allows, with_left, end_of, limited_step, limited_turn, IsTurnOf, IsStepOf, IsCutTurnOf, IsOnItsWay}
-pub use Rattle.sfi_host.specs.private.Programs.{AreProgramsOf, IsSafeWith}
-pub use Rattle.sfi_host.specs.Programs.{IsProgramOf}
+pub use Rattle.sfi_host.specs.private.Sandboxes.{AreProgramsOf, IsSafeWith}
+pub use Rattle.sfi_decoded.specs.Programs.{IsProgramOf}
 pub use Rattle.sfi_host.specs.private.Sandboxes.{gate_at, bounds_in, StaysSafe, IsReplied, IsNotReplied, request_by, IsAnswerOf, IsNotAnswered, after_ecall, after_host_answer, next_after_answer}

@@ -4,10 +4,10 @@ use Rattle.std.specs.List.{remove}
 use Rattle.std.proofs.lemmas.List.Edits.{length-remove}
 use Rattle.sfi_host.specs.Adding.{is_own_of, bytes_of, number_without, without_of, without, RestIsSame, AreChangesToRest}
 use Rattle.sfi_host.specs.Owning.{IsOwned, AreOwned}
-use Rattle.sfi_host.specs.Programs.{AreDecoded}
+use Rattle.sfi_host.specs.Modules.{AreDecoded}
 use Rattle.sfi_host.proofs.Changing.{IsKept}
 use Rattle.sfi_host.proofs.Copied.{own_of, whose, old_number, old_other, old_back, get_removed, get_rest, map_remove}
-use Rattle.sfi_host.proofs.Decoding.{decoded_still}
+use Rattle.sfi_decoded.proofs.Decoding.{decoded_still}
 use Rattle.sfi_host.proofs.OwnSteps.{own_is, own_there, own_missing, same_own}
 use Rattle.sfi_host.proofs.RegionBytes.{get_kept}
 use Rattle.sfi_host.proofs.SafeSeats as keep
@@ -73,7 +73,7 @@ module _ (w : Sandboxes) (i : ℕ) (world : IsSafeWorld w) where
   rest_decoded programs below decoded = record {
     count = (let a = decoded.count in let b = length-remove programs i (omega (arith, a, below)) in let c = length-remove w.seats i below in omega (arith, a, b, c));
     each = λ j p s e f.
-        decoded_still s.bounds w.bytes left (λ a c. stays (old_number i j) s (old_other i j) (was j s f) a (inl c)) p
+        decoded_still s.bounds.code w.bytes left (λ a c. stays (old_number i j) s (old_other i j) (was j s f) a (inl c)) p
         (decoded.each (old_number i j) p s (sym (get_removed programs i j) ∙ e) (was j s f));
   }
 

@@ -2,7 +2,7 @@
 use Rattle.sfi_host.proofs.Prelude.{◌≡◌, ℕ, zero, suc, ◌∷◌, ◌+◌, ◌-◌, ◌^◌, ◌<◌, ◌≤◌, Bool, true, false, cond, List, [], ◌++◌, length, map, set, Some, None, slice_get, refl, sym, ap, ◌∙◌, subst, arith, or_cases, replicate, empty, range_with_len, Bytes, byte_at, address_after, with_bytes, added, Holds, InCode, InData, Part, IsRightPart, IsRightLayout, HasCode, Ready, first_seat, with_parts, is_in, is_own, own, Bounds, bounds_of, Slot, Sandboxes, slot_of, slots_of, ⊎_elim, ◌↔◌, ◌%◌, IsSome, is_some, IsTrue, map-set, same_Some, IsMemory, IsHart, AreApart, with_guards, IsEntry, Program, Sandbox, IsAtEntry, IsEnterable, seat_of, seats_of, world_of, Seat, state_in, IsSafeSeat, StaysOutside, bytes_in, bytes_outside, IsWhole}
 use Rattle.sfi_host.specs.Loading.{with_first_bytes, reset_seat, with_reset_of, ResetIsFirst, with_reset}
 use Rattle.sfi_host.proofs.Entered.{lie_apart, has_code, has_data, added_inside, added_outside}
-use Rattle.sfi_host.proofs.OwnSteps.{get_set_same}
+use Rattle.sfi_decoded.proofs.Lists.{get_set_same}
 use Rattle.sfi_host.proofs.RegionBytes.{get_kept, same_bytes, is_in-true}
 use Rattle.sfi_host.proofs.SafeSeats as keep
 use Rattle.sfi_host.proofs.WorldBytes.{get_map, seat_at, slot_is, no_slot}

@@ -5,7 +5,7 @@ use Rattle.sfi_host.specs.Consoles.{Message, exit_service, yield_service, post_s
 use Rattle.sfi_host.specs.declared.gates.GateAnswer.{GateAnswer}
 use Rattle.sfi_host.specs.declared.guest.Guest.{Guest}
 use Rattle.std.specs.List.{slice_get}
-use Rattle.sfi_host.proofs.OwnSteps.{set_itself}
+use Rattle.sfi_decoded.proofs.Lists.{set_itself}
 use Rattle.sfi_host.specs.declared.gates.GateAnswer.TheVariants as gate
 
 -- ---- a session

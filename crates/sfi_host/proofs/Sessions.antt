@@ -14,7 +14,8 @@ use Rattle.sfi_host.proofs.Copied.{region_there}
 use Rattle.sfi_host.proofs.Entries.{entered_safe}
 use Rattle.sfi_host.proofs.FromOutside.{set_safe}
 use Rattle.sfi_host.proofs.Joined.{joined_are}
-use Rattle.sfi_host.proofs.OwnSteps.{get_set_same, set_itself, slots_are, world_safe}
+use Rattle.sfi_decoded.proofs.Lists.{get_set_same, set_itself}
+use Rattle.sfi_host.proofs.OwnSteps.{slots_are, world_safe}
 use Rattle.sfi_host.proofs.RegionBytes.{get_kept}
 use Rattle.sfi_host.proofs.Removing as removed
 use Rattle.sfi_host.proofs.ResetSeats.{reset_safe}
@@ -83,7 +84,7 @@ module _ (w : Sandboxes) (sound : IsSoundWorld w) (i : ℕ) (s : Seat) (at : sli
       → n ≡ record { bytes = w.bytes; seats = set w.seats i (entered_seat s pc arguments) } → Changed n
   enter_is pc arguments many may n range is =
       let hart : IsHart (entered_hart s.bounds pc arguments) = (state_then n w.bytes (entered_seat s pc arguments) range is).hart in
-      let safe : IsSafeSeat w.bytes (entered_seat s pc arguments) = entered_safe w.bytes s seat (sound.enterable i s at) pc arguments (omega (arith, many)) may.held may.aligned hart in
+      let safe : IsSafeSeat w.bytes (entered_seat s pc arguments) = entered_safe w.bytes s seat (sound.enterable i s at) pc arguments (omega (arith, many)) may.start.held may.start.aligned hart in
       (slot_of w.bytes (entered_seat s pc arguments), seat_set (entered_seat s pc arguments) refl safe n is)
 
   -- ---- data that are written

@@ -2,7 +2,7 @@
 use Rattle.sfi_host.proofs.Prelude.{◌≡◌, ℕ, zero, suc, ◌==◌, Bool, true, false, cond, List, [], ◌∷◌, ◌++◌, map, Option, Some, None, slice_get, set, take, refl, sym, ap, ◌∙◌, subst, append_assoc, append-nil, eqb-true, eqb-false, same_Some, filter, State, Outcome, Status, Ready, Turn, Slot, state_of, Call, Reply, Answer, Host, limited, replay, StepResult, Continue, RunEnds, Machine, Moved, moved, moved_if, slot_after_step, after_answer, after_replies, call_of, and_more, turned, Given, given, Joined, joined, turn_and, and_plan, joined_after_turn}
 use Rattle.sfi_host.specs.Plans.{IsSolo, JoinedIsSolo, JointIsSolo, turns_of, replies_to}
 use Rattle.rv_step.specs.declared.outcome.Outcome.TheVariants as outcome
-use Rattle.sfi_host.proofs.OwnSteps.{get_set_same, get_set_other}
+use Rattle.sfi_decoded.proofs.Lists.{get_set_same, get_set_other}
 
 -- a step or turn of the sandbox alone, with a host that has these replies left
 abbrev alone : {S : Type 0} → Moved S → List Reply → Moved (List Reply)

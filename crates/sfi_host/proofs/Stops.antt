@@ -15,6 +15,7 @@ use Rattle.rv_word.specs.declared.instr.StoreWidth.{StoreWidth}
 use Rattle.sfi_host.specs.Worlds.{IsAt, IsAtGate, TouchesGuard, StoppedItself}
 use Rattle.rv_step.specs.declared.outcome.Cause.TheVariants as cause
 use Rattle.rv_step.proofs.Facts.{step_is_effect}
+use Rattle.sfi_decoded.proofs.Decoding.{stands_still}
 use Rattle.sfi_host.proofs.Prelude.{◌≡◌, ◌↔◌, ◌==◌, IsTrue, false, eqb-true, same_Some, ℕ, List, [], ◌∷◌, length, Option, Some, None, inl, inr, refl, sym, ap, ◌∙◌, subst, arith, bytes_at, addresses, number_of, loaded, State, Ecall, Stands, zero, suc, ◌<◌, cond, is_some, IsSome, slice_get, ℤ, Contains, option_map, slice_get_within, get_or_from_slice_get, Load, Store, Ebreak, Bytes, byte_at, address_after, in_front, Hart, register, Stepped, IsStep, next, unchanged, after_load, effect, Span, Holds, InGuards, InData, InGuard, IsGate, Steps, IsSafeState, IsSafeStep, Status, Ready, Exited, Trapped, Bounds, Seat, Sandboxes, slots_of, status_at, state_in, IsSafeSeat, IsSafeWorld, HaveStoppedThemselves}
 
 -- ==== An ecall stands at pc where the four bytes there make its word.
@@ -68,16 +69,6 @@ module _ (s : State) (o : Option ℕ) (is : o ≡ loaded s.memory s.hart.pc 4) w
 -- ==== What stops a safe sandbox is its own instruction, and it stays at that.
 
 -- ---- where the code stays, the instruction does
-
-pub stands_still : (code : Span) (m n : Bytes) → ((a : ℕ) → Holds code a → byte_at n a ≡ byte_at m a) → (h k : Hart) (i : Instr) (size : ℕ) → k.pc ≡ h.pc → Stands (record { hart = h; memory = m }) i size
-    → ((j : ℕ) → j < size → Holds code (address_after h.pc j)) → Stands (record { hart = k; memory = n }) i size
-stands_still code m n same h k i size pc stands within = record {
-  bytes = stands.bytes;
-  there = let held = (read_is_held m h.pc size stands.bytes).0 stands.there in
-      ap (λ (p : ℕ). bytes_at n (addresses p size)) pc
-      ∙ (read_is_held n h.pc size stands.bytes).1 (record { count = held.count; each = λ j below. same (address_after h.pc j) (within j below) ∙ held.each j below });
-  spelled = stands.spelled;
-}
 
 module _ (b : Bounds) (m n : Bytes) (same : (a : ℕ) → Holds b.code a → byte_at n a ≡ byte_at m a) where
   -- at the same pc

@@ -3,7 +3,7 @@ use Rattle.std.proofs.Math.Nat.{min-le_left}
 use Rattle.sfi_host.proofs.Prelude.{◌≡◌, ◌≢◌, ℕ, zero, suc, ◌+◌, ◌^◌, ◌-◌, ◌≤◌, ⊎_elim, List, [], ◌∷◌, Option, Some, None, set, slice_get, refl, sym, ap, ◌∙◌, subst, arith, cases_eq, option_map, Outcome, State, Status, Ready, Stopped, Slot, state_of, one_more, Turn, Way, Exit, Answer, Host, Machine, Moved, moved, moved_if, slot_after_step, after_answer, call_of, status_after, StepResult, Continue, RunEnds, and_more, turned, Joined, joined, and_plan, turn_and, status_at, map, map-set}
 use Rattle.rv_step.specs.declared.outcome.Outcome.TheVariants as outcome
 use Rattle.sfi_host.specs.Waiting.{TurnStepsAreBounded, WaitsThroughTurns, PlansStopNone, silent}
-use Rattle.sfi_host.proofs.OwnSteps.{get_set_same, get_set_other, set_itself}
+use Rattle.sfi_decoded.proofs.Lists.{get_set_same, get_set_other, set_itself}
 use Rattle.sfi_host.proofs.Plans.{joined_cons, joined_nil}
 use Rattle.sfi_host.proofs.SlotSteps.{calls_by}
 use Rattle.sfi_host.proofs.WorldBytes.{get_map}

@@ -6,7 +6,7 @@ use Rattle.sfi_host.specs.Waiting.{StandsAt, IsUpToStop, turn_of, after_turn, si
 use Rattle.sfi_host.specs.declared.turn.Pause.{Pause}
 use Rattle.sfi_host.specs.declared.turn.Pause.TheVariants.{Over, Call as PausedAt}
 use Rattle.sfi_host.specs.private.Turns.{IsCallOf, IsQuietTurn, IsQuietToCall, after_steps, IsTurnUntil}
-use Rattle.sfi_host.proofs.OwnSteps.{get_set_same}
+use Rattle.sfi_decoded.proofs.Lists.{get_set_same}
 use Rattle.sfi_host.proofs.Quiet.{first_is, none, turn_over, turn_called, stays_quiet, no_sandbox}
 use Rattle.sfi_host.proofs.SafeSeats.{stays_on}
 

@@ -4,7 +4,8 @@ use Rattle.sfi_host.specs.WorldSteps.{StepsAlone, WorldStep, after_world_step, A
 use Rattle.sfi_image.specs.declared.part.Gate.{Gate}
 use Rattle.sfi_safe_runs.specs.Runs.{Turn, after_turn}
 use Rattle.sfi_host.proofs.SafeSeats as keep
-use Rattle.sfi_host.proofs.OwnSteps.{get_set_same, get_set_other, other_same, slots_are, world_safe, neighbours_are}
+use Rattle.sfi_decoded.proofs.Lists.{get_set_same, get_set_other}
+use Rattle.sfi_host.proofs.OwnSteps.{other_same, slots_are, world_safe, neighbours_are}
 use Rattle.sfi_host.proofs.WorldBytes.{outside_more, same_bounds}
 
 -- ---- a run that is safe for a part is safe for another one that lies there with the same code

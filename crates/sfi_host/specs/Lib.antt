@@ -7,7 +7,6 @@ pub mod Worlds
 pub mod Loading
 pub mod Changing
 pub mod Adding
-pub mod Programs
 pub mod Modules
 pub mod Laws
 pub mod WorldSteps

@@ -1,5 +1,5 @@
 -- How a world begins, and how a sandbox is entered again or reset.
-use Rattle.std.specs.Prelude.{◌≡◌, ◌≢◌, ℕ, ◌+◌, ◌-◌, ◌%◌, ◌==◌, List, [], ◌∷◌, cond, replicate, Option, Some, None, slice_get, slice_set, ◌<◌, ◌++◌, length, slice_index, map, nat_le}
+use Rattle.std.specs.Prelude.{◌≡◌, ◌≢◌, ℕ, ◌+◌, ◌-◌, ◌==◌, List, [], ◌∷◌, cond, replicate, Option, Some, None, slice_get, slice_set, ◌<◌, ◌++◌, length, slice_index, map, nat_le}
 use Rattle.rv_mem.specs.Bytes.{Bytes, byte_at, added, with_bytes}
 use Rattle.rv_step.specs.State.{Hart, with_register}
 use Rattle.sfi_formats.specs.Limits.{first_frame}
@@ -7,8 +7,8 @@ use Rattle.sfi_formats.specs.Formats.{unit, has_words, code_base_register, code_
 use Rattle.sfi_formats.specs.declared.format.Format.{Format}
 use Rattle.sfi_image.specs.declared.part.Gate.{Gate}
 use Rattle.sfi_image.specs.declared.span.Span.{Span}
-use Rattle.sfi_image.specs.Parts.{IsRightPart, IsRightLayout, reserved_for}
-use Rattle.sfi_image.specs.Spelling.{Holds, code_region, data_region, Part}
+use Rattle.sfi_image.specs.Parts.{IsRightPart, IsRightLayout, IsStart, reserved_for}
+use Rattle.sfi_image.specs.Spelling.{code_region, data_region, Part}
 use Rattle.sfi_names.specs.Rooms.{room_of}
 use Rattle.sfi_safe_runs.specs.Runs.{HasCode, IsEntry}
 use Rattle.sfi_safe_runs.specs.Safety.{RunsSafely}
@@ -29,8 +29,7 @@ use Rattle.std.specs.List.{range_with_len}
 -- the sandbox has stopped, and a unit of its code, a bundle or a word, begins at pc
 pub record MayEnter (b : Bounds) (status : Status) (pc : ℕ) : Type 0 where
   pub stopped : status ≢ Ready
-  pub held : Holds b.code pc
-  pub aligned : pc % unit b.format ≡ 0
+  pub start : IsStart (unit b.format) b.code pc
 
 -- there is a sandbox `i`, and it may be entered at pc
 pub record MayEnterAt (slots : List Slot) (i pc : ℕ) : Type 0 where

@@ -1,12 +1,15 @@
 -- An image that was decoded once, for many worlds.
-use Rattle.std.specs.Prelude.{◌≡◌, ℕ, List, map, Some, slice_get}
+use Rattle.std.specs.Prelude.{◌≡◌, ℕ, List, length, map, Some, slice_get}
 use Rattle.std.specs.Arc.{arc_value, arc_slice_items}
+use Rattle.std.specs.Global.{Global}
+use Rattle.std.specs.declared.sync.Arc.{Arc}
 use Rattle.sfi_formats.specs.declared.format.Format.{Format}
 use Rattle.sfi_image.specs.Spelling.{Part}
 use Rattle.sfi_safety.specs.Clean.{MayRun}
 use Rattle.sfi_host.specs.declared.modules.ModulePart.{ModulePart}
-use Rattle.sfi_host.specs.declared.program.Program.{Program}
-use Rattle.sfi_host.specs.Programs.{IsProgramOf}
+use Rattle.sfi_decoded.specs.declared.program.Program.{Program}
+use Rattle.sfi_decoded.specs.Programs.{IsDecoded, IsProgramOf}
+use Rattle.sfi_host.specs.Worlds.{Seat, Sandboxes}
 
 -- the part that a module's part stands for, in an image of this format
 abbrev pub part_of : Format → ModulePart → Part
@@ -39,3 +42,15 @@ HavePrograms f all =
 pub record IsModule (f : Format) (all : List ModulePart) : Type 0 where
   pub runs : MayRun (parts_of f all)
   pub programs : HavePrograms f all
+
+-- ==== The programs of a world.
+
+-- the programs of a world, each of which other worlds may share
+abbrev pub programs_of : List (Arc Program Global) → List Program
+programs_of all = map arc_value all
+
+-- each sandbox has a program of its own code
+pub record AreDecoded (w : Sandboxes) (programs : List Program) : Type 0 where
+  pub count : length programs ≡ length w.seats
+  pub each : (i : ℕ) (p : Program) (s : Seat) → slice_get programs i ≡ Some p
+      → slice_get w.seats i ≡ Some s → IsDecoded s.bounds.code w.bytes p

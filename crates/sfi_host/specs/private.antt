@@ -1,6 +1,4 @@
 -- Words that private contracts and proofs alone cite: no public statement rests on them.
-pub mod Apart
-pub mod Programs
 pub mod Copying
 pub mod Sandboxes
 pub mod Turns

@@ -9,31 +9,23 @@
 //! to alone with the replies that it got.
 #![tactic(auto)]
 
-mod block;
 mod calls;
 mod console;
 mod copying;
-mod decoded_op;
-mod extent;
 mod gates;
 mod guest;
 mod handover;
-mod joining;
 pub mod laws;
 mod loading;
 mod meeting;
 mod message;
 mod modules;
-mod pair_steps;
-mod passed;
-mod program;
 mod region;
 mod resetting;
 mod sandbox;
 mod session;
 mod setting;
 mod status;
-mod steps;
 mod turn;
 mod until;
 mod waiting;

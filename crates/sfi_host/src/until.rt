@@ -3,15 +3,15 @@ ghost use Rattle.std.specs.Prelude.{◌≡◌, ◌≢◌, ◌⊎◌, ◌↔◌, 
 ghost use Rattle.std.specs.Bool.{OnFalse};
 ghost use Rattle.std.specs.List.{Contains};
 ghost use Rattle.sfi_host.specs.Worlds.{seat_of};
-ghost use Rattle.sfi_host.specs.private.Programs.{IsSafeWith};
+ghost use Rattle.sfi_host.specs.private.Sandboxes.{IsSafeWith};
 ghost use Rattle.sfi_host.specs.private.Sandboxes.{slot_in, StaysSafe};
 ghost use Rattle.sfi_host.specs.private.Turns.{IsTurnUntil};
 
-use crate::program::Program;
 use crate::sandbox::Sandbox;
 use crate::status::Status;
 use crate::turn::{Pause, run_quietly};
 use rv_mem::Memory;
+use sfi_decoded::Program;
 
 /// Whether the address is one of the stops.
 fn is_stop(stops: &[u32], pc: u32) -> bool

@@ -10,10 +10,10 @@ ghost use Rattle.sfi_host.specs.Worlds.{IsSafeWorld};
 
 use crate::copying::copy_all_sandboxes;
 use crate::modules::Module;
-use crate::program::Program;
 use crate::sandbox::Sandbox;
 use crate::world::World;
 use rv_mem::Memory;
+use sfi_decoded::Program;
 use std::alloc::{AllocError, Global};
 use std::sync::Arc;
 

@@ -1,8 +1,8 @@
 use Rattle.sfi_host.proofs.Prelude.{◌≡◌, ◌+◌, ◌++◌, List, drop, sym, subst, arith, Format, view, views, Part}
 use Rattle.sfi_host.specs.Modules.{part_of, parts_of, program_in, HavePrograms}
-use Rattle.sfi_host.specs.Programs.{IsProgramOf}
+use Rattle.sfi_decoded.specs.Programs.{IsProgramOf}
 use Rattle.sfi_host.specs.declared.modules.ModulePart.{ModulePart}
-use Rattle.sfi_host.proofs.Decoding.{pushed}
+use Rattle.sfi_host.proofs.Decoded.{pushed}
 use Rattle.sfi_host.proofs.Entered.{right_part, next_made, all_made}
 use Rattle.sfi_host.proofs.modules.copy_parts.Goals as goal
 

@@ -3,7 +3,7 @@ use Rattle.std.specs.Global.{Global}
 use Rattle.std.specs.declared.sync.Arc.{Arc}
 use Rattle.sfi_host.proofs.Prelude.{◌≡◌, ◌+◌, ◌++◌, List, map, drop, sym, subst, arith, Program}
 use Rattle.sfi_host.specs.Modules.{program_in}
-use Rattle.sfi_host.specs.Programs.{programs_of}
+use Rattle.sfi_host.specs.Modules.{programs_of}
 use Rattle.sfi_host.proofs.Entered.{next_made, all_made}
 use Rattle.sfi_host.proofs.modules.share_programs.Goals as goal
 

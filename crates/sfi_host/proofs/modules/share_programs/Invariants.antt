@@ -1,6 +1,6 @@
 use Rattle.sfi_host.proofs.Prelude.{◌≡◌, ◌++◌, map, drop}
 use Rattle.sfi_host.specs.Modules.{program_in}
-use Rattle.sfi_host.specs.Programs.{programs_of}
+use Rattle.sfi_host.specs.Modules.{programs_of}
 use Rattle.sfi_host.proofs.modules.share_programs.Given as goal
 
 abbrev pub invariant-loop-part : goal.invariant-loop-part

@@ -1,5 +1,5 @@
 use Rattle.sfi_host.proofs.Prelude.{ℕ, Contains, refl, sym, subst, arith}
-use Rattle.sfi_host.proofs.Decoding.{still_runs}
+use Rattle.sfi_host.proofs.Decoded.{still_runs}
 use Rattle.sfi_host.proofs.SafeSeats.{stays_itself}
 use Rattle.sfi_host.proofs.UpToStop.{none_done, at_stop, at_end, further, all_done, stays_so}
 use Rattle.sfi_host.proofs.until.run_until.Goals as goal

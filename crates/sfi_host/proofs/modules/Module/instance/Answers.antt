@@ -1,6 +1,6 @@
 use Rattle.sfi_host.proofs.Prelude.{◌≡◌, List, map, sym, ap, ◌∙◌, subst, empty, Bytes, IsMemory, Part, first_seat, with_parts, AreEntered, HaveFirstData, AreProgramsOf, Program, Seat, Sandboxes, seats_of}
 use Rattle.sfi_safety.specs.Clean.{MayRun}
-use Rattle.sfi_host.specs.Programs.{programs_of}
+use Rattle.sfi_host.specs.Modules.{programs_of}
 use Rattle.sfi_host.specs.Sessions.{IsSoundWorld}
 use Rattle.sfi_host.proofs.Entries.{IsFirst, is_first}
 use Rattle.sfi_host.proofs.modules.Module.instance.Goals as goal

@@ -1,9 +1,9 @@
 use Rattle.sfi_host.proofs.Prelude.{List, map, sym, ap, ◌∙◌, subst, Part, Program, AreProgramsOf}
 use Rattle.std.proofs.lemmas.Result.{IfOk-weaker}
 use Rattle.sfi_host.specs.Modules.{program_in}
-use Rattle.sfi_host.specs.Programs.{programs_of}
+use Rattle.sfi_host.specs.Modules.{programs_of}
 use Rattle.sfi_host.specs.declared.modules.ModulePart.{ModulePart}
-use Rattle.sfi_host.proofs.Decoding.{programs_are}
+use Rattle.sfi_host.proofs.Decoded.{programs_are}
 use Rattle.sfi_host.proofs.modules.Module.programs.Goals as goal
 
 pub returns : goal.returns

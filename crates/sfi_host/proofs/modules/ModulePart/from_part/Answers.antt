@@ -1,5 +1,5 @@
 use Rattle.sfi_host.proofs.Prelude.{sym, subst, view, Program}
-use Rattle.sfi_host.specs.Programs.{IsProgramOf}
+use Rattle.sfi_decoded.specs.Programs.{IsProgramOf}
 use Rattle.sfi_host.proofs.modules.ModulePart.from_part.Goals as goal
 
 pub returns-clause-program : goal.returns-clause-program

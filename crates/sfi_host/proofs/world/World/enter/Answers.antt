@@ -1,5 +1,5 @@
 use Rattle.sfi_host.proofs.Prelude.{◌≡◌, true, set, slice_get, Some, refl, sym, ◌∙◌, subst, arith, slice_get_past, same_Some, Sandbox, MayEnter, seat_of, world_of, slot_of}
-use Rattle.sfi_host.specs.Programs.{programs_of}
+use Rattle.sfi_host.specs.Modules.{programs_of}
 use Rattle.sfi_host.proofs.WorldBytes.{found_there, seat_at}
 use Rattle.sfi_host.proofs.Changing.{others_same}
 use Rattle.sfi_safe_runs.proofs.Entries.{even_unit}
@@ -29,7 +29,7 @@ enter-requires g c =
     let x = c.index_mut.result.now in
     let there = seat_at items c.args.i x (found_there items items c.args.i x refl (omega (arith, c.len.ensures, c.if-place-len.false)) c.index_mut.ensures.value) in
     let z = sizes (g.M.Memory.bytes c.self.inside.memory) (seat_of x) (c.self.invariant.0.each c.args.i (seat_of x) there) in
-    record { even = even_unit c.index.result.now.format c.args.pc (c.if-not-may_enter.ensures.0 refl).aligned; code_size = z.0; data_size = z.1; data_end = z.2 }
+    record { even = even_unit c.index.result.now.format c.args.pc (c.if-not-may_enter.ensures.0 refl).start.aligned; code_size = z.0; data_size = z.1; data_end = z.2 }
 
 -- ---- what comes of it
 
@@ -50,7 +50,7 @@ after : (g : given.Over) (c : goal.After-self-1 g) → let m = g.M.Memory.bytes 
 after g c =
     let many = c.told-arguments in
     has_entered (g.M.Memory.bytes c.self.inside.memory) c.self.inside.sandboxes.items (programs_of c.self.inside.programs.items) c.args.i c.index_mut.result.now c.enter.new.self
-    c.self.invariant (at g c) c.args.pc c.args.arguments.now (omega (arith, many)) (may g c).held (may g c).aligned c.enter.ensures.entered c.enter.ensures.hart c.args.self.now c.self.view_is
+    c.self.invariant (at g c) c.args.pc c.args.arguments.now (omega (arith, many)) (may g c).start.held (may g c).start.aligned c.enter.ensures.entered c.enter.ensures.hart c.args.self.now c.self.view_is
 
 pub invariant_of-self : goal.invariant_of-self
 invariant_of-self g c = (after g c).after.kept

@@ -1,6 +1,6 @@
 use Rattle.std.specs.Arc.{arc_value}
 use Rattle.sfi_host.proofs.Prelude.{List, ap, ◌∙◌, map-append, Bytes, with_parts, Sandbox, world_of}
-use Rattle.sfi_host.specs.Programs.{programs_of}
+use Rattle.sfi_host.specs.Modules.{programs_of}
 use Rattle.sfi_host.proofs.Adding.{added_in, no_change}
 use Rattle.sfi_host.proofs.world.World.extend.Goals as goal
 

@@ -2,7 +2,7 @@ use Rattle.std.specs.Arc.{arc_value}
 use Rattle.std.specs.List.{remove}
 use Rattle.sfi_host.proofs.Prelude.{◌<◌, List, length, length-map, ap, ◌∙◌, arith, Sandbox, Sandboxes, seat_of, seats_of}
 use Rattle.sfi_host.specs.Adding.{bytes_of}
-use Rattle.sfi_host.specs.Programs.{programs_of}
+use Rattle.sfi_host.specs.Modules.{programs_of}
 use Rattle.sfi_host.proofs.Copied.{map_remove}
 use Rattle.sfi_host.proofs.Removing.{removed_in}
 use Rattle.sfi_host.proofs.world.World.leave_out.Goals as goal

@@ -1,5 +1,5 @@
 use Rattle.sfi_host.proofs.Prelude.{◌≡◌, ◌≢◌, ℕ, [], ◌∷◌, set, slice_get, slice_set, Option, Some, None, IsSome, IsTrue, refl, sym, ap, ◌∙◌, subst, arith, same_Some, false, true, List, Ecall, Stands, Sandbox, Sandboxes, Slot, RunEnds, Machine, IsMachine, IsJoint, call_of, replied, seat_of, slot_of, slots_of, state_in, world_of, IsSafeWorld}
-use Rattle.sfi_host.specs.Programs.{programs_of}
+use Rattle.sfi_host.specs.Modules.{programs_of}
 use Rattle.sfi_host.specs.declared.guest.Request.{Request}
 use Rattle.sfi_host.specs.Waiting.{Waits, later_answer, later_reply}
 use Rattle.sfi_host.proofs.WorldBytes.{found_there, seat_at, world_runs}

@@ -1,5 +1,5 @@
 use Rattle.sfi_host.proofs.Prelude.{◌≡◌, set, slice_get, Some, refl, arith, slice_get_past, seat_of, world_of, slot_of}
-use Rattle.sfi_host.specs.Programs.{programs_of}
+use Rattle.sfi_host.specs.Modules.{programs_of}
 use Rattle.sfi_host.proofs.WorldBytes.{found_there, seat_at}
 use Rattle.sfi_host.proofs.Changing.{others_same, whole_at}
 use Rattle.sfi_host.proofs.Entries.{sizes}

@@ -1,5 +1,5 @@
 use Rattle.sfi_host.proofs.Prelude.{◌≡◌, ◌↔◌, IsTrue, true, false, set, slice_get, Some, refl, sym, ap, ◌∙◌, subst, arith, slice_get_past, same_Some, Hart, IsHart, Sandbox, seat_of, world_of, slot_of, slots_of}
-use Rattle.sfi_host.specs.Programs.{programs_of}
+use Rattle.sfi_host.specs.Modules.{programs_of}
 use Rattle.sfi_host.specs.Changing.{IsEntryHart}
 use Rattle.sfi_host.proofs.WorldBytes.{found_there, seat_at}
 use Rattle.sfi_host.proofs.Changing.{others_same}

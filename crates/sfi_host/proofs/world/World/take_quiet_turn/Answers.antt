@@ -1,5 +1,5 @@
 use Rattle.sfi_host.proofs.Prelude.{set, slice_get, refl, sym, ap, ◌∙◌, arith, slice_get_past, seat_of, world_of, Sandboxes, slot_of, slots_of}
-use Rattle.sfi_host.specs.Programs.{programs_of}
+use Rattle.sfi_host.specs.Modules.{programs_of}
 use Rattle.sfi_host.proofs.WorldBytes.{no_slot}
 use Rattle.sfi_host.proofs.Changing.{AfterTurn, may_run_shared, put_back}
 use Rattle.sfi_host.proofs.Quiet.{no_sandbox, quiet_plan}

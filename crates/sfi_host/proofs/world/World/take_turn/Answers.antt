@@ -1,7 +1,7 @@
 use Rattle.sfi_host.proofs.Prelude.{List, [], ◌∷◌, None, set, slice_get, refl, sym, ap, ◌∙◌, subst, arith, slice_get_past, Slot, IsJoint, IsCutJoint, seat_of, world_of, Sandboxes, slot_of, slots_of}
-use Rattle.sfi_host.specs.Programs.{programs_of}
+use Rattle.sfi_host.specs.Modules.{programs_of}
 use Rattle.sfi_host.proofs.WorldBytes.{no_slot}
-use Rattle.sfi_host.proofs.OwnSteps.{get_set_same}
+use Rattle.sfi_decoded.proofs.Lists.{get_set_same}
 use Rattle.sfi_host.proofs.Plans.{none_then, one_joint, one_turn, cut_turn}
 use Rattle.sfi_host.proofs.Changing.{AfterTurn, may_run_shared, put_back}
 use Rattle.sfi_host.proofs.world.World.take_turn.Given as given

@@ -1,5 +1,5 @@
 use Rattle.sfi_host.proofs.Prelude.{◌≡◌, ◌↔◌, IsTrue, IsSome, List, length, ℕ, true, false, Option, Some, slice_get, refl, subst, arith, rules, seat_of, world_of, slot_of}
-use Rattle.sfi_host.specs.Programs.{programs_of}
+use Rattle.sfi_host.specs.Modules.{programs_of}
 use Rattle.sfi_host.specs.Changing.{AreChanges}
 use Rattle.sfi_host.proofs.WorldBytes.{found_there, data_bytes_is}
 use Rattle.sfi_host.proofs.Changing.{whole_at, data_written, others_same, AfterTurn}
