@@ -1,6 +1,6 @@
 #!/usr/bin/env python3
-"""Makes what README.md and docs/sfi.1 say of the commands from what the program itself says of them: the texts in
-crates/sfi_command/src/help.rt, by the list in commands.rt.
+"""Makes what README.md and docs/sfi.1 say of the commands from what the program itself says of them: their rows in
+crates/sfi_command/src/commands/, by the list in commands.rt.
 
     tools/documents.py             # compares, prints what differs, and ends in 1 where something does
     tools/documents.py --write     # writes both
@@ -37,38 +37,50 @@ class Command:
 
 # ---- what the program says
 
-def texts(code):
-    """The texts of help.rt, by their names."""
-    found = re.findall(r'const (\w+): &str =\s*"((?:[^"\\]|\\.)*)";', code, re.DOTALL)
-    return {name: re.sub(r"\\(.)", r"\1", re.sub(r"\\\n\s*", "", text)) for name, text in found}
+def without_texts(code):
+    """Code with a number in the place of each text, and the texts."""
+    texts = []
+
+    def numbered(found):
+        texts.append(re.sub(r"\\(.)", r"\1", re.sub(r"\\\n\s*", "", found[1])))
+        return f'"{len(texts) - 1}"'
+    return re.sub(r'"((?:[^"\\]|\\.)*)"', numbered, re.sub(r"^\s*//.*", "", code, flags=re.M), flags=re.S), texts
 
 
-def option_of(block, said):
-    name, about = re.search(r'name: "(\w+)"', block)[1], re.search(r"about: help::(\w+)", block)[1]
-    value = re.search(r'Takes::(Texts?|Count|Number|Word|Needed)\b[^"]*"([^"]*)"', block)
-    kind = value[1] if value else ""
-    return Option(name, value[2] if value else "", kind == "Texts", said[about], kind == "Word", kind == "Needed")
+def field(name, block, texts):
+    return texts[int(re.search(rf'{name}:\s*"(\d+)"', block)[1])]
 
 
-def commands(code, said):
-    """The rows of commands.rt."""
-    named = {name: option_of(block, said) for name, block in re.findall(r"const (\w+): OptionRow = OptionRow \{(.*?)\n\};", code, re.DOTALL)}
-    rows = code.partition("const COMMANDS")[2].partition("\n];")[0].split("CommandRow {")[1:]
-    rows += re.findall(r"const \w+: CommandRow = CommandRow \{(.*?)\n\};", code, re.DOTALL)
-    return [command_of(re.sub(r"//.*", "", row), named, said) for row in rows]
+def option_of(block, texts):
+    value = re.search(r'Takes::(Texts?|Count|Number|Word|Needed)\b[^"]*"(\d+)"', block)
+    kind, word = (value[1], texts[int(value[2])]) if value else ("", "")
+    return Option(field("name", block, texts), word, kind == "Texts", field("about", block, texts), kind == "Word", kind == "Needed")
 
 
-def command_of(row, named, said):
-    front, _, options = row.partition("options:")
-    name, about, notes = re.search(r'name: "(\w+)",\s*about: help::(\w+),\s*notes: help::(\w+)', front).groups()
-    blocks = re.findall(r"OptionRow \{(.*?about: help::\w+)|\b([A-Z][A-Z_]+)\b(?=[,\]])", options, re.DOTALL)
-    made = tuple(named[constant] if constant else option_of(block, said) for block, constant in blocks)
-    return Command(name, said[about], said[notes], made)
+def rows(kind, code):
+    """The rows of this kind that have a name, by it."""
+    return re.findall(rf"const (\w+): {kind} = {kind} \{{(.*?)\n\}};", code, re.DOTALL)
+
+
+def commands(code, files):
+    """The rows of the commands that commands.rt lists, of these files."""
+    code, texts = without_texts(code)
+    shared = {name: option_of(block, texts) for name, block in rows("OptionRow", code)}
+    listed = re.findall(r"(\w+)::(\w+)", code.partition("const COMMANDS")[2].partition("];")[0])
+    return [command_of(name, files[module], shared) for module, name in listed]
+
+
+def command_of(name, code, shared):
+    code, texts = without_texts(code)
+    row = dict(rows("CommandRow", code))[name]
+    blocks = re.findall(r'OptionRow \{(.*?about:\s*"\d+")|\b([A-Z][A-Z_]+)\b(?=[,\]])', row.partition("options:")[2], re.DOTALL)
+    made = tuple(shared[constant] if constant else option_of(block, texts) for block, constant in blocks)
+    return Command(*(field(it, row, texts) for it in ("name", "about", "notes")), made)
 
 
 def all_commands():
-    said = texts((SOURCE / "help.rt").read_text(encoding="utf-8"))
-    return commands((SOURCE / "commands.rt").read_text(encoding="utf-8"), said)
+    files = {path.stem: path.read_text(encoding="utf-8") for path in (SOURCE / "commands").glob("*.rt")}
+    return commands((SOURCE / "commands.rt").read_text(encoding="utf-8"), files)
 
 
 # ---- README.md
@@ -167,7 +179,7 @@ def main(words):
     for path, text in stale.items():
         if words:
             path.write_text(text, encoding="utf-8")
-        print(f"{path.relative_to(TOP)} {'is written anew' if words else 'differs from what help.rt says: tools/documents.py --write'}")
+        print(f"{path.relative_to(TOP)} {'is written anew' if words else 'differs from what the rows of the commands say: tools/documents.py --write'}")
     return 1 if stale and not words else 0
 
 

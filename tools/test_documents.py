@@ -7,36 +7,34 @@ import unittest
 import documents
 import testing
 
-HELP = r'''pub(crate) const WALK: &str =
-    "Walks \"far\"";
-
-pub(crate) const WALK_NOTES: &str = "\
+LIST = '''const PLACES: OptionRow = OptionRow {
+    name: "at",
+    takes: Takes::Texts("PLACE"),
+    about: "Runs",
+};
+const COMMANDS: &[CommandRow] = &[
+    // those that go
+    walking::WALK,
+];
+'''
+FILES = {"walking": r'''const WALK: CommandRow = CommandRow {
+    name: "walk",
+    about:
+        "Walks \"far\"",
+    options: &[PLACES, OptionRow { name: "fast", takes: Takes::Nothing, about: "Runs" }],
+    notes: "\
 Reads a way-mark, and prints
   a line
 
 Exit status:
-  0  done";
-pub(crate) const FAST: &str = "Runs";
-'''
-ROWS = '''const PLACES: OptionRow = OptionRow {
-    name: "at",
-    takes: Takes::Texts("PLACE"),
-    about: help::FAST,
+  0  done",
 };
-const COMMANDS: &[CommandRow] = &[
-    CommandRow {
-        name: "walk",
-        about: help::WALK,
-        notes: help::WALK_NOTES,
-        options: &[PLACES, OptionRow { name: "fast", takes: Takes::Nothing, about: help::FAST }],
-    },
-];
-'''
+'''}
 
 
 class Documents(unittest.TestCase):
     def setUp(self):
-        self.found = documents.commands(ROWS, documents.texts(HELP))
+        self.found = documents.commands(LIST, FILES)
 
     def test_both_say_what_the_program_says(self):
         for path, text in documents.wanted().items():

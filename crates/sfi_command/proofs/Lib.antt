@@ -1,3 +1,3 @@
 pub mod Spelled
 pub mod Words
-pub mod Rows
+pub mod Program

@@ -11,7 +11,7 @@ use Rattle.std.specs.List.{after_first, before_first, position_or_len}
 use Rattle.std.specs.Prelude.{◌==◌}
 use Rattle.std.specs.Str.Parse.{AllDigits, IsNumeral, digits_value, without_leading_plus}
 use Rattle.clap.specs.Walk.{Text}
-use Rattle.sfi_command.proofs.Rows.{map-take_more}
+use Rattle.sfi_command.proofs.Program.{map-take_more}
 use Rattle.sfi_command.specs.Command.{number_of, SpellsAddress, SpellsPlace, SpellPlaces}
 use Rattle.sfi_command.specs.declared.job.JobFault.{JobFault}
 use Rattle.sfi_command.specs.declared.job.JobFault.TheVariants.{Usage, Hex, Memory}

@@ -1,8 +1,7 @@
 -- From what the command-line crate ensures to what the words ask for.
-use Rattle.std.proofs.Common.{◌≡◌, ◌≢◌, ◌⊎◌, ◌<◌, ◌≤◌, ◌^◌, ◌-◌, ◌∙◌, ℕ, ap, refl, sym, true, Option, Some, None, List, [], subst, IfOk, Result, Ok, Err, inl, inr, arith, slice_index}
-use Rattle.std.specs.Prelude.{String, string_bytes, option_map, unwrap_or, find, IfErr, IsErr, IsTrue, ◌↔◌, Bool, false, codes, Vec}
+use Rattle.std.proofs.Common.{◌≡◌, ◌≢◌, ◌⊎◌, ◌<◌, ◌≤◌, ◌^◌, ◌∙◌, ℕ, ap, refl, sym, true, Option, Some, None, List, [], subst, IfOk, Result, Ok, Err, inl, inr, arith}
+use Rattle.std.specs.Prelude.{string_bytes, option_map, unwrap_or, find, IfErr, IsErr, IsTrue, ◌↔◌, Bool, false, codes}
 use Rattle.std.specs.Option.{option_map_or}
-use Rattle.std.specs.declared.alloc.Global.{Global}
 use Rattle.std.specs.Str.Parse.{IsNumeral, digits_value, without_leading_plus}
 use Rattle.hex.specs.Hex.{decode_of}
 use Rattle.hex.specs.declared.error.FromHexError.{FromHexError}
@@ -15,21 +14,21 @@ use Rattle.std.specs.Str.{bytes_eq}
 use Rattle.std.proofs.lemmas.Slice.Eq.{bytes_eq-Decides}
 use Rattle.clap.specs.declared.parser.matches.Found.{Found}
 use Rattle.clap.proofs.WalkLemmas.{find_row, first_value-rows}
-use Rattle.std.proofs.lemmas.Result.{IfOk-weaker, IfErr-weaker}
+use Rattle.std.proofs.lemmas.Result.{IfErr-weaker}
 use Rattle.clap.specs.Facts.{Entry}
 use Rattle.clap.specs.Walk.{Row, Text, first_of, row_of, rows_of}
 use Rattle.clap.specs.Faults.{fault_of, is_simple_and_free}
-use Rattle.clap.specs.Matches.{first_value, matched_of, raw_values, subcommand_name_of}
+use Rattle.clap.specs.Matches.{first_value, found_of, matched_of, raw_values, subcommand_name_of}
 use Rattle.clap.specs.declared.parser.matches.MatchedArg.{MatchedArg}
 use Rattle.clap.specs.Simple.{App, is_simple, subcommand_of, subcommand_rows, HasMatchesOf}
 use Rattle.clap.specs.declared.parser.matches.ArgMatches.{ArgMatches}
 use Rattle.clap.specs.declared.parser.matches.ArgMatches.TheViews.{out-ArgMatches}
 use Rattle.clap.proofs.OnLiterals.{clap_on_literals}
-use Rattle.sfi_command.specs.Command.{sfi, quantum_most, rounds_most, texts_of, Names, NamesNoInput, Asks, IsBudget, IsCount, IsFaultOf, IsInputOf, IsNoInput, IsPlaceOf, number_of, sandbox_most, SpellsPlace}
-use Rattle.sfi_command.specs.private.{NamesNothing, IsFaultOfNamed, IsInputFault, IsPlaceFault, IsTextFault}
+use Rattle.sfi_command.specs.Command.{sfi, texts_of, Names, NamesNoInput, Asks, IsBudget, IsCount, HasOptions, IsFaultOf, IsInputOf, IsNoInput, IsPlaceOf, name_of, number_of, sandbox_most, SpellsPlace}
+use Rattle.sfi_command.specs.private.{IsAsked, NamesNothing, IsFaultOfNamed, IsInputFault, IsPlaceFault, IsTextFault}
 use Rattle.sfi_formats.specs.declared.place.Place.{Place}
 use Rattle.sfi_command.specs.declared.job.Job.{Job}
-use Rattle.sfi_command.specs.declared.job.Job.TheVariants.{Check, Dis, Build, Map, Run, Exec, Convert, Move, Translate}
+use Rattle.sfi_command.specs.declared.job.Job.TheVariants.{Exec, Move}
 use Rattle.sfi_command.specs.declared.job.JobFault.{JobFault}
 use Rattle.sfi_command.specs.declared.job.JobFault.TheVariants.{Usage, Hex, Memory}
 
@@ -69,13 +68,6 @@ no_subcommand a words m is has e = sym (ap (λ (x : App). subcommand_of x words)
 pub no_parse_fault : (a : App) (words : List Text) → a ≡ sfi → (is_simple_and_free a ≡ true → fault_of a words ≡ []) → fault_of sfi words ≡ []
 no_parse_fault a words is parses = sym (ap (λ (x : App). fault_of x words) is) ∙ parses (ap is_simple_and_free is ∙ free)
 
--- the job of the subcommand that the parse met is what the words ask for
-pub asks_job : (words : List Text) (named : Option (Text × List Row)) (r : Result Job JobFault) → fault_of sfi words ≡ []
-    → subcommand_of sfi words ≡ named → IfOk r (Names named) → IfOk r (Asks words)
-asks_job words named r parses subcommand_is h =
-    IfOk-weaker r (Names named) (Asks words)
-    (λ job names. record { parses = parses; names = subst (λ (o : Option (Text × List Row)). Names o job) (sym subcommand_is) names }) h
-
 -- and its fault is that of the words
 pub fault_of_words : (words : List Text) (named : Option (Text × List Row)) (fault : JobFault) → fault_of sfi words ≡ [] → subcommand_of sfi words ≡ named
     → IsFaultOfNamed named fault → IsFaultOf words fault
@@ -86,9 +78,16 @@ fault_of_words words named (Usage text) parses subcommand_is none = record {
 fault_of_words words named Hex parses subcommand_is none = record { parses = parses; names = subst (λ (o : Option (Text × List Row)). NamesNoInput o) (sym subcommand_is) none }
 fault_of_words words named Memory parses subcommand_is none = tt
 
-pub error_of_words : (words : List Text) (named : Option (Text × List Row)) (r : Result Job JobFault) → fault_of sfi words ≡ [] → subcommand_of sfi words ≡ named
-    → IfErr r (IsFaultOfNamed named) → IfErr r (IsFaultOf words)
-error_of_words words named r parses subcommand_is h = IfErr-weaker r (IsFaultOfNamed named) (IsFaultOf words) (λ fault. fault_of_words words named fault parses subcommand_is) h
+-- what the subcommand that the parse met comes to is what the words ask for
+pub asks_job : (words : List Text) (name : Text) (found : ArgMatches) (r : Result Job JobFault) → fault_of sfi words ≡ []
+    → subcommand_of sfi words ≡ Some (name, rows_of (found_of found)) → IsAsked name found r → IfOk r (Asks words)
+asks_job words name found (Ok job) parses named is = record { parses = parses; names = subst (λ (o : Option (Text × List Row)). Names o job) (sym named) is }
+asks_job words name found (Err fault) parses named is = tt
+
+pub error_of_words : (words : List Text) (name : Text) (found : ArgMatches) (r : Result Job JobFault) → fault_of sfi words ≡ []
+    → subcommand_of sfi words ≡ Some (name, rows_of (found_of found)) → IsAsked name found r → IfErr r (IsFaultOf words)
+error_of_words words name found (Ok job) parses named is = tt
+error_of_words words name found (Err fault) parses named is = fault_of_words words (Some (name, rows_of (found_of found))) fault parses named is
 
 -- a subcommand that names nothing has no other fault
 pub usage_of_named : (named : Option (Text × List Row)) (fault : JobFault) → (number_of fault ≡ 2 → ⊥) → NamesNothing named → IsFaultOfNamed named fault
@@ -188,23 +187,14 @@ input_fault f id v w error fault e same kinds refused other =
     go Hex refused other = spells_none (refused refl)
     go Memory refused other = tt
 
--- names of commands that begin otherwise are others
-other_name : (s t : Text) (a b : ℕ) → s ≡ t → slice_index s 0 ≡ a → slice_index t 0 ≡ b → a ≢ b → ⊥
-other_name s t a b e first second differs = differs (sym first ∙ ap (λ (u : Text). slice_index u 0) e ∙ second)
+-- names of commands that differ
+pub other : {A : Type 0} (s t : Text) → bytes_eq s t ≡ false → s ≡ t → A
+other s t differ e = let same : bytes_eq s t ≡ true = (bytes_eq-Decides s t).1 e in absurd (cc)
 
--- a subcommand names its own job alone
-only_run : (rows : List Row)
-    → ((rounds quantum : ℕ) (input : Vec ℕ Global) (report : Bool) → ¬ Names (Some (codes "run", rows)) (Run rounds quantum input report))
-    → (job : Job) → ¬ Names (Some (codes "run", rows)) job
-only_run rows none (Check raw report) names = other_name _ _ 114 99 names.0 refl refl (λ e. absurd (omega (arith, e)))
-only_run rows none Dis names = other_name _ _ 114 100 names refl refl (λ e. absurd (omega (arith, e)))
-only_run rows none (Build raw places) names = other_name _ _ 114 98 names.0 refl refl (λ e. absurd (omega (arith, e)))
-only_run rows none (Map places) names = other_name _ _ 114 109 names.0 refl refl (λ e. absurd (omega (arith, e)))
-only_run rows none (Run rounds quantum input report) names = none rounds quantum input report names
-only_run rows none (Exec image budget) names = other_name _ _ 114 101 names.0 refl refl (λ e. absurd (omega (arith, e)))
-only_run rows none (Convert raw) names = other_name _ _ 114 99 names.0 refl refl (λ e. absurd (omega (arith, e)))
-only_run rows none (Move raw sandbox place) names = other_name _ _ 114 109 names.0 refl refl (λ e. absurd (omega (arith, e)))
-only_run rows none (Translate whole) names = other_name _ _ 114 116 names.0 refl refl (λ e. absurd (omega (arith, e)))
+-- a subcommand whose options are no job's names nothing
+no_job : (name : Text) (rows : List Row) → ((job : Job) → name ≡ name_of job → ¬ HasOptions rows job) → bytes_eq name (codes "run") ≡ false
+    → NamesNothing (Some (name, rows))
+no_job name rows none no_run = record { no_job = λ job names. none job names.0 names.1; no_run = λ names. other _ _ no_run names.0 }
 
 -- the texts of an option that was given, and of one that wasn't
 option_texts : (o : Option Entry) → unwrap_or (option_map (λ (a : MatchedArg). raw_values a) (option_map (λ (e : Entry). e.1) o)) [] ≡ option_map_or (λ (r : Row). r.values) (option_map row_of o) []
@@ -227,49 +217,30 @@ not_no_input : (text : Option Text) (bytes : List ℕ) → IsInputOf text bytes 
 not_no_input None bytes spells none = none
 not_no_input (Some text) bytes spells none = absurd (cc)
 
--- a run with an input, but without rounds or without a quantum, names nothing
-pub no_rounds : (rows : List Row) (bytes : List ℕ) → IsInputOf (first_of (codes "input") rows) bytes
-    → ((n : ℕ) → ¬ IsCount (codes "rounds") 1 rounds_most rows n) → NamesNothing (Some (codes "run", rows))
-no_rounds rows bytes spells none = record {
-  no_job = only_run rows (λ rounds quantum input report names. none rounds names.1);
-  no_run = λ names. not_no_input (first_of (codes "input") rows) bytes spells names.1;
-}
-
-pub no_quantum : (rows : List Row) (bytes : List ℕ) → IsInputOf (first_of (codes "input") rows) bytes
-    → ((n : ℕ) → ¬ IsCount (codes "quantum") 1 quantum_most rows n) → NamesNothing (Some (codes "run", rows))
-no_quantum rows bytes spells none = record {
-  no_job = only_run rows (λ rounds quantum input report names. none quantum names.2);
+-- a run with an input, but with options of no job, names nothing
+pub no_run : (rows : List Row) (bytes : List ℕ) → IsInputOf (first_of (codes "input") rows) bytes → ((job : Job) → codes "run" ≡ name_of job → ¬ HasOptions rows job)
+    → NamesNothing (Some (codes "run", rows))
+no_run rows bytes spells none = record {
+  no_job = λ job names. none job names.0 names.1;
   no_run = λ names. not_no_input (first_of (codes "input") rows) bytes spells names.1;
 }
 
 -- ---- the options of a run in a process
 
-only_exec : (rows : List Row) → ((image : String Global) (budget : ℕ) → ¬ Names (Some (codes "exec", rows)) (Exec image budget))
-    → (job : Job) → ¬ Names (Some (codes "exec", rows)) job
-only_exec rows none (Check raw report) names = other_name _ _ 101 99 names.0 refl refl (λ e. absurd (omega (arith, e)))
-only_exec rows none Dis names = other_name _ _ 101 100 names refl refl (λ e. absurd (omega (arith, e)))
-only_exec rows none (Build raw places) names = other_name _ _ 101 98 names.0 refl refl (λ e. absurd (omega (arith, e)))
-only_exec rows none (Map places) names = other_name _ _ 101 109 names.0 refl refl (λ e. absurd (omega (arith, e)))
-only_exec rows none (Run rounds quantum input report) names = other_name _ _ 101 114 names.0 refl refl (λ e. absurd (omega (arith, e)))
-only_exec rows none (Exec image budget) names = none image budget names
-only_exec rows none (Convert raw) names = other_name _ _ 101 99 names.0 refl refl (λ e. absurd (omega (arith, e)))
-only_exec rows none (Move raw sandbox place) names = other_name _ _ 101 109 names.0 refl refl (λ e. absurd (omega (arith, e)))
-only_exec rows none (Translate whole) names = other_name _ _ 101 116 names.0 refl refl (λ e. absurd (omega (arith, e)))
-
-no_exec : (rows : List Row) → ((image : String Global) (budget : ℕ) → ¬ Names (Some (codes "exec", rows)) (Exec image budget)) → NamesNothing (Some (codes "exec", rows))
-no_exec rows none = record {
-  no_job = only_exec rows none;
-  no_run = λ names. other_name _ _ 101 114 names.0 refl refl (λ e. absurd (omega (arith, e)));
-}
-
 -- without an image, or with a budget that is none, it names nothing
 pub no_image : (f : Found) → None ≡ first_value f (codes "image") → NamesNothing (Some (codes "exec", rows_of f))
-no_image f e = no_exec (rows_of f) (λ image budget names.
-    let none : None ≡ Some (string_bytes image) = e ∙ first_value-rows f (codes "image") ∙ names.1 in
-    absurd (cc))
+no_image f e = no_job (codes "exec") (rows_of f) by refl
+  where
+    by : (job : Job) → codes "exec" ≡ name_of job → ¬ HasOptions (rows_of f) job
+    by (Exec image budget) same has = let none : None ≡ Some (string_bytes image) = e ∙ first_value-rows f (codes "image") ∙ has.0 in absurd (cc)
+    by _ same has = other _ _ refl same
 
 pub no_budget : (rows : List Row) → ((n : ℕ) → ¬ IsBudget (first_of (codes "budget") rows) n) → NamesNothing (Some (codes "exec", rows))
-no_budget rows none = no_exec rows (λ image budget names. none budget names.2)
+no_budget rows none = no_job (codes "exec") rows by refl
+  where
+    by : (job : Job) → codes "exec" ≡ name_of job → ¬ HasOptions rows job
+    by (Exec image budget) e has = none budget has.1
+    by _ e has = other _ _ refl e
 
 pub image_is : (f : Found) (v w : Text) → Some v ≡ first_value f (codes "image") → w ≡ v → first_of (codes "image") (rows_of f) ≡ Some w
 image_is f v w e same = sym (first_value-rows f (codes "image")) ∙ sym e ∙ ap Some (sym same)
@@ -283,36 +254,22 @@ budget_of_text f o n e is = subst (λ (t : Option Text). IsBudget t n) (sym (e �
 
 -- ---- the options of a move
 
--- names of commands that go on otherwise after the first letter are others
-other_second : (s t : Text) (a b : ℕ) → s ≡ t → slice_index s 1 ≡ a → slice_index t 1 ≡ b → a ≢ b → ⊥
-other_second s t a b e first second differs = differs (sym first ∙ ap (λ (u : Text). slice_index u 1) e ∙ second)
-
-only_move : (rows : List Row) → ((raw : Bool) (sandbox : ℕ) (place : Place) → ¬ Names (Some (codes "move", rows)) (Move raw sandbox place))
-    → (job : Job) → ¬ Names (Some (codes "move", rows)) job
-only_move rows none (Check raw report) names = other_name _ _ 109 99 names.0 refl refl (λ e. absurd (omega (arith, e)))
-only_move rows none Dis names = other_name _ _ 109 100 names refl refl (λ e. absurd (omega (arith, e)))
-only_move rows none (Build raw places) names = other_name _ _ 109 98 names.0 refl refl (λ e. absurd (omega (arith, e)))
-only_move rows none (Map places) names = other_second _ _ 111 97 names.0 refl refl (λ e. absurd (omega (arith, e)))
-only_move rows none (Run rounds quantum input report) names = other_name _ _ 109 114 names.0 refl refl (λ e. absurd (omega (arith, e)))
-only_move rows none (Exec image budget) names = other_name _ _ 109 101 names.0 refl refl (λ e. absurd (omega (arith, e)))
-only_move rows none (Convert raw) names = other_name _ _ 109 99 names.0 refl refl (λ e. absurd (omega (arith, e)))
-only_move rows none (Move raw sandbox place) names = none raw sandbox place names
-only_move rows none (Translate whole) names = other_name _ _ 109 116 names.0 refl refl (λ e. absurd (omega (arith, e)))
-
-no_move : (rows : List Row) → ((raw : Bool) (sandbox : ℕ) (place : Place) → ¬ Names (Some (codes "move", rows)) (Move raw sandbox place)) → NamesNothing (Some (codes "move", rows))
-no_move rows none = record {
-  no_job = only_move rows none;
-  no_run = λ names. other_name _ _ 109 114 names.0 refl refl (λ e. absurd (omega (arith, e)));
-}
-
 -- without a place, or with a sandbox that is none, it names nothing
 pub no_place : (rows : List Row) (fault : JobFault) → IsPlaceFault (first_of (codes "at") rows) fault → IsFaultOfNamed (Some (codes "move", rows)) fault
-no_place rows (Usage text) none = no_move rows (λ raw sandbox place names. none place names.3)
+no_place rows (Usage text) none = no_job (codes "move") rows by refl
+  where
+    by : (job : Job) → codes "move" ≡ name_of job → ¬ HasOptions rows job
+    by (Move raw sandbox place) e has = none place has.2
+    by _ e has = other _ _ refl e
 no_place rows Hex none = absurd none
 no_place rows Memory none = tt
 
 pub no_sandbox : (rows : List Row) → ((n : ℕ) → ¬ IsCount (codes "sandbox") 0 sandbox_most rows n) → NamesNothing (Some (codes "move", rows))
-no_sandbox rows none = no_move rows (λ raw sandbox place names. none sandbox names.2)
+no_sandbox rows none = no_job (codes "move") rows by refl
+  where
+    by : (job : Job) → codes "move" ≡ name_of job → ¬ HasOptions rows job
+    by (Move raw sandbox place) e has = none sandbox has.1
+    by _ e has = other _ _ refl e
 
 -- the place of an option that was given
 pub place_is : (f : Found) (v : Text) (r : Result Place JobFault) → Some v ≡ first_value f (codes "at") → IfOk r (SpellsPlace v)

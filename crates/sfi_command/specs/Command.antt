@@ -50,10 +50,10 @@ rounds_most = 10000
 abbrev pub quantum_most : ℕ
 quantum_most = 1000000
 
--- the program, which has a version and wants a subcommand
-abbrev pub program : App
-program = on_top
-    (λ s. record s { has_version = true; subcommand_required = true }) (new_app (codes "sfi"))
+-- the program of this name, which has a version and wants a subcommand
+abbrev pub program_named : Text → App
+program_named name = on_top
+    (λ s. record s { has_version = true; subcommand_required = true }) (new_app name)
 
 -- an option that takes no value
 abbrev pub flag_rule : Text → Rule
@@ -142,19 +142,15 @@ move_one = record (new_shape (codes "move")) {
 abbrev pub translate : Shape
 translate = record (new_shape (codes "translate")) { rules = flag_rule (codes "whole") ∷ [] }
 
--- the program with the subcommands that read standard input
-abbrev pub on_input : App
-on_input =
-    with_subcommand
-    (with_subcommand
-    (with_subcommand
-    (with_subcommand
-    (with_subcommand (with_subcommand (with_subcommand (with_subcommand program check) dis) build)
-    map_names) run) convert) move_one) translate
+-- the program with these subcommands more, in their order
+abbrev pub with_all : App → List Shape → App
+with_all a [] = a
+with_all a (s ∷ rest) = with_all (with_subcommand a s) rest
 
 -- the command line: the program with its subcommands
 abbrev pub sfi : App
-sfi = with_subcommand on_input exec
+sfi = with_all (program_named (codes "sfi"))
+    (check ∷ dis ∷ build ∷ map_names ∷ run ∷ convert ∷ move_one ∷ translate ∷ exec ∷ [])
 
 -- ---- jobs
 
@@ -197,34 +193,45 @@ abbrev pub IsPlaceOf : Option Text → Place → Type 0
 IsPlaceOf None place = ⊥
 IsPlaceOf (Some text) place = SpellsPlace text place
 
--- the subcommand, with what was found for its options, asks for the job; a build and a map have the
+-- the name of the job's command
+abbrev pub name_of : Job → Text
+name_of (Check raw report) = codes "check"
+name_of Dis = codes "dis"
+name_of (Build raw places) = codes "build"
+name_of (Map places) = codes "map"
+name_of (Run rounds quantum input report) = codes "run"
+name_of (Exec image budget) = codes "exec"
+name_of (Convert raw) = codes "convert"
+name_of (Move raw sandbox place) = codes "move"
+name_of (Translate whole) = codes "translate"
+
+-- what was found for the options of the job's command is as the job has it; a build and a map have the
 -- places that their uses of `--at` spell, and a check of an image's own bytes has no report
+abbrev pub HasOptions : List Row → Job → Type 0
+HasOptions found (Check raw report) =
+    IsGiven (codes "raw") found raw × IsGiven (codes "report") found report
+    × ¬ ((raw ≡ true) × (report ≡ true))
+HasOptions found Dis = Unit {0}
+HasOptions found (Build raw places) =
+    IsGiven (codes "raw") found raw × SpellPlaces (texts_of (codes "at") found) places.items
+HasOptions found (Map places) = SpellPlaces (texts_of (codes "at") found) places.items
+HasOptions found (Run rounds quantum input report) =
+    IsCount (codes "rounds") 1 rounds_most found rounds
+    × IsCount (codes "quantum") 1 quantum_most found quantum
+    × IsInputOf (first_of (codes "input") found) input.items × IsGiven (codes "report") found report
+HasOptions found (Exec image budget) =
+    (first_of (codes "image") found ≡ Some (string_bytes image))
+    × IsBudget (first_of (codes "budget") found) budget
+HasOptions found (Convert raw) = IsGiven (codes "raw") found raw
+HasOptions found (Move raw sandbox place) =
+    IsGiven (codes "raw") found raw × IsCount (codes "sandbox") 0 sandbox_most found sandbox
+    × IsPlaceOf (first_of (codes "at") found) place
+HasOptions found (Translate whole) = IsGiven (codes "whole") found whole
+
+-- the subcommand, with what was found for its options, asks for the job
 abbrev pub Names : Option (Text × List Row) → Job → Type 0
 Names None job = ⊥
-Names (Some p) (Check raw report) =
-    (p.0 ≡ codes "check") × IsGiven (codes "raw") p.1 raw × IsGiven (codes "report") p.1 report
-    × ¬ ((raw ≡ true) × (report ≡ true))
-Names (Some p) Dis = p.0 ≡ codes "dis"
-Names (Some p) (Build raw places) =
-    (p.0 ≡ codes "build") × IsGiven (codes "raw") p.1 raw
-    × SpellPlaces (texts_of (codes "at") p.1) places.items
-Names (Some p) (Map places) =
-    (p.0 ≡ codes "map") × SpellPlaces (texts_of (codes "at") p.1) places.items
-Names (Some p) (Run rounds quantum input report) =
-    (p.0 ≡ codes "run") × IsCount (codes "rounds") 1 rounds_most p.1 rounds
-    × IsCount (codes "quantum") 1 quantum_most p.1 quantum
-    × IsInputOf (first_of (codes "input") p.1) input.items
-    × IsGiven (codes "report") p.1 report
-Names (Some p) (Exec image budget) =
-    (p.0 ≡ codes "exec") × (first_of (codes "image") p.1 ≡ Some (string_bytes image))
-    × IsBudget (first_of (codes "budget") p.1) budget
-Names (Some p) (Convert raw) = (p.0 ≡ codes "convert") × IsGiven (codes "raw") p.1 raw
-Names (Some p) (Move raw sandbox place) =
-    (p.0 ≡ codes "move") × IsGiven (codes "raw") p.1 raw
-    × IsCount (codes "sandbox") 0 sandbox_most p.1 sandbox
-    × IsPlaceOf (first_of (codes "at") p.1) place
-Names (Some p) (Translate whole) =
-    (p.0 ≡ codes "translate") × IsGiven (codes "whole") p.1 whole
+Names (Some p) job = (p.0 ≡ name_of job) × HasOptions p.1 job
 
 -- the words parse by the command line, and their subcommand asks for the job;
 -- the first word is the program's name

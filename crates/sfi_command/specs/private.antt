@@ -1,7 +1,9 @@
 -- Words that private contracts and proofs alone cite: no public statement rests on them.
-use Rattle.std.specs.Prelude.{◌≡◌, List, [], false, Option, ◌∷◌, Some, map}
-use Rattle.clap.specs.Simple.{Shape, app_of, App, new_rule, new_shape, with_subcommand}
-use Rattle.clap.specs.Walk.{Row, Text, Rule}
+use Rattle.std.specs.Prelude.{◌≡◌, List, [], false, Option, Some, map, Result, Ok, Err}
+use Rattle.clap.specs.Simple.{Shape, app_of, new_rule, new_shape}
+use Rattle.clap.specs.Matches.{found_of}
+use Rattle.clap.specs.Walk.{Row, Text, Rule, rows_of}
+use Rattle.clap.specs.declared.parser.matches.ArgMatches.{ArgMatches}
 use Rattle.clap.specs.declared.builder.command.Command.{Command}
 use Rattle.clap.specs.declared.builder.command.Command.TheViews.{out-Command}
 use Rattle.sfi_command.specs.declared.job.Job.{Job}
@@ -10,10 +12,10 @@ use Rattle.sfi_command.specs.declared.job.JobFault.TheVariants.{Usage, Hex, Memo
 use Rattle.sfi_command.specs.Command.{IsNoInput, IsPlaceOf, Names, NamesNoInput, count_rule, flag_rule, required_option_rule, number_rule, required_argument_rule, value_rule, SpellPlaces, SpellsPlace}
 use Rattle.sfi_formats.specs.declared.place.Place.{Place}
 use Rattle.clap.specs.declared.builder.action.ArgAction.TheVariants.{Append}
-use Rattle.sfi_command.specs.declared.commands.CommandRow.{CommandRow}
-use Rattle.sfi_command.specs.declared.commands.OptionRow.{OptionRow}
-use Rattle.sfi_command.specs.declared.commands.Takes.{Takes}
-use Rattle.sfi_command.specs.declared.commands.Takes.TheVariants as takes
+use Rattle.sfi_command.specs.declared.rows.CommandRow.{CommandRow}
+use Rattle.sfi_command.specs.declared.rows.OptionRow.{OptionRow}
+use Rattle.sfi_command.specs.declared.rows.Takes.{Takes}
+use Rattle.sfi_command.specs.declared.rows.Takes.TheVariants as takes
 
 -- ---- commands and faults
 
@@ -33,6 +35,11 @@ abbrev pub IsFaultOfNamed : Option (Text × List Row) → JobFault → Type 0
 IsFaultOfNamed named (Usage text) = NamesNothing named
 IsFaultOfNamed named Hex = NamesNoInput named
 IsFaultOfNamed named Memory = Unit {0}
+
+-- what a subcommand, with what was found for its options, comes to: a job that it names, or its fault
+abbrev pub IsAsked : Text → ArgMatches → Result Job JobFault → Type 0
+IsAsked name found (Ok job) = Names (Some (name, rows_of (found_of found))) job
+IsAsked name found (Err fault) = IsFaultOfNamed (Some (name, rows_of (found_of found))) fault
 
 -- the fault of the text of a run's input
 abbrev pub IsInputFault : Option Text → JobFault → Type 0
@@ -81,8 +88,3 @@ rule_of_row row = rule_taking row.name.now row.takes
 
 abbrev pub shape_of_row : CommandRow → Shape
 shape_of_row row = record (new_shape row.name.now) { rules = map rule_of_row row.options.now }
-
--- the program with these subcommands more, in their order
-abbrev pub with_all : App → List Shape → App
-with_all a [] = a
-with_all a (s ∷ rest) = with_all (with_subcommand a s) rest

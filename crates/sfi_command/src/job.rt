@@ -134,3 +134,10 @@ pub(crate) fn usage_fault(alloc: Global, text: &str) -> JobFault
         Err(_) => JobFault::Memory,
     }
 }
+
+/// The fault of a subcommand or of a number that there isn't.
+pub(crate) fn no_job(alloc: Global) -> JobFault
+    ensures { number_of result ≢ 2 }
+{
+    usage_fault(alloc, "error: no such command\n")
+}

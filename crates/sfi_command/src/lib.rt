@@ -4,10 +4,11 @@
 mod command_line;
 mod commands;
 mod escaped;
-mod help;
 mod job;
+mod options;
 mod places;
+mod rows;
 
 pub use command_line::job_of;
-pub use help::VERSION;
+pub use commands::VERSION;
 pub use job::{HEX_LINE, Job, JobFault};

@@ -4,18 +4,18 @@ use Rattle.sfi_command.proofs.command_line.job_of.Goals as goal
 
 pub returns-in-Some-clause-job : goal.returns-in-Some-clause-job
 returns-in-Some-clause-job c =
-    asks_job (map string_bytes c.args.words.now) _ c.job_named.result (no_parse_fault _ _ c.in_ok-program.ensures c.in-Ok.ensures.kinds)
-    (subcommand_is _ _ c.in-Ok.matches _ _ c.in_ok-program.ensures c.in-Ok.ensures.matches c.in-Some.ensures.name c.in-Some.ensures.rows) c.job_named.ensures.job
+    asks_job (map string_bytes c.args.words.now) _ c.in-Some.found.now c.job_named.result (no_parse_fault _ _ c.in_ok-program.ensures c.in-Ok.ensures.kinds)
+    (subcommand_is _ _ c.in-Ok.matches _ _ c.in_ok-program.ensures c.in-Ok.ensures.matches c.in-Some.ensures.name c.in-Some.ensures.rows) c.job_named.ensures
 
 pub returns-in-Some-clause-fault : goal.returns-in-Some-clause-fault
 returns-in-Some-clause-fault c =
-    error_of_words (map string_bytes c.args.words.now) _ c.job_named.result (no_parse_fault _ _ c.in_ok-program.ensures c.in-Ok.ensures.kinds)
-    (subcommand_is _ _ c.in-Ok.matches _ _ c.in_ok-program.ensures c.in-Ok.ensures.matches c.in-Some.ensures.name c.in-Some.ensures.rows) c.job_named.ensures.fault
+    error_of_words (map string_bytes c.args.words.now) _ c.in-Some.found.now c.job_named.result (no_parse_fault _ _ c.in_ok-program.ensures c.in-Ok.ensures.kinds)
+    (subcommand_is _ _ c.in-Ok.matches _ _ c.in_ok-program.ensures c.in-Ok.ensures.matches c.in-Some.ensures.name c.in-Some.ensures.rows) c.job_named.ensures
 
 pub returns-clause-fault : goal.returns-clause-fault
 returns-clause-fault c =
-    fault_of_words (map string_bytes c.args.words.now) None c.no_command.result (no_parse_fault _ _ c.in_ok-program.ensures c.in-Ok.ensures.kinds)
-    (no_subcommand _ _ c.in-Ok.matches c.in_ok-program.ensures c.in-Ok.ensures.matches c.in-None.ensures.name) (fault_of_none c.no_command.result c.no_command.ensures)
+    fault_of_words (map string_bytes c.args.words.now) None c.no_job.result (no_parse_fault _ _ c.in_ok-program.ensures c.in-Ok.ensures.kinds)
+    (no_subcommand _ _ c.in-Ok.matches c.in_ok-program.ensures c.in-Ok.ensures.matches c.in-None.ensures.name) (fault_of_none c.no_job.result c.no_job.ensures)
 
 pub returns-in-Err-clause-fault : goal.returns-in-Err-clause-fault
 returns-in-Err-clause-fault c =
