@@ -2,7 +2,9 @@
 //! standard input and standard output.
 #![tactic(auto)]
 
-use sfi_tool::{ExecFault, Job, JobFault, exec, job_of, run_tool, write_out};
+use sfi_tool::{
+    ExecFault, Input, Interruption, Job, JobFault, exec, job_of, read_image, run_tool, write_out,
+};
 use std::alloc::Global;
 use std::env;
 use std::fmt::Display;
@@ -54,7 +56,12 @@ fn open_file(rt: &HostRuntime, path: &str) -> io::Result<File> {
 
 /// Runs the sandboxes of an image over standard input and output. What they put is seen at once where that
 /// is a terminal.
-fn exec_image(rt: &HostRuntime, alloc: Global, image: File, budget: u64) -> Result<u8, ExecFault> {
+fn exec_image(
+    rt: &HostRuntime,
+    alloc: Global,
+    image: &Input,
+    budget: u64,
+) -> Result<u8, ExecFault> {
     let mut reader = rt.stdin();
     let mut errors = rt.stderr();
     let mut output = rt.stdout();
@@ -63,7 +70,7 @@ fn exec_image(rt: &HostRuntime, alloc: Global, image: File, budget: u64) -> Resu
         return Ok(ended.status);
     }
     let Ok(mut writer) = BufWriter::new(alloc, output) else {
-        return Err(ExecFault::Memory);
+        return Err(ExecFault::Interrupted(Interruption::Memory));
     };
     let ended = exec(alloc, budget, image, &mut reader, &mut writer, &mut errors)?;
     Ok(ended.status)
@@ -72,30 +79,36 @@ fn exec_image(rt: &HostRuntime, alloc: Global, image: File, budget: u64) -> Resu
 /// Runs the sandboxes of the image in that file. The file takes the place of a standard stream that is
 /// closed, so it is read and closed before these are used, which then fail as closed ones do.
 fn exec_file(rt: &HostRuntime, alloc: Global, path: &str, budget: u64) -> u8 {
-    let image = match open_file(rt, path) {
-        Ok(image) => image,
+    let file = match open_file(rt, path) {
+        Ok(file) => file,
         Err(error) => return no_file(rt, path, &error),
     };
-    match exec_image(rt, alloc, image, budget) {
+    let image = match read_image(alloc, file) {
+        Ok(image) => image,
+        Err(ExecFault::Image) => return no_file(rt, path, &"it can't be read"),
+        Err(fault) => return not_run(rt, fault),
+    };
+    match exec_image(rt, alloc, &image, budget) {
         Ok(status) => status,
-        Err(ExecFault::Image) => no_file(rt, path, &"it can't be read"),
         Err(fault) => not_run(rt, fault),
     }
 }
 
-/// The status for words that ask for no run, if they name `exec`. What is wrong with them goes to
-/// standard error, since standard output is the sandboxes'. A help text has the usual way.
-fn without_run(rt: &HostRuntime, words: &[String], fault: &JobFault) -> Option<u8> {
+/// Runs `exec`, if the words name it. What is wrong with them goes to standard error, since standard output
+/// is the sandboxes'. A help text has the usual way.
+fn run_exec(rt: &HostRuntime, alloc: Global, words: &[String]) -> Option<u8> {
     if words.get(1)?.as_str() != "exec" {
         return None;
     }
-    match fault {
-        JobFault::Usage(text) if text.as_str().starts_with("error: ") => {
+    let asked = job_of(alloc, words);
+    match &asked {
+        Ok(Job::Exec { image, budget }) => Some(exec_file(rt, alloc, image.as_str(), *budget)),
+        Err(JobFault::Usage(text)) if text.as_str().starts_with("error: ") => {
             write_out(&mut rt.stderr(), text.as_bytes());
             Some(3)
         }
-        JobFault::Memory => Some(not_run(rt, ExecFault::Memory)),
-        JobFault::Usage(_) | JobFault::Hex => None,
+        Err(JobFault::Memory) => Some(not_run(rt, ExecFault::Interrupted(Interruption::Memory))),
+        Ok(_) | Err(_) => None,
     }
 }
 
@@ -109,14 +122,8 @@ fn status(rt: HostRuntime) -> u8 {
     let Ok(words) = args.collect::<Vec<String>>(alloc) else {
         return 4;
     };
-    let asked = job_of(alloc, words.as_slice());
-    if let Ok(Job::Exec { image, budget }) = &asked {
-        return exec_file(&rt, alloc, image.as_str(), *budget);
-    }
-    if let Err(fault) = &asked {
-        if let Some(status) = without_run(&rt, words.as_slice(), fault) {
-            return status;
-        }
+    if let Some(status) = run_exec(&rt, alloc, words.as_slice()) {
+        return status;
     }
     let mut reader = rt.reader();
     let mut writer = io::writer(&rt);

@@ -11,7 +11,7 @@ use Rattle.rv_step.specs.declared.outcome.Outcome.{Outcome}
 use Rattle.rv_step.specs.declared.outcome.Outcome.TheVariants as outcome
 use Rattle.sfi_image.specs.Spelling.{Part}
 use Rattle.sfi_host.proofs.Facts.{some_machine}
-use Rattle.sfi_host.proofs.OwnSteps.{get_set_same, get_set_other}
+use Rattle.sfi_decoded.proofs.Lists.{get_set_same, get_set_other}
 use Rattle.sfi_host.specs.Hosts.{Answer, Host, Way, Replied, Yield, Exit}
 use Rattle.sfi_host.specs.Joint.{Machine, IsMachine, Moved, after_answer, and_more, and_plan, call_of, joined, moved, moved_if, replied, slot_after_step, status_after, turn_and, turned}
 use Rattle.sfi_host.specs.Loading.{first_seat}

@@ -21,8 +21,8 @@ use Rattle.sfi_host.specs.Slots.{Slot}
 use Rattle.sfi_host.specs.Waiting.{Waits, later_reply}
 use Rattle.sfi_host.specs.declared.guest.Request.{Request}
 use Rattle.sfi_tool.specs.declared.piece.Piece.{Piece}
-use Rattle.sfi_tool.specs.Executing.{IsStopText, Streams, get_if, other, piece_of, put_if, stop_lines, streams}
-use Rattle.sfi_tool.specs.private.{AreWithin, GoesOnWith, IfKnown, IsAnsweredBy, IsAsked, IsCut, IsCutTurn, piece_answer, piece_bytes, IsPiece, IsReplyTo, IsServed, IsStreamed, Streamed, TakesTurns, handed_by, kept}
+use Rattle.sfi_tool.specs.Executing.{IsStopText, Streams, get_if, other, piece_of, put_if, stop_lines, streams, IfKnown}
+use Rattle.sfi_tool.specs.private.{AreWithin, GoesOnWith, IsAnsweredBy, IsAsked, IsCut, IsCutTurn, piece_answer, piece_bytes, IsPiece, IsReplyTo, IsServed, IsStreamed, Streamed, TakesTurns, handed_by, kept}
 use Rattle.sfi_tool.proofs.Turns.{answered_turns, appends_none, asked_by, cut_after, keeps_appends, known_same, no_turns, some_same, streamed_both}
 use Rattle.sfi_tool.proofs.Budgets.{reply_within}
 

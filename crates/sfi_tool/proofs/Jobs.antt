@@ -2,12 +2,11 @@
 use Rattle.sfi_tool.proofs.Prelude.{◌≡◌, ◌∙◌, ℕ, List, refl, ap, subst, length, slots_of, Part, Result, sym, inl, arith, Bool}
 use Rattle.std.proofs.Common.{⊎_elim}
 use Rattle.std.proofs.lemmas.Bool.{cases_eq}
-use Rattle.std.proofs.lemmas.List.{length-replicate}
-use Rattle.std.proofs.Common.{[], ◌++◌, ◌+◌, replicate, Option, Some, None, map, Vec, Global, ◌≢◌, Ok, Err, ◌⊎◌, inr, ◌≤◌, true, false, ◌<◌}
+use Rattle.std.proofs.Common.{[], ◌++◌, Option, Some, None, map, Vec, Global, ◌≢◌, Ok, Err, ◌⊎◌, inr, ◌≤◌, true, false, ◌<◌}
 use Rattle.std.specs.FinMap.{empty}
 use Rattle.std.specs.Io.KnownBytes.{Appends, Keeps}
 use Rattle.rv_mem.specs.Bytes.{Bytes}
-use Rattle.sfi_answers.specs.Answers.{GivesImageThat, stop_of, IsAcceptedImage, IsNoImage, Meaning, on_image, Answers, IsStop, SaysVerdict, SaysRefused, SaysTranslation}
+use Rattle.sfi_answers.specs.Answers.{GivesImageThat, stop_of, IsAcceptedImage, IsLayoutFault, IsNoImage, Meaning, check, on_image, Answers, AnswersStatus, IsStop, SaysVerdict, SaysRefused, SaysTranslation}
 use Rattle.sfi_answers.specs.FaultTexts.{IsFaultLine, stop_text}
 use Rattle.sfi_answers.specs.declared.fault.InputFault.TheVariants.{Hex, TooLarge}
 use Rattle.sfi_answers.specs.declared.fault.Stop.TheVariants as stop
@@ -15,6 +14,8 @@ use Rattle.sfi_io.specs.Hexadecimal.{WritesPart, GivesBytes, IsInput, IsHexFault
 use Rattle.sfi_io.specs.declared.hexadecimal.HexStop.{HexStop}
 use Rattle.sfi_io.specs.declared.hexadecimal.HexStop.TheVariants as hex
 use Rattle.sfi_tool.specs.declared.execution.ExecFault.{ExecFault}
+use Rattle.sfi_tool.specs.declared.execution.ExecFault.TheVariants.{NotAccepted, Image, Interrupted}
+use Rattle.sfi_tool.specs.declared.serving.Interruption.TheVariants.{Memory, Read, Write}
 use Rattle.sfi_io.specs.declared.streams.Input.TheVariants.{Whole}
 use Rattle.sfi_io.specs.declared.streams.Input.TheVariants as inputs
 use Rattle.sfi_host.specs.Consoles.{ConsoleState, new_console}
@@ -24,11 +25,12 @@ use Rattle.sfi_host.specs.Slots.{Slot}
 use Rattle.sfi_host.specs.Worlds.{Sandboxes, Seat}
 use Rattle.std.specs.Bool.{OnTrue, OnFalse}
 use Rattle.sfi_tool.specs.declared.execution.Ended.{Ended}
-use Rattle.sfi_tool.specs.Executing.{AreExecuted, Begins, ExecutesText, HaveExecuted, IsBegun, IsNotAccepted, IsStopText, IsTold, ReadsThat, WritesRefusal, first_streams, status_among, streams}
+use Rattle.sfi_tool.specs.Executing.{AreExecuted, Begins, Executes, HaveExecuted, IfKnown, IsBegun, IsRefusalLine, IsStopText, IsTextAccepted, IsTold, Tells, TellsOf, first_streams, status_among, streams}
 use Rattle.sfi_tool.specs.Running.{first_slots, SaysRun}
-use Rattle.sfi_tool.specs.private.{AreCut, AreStreamed, AreWithin, IfKnown, Ran, RanImage, Runs, kept}
+use Rattle.sfi_tool.specs.private.{AreCut, AreStreamed, AreWithin, Runs, kept}
+use Rattle.sfi_answers.proofs.Images.{of_stop}
 use Rattle.sfi_tool.proofs.Budgets.{first_within}
-use Rattle.sfi_tool.proofs.Turns.{appends_kept, appends_none, cut_at_end, cut_kept, keeps_appends, no_turn, some_same}
+use Rattle.sfi_tool.proofs.Turns.{appends_kept, cut_at_end, cut_kept, keeps_appends, no_turn, some_same}
 use Rattle.std.specs.Prelude.{IfErr, IfOk, IfSome, IsErr, IsErrAnd}
 use Rattle.std.proofs.lemmas.Result.{IfOk-weaker, IfErr-weaker}
 use Rattle.sfi_io.specs.declared.hexadecimal.HexFault.{HexFault}
@@ -73,7 +75,7 @@ module _ (budget : ℕ) (ps : List Part) (count : ℕ) (w : Sandboxes) (slots : 
   }
 
   pub ran_of : (input left out outs outf err errs : Option (List ℕ)) (said : List ℕ) (ended : Ended) → AreStreamed budget count (slots_of w) c slots d input left out outs → Keeps outs outf
-      → IsStopText ps slots said → IsTold ended.told err errs said → ended.status ≡ status_among count slots → Ran budget ps input left out outf err errs ended
+      → IsStopText ps slots said → IsTold ended.told err errs said → ended.status ≡ status_among count slots → Executes budget ps input left out outf err errs ended
   ran_of input left out outs outf err errs said ended are keeps text says is = record {
     written = are.written;
     said = said;
@@ -128,59 +130,10 @@ begins_none budget ps input out outs keeps = record {
   ));
 }
 
--- a beginning is appended, and so is nothing, and a part of a text
-pub begins_appends : (budget : ℕ) (ps : List Part) (input out outs : Option (List ℕ)) → Begins budget ps input out outs → OnlyAppends out outs
-begins_appends budget ps input out outs b = (b.written, b.writes)
-
-pub nothing_appends : (out : Option (List ℕ)) → OnlyAppends out out
-nothing_appends out = ([], appends_none out)
-
-pub same_appends : {W : Type 0} (contents : W → Option (List ℕ)) (old new : W) → new ≡ old → OnlyAppends (contents old) (contents new)
-same_appends {W} contents old new e = subst (λ (w : W). OnlyAppends (contents old) (contents w)) (sym e) (nothing_appends (contents old))
-
-pub part_appends : (out outs : Option (List ℕ)) (text : List ℕ) → WritesPart out outs text → OnlyAppends out outs
-part_appends out outs text part = (part.0, part.4)
-
 -- what is told, by whether all of it was written
 pub told_is : (told : Bool) (err errs : Option (List ℕ)) (said : List ℕ) → OnTrue told (Appends err errs said) → OnFalse told (WritesPart err errs said) → IsTold told err errs said
 told_is true err errs said whole part = whole
 told_is false err errs said whole part = part
-
-pub told_appends : (told : Bool) (err errs : Option (List ℕ)) (said : List ℕ) → IsTold told err errs said → OnlyAppends err errs
-told_appends true err errs said tells = (said, tells)
-told_appends false err errs said tells = part_appends err errs said tells
-
--- what was read, where the reader told its bytes
-pub read_is : (told : Option (List ℕ)) (text : Vec ℕ Global) (read : List ℕ) → read ≡ text.items → IsInput told (Whole text) → IfSome told (λ bytes. read ≡ bytes)
-read_is None text read same is = tt
-read_is (Some bytes) text read same is = same ∙ is.0
-
--- some text is longer than that
-longer : (n : ℕ) → (text : List ℕ) × (n < length text)
-longer n = (replicate (n + 1) 0, omega (arith, length-replicate {A = ℕ} (n + 1) 0))
-
--- a text above its limit was read
-pub large_read : (told : Option (List ℕ)) → IsInput told inputs.TooLarge → ReadsThat told (λ text. limit < length text)
-large_read None over = let text = longer limit in (text.0, tt, text.1)
-large_read (Some bytes) over = (bytes, refl, over)
-
-pub reads_that : (told : Option (List ℕ)) (P Q : List ℕ → Type 0) → ((text : List ℕ) → P text → Q text) → ReadsThat told P → ReadsThat told Q
-reads_that told P Q follows r = (r.0, r.1, follows r.0 r.2)
-
--- the image that a text is or spells was executed
-pub executes : (budget : ℕ) (input left out outs err errs : Option (List ℕ)) (ended : Ended) (text : List ℕ)
-    → GivesImageThat (RanImage budget input left out outs err errs ended) text → ExecutesText budget input left out outs err errs ended text
-executes budget None left out outs err errs ended text ran = (ran.0, ran.1, (ran.2.parts, ran.2.accepted))
-executes budget (Some input) None out outs err errs ended text ran = absurd ran.2.ran.ran
-executes budget (Some input) (Some left) out outs err errs ended text ran =
-    let r = ran.2.ran in
-    record {
-      written = r.written;
-      said = r.said;
-      executed = (ran.0, ran.1, record { parts = ran.2.parts; accepted = ran.2.accepted; ran = r.ran });
-      writes = r.writes;
-      says = r.says;
-    }
 
 -- what holds of the bytes, if nothing else does, holds of the text that spells them
 pub or_image : (A : Type 0) (P : List ℕ → Type 0) (text bytes read : List ℕ) → GivesImage text bytes → read ≡ bytes → A ⊎ P read → A ⊎ GivesImageThat P text
@@ -198,40 +151,113 @@ keeps_limit input bytes (inr spells) = spells.short
 pub as_first : (bytes : List ℕ) (status : ℕ) (text : List ℕ) → SaysRefused false bytes status text → SaysRefused false bytes 1 text
 as_first bytes status text says = record { found = says.found; refused = says.refused; status_is = refl; text_is = says.text_is }
 
+-- where a command stops, and memory sufficed, no status is due
+pub not_answered : (status : ℕ) (s : Stop) → AnswersStatus status (Err s) → s ≢ stop.Memory → ⊥
+not_answered status (stop.Input fault) is other = is
+not_answered status (stop.Layout fault) is other = is
+not_answered status (stop.Build fault) is other = is
+not_answered status stop.Memory is other = absurd (other refl)
+
 -- the line for the bytes is that for the text that spells them
-pub refusal_on_image : (command : Meaning) (text bytes read : List ℕ) (err errs : Option (List ℕ)) → GivesImage text bytes → read ≡ bytes → WritesRefusal command err errs read
-    → WritesRefusal (on_image command) err errs text
-refusal_on_image command text bytes read err errs gives same (line, inl says, writes) = (line, inl (bytes, gives, subst (λ (b : List ℕ). command.says b 1 line) same says), writes)
-refusal_on_image command text bytes read err errs gives same (line, inr (fault, why, is), writes) =
-    (line, inr (fault, inr (bytes, gives, subst (λ (b : List ℕ). command.why b fault) same why), is), writes)
+refusal_on_image : (command : Meaning) (text bytes read line : List ℕ) → GivesImage text bytes → read ≡ bytes → IsRefusalLine command read line → IsRefusalLine (on_image command) text line
+refusal_on_image command text bytes read line gives same (inl says) = inl (bytes, gives, subst (λ (b : List ℕ). command.says b 1 line) same says)
+refusal_on_image command text bytes read line gives same (inr (fault, why, is)) = inr (fault, inr (bytes, gives, subst (λ (b : List ℕ). command.why b fault) same why), is)
 
 -- the line where it spells none
-pub refusal_of_digits : (command : Meaning) (text : List ℕ) (why : HexStop) (err errs : Option (List ℕ)) → length text ≤ limit → IsHexStop text why
-    → ((bytes : List ℕ) → GivesImage text bytes → GivesBytes {Z = Global} bytes (Err why)) → stop_of why ≢ stop.Memory → Appends err errs (stop_text (stop_of why))
-    → WritesRefusal (on_image command) err errs text
-refusal_of_digits command text (hex.Fault fault) err errs short is only some writes =
-    (stop_text (stop.Input (Hex fault)), inr (stop.Input (Hex fault), inl (short, λ begins. only text (inl (record { begins = begins; short = short; same = refl })), is), refl), writes)
-refusal_of_digits command text hex.Memory err errs short is only some writes = absurd (some refl)
-
--- and where it is above its limit
-pub refusal_of_large : (command : Meaning) (text : List ℕ) (err errs : Option (List ℕ)) → limit < length text → Appends err errs (stop_text (stop.Input TooLarge))
-    → WritesRefusal (on_image command) err errs text
-refusal_of_large command text err errs over writes = (stop_text (stop.Input TooLarge), inr (stop.Input TooLarge, inl over, refl), writes)
-
-pub large_not_accepted : (text : List ℕ) → limit < length text → IsNotAccepted text
-large_not_accepted text over h = absurd (omega (arith, over, keeps_limit text h.0 h.1))
+refusal_of_digits : (command : Meaning) (text : List ℕ) (why : HexStop) (line : List ℕ) → length text ≤ limit → IsHexStop text why
+    → ((bytes : List ℕ) → GivesImage text bytes → GivesBytes {Z = Global} bytes (Err why)) → stop_of why ≢ stop.Memory → line ≡ stop_text (stop_of why)
+    → IsRefusalLine (on_image command) text line
+refusal_of_digits command text (hex.Fault fault) line short is only some said =
+    inr (stop.Input (Hex fault), inl (short, λ begins. only text (inl (record { begins = begins; short = short; same = refl })), is), said)
+refusal_of_digits command text hex.Memory line short is only some said = absurd (some refl)
 
 -- text that spells no bytes, where memory sufficed, gives none
-pub no_bytes : (why : HexStop) (bytes : List ℕ) → stop_of why ≢ stop.Memory → GivesBytes {Z = Global} bytes (Err why) → ⊥
+no_bytes : (why : HexStop) (bytes : List ℕ) → stop_of why ≢ stop.Memory → GivesBytes {Z = Global} bytes (Err why) → ⊥
 no_bytes (hex.Fault fault) bytes some gives = gives
 no_bytes hex.Memory bytes some gives = absurd (some refl)
 
-abbrev fault_or : ExecFault → Result Ended ExecFault → ExecFault
-fault_or other (Ok ended) = other
-fault_or other (Err fault) = fault
+-- ---- what is said with an error
 
-pub same_fault : (one two : ExecFault) → ◌≡◌ {A = Result Ended ExecFault} (Err one) (Err two) → one ≡ two
-same_fault one two e = ap (fault_or one) e
+-- of another that is accepted, and by lines of which something else holds
+module _ (A B : Type 0) (P Q : List ℕ → Type 0) (same : Type 0) (err errs : Option (List ℕ)) (accepted : A → B) (refused : (line : List ℕ) → P line → Q line) where
+  pub tells_more : (fault : ExecFault) → Tells A P same err errs fault → Tells B Q same err errs fault
+  tells_more NotAccepted told = (told.0, refused told.0 told.1, told.2)
+  tells_more Image told = absurd told
+  tells_more (Interrupted Memory) told = told
+  tells_more (Interrupted Read) told = (accepted told.0, told.1)
+  tells_more (Interrupted Write) (inl told) = inl (told.0, refused told.0 told.1, told.2)
+  tells_more (Interrupted Write) (inr told) = inr (accepted told.0, told.1)
+
+-- of what is accepted
+pub tells_nothing : (A : Type 0) (P : List ℕ → Type 0) (same : Type 0) (err errs : Option (List ℕ)) (interruption : Interruption) → A → same → Tells A P same err errs (Interrupted interruption)
+tells_nothing A P same err errs Memory accepted stays = stays
+tells_nothing A P same err errs Read accepted stays = (accepted, stays)
+tells_nothing A P same err errs Write accepted stays = inr (accepted, stays)
+
+-- a run that is broken off
+pub interrupted : (r : Result Ended ExecFault) (interruption : Interruption) (P : ExecFault → Type 0) → IsErrAnd r (λ fault. fault ≡ Interrupted interruption) → P (Interrupted interruption) → IfErr r P
+interrupted (Ok ended) interruption P is holds = tt
+interrupted (Err fault) interruption P is holds = subst P (sym is) holds
+
+abbrev RefusesBytes : List ℕ → List ℕ → Type 0
+RefusesBytes bytes line = (¬ IsAcceptedImage bytes) × IsRefusalLine (check false) bytes line
+
+abbrev RefusesText : List ℕ → List ℕ → Type 0
+RefusesText text line = (¬ IsTextAccepted text) × IsRefusalLine (on_image (check false)) text line
+
+module _ (same : Type 0) (err errs : Option (List ℕ)) (fault : ExecFault) where
+  -- the line of a fault
+  pub tells_stop : (s : Stop) (text : List ℕ) → s ≢ stop.Memory → text ≡ stop_text s → Tells ⊥ (λ line. line ≡ text) same err errs fault
+      → Tells ⊥ (λ line. (s ≢ stop.Memory) × (line ≡ stop_text s)) same err errs fault
+  tells_stop s text some is = tells_more ⊥ ⊥ (λ line. line ≡ text) (λ line. (s ≢ stop.Memory) × (line ≡ stop_text s)) same err errs (λ none. none) (λ line same_text. (some, same_text ∙ is)) fault
+
+  -- the verdict on bytes
+  pub tells_verdict : (bytes text : List ℕ) (status : ℕ) → (IsAcceptedImage bytes → status ≡ 0) → SaysRefused false bytes status text → Tells ⊥ (λ line. line ≡ text) same err errs fault
+      → Tells ⊥ (RefusesBytes bytes) same err errs fault
+  tells_verdict bytes text status done says = tells_more ⊥ ⊥ (λ line. line ≡ text) (RefusesBytes bytes) same err errs (λ none. none) (λ line is. (
+    (λ accepted. let e = done accepted in absurd (omega (arith, e, says.status_is))),
+    inl (inr (subst (λ (t : List ℕ). SaysRefused false bytes 1 t) (sym is) (as_first bytes status text says))),
+  )) fault
+
+  -- the fault of bytes
+  pub tells_fault : (bytes : List ℕ) (s : Stop) → (IsAcceptedImage bytes → AnswersStatus 0 (Err s)) → IsStop (IsLayoutFault bytes) s
+      → Tells ⊥ (λ line. (s ≢ stop.Memory) × (line ≡ stop_text s)) same err errs fault → Tells ⊥ (RefusesBytes bytes) same err errs fault
+  tells_fault bytes s done which = tells_more ⊥ ⊥ (λ line. (s ≢ stop.Memory) × (line ≡ stop_text s)) (RefusesBytes bytes) same err errs (λ none. none) (λ line said. (
+    (λ accepted. not_answered 0 s (done accepted) said.0),
+    inr (s, of_stop (IsLayoutFault bytes) s which said.0, said.1),
+  )) fault
+
+  -- of bytes that may be accepted
+  pub tells_refused : (A : Type 0) (P : List ℕ → Type 0) → Tells ⊥ P same err errs fault → Tells A P same err errs fault
+  tells_refused A P = tells_more ⊥ A P P same err errs (λ none. absurd none) (λ line is. is) fault
+
+  -- what is said of bytes is said of the text that spells them
+  pub tells_of_text : (text bytes read : List ℕ) → GivesImage text bytes → ((b : List ℕ) → GivesImage text b → bytes ≡ b) → read ≡ bytes
+      → Tells (IsAcceptedImage read) (RefusesBytes read) same err errs fault → TellsOf same err errs fault text
+  tells_of_text text bytes read gives one is = tells_more (IsAcceptedImage read) (IsTextAccepted text) (RefusesBytes read) (RefusesText text) same err errs
+      (λ accepted. (bytes, gives, subst IsAcceptedImage is accepted))
+      (λ line refused. (
+        (λ h. refused.0 (subst IsAcceptedImage (sym (is ∙ one h.0 h.1)) h.2)),
+        refusal_on_image (check false) text bytes read line gives is refused.1,
+      )) fault
+
+  -- of a text that spells none
+  pub tells_of_digits : (text : List ℕ) (why : HexStop) (given : Stop) → length text ≤ limit → IsHexStop text why
+      → ((bytes : List ℕ) → GivesImage text bytes → GivesBytes {Z = Global} bytes (Err why)) → given ≡ stop_of why
+      → Tells ⊥ (λ line. (given ≢ stop.Memory) × (line ≡ stop_text given)) same err errs fault → TellsOf same err errs fault text
+  tells_of_digits text why given short stops only is = tells_more ⊥ (IsTextAccepted text) (λ line. (given ≢ stop.Memory) × (line ≡ stop_text given)) (RefusesText text) same err errs
+      (λ none. absurd none)
+      (λ line said.
+      let some : stop_of why ≢ stop.Memory = λ m. said.0 (is ∙ m) in (
+        (λ h. no_bytes why h.0 some (only h.0 h.1)),
+        refusal_of_digits (check false) text why line short stops only some (said.1 ∙ ap stop_text is),
+      )) fault
+
+  -- and of one above its limit
+  pub tells_of_large : (text : List ℕ) → limit < length text → Tells ⊥ (λ line. line ≡ stop_text (stop.Input TooLarge)) same err errs fault → TellsOf same err errs fault text
+  tells_of_large text over = tells_more ⊥ (IsTextAccepted text) (λ line. line ≡ stop_text (stop.Input TooLarge)) (RefusesText text) same err errs
+      (λ none. absurd none)
+      (λ line is. ((λ h. absurd (omega (arith, over, keeps_limit text h.0 h.1))), inr (stop.Input TooLarge, inl over, is))) fault
 
 -- ==== What a job answers on a text: by the bytes that it spells, with which statuses, and above the limit.
 

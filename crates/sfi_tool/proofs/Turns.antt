@@ -21,8 +21,8 @@ use Rattle.sfi_host.specs.declared.status.Status.TheVariants.{Ready}
 use Rattle.sfi_host.specs.declared.turn.Turn.{Turn}
 use Rattle.std.proofs.lemmas.List.{map-append}
 use Rattle.std.proofs.lemmas.Option.{same_Some}
-use Rattle.sfi_tool.specs.Executing.{AreExecuted, IsBegun, IsExecuted, Streams, streams, taken, taken_by, turn_of, turns_of}
-use Rattle.sfi_tool.specs.private.{AreCut, AreStreamed, AreWithin, IfKnown, IsAsked, IsCutTurn, IsStreamed, Streamed, TakesTurns, kept, left_by, left_of}
+use Rattle.sfi_tool.specs.Executing.{AreExecuted, IsBegun, IsExecuted, Streams, streams, taken, taken_by, turn_of, turns_of, IfKnown}
+use Rattle.sfi_tool.specs.private.{AreCut, AreStreamed, AreWithin, IsAsked, IsCutTurn, IsStreamed, Streamed, TakesTurns, kept, left_by, left_of}
 use Rattle.sfi_tool.proofs.Prelude.{◌≡◌, ℕ, List, refl, ap, arith, length, Bool, sym, ◌∙◌, subst, round_of, AreStates, Part, slots_of, Adds, slice_get}
 
 -- ==== Rounds of turns, one after another, and what is said of the sandboxes after all of them.

@@ -1,6 +1,6 @@
 -- The command `exec`: the sandboxes of an image run one after another, each to its end, and their
 -- put and get are those of a process.
-use Rattle.std.specs.Prelude.{◌≡◌, ◌⊎◌, ◌≤◌, ◌==◌, ◌+◌, ◌%◌, ◌^◌, ℕ, zero, suc, min, Bool, true, false, if◌then◌else◌, List, [], ◌∷◌, ◌++◌, length, take, drop, map, Option, Some, None, IfSome, Result, Ok, Err, slice_get, codes, decimal}
+use Rattle.std.specs.Prelude.{◌≡◌, ◌⊎◌, ◌<◌, ◌≤◌, ◌==◌, ◌+◌, ◌%◌, ◌^◌, ℕ, zero, suc, min, Bool, true, false, if◌then◌else◌, List, [], ◌∷◌, ◌++◌, length, take, drop, map, Option, Some, None, IfSome, slice_get, codes, decimal}
 use Rattle.std.specs.List.{range_with_len}
 use Rattle.std.specs.Io.KnownBytes.{Appends}
 use Rattle.rv_mem.specs.Bytes.{with_bytes}
@@ -14,13 +14,16 @@ use Rattle.sfi_host.specs.Hosts.{Answer, Call, Replied}
 use Rattle.sfi_host.specs.Joint.{Machine, IsMachine}
 use Rattle.sfi_host.specs.Plans.{IsJoint}
 use Rattle.sfi_host.specs.Slots.{Slot}
-use Rattle.sfi_answers.specs.Answers.{GivesImageThat, IsAcceptedImage, Meaning}
+use Rattle.sfi_answers.specs.Answers.{GivesImageThat, IsAcceptedImage, Meaning, check, on_image}
 use Rattle.sfi_answers.specs.FaultTexts.{IsFaultLine}
-use Rattle.sfi_io.specs.Hexadecimal.{WritesPart}
+use Rattle.sfi_io.specs.Hexadecimal.{WritesPart, limit}
+use Rattle.sfi_io.specs.declared.streams.Input.{Input}
+use Rattle.sfi_io.specs.declared.streams.Input.TheVariants.{Whole, TooLarge}
 use Rattle.sfi_safety.specs.Clean.{IsAccepted}
 use Rattle.sfi_tool.specs.declared.execution.Ended.{Ended}
 use Rattle.sfi_tool.specs.declared.execution.ExecFault.{ExecFault}
-use Rattle.sfi_tool.specs.declared.execution.ExecFault.TheVariants.{NotAccepted, Image, Memory, Read, Write, TooLong}
+use Rattle.sfi_tool.specs.declared.execution.ExecFault.TheVariants.{NotAccepted, Image, Interrupted}
+use Rattle.sfi_tool.specs.declared.serving.Interruption.TheVariants.{Memory, Read, Write}
 use Rattle.sfi_tool.specs.Running.{AreStates, first_slots, status_text}
 
 -- ---- the host
@@ -204,45 +207,45 @@ pub record HaveExecuted (machine : Machine) (budget : ℕ) (ps : List Part) (inp
   pub said_is : IsStopText ps slots said
   pub status_is : status ≡ status_among (length ps) slots
 
--- The image with these bytes is accepted, and its sandboxes ran so. What is said of a run holds of
--- the machine, which is one function.
-pub record IsExecution (budget : ℕ) (input left written said : List ℕ) (status : ℕ)
-    (bytes : List ℕ) : Type 0 where
-  pub parts : List Part
-  pub accepted : IsAccepted bytes parts
-  pub ran : (machine : Machine) → IsMachine machine
-      → HaveExecuted machine budget parts input left written said status
-
 -- what is to be said was written after what the writer held; or, where it isn't told, a beginning of
 -- it, and not all
 abbrev pub IsTold : Bool → Option (List ℕ) → Option (List ℕ) → List ℕ → Type 0
 IsTold true err errs said = Appends err errs said
 IsTold false err errs said = WritesPart err errs said
 
--- The text is an image or spells one, and that was executed: the input lost what was read by get,
--- what was put was written after what the writer held, and what is said after what the other one
--- held: all of it, or a beginning where it isn't told.
-pub record Executes (budget : ℕ) (text input left : List ℕ) (out outs err errs : Option (List ℕ))
+-- this holds of what a reader told before and tells now, if it tells its bytes
+abbrev pub IfKnown : Option (List ℕ) → Option (List ℕ) → (List ℕ → List ℕ → Type 0) → Type 0
+IfKnown None left holds = Unit {0}
+IfKnown (Some input) None holds = ⊥
+IfKnown (Some input) (Some left) holds = holds input left
+
+-- The sandboxes of an image ran: what was put was written after what the writer held, and what is
+-- said after what the other one held, all of it, or a beginning where it isn't told. Where the reader
+-- of the input tells its bytes, they ran so, and it lost what was read by get. What is said of a run
+-- holds of the machine, which is one function.
+pub record Executes (budget : ℕ) (ps : List Part) (input left out outs err errs : Option (List ℕ))
     (ended : Ended) : Type 0 where
   pub written : List ℕ
   pub said : List ℕ
-  pub executed : GivesImageThat (IsExecution budget input left written said ended.status) text
   pub writes : Appends out outs written
   pub says : IsTold ended.told err errs said
+  pub ran : IfKnown input left (λ x y. (machine : Machine) → IsMachine machine
+      → HaveExecuted machine budget ps x y written said ended.status)
 
--- What is said of a text that was executed: where the reader of the input tells its bytes, what came
--- of them, and else that the image is accepted.
-abbrev pub ExecutesText : ℕ → Option (List ℕ) → Option (List ℕ) → Option (List ℕ) → Option (List ℕ)
-    → Option (List ℕ) → Option (List ℕ) → Ended → List ℕ → Type 0
-ExecutesText budget None left out outs err errs ended text = GivesImageThat IsAcceptedImage text
-ExecutesText budget (Some input) None out outs err errs ended text = ⊥
-ExecutesText budget (Some input) (Some left) out outs err errs ended text =
-    Executes budget text input left out outs err errs ended
+-- the bytes are an accepted image, of whose parts this holds
+abbrev pub IsAcceptedThat : (List Part → Type 0) → List ℕ → Type 0
+IsAcceptedThat holds bytes = (ps : List Part) × IsAccepted bytes ps × holds ps
 
--- there is a text, the reader's bytes where it tells them, of which this holds; where it tells none, any text
--- will do
-abbrev pub ReadsThat : Option (List ℕ) → (List ℕ → Type 0) → Type 0
-ReadsThat told holds = (text : List ℕ) × IfSome told (λ bytes. text ≡ bytes) × holds text
+-- the text is an accepted image or spells one, and its sandboxes ran
+abbrev pub HasExecuted : ℕ → Option (List ℕ) → Option (List ℕ) → Option (List ℕ)
+    → Option (List ℕ) → Option (List ℕ) → Option (List ℕ) → Ended → List ℕ → Type 0
+HasExecuted budget input left out outs err errs ended = GivesImageThat
+    (IsAcceptedThat (λ ps. Executes budget ps input left out outs err errs ended))
+
+-- this holds of the text that was read, or of each that is too large, where that is all that is known
+abbrev pub OfText : Input → (List ℕ → Type 0) → Type 0
+OfText (Whole text) holds = holds text.items
+OfText TooLarge holds = (text : List ℕ) → limit < length text → holds text
 
 -- ---- what an error leaves
 
@@ -250,10 +253,9 @@ ReadsThat told holds = (text : List ℕ) × IfSome told (λ bytes. text ≡ byte
 abbrev pub number_of : ExecFault → ℕ
 number_of NotAccepted = 1
 number_of Image = 2
-number_of Memory = 3
-number_of Read = 4
-number_of Write = 5
-number_of TooLong = 6
+number_of (Interrupted Memory) = 3
+number_of (Interrupted Read) = 4
+number_of (Interrupted Write) = 5
 
 -- An execution was begun: of these sandboxes the first `done` were executed, and then the next took
 -- turns, within its budget. What was put by then begins with what was written.
@@ -279,30 +281,38 @@ pub record Begins (budget : ℕ) (ps : List Part) (input out outs : Option (List
   pub begun : IfSome input (λ x. (machine : Machine) → IsMachine machine → (cuts : List ℕ)
       × IsBegun machine budget (first_slots ps) (first_streams x cuts (length ps)) written)
 
--- the text is an accepted image or spells one, and so does what was written of what its sandboxes put
+-- the text is an accepted image or spells one, and what was written is a beginning of what its
+-- sandboxes put
 abbrev pub HasBegun :
     ℕ → Option (List ℕ) → Option (List ℕ) → Option (List ℕ) → List ℕ → Type 0
-HasBegun budget input out outs text = GivesImageThat
-    (λ bytes. (ps : List Part) × IsAccepted bytes ps × Begins budget ps input out outs) text
+HasBegun budget input out outs =
+    GivesImageThat (IsAcceptedThat (λ ps. Begins budget ps input out outs))
 
--- the text is no image that is accepted, nor does it spell one
-abbrev pub IsNotAccepted : List ℕ → Type 0
-IsNotAccepted text = ¬ GivesImageThat IsAcceptedImage text
+-- ---- what is said with an error
 
--- the line was written with which a command refuses what was read: that of the verdict on an image
--- with findings, or that of a fault
-abbrev pub WritesRefusal :
-    Meaning → Option (List ℕ) → Option (List ℕ) → List ℕ → Type 0
-WritesRefusal command err errs input = (line : List ℕ)
-    × (command.says input 1 line ⊎ IsFaultLine command input line) × Appends err errs line
+-- the text is an image that is accepted, or spells one
+abbrev pub IsTextAccepted : List ℕ → Type 0
+IsTextAccepted = GivesImageThat IsAcceptedImage
 
--- what may be answered on such a text: that it isn't accepted, or that memory ran out, that the image
--- can't be read or that what is said can't be written
-abbrev pub MayRefuse : Result Ended ExecFault → Type 0
-MayRefuse (Ok ended) = ⊥
-MayRefuse (Err NotAccepted) = Unit {0}
-MayRefuse (Err Image) = Unit {0}
-MayRefuse (Err Memory) = Unit {0}
-MayRefuse (Err Read) = ⊥
-MayRefuse (Err Write) = Unit {0}
-MayRefuse (Err TooLong) = ⊥
+-- a command refuses the input by this line: that of the verdict on an image with findings, or that
+-- of a fault
+abbrev pub IsRefusalLine : Meaning → List ℕ → List ℕ → Type 0
+IsRefusalLine command input line = command.says input 1 line ⊎ IsFaultLine command input line
+
+-- What is written to the writer of errors: of what is refused, a line of which `line` holds, or a
+-- beginning and not all of it where it can't be written; and of what is accepted, or where memory
+-- runs out, nothing: the writer is the `same`. No fault of another kind comes.
+abbrev pub Tells : Type 0 → (List ℕ → Type 0) → Type 0 → Option (List ℕ) → Option (List ℕ)
+    → ExecFault → Type 0
+Tells accepted line same err errs NotAccepted = (l : List ℕ) × line l × Appends err errs l
+Tells accepted line same err errs Image = ⊥
+Tells accepted line same err errs (Interrupted Memory) = same
+Tells accepted line same err errs (Interrupted Read) = accepted × same
+Tells accepted line same err errs (Interrupted Write) =
+    ((l : List ℕ) × line l × WritesPart err errs l) ⊎ (accepted × same)
+
+-- so it is of a text, which is refused by the line of `check`
+abbrev pub TellsOf : Type 0 → Option (List ℕ) → Option (List ℕ) → ExecFault → List ℕ → Type 0
+TellsOf same err errs fault text = Tells (IsTextAccepted text)
+    (λ line. (¬ IsTextAccepted text) × IsRefusalLine (on_image (check false)) text line) same err errs
+    fault

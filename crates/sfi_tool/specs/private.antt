@@ -8,8 +8,6 @@ use Rattle.sfi_tool.specs.Says.{OnlyAppends, Says, meaning_of}
 use Rattle.sfi_host.specs.Consoles.{ConsoleState, console, most_handed}
 use Rattle.sfi_host.specs.Joint.{Machine, IsMachine, call_of, replied}
 use Rattle.sfi_host.specs.Plans.{IsJoint}
-use Rattle.sfi_image.specs.Spelling.{Part}
-use Rattle.sfi_safety.specs.Clean.{IsAccepted}
 use Rattle.sfi_host.specs.Changing.{data_bytes_of}
 use Rattle.sfi_host.specs.Hosts.{data_from, Answer, Call, Replied, Reply}
 use Rattle.rv_mem.specs.Bytes.{Bytes, with_bytes}
@@ -19,8 +17,7 @@ use Rattle.sfi_host.specs.Waiting.{Waits, later_reply}
 use Rattle.sfi_host.specs.declared.guest.Request.{Request}
 use Rattle.sfi_host.specs.declared.status.Status.{Status}
 use Rattle.sfi_host.specs.declared.status.Status.TheVariants.{Ready, Exited, Trapped, Stopped}
-use Rattle.sfi_tool.specs.declared.execution.Ended.{Ended}
-use Rattle.sfi_tool.specs.Executing.{AreExecuted, HaveExecuted, IsBegun, IsTold, Streams, streams, taken, turns_of}
+use Rattle.sfi_tool.specs.Executing.{AreExecuted, IfKnown, IsBegun, Streams, streams, taken, turns_of}
 use Rattle.sfi_tool.specs.Running.{plan_of}
 
 -- the status of a job's run on what its reader told, and what its writer holds then
@@ -84,12 +81,6 @@ pub record IsPiece (n : ℕ) (input left : Option (List ℕ)) (piece : List ℕ)
   pub few : length piece ≤ n
   pub none : length piece ≡ 0 → (n ≡ 0) ⊎ IsAtEnd left
 
--- this holds of what was known of a reader and is left
-abbrev pub IfKnown : Option (List ℕ) → Option (List ℕ) → (List ℕ → List ℕ → Type 0) → Type 0
-IfKnown None left holds = Unit {0}
-IfKnown (Some input) None holds = ⊥
-IfKnown (Some input) (Some left) holds = holds input left
-
 -- what the host keeps
 abbrev pub kept : List ℕ → List ℕ → List ℕ → ConsoleState → Streams
 kept input cuts output c = record { input = input; cuts = cuts; output = output; console = c }
@@ -139,6 +130,11 @@ left_by budget Stopped steps = 0
 abbrev pub left_of : ℕ → Option Slot → ℕ
 left_of budget None = 0
 left_of budget (Some slot) = left_by budget slot.status slot.steps
+
+-- sandbox `i` has fewer steps left than before, if it had any
+abbrev pub HasLess : ℕ → ℕ → List Slot → List Slot → Type 0
+HasLess budget i old new = left_of budget (slice_get old i) ≢ 0
+    → left_of budget (slice_get new i) < left_of budget (slice_get old i)
 
 -- what was asked by sandbox `sandbox`, which waits and may still do a step
 pub record IsAsked (budget sandbox : ℕ) (slots : List Slot) (q : Request) : Type 0 where
@@ -192,21 +188,3 @@ pub record AreStreamed (budget n : ℕ) (old : List Slot) (c : ConsoleState) (ne
   pub ran : IfKnown input left (λ x y. (machine : Machine) → IsMachine machine
       → (cuts : List ℕ) × ((rest put : List ℕ) → AreExecuted machine budget n old
       (kept x (cuts ++ rest) put c) new (kept y rest (put ++ written) d)))
-
--- the sandboxes of an image ran, where the reader tells its bytes; what was put and what is said
--- was written
-pub record Ran (budget : ℕ) (ps : List Part) (input left out outs err errs : Option (List ℕ))
-    (ended : Ended) : Type 0 where
-  pub written : List ℕ
-  pub said : List ℕ
-  pub writes : Appends out outs written
-  pub says : IsTold ended.told err errs said
-  pub ran : IfKnown input left (λ x y. (machine : Machine) → IsMachine machine
-      → HaveExecuted machine budget ps x y written said ended.status)
-
--- so did those of the image with these bytes, which is accepted
-pub record RanImage (budget : ℕ) (input left out outs err errs : Option (List ℕ)) (ended : Ended)
-    (bytes : List ℕ) : Type 0 where
-  pub parts : List Part
-  pub accepted : IsAccepted bytes parts
-  pub ran : Ran budget parts input left out outs err errs ended

@@ -1,9 +1,9 @@
 //! Sandboxes that run one after another, each to its end.
 
-ghost use Rattle.std.specs.Prelude.{◌≡◌, ◌≤◌, ℕ, List, Option, IfErr, IfOk, IfSome, length, slice_get};
+ghost use Rattle.std.specs.Prelude.{◌≡◌, ◌≢◌, ◌≤◌, ℕ, List, Option, None, IfErr, IfOk, IfSome, length, slice_get};
 ghost use Rattle.sfi_host.specs.Consoles.{ConsoleState};
 ghost use Rattle.sfi_host.specs.Worlds.{slots_of};
-ghost use Rattle.sfi_tool.specs.private.{AreCut, AreStreamed, AreWithin, IsAsked, IsCutTurn, Streamed, left_by, left_of};
+ghost use Rattle.sfi_tool.specs.private.{AreCut, AreStreamed, AreWithin, HasLess, IsAsked, IsCutTurn, Streamed, left_by, left_of};
 
 use crate::serving::{Interruption, flush_output, serve_call};
 use rv_mem::Memory;
@@ -38,7 +38,8 @@ const MOST_STEPS: u64 = 10_000_000;
 
 /// How many steps the next turn may do, if `left` are left.
 fn turn_steps(left: u64) -> u32
-    ensures { result ≤ left }
+    ensures most { result ≤ left }
+    ensures some { left ≢ 0 → result ≢ 0 }
 {
     left.min(MOST_STEPS) as u32
 }
@@ -49,6 +50,10 @@ fn run_to_request<M: Memory>(world: &mut World<M>, sandbox: u32, budget: u64) ->
     ensures streamed { (c : ConsoleState) (known told : Option (List ℕ)) → Streamed sandbox
         (slots_of world.old) c (slots_of world.new) c known known told told }
     ensures within { AreWithin budget (slots_of world.new) }
+    ensures less { result ≡ None → HasLess budget sandbox (slots_of world.old)
+        (slots_of world.new) }
+    ensures no_more { left_of budget (slice_get (slots_of world.new) sandbox)
+        ≤ left_of budget (slice_get (slots_of world.old) sandbox) }
     ensures asked { IfSome result (IsAsked budget sandbox (slots_of world.new)) }
 {
     let left = steps_left(world, sandbox, budget);
@@ -80,6 +85,8 @@ fn run_and_serve_call<M: Memory, R: Read, W: Write>(
         (slots_of world.new) console.new (R.remaining reader.old) (R.remaining reader.new)
         (W.contents writer.old) (W.contents writer.new)) }
     ensures within { IfOk result (λ u. AreWithin budget (slots_of world.new)) }
+    ensures less { IfOk result (λ u. HasLess budget sandbox (slots_of world.old)
+        (slots_of world.new)) }
     ensures cut { IfErr result (λ e. IsCutTurn budget sandbox (slots_of world.old) console.old
         (R.remaining reader.old) (W.contents writer.old) (W.contents writer.new)) }
 {
@@ -110,13 +117,13 @@ fn execute_sandbox<M: Memory, R: Read, W: Write>(
     ensures cut { IfErr result (λ e. IsCutTurn budget sandbox (slots_of world.old) console.old
         (R.remaining reader.old) (W.contents writer.old) (W.contents writer.new)) }
 {
-    for _ in 0..u64::MAX {
+    for _ in 0..budget {
         if steps_left(world, sandbox, budget) == 0 {
             return Ok(());
         }
         run_and_serve_call(world, console, sandbox, budget, buffer, reader, writer)?;
     }
-    Err(Interruption::TooLong)
+    Ok(())
 }
 
 /// Runs the sandboxes below `count`, one after another.

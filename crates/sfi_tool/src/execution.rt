@@ -1,18 +1,16 @@
-//! The command `exec`, over readers and writers.
+//! The command `exec`, over what was read of an image, and a process's streams.
 
-ghost use Rattle.std.specs.Prelude.{◌≡◌, ◌≢◌, ◌⊎◌, Err, IfErr, IfOk, ℕ, List, Some, false};
+ghost use Rattle.std.specs.Prelude.{◌≡◌, ◌≢◌, ◌⊎◌, IfErr, IfOk, ℕ, List, false};
 ghost use Rattle.std.specs.Io.KnownBytes.{Appends};
-ghost use Rattle.sfi_answers.specs.Answers.{GivesImageThat, IsAcceptedImage, Refuses, check, on_image};
+ghost use Rattle.sfi_answers.specs.Answers.{IsAcceptedImage, Refuses, check};
 ghost use Rattle.sfi_answers.specs.FaultTexts.{stop_text};
 ghost use Rattle.sfi_answers.specs.declared.fault.InputFault.TheVariants.{TooLarge};
 ghost use Rattle.sfi_answers.specs.declared.fault.Stop.TheVariants as stops;
 ghost use Rattle.sfi_image.specs.Spelling.{Part};
-ghost use Rattle.sfi_safety.specs.Clean.{IsAccepted};
-ghost use Rattle.sfi_tool.specs.Executing.{Begins, ExecutesText, HasBegun, IsNotAccepted, MayRefuse, ReadsThat, WritesRefusal, number_of};
-ghost use Rattle.sfi_tool.specs.Says.{OnlyAppends};
+ghost use Rattle.sfi_tool.specs.Executing.{Begins, Executes, HasBegun, HasExecuted, IsAcceptedThat, IsRefusalLine, OfText, Tells, TellsOf, number_of};
 ghost use Rattle.sfi_io.specs.Hexadecimal.{IsInput};
-ghost use Rattle.sfi_tool.specs.declared.execution.ExecFault.TheVariants.{NotAccepted};
-ghost use Rattle.sfi_tool.specs.private.{Ran, RanImage};
+ghost use Rattle.sfi_tool.specs.declared.execution.ExecFault.TheVariants.{Image, Interrupted};
+ghost use Rattle.sfi_tool.specs.declared.serving.Interruption.TheVariants.{Memory};
 
 use crate::executing::execute_sandboxes;
 use crate::serving::{Interruption, MOST_HANDED, flush_output};
@@ -35,7 +33,7 @@ pub struct Ended {
     pub told: bool,
 }
 
-/// Why a run of an image's sandboxes didn't come to its end. Its text is its bare name.
+/// Why a run of an image's sandboxes didn't come to its end. Its text is a bare name.
 #[derive(Clone, Copy, Debug, Drop, PartialEq, Eq)]
 pub enum ExecFault {
     /// The image can't be run. What was said tells why: the verdict on an image with findings, or the
@@ -43,34 +41,30 @@ pub enum ExecFault {
     NotAccepted,
     /// The image can't be read.
     Image,
-    /// An allocation was refused.
-    Memory,
-    /// The input can't be read.
-    Read,
-    /// The output, or what is said of an image that isn't accepted, can't be written.
-    Write,
-    /// A sandbox took 18446744073709551615 turns, which none lives to see.
-    TooLong,
+    /// The reading of the image, or the run, was broken off.
+    Interrupted(Interruption),
 }
 
 impl fmt::Display for ExecFault {
     fn fmt<W: fmt::Write>(&self, f: &mut fmt::Formatter<W>) -> fmt::Result {
-        fmt::Debug::fmt(self, f)
+        match self {
+            ExecFault::Interrupted(interruption) => fmt::Debug::fmt(interruption, f),
+            ExecFault::NotAccepted | ExecFault::Image => fmt::Debug::fmt(self, f),
+        }
     }
 }
 
 impl ExecFault {
-    /// The number by which a fault is known, from 1 to 6.
+    /// The number by which a fault is known, from 1 to 5.
     pub fn number(self) -> u32
         ensures { result ≡ number_of self }
     {
         match self {
             ExecFault::NotAccepted => 1,
             ExecFault::Image => 2,
-            ExecFault::Memory => 3,
-            ExecFault::Read => 4,
-            ExecFault::Write => 5,
-            ExecFault::TooLong => 6,
+            ExecFault::Interrupted(Interruption::Memory) => 3,
+            ExecFault::Interrupted(Interruption::Read) => 4,
+            ExecFault::Interrupted(Interruption::Write) => 5,
         }
     }
 }
@@ -86,29 +80,22 @@ impl From<AllocError> for Interruption {
 }
 
 impl From<Interruption> for ExecFault {
-    ghost from_gives = { λ _ e. e ≢ NotAccepted };
+    ghost from_gives = { λ interruption fault. fault ≡ Interrupted interruption };
 
-    fn from(fault: Interruption) -> ExecFault {
-        match fault {
-            Interruption::Memory => ExecFault::Memory,
-            Interruption::Read => ExecFault::Read,
-            Interruption::Write => ExecFault::Write,
-            Interruption::TooLong => ExecFault::TooLong,
-        }
+    fn from(interruption: Interruption) -> ExecFault {
+        ExecFault::Interrupted(interruption)
     }
 }
 
 /// Writes a whole text to where errors are told.
 fn say<E: Write>(errors: &mut E, text: &[u8]) -> ExecFault
-    ensures whole { result ≡ NotAccepted
-        → Appends (E.contents errors.old) (E.contents errors.new) text.now }
-    ensures may_refuse { MayRefuse (Err result) }
-    ensures appends { OnlyAppends (E.contents errors.old) (E.contents errors.new) }
+    ensures { Tells ⊥ (λ line. line ≡ text.now) (errors.new ≡ errors.old)
+        (E.contents errors.old) (E.contents errors.new) result }
 {
     if write_out(errors, text) {
         ExecFault::NotAccepted
     } else {
-        ExecFault::Write
+        ExecFault::Interrupted(Interruption::Write)
     }
 }
 
@@ -122,7 +109,7 @@ fn execute_accepted<R: Read, W: Write, E: Write>(
     writer: &mut W,
     errors: &mut E,
 ) -> Result<Ended, Interruption>
-    ensures ran { IfOk result (Ran budget accepted.now (R.remaining reader.old)
+    ensures ran { IfOk result (Executes budget accepted.now (R.remaining reader.old)
         (R.remaining reader.new) (W.contents writer.old) (W.contents writer.new)
         (E.contents errors.old) (E.contents errors.new)) }
     ensures begins { IfErr result (λ e. Begins budget accepted.now (R.remaining reader.old)
@@ -152,26 +139,21 @@ fn execute_accepted<R: Read, W: Write, E: Write>(
 
 /// Says why there is no run.
 fn say_stop<E: Write>(alloc: Global, stop: Stop, errors: &mut E) -> ExecFault
-    ensures not_memory { result ≡ NotAccepted → stop ≢ stops.Memory }
-    ensures line { result ≡ NotAccepted
-        → Appends (E.contents errors.old) (E.contents errors.new) (stop_text stop) }
-    ensures may_refuse { MayRefuse (Err result) }
-    ensures appends { OnlyAppends (E.contents errors.old) (E.contents errors.new) }
+    ensures { Tells ⊥ (λ line. (stop ≢ stops.Memory) × (line ≡ stop_text stop))
+        (errors.new ≡ errors.old) (E.contents errors.old) (E.contents errors.new) result }
 {
     match stop_answer(alloc, stop) {
         Ok(answer) => say(errors, &answer.output),
-        Err(_) => ExecFault::Memory,
+        Err(_) => ExecFault::Interrupted(Interruption::Memory),
     }
 }
 
 /// Says the verdict on an image that is refused.
 fn say_refusal<E: Write>(alloc: Global, bytes: &[u8], refusal: Refusal, errors: &mut E) -> ExecFault
     requires { Refuses bytes.now refusal }
-    ensures not_accepted { result ≡ NotAccepted → ¬ IsAcceptedImage bytes.now }
-    ensures line { result ≡ NotAccepted → WritesRefusal (check false) (E.contents errors.old)
-        (E.contents errors.new) bytes.now }
-    ensures may_refuse { MayRefuse (Err result) }
-    ensures appends { OnlyAppends (E.contents errors.old) (E.contents errors.new) }
+    ensures { Tells ⊥
+        (λ line. (¬ IsAcceptedImage bytes.now) × IsRefusalLine (check false) bytes.now line)
+        (errors.new ≡ errors.old) (E.contents errors.old) (E.contents errors.new) result }
 {
     match refusal_answer(alloc, false, bytes, refusal) {
         Ok(answer) => say(errors, &answer.output),
@@ -181,10 +163,8 @@ fn say_refusal<E: Write>(alloc: Global, bytes: &[u8], refusal: Refusal, errors: 
 
 /// Says that the text passes the limit.
 fn say_too_large<E: Write>(errors: &mut E) -> ExecFault
-    ensures line { result ≡ NotAccepted → Appends (E.contents errors.old)
-        (E.contents errors.new) (stop_text (stops.Input TooLarge)) }
-    ensures may_refuse { MayRefuse (Err result) }
-    ensures appends { OnlyAppends (E.contents errors.old) (E.contents errors.new) }
+    ensures { Tells ⊥ (λ line. line ≡ stop_text (stops.Input TooLarge)) (errors.new ≡ errors.old)
+        (E.contents errors.old) (E.contents errors.new) result }
 {
     say(errors, TOO_LARGE_LINE.as_bytes())
 }
@@ -198,20 +178,15 @@ fn execute_image<R: Read, W: Write, E: Write>(
     writer: &mut W,
     errors: &mut E,
 ) -> Result<Ended, ExecFault>
-    ensures ran { IfOk result (λ ended. RanImage budget (R.remaining reader.old)
-        (R.remaining reader.new) (W.contents writer.old) (W.contents writer.new)
-        (E.contents errors.old) (E.contents errors.new) ended bytes.now) }
-    ensures not_accepted { result ≡ Err NotAccepted → ¬ IsAcceptedImage bytes.now }
-    ensures line { result ≡ Err NotAccepted → WritesRefusal (check false)
-        (E.contents errors.old) (E.contents errors.new) bytes.now }
-    ensures may_refuse { (¬ IsAcceptedImage bytes.now) → MayRefuse result }
-    ensures unread { (reader.new ≡ reader.old) ⊎ IsAcceptedImage bytes.now }
-    ensures silent { (writer.new ≡ writer.old) ⊎ IsAcceptedImage bytes.now }
-    ensures begins { IfErr result (λ e. (writer.new ≡ writer.old) ⊎ ((ps : List Part)
-        × IsAccepted bytes.now ps × Begins budget ps (R.remaining reader.old)
-        (W.contents writer.old) (W.contents writer.new))) }
-    ensures appends { OnlyAppends (W.contents writer.old) (W.contents writer.new) }
-    ensures says { OnlyAppends (E.contents errors.old) (E.contents errors.new) }
+    ensures ran { IfOk result (λ ended. IsAcceptedThat (λ ps. Executes budget ps
+        (R.remaining reader.old) (R.remaining reader.new) (W.contents writer.old)
+        (W.contents writer.new) (E.contents errors.old) (E.contents errors.new) ended) bytes.now) }
+    ensures tells { IfErr result (Tells (IsAcceptedImage bytes.now)
+        (λ line. (¬ IsAcceptedImage bytes.now) × IsRefusalLine (check false) bytes.now line)
+        (errors.new ≡ errors.old) (E.contents errors.old) (E.contents errors.new)) }
+    ensures begins { IfErr result (λ e. ((reader.new ≡ reader.old) × (writer.new ≡ writer.old))
+        ⊎ IsAcceptedThat (λ ps. Begins budget ps (R.remaining reader.old)
+        (W.contents writer.old) (W.contents writer.new)) bytes.now) }
 {
     match check(alloc, bytes) {
         Ok(accepted) => Ok(execute_accepted(alloc, &accepted, budget, reader, writer, errors)?),
@@ -220,7 +195,7 @@ fn execute_image<R: Read, W: Write, E: Write>(
 }
 
 /// Runs the sandboxes of the image that the text is or spells.
-fn execute_image_text<R: Read, W: Write, E: Write>(
+fn execute_text<R: Read, W: Write, E: Write>(
     alloc: Global,
     text: &[u8],
     budget: u64,
@@ -228,20 +203,14 @@ fn execute_image_text<R: Read, W: Write, E: Write>(
     writer: &mut W,
     errors: &mut E,
 ) -> Result<Ended, ExecFault>
-    ensures ran { IfOk result (λ ended. GivesImageThat (RanImage budget (R.remaining reader.old)
+    ensures executes { IfOk result (λ ended. HasExecuted budget (R.remaining reader.old)
         (R.remaining reader.new) (W.contents writer.old) (W.contents writer.new)
-        (E.contents errors.old) (E.contents errors.new) ended) text.now) }
-    ensures not_accepted { result ≡ Err NotAccepted → IsNotAccepted text.now }
-    ensures line { result ≡ Err NotAccepted → WritesRefusal (on_image (check false))
-        (E.contents errors.old) (E.contents errors.new) text.now }
-    ensures may_refuse { IsNotAccepted text.now → MayRefuse result }
-    ensures unread { (reader.new ≡ reader.old) ⊎ GivesImageThat IsAcceptedImage text.now }
-    ensures silent { (writer.new ≡ writer.old) ⊎ GivesImageThat IsAcceptedImage text.now }
-    ensures begins { IfErr result (λ e. (writer.new ≡ writer.old)
+        (E.contents errors.old) (E.contents errors.new) ended text.now) }
+    ensures tells { IfErr result (λ fault. TellsOf (errors.new ≡ errors.old)
+        (E.contents errors.old) (E.contents errors.new) fault text.now) }
+    ensures begins { IfErr result (λ fault. ((reader.new ≡ reader.old) × (writer.new ≡ writer.old))
         ⊎ HasBegun budget (R.remaining reader.old) (W.contents writer.old)
         (W.contents writer.new) text.now) }
-    ensures appends { OnlyAppends (W.contents writer.old) (W.contents writer.new) }
-    ensures says { OnlyAppends (E.contents errors.old) (E.contents errors.new) }
 {
     if text.len() > INPUT_LIMIT {
         return Err(say_too_large(errors));
@@ -252,55 +221,46 @@ fn execute_image_text<R: Read, W: Write, E: Write>(
     }
 }
 
-/// Reads the image to its end or past the limit, and lets go of its reader: a file is closed then.
-fn read_image<I: Read + Drop>(alloc: Global, image: I) -> Result<Input, ReadStop>
-    ensures { IfOk result (IsInput (I.remaining image)) }
+/// Reads an image to its end or past the limit, and lets go of its reader: a file is closed then.
+pub fn read_image<I: Read + Drop>(alloc: Global, image: I) -> Result<Input, ExecFault>
+    ensures reads { IfOk result (IsInput (I.remaining image)) }
+    ensures fault { IfErr result (λ e. (e ≡ Image) ⊎ (e ≡ Interrupted Memory)) }
 {
     let mut image = image;
-    read_input(alloc, &mut image)
+    match read_input(alloc, &mut image) {
+        Ok(input) => Ok(input),
+        Err(ReadStop::Failed) => Err(ExecFault::Image),
+        Err(ReadStop::Memory) => Err(ExecFault::Interrupted(Interruption::Memory)),
+    }
 }
 
-/// Runs the sandboxes of the image that a reader gives, one after another. That reader is read, and let
-/// go, before the others are touched.
-pub fn exec<I: Read + Drop, R: Read, W: Write, E: Write>(
+/// Runs the sandboxes of the image that was read, one after another. Each clause speaks of the text
+/// that was read.
+pub fn exec<R: Read, W: Write, E: Write>(
     alloc: Global,
     budget: u64,
-    image: I,
+    image: &Input,
     reader: &mut R,
     writer: &mut W,
     errors: &mut E,
 ) -> Result<Ended, ExecFault>
-    // What came of the text, where the image's reader tells its bytes: a file doesn't.
-    ensures executes { IfOk result (λ ended. ReadsThat (I.remaining image)
-        (ExecutesText budget (R.remaining reader.old) (R.remaining reader.new)
-        (W.contents writer.old) (W.contents writer.new) (E.contents errors.old)
-        (E.contents errors.new) ended)) }
-    ensures not_accepted { result ≡ Err NotAccepted
-        → ReadsThat (I.remaining image) IsNotAccepted }
-    ensures line { result ≡ Err NotAccepted → ReadsThat (I.remaining image)
-        (WritesRefusal (on_image (check false)) (E.contents errors.old) (E.contents errors.new)) }
-    ensures begins { IfErr result (λ e. (writer.new ≡ writer.old) ⊎ ReadsThat (I.remaining image)
-        (HasBegun budget (R.remaining reader.old) (W.contents writer.old)
-        (W.contents writer.new))) }
+    // With a status: it is an accepted image, of which this was run, put and said.
+    ensures executes { IfOk result (λ ended. OfText image.now (HasExecuted budget
+        (R.remaining reader.old) (R.remaining reader.new) (W.contents writer.old)
+        (W.contents writer.new) (E.contents errors.old) (E.contents errors.new) ended)) }
 
-    // What stays.
-    ensures unread { (reader.new ≡ reader.old)
-        ⊎ ReadsThat (I.remaining image) (GivesImageThat IsAcceptedImage) }
-    ensures silent { (writer.new ≡ writer.old)
-        ⊎ ReadsThat (I.remaining image) (GivesImageThat IsAcceptedImage) }
-    ensures untouched { result ≡ Err NotAccepted
-        → (reader.new ≡ reader.old) × (writer.new ≡ writer.old) }
-    ensures appends { OnlyAppends (W.contents writer.old) (W.contents writer.new) }
-    ensures says { OnlyAppends (E.contents errors.old) (E.contents errors.new) }
+    // With a fault: when each comes, and what is said then.
+    ensures tells { IfErr result (λ fault. OfText image.now (TellsOf (errors.new ≡ errors.old)
+        (E.contents errors.old) (E.contents errors.new) fault)) }
 
-    // What may be answered on a text that isn't accepted.
-    ensures may_refuse { (text : List ℕ) → I.remaining image ≡ Some text
-        → IsNotAccepted text → MayRefuse result }
+    // Then nothing of the input is read and nothing is put, or it is an accepted image, whose run was begun.
+    ensures begins { IfErr result (λ fault. OfText image.now (λ text.
+        ((reader.new ≡ reader.old) × (writer.new ≡ writer.old))
+        ⊎ HasBegun budget (R.remaining reader.old) (W.contents writer.old)
+        (W.contents writer.new) text)) }
 {
-    match read_image(alloc, image) {
-        Ok(Input::Whole(text)) => execute_image_text(alloc, &text, budget, reader, writer, errors),
-        Ok(Input::TooLarge) => Err(say_too_large(errors)),
-        Err(ReadStop::Memory) => Err(ExecFault::Memory),
-        Err(ReadStop::Failed) => Err(ExecFault::Image),
+    match image {
+        Input::Whole(text) => execute_text(alloc, text, budget, reader, writer, errors),
+        Input::TooLarge => Err(say_too_large(errors)),
     }
 }

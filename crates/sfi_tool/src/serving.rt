@@ -26,17 +26,15 @@ const PUT: u32 = 1;
 /// The service that reads.
 const GET: u32 = 2;
 
-/// Why sandboxes that ran didn't come to their end.
-#[derive(Clone, Copy, Drop)]
+/// What broke off a run, or before it the reading or the check of its image.
+#[derive(Clone, Copy, Debug, Drop, PartialEq, Eq)]
 pub enum Interruption {
     /// An allocation was refused.
     Memory,
     /// The input can't be read.
     Read,
-    /// The output, or what is said, can't be written.
+    /// The output, or what is said of an image that isn't accepted, can't be written.
     Write,
-    /// A sandbox took 18446744073709551615 turns, which none lives to see.
-    TooLong,
 }
 
 /// Fills the front of the buffer with the bytes that a call hands over, or would hand over; `false`

@@ -1,7 +1,7 @@
 //! `exec` over streams of which one fails.
 use super::failing::{Sink, Tap};
 use super::images::{C_EBREAK, EBREAK, HEAD, PAIR_ON_X0, SFI1, digits_of};
-use sfi_tool::{Ended, ExecFault, exec};
+use sfi_tool::{Ended, ExecFault, Interruption, exec, read_image};
 use std::alloc::Global;
 use std::test::Fail;
 
@@ -20,7 +20,8 @@ struct Calls {
     errors: usize,
 }
 
-/// An image, the calls that work, how `exec` ends, what was put then, and how what was said begins.
+/// An image, the calls that work, how the reading of the image or `exec` ends, what was put then, and
+/// how what was said begins.
 struct Row {
     image: &'static [(&'static str, usize)],
     calls: Calls,
@@ -63,14 +64,14 @@ const ROWS: [Row; 9] = [
     Row {
         image: ASKING,
         calls: Calls { input: 0, ..ALL },
-        ends: Err(ExecFault::Read),
+        ends: Err(ExecFault::Interrupted(Interruption::Read)),
         put: "Hi",
         said: "",
     },
     Row {
         image: ASKING,
         calls: Calls { output: 0, ..ALL },
-        ends: Err(ExecFault::Write),
+        ends: Err(ExecFault::Interrupted(Interruption::Write)),
         put: "",
         said: "",
     },
@@ -104,7 +105,7 @@ const ROWS: [Row; 9] = [
     Row {
         image: REFUSED,
         calls: Calls { errors: 0, ..ALL },
-        ends: Err(ExecFault::Write),
+        ends: Err(ExecFault::Interrupted(Interruption::Write)),
         put: "",
         said: "",
     },
@@ -147,7 +148,10 @@ fn is_right(alloc: Global, row: &Row) -> Result<bool, Fail> {
     let mut input = tap(b"x", row.calls.input);
     let mut output = sink(alloc, row.calls.output);
     let mut errors = sink(alloc, row.calls.errors);
-    let ends = exec(alloc, 1000, image, &mut input, &mut output, &mut errors);
+    let ends = match read_image(alloc, image) {
+        Ok(image) => exec(alloc, 1000, &image, &mut input, &mut output, &mut errors),
+        Err(fault) => Err(fault),
+    };
     Ok(
         ends == row.ends
             && output.taken.as_slice() == row.put.as_bytes()

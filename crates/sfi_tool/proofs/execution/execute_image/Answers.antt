@@ -1,35 +1,24 @@
-use Rattle.std.proofs.Common.{inr}
+use Rattle.std.proofs.Common.{false, inr}
+use Rattle.sfi_answers.specs.Answers.{IsAcceptedImage, check}
+use Rattle.sfi_tool.specs.Executing.{IsRefusalLine, Tells}
+use Rattle.sfi_tool.proofs.Prelude.{◌≡◌, List, ℕ}
 use Rattle.sfi_tool.proofs.Calls.{if_err}
-use Rattle.sfi_tool.proofs.Jobs.{begins_appends, nothing_appends, same_appends, told_appends}
+use Rattle.sfi_tool.proofs.Jobs.{interrupted, tells_nothing, tells_refused}
 use Rattle.sfi_tool.proofs.execution.execute_image.Goals as goal
 
-pub returns-in_err-execute_accepted-in-Ok-clause-unread : goal.returns-in_err-execute_accepted-in-Ok-clause-unread
-returns-in_err-execute_accepted-in-Ok-clause-unread g c = inr (c.in-Ok.accepted, c.in-Ok.ensures.accepted)
-
-pub returns-in_err-execute_accepted-in-Ok-clause-silent : goal.returns-in_err-execute_accepted-in-Ok-clause-silent
-returns-in_err-execute_accepted-in-Ok-clause-silent g c = inr (c.in-Ok.accepted, c.in-Ok.ensures.accepted)
+pub returns-in_err-execute_accepted-in-Ok-clause-tells : goal.returns-in_err-execute_accepted-in-Ok-clause-tells
+returns-in_err-execute_accepted-in-Ok-clause-tells g c =
+    let refuses : List ℕ → Type 0 = λ line. (¬ IsAcceptedImage c.args.bytes.now) × IsRefusalLine (check false) c.args.bytes.now line in
+    let same = c.execute_accepted.new.errors ≡ c.args.errors.now in
+    let old = g.E.Write.contents c.args.errors.now in
+    let new = g.E.Write.contents c.execute_accepted.new.errors in
+    let interruption = c.in_err-execute_accepted-in-Ok.field-0.0 in
+    interrupted c.from_residual.result interruption (Tells (IsAcceptedImage c.args.bytes.now) refuses same old new) c.from_residual.ensures.1
+    (tells_nothing (IsAcceptedImage c.args.bytes.now) refuses same old new interruption (c.in-Ok.accepted, c.in-Ok.ensures.accepted) c.in_err-execute_accepted-in-Ok.ensures.silent)
 
 pub returns-in_err-execute_accepted-in-Ok-clause-begins : goal.returns-in_err-execute_accepted-in-Ok-clause-begins
 returns-in_err-execute_accepted-in-Ok-clause-begins g c = if_err _ _ (inr (c.in-Ok.accepted, c.in-Ok.ensures.accepted, c.in_err-execute_accepted-in-Ok.ensures.begins))
 
-pub returns-in_err-execute_accepted-in-Ok-clause-appends : goal.returns-in_err-execute_accepted-in-Ok-clause-appends
-returns-in_err-execute_accepted-in-Ok-clause-appends g c = begins_appends _ _ _ _ _ c.in_err-execute_accepted-in-Ok.ensures.begins
-
-pub returns-in_err-execute_accepted-in-Ok-clause-says : goal.returns-in_err-execute_accepted-in-Ok-clause-says
-returns-in_err-execute_accepted-in-Ok-clause-says g c =
-    same_appends g.E.Write.contents c.args.errors.now c.execute_accepted.new.errors c.in_err-execute_accepted-in-Ok.ensures.silent
-
-pub returns-in_ok-execute_accepted-in-Ok-clause-unread : goal.returns-in_ok-execute_accepted-in-Ok-clause-unread
-returns-in_ok-execute_accepted-in-Ok-clause-unread g c = inr (c.in-Ok.accepted, c.in-Ok.ensures.accepted)
-
-pub returns-in_ok-execute_accepted-in-Ok-clause-silent : goal.returns-in_ok-execute_accepted-in-Ok-clause-silent
-returns-in_ok-execute_accepted-in-Ok-clause-silent g c = inr (c.in-Ok.accepted, c.in-Ok.ensures.accepted)
-
-pub returns-in_ok-execute_accepted-in-Ok-clause-appends : goal.returns-in_ok-execute_accepted-in-Ok-clause-appends
-returns-in_ok-execute_accepted-in-Ok-clause-appends g c = (c.in_ok-execute_accepted-in-Ok.ensures.ran.written, c.in_ok-execute_accepted-in-Ok.ensures.ran.writes)
-
-pub returns-in_ok-execute_accepted-in-Ok-clause-says : goal.returns-in_ok-execute_accepted-in-Ok-clause-says
-returns-in_ok-execute_accepted-in-Ok-clause-says g c = told_appends _ _ _ _ c.in_ok-execute_accepted-in-Ok.ensures.ran.says
-
-pub returns-in-Err-clause-appends : goal.returns-in-Err-clause-appends
-returns-in-Err-clause-appends g c = nothing_appends (g.W.Write.contents c.args.writer.now)
+pub returns-in-Err-clause-tells : goal.returns-in-Err-clause-tells
+returns-in-Err-clause-tells g c = tells_refused (c.say_refusal.new.errors ≡ c.args.errors.now) (g.E.Write.contents c.args.errors.now) (g.E.Write.contents c.say_refusal.new.errors) c.say_refusal.result
+    (IsAcceptedImage c.args.bytes.now) (λ line. (¬ IsAcceptedImage c.args.bytes.now) × IsRefusalLine (check false) c.args.bytes.now line) c.say_refusal.ensures
