@@ -4,3 +4,4 @@ pub mod AsConsoleBox
 pub mod AsModuleBox
 pub mod Loaded
 pub mod Events
+pub mod Facts

@@ -1,5 +1,6 @@
 -- What a call makes of a world.
-use Rattle.std.specs.Prelude.{◌≡◌, ℕ, [], ◌∷◌, List, Some, None, slice_get, slice_set}
+use Rattle.std.specs.Bool.{OnTrue, OnFalse}
+use Rattle.std.specs.Prelude.{◌≡◌, ◌↔◌, ℕ, Bool, false, IsTrue, [], ◌∷◌, List, Option, Some, None, IsSome, slice_get, slice_set}
 use Rattle.rv_step.specs.State.{Hart}
 use Rattle.sfi_host.specs.declared.turn.Turn.{Turn}
 use Rattle.sfi_host.specs.declared.waiting.Later.{Later}
@@ -11,11 +12,39 @@ use Rattle.sfi_host.specs.Joint.{Machine, IsMachine, call_of, joint as joint_run
 use Rattle.sfi_host.specs.WorldSteps.{HaveRun, HaveRunJointly}
 use Rattle.sfi_host.specs.Owning.{AreOwned}
 use Rattle.sfi_host.specs.Plans.{IsJoint, IsCutJoint}
+use Rattle.sfi_host.specs.Sessions.{SandboxAction, Run, Enter, HostAction, On, Add, Remove, IsAllowed, IsAction}
 use Rattle.sfi_host.specs.Slots.{Slot}
 use Rattle.sfi_host.specs.Waiting.{HasRunUntil, turn_of, to_call, later_answer, later_reply}
 use Rattle.sfi_host.specs.Worlds.{Sandboxes, slots_of, IsSafeWorld, StaysOutsideData, HaveStoppedThemselves}
 use Rattle.sfi_host.specs.declared.turn.RunAnswer.TheVariants.{Done, Memory}
 use Rattle.sfi_host.specs.Consoles.{ConsoleState, console, console_may_refuse}
+
+-- ==== What each call is, in the words of sessions.
+
+-- what the host does this to is the first world, and the second is what comes of it
+abbrev pub IsDoing : Sandboxes → HostAction → Sandboxes → Type 0
+IsDoing w action n = (machine : Machine) → IsMachine machine → IsAction machine w action n
+
+-- A call that does this to a sandbox of a safe world answers whether it was done: exactly where it is
+-- allowed. Then the outcome holds; else nothing has changed.
+pub record IsCall (answer : Bool) (w n : Sandboxes) (sandbox : ℕ) (asked : SandboxAction)
+    (outcome : Type 0) : Type 0 where
+  pub may : IsTrue answer ↔ IsAllowed w sandbox asked
+  pub done : OnTrue answer outcome
+  pub refused : OnFalse answer (n ≡ w)
+  pub action : IsDoing w (On sandbox asked) n
+  pub safe : IsSafeWorld n
+
+-- So is such a call of C's, of the world that it holds; without one it answers false, and there is none
+-- after it.
+pub record IsHeldCall (answer : Bool) (old new : Option Sandboxes) (sandbox : ℕ)
+    (asked : SandboxAction) (outcome : Sandboxes → Sandboxes → Type 0) : Type 0 where
+  pub call : (w n : Sandboxes) → old ≡ Some w → new ≡ Some n
+      → IsCall answer w n sandbox asked (outcome w n)
+  pub held : IsSome old ↔ IsSome new
+  pub none : old ≡ None → answer ≡ false
+
+-- ==== What comes of each.
 
 -- Still a safe world. What has exited or trapped in it did so itself, and no byte outside all data
 -- has changed.
@@ -34,11 +63,13 @@ pub record HasRunToCall (w n : Sandboxes) (sandbox steps : ℕ) : Type 0 where
       → slots_of n ≡ (to_call machine (plan_of sandbox steps) (slots_of w)).slots
   pub runs : (machine : Machine) → IsMachine machine
       → HaveRun machine (plan_of sandbox steps) w n (λ plan. to_call machine plan (slots_of w))
+  pub action : IsDoing w (On sandbox (Run steps [])) n
   pub still : IsStillSafe w n
 
 -- it took such a turn up to a stop
 pub record HasRunToStop (w n : Sandboxes) (sandbox steps : ℕ) (stops : List ℕ) : Type 0 where
   pub ran : HasRunUntil stops (turn_of sandbox steps) w n
+  pub action : (count : ℕ) × IsDoing w (On sandbox (Run count [])) n
   pub still : IsStillSafe w n
 
 -- sandbox `sandbox` got this reply to its call
@@ -84,6 +115,7 @@ pub record HasCalledBack (w n : Sandboxes) (sandbox pc : ℕ) (arguments : List 
 pub record HasCalled (w n : Sandboxes) (sandbox pc : ℕ) (arguments : List ℕ) (steps : ℕ) : Type 0 where
   pub begun : Sandboxes
   pub entered : HasEntered w begun sandbox pc arguments
+  pub action : IsDoing w (On sandbox (Enter pc arguments)) begun
   pub ran : HasRunToCall begun n sandbox steps
 
 -- it is stopped, and nothing else changed
@@ -105,6 +137,7 @@ pub record HasAdded (w : Sandboxes) (ps : List Part) (n : Sandboxes) : Type 0 wh
   pub first_data : HaveFirstData ps n.bytes
   pub earlier : EarlierAreSame w n
   pub changes : AreChanges w n
+  pub action : IsDoing w (Add ps) n
 
 -- sandbox `sandbox` is gone, each later one has a number less by one, and nothing else changed
 pub record HasLost (w : Sandboxes) (sandbox : ℕ) (n : Sandboxes) : Type 0 where
@@ -112,6 +145,7 @@ pub record HasLost (w : Sandboxes) (sandbox : ℕ) (n : Sandboxes) : Type 0 wher
   pub owned : AreOwned n
   pub rest : RestIsSame w sandbox n
   pub changes : AreChangesToRest w sandbox n
+  pub action : IsDoing w (Remove sandbox) n
 
 -- ==== A console as the host of a sandbox's turn.
 

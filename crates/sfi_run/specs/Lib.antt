@@ -1,4 +1,5 @@
 pub mod Changes
 pub mod Held
+pub mod Laws
 pub mod Names
 pub mod Snapshots

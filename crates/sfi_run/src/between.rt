@@ -3,11 +3,11 @@ ghost use Rattle.std.specs.Prelude.{◌≡◌, ◌↔◌, ◌≤◌, ℕ, length
 ghost use Rattle.std.specs.Bool.{OnTrue, OnFalse};
 ghost use Rattle.rv_step.specs.State.{Hart};
 ghost use Rattle.sfi_host.specs.Changing.{data_bytes_of};
-ghost use Rattle.sfi_host.specs.Loading.{MayEnterAt};
 ghost use Rattle.sfi_host.specs.Slots.{hart_at, data_region_at};
-ghost use Rattle.sfi_host.specs.Changing.{hart_of, MaySetAt};
-ghost use Rattle.sfi_host.specs.Worlds.{Sandboxes, slots_of, status_at, steps_at, IsSafeWorld};
-ghost use Rattle.sfi_run.specs.Changes.{HasWritten, HasEntered, HasBeenStopped, HasRegisters};
+ghost use Rattle.sfi_host.specs.Changing.{hart_of};
+ghost use Rattle.sfi_host.specs.Worlds.{Sandboxes, slots_of, steps_at};
+ghost use Rattle.sfi_host.specs.Sessions.{Write, Enter, Stop, SetRegisters};
+ghost use Rattle.sfi_run.specs.Changes.{IsCall, IsHeldCall, HasWritten, HasEntered, HasBeenStopped, HasRegisters};
 ghost use Rattle.sfi_run.specs.Snapshots.{region_span, AreRegistersOf};
 
 use crate::holding::SfiRunWorld;
@@ -63,11 +63,8 @@ pub extern "C" fn sfi_run_read(
 
 /// Writes data bytes of a sandbox.
 fn write_data(world: &mut World<Pages>, sandbox: u32, at: u32, bytes: &[u8]) -> bool
-    ensures there { IsTrue result
-        ↔ IsSome (data_bytes_of (slice_get (slots_of world.old) sandbox) at (length bytes.now)) }
-    ensures written { OnTrue result (HasWritten world.old world.new sandbox at bytes.now) }
-    ensures refused { OnFalse result (world.new ≡ world.old) }
-    ensures safe { IsSafeWorld world.new }
+    ensures call { IsCall result world.old world.new sandbox (Write at bytes.now)
+        (HasWritten world.old world.new sandbox at bytes.now) }
 {
     world.write(sandbox, at, bytes)
 }
@@ -81,14 +78,8 @@ pub extern "C" fn sfi_run_write(
     at: u32,
     bytes: &[u8],
 ) -> bool
-    ensures there { (w : Sandboxes) → world.old.inner.world ≡ Some w → (IsTrue result
-        ↔ IsSome (data_bytes_of (slice_get (slots_of w) sandbox) at (length bytes.now))) }
-    ensures written { OnTrue result ((w n : Sandboxes) → world.old.inner.world ≡ Some w
-        → world.new.inner.world ≡ Some n → HasWritten w n sandbox at bytes.now) }
-    ensures refused { OnFalse result (world.new.inner.world ≡ world.old.inner.world) }
-    ensures safe { (n : Sandboxes) → world.new.inner.world ≡ Some n → IsSafeWorld n }
-    ensures held { IsSome world.old.inner.world ↔ IsSome world.new.inner.world }
-    ensures none { world.old.inner.world ≡ None → result ≡ false }
+    ensures call { IsHeldCall result world.old.inner.world world.new.inner.world sandbox
+        (Write at bytes.now) (λ w n. HasWritten w n sandbox at bytes.now) }
 {
     let Some(mut boxed) = world.take(alloc) else {
         return false;
@@ -100,10 +91,8 @@ pub extern "C" fn sfi_run_write(
 
 /// Enters a sandbox.
 fn enter_sandbox(world: &mut World<Pages>, sandbox: u32, pc: u32, arguments: &[u32; 8]) -> bool
-    ensures may { IsTrue result ↔ MayEnterAt (slots_of world.old) sandbox pc }
-    ensures entered { OnTrue result (HasEntered world.old world.new sandbox pc arguments.now) }
-    ensures refused { OnFalse result (world.new ≡ world.old) }
-    ensures safe { IsSafeWorld world.new }
+    ensures call { IsCall result world.old world.new sandbox (Enter pc arguments.now)
+        (HasEntered world.old world.new sandbox pc arguments.now) }
 {
     world.enter(sandbox, pc, arguments)
 }
@@ -117,14 +106,8 @@ pub extern "C" fn sfi_run_enter(
     pc: u32,
     arguments: &[u32; 8],
 ) -> bool
-    ensures may { (w : Sandboxes) → world.old.inner.world ≡ Some w
-        → (IsTrue result ↔ MayEnterAt (slots_of w) sandbox pc) }
-    ensures entered { OnTrue result ((w n : Sandboxes) → world.old.inner.world ≡ Some w
-        → world.new.inner.world ≡ Some n → HasEntered w n sandbox pc arguments.now) }
-    ensures refused { OnFalse result (world.new.inner.world ≡ world.old.inner.world) }
-    ensures safe { (n : Sandboxes) → world.new.inner.world ≡ Some n → IsSafeWorld n }
-    ensures held { IsSome world.old.inner.world ↔ IsSome world.new.inner.world }
-    ensures none { world.old.inner.world ≡ None → result ≡ false }
+    ensures call { IsHeldCall result world.old.inner.world world.new.inner.world sandbox
+        (Enter pc arguments.now) (λ w n. HasEntered w n sandbox pc arguments.now) }
 {
     let Some(mut boxed) = world.take(alloc) else {
         return false;
@@ -136,11 +119,8 @@ pub extern "C" fn sfi_run_enter(
 
 /// Stops a sandbox.
 fn stop_sandbox(world: &mut World<Pages>, sandbox: u32) -> bool
-    ensures may { IsTrue result
-        ↔ (status_at (slots_of world.old) sandbox ≡ Some Status.Ready) }
-    ensures stopped { OnTrue result (HasBeenStopped world.old world.new sandbox) }
-    ensures refused { OnFalse result (world.new ≡ world.old) }
-    ensures safe { IsSafeWorld world.new }
+    ensures call { IsCall result world.old world.new sandbox Stop
+        (HasBeenStopped world.old world.new sandbox) }
 {
     world.stop(sandbox)
 }
@@ -149,14 +129,8 @@ fn stop_sandbox(world: &mut World<Pages>, sandbox: u32) -> bool
 /// reply, and it may be entered again. Its data, registers and count of steps stay.
 #[unsafe(no_mangle)]
 pub extern "C" fn sfi_run_stop(alloc: Global, world: &mut SfiRunWorld, sandbox: u32) -> bool
-    ensures may { (w : Sandboxes) → world.old.inner.world ≡ Some w
-        → (IsTrue result ↔ (status_at (slots_of w) sandbox ≡ Some Status.Ready)) }
-    ensures stopped { OnTrue result ((w n : Sandboxes) → world.old.inner.world ≡ Some w
-        → world.new.inner.world ≡ Some n → HasBeenStopped w n sandbox) }
-    ensures refused { OnFalse result (world.new.inner.world ≡ world.old.inner.world) }
-    ensures safe { (n : Sandboxes) → world.new.inner.world ≡ Some n → IsSafeWorld n }
-    ensures held { IsSome world.old.inner.world ↔ IsSome world.new.inner.world }
-    ensures none { world.old.inner.world ≡ None → result ≡ false }
+    ensures call { IsHeldCall result world.old.inner.world world.new.inner.world sandbox
+        Stop (λ w n. HasBeenStopped w n sandbox) }
 {
     let Some(mut boxed) = world.take(alloc) else {
         return false;
@@ -231,12 +205,8 @@ fn set_sandbox_registers(
     sandbox: u32,
     registers: &SfiRunRegisters,
 ) -> bool
-    ensures may { IsTrue result ↔ MaySetAt (slots_of world.old) sandbox
-        (hart_of registers.now.pc registers.now.x) }
-    ensures set { OnTrue result (HasRegisters world.old world.new sandbox
-        (hart_of registers.now.pc registers.now.x)) }
-    ensures refused { OnFalse result (world.new ≡ world.old) }
-    ensures safe { IsSafeWorld world.new }
+    ensures call { IsCall result world.old world.new sandbox (SetRegisters registers.now.pc registers.now.x)
+        (HasRegisters world.old world.new sandbox (hart_of registers.now.pc registers.now.x)) }
 {
     world.set_registers(sandbox, registers.pc, &registers.x)
 }
@@ -249,16 +219,8 @@ pub extern "C" fn sfi_run_set_registers(
     sandbox: u32,
     registers: &SfiRunRegisters,
 ) -> bool
-    ensures may { (w : Sandboxes) → world.old.inner.world ≡ Some w
-        → (IsTrue result ↔ MaySetAt (slots_of w) sandbox
-        (hart_of registers.now.pc registers.now.x)) }
-    ensures set { OnTrue result ((w n : Sandboxes) → world.old.inner.world ≡ Some w
-        → world.new.inner.world ≡ Some n
-        → HasRegisters w n sandbox (hart_of registers.now.pc registers.now.x)) }
-    ensures refused { OnFalse result (world.new.inner.world ≡ world.old.inner.world) }
-    ensures safe { (n : Sandboxes) → world.new.inner.world ≡ Some n → IsSafeWorld n }
-    ensures held { IsSome world.old.inner.world ↔ IsSome world.new.inner.world }
-    ensures none { world.old.inner.world ≡ None → result ≡ false }
+    ensures call { IsHeldCall result world.old.inner.world world.new.inner.world sandbox
+        (SetRegisters registers.now.pc registers.now.x) (λ w n. HasRegisters w n sandbox (hart_of registers.now.pc registers.now.x)) }
 {
     let Some(mut boxed) = world.take(alloc) else {
         return false;

@@ -1,11 +1,11 @@
 //! Calls of C back into a sandbox that waits at a call of its own.
-ghost use Rattle.std.specs.Prelude.{◌≡◌, ◌↔◌, Some, None, IsSome, IsTrue, false};
+ghost use Rattle.std.specs.Prelude.{◌≡◌, Some};
 ghost use Rattle.std.specs.Bool.{OnTrue, OnFalse};
 ghost use Rattle.rv_step.specs.State.{Hart};
-ghost use Rattle.sfi_host.specs.Changing.{MayCallBackAt};
 ghost use Rattle.sfi_host.specs.Slots.{hart_at};
-ghost use Rattle.sfi_host.specs.Worlds.{Sandboxes, slots_of, IsSafeWorld};
-ghost use Rattle.sfi_run.specs.Changes.{HasCalledBack};
+ghost use Rattle.sfi_host.specs.Worlds.{Sandboxes, slots_of};
+ghost use Rattle.sfi_host.specs.Sessions.{CallBack};
+ghost use Rattle.sfi_run.specs.Changes.{IsCall, IsHeldCall, HasCalledBack};
 ghost use Rattle.sfi_run.specs.Snapshots.{AreRegistersOf};
 
 use crate::holding::SfiRunWorld;
@@ -22,23 +22,22 @@ fn call_sandbox_back(
     arguments: &[u32; 8],
     kept: &mut SfiRunRegisters,
 ) -> bool
-    ensures may { IsTrue result ↔ MayCallBackAt (slots_of world.old) sandbox pc arguments.now }
-    ensures called { OnTrue result (HasCalledBack world.old world.new sandbox pc arguments.now) }
+    ensures call { IsCall result world.old world.new sandbox (CallBack pc arguments.now)
+        (HasCalledBack world.old world.new sandbox pc arguments.now) }
     ensures kept { OnTrue result ((h : Hart) → hart_at (slots_of world.old) sandbox ≡ Some h
         → AreRegistersOf h kept.new) }
-    ensures refused { OnFalse result (world.new ≡ world.old) }
     ensures untold { OnFalse result (kept.new ≡ kept.old) }
-    ensures safe { IsSafeWorld world.new }
 {
-    world.stays_safe();
-    let Some(cpu) = world.cpu(sandbox) else {
-        return false;
+    let before = match world.cpu(sandbox) {
+        Some(cpu) => Some(SfiRunRegisters::from_cpu(cpu)),
+        None => None,
     };
-    let registers = SfiRunRegisters::from_cpu(cpu);
     if !world.call_back(sandbox, pc, arguments) {
         return false;
     }
-    *kept = registers;
+    if let Some(registers) = before {
+        *kept = registers;
+    }
     true
 }
 
@@ -54,17 +53,11 @@ pub extern "C" fn sfi_run_call_back(
     arguments: &[u32; 8],
     kept: &mut SfiRunRegisters,
 ) -> bool
-    ensures may { (w : Sandboxes) → world.old.inner.world ≡ Some w
-        → (IsTrue result ↔ MayCallBackAt (slots_of w) sandbox pc arguments.now) }
-    ensures called { OnTrue result ((w n : Sandboxes) → world.old.inner.world ≡ Some w
-        → world.new.inner.world ≡ Some n → HasCalledBack w n sandbox pc arguments.now) }
+    ensures call { IsHeldCall result world.old.inner.world world.new.inner.world sandbox
+        (CallBack pc arguments.now) (λ w n. HasCalledBack w n sandbox pc arguments.now) }
     ensures kept { OnTrue result ((w : Sandboxes) (h : Hart) → world.old.inner.world ≡ Some w
         → hart_at (slots_of w) sandbox ≡ Some h → AreRegistersOf h kept.new) }
-    ensures refused { OnFalse result (world.new.inner.world ≡ world.old.inner.world) }
     ensures untold { OnFalse result (kept.new ≡ kept.old) }
-    ensures safe { (n : Sandboxes) → world.new.inner.world ≡ Some n → IsSafeWorld n }
-    ensures held { IsSome world.old.inner.world ↔ IsSome world.new.inner.world }
-    ensures none { world.old.inner.world ≡ None → result ≡ false }
 {
     let Some(mut boxed) = world.take(alloc) else {
         return false;

@@ -1,8 +1,6 @@
 //! Sandboxes that begin anew for C.
-ghost use Rattle.std.specs.Prelude.{◌≡◌, ◌↔◌, Some, None, IsSome, IsTrue, false, slice_get};
-ghost use Rattle.std.specs.Bool.{OnTrue, OnFalse};
-ghost use Rattle.sfi_host.specs.Worlds.{Sandboxes, slots_of, IsSafeWorld};
-ghost use Rattle.sfi_run.specs.Changes.{HasBeenReset};
+ghost use Rattle.sfi_host.specs.Sessions.{Reset};
+ghost use Rattle.sfi_run.specs.Changes.{IsCall, IsHeldCall, HasBeenReset};
 
 use crate::holding::SfiRunWorld;
 use rv_mem::Pages;
@@ -11,10 +9,8 @@ use std::alloc::Global;
 
 /// Takes a sandbox back to its first state.
 fn reset_sandbox(world: &mut World<Pages>, sandbox: u32) -> bool
-    ensures may { IsTrue result ↔ IsSome (slice_get (slots_of world.old) sandbox) }
-    ensures reset { OnTrue result (HasBeenReset world.old world.new sandbox) }
-    ensures refused { OnFalse result (world.new ≡ world.old) }
-    ensures safe { IsSafeWorld world.new }
+    ensures call { IsCall result world.old world.new sandbox Reset
+        (HasBeenReset world.old world.new sandbox) }
 {
     world.reset(sandbox)
 }
@@ -23,14 +19,8 @@ fn reset_sandbox(world: &mut World<Pages>, sandbox: u32) -> bool
 /// registers and count of steps are those of then, and it is ready.
 #[unsafe(no_mangle)]
 pub extern "C" fn sfi_run_reset(alloc: Global, world: &mut SfiRunWorld, sandbox: u32) -> bool
-    ensures may { (w : Sandboxes) → world.old.inner.world ≡ Some w
-        → (IsTrue result ↔ IsSome (slice_get (slots_of w) sandbox)) }
-    ensures reset { OnTrue result ((w n : Sandboxes) → world.old.inner.world ≡ Some w
-        → world.new.inner.world ≡ Some n → HasBeenReset w n sandbox) }
-    ensures refused { OnFalse result (world.new.inner.world ≡ world.old.inner.world) }
-    ensures safe { (n : Sandboxes) → world.new.inner.world ≡ Some n → IsSafeWorld n }
-    ensures held { IsSome world.old.inner.world ↔ IsSome world.new.inner.world }
-    ensures none { world.old.inner.world ≡ None → result ≡ false }
+    ensures call { IsHeldCall result world.old.inner.world world.new.inner.world sandbox
+        Reset (λ w n. HasBeenReset w n sandbox) }
 {
     let Some(mut boxed) = world.take(alloc) else {
         return false;

@@ -2,9 +2,9 @@
 ghost use Rattle.std.specs.Prelude.{◌≡◌, ◌↔◌, Some, None, IsSome, IsTrue, false};
 ghost use Rattle.std.specs.Bool.{OnTrue, OnFalse};
 ghost use Rattle.sfi_host.specs.Loading.{MayEnterAt};
-ghost use Rattle.sfi_host.specs.Waiting.{IsAtCall};
 ghost use Rattle.sfi_host.specs.Worlds.{Sandboxes, slots_of, IsSafeWorld};
-ghost use Rattle.sfi_run.specs.Changes.{HasRunToCall, HasRunToStop, HasReplied, HasCalled};
+ghost use Rattle.sfi_host.specs.Sessions.{GiveReply};
+ghost use Rattle.sfi_run.specs.Changes.{IsCall, IsHeldCall, HasRunToCall, HasRunToStop, HasReplied, HasCalled};
 ghost use Rattle.sfi_run.specs.Snapshots.{none_event, IsEventOf};
 
 use crate::holding::SfiRunWorld;
@@ -46,9 +46,8 @@ fn event_of(world: &World<Pages>, sandbox: u32) -> SfiRunEvent
 
 /// Gives a sandbox that waits its reply.
 fn reply_to_call(world: &mut World<Pages>, sandbox: u32, later: Later) -> bool
-    ensures may { IsTrue result ↔ IsAtCall (slots_of world.old) sandbox }
-    ensures replied { OnTrue result (HasReplied world.old world.new sandbox later) }
-    ensures refused { OnFalse result (world.new ≡ world.old) }
+    ensures call { IsCall result world.old world.new sandbox (GiveReply later)
+        (HasReplied world.old world.new sandbox later) }
 {
     world.reply(sandbox, later)
 }
@@ -199,14 +198,8 @@ pub extern "C" fn sfi_run_reply(
     a0: u32,
     a1: u32,
 ) -> bool
-    ensures may { (w : Sandboxes) → world.old.inner.world ≡ Some w
-        → (IsTrue result ↔ IsAtCall (slots_of w) sandbox) }
-    ensures replied { OnTrue result ((w n : Sandboxes) → world.old.inner.world ≡ Some w
-        → world.new.inner.world ≡ Some n
-        → HasReplied w n sandbox (record { a0 = a0; a1 = a1; exit = None })) }
-    ensures refused { OnFalse result (world.new.inner.world ≡ world.old.inner.world) }
-    ensures held { IsSome world.old.inner.world ↔ IsSome world.new.inner.world }
-    ensures none { world.old.inner.world ≡ None → result ≡ false }
+    ensures call { IsHeldCall result world.old.inner.world world.new.inner.world sandbox
+        (GiveReply (record { a0 = a0; a1 = a1; exit = None })) (λ w n. HasReplied w n sandbox (record { a0 = a0; a1 = a1; exit = None })) }
 {
     let Some(mut boxed) = world.take(alloc) else {
         return false;
@@ -225,14 +218,8 @@ pub extern "C" fn sfi_run_exit(
     sandbox: u32,
     number: u32,
 ) -> bool
-    ensures may { (w : Sandboxes) → world.old.inner.world ≡ Some w
-        → (IsTrue result ↔ IsAtCall (slots_of w) sandbox) }
-    ensures replied { OnTrue result ((w n : Sandboxes) → world.old.inner.world ≡ Some w
-        → world.new.inner.world ≡ Some n
-        → HasReplied w n sandbox (record { a0 = number; a1 = 0; exit = Some number })) }
-    ensures refused { OnFalse result (world.new.inner.world ≡ world.old.inner.world) }
-    ensures held { IsSome world.old.inner.world ↔ IsSome world.new.inner.world }
-    ensures none { world.old.inner.world ≡ None → result ≡ false }
+    ensures call { IsHeldCall result world.old.inner.world world.new.inner.world sandbox
+        (GiveReply (record { a0 = number; a1 = 0; exit = Some number })) (λ w n. HasReplied w n sandbox (record { a0 = number; a1 = 0; exit = Some number })) }
 {
     let Some(mut boxed) = world.take(alloc) else {
         return false;
