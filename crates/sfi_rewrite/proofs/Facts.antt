@@ -1,5 +1,6 @@
 -- The laws of this crate, for proofs here and in the crates above.
-use Rattle.sfi_rewrite.specs.Laws.{OneExpansion, OneWordExpansion, OnePlacement, OneRewriting, OneFault, NeverBoth, SomeRewriting, RewrittenIsPlaced, ExpansionsAreTransparent, WordExpansionsAreTransparent, MasksCompose, RewrittenIsTransparent, TransparencyCanBeMet, WordTransparencyCanBeMet}
+use Rattle.sfi_rewrite.specs.Laws.{OneExpansion, OneWordExpansion, OnePlacement, OneRewriting, OneFault, NeverBoth, SomeRewriting, RewrittenIsPlaced, ExpansionsAreTransparent, WordExpansionsAreTransparent, MasksCompose, RewrittenIsTransparent, TransparencyCanBeMet, WordTransparencyCanBeMet, LabelsLeadToItems}
+use Rattle.sfi_rewrite.proofs.Labels as labels
 use Rattle.sfi_rewrite.proofs.Laid as laid
 use Rattle.sfi_rewrite.proofs.Masks as masks
 use Rattle.sfi_rewrite.proofs.Sources as faults
@@ -55,3 +56,6 @@ transparency_can_be_met = samples.met
 
 pub word_transparency_can_be_met : WordTransparencyCanBeMet
 word_transparency_can_be_met = word_samples.met_in_words
+
+pub labels_lead_to_items : LabelsLeadToItems
+labels_lead_to_items = labels.labels_lead_to_items

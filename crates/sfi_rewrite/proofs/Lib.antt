@@ -1,6 +1,7 @@
 pub mod Prelude
 pub mod Sizes
 pub mod Bundles
+pub mod Labels
 pub mod Laid
 pub mod OneByOne
 pub mod Placements

@@ -1,8 +1,10 @@
 -- What holds of every source.
-use Rattle.std.specs.Prelude.{◌≡◌, ◌⊎◌, ℕ, List, [], ◌∷◌}
+use Rattle.std.specs.Prelude.{◌≡◌, ◌⊎◌, ◌*◌, ◌++◌, ℕ, List, [], ◌∷◌, true, false, replicate}
 use Rattle.rv_word.specs.declared.instr.RegOp.TheVariants.{Add}
 use Rattle.rv_word.specs.declared.instr.Instr.{Instr}
 use Rattle.rv_step.specs.Step.{result_of}
+use Rattle.rv_step.specs.State.{State, IsState}
+use Rattle.rv_step.specs.Rows.{further, LeadTo}
 use Rattle.sfi_formats.specs.Formats.{stack_pointer}
 use Rattle.sfi_formats.specs.declared.format.Format.{Format}
 use Rattle.sfi_formats.specs.declared.format.Format.TheVariants.{Sfi2, Sfiw}
@@ -12,15 +14,15 @@ use Rattle.sfi_source.specs.declared.item.Item.{Item}
 use Rattle.sfi_source.specs.Source.{Sandbox, IsSource}
 use Rattle.sfi_rewrite.specs.declared.slot.BundleSlot.{BundleSlot}
 use Rattle.sfi_rewrite.specs.declared.fault.RewriteFault.{RewriteFault}
-use Rattle.sfi_rewrite.specs.Expansion.{IsExpansion}
-use Rattle.sfi_rewrite.specs.Placement.{Placement, IsPlacement}
+use Rattle.sfi_rewrite.specs.Expansion.{IsExpansion, size_of, slots_of, c_nop}
+use Rattle.sfi_rewrite.specs.Placement.{Placement, IsPlacement, IsLabelAt}
 use Rattle.sfi_rewrite.specs.Placed.{IsPlaced}
 use Rattle.sfi_rewrite.specs.Rewriting.{IsPermitted, IsSourceFault, IsRewritten, AreRewritten}
 use Rattle.sfi_rewrite.specs.words.Expansion as words
 use Rattle.sfi_rewrite.specs.words.Transparency as words_transparency
 use Rattle.sfi_rewrite.specs.words.Samples as words_samples
 use Rattle.sfi_rewrite.specs.Standing.{StandTransparent}
-use Rattle.sfi_rewrite.specs.Transparency.{AreRegions, masked, MayBe, ActsAs}
+use Rattle.sfi_rewrite.specs.Transparency.{AreRegions, masked, MayBe, ActsAs, SlotsStand, StandsTransparent}
 use Rattle.sfi_rewrite.specs.Samples.{MeetsTransparent, MeetsInside, MeetsOutside, MeetsStop, sample_load, sample_jump, sample_push, sample_upper, sample_pop}
 
 -- an item has at most one expansion by the rows of bundles, in each format
@@ -109,3 +111,17 @@ WordTransparencyCanBeMet =
     × words_samples.MeetsInside stack_pointer words_samples.sample_move
     × words_samples.MeetsOutside stack_pointer sample_upper
     × words_samples.MeetsStop stack_pointer sample_pop
+
+-- In bundles a jump to the label before an item comes to the item. What is placed has, at the place that
+-- the label names, some c.nops and then the item's expansion; and from where these stand the c.nops
+-- lead to the expansion, with the same registers and memory. (In words the label names the place where the
+-- expansion begins: `at_label`.)
+abbrev pub LabelsLeadToItems : Type 0
+LabelsLeadToItems =
+    (f : Format) (items : List Item) (p : Placement) (k : ℕ) (x : Item) (place : ℕ)
+    → x.labelled ≡ true → IsLabelAt false f items k place
+    → (stands : StandsTransparent f items p k x) → (front : List BundleSlot) × (n : ℕ)
+    × (size_of front ≡ place)
+    × (slots_of p.bundles ≡ front ++ (replicate n c_nop ++ (stands.expanded ++ stands.after)))
+    × ((i : Instr) (s : State) → IsState s → SlotsStand i s (replicate n c_nop ++ stands.expanded)
+    → LeadTo n s (further s (2 * n)) × SlotsStand i (further s (2 * n)) stands.expanded)
