@@ -6,8 +6,8 @@
    crates/sfi_translate/specs/Machine.antt.
 
    Within the code %rsp holds the frame, %r15 the data, %r14d the steps left plus the number of the line, so that a line
-   which goes on to the next needs no count (`left`, `one_less`). %eax and %xmm0 hold nothing from one line to the next.
-   Names in `` are those of Machine.antt, whose `Cut` here has 2^32 bytes for a function, and each unit as an entry. */
+   which goes on to the next needs no count (`counted`, `one_less`). %eax and %xmm0 hold nothing from one line to the next.
+   Names in `` are those of Machine.antt, whose `Target` here is Assembly. */
 
 /* ---- registers: where one is, in which register it is computed, and that register's 64 bits, of which the upper half is 0.
    Those that compiled code computes in most have a register of the machine, in words also those that hold addresses. */
@@ -103,7 +103,7 @@
 #define SFI_KEPT_ECX SFI_FRAME("4*8")  /* x8 and x31, while something else is in their registers, */
 #define SFI_KEPT_EDX SFI_FRAME("4*31")
 #define SFI_FACTOR SFI_FRAME("4*14")  /* and a factor of 64 bits, in the free places of x14 and x15 */
-#define SFI_UPPER_BIT SFI_FRAME("128")  /* the upper bit of the steps left, which %r14d doesn't count with */
+#define SFI_UPPER_BIT SFI_FRAME("128")  /* the upper bit of the steps left, which %r14d doesn't count with (`counted`) */
 #define SFI_HART SFI_FRAME("136")
 #define SFI_ENTRIES SFI_FRAME("144")
 #define SFI_PUT(k, register) " mov %" #register ",4*" #k "(%rdi)\n"
@@ -121,7 +121,7 @@ __asm__(".pushsection .text.sfi_native,\"ax\"\n .set .Lsfi_entry_count,0; .set .
     " .pushsection .rodata.sfi_entries,\"a\"; .balign 16\n.Lsfi_entries:\n .popsection\n"
     " .pushsection .rodata.sfi_fixups,\"a\"; .balign 8\nsfi_fixups:\n .popsection\n"
     ".macro sfi_move from,to\n .ifnc \\from,\\to; mov \\from,\\to; .endif\n.endm\n"
-/* A line (`IsLine`): its label and number, its unit's entry (how far its code is from there, and its number and the least steps
+/* A line (`Does`): its label and number, its unit's entry (how far its code is from there, and its number and the least steps
    that it wants left), and what leaves it to sfi_step (`Slow`). */
     ".macro sfi_line at\n.Lsfi_at_\\at: sfi_counted \\at\n.endm\n"
     ".macro sfi_counted at\n .set .Lsfi_number_\\at,.Lsfi_number\n"
@@ -209,7 +209,7 @@ __asm__(".pushsection .text.sfi_native,\"ax\"\n .set .Lsfi_entry_count,0; .set .
     " cmp $.Lsfi_number_\\to+.Lsfi_least_steps,%r14d; jb .Lsfi_slow_\\to\n .endif\n jmp .Lsfi_at_\\to\n.endm\n"
     ".macro sfi_branch at,past,a,aw,aq,b,bw,bq,to\n"
     " sfi_line \\at\n sfi_move \\a,\\aw; cmp \\b,\\aw; \\past 1f\n sfi_go \\at,\\to\n1:\n.endm\n"
-/* to the place, from the code's first, in %eax (`enters`): what has too few steps left, and where no unit begins, is left to
+/* to the place, from the code's first, in %eax (`at_head`, `enters`): what has too few steps left, and where no unit begins, is left to
    sfi_step */
     ".macro sfi_enter\n test $~(.Lsfi_code_size-.Lsfi_unit),%eax; jne 2f\n"
     "1: sub $.Lsfi_number+.Lsfi_least_steps,%r14d; jb 3f\n"

@@ -5,4 +5,8 @@ pub mod LineSteps
 pub mod Moves
 pub mod Whole
 pub mod LinesStand
+pub mod Following
+pub mod OnLines
+pub mod Samples
+pub mod Reached
 pub mod Facts

@@ -1,6 +1,6 @@
--- What stands at a line's address, and that the text has the machine's lines.
-use Rattle.sfi_translate.proofs.Prelude.{◌≡◌, ℕ, ◌+◌, ◌-◌, ◌*◌, ◌≤◌, List, [], ◌∷◌, ◌++◌, length, take, drop, ap, ◌∙◌, subst, refl, arith, inl, inr, length-take, drop-drop, Part, Format, zero, suc, sym, append_assoc, line_text, IsUnitText, reading_text}
-use Rattle.std.proofs.Common.{◌%◌, ◌<◌, ◌⊎◌, length-drop, ⊎_elim}
+-- What stands at a line's address.
+use Rattle.sfi_translate.proofs.Prelude.{◌≡◌, ℕ, ◌+◌, ◌-◌, ◌*◌, ◌≤◌, List, [], ◌∷◌, ◌++◌, length, take, drop, ap, ◌∙◌, subst, refl, arith, inl, inr, length-take, drop-drop, Part}
+use Rattle.std.proofs.Common.{◌%◌, ◌^◌, ◌<◌, ◌⊎◌, length-drop}
 use Rattle.std.proofs.lemmas.List.{take-take, drop-take}
 use Rattle.rv_word.specs.declared.instr.Instr.{Instr}
 use Rattle.rv_comp.specs.Fronts.{Spells}
@@ -8,20 +8,30 @@ use Rattle.rv_comp.proofs.Facts.{two_lengths}
 use Rattle.rv_mem.specs.Bytes.{Bytes}
 use Rattle.rv_step.specs.State.{Hart}
 use Rattle.rv_step.specs.Step.{Stands}
+use Rattle.sfi_formats.specs.declared.format.Format.{Format}
 use Rattle.sfi_formats.specs.declared.format.Format.TheVariants.{Sfi1, Sfi2, Sfiw}
 use Rattle.sfi_formats.specs.Formats.{unit}
 use Rattle.sfi_image.specs.Parts.{IsRightPart}
-use Rattle.sfi_image.proofs.Facts.{whole_bundles}
-use Rattle.sfi_rules.specs.Readings.{Piece, IsReading}
+use Rattle.sfi_image.proofs.Facts.{whole_bundles, code_ends}
+use Rattle.sfi_rules.specs.Readings.{Piece, IsReading, IsLongestReading}
 use Rattle.sfi_rules.proofs.OneList.{spelled_within}
 use Rattle.sfi_report.specs.Listing.{unit_bytes}
 use Rattle.sfi_safe_runs.specs.Runs.{HasCode}
 use Rattle.sfi_safe_runs.proofs.Stepping.{stands_there}
-use Rattle.sfi_translate.specs.Machine.{IsLine, bytes_of}
-use Rattle.std.proofs.lemmas.Bool.{cases_lt}
-use Rattle.sfi_rules.proofs.Facts.{one_longest_reading}
-use Rattle.sfi_translate.specs.Translation.{function_text, entry_text, head_text, IsTextOfFirst}
-use Rattle.sfi_translate.specs.Laws.{LinesAreInText}
+
+-- how many bytes the pieces have
+abbrev pub bytes_of : List Piece → ℕ
+bytes_of [] = 0
+bytes_of (x ∷ pieces) = x.size + bytes_of pieces
+
+-- a unit's reading has that instruction, of n bytes, at the address
+pub record IsLine (p : Part) (at : ℕ) (i : Instr) (n : ℕ) : Type 0 where
+  pub number : ℕ
+  pub within : unit p.format * number + unit p.format ≤ length p.code
+  pub before : List Piece
+  pub after : List Piece
+  pub longest : IsLongestReading (unit_bytes p number) (before ++ (record { instr = i; size = n } ∷ after))
+  pub at_is : at ≡ p.code_base + unit p.format * number + bytes_of before
 
 -- ==== The instruction of a line stands at its address, and no head's address lies within it.
 
@@ -34,6 +44,10 @@ spelled_in bytes (y ∷ before) x after is =
 
 cut_length : (code : List ℕ) (at u : ℕ) → at + u ≤ length code → length (take u (drop at code)) ≡ u
 cut_length code at u within = simp (length-take, length-drop) (omega arith)
+
+-- a unit's bytes
+pub unit_length : (p : Part) (k : ℕ) → unit p.format * k + unit p.format ≤ length p.code → length (unit_bytes p k) ≡ unit p.format
+unit_length p k within = cut_length p.code (unit p.format * k) (unit p.format) within
 
 -- what is cut from a unit is cut from the code
 cut_again : (code : List ℕ) (at u o n : ℕ) → o + n ≤ u → take n (drop o (take u (drop at code))) ≡ take n (drop (at + o) code)
@@ -64,94 +78,40 @@ in_block base u k o n at whole (inr e) fits is = let at_is : at ≡ base + 4 * k
 
 -- ---- in the code
 
-module _ (p : Part) (right : IsRightPart p) (at : ℕ) (i : Instr) (n : ℕ) (line : IsLine p at i n) where
+module _ (p : Part) (at : ℕ) (i : Instr) (n : ℕ) (line : IsLine p at i n) where
   spelled : Spells (take n (drop (bytes_of line.before) (unit_bytes p line.number))) i n
   spelled = spelled_in (unit_bytes p line.number) line.before (record { instr = i; size = n }) line.after line.longest.is_reading
 
-  fits : bytes_of line.before + n ≤ unit p.format
+  pub fits : bytes_of line.before + n ≤ unit p.format
   fits =
       let w = spelled_within (drop (bytes_of line.before) (unit_bytes p line.number)) i n spelled in
       fits_in (unit_bytes p line.number) (bytes_of line.before) n (unit p.format) w.0 w.1 (cut_length p.code (unit p.format * line.number) (unit p.format) line.within)
 
+  pub line_some : 0 < n
+  line_some = (spelled_within (drop (bytes_of line.before) (unit_bytes p line.number)) i n spelled).0
+
   pub two_or_four : (n ≡ 2) ⊎ (n ≡ 4)
   two_or_four = two_lengths (take n (drop (bytes_of line.before) (unit_bytes p line.number))) i n spelled
 
-  pub stands : (h : Hart) (m : Bytes) → h.pc ≡ at → HasCode p m → Stands (record { hart = h; memory = m }) i n
-  stands h m e code =
+  pub stands : IsRightPart p → (h : Hart) (m : Bytes) → h.pc ≡ at → HasCode p m → Stands (record { hart = h; memory = m }) i n
+  stands right h m e code =
       stands_there p right h (unit p.format * line.number + bytes_of line.before) n
       (e ∙ line.at_is ∙ regrouped p.code_base (unit p.format * line.number) (bytes_of line.before))
       (inside_of (unit p.format * line.number) (bytes_of line.before) n (unit p.format) (length p.code) fits line.within)
       m i code
       (subst (λ (l : List ℕ). Spells l i n) (cut_again p.code (unit p.format * line.number) (unit p.format) (bytes_of line.before) n fits) spelled)
 
-  pub between_heads : at % 128 + n ≤ 128
-  between_heads =
+  pub between_heads : IsRightPart p → at % 128 + n ≤ 128
+  between_heads right =
       let bundles = whole_bundles p.format p.code_base (length p.code) right.code_base right.code_placed in
       let base : p.code_base ≡ 16 * bundles.1 = bundles.3 in
       in_block p.code_base (unit p.format) line.number (bytes_of line.before) n at (omega (arith, base)) (units p.format) fits line.at_is
 
--- ==== Where the machine has a line, the text has it.
-
--- ---- a line in a text
-
-abbrev Has : List ℕ → List ℕ → Type 0
-Has text line = (front : List ℕ) × (back : List ℕ) × (text ≡ front ++ (line ++ back))
-
-has_later : (before text line : List ℕ) → Has text line → Has (before ++ text) line
-has_later before text line h = (before ++ h.0, h.1, ap (λ (t : List ℕ). before ++ t) h.2 ∙ sym (append_assoc before h.0 (line ++ h.1)))
-
-has_before : (text after line : List ℕ) → Has text line → Has (text ++ after) line
-has_before text after line h =
-    (h.0, h.1 ++ after, ap (λ (t : List ℕ). t ++ after) h.2 ∙ append_assoc h.0 (line ++ h.1) after ∙ ap (λ (t : List ℕ). h.0 ++ t) (append_assoc line h.1 after))
-
--- of a reading
-in_reading : (at : ℕ) (before : List Piece) (x : Piece) (after : List Piece) → Has (reading_text at (before ++ (x ∷ after))) (line_text (at + bytes_of before) x.size x.instr)
-in_reading at [] x after =
-    let same : at + 0 ≡ at = omega arith in
-    ([], reading_text (at + x.size) after, ap (λ (a : ℕ). line_text a x.size x.instr ++ reading_text (at + x.size) after) (sym same))
-in_reading at (y ∷ before) x after =
-    let same : at + y.size + bytes_of before ≡ at + (y.size + bytes_of before) = omega arith in
-    has_later (line_text at y.size y.instr) (reading_text (at + y.size) (before ++ (x ∷ after))) (line_text (at + (y.size + bytes_of before)) x.size x.instr)
-    (subst (λ (a : ℕ). Has (reading_text (at + y.size) (before ++ (x ∷ after))) (line_text a x.size x.instr)) same (in_reading (at + y.size) before x after))
-
--- ---- in the text of the code
-
-number_below : (u number many whole : ℕ) → (u ≡ 16) ⊎ (u ≡ 4) → whole ≡ u * many → u * number + u ≤ whole → number < many
-number_below u number many whole (inl e) is within =
-    let is' : whole ≡ 16 * many = subst (λ (v : ℕ). whole ≡ v * many) e is in
-    let within' : 16 * number + 16 ≤ whole = subst (λ (v : ℕ). v * number + v ≤ whole) e within in
-    omega (arith, is', within')
-number_below u number many whole (inr e) is within =
-    let is' : whole ≡ 4 * many = subst (λ (v : ℕ). whole ≡ v * many) e is in
-    let within' : 4 * number + 4 ≤ whole = subst (λ (v : ℕ). v * number + v ≤ whole) e within in
-    omega (arith, is', within')
-
-module _ (sandbox : ℕ) (p : Part) (at : ℕ) (i : Instr) (n : ℕ) (line : IsLine p at i n) where
-  abbrev offset : ℕ
-  offset = unit p.format * line.number
-
-  in_unit : (text : List ℕ) → IsUnitText sandbox offset (p.code_base + offset) (unit_bytes p line.number) text → Has text (line_text at n i)
-  in_unit text u =
-      let here : Piece = record { instr = i; size = n } in
-      let same : u.reading ≡ line.before ++ (here ∷ line.after) = one_longest_reading (unit_bytes p line.number) u.reading (line.before ++ (here ∷ line.after)) u.longest line.longest in
-      let there : Has (reading_text (p.code_base + offset) u.reading) (line_text at n i) =
-      subst (λ (l : List Piece). Has (reading_text (p.code_base + offset) l) (line_text at n i)) (sym same)
-      (subst (λ (a : ℕ). Has (reading_text (p.code_base + offset) (line.before ++ (here ∷ line.after))) (line_text a n i)) (sym line.at_is) (in_reading (p.code_base + offset) line.before here line.after)) in
-      subst (λ (t : List ℕ). Has t (line_text at n i)) (sym u.text_is)
-      (has_later (function_text sandbox offset (p.code_base + offset) ++ entry_text u.chosen (p.code_base + offset) ++ head_text (p.code_base + offset)) (reading_text (p.code_base + offset) u.reading) (line_text at n i) there)
-
-  in_first : (many : ℕ) (text : List ℕ) → IsTextOfFirst sandbox p many text → line.number < many → Has text (line_text at n i)
-  in_first zero text h below = absurd (omega (arith, below))
-  in_first (suc many) text h below =
-      subst (λ (t : List ℕ). Has t (line_text at n i)) (sym h.4)
-      (⊎_elim
-      (λ (less : line.number < many). has_before h.0 h.1 (line_text at n i) (in_first many h.0 h.2 less))
-      (λ (more : many ≤ line.number).
-      let same : many ≡ line.number = omega (arith, below, more) in
-      has_later h.0 h.1 (line_text at n i)
-      (in_unit h.1 (subst (λ (k : ℕ). IsUnitText sandbox (unit p.format * k) (p.code_base + unit p.format * k) (unit_bytes p k) h.1) same h.3)))
-      (cases_lt line.number many))
-
-pub in_text : LinesAreInText
-in_text sandbox p text at i n code line =
-    in_first sandbox p at i n line code.units text code.text_is (number_below (unit p.format) line.number code.units (length p.code) (units p.format) code.whole line.within)
+  pub line_below : IsRightPart p → at < 2 ^ 32
+  line_below right =
+      let end : p.code_base + length p.code ≤ 2 ^ 32 = code_ends p right in
+      let is = line.at_is in
+      let within = line.within in
+      let fit = fits in
+      let some = line_some in
+      omega (arith, end, is, within, fit, some)

@@ -8,5 +8,6 @@ pub use Rattle.rv_comp.specs.declared.front.Front.TheVariants.{Read}
 pub use Rattle.sfi_image.specs.Spelling.{view, format_of, Part}
 pub use Rattle.sfi_image.specs.declared.part.SandboxPart.{SandboxPart}
 pub use Rattle.sfi_formats.specs.declared.format.Format.{Format}
-pub use Rattle.sfi_translate.specs.Translation.{line_text, gate_line, IsUnitText, IsSandboxText, IsCodeText, reading_text}
-pub use Rattle.sfi_translate.specs.private.{Adds, IsReadingText}
+pub use Rattle.sfi_translate.specs.Lines.{Line, Function, End, Entry, Head, Does, AreLines, AreUnitLines, reading_lines}
+pub use Rattle.sfi_translate.specs.Translation.{line_text, spell, spelled, gate_line, IsSandboxText, IsCodeText}
+pub use Rattle.sfi_translate.specs.private.{Adds, IsReadingText, IsUnitText}

@@ -1,6 +1,7 @@
 -- The text of readings, of sandboxes and of an image.
-use Rattle.sfi_translate.proofs.Prelude.{◌≡◌, ℕ, ◌+◌, ◌≤◌, List, [], ◌∷◌, ◌++◌, length, take, drop, sym, ap, ◌∙◌, subst, refl, arith, append_assoc, append-nil, drop-drop, Read, line_text, Adds, IsReadingText, suc, ◌*◌, get_or, flat_map, take_all, length-take, Format, SandboxPart, Part, view, gate_line, IsUnitText, IsCodeText, IsSandboxText}
+use Rattle.sfi_translate.proofs.Prelude.{◌≡◌, ℕ, ◌+◌, ◌≤◌, List, [], ◌∷◌, ◌++◌, length, take, drop, sym, ap, ◌∙◌, subst, refl, arith, append_assoc, append-nil, drop-drop, Read, Adds, IsReadingText, Line, Does, spell, spelled, reading_lines, AreUnitLines, suc, ◌*◌, get_or, flat_map, take_all, length-take, Format, SandboxPart, Part, view, gate_line, IsUnitText, IsCodeText, IsSandboxText}
 use Rattle.std.proofs.Common.{length-drop, ◌<◌, add-zero, Bool}
+use Rattle.std.proofs.lemmas.Grind.{flat_map-append}
 use Rattle.std.proofs.lemmas.List.{drop_all, take_more, length-map, get_or-map}
 use Rattle.rv_word.specs.declared.instr.Instr.{Instr}
 use Rattle.rv_comp.specs.Fronts.{Spells}
@@ -9,7 +10,8 @@ use Rattle.sfi_formats.specs.Formats.{unit}
 use Rattle.sfi_image.specs.Spelling.{views}
 use Rattle.sfi_image.specs.Parts.{IsRightPart}
 use Rattle.sfi_report.proofs.Texts.{unit_fits}
-use Rattle.sfi_translate.specs.Translation.{sandbox_line, data_line, last_line, function_text, entry_text, head_text, IsTextOfFirst, IsTranslationFrom, IsTranslation}
+use Rattle.sfi_translate.specs.Lines.{function_lines, entry_lines, head_lines, AreLinesOfFirst}
+use Rattle.sfi_translate.specs.Translation.{sandbox_line, data_line, last_line, IsTranslationFrom, IsTranslation}
 
 -- ==== The lines of a reading: each instruction goes before the lines of what is after it.
 
@@ -17,12 +19,12 @@ use Rattle.sfi_translate.specs.Translation.{sandbox_line, data_line, last_line, 
 
 line_then : (at : ℕ) (bytes : List ℕ) (i : Instr) (n : ℕ) (rest : List ℕ) → Spells (take n bytes) i n
     → ((j : Instr) (m : ℕ) → Spells (take m bytes) j m → Read i n ≡ Read j m)
-    → IsReadingText (at + n) (drop n bytes) rest → IsReadingText at bytes (line_text at n i ++ rest)
+    → IsReadingText (at + n) (drop n bytes) rest → IsReadingText at bytes (spell (Does at n i) ++ rest)
 line_then at bytes i n rest s only h =
     record {
       reading = record { instr = i; size = n } ∷ h.reading;
       longest = longer bytes i n h.reading s only h.longest;
-      text_is = ap (λ t. line_text at n i ++ t) h.text_is;
+      text_is = ap (λ t. spell (Does at n i) ++ t) h.text_is;
     }
 
 stuck_lines : (at : ℕ) (bytes : List ℕ) → ((i : Instr) (n : ℕ) → Spells (take n bytes) i n → ⊥) → IsReadingText at bytes ([])
@@ -49,10 +51,10 @@ pub next : (address : ℕ) (bytes : List ℕ) (at n : ℕ) (i : Instr) (rest old
     → Leads address bytes at old new
     → Spells (take n rest) i n
     → ((j : Instr) (m : ℕ) → Spells (take m rest) j m → Read i n ≡ Read j m)
-    → more ≡ new ++ line_text (address + at) n i
+    → more ≡ new ++ spell (Does (address + at) n i)
     → Leads address bytes (at + n) old more
 next address bytes at n i rest old new more is so_far s only e =
-    let line = line_text (address + at) n i in
+    let line = spell (Does (address + at) n i) in
     record {
       lines = so_far.lines ++ line;
       new_is = e ∙ ap (λ t. t ++ line) so_far.new_is ∙ append_assoc old so_far.lines line;
@@ -90,49 +92,71 @@ at_last address bytes at old new over so_far =
 
 -- ==== The text of sandboxes and of an image, one unit and one sandbox more.
 
+spelled_both : (front last : List Line) → spelled (front ++ last) ≡ spelled front ++ spelled last
+spelled_both front last = flat_map-append spell front last
+
 -- the text of the units before this offset after the old one
 pub record IsWrittenTo (sandbox : ℕ) (p : Part) (at : ℕ) (old new : List ℕ) : Type 0 where
   pub units : ℕ
   pub at_is : at ≡ unit p.format * units
   pub within : at ≤ length p.code
-  pub text : List ℕ
-  pub text_is : IsTextOfFirst sandbox p units text
-  pub new_is : new ≡ old ++ text
+  pub lines : List Line
+  pub lines_are : AreLinesOfFirst sandbox p units lines
+  pub new_is : new ≡ old ++ spelled lines
 
 pub one_unit_more : (sandbox : ℕ) (p : Part) (size at : ℕ) (old new more : List ℕ) → IsRightPart p → size ≡ unit p.format → at < length p.code → IsWrittenTo sandbox p at old new
     → Adds new more (IsUnitText sandbox at (p.code_base + at) (take size (drop at p.code))) → IsWrittenTo sandbox p (at + size) old more
 one_unit_more sandbox p size at old new more right is less so_far here =
     let fits = unit_fits p size at so_far.units right is so_far.at_is less in
-    let sized = subst (λ n. IsUnitText sandbox at (p.code_base + at) (take n (drop at p.code)) here.text) is here.text_is in
-    let last = subst (λ k. IsUnitText sandbox k (p.code_base + k) (take (unit p.format) (drop k p.code)) here.text) so_far.at_is sized in
+    let last = here.text_is.lines in
+    let sized = subst (λ n. AreUnitLines sandbox at (p.code_base + at) (take n (drop at p.code)) last) is here.text_is.lines_are in
+    let placed = subst (λ k. AreUnitLines sandbox k (p.code_base + k) (take (unit p.format) (drop k p.code)) last) so_far.at_is sized in
     record {
       units = suc so_far.units;
       at_is = fits.1;
       within = fits.0;
-      text = so_far.text ++ here.text;
-      text_is = (so_far.text, here.text, so_far.text_is, last, refl);
-      new_is = here.new_is ∙ ap (λ t. t ++ here.text) so_far.new_is ∙ append_assoc old so_far.text here.text;
+      lines = so_far.lines ++ last;
+      lines_are = (so_far.lines, last, so_far.lines_are, placed, refl);
+      new_is = here.new_is ∙ ap (λ t. t ++ here.text) so_far.new_is ∙ append_assoc old (spelled so_far.lines) here.text
+          ∙ ap (λ t. old ++ (spelled so_far.lines ++ t)) here.text_is.text_is ∙ ap (λ t. old ++ t) (sym (spelled_both so_far.lines last));
     }
 
 -- a unit's text: what stands before its lines, and its lines
 pub whole_unit : (sandbox offset at : ℕ) (bytes old first second third new : List ℕ) (chosen : Bool)
-    → first ≡ old ++ function_text sandbox offset at → second ≡ first ++ entry_text chosen at → third ≡ second ++ head_text at
+    → first ≡ old ++ spelled (function_lines sandbox offset at) → second ≡ first ++ spelled (entry_lines chosen at) → third ≡ second ++ spelled (head_lines at)
     → Adds third new (IsReadingText at bytes) → Adds old new (IsUnitText sandbox offset at bytes)
 whole_unit sandbox offset at bytes old first second third new chosen e f g h =
+    let a = function_lines sandbox offset at in
+    let b = entry_lines chosen at in
+    let c = head_lines at in
+    let d = reading_lines at h.text_is.reading in
+    let text = ((spelled a ++ spelled b) ++ spelled c) ++ h.text in
     record {
-      text = function_text sandbox offset at ++ entry_text chosen at ++ head_text at ++ h.text;
+      text = text;
       text_is = record {
-        chosen = chosen;
-        reading = h.text_is.reading;
-        longest = h.text_is.longest;
-        text_is = ap (λ t. function_text sandbox offset at ++ entry_text chosen at ++ head_text at ++ t) h.text_is.text_is;
+        lines = ((a ++ b) ++ c) ++ d;
+        lines_are = record { chosen = chosen; reading = h.text_is.reading; longest = h.text_is.longest; lines_are = refl };
+        text_is = ap (λ t. ((spelled a ++ spelled b) ++ spelled c) ++ t) h.text_is.text_is
+            ∙ ap (λ t. (t ++ spelled c) ++ spelled d) (sym (spelled_both a b)) ∙ ap (λ t. t ++ spelled d) (sym (spelled_both (a ++ b) c)) ∙ sym (spelled_both ((a ++ b) ++ c) d);
       };
-      new_is = h.new_is ∙ ap (λ t. t ++ h.text) (g ∙ ap (λ t. t ++ head_text at) (f ∙ ap (λ t. t ++ entry_text chosen at) e))
-          ∙ regroup old (function_text sandbox offset at) (entry_text chosen at) (head_text at) h.text;
+      new_is = h.new_is ∙ ap (λ t. t ++ h.text) (g ∙ ap (λ t. t ++ spelled c) (f ∙ ap (λ t. t ++ spelled b) e))
+          ∙ regroup old (spelled a) (spelled b) (spelled c) h.text;
     }
   where
     regroup : (a b c d e : List ℕ) → (((a ++ b) ++ c) ++ d) ++ e ≡ a ++ (((b ++ c) ++ d) ++ e)
     regroup a b c d e = simp append_assoc
+
+-- a sandbox's code, all of whose units are written
+pub whole_code : (sandbox : ℕ) (p : Part) (at : ℕ) (old new : List ℕ) → length p.code ≤ at → IsWrittenTo sandbox p at old new → Adds old new (IsCodeText sandbox p)
+whole_code sandbox p at old new over so_far = record {
+  text = spelled so_far.lines;
+  text_is = record {
+    lines = so_far.lines;
+    lines_are = record { units = so_far.units; whole = let within = so_far.within in let is = so_far.at_is in let same : length p.code ≡ at = omega (arith, over, within) in same ∙ is; lines_are = so_far.lines_are };
+    text_is = refl;
+  };
+  new_is = so_far.new_is;
+}
 
 -- a sandbox's text: its fields, gates and first data, its code, and the last line
 pub whole_sandbox : (sandbox : ℕ) (p : Part) (old fields gates filled code new : List ℕ)

@@ -1,4 +1,6 @@
+pub mod Lines
 pub mod Translation
 pub mod Machine
 pub mod Laws
+pub mod Samples
 pub mod private

@@ -1,16 +1,16 @@
 -- The translation of an image: the text that sfi_native.h gives a meaning in C.
-use Rattle.std.specs.Prelude.{ℕ, ◌/◌, ◌==◌, List, ◌++◌, ℤ, codes, decimal, if◌then◌else◌, ◌≡◌, zero, suc, ◌+◌, ◌*◌, ◌%◌, Bool, [], ◌∷◌, length}
+use Rattle.std.specs.Prelude.{ℕ, List, ◌++◌, ℤ, codes, decimal, if◌then◌else◌, ◌≡◌, ◌+◌, [], ◌∷◌, length}
 use Rattle.std.specs.Fmt.{signed_decimal}
 use Rattle.rv_word.specs.declared.instr.Instr.{Instr}
 use Rattle.rv_word.specs.declared.instr.Instr.TheVariants.{Op, OpImm, Load, Store, Branch, Jal, Jalr, Lui, Auipc, Fence, Ecall, Ebreak}
 use Rattle.rv_word.specs.Spelling.{offset_by}
 use Rattle.sfi_text.specs.Operands.{op_name, immediate_name, load_name, store_name, branch_name}
-use Rattle.sfi_report.specs.Listing.{hex_digits, line_end, unit_bytes}
+use Rattle.sfi_report.specs.Listing.{hex_digits, line_end}
 use Rattle.std.specs.List.{flat_map}
 use Rattle.sfi_formats.specs.Formats.{unit}
 use Rattle.sfi_image.specs.Spelling.{Part}
 use Rattle.sfi_image.specs.declared.part.Gate.{Gate}
-use Rattle.sfi_rules.specs.Readings.{Piece, IsLongestReading}
+use Rattle.sfi_translate.specs.Lines.{Line, Function, End, Entry, Head, Does, is_far, AreLines}
 
 -- ==== The lines of a translated image: a form, and in brackets what it is about, joined by commas.
 
@@ -42,16 +42,10 @@ closing = codes ")" ++ line_end
 
 -- ---- jumps
 
--- The most bytes of code that one function of the text holds: those whose addresses have the same
--- quotient by it. A code region is a power of two and aligned to its size, so that multiples of it
--- in the code are multiples in memory, or there is none.
-abbrev pub function_most : ℕ
-function_most = 16384
-
 -- what stands after the form of a jump from `at`: the target lies in the same function, or in
 -- another
 unfoldable pub far : ℕ → ℕ → List ℕ
-far at to = if (at / function_most) == (to / function_most) then codes "" else codes "_FAR"
+far at to = if is_far at to then codes "_FAR" else codes ""
 
 -- ---- the line of an instruction of that size at that address
 
@@ -92,60 +86,31 @@ line_text at size Ebreak = opening (codes "EBREAK") at size ++ closing
 unfoldable pub address_line : List ℕ → ℕ → List ℕ
 address_line form at = form ++ codes "(" ++ hex_digits 8 at ++ closing
 
--- ==== The translation of an image: the text that sfi_native.h gives a meaning in C.
-
--- ---- of a unit of code
-
--- the lines of a reading at that address
-abbrev pub reading_text : ℕ → List Piece → List ℕ
-reading_text at [] = []
-reading_text at (x ∷ reading) = line_text at x.size x.instr ++ reading_text (at + x.size) reading
-
 -- a function of the sandbox begins
 unfoldable pub function_line : ℕ → ℕ → List ℕ
 function_line sandbox at = codes "FUNCTION(" ++ decimal sandbox ++ address_field at ++ closing
 
--- Before the unit of that offset in the code a function begins: the first one, or the next, if it
--- is a multiple of `function_most`.
-unfoldable pub function_text : ℕ → ℕ → ℕ → List ℕ
-function_text sandbox offset at =
-    if offset == 0 then function_line sandbox at
-    else if offset % function_most == 0
-    then address_line (codes "END") at ++ function_line sandbox at
-    else codes ""
+-- ---- any line of code
 
--- the unit may be entered from outside and by indirect jumps
-unfoldable pub entry_text : Bool → ℕ → List ℕ
-entry_text chosen at = if chosen then address_line (codes "ENTRY") at else codes ""
+-- its text
+abbrev pub spell : Line → List ℕ
+spell (Function sandbox at) = function_line sandbox at
+spell (End at) = address_line (codes "END") at
+spell (Entry at) = address_line (codes "ENTRY") at
+spell (Head at) = address_line (codes "HEAD") at
+spell (Does at size i) = line_text at size i
 
--- the steps that are left are looked at before the unit at each multiple of that many bytes
-abbrev pub head_bytes : ℕ
-head_bytes = 128
+-- the texts of lines, one after another
+abbrev pub spelled : List Line → List ℕ
+spelled lines = flat_map spell lines
 
-unfoldable pub head_text : ℕ → List ℕ
-head_text at = if at % head_bytes == 0 then address_line (codes "HEAD") at else codes ""
-
--- The unit of that offset, of these bytes. Which units are entries is free: any choice is right.
-pub record IsUnitText (sandbox offset at : ℕ) (bytes text : List ℕ) : Type 0 where
-  pub chosen : Bool
-  pub reading : List Piece
-  pub longest : IsLongestReading bytes reading
-  pub text_is : text ≡ function_text sandbox offset at ++ entry_text chosen at
-      ++ head_text at ++ reading_text at reading
-
--- the first n units of the code
-abbrev pub IsTextOfFirst : ℕ → Part → ℕ → List ℕ → Type 0
-IsTextOfFirst sandbox p zero text = text ≡ []
-IsTextOfFirst sandbox p (suc n) text =
-    (front : List ℕ) × (last : List ℕ) × IsTextOfFirst sandbox p n front
-    × IsUnitText sandbox (unit p.format * n) (p.code_base + unit p.format * n) (unit_bytes p n) last
-    × (text ≡ front ++ last)
-
--- all units of its code
+-- the lines of the sandbox's code, spelled
 pub record IsCodeText (sandbox : ℕ) (p : Part) (text : List ℕ) : Type 0 where
-  pub units : ℕ
-  pub whole : length p.code ≡ unit p.format * units
-  pub text_is : IsTextOfFirst sandbox p units text
+  pub lines : List Line
+  pub lines_are : AreLines sandbox p lines
+  pub text_is : text ≡ spelled lines
+
+-- ==== The translation of an image: the text that sfi_native.h gives a meaning in C.
 
 -- ---- of a sandbox
 

@@ -3,8 +3,9 @@ ghost use Rattle.std.specs.Prelude.{◌≡◌, ◌+◌, ◌^◌, ◌<◌, ◌≤
 ghost use Rattle.sfi_image.specs.Spelling.{view};
 ghost use Rattle.sfi_image.specs.Parts.{IsRightPart};
 ghost use Rattle.sfi_translate.specs.Translation.{address_line};
-ghost use Rattle.sfi_translate.specs.Translation.{function_line, function_text, entry_text, head_text, sandbox_line, gate_line, data_line, last_line, IsUnitText, IsCodeText, IsSandboxText, IsTranslation};
-ghost use Rattle.sfi_translate.specs.private.{Adds, IsReadingText};
+ghost use Rattle.sfi_translate.specs.Translation.{function_line, spelled, sandbox_line, gate_line, data_line, last_line, IsCodeText, IsSandboxText, IsTranslation};
+ghost use Rattle.sfi_translate.specs.Lines.{function_lines, entry_lines, head_lines};
+ghost use Rattle.sfi_translate.specs.private.{Adds, IsReadingText, IsUnitText};
 
 use crate::entries::ChosenUnits;
 use crate::fields::{push_address_field, push_address_line, push_closing, push_number_field};
@@ -30,10 +31,9 @@ fn push_function_line(out: &mut String, sandbox: u32, at: u32) -> Result<(), All
 }
 
 /// Appends how a function begins before the unit of that offset, if one does.
-#[tactic(auto, unfolding(crate::specs::Translation::function_text))]
 fn push_function(out: &mut String, sandbox: u32, offset: usize, at: u32) -> Result<(), AllocError>
     ensures { OnOk result
-        (string_bytes out.new ≡ string_bytes out.old ++ function_text sandbox offset at) }
+        (string_bytes out.new ≡ string_bytes out.old ++ spelled (function_lines sandbox offset at)) }
 {
     if offset == 0 {
         return push_function_line(out, sandbox, at);
@@ -46,9 +46,9 @@ fn push_function(out: &mut String, sandbox: u32, offset: usize, at: u32) -> Resu
 }
 
 /// Appends the line of an entry, if the unit is one.
-#[tactic(auto, unfolding(crate::specs::Translation::entry_text))]
 fn push_entry_line(out: &mut String, chosen: bool, at: u32) -> Result<(), AllocError>
-    ensures { OnOk result (string_bytes out.new ≡ string_bytes out.old ++ entry_text chosen at) }
+    ensures { OnOk result
+        (string_bytes out.new ≡ string_bytes out.old ++ spelled (entry_lines chosen at)) }
 {
     if chosen {
         return push_address_line(out, "ENTRY", at);
@@ -57,9 +57,9 @@ fn push_entry_line(out: &mut String, chosen: bool, at: u32) -> Result<(), AllocE
 }
 
 /// Appends the line at which the steps that are left are looked at, if one stands at the address.
-#[tactic(auto, unfolding(crate::specs::Translation::head_text))]
 fn push_head(out: &mut String, at: u32) -> Result<(), AllocError>
-    ensures { OnOk result (string_bytes out.new ≡ string_bytes out.old ++ head_text at) }
+    ensures { OnOk result
+        (string_bytes out.new ≡ string_bytes out.old ++ spelled (head_lines at)) }
 {
     if at % HEAD_BYTES == 0 {
         return push_address_line(out, "HEAD", at);

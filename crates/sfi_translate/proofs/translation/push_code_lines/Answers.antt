@@ -1,7 +1,7 @@
 use Rattle.sfi_translate.proofs.Prelude.{◌≡◌, ◌+◌, ◌-◌, ◌≤◌, length, take, drop, subst, arith, length-take, string_bytes, view, Adds, IsUnitText}
 use Rattle.std.proofs.Common.{◌^◌, length-drop}
 use Rattle.sfi_report.proofs.Texts.{unit_fits}
-use Rattle.sfi_translate.proofs.Text.{one_unit_more}
+use Rattle.sfi_translate.proofs.Text.{one_unit_more, whole_code}
 use Rattle.sfi_translate.proofs.translation.push_code_lines.Goals as goal
 
 pub overflow_add-here : goal.overflow_add-here
@@ -37,3 +37,6 @@ loop-at-preserved c =
     let cut : at + size - at ≡ size = omega arith in
     let here = subst (λ n. Adds old new (IsUnitText c.args.sandbox at (part.code_base + at) (take n (drop at part.code.now)))) cut c.in_ok-push_unit_lines.ensures in
     one_unit_more c.args.sandbox (view c.args.format part) size at (string_bytes c.args.out.now) old new c.requires c.unit-unit.ensures c.loop-at-test.true c.loop-at.invariant here
+
+pub returns : goal.returns
+returns c = whole_code c.args.sandbox (view c.args.format c.args.part.now) c.loop-at.at (string_bytes c.args.out.now) (string_bytes c.loop-at.out) c.loop-at-test.false c.loop-at.invariant
