@@ -15,9 +15,12 @@ def tell_once(text: str) -> None:
     told.append(text)
 
 
+def cache_home() -> str:
+    return os.environ.get("XDG_CACHE_HOME") or os.path.join(os.path.expanduser("~"), ".cache")
+
+
 def root() -> str:
-    home = os.environ.get("XDG_CACHE_HOME") or os.path.join(os.path.expanduser("~"), ".cache")
-    return os.path.join(home, "sfi-cc")
+    return os.path.join(cache_home(), "sfi-cc")
 
 
 def kept(name: str, words: Iterable[str], make: Callable[[str], object], long: Optional[str] = None) -> str:

@@ -1,6 +1,6 @@
 """Rewrites one file of the assembly that a RISC-V compiler makes to GNU assembly for a sandbox.
 
-    python3 tools/asm2elf [--format N] [--passes NAMES] [-o OUT.s] IN.s
+    python3 tools/asm2elf [--format N] [--passes NAMES] [--jobs N] [-o OUT.s] IN.s
     python3 tools/asm2elf [--format N] [--passes NAMES] --into FOLDER IN.s ..
 
 Only instructions change: each gets its masks, its size, and its place in a word or a bundle. Labels, data, symbols and
@@ -10,6 +10,7 @@ checker reads the bytes of the image that tools/sfi-image makes. What can't be r
 file and line, and the status is 1; it is 2 where a file can't be read or written. docs/C.md says more.
 """
 import argparse
+import gc
 import os
 import sys
 
@@ -29,6 +30,8 @@ def parsed(words):
     parser.add_argument("--format", type=format_of, choices=[1, 2, WORDS], default=WORDS, help="the image's format; words if absent")
     parser.add_argument("--passes", default=",".join(PASSES), metavar="NAMES",
                         help="the passes that make the code cheaper; %(default)s if absent")
+    parser.add_argument("--jobs", type=int, default=os.cpu_count() or 1, metavar="N", help="how many processes share a long file's functions; "
+                                                                                          "as many as there are processors if absent")
     parser.add_argument("--movable", action="store_true", help="addresses are made from the bases of the sandbox's regions at run time")
     options = parser.parse_args(words)
     options.passes = tuple(name for name in options.passes.split(",") if name)
@@ -42,13 +45,14 @@ def parsed(words):
 def rewrite(options, path):
     """Writes what becomes of one file."""
     with open(path, **ENCODING) as file:
-        text = rewritten(os.path.basename(path), file.read(), options.passes, options.format, options.movable)
+        text = rewritten(os.path.basename(path), file.read(), options.passes, options.format, options.movable, options.jobs)
     output = os.path.join(options.into, os.path.basename(path)) if options.into else options.output
     with open(output or sys.stdout.fileno(), "w", closefd=output is not None, **ENCODING) as file:
         file.write(text)
 
 
 def main():
+    gc.disable()  # what is made of a file is needed up to its end
     options = parsed(sys.argv[1:])
     try:
         for path in options.files:

@@ -89,6 +89,10 @@ def options_parser():
                         help="the place, counted from 0, where it lies: each program of an image has another")
     parser.add_argument("--at", type=place, metavar="CODE:DATA", help="the place where it lies, in hexadecimal, in that of --sandbox")
     parser.add_argument("--passes", metavar="NAMES", help="the converter's passes that run; by -O and -g if absent")
+    parser.add_argument("--jobs", type=number(1, 1024), default=os.cpu_count() or 1, metavar="N",
+                        help="how many processes convert a program's functions; as many as there are processors if absent")
+    parser.add_argument("--no-cache", dest="is_kept", action="store_false",
+                        help="converts each file anew; results are kept in the folder that SUYGAPID_CACHE names, or in ~/.cache/suygapid")
     parser.add_argument("--library", action="append", default=[], metavar="NAME|FOLDER",
                         help=f"a C library ({', '.join(NAMED)}), or a folder of assembly, of which the program gets what it calls, "
                              "and of headers in `include`")
@@ -191,11 +195,11 @@ def compiled_by(options, words, file, place):
         raise
 
 
-def object_of(options, given, source, output):
-    """Makes the object of a source, and answers what `as` said."""
+def object_of(options, given, source, output, jobs):
+    """Makes the object of a source, by so many processes, and answers what `as` said."""
     with ThreadPoolExecutor(1) as pool:
         signatures = pool.submit(signatures_of, options, source)
-        text = rewritten(source.assembly, options.target, passes_of(options, given))
+        text = rewritten(source.assembly, options.target, passes_of(options, given), jobs, options.is_kept)
         return assembled(text + signatures.result(), output)
 
 
@@ -216,11 +220,12 @@ def outputs_of(options, files, folder):
 
 
 def objects_of(options, given, files, sources, folder):
-    """The files with objects in the places of sources. The longest are begun first."""
+    """The files with objects in the places of sources. The longest are begun first, and each has its share of the processes."""
     outputs = outputs_of(options, files, folder)
-    with ThreadPoolExecutor(os.cpu_count()) as pool:
-        jobs = {output: pool.submit(object_of, options, given, source, output) for source, output
-                in sorted(zip(sources, outputs), key=lambda job: -os.path.getsize(job[0].assembly))}
+    sizes = [os.path.getsize(source.assembly) for source in sources]
+    with ThreadPoolExecutor(options.jobs) as pool:
+        jobs = {output: pool.submit(object_of, options, given, source, output, -(-options.jobs * size // (sum(sizes) or 1)) or 1)
+                for size, source, output in sorted(zip(sizes, sources, outputs), key=lambda job: -job[0])}
         for output in outputs:
             tell(jobs[output].result())
     made = iter(outputs)

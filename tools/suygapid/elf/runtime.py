@@ -1,12 +1,11 @@
 """What each program is linked with: where it begins, the gates that it calls, and the functions that compilers call. These
 are made once for a format, and kept."""
-import glob
 import os
 
 from suygapid import TOOLS
 from suygapid.cc.compilers import ran, version
 from suygapid.elf.gates import stub
-from suygapid.elf.tools import Target, archived, assembled, binutil, rewritten
+from suygapid.elf.tools import CONVERTER, Target, archived, assembled, binutil, rewritten, texts_of
 from suygapid.kept import kept
 from suygapid.services import GATES
 
@@ -15,8 +14,8 @@ SCRIPT = os.path.join(LIB, "sandbox.ld")
 FUNCTIONS = [os.path.join(LIB, f"{name}.asm") for name in ("constructors", "runtime", "atomics", "stack_protector")]
 OF_MOVABLE = [os.path.join(LIB, "movable.s"), os.path.join(LIB, "settle.asm")]  # what a moved program runs before all else
 OVERRIDDEN = ("memcpy", "memmove", "memset", "memcmp", "strlen")  # a program may have its own
-MADE_OF = ("suygapid/commands/asm2elf.py", "suygapid/passes/*.py", "suygapid/services.py", "suygapid/runtime/*.asm", "suygapid/runtime/*.s",
-           "suygapid/cc/compilers.py", "suygapid/elf/*.py", "suygapid/library/archives.py", "../examples/c/gates.h")
+MADE_OF = (*CONVERTER, "suygapid/services.py", "suygapid/runtime/*.asm", "suygapid/runtime/*.s", "suygapid/cc/compilers.py",
+           "suygapid/elf/*.py", "suygapid/library/archives.py", "../examples/c/gates.h")
 
 
 # The heap of a library's malloc, which goes before the library's own.
@@ -32,15 +31,9 @@ __heap_size: .4byte {size}
 """
 
 
-def read(path: str) -> str:
-    with open(path, encoding="utf-8") as file:
-        return file.read()
-
-
 def ingredients(target: Target) -> list[str]:
     """What the objects for a target depend on beside their assembly: the converter, and `as`."""
-    files = sorted(path for pattern in MADE_OF for path in glob.glob(os.path.join(TOOLS, pattern)))
-    return [*target.words(), version(binutil("as")), *(read(path) for path in files)]
+    return [*target.words(), version(binutil("as")), *texts_of(MADE_OF)]
 
 
 def name_of(path: str) -> str:

@@ -1,16 +1,19 @@
 """Runs asm2elf and binutils."""
+import glob
 import os
 import sys
 from dataclasses import dataclass
+from functools import lru_cache
 from typing import Iterable, Optional, Sequence
 
-from suygapid import TOOLS
+from suygapid import TOOLS, results
 from suygapid.cc.compilers import ran
 from suygapid.kept import root
 
 BINUTILS = os.environ.get("SFI_BINUTILS", "riscv64-unknown-elf-")  # what the names of as, ar, ld begin with
 # Python keeps what it compiles of the modules, which takes longer than to rewrite a small file.
 ASM2ELF = [sys.executable, f"-EXpycache_prefix={os.path.join(root(), 'python')}", os.path.join(TOOLS, "asm2elf")]
+CONVERTER = ("suygapid/commands/asm2elf.py", "suygapid/passes/*.py")
 AS = ["-march=rv32imc", "-mabi=ilp32", "-mno-relax", "-mno-arch-attr"]
 
 
@@ -34,15 +37,37 @@ class Target:
         return [f"--format={self.format}", *["--movable"] * self.is_movable]
 
 
-def rewritten(assembly: str, target: Target, passes: Optional[str] = None) -> bytes:
-    """The GNU assembly of a compiler's."""
-    chosen = [] if passes is None else [f"--passes={passes}"]
-    return ran([*ASM2ELF, *target.words(), *chosen, assembly])[0]
+def texts_of(patterns: Iterable[str]) -> list[str]:
+    """The texts of the files below tools/ that these patterns name, in the order of their paths."""
+    found = []
+    for path in sorted(path for pattern in patterns for path in glob.glob(os.path.join(TOOLS, pattern))):
+        with open(path, encoding="utf-8") as file:
+            found.append(file.read())
+    return found
+
+
+@lru_cache(maxsize=None)
+def converter() -> bytes:
+    """The files that asm2elf is."""
+    return "\0".join(texts_of(CONVERTER)).encode()
+
+
+def rewritten(assembly: str, target: Target, passes: Optional[str] = None, jobs: int = 1, is_kept: bool = True) -> bytes:
+    """The GNU assembly of a compiler's, by so many processes, or as it was kept."""
+    words = [*target.words(), *([] if passes is None else [f"--passes={passes}"])]
+
+    def make() -> bytes:
+        return ran([*ASM2ELF, *words, f"--jobs={jobs}", assembly])[0]
+
+    if not is_kept:
+        return make()
+    with open(assembly, "rb") as file:
+        return results.kept([converter(), *map(str.encode, words), file.read()], make)
 
 
 def rewritten_into(folder: str, assemblies: Sequence[str], target: Target) -> list[str]:
     """The paths of the GNU assembly of several files, which have names of their own, in a folder."""
-    ran([*ASM2ELF, *target.words(), f"--into={folder}", *assemblies])
+    ran([*ASM2ELF, *target.words(), "--jobs=1", f"--into={folder}", *assemblies])
     return [os.path.join(folder, os.path.basename(path)) for path in assemblies]
 
 

@@ -1,10 +1,9 @@
 """Which accesses of a run on one base may be on `sp` in the second format, where `sp` is set to
 that base before the first of them."""
-from dataclasses import dataclass, field, replace
+from dataclasses import dataclass, field
 from typing import NamedTuple
 
-from suygapid.passes.dependences import reads, values, writes
-from suygapid.passes.instructions import Op, is_access, offset_and_base
+from suygapid.passes.instructions import Op, replace
 
 POINT = 3  # the steps of `mv sp, a`
 SPARED = 2  # the steps that an access on `sp` spares
@@ -13,22 +12,22 @@ MOST_BEGINNINGS = 16  # of one base that are tried for an access
 
 
 def touches_stack(op):
-    return "sp" in reads(op) | writes(op)
+    return "sp" in op.reads | op.writes
 
 
 def may_point(op):
     """Whether an instruction is an access that does the same on `sp`, where that holds its base:
     it has another base and a number as its offset, and neither stores the stack pointer nor loads
     it. An offset that stands for a name, by which the linker finds an object, is beyond all others."""
-    if not is_access(op) or "sp" in values(op) | writes(op):
+    if not op.is_access or "sp" in op.values | op.writes:
         return False
-    offset, base = offset_and_base(op)
+    offset, base = op.offset, op.base
     return base != "sp" and offset <= HIGHEST
 
 
 def base_of(piece):
     """The base of an access that may be one on `sp`; None for all else."""
-    return offset_and_base(piece)[1] if not piece.is_mark and may_point(piece) else None
+    return piece.base if not piece.is_mark and may_point(piece) else None
 
 
 def step_of(op, base):
@@ -116,8 +115,8 @@ def best_clusters(ops):
         base = base_of(op)
         if base is not None:
             chain = chains.setdefault(base, Chain())
-            best[-1] = chain.take(index, offset_and_base(op)[0], best)
-        for name in writes(op) & chains.keys():
+            best[-1] = chain.take(index, op.offset, best)
+        for name in op.writes & chains.keys():
             step = step_of(op, name)
             if step is None:
                 del chains[name]
@@ -139,8 +138,8 @@ def cluster_between(ops, first, last):
     base, moved, offsets = base_of(ops[first]), 0, {}
     for index in range(first, last + 1):
         if base_of(ops[index]) == base:
-            offsets[index] = offset_and_base(ops[index])[0] + moved
-        if base in writes(ops[index]):
+            offsets[index] = ops[index].offset + moved
+        if base in ops[index].writes:
             moved += step_of(ops[index], base) or 0
     return Cluster(base, offsets)
 

@@ -1,29 +1,8 @@
 """Where control goes from each piece of the code, and how often each piece is likely to run."""
-from suygapid.passes.instructions import written
+from copy import copy
 
-INVERSE = {"beq": "bne", "bne": "beq", "blt": "bge", "bge": "blt", "bltu": "bgeu", "bgeu": "bltu",
-           "beqz": "bnez", "bnez": "beqz"}
 LOOP = 8  # how often a loop is taken to go round
 DEEPEST = 4  # loops around a piece that count
-
-
-def is_branch(op):
-    return op.word in INVERSE
-
-
-def is_call(op):
-    return op.word == "call" or op.word in ("jal", "jalr") and written(op) != "zero"
-
-
-def is_jump(op):
-    """Whether it is a jump to a name that isn't a call."""
-    return op.word == "j" or op.word == "jal" and written(op) == "zero"
-
-
-def goes_on(piece):
-    """Whether control may go on to what stands after a label or an instruction."""
-    return piece.is_mark or not (is_jump(piece) or piece.word in ("ret", "jr", "ebreak")
-                                 or piece.word == "jalr" and written(piece) == "zero")
 
 
 def labels_of(code):
@@ -34,14 +13,19 @@ def labels_of(code):
 def successors(code):
     """For each piece the numbers of those that may come after it in its own function. None
     stands for elsewhere: where a jump goes to a gate, for instance."""
-    at = labels_of(code)
-    following = []
+    at, last, following = labels_of(code), len(code) - 1, []
     for number, piece in enumerate(code):
-        targets = [number + 1] if goes_on(piece) and number + 1 < len(code) else []
-        if not piece.is_mark and (is_branch(piece) or is_jump(piece)):
+        targets = [number + 1] if piece.goes_on and number < last else []
+        if piece.is_goto:
             targets.append(at.get(piece.operands[-1]))
         following.append(targets)
     return following
+
+
+def leads_back(code):
+    """Whether a branch or jump leads to a label before it, without which there is no loop."""
+    at = labels_of(code)
+    return any(piece.is_goto and at.get(piece.operands[-1], number + 1) <= number for number, piece in enumerate(code))
 
 
 def predecessors(following):
@@ -87,7 +71,7 @@ def entries(code):
     """The pieces where control comes from anywhere: the first, and the labels that are called or
     whose address is taken, by an instruction or in the data."""
     names = {piece.operands[-1] for piece in code
-             if not piece.is_mark and (piece.word == "la" or is_call(piece) and piece.word != "jalr")}
+             if not piece.is_mark and (piece.word == "la" or piece.is_call and piece.word != "jalr")}
     return {0} | {number for name, number in labels_of(code).items() if name in names or code[number].taken}
 
 
@@ -96,20 +80,38 @@ class Blocks:
     last."""
 
     def __init__(self, code):
-        following = self.successors = successors(code)
+        self.code, last = code, len(code) - 1
         starts = {0} | {number for number, piece in enumerate(code) if piece.is_mark}
-        starts |= {number + 1 for number, targets in enumerate(following) if targets != [number + 1]}
-        self.starts = sorted(start for start in starts if start < len(code))
+        starts |= {number + 1 for number, piece in enumerate(code) if number < last and (piece.is_goto or not piece.goes_on)}
+        self.starts = sorted(starts) if code else []
         self.ends = [*self.starts[1:], len(code)]
-        self.block_of = []
-        for block, (start, end) in enumerate(zip(self.starts, self.ends)):
-            self.block_of += [block] * (end - start)
-        self.following = [[self.block_of[target] for target in following[end - 1] if target is not None]
-                          for end in self.ends]
+        self.bodies = [code[start:end] for start, end in zip(self.starts, self.ends)]
+        self.block_of = [block for block, body in enumerate(self.bodies) for _ in body]
+        self.at = {body[0].name: block for block, body in enumerate(self.bodies) if body[0].is_mark}
+        self.elsewhere = []  # the blocks after which control may go elsewhere
+        self.following = [self.targets(block, body[-1]) for block, body in enumerate(self.bodies)]
         self.before = predecessors(self.following)
         self.entries = {self.block_of[number] for number in entries(code)}
         self.entries |= {block for block, others in enumerate(self.before) if not others}
         self.order = reachable(sorted(self.entries), self.following)
+
+    def changed(self, code):
+        """The same of code of which each piece is like one of this."""
+        found = copy(self)
+        found.code, found.bodies = code, [code[start:end] for start, end in zip(self.starts, self.ends)]
+        return found
+
+    def targets(self, block, last):
+        """The blocks that may come after a block's last piece."""
+        after = self.bodies[block + 1][0] if last.goes_on and block + 1 < len(self.bodies) else None
+        found = [] if after is None or after.is_mark and after.begins_section else [block + 1]
+        if last.is_goto:
+            target = self.at.get(last.operands[-1])
+            if target is None:
+                self.elsewhere.append(block)
+            else:
+                found.append(target)
+        return found
 
     def dominators(self):
         """For each block the last other one that each way from an entry to it goes through; None

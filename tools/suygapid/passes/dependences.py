@@ -1,66 +1,18 @@
 """Which instructions of a run may change places: what they read and write, in registers and in
 memory."""
 from collections import deque
-from functools import lru_cache
-from typing import NamedTuple
 
-from suygapid.passes.control import goes_on, is_branch, is_call
-from suygapid.passes.instructions import SHAPES, STORES, is_access, memory_parts, offset_and_base, written
-from suygapid.passes.operands import REGISTERS
+from suygapid.passes.facts import STORES
 
 WIDTHS = {"b": 1, "h": 2, "w": 4}  # by the letter after the first of a load's or store's name
 WINDOW = 32  # only instructions that are less far apart change places
-
-
-class Registers(NamedTuple):
-    """What an instruction does with registers. A value is what it reads other than as the base of
-    an address: what a store stores is one."""
-    values: frozenset
-    reads: frozenset
-    writes: frozenset
-
-
-@lru_cache(maxsize=None)
-def registers_of(word, operands, target):
-    """The registers of an instruction, of which the one that it writes is known."""
-    kinds = list(zip(SHAPES.get(word, ""), operands))[target is not None:]
-    values_read = {"ra"} if word == "ret" else {text for kind, text in kinds if kind == "R"}
-    bases = {memory_parts(text)[1] for kind, text in kinds if kind == "M"}
-    without_zero = [frozenset(names - {None, "zero"}) for names in (values_read, values_read | bases, {target})]
-    return Registers(*without_zero)
-
-
-def values(op):
-    """The registers that an instruction reads other than as the base of an address."""
-    return registers_of(op.word, op.operands, written(op)).values
-
-
-def reads(op):
-    """The registers that an instruction reads."""
-    return registers_of(op.word, op.operands, written(op)).reads
-
-
-def writes(op):
-    """The registers that an instruction writes."""
-    return registers_of(op.word, op.operands, written(op)).writes
-
-
-@lru_cache(maxsize=None)
-def bits(names):
-    """Registers as a number: bit n stands for register n."""
-    return sum(1 << REGISTERS[name] for name in names)
-
-
-def is_barrier(piece):
-    """Whether nothing changes places with a piece."""
-    return piece.is_mark or not goes_on(piece) or is_branch(piece) or is_call(piece) or piece.word == "fence"
 
 
 def runs(code):
     """The numbers of the pieces, in runs: a barrier alone, or what stands between two."""
     run = []
     for number, piece in enumerate(code):
-        if not is_barrier(piece):
+        if not piece.is_barrier:
             run.append(number)
             continue
         if run:
@@ -78,11 +30,11 @@ class Access:
 
     def __init__(self, index, op, version):
         self.index = index
-        self.offset, self.base = offset_and_base(op)
+        self.offset, self.base = op.offset, op.base
         self.end = self.offset + WIDTHS[op.word[1]]
         self.version = version
         self.stores = op.word in STORES
-        in_frame = not op.pointed and written(op) != "sp"
+        in_frame = not op.pointed and op.written != "sp"
         self.region = {"sp": "frame" if in_frame else "another", "zero": "data"}.get(self.base)
 
     def may_meet(self, other):
@@ -101,13 +53,13 @@ def needed_before(ops):
     needed, writers, readers, versions = [], {}, {}, {}
     accesses = deque()
     for index, op in enumerate(ops):
-        read, written_now = reads(op), writes(op)
+        read, written_now = op.reads, op.writes
         earlier = {writers[name] for name in read | written_now if name in writers}
         earlier.update(reader for name in written_now for reader in readers.get(name, ()))
-        if is_access(op):
+        if op.is_access:
             while accesses and index - accesses[0].index >= WINDOW:
                 accesses.popleft()
-            access = Access(index, op, versions.get(offset_and_base(op)[1], 0))
+            access = Access(index, op, versions.get(op.base, 0))
             earlier.update(other.index for other in accesses if access.may_meet(other))
             accesses.append(access)
         for name in read:

@@ -4,10 +4,8 @@ Where a run of a loop's pieces makes a base by sums of such registers, each step
 data register that is set to the base before the loop can take these steps."""
 from dataclasses import dataclass
 
-from suygapid.passes.control import goes_on, is_branch
-from suygapid.passes.dependences import reads, writes
-from suygapid.passes.instructions import written
-from suygapid.passes.typed import ADDRESSES, masked_base, step_of
+from suygapid.passes.facts import ADDRESSES
+from suygapid.passes.typed import step_of
 
 SUMS = ("add", "addi", "mv", "sub", "slli")
 
@@ -23,16 +21,16 @@ class Derived:
 
     def temporary(self):
         """The registers that the instructions write."""
-        return frozenset(written(op) for op in self.made)
+        return frozenset(op.written for op in self.made)
 
 
 def ends_run(piece):
-    return piece.is_mark or is_branch(piece) or not goes_on(piece)
+    return piece.is_mark or piece.is_branch or not piece.goes_on
 
 
 def stepped_registers(body):
     """The registers that a loop's pieces write by steps alone."""
-    return set(map(written, body)) - {written(piece) for piece in body if step_of(piece, written(piece)) is None}
+    return {piece.written for piece in body} - {piece.written for piece in body if step_of(piece, piece.written) is None}
 
 
 def makers(body, index, base):
@@ -42,11 +40,11 @@ def makers(body, index, base):
         piece = body[place]
         if ends_run(piece):
             break
-        if written(piece) in wanted - given:
+        if piece.written in wanted - given:
             if piece.word not in SUMS:
                 return [], set()
             found.insert(0, place)
-            wanted = wanted - writes(piece) | reads(piece)
+            wanted = wanted - piece.writes | piece.reads
     return found, wanted
 
 
@@ -59,7 +57,7 @@ def factors(made):
         found = {name: factor * count for name, count in first.items()}
         for name, count in (second[0] if second else {}).items():
             found[name] = found.get(name, 0) + (-count if op.word == "sub" else count)
-        known[written(op)] = found
+        known[op.written] = found
     return found
 
 
@@ -68,7 +66,7 @@ def moves(body, factor, room):
     step moves the sum farther than there is room."""
     found = {}
     for index, piece in enumerate(body):
-        for name in writes(piece) & factor.keys():
+        for name in piece.writes & factor.keys():
             step = step_of(piece, name)
             if step is None or abs(step * factor[name]) > room:
                 return None
@@ -83,18 +81,18 @@ def accesses_from(body, index, base, factor):
         piece = body[place]
         if ends_run(piece):
             break
-        if masked_base(piece) == base:
+        if piece.masked_base == base:
             found.append(place)
-        if writes(piece) & {base, *factor}:
+        if piece.writes & {base, *factor}:
             break
     return found
 
 
 def derived(body, index, room):
     """The base of an access as sums make it; None where none do, or where it doesn't move by steps."""
-    base = masked_base(body[index])
+    base = body[index].masked_base
     places, registers = makers(body, index, base)
-    if not places or registers & set(ADDRESSES) or any(registers & writes(body[place]) for place in range(places[0], index)):
+    if not places or registers & set(ADDRESSES) or any(registers & body[place].writes for place in range(places[0], index)):
         return None
     made = [body[place] for place in places]
     factor = factors(made)

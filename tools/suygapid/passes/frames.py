@@ -1,6 +1,5 @@
 """How far a function moves the stack pointer down in one go: its frame, but for what it takes later and by a count that
 only the run knows."""
-from suygapid.passes.instructions import written
 from suygapid.passes.sizes import signed
 
 
@@ -12,7 +11,7 @@ class Frame:
         self.depth = self.deepest = 0
 
     def take(self, op):
-        target = written(op)
+        target = op.written
         if target == "sp":
             moved = self.moved(op)
             self.depth = self.depth - moved if moved is not None else 0

@@ -29,12 +29,11 @@ def parts_of(code):
 
 def targets(part):
     """The names to which the instructions of a part may lead."""
-    return {piece.operands[-1] for piece in part if not piece.is_mark and piece.operands}
+    return {piece.operands[-1] for piece in part if piece.operands}
 
 
 def functions(code):
-    parts = list(parts_of(code))
-    leading = Counter(name for part in parts for name in targets(part))
-    for part in parts:
-        own = targets(part)
+    parts = [(part, targets(part)) for part in parts_of(code)]
+    leading = Counter(name for _, own in parts for name in own)
+    for part, own in parts:
         yield Function(part, {name for name in labels_of(part) if leading[name] > (name in own)})

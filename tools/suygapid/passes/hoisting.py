@@ -15,17 +15,18 @@ an access. Data registers that compilers leave alone hold nothing across calls, 
 from dataclasses import dataclass, field
 from itertools import islice
 
-from suygapid.passes.control import successors
-from suygapid.passes.dependences import bits, reads, runs, values, writes
+from suygapid.passes.control import Blocks
+from suygapid.passes.dependences import runs
 from suygapid.passes.deriving import derived
+from suygapid.passes.facts import bits
 from suygapid.passes.functions import functions
-from suygapid.passes.instructions import Op, is_access, offset_and_base
+from suygapid.passes.instructions import Op
 from suygapid.passes.liveness import Liveness
 from suygapid.passes.looping import Code, Placing
 from suygapid.passes.loops import loops_of
 from suygapid.passes.raising import Ways
 from suygapid.passes.stepping import costly_steps, stepped
-from suygapid.passes.typed import MASKS, is_on, largest_step, masked_base, on_base, renamed, set_to, step_of, uses
+from suygapid.passes.typed import MASKS, is_on, on_base, renamed, set_to, step_of, uses
 
 FAR = float("inf")
 
@@ -42,14 +43,14 @@ class Plan:
 
 def on_register(piece, register):
     """An access on another base."""
-    return on_base(piece, register, offset_and_base(piece)[0])
+    return on_base(piece, register, piece.offset)
 
 
 def reads_value(piece, base):
     """Whether a piece reads a base other than to access it and to step it."""
     if step_of(piece, base) is not None:
         return False
-    return base in (values(piece) if is_access(piece) else reads(piece))
+    return base in (piece.values if piece.is_access else piece.reads)
 
 
 def distances(loop, base, room, first):
@@ -123,9 +124,9 @@ class Hoister:
 
     def plans(self, loop, register):
         """The ways to have a base in a data register, or None for a way that isn't right."""
-        bases = {index: base for index, piece in enumerate(loop.body) if (base := masked_base(piece))}
+        bases = {index: base for index, piece in enumerate(loop.body) if (base := piece.masked_base)}
         for base in sorted(set(bases.values())):
-            changing = [step_of(piece, base) for piece in loop.body if base in writes(piece)]
+            changing = [step_of(piece, base) for piece in loop.body if base in piece.writes]
             if not changing:
                 yield self.with_constant(loop, base, register)
             elif all(abs(step or FAR) <= self.room for step in changing):
@@ -138,7 +139,7 @@ class Hoister:
         return MASKS * sum(loop.weights[index] for index in accesses) - (len(before) - 1 + MASKS) * loop.outside
 
     def with_constant(self, loop, base, register):
-        changes = {index: [on_register(piece, register)] for index, piece in enumerate(loop.body) if masked_base(piece) == base}
+        changes = {index: [on_register(piece, register)] for index, piece in enumerate(loop.body) if piece.masked_base == base}
         before = [set_to(register, base)]
         return Plan(changes, before, self.spared(loop, changes, before))
 
@@ -174,8 +175,9 @@ class Hoister:
             if self.code.alive_out(loop, index, target) & bits((base,)))
 
 
-def with_hoisted_masks(code, names, registers):
-    alive, room, out = iter(Liveness(code, successors(code)).before), largest_step(code), []
+def with_hoisted_masks(code, names, registers, room):
+    """The code with masks before loops, in these data registers; `room` is the largest step."""
+    alive, out = iter(Liveness(Blocks(code)).before), []
     for function in functions(code):
         part = Code(function.code, list(islice(alive, len(function.code))))
         out += Hoister(part, function.outer, names, registers, room).hoisted()

@@ -1,8 +1,10 @@
 """The passes that make the code cheaper, in the order in which they run. The code does the same without them: each keeps calls
 and jumps in their order, what is stored where, and the registers that are read later. tools/sfi-validate looks at that."""
-from suygapid.passes.control import successors
+from typing import NamedTuple
+
+from suygapid.passes.control import Blocks
+from suygapid.passes.facts import DATA
 from suygapid.passes.hoisting import with_hoisted_masks
-from suygapid.passes.instructions import written
 from suygapid.passes.known import with_known_places
 from suygapid.passes.liveness import without_unread
 from suygapid.passes.packing import packed, shortened
@@ -14,18 +16,24 @@ from suygapid.passes.repeating import without_repeated_masks
 from suygapid.passes.sharing import with_shared_masks
 from suygapid.passes.stepping import with_steps
 from suygapid.passes.targeting import with_targets
-from suygapid.passes.typed import DATA, WORDS, free_addresses, with_plain_jumps
+from suygapid.passes.typed import WORDS, with_plain_jumps
 
 PASSES = ("known", "pointing", "packing", "hoisting", "sharing", "targeting", "stepping", "pairing")
 
 
-def improved(code, passes, image_format, small, names, slack):
-    """The code after the passes that are named and that the format has. In bundles each branch reaches its label with some
+class Whole(NamedTuple):
+    """What the passes have to know of the whole file: the data registers that nothing names, and the largest step."""
+    registers: tuple
+    room: int
+
+
+def improved(code, passes, image_format, small, names, slack, whole):
+    """A part of a file's code after the passes that are named and that the format has. In bundles each branch reaches its label with some
     bytes to spare; `as` makes far branches of code in words."""
     if "known" in passes and small.labels:
         code = with_known_places(code, small, small.farthest)
     if image_format == WORDS:
-        return improved_words(code, passes, names)
+        return improved_words(code, passes, names, whole)
     if "pointing" in passes and image_format == 2:
         code = with_pointing(code, names)
     if "packing" in passes:
@@ -33,19 +41,18 @@ def improved(code, passes, image_format, small, names, slack):
     return with_near_branches(code, names, (image_format,), slack)
 
 
-def improved_words(code, passes, names):
+def improved_words(code, passes, names, whole):
     """Code in words after its own passes."""
     code = with_plain_jumps(code)
-    registers = free_addresses(code)
     if "hoisting" in passes:
-        code = with_hoisted_masks(code, names, registers)
-        code = without_unread(code, successors(code))
+        code = with_hoisted_masks(code, names, *whole)
+        code = without_unread(Blocks(code))
     if "sharing" in passes:
-        code = with_shared_masks(code, registers)
+        code = with_shared_masks(code, whole.registers)
     if "targeting" in passes:
         code = with_targets(code)
     if "stepping" in passes:
-        code = with_raised_steps(with_steps(code), registers)
-    code = [piece if piece.is_mark or written(piece) in DATA else shortened(piece) for piece in code]
+        code = with_raised_steps(with_steps(code), whole.registers)
+    code = [piece if piece.is_mark or piece.written in DATA else shortened(piece) for piece in code]
     code = with_pairs(code) if "pairing" in passes else code
     return without_repeated_masks(code) if "sharing" in passes else code

@@ -1,8 +1,7 @@
 """GNU assembly of code in bundles of 16 bytes, the first two formats: what each instruction becomes. docs/SOURCE.md has the
 table. `as` keeps the bundles: `.p2align 4,,N-1` before a group of N bytes pads where the group would cross a bundle's end,
 and `.fill` before a call makes it end its bundle. How many nops that takes is the affair of the pass `packing`."""
-from suygapid.passes.control import is_call
-from suygapid.passes.instructions import NEAR, RELATIVE, Op, is_access, offset_and_base, written
+from suygapid.passes.instructions import NEAR, RELATIVE, Op
 from suygapid.passes.shown import MOVES
 from suygapid.passes.sizes import number_parts
 from suygapid.passes.spelling import plain, short
@@ -34,16 +33,16 @@ class Frame:
 class InBundles(Writer):
     """In the second format `sp` is a stack pointer, on which accesses need no masks."""
     alignment = 4
-    count = 0
+    count = 0  # the section's number
 
     def __init__(self, *all_of_it):
         super().__init__(*all_of_it)
         self.has_stack = self.format == 2
         self.frame, self.keeper = Frame(), None
 
-    def begin_section(self):
-        self.count += 1
-        self.out.append(f".Lsfi_begin{self.count}:")
+    def begin_section(self, number):
+        self.count = number
+        self.out.append(f".Lsfi_begin{number}:")
 
     def label(self, name):
         self.out.append("\t.p2align 4")
@@ -87,7 +86,7 @@ class InBundles(Writer):
         elif word == "call":
             self.call(operands[0])
         elif word == "jal":
-            self.group(plain(op), ends=is_call(op))
+            self.group(plain(op), ends=op.is_call)
         elif word == "la":
             self.address(op)
         elif word == "li":
@@ -120,9 +119,9 @@ class InBundles(Writer):
         self.group(f"addi {register}, {register}, %lo({text})")
 
     def one(self, op):
-        name = written(op)
-        offset, base = offset_and_base(op) if is_access(op) else (0, None)
-        if is_access(op) and not (self.has_stack and base == "sp"):
+        name = op.written
+        offset, base = (op.offset, op.base) if op.is_access else (0, None)
+        if op.is_access and not (self.has_stack and base == "sp"):
             self.access(op)
         elif self.small.holds(offset):
             self.group(f"{op.word} {op.operands[0]}, {self.small.text(offset)}({base})")
@@ -135,16 +134,16 @@ class InBundles(Writer):
         return MASKS_OF_STACK if self.has_stack and name == "sp" else []
 
     def access(self, op):
-        offset, base = offset_and_base(op)
+        offset, base = op.offset, op.base
         masks = [text.format(base) for text in MASKS_OF_ACCESS]
         self.group(*masks, f"{op.word} {op.operands[0]}, {self.small.text(offset)}(x31)")
 
     def jump(self, op):
-        offset, base = offset_and_base(op) if op.word == "jalr" else (0, "ra" if op.word == "ret" else op.operands[0])
+        offset, base = (op.offset, op.base) if op.word == "jalr" else (0, "ra" if op.word == "ret" else op.operands[0])
         link = op.operands[0] if op.word == "jalr" else "zero"
         sums = [f"addi x31, {base}, {offset}"] if offset else []
         masks = [text.format("x31" if offset else base) for text in MASKS_OF_JUMP]
-        self.group(*sums, *masks, f"jalr {link}, 0(x31)", ends=is_call(op))
+        self.group(*sums, *masks, f"jalr {link}, 0(x31)", ends=op.is_call)
 
     def call(self, name):
         if not self.is_weak(name):

@@ -1,8 +1,9 @@
 """GNU assembly of code in words, the third format: what each instruction becomes. docs/SOURCE.md has the table."""
-from suygapid.passes.instructions import LOADS, RELATIVE, Op, is_access, offset_and_base, written
+from suygapid.passes.facts import DATA, LOADS
+from suygapid.passes.instructions import RELATIVE, Op
 from suygapid.passes.sizes import number_parts
 from suygapid.passes.spelling import plain, short
-from suygapid.passes.typed import DATA, is_free_step, is_move, masked_base
+from suygapid.passes.typed import is_free_step, is_move
 from suygapid.passes.writer import NORVC, RVC, Writer
 
 MASKS_AFTER = ["and x31, {0}, x27", "or {0}, x31, x26"]  # keep a data register in the data region
@@ -25,36 +26,46 @@ class InWords(Writer):
     def __init__(self, *all_of_it):
         super().__init__(*all_of_it)
         self.half = None  # a 16-bit form that waits for another: where its line is, and both spellings
+        self.known, self.made = {}, []  # what becomes of instructions, as `write` takes it; and what becomes of this one
 
     # Sizes.
 
-    def short(self, in_half, in_word):
-        if self.half is None:
-            self.out.append("\t" + in_word)
+    def write(self, in_half, *texts):
+        """Writes one form of 16 bits that may be, or what has 32 bits."""
+        if in_half is None:
+            self.end_word()
+            self.out += texts
+        elif self.half is None:
+            self.out += texts
             self.half = len(self.out) - 1, in_half
-            return
-        at, first = self.half
-        self.out[at] = f"{RVC}\n\t{first}"
-        self.out += ["\t" + in_half, NORVC]
-        self.half = None
+        else:
+            at, first = self.half
+            self.out[at] = f"{RVC}\n\t{first}"
+            self.out += ["\t" + in_half, NORVC]
+            self.half = None
 
     def end_word(self):
         self.half = None
 
     def wide(self, *texts):
-        self.end_word()
-        self.out += ["\t" + text for text in texts]
+        self.made.append((None, *("\t" + text for text in texts)))
 
     def itself(self, op):
-        in_half = short(op)
-        if in_half is None:
-            self.wide(plain(op))
-        else:
-            self.short(in_half, plain(op))
+        self.made.append((short(op), "\t" + plain(op)))
 
     # Instructions.
 
     def piece(self, op, following):
+        beside = following and op.written in DATA and (following.word, following.operands)
+        key = op.word, op.operands, op.wide, op.address, beside
+        if key not in self.known:
+            self.make(op, following)
+            self.known[key], self.made = self.made, []
+        for written in self.known[key]:
+            self.write(*written)
+
+    def make(self, op, following):
+        """What becomes of an instruction, before the piece that follows it."""
         word = op.word
         if word in ("ret", "jr", "jalr"):
             self.jump(op)
@@ -86,7 +97,7 @@ class InWords(Writer):
 
     def jump(self, op):
         if op.word == "jalr":
-            link, base = op.operands[0], offset_and_base(op)[1]
+            link, base = op.operands[0], op.base
         else:
             link, base = "zero", "ra" if op.word == "ret" else op.operands[0]
         self.wide(*(text.format(base) for text in MASKS_OF_JUMP), f"jalr {link}, 0(x30)")
@@ -100,14 +111,14 @@ class InWords(Writer):
 
     def one(self, op, following):
         """An instruction that is one of the machine's, but for masks."""
-        name = written(op)
+        name = op.written
         if needs_no_masks(op, following):
             self.itself(op)
         elif is_move(op):
             self.wide(*(text.format(name, self.source(op)) for text in MASKS_OF_MOVE))
-        elif masked_base(op):
-            self.access(op, [text.format(masked_base(op)) for text in MASKS_BEFORE], "x29")
-        elif is_access(op) and offset_and_base(op)[1] == "zero":
+        elif op.masked_base:
+            self.access(op, [text.format(op.masked_base) for text in MASKS_BEFORE], "x29")
+        elif op.is_access and op.base == "zero":
             self.access(op, [], "x26")
         else:
             self.itself(op)
@@ -121,6 +132,6 @@ class InWords(Writer):
         return op.operands[2] if op.word == "add" else op.operands[1]
 
     def access(self, op, before, base):
-        offset = self.small.text(offset_and_base(op)[0])
+        offset = self.small.text(op.offset)
         self.wide(*before, f"{op.word} {op.operands[0]}, {offset}({base})")
-        self.mask(written(op))
+        self.mask(op.written)

@@ -1,56 +1,43 @@
 """Turns one instruction of the compiler's assembly into the instructions that the passes work on."""
-from dataclasses import dataclass
-from functools import lru_cache
-
 from suygapid.passes.assembly import Refused, Statement
-from suygapid.passes.operands import (MEMORY, PART, Symbol, is_register, is_stack_pointer, is_symbol, lower, number, number_or_none,
-                      register, symbol, upper)
+from suygapid.passes.facts import LOADS, SHAPES, STORES, Facts, facts_of
+from suygapid.passes.operands import (
+    MEMORY, PART, is_register, is_stack_pointer, is_symbol, lower, number, number_or_none, register, symbol, upper)
 
 
 RELATIVE = "relative"  # to the base of a region, which the linker's step chooses (elf/moving.py)
 NEAR = "near"  # to the data base, by the number in one `addi`
 
 
-@dataclass(frozen=True)
 class Op:
-    """An instruction of the source language. Its operands are texts, and symbols where a name stands."""
-    word: str
-    operands: tuple
-    place: object
-    wide: bool = False  # it has 32 bits, also where it has a 16-bit form
-    pointed: bool = False  # it is an access on `sp` that points elsewhere than to the stack
-    address: str = ""  # of `la` in a program that can be moved, the way to the address: RELATIVE or NEAR
+    """An instruction of the source language. Its operands are texts. It has what its word and operands tell of it (`Facts`)."""
+    __slots__ = ("word", "operands", "place", "wide", "pointed", "address", "there", *Facts._fields)
     is_mark = False
 
-    def symbols(self):
-        return [operand for operand in self.operands if isinstance(operand, Symbol)]
+    def __init__(self, word, operands, place, wide=False, pointed=False, address=""):
+        self.word, self.operands, self.place = word, operands, place
+        self.wide = wide  # it has 32 bits, also where it has a 16-bit form
+        self.pointed = pointed  # it is an access on `sp` that points elsewhere than to the stack
+        self.address = address  # of `la` in a program that can be moved, the way to the address: RELATIVE or NEAR
+        self.there = None  # where it leads to another part (`parts`), the registers that may be read there, as bits
+        (self.written, self.values, self.reads, self.writes, self.read_bits, self.written_bits, self.needs, self.has_effect,
+         self.is_access, self.offset, self.base, self.masked_base, self.step, self.is_branch, self.is_call, self.is_jump,
+         self.is_goto, self.goes_on, self.is_barrier) = facts_of(word, operands)
+
+    def key(self):
+        return self.word, self.operands, self.place, self.wide, self.pointed, self.address
+
+    def __eq__(self, other):
+        return isinstance(other, Op) and self.key() == other.key()
+
+    def __repr__(self):
+        return f"Op{self.key()}"
 
 
-def words(shape, text):
-    return dict.fromkeys(text.split(), shape)
+def replace(op, **changes):
+    """An instruction with some of its attributes changed."""
+    return Op(*(changes.get(name, value) for name, value in zip(Op.__slots__, op.key())))
 
-
-# The operands of each instruction: Register, Immediate of 12 bits, Shift amount, Memory, Jump's target, Upper part,
-# Number of 32 bits, Address of a symbol.
-SHAPES = {
-    **words("RRR", "add sub sll slt sltu xor srl sra or and mul mulh mulhsu mulhu div divu rem remu"),
-    **words("RRI", "addi slti sltiu xori ori andi"),
-    **words("RRS", "slli srli srai"),
-    **words("RM", "lb lh lw lbu lhu sb sh sw jalr"),
-    **words("RRJ", "beq bne blt bge bltu bgeu"),
-    **words("RJ", "beqz bnez jal"),
-    **words("J", "j call"),
-    **words("R", "jr"),
-    **words("RR", "mv"),
-    **words("", "nop ret ebreak"),
-    "lui": "RU", "li": "RN", "la": "RA",
-}
-LOADS = ("lb", "lh", "lw", "lbu", "lhu")
-STORES = ("sb", "sh", "sw")
-ACCESSES = frozenset(LOADS + STORES)
-# Those that write their first operand.
-WRITING = frozenset(word for word, shape in SHAPES.items()
-                    if shape[:1] == "R" and "J" not in shape and word not in STORES + ("jr",)) | {"jal"}
 
 # The assembler takes these with a number as the last operand, too.
 WITH_NUMBER = {"add": "addi", "slt": "slti", "sltu": "sltiu", "xor": "xori", "or": "ori", "and": "andi",
@@ -115,6 +102,8 @@ class Converter:
         """The instructions of the source language that do what this one does."""
         if statement.word in ("fence", "fence.tso"):
             return [Op("fence", (), statement.place)]
+        if SHAPES.get(statement.word) in ("RRR", "RR") and all(map(is_register, statement.operands)):
+            return [self.plain(statement)]
         rewritten = self.rewritten(statement)
         if rewritten is not None:
             return [op for other in rewritten for op in self.convert(other)]
@@ -230,7 +219,7 @@ class Converter:
         shape = SHAPES[statement.word]
         if len(shape) != len(statement.operands):
             raise Refused(statement.place, f"{statement.word} has {len(shape)} operands")
-        operands = tuple(OPERANDS[kind](text, statement.place) for kind, text in zip(shape, statement.operands))
+        operands = tuple(str(OPERANDS[kind](text, statement.place)) for kind, text in zip(shape, statement.operands))
         return Op(statement.word, operands, statement.place)
 
 
@@ -271,26 +260,3 @@ OPERANDS = {
     "N": ranged(-2 ** 31, 2 ** 32 - 1),
     "A": address,
 }
-
-
-@lru_cache(maxsize=None)
-def memory_parts(text):
-    """The offset and the base register of a memory operand such as `4(a0)`."""
-    match = MEMORY.fullmatch(text)
-    return int(match.group(1)), match.group(2)
-
-
-def offset_and_base(op):
-    """The offset and the base register of a load, a store or a `jalr`."""
-    return memory_parts(op.operands[1])
-
-
-def is_access(op):
-    return op.word in ACCESSES
-
-
-def written(op):
-    """The register that an instruction writes, or None."""
-    if op.word in WRITING:
-        return op.operands[0]
-    return "ra" if op.word == "call" else None

@@ -3,10 +3,9 @@
 A masked `zero` is the region's first address, so a load or store at `N(zero)` reaches the
 region's byte N, up to 2047, and needs no address in a register. A `la` whose address nothing
 reads after that is left out."""
-from dataclasses import replace
 
-from suygapid.passes.control import Blocks, is_call
-from suygapid.passes.instructions import is_access, offset_and_base, written
+from suygapid.passes.control import Blocks
+from suygapid.passes.instructions import replace
 from suygapid.passes.liveness import without_unread
 
 FARTHEST = 2047
@@ -23,11 +22,11 @@ class Known:
 
     def take(self, op, known):
         """Changes what is known by an instruction."""
-        if is_call(op):
+        if op.is_call:
             for name in known.keys() - KEPT_BY_CALLS:
                 del known[name]
             return
-        target, offset = written(op), self.offset_of(op, known)
+        target, offset = op.written, self.offset_of(op, known)
         known.pop(target, None)
         if offset is not None:
             known[target] = offset
@@ -68,9 +67,9 @@ def known_at_starts(code, blocks, following):
 def direct(op, known, farthest):
     """An access to a known place, without a base. The second format takes a load of the stack
     pointer on `sp` alone."""
-    if not known or not is_access(op) or written(op) == "sp":
+    if not known or not op.is_access or op.written == "sp":
         return op
-    offset, base = offset_and_base(op)
+    offset, base = op.offset, op.base
     if base not in known or not 0 <= known[base] + offset <= farthest:
         return op
     return replace(op, operands=(op.operands[0], f"{known[base] + offset}(zero)"))
@@ -86,4 +85,4 @@ def with_known_places(code, small, farthest=FARTHEST):
             out.append(piece if piece.is_mark else direct(piece, known, farthest))
             if not piece.is_mark:
                 following.take(piece, known)
-    return without_unread(out, blocks.successors)
+    return without_unread(blocks.changed(out))

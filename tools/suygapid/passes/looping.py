@@ -1,12 +1,9 @@
 """Puts what a loop becomes in its place in a function's code: its pieces, what stands before it, and what is done where it's
 left. Control enters the loop by what stands before it alone."""
-from dataclasses import replace
 
-from suygapid.passes.control import goes_on, is_jump, labels_of
-from suygapid.passes.dependences import bits
-from suygapid.passes.instructions import Op
-from suygapid.passes.liveness import EVERYTHING
-from suygapid.passes.loops import is_goto
+from suygapid.passes.control import labels_of
+from suygapid.passes.facts import EVERYTHING, bits
+from suygapid.passes.instructions import Op, replace
 from suygapid.passes.program import Mark
 
 ALL = bits(EVERYTHING)
@@ -37,7 +34,7 @@ class Code:
 
     def place_apart(self, loop):
         """A place that control reaches by jumps alone, after the loop if there is one; None if there is none."""
-        places = [number + 1 for number, piece in enumerate(self.pieces) if not goes_on(piece)]
+        places = [number + 1 for number, piece in enumerate(self.pieces) if not piece.goes_on]
         return next((place for place in places if place > loop.numbers[-1]), places[-1] if places else None)
 
 
@@ -102,16 +99,16 @@ class Placing:
         """The numbers of the pieces elsewhere that go to a loop's head."""
         inside = set(loop.numbers)
         return [number for number, piece in enumerate(self.code.pieces)
-                if is_goto(piece) and piece.operands[-1] == loop.name() and number not in inside]
+                if piece.is_goto and piece.operands[-1] == loop.name() and number not in inside]
 
     def follows_itself(self, loop):
         """Whether control goes on to a loop's head from the loop."""
         before = loop.numbers[loop.head] - 1
-        return before in loop.numbers and goes_on(self.code.pieces[before])
+        return before in loop.numbers and self.code.pieces[before].goes_on
 
     def is_entered_apart(self, loop, jumps):
         """Whether what goes before a loop can stand neither directly before its head nor before the only jump there."""
-        return self.follows_itself(loop) and not (len(jumps) == 1 and is_jump(self.code.pieces[jumps[0]]))
+        return self.follows_itself(loop) and not (len(jumps) == 1 and self.code.pieces[jumps[0]].is_jump)
 
     def set_apart(self, place, pieces, alive):
         self.apart.setdefault(place, []).extend((piece, alive) for piece in pieces)

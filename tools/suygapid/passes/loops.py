@@ -3,7 +3,7 @@ from collections import Counter
 from dataclasses import dataclass
 from itertools import accumulate
 
-from suygapid.passes.control import DEEPEST, LOOP, Blocks, goes_on, is_branch, is_call, is_jump
+from suygapid.passes.control import DEEPEST, LOOP, Blocks, leads_back
 
 
 @dataclass
@@ -37,23 +37,20 @@ class Loop:
         it goes on to what stands after that piece."""
         labels = {piece.name for piece in self.body if piece.is_mark}
         for index, piece in enumerate(self.body):
-            if is_goto(piece) and piece.operands[-1] not in labels:
+            if piece.is_goto and piece.operands[-1] not in labels:
                 yield index, piece.operands[-1]
-            if goes_on(piece) and self.numbers[index + 1:index + 2] != [self.numbers[index] + 1]:
+            if piece.goes_on and self.numbers[index + 1:index + 2] != [self.numbers[index] + 1]:
                 yield index, None
 
 
-def is_goto(piece):
-    """Whether a piece is a branch or a jump to a name."""
-    return is_branch(piece) or is_jump(piece)
-
-
 def leaves_registers_alone(piece):
-    return not is_call(piece) and piece.word not in ("jr", "ret", "jalr", "fence")
+    return not piece.is_call and piece.word not in ("jr", "ret", "jalr", "fence")
 
 
 def loops_of(code, outer):
     """The loops, the inner ones first. `outer` has the labels to which other functions lead."""
+    if not leads_back(code):
+        return
     blocks = Blocks(code)
     found = blocks.loops()
     depths = Counter(block for inside in found.values() for block in inside)
@@ -67,7 +64,9 @@ def loops_of(code, outer):
 def loop_of(code, blocks, depths, head, inside):
     numbers = [number for block in sorted(inside) for number in range(blocks.starts[block], blocks.ends[block])]
     at = {number: index for index, number in enumerate(numbers)}
-    following = [[at[other] for other in blocks.successors[number] if other in at] for number in numbers]
+    following = [[index + 1] for index in range(len(numbers))]
+    for block in inside:
+        following[at[blocks.ends[block] - 1]] = [at[blocks.starts[other]] for other in blocks.following[block] if other in inside]
     weights = [LOOP ** min(depths[blocks.block_of[number]], DEEPEST) for number in numbers]
     outside = LOOP ** (min(depths[head], DEEPEST) - 1)
     return Loop(numbers, [code[number] for number in numbers], at[blocks.starts[head]], following, outside, weights)

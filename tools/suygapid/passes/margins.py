@@ -6,7 +6,6 @@ ends of the region, as much as the offsets of the program can bridge, and every 
 the region."""
 from dataclasses import dataclass
 
-from suygapid.passes.instructions import is_access, offset_and_base
 
 ALIGNMENT = 16
 
@@ -21,7 +20,7 @@ class Margins:
 def margins(ops, step=0):
     """The room that the loads and stores of a program need. The stack pointer always lies in the region. A pointer may lie
     one step beside such a base."""
-    offsets = [offset for op in ops if is_access(op) for offset, base in [offset_and_base(op)] if base != "sp"]
+    offsets = [op.offset for op in ops if op.is_access and op.base != "sp"]
     below, above = max([0, *offsets]), max([0, *(-offset for offset in offsets)])
     return Margins(rounded(below + step), rounded(above + step))
 

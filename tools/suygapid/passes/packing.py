@@ -12,13 +12,12 @@ bundle, and a call ends one. `as` fills what is left by nops, and they run. So t
 
 It goes through the code with the cheapest way to each place in the bundle. Steps in loops count
 more."""
-from dataclasses import replace
 from functools import lru_cache
 
-from suygapid.passes.control import goes_on, is_branch, is_call, labels_of, weights
+from suygapid.passes.control import labels_of, weights
 from suygapid.passes.dependences import runs
 from suygapid.passes.fitting import BUNDLE, NO_GAP, PLACES, STEP, Step, gap_between, steps_of
-from suygapid.passes.instructions import Op
+from suygapid.passes.instructions import Op, replace
 from suygapid.passes.ordering import COST, FIRST, MOVED, Order, bounds, choices_of, rank, ways_over
 from suygapid.passes.placement import inverted
 from suygapid.passes.program import Mark
@@ -65,7 +64,7 @@ class Packer:
                 ways = self.pass_label(ways, run[0], weight)
             else:
                 ways = self.pass_run(ways, run, weight)
-            reached = goes_on(last)
+            reached = last.goes_on
         return self.written(choices_of(min(ways.values(), key=rank)))
 
     def pass_label(self, ways, number, weight):
@@ -87,14 +86,14 @@ class Packer:
         """What it costs to invert the branch before a label: a jump where it went on to. None
         where there is none."""
         piece = self.code[number - 1] if number else None
-        if piece is None or piece.is_mark or not is_branch(piece) or piece.operands[-1] not in self.labels:
+        if piece is None or piece.is_mark or not piece.is_branch or piece.operands[-1] not in self.labels:
             return None
         return self.weights[self.labels[piece.operands[-1]]]
 
     def pass_run(self, ways, run, weight):
         """The cheapest ways to each place after a run."""
         ops = [self.code[number] for number in run]
-        kinds = [(expansions(op, self.format), is_call(op)) for op in ops]
+        kinds = [(expansions(op, self.format), op.is_call) for op in ops]
         tables = [table_of(*kind, weight) for kind in kinds]
         return ways_over(ways, run, Order(ops, kinds), tables, bounds_of(weight))
 

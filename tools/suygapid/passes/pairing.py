@@ -1,5 +1,7 @@
 """The order of instructions in code in words: a 16-bit form that would have a word alone takes 32 bits, so forms are put side
 by side where that changes no result. A step stays directly before the access beside which it needs no masks."""
+from functools import cached_property
+
 from suygapid.passes.dependences import WINDOW, needed_before, runs
 from suygapid.passes.typed import is_free_step
 from suygapid.passes.word_places import part_sizes
@@ -23,12 +25,15 @@ class Pairer:
 
     def __init__(self, ops):
         self.ops, self.units = ops, units_of(ops)
-        unit_of = {index: number for number, unit in enumerate(self.units) for index in unit}
-        needed = needed_before(ops)
-        self.needed = [{unit_of[other] for index in unit for other in needed[index]} - {number}
-                       for number, unit in enumerate(self.units)]
         following = [*ops[1:], None]
         self.sizes = [[size for index in unit for size in part_sizes(ops[index], following[index])] for unit in self.units]
+
+    @cached_property
+    def needed(self):
+        """For each unit those that have to stay before it."""
+        unit_of, needed = {index: number for number, unit in enumerate(self.units) for index in unit}, needed_before(self.ops)
+        return [{unit_of[other] for index in unit for other in needed[index]} - {number}
+                for number, unit in enumerate(self.units)]
 
     def paired(self):
         waiting, order, half = list(range(len(self.units))), {}, False

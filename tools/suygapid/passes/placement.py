@@ -2,10 +2,10 @@
 
 A branch reaches from 4096 bytes before it to 4094 after it. One that doesn't is inverted, over a
 jump."""
-from dataclasses import replace
 
-from suygapid.passes.control import INVERSE, is_branch, is_call, labels_of
-from suygapid.passes.instructions import Op
+from suygapid.passes.control import labels_of
+from suygapid.passes.facts import INVERSE
+from suygapid.passes.instructions import Op, replace
 from suygapid.passes.program import Mark
 from suygapid.passes.sizes import BUNDLE, expansions
 from suygapid.passes.typed import WORDS
@@ -27,7 +27,7 @@ def pass_op(op, place, image_format):
         size = sizes[0]
         if place % BUNDLE + size > BUNDLE:
             place = next_bundle(place)
-        if is_call(op):
+        if op.is_call:
             place = next_bundle(place + size) - size
         first = place if first is None else first
         place += size
@@ -59,7 +59,7 @@ def far_branches(code, formats=FORMATS, slack=0):
     for image_format in formats:
         place = places(code, image_format)
         for number, piece in enumerate(code):
-            target = None if piece.is_mark or not is_branch(piece) else at.get(piece.operands[-1])
+            target = None if piece.is_mark or not piece.is_branch else at.get(piece.operands[-1])
             if target is not None and not NEAREST + slack <= place[target] - place[number] <= FARTHEST - slack:
                 found.add(number)
     return found

@@ -15,14 +15,15 @@ sandbox has no signals. The register that keeps it isn't read after that before 
 again. And no caller counts on it: it is one that the function, wherever it's entered, writes by
 itself."""
 from collections import Counter
-from dataclasses import dataclass, replace
+from dataclasses import dataclass
 from operator import and_, or_
 
 from suygapid.passes.clusters import POINT, SPARED, base_of, best_clusters, on_stack_pointer, pointed, touches_stack
-from suygapid.passes.control import LOOP, Blocks, goes_on, is_branch, is_call, is_jump, labels_of, spread
-from suygapid.passes.dependences import bits, reads, runs, writes
-from suygapid.passes.instructions import Op, offset_and_base
-from suygapid.passes.liveness import EVERYTHING, Liveness
+from suygapid.passes.control import LOOP, Blocks, labels_of, spread
+from suygapid.passes.dependences import runs
+from suygapid.passes.facts import EVERYTHING, bits
+from suygapid.passes.instructions import Op, replace
+from suygapid.passes.liveness import Liveness
 from suygapid.passes.operands import REGISTERS
 from suygapid.passes.program import Mark
 
@@ -35,9 +36,9 @@ class Keepers:
 
     def __init__(self, code, blocks):
         self.code = code
-        self.liveness = Liveness(code, blocks.successors)
+        self.liveness = Liveness(blocks)
         self.blocks = blocks
-        self.touched = [0 if piece.is_mark else bits(reads(piece)) | bits(writes(piece)) for piece in code]
+        self.touched = [piece.read_bits | piece.written_bits for piece in code]
         self.owned = self.owned_by_blocks()
 
     def owned_by_blocks(self):
@@ -45,7 +46,7 @@ class Keepers:
         leads to the block. gcc's -fipa-ra lets a caller count on each other one."""
         written = [0] * len(self.blocks.starts)
         for block, piece in zip(self.blocks.block_of, self.code):
-            written[block] |= 0 if piece.is_mark else bits(writes(piece))
+            written[block] |= piece.written_bits
         ahead = spread(written, self.blocks.before, or_)
         owned = [bits(EVERYTHING) for _ in written]
         for entry in self.blocks.entries:
@@ -71,9 +72,9 @@ def put_back(keeper):
 
 def leaves_stack_alone(piece):
     """Whether a loop with this piece can have another `sp`."""
-    if piece.is_mark or is_branch(piece) or is_jump(piece):
+    if piece.is_mark or piece.is_branch or piece.is_jump:
         return True
-    return goes_on(piece) and not is_call(piece) and piece.word != "fence" and not touches_stack(piece)
+    return piece.goes_on and not piece.is_call and piece.word != "fence" and not touches_stack(piece)
 
 
 @dataclass
@@ -137,7 +138,7 @@ class Loops:
 
     def entering(self, piece):
         """A piece outside of the loops, which enters a loop by the label before it."""
-        if piece.is_mark or not (is_branch(piece) or is_jump(piece)) or piece.operands[-1] not in self.starts:
+        if not piece.is_goto or piece.operands[-1] not in self.starts:
             return piece
         return replace(piece, operands=(*piece.operands[:-1], self.starts[piece.operands[-1]]))
 
@@ -146,12 +147,12 @@ class Loops:
         before = [Mark(loop.start, True), keep(loop.keeper), *point]
         inside = labels_of(loop.body)
         body = [self.leaving(piece, loop, inside) for piece in loop.body]
-        return before + body + ([put_back(loop.keeper)] if goes_on(loop.body[-1]) else [])
+        return before + body + ([put_back(loop.keeper)] if loop.body[-1].goes_on else [])
 
     def leaving(self, piece, loop, inside):
         """A piece of a loop. Where it jumps out of the loop, it goes by a place that puts the
         stack pointer back."""
-        if piece.is_mark or not (is_branch(piece) or is_jump(piece)) or piece.operands[-1] in inside:
+        if not piece.is_goto or piece.operands[-1] in inside:
             return piece
         name = self.names.fresh("leave..1")
         jump = self.entering(Op("j", piece.operands[-1:], piece.place))
@@ -162,7 +163,7 @@ class Loops:
 def pointed_body(body):
     """What a loop becomes, what a turn of it gains, and the base that `sp` is set to before it,
     if to one alone."""
-    changed = set().union(*(writes(piece) for piece in body if not piece.is_mark))
+    changed = set().union(*(piece.writes for piece in body if not piece.is_mark))
     counts = Counter(base for base in map(base_of, body) if base not in (None, *changed))
     out, gain = [], 0
     for run in runs(body):
@@ -173,7 +174,7 @@ def pointed_body(body):
     base, count = max(counts.items(), key=lambda item: item[1], default=(None, 0))
     if SPARED * count < gain or not count:
         return out, gain, None
-    out = [on_stack_pointer(piece, offset_and_base(piece)[0]) if base_of(piece) == base else piece
+    out = [on_stack_pointer(piece, piece.offset) if base_of(piece) == base else piece
            for piece in body]
     return out, SPARED * count, base
 

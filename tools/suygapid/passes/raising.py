@@ -6,7 +6,6 @@ What stands between reads d after it's k more: the offsets of accesses and sums 
 from dataclasses import dataclass
 
 from suygapid.passes.control import predecessors, successors
-from suygapid.passes.dependences import reads, writes
 from suygapid.passes.functions import functions
 from suygapid.passes.stepping import costly_steps, less
 from suygapid.passes.typed import has_only_base, is_free_step, may_follow_step, step_of
@@ -42,7 +41,7 @@ class Ways:
             return None
         steps, accesses, between = found
         changes = {place: less(self.code[place], name, count) for place in accesses | between
-                   if name in reads(self.code[place])}
+                   if name in self.code[place].reads}
         if None in changes.values() or not all(self.may_take_step(place, changes[place], name) for place in accesses):
             return None
         changed = {place: [step] * (place in accesses) + [piece] for place, piece in changes.items()}
@@ -57,7 +56,7 @@ class Ways:
             between = self.between(accesses, steps, name, alive) if accesses else None
             if between is None:
                 return None
-            others = {place for place in between if name in writes(self.code[place])}
+            others = {place for place in between if name in self.code[place].writes}
             if not others:
                 ways = accesses | between
                 is_alone = all(other in ways for place in between | steps for other in self.before[place])
@@ -74,7 +73,7 @@ class Ways:
             if place in self.entries or not self.before[place]:
                 return None
             for other in self.before[place]:
-                if other in steps or name in writes(self.code[other]):
+                if other in steps or name in self.code[other].writes:
                     return None
                 if has_only_base(self.code[other], name):
                     found.add(other)
@@ -94,16 +93,16 @@ class Ways:
             if place in accesses or place in self.entries:
                 return None
             found.add(place)
-            waiting += [] if name in writes(self.code[place]) else self.following[place]
+            waiting += [] if name in self.code[place].writes else self.following[place]
         return found
 
     def alive(self, name):
         """The pieces before which a register holds what may be read."""
-        found = {number for number, piece in enumerate(self.code) if name in reads(piece)}
+        found = {number for number, piece in enumerate(self.code) if name in piece.reads}
         waiting = list(found)
         while waiting:
             for other in self.before[waiting.pop()]:
-                if other not in found and name not in writes(self.code[other]):
+                if other not in found and name not in self.code[other].writes:
                     found.add(other)
                     waiting.append(other)
         return found
@@ -114,26 +113,24 @@ class Ways:
         return may_follow_step(piece, name) and not (earlier and is_free_step(earlier, self.code[place]))
 
 
-def raised_apart(code, ways, registers, stay):
-    """Steps of some registers as they are raised, of which none changes the ways of another. Those that can't be are added to
-    the steps that stay, by identity."""
-    found = []
-    for number in costly_steps(code):
-        step = code[number]
-        if step.operands[0] in registers and id(step) not in stay:
-            raised = ways.raised(number)
-            if raised is None:
-                stay.add(id(step))
-            elif all(raised.is_apart(other) for other in found):
-                found.append(raised)
+def raised_apart(code, steps, function, stay):
+    """The steps of these numbers as they are raised, of which none changes the ways of another. Those that can't be are added
+    to the steps that stay, by identity."""
+    ways, found = Ways(code, successors(code), function.entries(code)), []
+    for number in steps:
+        raised = ways.raised(number)
+        if raised is None:
+            stay.add(id(code[number]))
+        elif all(raised.is_apart(other) for other in found):
+            found.append(raised)
     return found
 
 
 def raised_in(function, registers):
     """The code of a function with the steps of some registers raised, as far as that is possible."""
     code, stay = function.code, set()
-    while found := raised_apart(code, Ways(code, successors(code), function.entries(code)), registers, stay):
-        changes = {number: pieces for raised in found for number, pieces in raised.changes.items()}
+    while steps := [number for number in costly_steps(code) if code[number].written in registers and id(code[number]) not in stay]:
+        changes = {number: pieces for raised in raised_apart(code, steps, function, stay) for number, pieces in raised.changes.items()}
         code = [piece for number, old in enumerate(code) for piece in changes.get(number, [old])]
     return code
 

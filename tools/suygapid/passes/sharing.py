@@ -7,12 +7,13 @@ on that register. Accesses on what is a sum with the stack pointer are on the st
 
 A base that leads to an object lies in the data region (`margins`), so that the data register is equal to it at the access
 before which it's set, and the later accesses are at the same addresses as before."""
-from suygapid.passes.control import Blocks, is_call
-from suygapid.passes.dependences import bits, reads, writes
-from suygapid.passes.instructions import offset_and_base, written
+from typing import Optional
+
+from suygapid.passes.control import Blocks
+from suygapid.passes.facts import DATA
 from suygapid.passes.known import KEPT_BY_CALLS
 from suygapid.passes.operands import REGISTERS
-from suygapid.passes.typed import DATA, HIGHEST, LOWEST, masked_base, on_base, set_to, step_of
+from suygapid.passes.typed import HIGHEST, LOWEST, on_base, set_to, step_of
 
 
 ROUNDS = 8  # how often the code is gone through, before nothing is taken to be held at the beginning of a loop
@@ -40,8 +41,8 @@ class Held:
 
     def take(self, op):
         """Changes what is held by an instruction of the program."""
-        target = written(op)
-        if is_call(op):
+        target = op.written
+        if op.is_call:
             self.held = {"sp": {name: less for name, less in self.held["sp"].items() if name in KEPT_BY_CALLS}}
         elif target in DATA:
             step, others = step_of(op, target), self.held.get(target, {})
@@ -52,13 +53,17 @@ class Held:
     def take_sum(self, target, source, count):
         """The same where a register becomes the sum of another and a number, or of None."""
         for name, others in self.held.items():
-            less = -count if source == name else others[source] - count if source in others else None
-            others.pop(target, None)
-            if less is not None:
-                others[target] = less
+            if source == name or source in others:
+                others[target] = others.get(source, 0) - count
+            elif target in others:
+                del others[target]
 
     def __eq__(self, other):
         return self.items() == other.items()
+
+    def is_like(self, other):
+        """Whether all that is done by way of two is the same, also which of several data registers comes first."""
+        return self.held == other.held and list(self.held) == list(other.held)
 
     def items(self):
         return {(name, *pair) for name, others in self.held.items() for pair in others.items()}
@@ -72,68 +77,52 @@ def sum_of(op):
     """The register and the number of which an instruction is the sum, or None and 0."""
     if op.word == "mv":
         return op.operands[1], 0
-    if op.word == "add" and op.operands[1] == "zero":
-        return op.operands[2], 0
-    return (op.operands[1], int(op.operands[2])) if op.word == "addi" else (None, 0)
+    if op.word == "addi":
+        return op.operands[1], int(op.operands[2])
+    return (op.operands[2], 0) if op.word == "add" and op.operands[1] == "zero" else (None, 0)
 
 
-def before_pieces(code, needs, kills, out):
-    """What is wanted before each piece of some code, as bits, from what is wanted after it all."""
-    found = []
-    for piece in reversed(code):
-        out = out & ~kills(piece) | needs(piece)
-        found.append(out)
-    return found[::-1]
+EVERY = (1 << 32) - 1
 
 
-class Wanted:
-    """For each piece of the code the registers that are wanted after it: as bits, by what each piece needs and kills, over
-    all ways from a block to another but those in `cut`."""
+def wanted_after(blocks, needs, kills, cut=frozenset()):
+    """For each piece of the code the registers that are wanted after it: as bits, by what each piece needs and kills, over all
+    ways from a block to another but those in `cut`."""
+    ranges, own, kept = list(zip(blocks.starts, blocks.ends)), [], []
+    for start, end in ranges:
+        need, kill = 0, 0
+        for number in range(end - 1, start - 1, -1):
+            need = need & ~kills[number] | needs[number]
+            kill |= kills[number]
+        own.append(need)
+        kept.append(EVERY & ~kill)
+    found, waiting = list(own), list(range(len(own)))
+    while waiting:
+        block = waiting.pop()
+        for other in blocks.before[block]:
+            new = found[other] | found[block] & kept[other]
+            if new != found[other] and (other, block) not in cut:
+                found[other] = new
+                waiting.append(other)
+    after = []
+    for block in range(len(ranges) - 1, -1, -1):
+        out, (start, end) = 0, ranges[block]
+        for other in blocks.following[block]:
+            out |= 0 if (block, other) in cut else found[other]
+        for number in range(end - 1, start - 1, -1):
+            after.append(out)
+            out = out & ~kills[number] | needs[number]
+    return after[::-1]
 
-    def __init__(self, code, blocks, needs, kills, cut=frozenset()):
-        self.after = [0] * len(code)
-        ranges = list(zip(blocks.starts, blocks.ends))
-        bodies = [code[start:end] for start, end in ranges]
-        everything = (1 << 32) - 1
-        kept = [before_pieces(body, lambda _: 0, kills, everything)[0] for body in bodies]
-        own = [before_pieces(body, needs, kills, 0)[0] for body in bodies]
-        found, waiting = list(own), list(range(len(own)))
-        while waiting:
-            block = waiting.pop()
-            for other in blocks.before[block]:
-                new = found[other] | found[block] & kept[other]
-                if new != found[other] and (other, block) not in cut:
-                    found[other] = new
-                    waiting.append(other)
-        for block, (start, end) in enumerate(ranges):
-            out = 0
-            for other in blocks.following[block]:
-                out |= 0 if (block, other) in cut else found[other]
-            self.after[start:end] = [*before_pieces(bodies[block], needs, kills, out)[1:], out]
 
-
-def bit(name):
-    return 0 if name is None else 1 << REGISTERS[name]
-
-
-def accessed(piece):
-    return bit(masked_base(piece))
+BITS: dict[Optional[str], int] = {None: 0, **{name: 1 << number for name, number in REGISTERS.items()}}
 
 
 def forgotten(piece):
     """The registers of which a piece makes something else than a sum with a number; all for a call."""
-    if is_call(piece):
-        return (1 << 32) - 1
-    target = written(piece)
-    return 0 if target is None or step_of(piece, target) is not None else bits(writes(piece))
-
-
-def read_bits(piece):
-    return bits(reads(piece))
-
-
-def written_bits(piece):
-    return bits(writes(piece))
+    if piece.is_call:
+        return EVERY
+    return piece.written_bits if piece.step is None else 0
 
 
 class Sharer:
@@ -143,13 +132,14 @@ class Sharer:
         self.code, self.registers = code, registers
         self.blocks = Blocks(code)
         rank = {block: number for number, block in enumerate(self.blocks.order)}
-        self.empty = {block for block in rank if block in self.blocks.entries or not set(self.blocks.before[block]) <= set(rank)}
+        self.empty = {block for block in rank if block in self.blocks.entries or not rank.keys() >= set(self.blocks.before[block])}
         self.back = [(other, block) for block in rank if block not in self.empty
                      for other in self.blocks.before[block] if rank[other] >= rank[block]]
         into_empty = {(other, block) for block in self.empty for other in self.blocks.before[block]}
-        self.later = Wanted(code, self.blocks, accessed, forgotten, into_empty | set(self.back)).after
-        self.live = Wanted(code, self.blocks, read_bits, written_bits).after
+        self.later = wanted_after(self.blocks, [BITS[piece.masked_base] for piece in code], list(map(forgotten, code)), into_empty | set(self.back))
+        self.live = wanted_after(self.blocks, [piece.read_bits for piece in code], [piece.written_bits for piece in code])
         self.most = {}  # for the first block of a loop, the most that may be taken to be held there
+        self.done = {}  # by block, what was held before it the last time, its new code, and what was held after it
 
     def shared(self):
         """What is taken to be held at the first block of a loop has to be held where the loop leads back, too: as long as it
@@ -176,9 +166,11 @@ class Sharer:
         """By block the new code, what is held before it, and what is held after it."""
         found, before, ends = {}, {}, {}
         for block in self.blocks.order:
-            before[block] = self.held_before(block, ends)
-            ends[block] = Held(before[block].held)
-            found[block] = list(self.pass_block(block, ends[block]))
+            held = before[block] = self.held_before(block, ends)
+            if block not in self.done or not held.is_like(self.done[block][0]):
+                after = Held(held.held)
+                self.done[block] = held, list(self.pass_block(block, after)), after
+            _, found[block], ends[block] = self.done[block]
         return found, before, ends
 
     def held_before(self, block, ends):
@@ -188,34 +180,32 @@ class Sharer:
         held, *others = [ends[other] for other in self.blocks.before[block] if other in ends]
         for other in [*others, *([self.most[block]] if block in self.most else [])]:
             held = held.common(other)
-        return Held(held.held)
+        return held
 
     def pass_block(self, block, held):
-        for number in range(self.blocks.starts[block], self.blocks.ends[block]):
-            piece, found = self.code[number], None
-            if piece.word == "mv" and held.has(*piece.operands):
-                continue
-            base = masked_base(piece)
+        for number, piece in enumerate(self.blocks.bodies[block], self.blocks.starts[block]):
+            base, found = piece.masked_base, None
             if base:
-                offset = offset_and_base(piece)[0]
-                found = held.find(base, offset)
+                found = held.find(base, piece.offset)
                 register = None if found else self.register_for(number, base, held)
                 if register:
                     yield set_to(register, base)
                     held.set(register, base)
-                    found = register, offset
-            if not piece.is_mark:
+                    found = register, piece.offset
+            elif piece.word == "mv" and held.has(*piece.operands):
+                continue
+            if piece.written:
                 held.take(piece)
             yield on_base(piece, *found) if found else piece
 
     def register_for(self, number, base, held):
         """A data register for the base of an access, if the base is accessed later, too: one that holds nothing that is."""
         later = self.later[number]
-        if base in writes(self.code[number]) or not later & bit(base):
+        if base in self.code[number].writes or not later & BITS[base]:
             return None
         free = [name for name in self.registers if not self.is_live(number, name)]
         for name in free:
-            if not any(later & bit(other) for other in held.held.get(name, ())):
+            if not any(later & BITS[other] for other in held.held.get(name, ())):
                 return name
         return self.farthest(number, base, free, held)
 
@@ -228,11 +218,12 @@ class Sharer:
     def next_access(self, number, names):
         """The number of the next access on one of some bases in the block, or its end."""
         end = self.blocks.ends[self.blocks.block_of[number]]
-        return next((at for at in range(number + 1, end) if masked_base(self.code[at]) in names), end)
+        return next((at for at in range(number + 1, end) if self.code[at].masked_base in names), end)
 
     def is_live(self, number, name):
         """Whether a data register holds something before a piece that the code from there on reads."""
-        return bool((self.live[number] & ~written_bits(self.code[number]) | read_bits(self.code[number])) & bit(name))
+        piece = self.code[number]
+        return bool((self.live[number] & ~piece.written_bits | piece.read_bits) & BITS[name])
 
 
 def with_shared_masks(code, registers):

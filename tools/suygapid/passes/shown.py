@@ -8,8 +8,7 @@ from itertools import groupby
 from operator import or_
 
 from suygapid.passes.control import successors
-from suygapid.passes.dependences import bits, writes
-from suygapid.passes.typed import ADDRESSES
+from suygapid.passes.facts import ADDRESSES
 
 MOVES = ("mv", "add")  # what a pass adds of these is a move
 
@@ -22,10 +21,10 @@ def is_put_back(piece):
 def effect(piece, source):
     """The registers that a piece makes wrong, and those that it makes right, where it stands for one of the file, or for
     none."""
-    now = bits(writes(piece))
+    now = piece.written_bits
     if source is None:
         return (0, now) if is_put_back(piece) else (now, 0)
-    meant = bits(writes(source))
+    meant = source.written_bits
     return (0, now) if now == meant else (now | meant, 0)
 
 
@@ -36,7 +35,7 @@ def early(pieces, numbers, least):
         done = [] if piece.is_mark else [(other, written) for other, written in done if other >= first]
         yield reduce(or_, (written for _, written in done), 0)
         if number is not None and not piece.is_mark:
-            done.append((number, bits(writes(piece))))
+            done.append((number, piece.written_bits))
 
 
 def left_out(order, numbers, least):
@@ -45,7 +44,7 @@ def left_out(order, numbers, least):
     for first in least:
         found = 0
         while missing and missing[-1] < first:
-            found |= bits(writes(order.kept[missing.pop()]))
+            found |= order.kept[missing.pop()].written_bits
         yield found
 
 
@@ -67,7 +66,8 @@ class Shown:
     """What is wrong in a section, and where its labels stand."""
 
     def __init__(self, pieces, order):
-        least, numbers = order.least(pieces), [order.number(piece) for piece in pieces]
+        numbers = [order.number(piece) for piece in pieces]
+        least = order.least(numbers)
         effects = [effect(piece, None if number is None else order.kept[number]) for piece, number in zip(pieces, numbers)]
         flow = flowing(pieces, list(left_out(order, numbers, least)), effects)
         self.wrong = [one | other for one, other in zip(flow, early(pieces, numbers, least))]

@@ -5,10 +5,9 @@ An instruction becomes one or two expansions, each of which stands in one bundle
 one size, or two where the instruction has a 16-bit form: then `.option rvc` and `.option norvc`
 choose. Were a size wrong here, the code would run through more nops than it need, and would do the
 same."""
-from dataclasses import replace
 from functools import lru_cache
 
-from suygapid.passes.instructions import LOADS, NEAR, RELATIVE, STORES, Op, is_access, offset_and_base, written
+from suygapid.passes.instructions import NEAR, RELATIVE, Op, replace
 from suygapid.passes.operands import REGISTERS
 
 BUNDLE = 16
@@ -54,7 +53,7 @@ def has_short_sum(target, base, value):
 
 def has_short_access(op):
     """Whether a load or store on the stack pointer has a 16-bit form: c.lwsp or c.swsp."""
-    offset, base = offset_and_base(op)
+    offset, base = op.offset, op.base
     if op.word not in ("lw", "sw") or base != "sp" or op.word == "lw" and op.operands[0] == "zero":
         return False
     return 0 <= offset < 256 and offset % 4 == 0
@@ -63,14 +62,17 @@ def has_short_access(op):
 def has_short_form(op):
     """Whether an instruction that stays as it is has a 16-bit form. Branches and jumps to names
     have none."""
-    word = op.word
+    return has_short_access(op) if op.is_access else is_short(op.word, op.operands)
+
+
+@lru_cache(maxsize=None)
+def is_short(word, operands):
+    """The same of what is no access."""
     if word in ("nop", "ebreak"):
         return True
-    if word in LOADS + STORES:
-        return has_short_access(op)
     if word not in COMPUTING:
         return False
-    numbers = [REGISTERS[text] if text in REGISTERS else int(text) for text in op.operands]
+    numbers = [REGISTERS[text] if text in REGISTERS else int(text) for text in operands]
     if word == "mv":
         return has_short_sum(*numbers, 0)
     if word == "li":
@@ -110,13 +112,13 @@ def address_sizes(way, wide):
 def sizes_of(word, operands, wide, has_stack, way=""):
     """The same of a word with operands, in a format that has a stack pointer or one without."""
     op = Op(word, operands, None, wide)
-    if has_stack and written(op) == "sp":
+    if has_stack and op.written == "sp":
         parts = 2 if word == "la" else len(number_parts(op)) if word == "li" else 1
         return ((MASKED,),) * parts
-    if is_access(op) and not (has_stack and offset_and_base(op)[1] == "sp") or word in ("jr", "ret"):
+    if op.is_access and not (has_stack and op.base == "sp") or word in ("jr", "ret"):
         return ((MASKED,),)
     if word == "jalr":
-        return ((MASKED,),) if offset_and_base(op)[0] == 0 else ((MASKED + 4,),)
+        return ((MASKED,),) if op.offset == 0 else ((MASKED + 4,),)
     if word == "la":
         return address_sizes(way, wide)
     if word == "li" and number_parts(op) != [op]:

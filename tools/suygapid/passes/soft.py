@@ -1,6 +1,5 @@
 """Where soft items (unit.py) stand once the passes have moved pieces: an item is written as soon as all the pieces before it
 in the file have been."""
-from suygapid.passes.dependences import writes
 from suygapid.passes.program import Mark
 
 
@@ -22,7 +21,7 @@ def without_soft_labels(section, hard, taken):
 
 def is_of_stack(text, piece):
     """Whether an item says where the frame is after an instruction that moves the stack pointer."""
-    return text.startswith("\t.cfi_def_cfa") and piece is not None and "sp" in writes(piece)
+    return text.startswith("\t.cfi_def_cfa") and piece is not None and "sp" in piece.writes
 
 
 class Order:
@@ -52,11 +51,12 @@ class Order:
         is_way = piece.word == "j" and found is not None and self.kept[found].word != "j"  # to or from a loop
         return None if is_way else found
 
-    def least(self, pieces):
-        """For each piece the least number of it and of those after it: the items up to there come before it."""
+    @staticmethod
+    def least(numbers):
+        """For each piece of some with these numbers the least number of it and of those after it: the items up to there come
+        before it."""
         found, last = [], 0
-        for piece in pieces:
-            number = self.number(piece)
+        for number in numbers:
             last = last if number is None else number
             found.append(last)
         for index in range(len(found) - 2, -1, -1):

@@ -1,6 +1,5 @@
 """How an instruction is spelled for `as`. A 16-bit form gets its own name, `c.addi` and the like, so that a form that isn't
 there is the assembler's error; `.option norvc` holds wherever 32 bits are meant."""
-from suygapid.passes.instructions import offset_and_base, written
 from suygapid.passes.operands import REGISTERS
 from suygapid.passes.sizes import SHORT_REGISTERS, fits, has_short_form, signed
 
@@ -33,7 +32,7 @@ def short_sum(target, base, value):
 
 
 def short_access(op):
-    offset, base = offset_and_base(op)
+    offset, base = op.offset, op.base
     return f"c.{op.word}sp {op.operands[0]}, {offset}({base})"
 
 
@@ -49,7 +48,7 @@ def short(op):
     word, operands = op.word, op.operands
     if word in ("nop", "ebreak"):
         return "c." + word
-    if written(op) == "zero":
+    if op.written == "zero":
         return None  # a hint
     if word in ("lw", "sw"):
         return short_access(op)

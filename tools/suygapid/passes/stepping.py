@@ -2,11 +2,11 @@
 
 There `addi d, d, k` directly before an access on d that is in reach needs no masks. So a step is moved down to the next
 access on d, or up to the one before it, whose offset, and those of what stands between them, change by k."""
-from dataclasses import replace
 
-from suygapid.passes.dependences import reads, runs, writes
-from suygapid.passes.instructions import is_access, offset_and_base, written
-from suygapid.passes.typed import DATA, HIGHEST, LOWEST, has_only_base, is_free_step, may_follow_step, on_base, step_of, uses
+from suygapid.passes.dependences import runs
+from suygapid.passes.facts import DATA
+from suygapid.passes.instructions import replace
+from suygapid.passes.typed import HIGHEST, LOWEST, has_only_base, is_free_step, may_follow_step, on_base, step_of, uses
 
 
 def moved_down(ops, index, name):
@@ -25,9 +25,9 @@ def less(op, name, count):
     """An instruction that reads a data register as the base of an access or in a sum, after the register is so much more;
     None for another one."""
     if has_only_base(op, name):
-        offset = offset_and_base(op)[0] - count
+        offset = op.offset - count
         return on_base(op, name, offset) if LOWEST <= offset <= HIGHEST else None
-    if is_access(op) or name in writes(op) or op.word not in ("addi", "mv"):
+    if op.is_access or name in op.writes or op.word not in ("addi", "mv"):
         return None
     number = (int(op.operands[2]) if op.word == "addi" else 0) - count
     fits = LOWEST <= number <= HIGHEST
@@ -39,7 +39,7 @@ def moved_up(ops, index, name):
     between = []
     for place in range(index - 1, -1, -1):
         op = ops[place]
-        if name in reads(op) | writes(op):
+        if name in op.reads | op.writes:
             if place and is_free_step(ops[place - 1], op):
                 return None
             op = less(op, name, step_of(ops[index], name))
@@ -55,7 +55,8 @@ def stepped(ops):
     """A run of instructions with its steps beside accesses, as far as that is found."""
     seen = set()
     while True:
-        index = next((index for index, op in enumerate(ops) if id(op) not in seen and is_costly_step(ops, index)), None)
+        index = next((index for index, op in enumerate(ops)
+                      if op.step is not None and id(op) not in seen and is_costly_step(ops, index)), None)
         if index is None:
             return ops
         seen.add(id(ops[index]))
@@ -66,15 +67,14 @@ def stepped(ops):
 def is_costly_step(code, index):
     """Whether a piece is a step that gets masks."""
     piece = code[index]
-    name = written(piece)
-    if name not in DATA or step_of(piece, name) is None:
+    if piece.step is None or piece.written not in DATA:
         return False
     return not is_free_step(piece, code[index + 1] if index + 1 < len(code) else None)
 
 
 def costly_steps(code):
     """The numbers of the steps that get masks."""
-    return [index for index in range(len(code)) if is_costly_step(code, index)]
+    return [index for index, piece in enumerate(code) if piece.step is not None and is_costly_step(code, index)]
 
 
 def with_steps(code):

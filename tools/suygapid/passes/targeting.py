@@ -1,13 +1,12 @@
 """Bases that are computed in a data register, in code in words. Where `mv d, a` sets one to what an instruction before it in
 the same block has made, and nothing needs a beside d, that instruction writes d, and the move is left out. Where the move
 stands directly before an access on d, d is equal to a (`sharing`), and goes in its place where it's read."""
-from dataclasses import replace
 
-from suygapid.passes.control import Blocks, goes_on, is_call, is_jump
-from suygapid.passes.dependences import bits, reads, writes
-from suygapid.passes.instructions import written
+from suygapid.passes.control import Blocks
+from suygapid.passes.facts import DATA, bits
+from suygapid.passes.instructions import replace
 from suygapid.passes.liveness import Liveness
-from suygapid.passes.typed import DATA, is_on, renamed_reads, step_of, uses
+from suygapid.passes.typed import is_on, renamed_reads, step_of, uses
 
 IN_PARTS = ("la", "li")  # what may be two instructions, each with its masks
 
@@ -22,11 +21,11 @@ def maker(code, start, number):
     register, base = code[number].operands
     for earlier in range(number - 1, start - 1, -1):
         piece = code[earlier]
-        if piece.is_mark or is_call(piece) or uses(piece, register):
+        if piece.is_mark or piece.is_call or uses(piece, register):
             return None
-        if written(piece) == base:
+        if piece.written == base:
             return None if piece.word in IN_PARTS or step_of(piece, base) is not None else earlier
-        if base in reads(piece):
+        if base in piece.reads:
             return None
     return None
 
@@ -39,15 +38,15 @@ def with_other_reads(code, number, end, live):
     out = []
     for place in range(number + 1, end):
         piece = code[place]
-        if is_call(piece) or not goes_on(piece) and not is_jump(piece):
+        if piece.is_call or not piece.goes_on and not piece.is_jump:
             return None if live.before[place] & bit else out + code[place:end]
-        if base in reads(piece):
+        if base in piece.reads:
             if not is_equal:
                 return None
             piece = renamed_reads(piece, base, register)
         out.append(piece)
-        if base in writes(piece) or register in writes(piece):
-            is_needed = base not in writes(piece) and live.after[place] & bit
+        if base in piece.writes or register in piece.writes:
+            is_needed = base not in piece.writes and live.after[place] & bit
             return None if is_needed else out + code[place + 1:end]
     return None if live.after[end - 1] & bit else out
 
@@ -58,7 +57,7 @@ class Targeter:
     def __init__(self, code):
         self.code = list(code)
         self.blocks = Blocks(code)
-        self.live = Liveness(code, self.blocks.successors)
+        self.live = Liveness(self.blocks)
 
     def targeted(self):
         left_out = set()

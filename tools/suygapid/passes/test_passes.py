@@ -4,8 +4,9 @@ import unittest
 
 from suygapid.passes.assembly import read_assembly
 from suygapid.passes.clusters import best_clusters
-from suygapid.passes.control import Blocks, successors, weights
-from suygapid.passes.dependences import bits, needed_before, reads, values, writes
+from suygapid.passes.control import Blocks, weights
+from suygapid.passes.dependences import needed_before
+from suygapid.passes.facts import bits
 from suygapid.passes.instructions import Converter, Op
 from suygapid.passes.known import with_known_places
 from suygapid.passes.liveness import Liveness, without_unread
@@ -88,7 +89,7 @@ class Dependences(unittest.TestCase):
                 ("jalr t0,0(a5)", {"a5"}, {"t0"}), ("mv zero,a1", {"a1"}, set()), ("lui a0,1", set(), {"a0"})]
         for text, read, written in rows:
             [op] = code(text)
-            self.assertEqual((reads(op), writes(op)), (read, written), text)
+            self.assertEqual((op.reads, op.writes), (read, written), text)
 
     def test_values(self):
         """What an instruction reads other than as the base of an address."""
@@ -96,7 +97,7 @@ class Dependences(unittest.TestCase):
                 ("sw a0,4(sp)", {"a0"}), ("addi a0,sp,4", {"sp"}), ("jalr ra,0(a5)", set()), ("jr a5", {"a5"})]
         for text, wanted in rows:
             [op] = code(text)
-            self.assertEqual(values(op), wanted, text)
+            self.assertEqual(op.values, wanted, text)
 
     def test_order(self):
         rows = [  # two instructions, and whether the second has to stay after the first
@@ -139,12 +140,12 @@ class Liveness_(unittest.TestCase):
         """A call needs what the function reads, and gcc may count on a register that it doesn't
         write."""
         pieces = code("main: li t3,1; li a1,2; call f; mv a0,t3; ret; f: mv a0,a1; ret")
-        live = Liveness(pieces, successors(pieces))
+        live = Liveness(Blocks(pieces))
         self.assertEqual(live.before[3] & bits(("t3", "a1", "a2")), bits(("t3", "a1")))
 
     def test_unread(self):
         pieces = code("f: la a5,x; lw a4,0(zero); la a5,y; mv a0,a5; ret")
-        self.assertEqual(lines(without_unread(pieces, successors(pieces))), ["f:", "lw a4, 0(zero)", "la a5, y", "mv a0, a5", "ret"])
+        self.assertEqual(lines(without_unread(Blocks(pieces))), ["f:", "lw a4, 0(zero)", "la a5, y", "mv a0, a5", "ret"])
 
 
 class Known(unittest.TestCase):

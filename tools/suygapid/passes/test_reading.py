@@ -1,7 +1,7 @@
 """Tests of reading assembly: `tools/unit_tests.py tools/suygapid/passes`. The assembly is what gcc 12 and clang 14 write."""
 import unittest
 
-from suygapid.passes.assembly import Label, SourceLine, Refused, Statement, read_assembly
+from suygapid.passes.assembly import Label, Refused, SourceLine, Statement, read_assembly
 from suygapid.passes.instructions import Converter
 from suygapid.passes.pcrel import pcrel_labels
 from suygapid.passes.trampolines import check_trampolines

@@ -3,6 +3,7 @@ from which numbers a pointer may be."""
 import unittest
 
 from suygapid.passes.deriving import derived
+from suygapid.passes.facts import ADDRESSES
 from suygapid.passes.hoisting import FAR, distances, with_hoisted_masks
 from suygapid.passes.loops import loops_of
 from suygapid.passes.naming import Names
@@ -13,7 +14,7 @@ from suygapid.passes.sharing import with_shared_masks
 from suygapid.passes.stepping import with_steps
 from suygapid.passes.targeting import with_targets
 from suygapid.passes.test_passes import code, lines
-from suygapid.passes.typed import ADDRESSES
+from suygapid.passes.typed import largest_step
 from suygapid.passes.word_places import part_sizes
 
 
@@ -187,7 +188,9 @@ class Repeating(unittest.TestCase):
 
 class Hoisting(unittest.TestCase):
     def hoisted(self, text, registers=ADDRESSES):
-        return lines(with_hoisted_masks(code(text), Names(), registers))
+        pieces = code(text)
+        pieces = code(text)
+        return lines(with_hoisted_masks(pieces, Names(), registers, largest_step(pieces)))
 
     def unchanged(self, text):
         self.assertEqual(self.hoisted(text), lines(code(text)), text)

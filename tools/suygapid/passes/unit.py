@@ -6,6 +6,7 @@ import re
 from dataclasses import dataclass, field
 
 from suygapid.passes.assembly import LABEL, Label, Refused, read_parts
+from suygapid.passes.facts import SHAPES
 from suygapid.passes.instructions import Converter, Op
 from suygapid.passes.pcrel import pcrel_labels
 from suygapid.passes.program import Mark
@@ -80,12 +81,14 @@ class Unit:
         self.locations = {}  # by an instruction's place, the lines `.loc` that hold there
         self.stack, self.previous = [], None
         self.current, self.current_name = None, ".text"
+        self.has_debug_data = False
         self.location, self.is_locating = None, False
+        self.known = {}  # by a statement's word and operands, the instructions that become of it
         self.read(text)
 
     def read(self, text):
         lines = list(read_parts(self.name, text))
-        self.converter = Converter(pcrel_labels([piece for _, pieces in lines for piece in pieces]))
+        self.converter = Converter(pcrel_labels([piece for _, pieces in lines for piece in pieces]) if "auipc" in text else None)
         self.switch(".text", "\t.text")
         for part, pieces in lines:
             self.take(part, pieces)
@@ -102,11 +105,11 @@ class Unit:
         return [name for name in self.marked if name in self.weak and name not in self.defined]
 
     def take(self, part, pieces):
-        statement = next((piece for piece in pieces if not isinstance(piece, Label)), None)
         for piece in pieces:
             if isinstance(piece, Label):
                 self.label(piece.name)
-        if statement is None:
+        statement = pieces[-1] if pieces else None
+        if statement is None or isinstance(statement, Label):
             return
         if statement.word in SWITCHING:
             self.section_directive(statement, part)
@@ -126,6 +129,7 @@ class Unit:
             self.current = self.sections.setdefault(name, Section(line))
             return
         self.current = None
+        self.has_debug_data |= name.startswith(".debug")
         self.verbatim.append(line)
         if name.startswith(ARRAYS):
             self.verbatim.append(WANTS_CONSTRUCTORS)
@@ -191,12 +195,19 @@ class Unit:
 
     def instruction(self, statement):
         self.is_locating = False
-        if any(map(THREAD_LOCAL_OPERAND.match, statement.operands)):
-            raise Refused(statement.place, THREAD_LOCAL)
-        for op in self.converter.convert(statement):
-            self.spoken.update(symbol.name for symbol in op.symbols())
-            self.current.pieces.append(Op(op.word, tuple(str(operand) for operand in op.operands), op.place, op.wide))
-            self.locations[op.place] = self.location
+        for word, operands in self.converted(statement):
+            self.current.pieces.append(Op(word, operands, statement.place))
+        self.locations[statement.place] = self.location
+
+    def converted(self, statement):
+        """The words and operands of the instructions that become of one, which the file may repeat."""
+        found = self.known.get(statement[:2])
+        if found is None:
+            if any(map(THREAD_LOCAL_OPERAND.match, statement.operands)):
+                raise Refused(statement.place, THREAD_LOCAL)
+            found = self.known[statement[:2]] = [(op.word, op.operands) for op in self.converter.convert(statement)]
+            self.spoken.update(WORD.match(operands[-1])[0] for word, operands in found if SHAPES.get(word, "")[-1:] in ("J", "A"))
+        return found
 
     def directive(self, part, statement):
         """A directive between instructions."""

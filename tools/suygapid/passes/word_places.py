@@ -1,8 +1,11 @@
 """How many bytes each instruction takes in code in words, and where it lies there. docs/SOURCE.md says what an instruction
 becomes."""
-from suygapid.passes.instructions import NEAR, RELATIVE, written
+from functools import lru_cache
+
+from suygapid.passes.facts import DATA
+from suygapid.passes.instructions import NEAR, RELATIVE, Op
 from suygapid.passes.sizes import has_short_form, number_parts
-from suygapid.passes.typed import DATA, MASKS, is_free_step, is_move, masked_base
+from suygapid.passes.typed import MASKS, is_free_step, is_move
 
 WORD = 4
 MASK_SIZES = (WORD,) * MASKS
@@ -11,6 +14,18 @@ MASK_SIZES = (WORD,) * MASKS
 def part_sizes(op, following):
     """The bytes of each instruction that an instruction becomes, before a piece that follows it, or before None: 2 where
     it has a 16-bit form, which it may take or not."""
+    if op.written in DATA:
+        return sizes_before(op, following)
+    return sizes_of(op.word, op.operands, op.wide, op.address)
+
+
+@lru_cache(maxsize=None)
+def sizes_of(word, operands, wide, address):
+    """The same of one that writes no data register, before any piece."""
+    return sizes_before(Op(word, operands, None, wide, address=address), None)
+
+
+def sizes_before(op, following):
     if op.word in ("ret", "jr", "jalr"):
         return *MASK_SIZES, WORD
     if op.word == "la":
@@ -36,12 +51,12 @@ def one_size(op, following):
         return (own_size(op),)
     if is_move(op):
         return MASK_SIZES
-    before = MASK_SIZES if masked_base(op) else ()
+    before = MASK_SIZES if op.masked_base else ()
     return *before, WORD if before else own_size(op), *masks_after(op)
 
 
 def masks_after(op):
-    return MASK_SIZES if written(op) in DATA else ()
+    return MASK_SIZES if op.written in DATA else ()
 
 
 def own_size(op):

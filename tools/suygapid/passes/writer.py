@@ -2,7 +2,6 @@
 from typing import Optional
 
 from suygapid.passes.places import Places
-from suygapid.passes.shown import AllShown
 
 NORVC, RVC = "\t.option norvc", "\t.option rvc"
 OPTIONS = ["\t.option norelax", NORVC, "\t.option nopic"]  # after the file's own lines: `.attribute arch` turns rvc on
@@ -24,25 +23,27 @@ class Writer:
     def end_word(self):
         """Comes before a label and at a section's end."""
 
-    def begin_section(self):
+    def begin_section(self, number):
         """Comes before the first piece."""
 
-    def text(self, sections, orders, told):
-        shown = AllShown(sections, orders)
-        self.out = [*Places(self.unit.verbatim, shown).right(), *self.unit.symbols, *told, *OPTIONS]
-        for key, pieces in sections.items():
-            self.out.append(self.unit.sections[key].line)
-            if pieces:
-                self.out.append(f"\t.p2align {self.alignment}")
-                self.begin_section()
-            self.section(pieces, orders[key], shown.new[key])
-        self.out.append(RVC)  # the object's attribute is of the last option, by which debuggers disassemble
-        return "\n".join(self.out) + "\n"
+    def head(self, shown, told):
+        """The lines before the code, with labels and debug information as the code's passes leave them."""
+        return [*Places(self.unit.verbatim, shown).right(), *self.unit.symbols, *told, *OPTIONS]
+
+    def text(self, key, pieces, order, labels):
+        """A section with its line, and with some labels before pieces of these numbers."""
+        self.out = [self.unit.sections[key].line]
+        if pieces:
+            self.out.append(f"\t.p2align {self.alignment}")
+            self.begin_section(list(self.unit.sections).index(key))
+        self.section(pieces, order, labels)
+        return "\n".join(self.out)
 
     def section(self, pieces, order, labels):
-        """Writes a section, with some labels before pieces of these numbers."""
+        """Writes the pieces."""
         waiting, self.location = list(reversed(order.soft)), None
-        for number, (piece, following, least) in enumerate(zip(pieces, [*pieces[1:], None], order.least(pieces))):
+        numbers = list(map(order.number, pieces))
+        for number, (piece, following, least) in enumerate(zip(pieces, [*pieces[1:], None], order.least(numbers))):
             if piece.is_mark:
                 self.end_word()
             while waiting and waiting[-1][0] <= least:
@@ -55,7 +56,7 @@ class Writer:
                 self.locate(piece)
                 begun = len(self.out)
                 self.piece(piece, following)
-                for text in order.beside.get(order.number(piece), ()):
+                for text in order.beside.get(numbers[number], ()):
                     self.beside(text, begun)
         self.end_word()
         self.out += [text for _, text in reversed(waiting)]

@@ -1,0 +1,87 @@
+"""Tests of the results that are kept by content: `tools/unit_tests.py tools test_results.py`."""
+import os
+import pathlib
+import subprocess
+import sys
+from concurrent.futures import ThreadPoolExecutor
+from unittest import mock
+
+from suygapid import results
+from suygapid.elf import tools
+from suygapid.elf.tools import Target
+from suygapid.passes import rewriting
+from testing import TOOLS, Folder
+
+ASSEMBLY = "\t.text\n" + "".join(f"\t.globl f{number}\nf{number}:\n\tlw a5,0(a0)\n\tlw a4,4(a0)\n\tbeqz a5,.L{number}\n\tcall f{number // 2}\n"
+                                 f"\tj f{number // 3}\n.L{number}:\n\tadd a0,a4,a5\n\tret\n\t.section .text.f{number},\"ax\"\n" for number in range(60))
+PROCESS = "import sys; from suygapid.results import kept; sys.stdout.buffer.write(kept([b'x'], lambda: b'made ' * 100000))"
+
+
+class Results(Folder):
+    def setUp(self):
+        super().setUp()
+        patch = mock.patch.dict(os.environ, SUYGAPID_CACHE=self.path("cache"))
+        patch.start()
+        self.addCleanup(patch.stop)
+
+    def files(self):
+        return [path for path in pathlib.Path(self.path("cache")).rglob("*") if path.is_file()]
+
+    def test_hit(self):
+        self.assertEqual(results.kept([b"text", b"option"], lambda: b"made"), b"made")
+        self.assertEqual(results.kept([b"text", b"option"], self.fail), b"made")
+        for parts in ([b"text", b"options"], [b"texto", b"ption"], [b"text", b"option", b""]):
+            self.assertEqual(results.kept(parts, lambda: b"another"), b"another")
+
+    def test_damaged(self):
+        for damage in (lambda content: content[:-1], lambda content: b"", lambda content: content[:40] + b"?" + content[41:]):
+            results.kept([b"text"], lambda: b"made " * 9)
+            [path] = self.files()
+            path.write_bytes(damage(path.read_bytes()))
+            self.assertEqual(results.kept([b"text"], lambda: b"anew"), b"anew")
+            self.assertEqual(results.kept([b"text"], self.fail), b"anew")
+            path.unlink()
+
+    def test_at_once(self):
+        words = [sys.executable, "-c", PROCESS]
+        with ThreadPoolExecutor(4) as pool:
+            found = list(pool.map(lambda _: subprocess.run(words, cwd=TOOLS, capture_output=True, check=True).stdout, range(8)))
+        self.assertEqual(found, [b"made " * 100000] * 8)
+        self.assertEqual(len(self.files()), 1)
+
+    def test_size(self):
+        with mock.patch("suygapid.results.MOST", 4000), mock.patch("suygapid.results.place_of", lambda parts: self.path(f"cache/0/{parts[0]}")):
+            for number in range(9):
+                results.kept([number], lambda: os.urandom(1000))
+            self.assertEqual([path.name for path in sorted(self.files())], ["6", "7", "8"])
+            results.kept(["large"], lambda: os.urandom(10000))
+            self.assertEqual(len(self.files()), 3)
+
+    def test_folder_that_cannot_be(self):
+        self.write("cache", "no folder")
+        self.assertEqual(results.kept([b"text"], lambda: b"made"), b"made")
+
+    def test_converted(self):
+        """An option and another converter make another result; a kept one is the same."""
+        path = self.write("a.s", ASSEMBLY)
+        first = tools.rewritten(path, Target("words"))
+        with mock.patch("suygapid.elf.tools.ran", self.fail):
+            self.assertEqual(tools.rewritten(path, Target("words")), first)
+        with mock.patch("suygapid.elf.tools.ran", lambda words: (b"anew", b"")):
+            self.assertEqual(tools.rewritten(path, Target("words"), is_kept=False), b"anew")
+            self.assertEqual(tools.rewritten(path, Target("2")), b"anew")
+            self.assertEqual(tools.rewritten(path, Target("words"), "known"), b"anew")
+            with mock.patch("suygapid.elf.tools.converter", lambda: b"another"):
+                self.assertEqual(tools.rewritten(path, Target("words")), b"anew")
+
+
+class Processes(Folder):
+    def test_functions(self):
+        """Several processes write what one does, and refuse what one does."""
+        with mock.patch("suygapid.passes.rewriting.MANY", 0):
+            for image_format in (1, 2, "words"):
+                wanted, found = (rewriting.rewritten("a.s", ASSEMBLY, image_format=image_format, jobs=jobs) for jobs in (1, 3))
+                self.assertEqual(found, wanted)
+            for jobs in (1, 3):
+                with self.assertRaisesRegex(rewriting.Refused, r"\Aa\.s:\d+: a jump to a register plus a number\Z"):
+                    rewriting.rewritten("a.s", ASSEMBLY + "\tjalr zero,4(a0)\n", jobs=jobs)
