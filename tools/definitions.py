@@ -39,7 +39,8 @@ with its comment and one that cites it. [PROOFS.md](PROOFS.md) has the laws. Wor
 
 **ISA** is the RISC-V Instruction Set Manual, Volume I: Unprivileged ISA, and **psABI** the RISC-V ABIs Specification.
 **Wahbe** is Wahbe, Lucco, Anderson and Graham, "Efficient Software-Based Fault Isolation", SOSP 1993. **Yee** is Yee and
-others, "Native Client: A Sandbox for Portable, Untrusted x86 Native Code", IEEE S&P 2009.
+others, "Native Client: A Sandbox for Portable, Untrusted x86 Native Code", IEEE S&P 2009. **SDM** is the Intel 64 and
+IA-32 Architectures Software Developer's Manual.
 """
 
 

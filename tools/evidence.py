@@ -8,10 +8,10 @@
 The page has the kit's line; of each crate the last line of its check, its axioms by name, hashes of its definitions and its
 sources, and that the functions below are proved; hashes of the libraries that are built; and the contracts of `check`, of
 `check_stream`, of the C library's `sfi_c_check` and of a `World`, each with the definitions of this repository on which it
-rests (of `check` first its clauses `accepted` and `safe`), printed whole, with their files' hashes, and the toolchain's words
-that these cite. With --safety it has the contract of `check` alone, and the definitions by which its clauses `accepted` and
-`safe` say that accepted bytes are an image whose sandboxes run safely: no rule is among them. The last line is the hash of all
-above. That LOG is what a run over these sources printed is the word of whoever makes the page.
+rests, printed whole, with their files' hashes, and the toolchain's words that these cite. First is the contract of `check`, with
+the definitions by which its clauses `accepted` and `safe` say that accepted bytes are an image whose sandboxes run safely: no
+rule is among them. With --safety the page has these alone. The last line is the hash of all above. That LOG is what a run over
+these sources printed is the word of whoever makes the page.
 """
 import hashlib
 import pathlib
@@ -34,13 +34,6 @@ KIT_WORDS = "\n## Words of the toolchain\n"
 HASH = "page sha256="
 NOT_BUILT = "none"
 RELEASED = "evidence/page.txt"  # where a release has its page
-OF_SAFETY = """
-By `accepted` and `safe` the following holds of bytes for which `check` answers `Ok`: they are the image `IsImage` of sandboxes
-`ps`, the field `image` of `IsAccepted`, and `AllRunSafely ps`. Both clauses speak of the same `ps`, the value of the answer's
-`Accepted`. What `IsAccepted` says besides makes this no weaker, whatever it means; so the words of the rules aren't on this
-page, nor what the other clauses cite.
-
-"""
 NO_LOG = "prove all first, by `rt ci --anew > LOG`, which takes long, and then make the page, by `./sfi evidence LOG > FILE`"
 OF_KIT = """
 The definitions above cite these, which cite others in turn. The kit's `logic` is a sum of libraries that
@@ -52,14 +45,13 @@ stands here, above the words that are declared in it.
 
 @dataclass
 class Kind:
-    """A kind of page: the beginning of its first line, what it states, and what it says before that."""
+    """A kind of page: the beginning of its first line, and what it states."""
     title: str
     stated: list
-    front: str = ""
 
 
 WHOLE = Kind("# Evidence for the theorem of Suygapid ", statements.STATEMENTS)
-SAFETY = Kind("# Evidence for safety alone of Suygapid ", statements.SAFETY, OF_SAFETY.lstrip("\n"))
+SAFETY = Kind("# Evidence for safety alone of Suygapid ", [statements.SAFETY])
 
 
 def kind_of(text):
@@ -129,14 +121,8 @@ def kit_section(cited):
     return OF_KIT.lstrip("\n") + kit_words.told(folder, cited) if folder else None
 
 
-def theorem(kind):
-    """The text of what a page states, and the toolchain's words that it cites."""
-    told = statements.told(kind.stated)
-    return statements.Told(kind.front + told.text, told.kit_words)
-
-
 def page(log, kit_line, kind=WHOLE):
-    found, told = verdicts(log, kind.stated), theorem(kind)
+    found, told = verdicts(log, kind.stated), statements.told(kind.stated)
     lines = [title(kind), "", f"kit {kit_line}"]
     for crate in definitions.crate_names():
         lines += [crate_line(crate), *found.get(crate, [f"verdict {crate} none in the log"])]

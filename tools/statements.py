@@ -17,13 +17,15 @@ ITEM = r"pub(?:\(crate\))? (?:struct|enum|trait) {}\b"
 class Statement:
     """Contracts of one subject: what stands before the functions' names where the prover names them, of each file of code
     below crates/ the functions, and the words from which definitions are sought, where these aren't all that the contracts cite.
-    What is printed by itself, without what it cites: words, and types in code, each a file and a name."""
+    What is printed by itself, without what it cites, which is left to the next section: words, and types in code, each a file
+    and a name. What is said before all that."""
     title: str
     place: str
     files: dict
     roots: list = None
     alone: tuple = ()
     types_alone: tuple = ()
+    front: str = ""
 
     def names(self):
         """The functions as the prover names them."""
@@ -31,11 +33,20 @@ class Statement:
 
 
 CHECK = "sfi_check/src/verdict.rt"
-SAFE = ("sfi_safe_runs", "Safety", "AllRunSafely")
+# Safety without the rules: what a clause of `check` says of bytes is taken of one field alone.
+SAFETY = Statement(
+    "Safety, by the clauses `accepted` and `safe` of `check`", "sfi_check::verdict", {CHECK: ["check"]},
+    [("sfi_safe_runs", "Safety", "AllRunSafely"), ("sfi_image", "Parts", "IsImage"), ("std", "Prelude", "IfOk")],
+    alone=(("sfi_safety", "Clean", "IsAccepted"),), types_alone=(("sfi_check/src/accepted.rt", "Accepted"),),
+    front="""By `accepted` and `safe` the following holds of bytes for which `check` answers `Ok`: they are the image `IsImage` of sandboxes
+`ps`, the field `image` of `IsAccepted`, and `AllRunSafely ps`. Both clauses speak of the same `ps`, the value of the answer's
+`Accepted`. What `IsAccepted` says besides makes this no weaker, whatever it means; so neither the words of the rules stand
+here, nor what the other clauses cite.
+
+""")
 STATEMENTS = [
-    Statement("`check`", "sfi_check::verdict", {CHECK: ["check"]},
-              [SAFE, ("sfi_safety", "Clean", "IsAccepted")]),
-    Statement("`check_stream`, and the other clauses of `check`", "sfi_check::stream", {"sfi_check/src/stream.rt": ["check_stream"]}),
+    SAFETY,
+    Statement("`check_stream`, and what else `check` says", "sfi_check::stream", {"sfi_check/src/stream.rt": ["check_stream"]}),
     Statement("`sfi_c_check`", "sfi_c::checking", {"sfi_c/src/checking.rt": ["sfi_c_check"]}),
     Statement("`World`", "sfi_host::world::World", {
         "sfi_host/src/world.rt": ["load", "run_plan", "run_to_call", "waiting", "reply", "write", "enter", "stop"],
@@ -46,13 +57,6 @@ STATEMENTS = [
         "sfi_host/src/world/resetting.rt": ["reset"],
         "sfi_host/src/world/setting.rt": ["set_registers"],
     }),
-]
-
-# Safety without the rules: what a clause of `check` says of bytes is taken of one field alone.
-SAFETY = [
-    Statement("Safety, by the clauses `accepted` and `safe` of `check`", "sfi_check::verdict", {CHECK: ["check"]},
-              [SAFE, ("sfi_image", "Parts", "IsImage"), ("std", "Prelude", "IfOk")],
-              alone=(("sfi_safety", "Clean", "IsAccepted"),), types_alone=(("sfi_check/src/accepted.rt", "Accepted"),)),
 ]
 
 
@@ -228,8 +232,13 @@ class Printer:
         """The text of a statement: its contracts, and on what they rest that no section before it has."""
         parts, cited, places = self.contracts(statement)
         for file, name in statement.types_alone:
-            parts += [heading(TOP / "crates" / file), *self.item(TOP / "crates" / file, name)]
+            path = TOP / "crates" / file
+            item = self.item(path, name)
+            parts += [heading(path), *item]
+            cited |= self.cited_by("\n".join(item), path)
+            self.shown.add((path, name))
         parts += self.definitions(statement.alone)
+        self.shown.update(statement.alone)
         if statement.roots:
             self.later = cited, places
             cited, places = set(statement.roots), set()
@@ -239,7 +248,7 @@ class Printer:
         parts += self.definitions(keys)
         for path, some in sorted(texts.items()):
             parts += [heading(path), *sorted(some)]
-        return f"## {statement.title}\n\n" + "\n\n".join(parts) + "\n"
+        return f"## {statement.title}\n\n{statement.front}" + "\n\n".join(parts) + "\n"
 
 
 def crate_of(path):

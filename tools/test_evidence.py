@@ -139,14 +139,14 @@ class Pages(unittest.TestCase):
         cls.crates = definitions.crate_names()
         cls.page = evidence.page(log_of(cls.crates), KIT)
         cls.safety = evidence.page(log_of(cls.crates), KIT, evidence.SAFETY)
-        cls.told = {it.title: evidence.theorem(it) for it in (evidence.WHOLE, evidence.SAFETY)}
+        cls.told = {len(it.stated): statements.told(it.stated) for it in (evidence.WHOLE, evidence.SAFETY)}
         cls.lines = {it: evidence.crate_line(it) for it in cls.crates}
         cls.kit_sections = {len(it.kit_words): evidence.kit_section(it.kit_words) for it in cls.told.values()}
         cls.kit = evidence.kit()
 
     def faults(self, page):
         """What is wrong with a page of this checkout, which is read once."""
-        with mock.patch.object(evidence, "theorem", lambda kind: self.told[kind.title]), \
+        with mock.patch.object(statements, "told", lambda stated: self.told[len(stated)]), \
                 mock.patch.object(evidence, "crate_line", self.lines.__getitem__), \
                 mock.patch.object(evidence, "kit_section", lambda cited: self.kit_sections[len(cited)]), \
                 mock.patch.object(evidence, "kit", return_value=self.kit):
@@ -161,6 +161,8 @@ class Pages(unittest.TestCase):
 
     def test_a_page_of_safety_alone(self):
         self.assertEqual(verify_evidence.judged(self.safety)[0], [])
+        whole, alone = (self.told[len(it.stated)].text for it in (evidence.WHOLE, evidence.SAFETY))
+        self.assertTrue(whole.startswith(alone))
         files = {f"### crates/{crate}/specs/{it}.antt" for crate, names in FILES_OF_SAFETY.items() for it in names}
         self.assertEqual({it.split(" sha256=")[0] for it in self.safety.splitlines() if ".antt sha256=" in it and it.startswith("### crates/")}, files)
         for said in ("ensures safe { IfOk result", "pub record IsAccepted ", "pub record IsImage ", "record RunsSafelyAs ", "record IsSafeStepAs ",

@@ -184,7 +184,7 @@ def judged(text):
     """What is wrong with a page, and what can't be compared here."""
     body, lines, theorem, kit_words, hash_told = split(text)
     kind = evidence.kind_of(text)
-    told = evidence.theorem(kind)
+    told = statements.told(kind.stated)
     found = [] if hash_told == evidence.hash_of(body.encode()) else ["the page's hash isn't that of its text"]
     found += [] if theorem == told.text else ["a contract or a definition is another one here"]
     of_words, notes = compared_words(kit_words, told.kit_words)

@@ -3,7 +3,7 @@
 
     tools/version.py [VERSION]
 
-The version is that of the program, `VERSION` in crates/sfi_command/src/help.rt. A header, a package or a page can't read
+The version is that of the program, `VERSION` in crates/sfi_command/src/commands.rt. A header, a package or a page can't read
 it there, so each has a copy of its own: PLACES lists them all, and a test compares them. NUMBERS lists where it is one
 number, for a program to compare: 65536 for each major version, 256 for each minor and 1 for each patch.
 """
@@ -12,7 +12,7 @@ import re
 import sys
 
 TOP = pathlib.Path(__file__).resolve().parent.parent
-FIRST = ("crates/sfi_command/src/help.rt", r'pub const VERSION: &str = "(.*)";')
+FIRST = ("crates/sfi_command/src/commands.rt", r'pub const VERSION: &str = "(.*)";')
 PLACES = [
     FIRST,
     ("crates/sfi_tests/src/tests/rows/words.rt", r"> sfi (\d+\.\d+\.\d+); status 3"),
