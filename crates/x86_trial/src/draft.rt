@@ -1,0 +1,165 @@
+//! An instruction's operands, with a state in which they are reached.
+
+use crate::random::Random;
+use x86_instr::{Address, Operand, Register, Scale, Width};
+use x86_step::Core;
+
+const REGISTERS: [Register; 16] = [
+    Register::Rax,
+    Register::Rcx,
+    Register::Rdx,
+    Register::Rbx,
+    Register::Rsp,
+    Register::Rbp,
+    Register::Rsi,
+    Register::Rdi,
+    Register::R8,
+    Register::R9,
+    Register::R10,
+    Register::R11,
+    Register::R12,
+    Register::R13,
+    Register::R14,
+    Register::R15,
+];
+
+const SCALES: [Scale; 4] = [Scale::One, Scale::Two, Scale::Four, Scale::Eight];
+
+/// The number of rsp, which is no index.
+const NO_INDEX: u8 = 4;
+/// How many bytes of memory a case has.
+const PAGE: u64 = 4096;
+
+/// The state before an instruction, while the instruction is chosen.
+#[derive(Drop)]
+pub(crate) struct Draft {
+    pub(crate) random: Random,
+    pub(crate) core: Core,
+    /// Where the instruction begins.
+    pub(crate) code: u64,
+}
+
+impl Draft {
+    pub(crate) fn register(&mut self) -> Register {
+        self.random.one_of(&REGISTERS)
+    }
+
+    /// An address in the memory, at its ends, or anywhere.
+    fn place(&mut self) -> u64 {
+        let base = self.core.memory.base;
+        match self.random.below(16) {
+            0 => self.random.number(),
+            1 => base.wrapping_add(self.random.below(16)).wrapping_sub(8),
+            2 | 3 => base.wrapping_add(PAGE).wrapping_sub(self.random.below(16)),
+            _ => base.wrapping_add(self.random.below(PAGE)),
+        }
+    }
+
+    /// An address to jump to: near the instruction, or anywhere.
+    fn target(&mut self) -> u64 {
+        match self.random.below(4) {
+            0 => self.random.number(),
+            1 => self.random.word() >> 17,
+            _ => self
+                .code
+                .wrapping_add(self.random.below(512))
+                .wrapping_sub(256),
+        }
+    }
+
+    /// A memory operand, whose base leads to a place, mostly with a number there.
+    pub(crate) fn address(&mut self) -> Address {
+        let scale = self.random.below(4);
+        let address = Address {
+            base: self.register(),
+            index: self.register(),
+            scale: SCALES[scale as usize],
+            displacement: self.random.dword(),
+        };
+        let place = self.place();
+        self.lead(address, 1u32 << scale, place);
+        if !self.random.once_in(4) {
+            let number = self.random.number();
+            self.fill(place, number);
+        }
+        address
+    }
+
+    /// Gives the base the value by which the address is `place`, or one near it where the base is also the
+    /// index, of which there are `factor`.
+    fn lead(&mut self, address: Address, factor: u32, place: u64) {
+        let (base, index) = (address.base.number(), address.index.number());
+        let count = if base == index && index != NO_INDEX {
+            1 + i64::from(factor)
+        } else {
+            1
+        };
+        self.core.registers[base as usize] = 0;
+        let missing = place.wrapping_sub(self.core.address(address)).cast_signed();
+        self.core.registers[base as usize] = (missing / count).cast_unsigned();
+    }
+
+    /// Stores a number, where there is memory.
+    fn fill(&mut self, place: u64, number: u64) {
+        let _ = self.core.store(8, place, number);
+    }
+
+    pub(crate) fn operand(&mut self) -> Operand {
+        if self.random.once_in(2) {
+            Operand::Reg(self.register())
+        } else {
+            Operand::Mem(self.address())
+        }
+    }
+
+    /// An operand with a jump's target.
+    pub(crate) fn jump_operand(&mut self) -> Operand {
+        let operand = self.operand();
+        let target = self.target();
+        match operand {
+            Operand::Reg(register) => self.core.registers[register.number() as usize] = target,
+            Operand::Mem(address) => {
+                let place = self.core.address(address);
+                self.fill(place, target);
+            }
+        }
+        operand
+    }
+
+    /// Lets rsp lead to a place.
+    pub(crate) fn lead_stack(&mut self) {
+        self.core.registers[4] = self.place();
+    }
+
+    /// The same, with a jump's target there.
+    pub(crate) fn lead_return(&mut self) {
+        self.lead_stack();
+        let target = self.target();
+        self.fill(self.core.registers[4], target);
+    }
+
+    /// A distance within a page, or any.
+    pub(crate) fn distance(&mut self) -> u32 {
+        if self.random.once_in(2) {
+            self.random.dword()
+        } else {
+            (self.random.below(4096) as u32).wrapping_sub(2048)
+        }
+    }
+
+    /// Lets rdx and rax hold a product with a remainder, often at the edge of what a division can do.
+    pub(crate) fn lead_division(&mut self, divisor: Register) {
+        let by = (self.core.registers[divisor.number() as usize] % 0x1_0000_0000) as u32;
+        let by = if self.random.once_in(2) {
+            i64::from(by.cast_signed()).cast_unsigned()
+        } else {
+            u64::from(by)
+        };
+        let quotient = self.random.number();
+        let dividend = quotient
+            .wrapping_mul(by)
+            .wrapping_add(self.random.below(16));
+        self.core.registers[0] = dividend % 0x1_0000_0000;
+        self.core.registers[2] = dividend / 0x1_0000_0000;
+    }
+}
