@@ -3,8 +3,9 @@
 
     tools/build_library.py [CRATE]
 
-CRATE is sfi_c, the checker, unless sfi_run, the runtime, is named. crates/sfi_c/out/libsfi_c.a is for x86-64. Another target
-has a folder there of its own, with its libsfi_c.a and, for WebAssembly, which sfi_run has no heap for, the module sfi.wasm.
+CRATE is sfi_c, the checker, unless sfi_run, the runtime, or x86_trial, the cases of fuzz/processor.py, is named.
+crates/sfi_c/out/libsfi_c.a is for x86-64. Another target has a folder there of its own, with its libsfi_c.a and, for
+WebAssembly, which sfi_run has no heap for, the module sfi.wasm.
 
 `rt ci` proves the crate, but builds no static library. It leaves the libraries that it stands on without the mark
 by which `rt lib` would take them, so that `rt lib` would prove them once more. This proves the crate alone and builds
@@ -24,7 +25,7 @@ import toolchain
 HOST = "x86_64-unknown-linux-gnu"
 WASM = "wasm64-unknown-unknown"
 ARM = "aarch64-unknown-linux-gnu"
-TARGETS = {"sfi_c": [HOST, ARM, WASM], "sfi_run": [HOST, ARM]}
+TARGETS = {"sfi_c": [HOST, ARM, WASM], "sfi_run": [HOST, ARM], "x86_trial": [HOST]}
 
 
 def is_marked(crate):

@@ -25,6 +25,7 @@ AXIOMS = {
     "sfi_c": (0, NONE.format("libc") + NONE.format("os")),
     "sfi_run": (3, HEAP + NONE.format("os")),
     "sfi_tool_c": (3, HEAP + NONE.format("os")),
+    "x86_trial": (3, HEAP + NONE.format("os")),
     "sfi": (41, "axioms libc: libc::a, libc::b, libc::c, ... (30 of the 128 declared)\n"
                 "axioms os: os::a, os::b, os::c, ... (11 of the 22 declared)\n"),
 }

@@ -35,7 +35,7 @@ WORDS = {
 OF_LINKED = {"axioms", "target", "cpu", "threads"}
 HEAP = {"libc": [f"libc::heap::rattle_{it}" for it in ("alloc", "dealloc", "realloc")]}
 # The C functions whose contracts a crate rests on: by their library, their names or how many there are.
-AXIOMS = {"sfi_run": HEAP, "sfi_tool_c": HEAP, "sfi": {"libc": 30, "os": 11}}
+AXIOMS = {"sfi_run": HEAP, "sfi_tool_c": HEAP, "x86_trial": HEAP, "sfi": {"libc": 30, "os": 11}}
 AXIOMS_LINE = re.compile(r"\w+ axioms (\w+): (?:none reached of the \d+ declared|(.+) \((\d+) of the \d+ declared\))")
 
 
