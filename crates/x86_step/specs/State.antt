@@ -1,6 +1,7 @@
 -- The state of a processor, as far as the instructions of `x86_instr` touch it. Intel 64 and IA-32 Architectures
--- Software Developer's Manual, volume 1, 3.3.7 and 3.4. Not modelled: modes but 64-bit mode, single steps and alignment
--- checks (TF and AC are 0), CET (it is off), other writers of the memory, and pages mapped at two addresses.
+-- Software Developer's Manual, volume 1, 3.3.7 and 3.4. Not modelled: modes but 64-bit mode, addresses of 57 bits, single
+-- steps and alignment checks (TF and AC are 0), CET (it is off), other writers of the memory, and pages mapped at two
+-- addresses.
 use Rattle.std.specs.Prelude.{◌≡◌, ℕ, zero, suc, ◌+◌, ◌-◌, ◌*◌, ◌/◌, ◌%◌, ◌^◌, ◌<◌, ◌≤◌, ◌==◌, nat_lt, nat_le, ◌&&◌, Bool, true, false, List, length, Option, Some, None, if◌then◌else◌}
 use Rattle.x86_step.specs.declared.machine.Flags.{Flags}
 
