@@ -1,6 +1,7 @@
 """Tests of what sfi-gdb answers gdb: `tools/unit_tests.py tools`. Sessions of gdb itself are in examples/c/elf/test.sh."""
 import unittest
 
+from suygapid.gdb.machine import End
 from suygapid.gdb.stub import DONE, FEATURES, WRONG, Stub
 from sfi_run import OutsideData  # which the package finds
 
@@ -34,6 +35,13 @@ class Packets(unittest.TestCase):
         for text, wanted in rows:
             with self.subTest(text):
                 self.assertEqual(Stub(Machine(), Line()).answer(text), wanted)
+
+    def test_ended(self):
+        """A program that has ended has no thread, and its number is told whole."""
+        stub = Stub(Machine(), Line())
+        for end, told in ((End(0), "W00"), (End(105), "W69"), (End(0xffffffff), "Wffffffff"), (End(11, True), "X0b")):
+            stub.stop = end
+            self.assertEqual([stub.answer(text) for text in ("?", "qfThreadInfo")], [told, "l"])
 
 
 if __name__ == "__main__":

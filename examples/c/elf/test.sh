@@ -126,6 +126,13 @@ try_gdb() { # format
     report "the console beside gdb, format $1" "heaviest hi" "$(grep -xE 'heaviest|hi' "$room/messages" | paste -sd' ')"
 }
 
+# gdb says no more than the number of exit at the end of a program, here one of more than a byte.
+try_end() { # format
+    "$tools/sfi-gdb" "$room/heap.$1.elf" -nx -batch -ex continue -ex 'print $_exitcode' -ex backtrace >"$room/output" 2>&1
+    report "a program's end in gdb, format $1" "[Inferior 1 (Remote target) exited with code 01750] \$1 = 1000 No stack." \
+        "$(tail -n +2 "$room/output" | paste -sd' ')"
+}
+
 # At turn k of a loop the pointer is k words above the numbers, and the sum is as computed here, or gdb doesn't show them.
 try_kept() { # format, level
     elf_of "kept.$1.elf" "$1" "$2" -g elf/gdb/kept.c
@@ -163,6 +170,7 @@ try_debugging() {
     export SFI_RUN_LIBRARY=$room/lib/libsfi_run.so
     for format in $(formats_due); do
         try_gdb "$format"
+        try_end "$format"
         try_kept "$format" -O2
         try_kept "$format" -Og
         try_variables "$format"

@@ -29,7 +29,7 @@ def remote_crc(content):
 def reply_of(stop):
     """A stop as gdb reads it."""
     if isinstance(stop, End):
-        return f"{'X' if stop.is_signal else 'W'}{stop.number & 255:02x}"
+        return f"{'X' if stop.is_signal else 'W'}{stop.number:02x}"
     return f"T{stop.signal:02x}" + ("" if stop.watched is None else f"watch:{stop.watched:x};")
 
 
@@ -77,6 +77,10 @@ class Stub:
             self.say(CANNOT_GO.encode())
             return WRONG
         return reply_of(self.stop)
+
+    def threads(self, _):
+        """The one thread, which is there until the program has ended."""
+        return "l" if isinstance(self.stop, End) else "m1"
 
     def restart(self, _):
         self.machine.restart()
@@ -142,7 +146,7 @@ class Stub:
 
     # By a packet's name.
     ANSWERS = {
-        "qSupported": FEATURES, "QStartNoAckMode": DONE, "!": DONE, "qAttached": "0", "qC": "QC1", "qfThreadInfo": "m1",
+        "qSupported": FEATURES, "QStartNoAckMode": DONE, "!": DONE, "qAttached": "0", "qC": "QC1", "qfThreadInfo": threads,
         "qsThreadInfo": "l", "H": DONE, "T": DONE, "D": DONE, "vKill": DONE, "vCont?": "vCont;c;C;s;S;r",
         "vRun": restart, "?": lambda self, _: reply_of(self.stop), "vCont;": go, "c": lambda self, _: self.run(self.machine.go),
         "s": lambda self, _: self.run(self.machine.step), "m": read, "M": write, "g": registers, "G": set_registers,
