@@ -123,7 +123,7 @@ try_gdb() { # format
     report "the sections in gdb, format $1" "matched" "$(grep '^Section ' "$room/output" | sed 's/.*: \(.*\)\./\1/' | sort -u)"
     report "16-bit instructions in gdb, format $1" 0 "$(grep -c '\.2byte' "$room/output")"
     report "a line that traps, format $1" "at[-2] = by;" "$(grep -A2 SIGSEGV "$room/output" | grep -o 'at\[-2\].*')"
-    report "the console beside gdb, format $1" "heaviest hi" "$(grep -xE 'heaviest|hi' "$room/messages" | paste -sd' ')"
+    report "the console beside gdb, format $1" "heaviest hi heaviest hi" "$(grep -xE 'heaviest|hi' "$room/messages" | paste -sd' ')"
 }
 
 # gdb says no more than the number of exit at the end of a program, here one of more than a byte.

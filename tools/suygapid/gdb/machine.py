@@ -5,25 +5,26 @@ writes some registers, runs, and puts them back. So what is written waits until 
 another, a second sandbox goes on from there, with a copy of the data; when the registers of the first are back, so is the
 first, with the data that the second left."""
 from dataclasses import dataclass
-from itertools import count
 from typing import Optional
 
-from sfi_run import Call, Cause, Exited, Registers, Sandbox, Trapped, World
-from sfi_run.console import Console
+from sfi_run import Cause, Exited, Registers, Trapped, World
 from suygapid.elf.image import code_of, format_of, image
+from suygapid.gdb.answers import Answers
+from suygapid.gdb.history import History, Interrupted
+from suygapid.gdb.stepping import Until
 
 PC, RA, SP = 32, 1, 2  # places in a list of registers, which has x0 to x31 and then pc
 SCRATCH = {"1": (31,), "2": (31,), "words": (3, 4, 29, 30, 31)}  # what a format's masks use, and no function gets
 INTERRUPT, ILLEGAL, TRAP, SEGMENT = 2, 4, 5, 11  # numbers of signals
 SIGNALS = {Cause.FETCH: SEGMENT, Cause.ILLEGAL: ILLEGAL, Cause.BREAK: TRAP, Cause.LOAD: SEGMENT, Cause.STORE: SEGMENT}
-FAR, OFTEN = 1000000, 1000  # the steps of one run, and how many single steps are made until the next look for an interrupt
 
 
 @dataclass(frozen=True)
 class Stop:
-    """The program has stopped, by a signal; and where a watched object has changed, its address."""
+    """The program has stopped, by a signal; where a watched object has changed, with its address; and back at its beginning."""
     signal: int = TRAP
     watched: Optional[int] = None
+    is_beginning: bool = False
 
 
 @dataclass(frozen=True)
@@ -37,14 +38,14 @@ class End:
 class Level:
     """A sandbox in which the program runs, and of one that runs a function that gdb calls, the address to which gdb has it
     return, which is none of the code, and its stack pointer then."""
-    box: Sandbox
+    history: History
     back: Optional[int] = None
     stack: int = 0
 
-
-def values_of(box):
-    now = box.registers
-    return [*now.x, now.pc]
+    @property
+    def values(self):
+        now = self.history.box.registers
+        return [*now.x, now.pc]
 
 
 class Machine:
@@ -61,13 +62,19 @@ class Machine:
 
     def restart(self):
         """Begins the program anew."""
-        world = World(self.image)
-        self.levels, self.written = [Level(world[0])], None
-        self.console = Console(world, self.given)
+        self.answers = Answers(self.image, self.given)
+        self.levels, self.written = [Level(self.begun(World(self.image)))], None
+
+    def begun(self, world):
+        return History(world, self.answers, lambda text: self.say(text))
+
+    @property
+    def history(self):
+        return self.levels[-1].history
 
     @property
     def box(self):
-        return self.levels[-1].box
+        return self.history.box
 
     # Memory and registers.
 
@@ -79,11 +86,11 @@ class Machine:
         return self.box.read(at, max(1, min(size, data.base + data.size - at)))
 
     def write(self, at, content):
-        self.box.write(at, content)
+        self.history.write(at, content)
 
     @property
     def registers(self):
-        return self.written or values_of(self.box)
+        return self.written or self.levels[-1].values
 
     @registers.setter
     def registers(self, values):
@@ -92,33 +99,40 @@ class Machine:
     def take_written(self):
         """Has the registers that were written take effect, or raises NotEntered."""
         values = self.written
-        if values is None or values == values_of(self.box):
+        if values is None or values == self.levels[-1].values:
             pass
-        elif below := next((level for level in self.levels[-2::-1] if values == values_of(level.box)), None):
-            self.copy_data(self.box, below.box)
+        elif below := next((level for level in self.levels[-2::-1] if values == level.values), None):
+            self.leave_data(below.history)
             del self.levels[self.levels.index(below) + 1:]
         elif values[PC] == self.box.pc:
-            self.box.registers = Registers(values[PC], tuple(values[:PC]))
+            self.history.set_registers(Registers(values[PC], tuple(values[:PC])))
         else:
             self.levels.append(self.fresh(values))
         self.written = None
 
     def fresh(self, values):
         """A sandbox that goes on with these registers."""
-        level = Level(World(self.image)[0])
-        self.copy_data(self.box, level.box)
-        x, begun = values[:PC], level.box.registers.x
+        self.history.forget_future()
+        world, (base, content), back = World(self.image), self.data(), None
+        x, begun = values[:PC], world[0].registers.x
         for number in self.scratch:
             x[number] = begun[number]
         if not 0 <= x[RA] - self.start < len(self.code):
-            level.back, level.stack, x[RA] = x[RA], x[SP], self.start  # where an ebreak stands
-        level.box.registers = Registers(values[PC], tuple(x))
-        return level
+            back, x[RA] = x[RA], self.start  # where an ebreak stands
+        world[0].write(base, content)
+        world[0].registers = Registers(values[PC], tuple(x))
+        return Level(self.begun(world), back, x[SP])
 
-    @staticmethod
-    def copy_data(source, target):
-        data = source.data
-        target.write(data.base, source.read(data.base, data.size))
+    def data(self):
+        """Where the data begin, and what they are."""
+        region = self.box.data
+        return region.base, self.box.read(region.base, region.size)
+
+    def leave_data(self, history):
+        """Hands the data to the sandbox that goes on, if they are others than it has."""
+        base, content = self.data()
+        if history.box.read(base, len(content)) != content:
+            history.write(base, content)
 
     # Runs.
 
@@ -126,38 +140,43 @@ class Machine:
         """One instruction, or one call of a gate with its reply: why the program has stopped then."""
         self.take_written()
         event = self.box.event
-        return self.ended(event) or self.told(self.after(event, (), 1)) or self.returned() or Stop()
+        return self.ended(event) or self.told(self.history.forward(steps=1)) or self.returned() or Stop()
 
     def go(self, within=None):
         """Runs to a stop: at a breakpoint, after a change of what is watched, at a trap, at the end, by an interrupt, or
         outside some range of addresses."""
         self.take_written()
-        event, stops = self.box.event, self.stops()
-        steps = 1 if within or self.watches else FAR
-        found = self.ended(event)
-        for turn in count():
-            if found:
-                return found
-            if (steps > 1 or turn % OFTEN == 0) and self.is_interrupted():
+        until = Until(self.stops(), sorted(self.watches), within)
+        found = self.ended(self.box.event)
+        while not found:
+            if self.is_interrupted():
                 return Stop(INTERRUPT)
             before = self.watched()
-            event = self.after(event, stops, steps)
-            found = self.told(event) or self.changed(before) or self.arrived(stops, within)
-        return None
+            event = self.history.forward(until)
+            found = self.told(event) or self.changed(before) or self.arrived(until)
+        return found
 
     def stops(self):
         landing = {self.start} if self.levels[-1].back is not None else set()
         return sorted(self.breaks | landing)
 
-    def after(self, event, stops, steps):
-        """How the program stands after at most `steps` steps, at a stop, or after the reply to a call."""
-        if not isinstance(event, Call):
-            return self.box.until(stops, steps)
-        begun = len(self.console.output[0])
-        self.console.serve(event)
-        if put := bytes(self.console.output[0][begun:]):
-            self.say(put)
-        return self.box.event
+    def step_back(self):
+        """Goes back by one step, if there is one."""
+        self.take_written()
+        if self.history.is_first():
+            return Stop(is_beginning=True)
+        after = self.watched()
+        self.history.go_to(self.history.time - 1)
+        return self.changed(after) or Stop()
+
+    def go_back(self):
+        """Goes back to the last stop, before what changed something that is watched, or to the beginning."""
+        self.take_written()
+        try:
+            found = self.history.back(Until(sorted(self.breaks), sorted(self.watches)), self.is_interrupted)
+        except Interrupted:
+            return Stop(INTERRUPT)
+        return Stop(watched=found.changed) if found else Stop(is_beginning=True)
 
     def ended(self, event):
         """The end of a program that is to go on after it has stopped for good."""
@@ -177,16 +196,16 @@ class Machine:
         at = next((place[0] for place in before if self.read(*place) != before[place]), None)
         return None if at is None else Stop(watched=at)
 
-    def arrived(self, stops, within):
-        pc = self.box.pc
-        if pc in stops:
+    def arrived(self, until):
+        pc, within = self.box.pc, until.within
+        if pc in until.stops:
             return self.returned() or (Stop() if pc in self.breaks else None)
         return Stop() if within and not within[0] <= pc < within[1] else None
 
     def returned(self):
         """The stop where a function that gdb calls has returned: gdb sees the address that it gave."""
         level = self.levels[-1]
-        values = values_of(level.box)
+        values = level.values
         if level.back is None or (values[PC], values[SP]) != (self.start, level.stack):
             return None
         self.written = [*values[:PC], level.back]

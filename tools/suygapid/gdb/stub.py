@@ -9,9 +9,9 @@ from suygapid.gdb.packets import INTERRUPT
 
 REGISTERS = struct.Struct("<33I")
 WRONG, DONE = "E01", "OK"
-FEATURES = f"PacketSize={0x8000:x};vContSupported+;QStartNoAckMode+"
+FEATURES = f"PacketSize={0x8000:x};vContSupported+;QStartNoAckMode+;ReverseStep+;ReverseContinue+"
 # The name that a packet begins with, of one letter but for these.
-NAME = re.compile(r"vCont[?;]|[qQv][A-Za-z]+|[Zz]\d,|.", re.DOTALL)
+NAME = re.compile(r"vCont[?;]|b[cs]|[qQv][A-Za-z]+|[Zz]\d,|.", re.DOTALL)
 REVERSED = bytes(int(f"{byte:08b}"[::-1], 2) for byte in range(256))  # each byte with its bits in the other order
 CANNOT_GO = ("The registers can't be set here: write them where a bundle or word begins, as at a function's first instruction.\n")
 
@@ -30,7 +30,8 @@ def reply_of(stop):
     """A stop as gdb reads it."""
     if isinstance(stop, End):
         return f"{'X' if stop.is_signal else 'W'}{stop.number:02x}"
-    return f"T{stop.signal:02x}" + ("" if stop.watched is None else f"watch:{stop.watched:x};")
+    more = "" if stop.watched is None else f"watch:{stop.watched:x};"
+    return f"T{stop.signal:02x}{more}" + ("replaylog:begin;" if stop.is_beginning else "")
 
 
 class Stub:
@@ -149,7 +150,8 @@ class Stub:
         "qSupported": FEATURES, "QStartNoAckMode": DONE, "!": DONE, "qAttached": "0", "qC": "QC1", "qfThreadInfo": threads,
         "qsThreadInfo": "l", "H": DONE, "T": DONE, "D": DONE, "vKill": DONE, "vCont?": "vCont;c;C;s;S;r",
         "vRun": restart, "?": lambda self, _: reply_of(self.stop), "vCont;": go, "c": lambda self, _: self.run(self.machine.go),
-        "s": lambda self, _: self.run(self.machine.step), "m": read, "M": write, "g": registers, "G": set_registers,
+        "s": lambda self, _: self.run(self.machine.step), "bc": lambda self, _: self.run(self.machine.go_back),
+        "bs": lambda self, _: self.run(self.machine.step_back), "m": read, "M": write, "g": registers, "G": set_registers,
         "p": register, "P": set_register, "Z0,": set_break, "Z1,": set_break, "z0,": clear_break, "z1,": clear_break,
         "Z2,": set_watch, "z2,": clear_watch, "qCRC": sum_of,
     }

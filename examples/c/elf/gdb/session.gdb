@@ -35,6 +35,24 @@ info line *$pc
 printf "= trapped, and factorial(3) is %d\n", factorial(3)
 up
 printf "= product %d, best %d\n", product, best
+watch total
+reverse-continue
+printf "= before it was set by hand total %d\n", total
+reverse-continue
+printf "= before that total %d\n", total
+delete
+break length
+reverse-continue
+printf "= the last text %s, total %d\n", text, total
+delete
+reverse-finish
+reverse-next
+printf "= at its item %d\n", at->weight
+set var total = 1000
+break wrong
+continue
+printf "= another way, by %d, total %d\n", by, total
+delete
 tbreak main
 run
 printf "= begun anew, total %d\n", total
