@@ -15,6 +15,7 @@ import os
 import sys
 
 from suygapid.passes.assembly import Refused
+from suygapid.passes import checking
 from suygapid.passes.improving import PASSES
 from suygapid.passes.rewriting import rewritten
 from suygapid.passes.typed import WORDS, format_of
@@ -28,15 +29,20 @@ def parsed(words):
     parser.add_argument("-o", dest="output", metavar="OUT.s", help="where to write; standard output if absent")
     parser.add_argument("--into", metavar="FOLDER", help="where to write a file of the same name for each of several")
     parser.add_argument("--format", type=format_of, choices=[1, 2, WORDS], default=WORDS, help="the image's format; words if absent")
-    parser.add_argument("--passes", default=",".join(PASSES), metavar="NAMES",
-                        help="the passes that make the code cheaper; %(default)s if absent")
+    parser.add_argument("--passes", metavar="NAMES",
+                        help=f"the passes that make the code cheaper; {','.join(PASSES)} if absent, with --debug {','.join(checking.PASSES)}")
+    parser.add_argument("--debug", action="store_true", help="in words: what masks would change is compared, and ends the run by ebreak")
     parser.add_argument("--jobs", type=int, default=os.cpu_count() or 1, metavar="N", help="how many processes share a long file's functions; "
                                                                                           "as many as there are processors if absent")
     parser.add_argument("--movable", action="store_true", help="addresses are made from the bases of the sandbox's regions at run time")
     options = parser.parse_args(words)
+    if options.passes is None:
+        options.passes = ",".join(checking.PASSES if options.debug else PASSES)
     options.passes = tuple(name for name in options.passes.split(",") if name)
     if not set(options.passes) <= set(PASSES):
         parser.error(f"the passes are {', '.join(PASSES)}")
+    if options.debug and options.format != WORDS:
+        parser.error("--debug is for words")
     if len(options.files) > 1 and not options.into:
         parser.error("several files want --into")
     return options
@@ -45,7 +51,8 @@ def parsed(words):
 def rewrite(options, path):
     """Writes what becomes of one file."""
     with open(path, **ENCODING) as file:
-        text = rewritten(os.path.basename(path), file.read(), options.passes, options.format, options.movable, options.jobs)
+        text = rewritten(os.path.basename(path), file.read(), options.passes, options.format, options.movable, options.jobs,
+                         options.debug)
     output = os.path.join(options.into, os.path.basename(path)) if options.into else options.output
     with open(output or sys.stdout.fileno(), "w", closefd=output is not None, **ENCODING) as file:
         file.write(text)

@@ -35,6 +35,7 @@ from suygapid.services import GATES
 LINKED = (".o", ".a")
 SMALLER: tuple[list[str], ...] = ([], ["-msmall-data-limit=8"], ["-msmall-data-limit=0"])
 TOO_MANY_SMALL = b"the small objects and the room below them exceed"  # what the linker script says
+DEBUG = ["-Og", "-g", "-fstack-protector-strong"]  # what goes before the compiler's options that are given
 KEEPING = "known,sharing,stepping"  # passes that leave the stack pointer, variables and the order of instructions as they were
 
 
@@ -83,6 +84,9 @@ def options_parser():
     parser.add_argument("--format", choices=list(FORMATS), default="words", help="the image's format; words if absent")
     parser.add_argument("--movable", action="store_true",
                         help="makes code that does the same wherever its image is moved (tools/sfi-move, sfi_c_move)")
+    parser.add_argument("--debug", action="store_true",
+                        help=f"makes a slower program, by {' '.join(DEBUG)}, that traps where a pointer leads outside the data, the stack "
+                             "meets the objects, or memory of malloc is misused")
     parser.add_argument("--stack", type=number(0, 1 << 20), metavar="N", help="room for the stack at least, in bytes; 8192 if absent")
     parser.add_argument("--data", type=region, metavar="N", help="the size of the data region, a power of two")
     parser.add_argument("--sandbox", type=number(0, MOST_SANDBOXES - 1), default=0, metavar="N",
@@ -123,7 +127,10 @@ def parsed(words):
     if not files:
         parser.error("a FILE of C, C++ or assembly is wanted")
     options.cc = options.cc or default_compiler()
-    options.target, options.takes_small = Target(options.format, options.movable), False
+    options.target, options.takes_small = Target(options.format, options.movable, options.debug), False
+    if options.debug and options.format != "words":
+        parser.error("--debug is for words")
+    given = [*DEBUG * options.debug, *given]
     for option, names in (("gate", [name for name, _ in options.gate]), ("export", options.exports), ("import", options.imports)):
         if len(set(names)) < len(names):
             parser.error(f"argument --{option}: {max(names, key=names.count)!r} is given twice")
@@ -150,7 +157,7 @@ def passes_of(options, given):
     """The passes that run. Where a program is to be looked at in a debugger, they keep variables in their registers."""
     levels = [word for word in given if word.startswith("-O")]
     is_looked_at = any(word.startswith("-g") for word in given) and levels[-1:] in (["-O0"], ["-Og"])
-    return options.passes if options.passes is not None or not is_looked_at else KEEPING
+    return options.passes if options.passes is not None or not is_looked_at or options.debug else KEEPING
 
 
 @dataclass(frozen=True)

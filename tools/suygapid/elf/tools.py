@@ -28,13 +28,14 @@ def assembled(text: bytes, output: str) -> bytes:
 
 @dataclass(frozen=True)
 class Target:
-    """What code is made for: a format, and whether the program can be moved."""
+    """What code is made for: a format, whether the program can be moved, and whether it stops where masks change something."""
     format: str
     is_movable: bool = False
+    is_checking: bool = False
 
     def words(self) -> list[str]:
         """The options of asm2elf."""
-        return [f"--format={self.format}", *["--movable"] * self.is_movable]
+        return [f"--format={self.format}", *["--movable"] * self.is_movable, *["--debug"] * self.is_checking]
 
 
 def texts_of(patterns: Iterable[str]) -> list[str]:

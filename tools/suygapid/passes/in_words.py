@@ -100,12 +100,20 @@ class InWords(Writer):
             link, base = op.operands[0], op.base
         else:
             link, base = "zero", "ra" if op.word == "ret" else op.operands[0]
-        self.wide(*(text.format(base) for text in MASKS_OF_JUMP), f"jalr {link}, 0(x30)")
+        self.wide(*self.masks_of_jump(base), f"jalr {link}, 0(x30)")
+
+    @staticmethod
+    def masks_of_jump(base):
+        return [text.format(base) for text in MASKS_OF_JUMP]
+
+    @staticmethod
+    def masks_of_access(base):
+        return [text.format(base) for text in MASKS_BEFORE]
 
     def call(self, name):
         if self.is_weak(name):
             self.address(Op("la", ("ra", name), None, address=RELATIVE if self.is_movable else ""))
-            self.wide(*(text.format("ra") for text in MASKS_OF_JUMP), "jalr ra, 0(x30)")
+            self.wide(*self.masks_of_jump("ra"), "jalr ra, 0(x30)")
         else:
             self.wide(f"jal ra, {name}")
 
@@ -117,7 +125,7 @@ class InWords(Writer):
         elif is_move(op):
             self.wide(*(text.format(name, self.source(op)) for text in MASKS_OF_MOVE))
         elif op.masked_base:
-            self.access(op, [text.format(op.masked_base) for text in MASKS_BEFORE], "x29")
+            self.access(op, self.masks_of_access(op.masked_base), "x29")
         elif op.is_access and op.base == "zero":
             self.access(op, [], "x26")
         else:

@@ -5,6 +5,7 @@ from functools import cached_property
 from heapq import heapreplace
 
 from suygapid.passes.assembly import Refused
+from suygapid.passes.checking import Checking
 from suygapid.passes.debug_data import Unknown
 from suygapid.passes.improving import PASSES, Whole, improved
 from suygapid.passes.in_bundles import InBundles
@@ -55,7 +56,7 @@ class Code:
 class Rewriting:
     """A file for a format: its code by sections, in parts, and all else."""
 
-    def __init__(self, name, text, passes, image_format, is_movable=False):
+    def __init__(self, name, text, passes, image_format, is_movable=False, is_checking=False):
         self.unit, self.passes, self.format = Unit(name, text), passes, image_format
         self.given, self.orders = by_sections(self.unit, is_movable)
         sections = [Code(pieces) for pieces in self.given.values()]
@@ -66,7 +67,8 @@ class Rewriting:
         self.small = SmallData(self.unit, ops)
         self.told = [*margin_lines(ops, image_format), *(format_lines(image_format) if ops else ()),
                      *frame_lines(list(self.given.values())), *name_lines(self.unit)]
-        self.writer = (InWords if image_format == WORDS else InBundles)(self.unit, self.small, image_format, is_movable)
+        writer = InBundles if image_format != WORDS else Checking if is_checking else InWords
+        self.writer = writer(self.unit, self.small, image_format, is_movable)
         self.size, self.whole = len(ops), Whole(free_addresses(ops), largest_step(ops))
         self.parts = joined(self.given)
         with_others(self.given, self.parts)
@@ -149,6 +151,6 @@ def begin(rewriting, numbers):
         os._exit(0)
 
 
-def rewritten(name, text, passes=PASSES, image_format=WORDS, is_movable=False, jobs=1):
+def rewritten(name, text, passes=PASSES, image_format=WORDS, is_movable=False, jobs=1, is_checking=False):
     """The GNU assembly of a file, whose name and text are given, by so many processes."""
-    return Rewriting(name, text, passes, image_format, is_movable).text(jobs)
+    return Rewriting(name, text, passes, image_format, is_movable, is_checking).text(jobs)
