@@ -143,9 +143,10 @@ def words_of(options, libraries, objects, folder):
     names = Names(options, objects)
     main = ["libplugin.a"] if names.exports else []  # where a host calls functions, there need be no other
     own = [os.path.join(made, name) for name in ("libruntime.a", "libgates.a", "libmovable.a", *main)]
+    heap = [os.path.join(made, "heap_checks.o"), "--wrap=exit_with"] if options.target.is_checking and libraries.have_heap else []
     fresh = os.path.join(folder, "program.elf")
     first = [binutil("ld"), *WORDS, *numbers_of(options, names), *START]
     return fresh, first, [
         "-T", runtime.SCRIPT, *options.linker, "-o", fresh, os.path.join(made, "crt0.o"),
-        *(path for path in objects if path not in archives), *names.objects(folder), *heap_of(options, folder),
+        *(path for path in objects if path not in archives), *names.objects(folder), *heap_of(options, folder), *heap,
         "--start-group", *archives, *named, *names.archives(folder), *libraries.archives, *own, "--end-group"]

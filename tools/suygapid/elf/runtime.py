@@ -12,6 +12,7 @@ from suygapid.services import GATES
 LIB = os.path.join(TOOLS, "suygapid", "runtime")
 SCRIPT = os.path.join(LIB, "sandbox.ld")
 FUNCTIONS = [os.path.join(LIB, f"{name}.asm") for name in ("constructors", "runtime", "atomics", "stack_protector")]
+HEAP_CHECKS = os.path.join(LIB, "heap_checks.asm")  # the malloc of programs that stop at mistakes
 OF_MOVABLE = [os.path.join(LIB, "movable.s"), os.path.join(LIB, "settle.asm")]  # what a moved program runs before all else
 OVERRIDDEN = ("memcpy", "memmove", "memset", "memcmp", "strlen")  # a program may have its own
 MADE_OF = (*CONVERTER, "suygapid/services.py", "suygapid/runtime/*.asm", "suygapid/runtime/*.s", "suygapid/cc/compilers.py",
@@ -60,7 +61,7 @@ def heap_object(folder: str, size: int) -> str:
 
 
 def make(folder: str, target: Target) -> None:
-    """Fills a folder with crt0.o, libgates.a, libmovable.a, libplugin.a and libruntime.a."""
+    """Fills a folder with crt0.o, libgates.a, libmovable.a, libplugin.a and libruntime.a, and with heap_checks.o, if it's wanted."""
     object_of(folder, os.path.join(LIB, "crt0.s"), target)
     archived(os.path.join(folder, "libmovable.a"), [object_of(folder, path, target) for path in OF_MOVABLE])
     archived(os.path.join(folder, "libgates.a"),
@@ -71,6 +72,8 @@ def make(folder: str, target: Target) -> None:
         objects.append(object_of(folder, path, target))
         ran([binutil("objcopy"), *(f"--weaken-symbol={name}" for name in OVERRIDDEN), objects[-1]])
     archived(os.path.join(folder, "libruntime.a"), objects)
+    if target.is_checking:
+        object_of(folder, HEAP_CHECKS, target)
 
 
 def folder_of(target: Target) -> str:

@@ -79,6 +79,7 @@ class Libraries:
 
     def __init__(self, options, folders, objects):
         self.archives = [archive_of(folder, options.target) for folder in folders]
+        self.have_heap = any(os.path.exists(os.path.join(folder, mark)) for folder in folders for mark in (small_library.MARK, newlib.MARK))
         self.wanted = None  # what to install for floating point
         if softfloat.speaks_of_floats([path for path in objects if os.path.exists(path)]):
             folder = softfloat.folder_of(options.cc)

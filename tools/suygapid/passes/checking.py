@@ -1,7 +1,8 @@
 """Code in words for a search for mistakes: each address and each target of a jump is compared with what its masks make of it, and the
 stack pointer with the objects' end. Where they differ, an `ebreak` ends the run, where the masks would lead it on with data or code
 of the program's that nobody meant."""
-from suygapid.passes.in_words import MASKS_AFTER, InWords
+from suygapid.passes.facts import STORES
+from suygapid.passes.in_words import MASKS_AFTER, InWords, needs_no_masks
 
 PASSES = ("known",)  # of the others some have an address masked, and so compared, elsewhere than where it is used
 END = "__sfi_end"  # of the objects: the stack has the room above
@@ -12,7 +13,19 @@ def stopped_unless(branch):
     return [f"{branch}, .+8", "ebreak"]
 
 
+def room_for(count):
+    """What asks for room for so many bytes below the stack pointer."""
+    limit, masks = f"{END}+{count}", [text.format("x29") for text in MASKS_AFTER]
+    return [f"lui x29, %hi({limit})", *masks, f"addi x29, x29, %lo({limit})", *masks, *stopped_unless("bgeu sp, x29")]
+
+
+def is_frame(op):
+    return op.written == "sp" and op.step is not None and op.step < 0
+
+
 class Checking(InWords):
+    is_lower = False  # whether the stack pointer was moved down and not looked at since
+
     @staticmethod
     def masks_of_jump(base):
         return [*InWords.masks_of_jump(base), *stopped_unless(f"beq x30, {base}")]
@@ -27,22 +40,31 @@ class Checking(InWords):
             self.wide("ebreak")
         super().access(op, before, base)
 
+    def piece(self, op, following):
+        """Looks at the stack pointer after the frame is taken and registers are saved in it, so that a debugger finds the
+        caller's frame. In front of a frame that gets masks, which may lead above the stack, it asks for the frame's room."""
+        if self.is_lower and not (op.word in STORES and op.base == "sp"):
+            self.look_at_stack()
+        super().piece(op, following)
+        self.is_lower = self.is_lower or is_frame(op) and needs_no_masks(op, following)
+
+    def label(self, name):
+        self.look_at_stack()
+        super().label(name)
+
+    def look_at_stack(self):
+        if self.is_lower:
+            self.write(None, *("\t" + text for text in room_for(0)))
+        self.is_lower = False
+
     def one(self, op, following):
-        """What moves the stack pointer down has room for it. That is looked at before a frame is taken, so that a debugger finds
-        the caller's."""
-        if op.step is not None and op.step < 0 and op.written == "sp":
-            self.wide(*self.room_for(-op.step))
+        if is_frame(op) and not needs_no_masks(op, following):
+            self.wide(*room_for(-op.step))
         super().one(op, following)
         if op.word in ("add", "sub") and op.written == "sp":
-            self.wide(*self.room_for(0))
-
-    @staticmethod
-    def room_for(count):
-        limit, masks = f"{END}+{count}", [text.format("x29") for text in MASKS_AFTER]
-        return [f"lui x29, %hi({limit})", *masks, f"addi x29, x29, %lo({limit})", *masks, *stopped_unless("bgeu sp, x29")]
+            self.wide(*room_for(0))
 
     def beside(self, text, begun):
         """Puts a soft item of the stack pointer beside the instruction that moves it."""
-        room = self.room_for(0)
-        is_looked_at = self.out[begun].startswith(f"\tlui x29, %hi({END}+")
-        super().beside(text, begun + len(room) * is_looked_at)
+        is_asked = self.out[begun].startswith(f"\tlui x29, %hi({END}+")
+        super().beside(text, begun + len(room_for(0)) * is_asked)
