@@ -10,10 +10,10 @@ import version
 TOP = pathlib.Path(__file__).resolve().parent.parent
 SHARE = "share/suygapid"  # the tools, at the places that they have in the repository
 NOTED = f"{SHARE}/installed"  # the list of all that was installed
-TOOLS = ("sfi-cc", "sfi-gdb", "sfi-image", "sfi-library", "sfi-move", "sfi-trace")
+TOOLS = ("sfi-cc", "sfi-exec", "sfi-gdb", "sfi-image", "sfi-library", "sfi-move", "sfi-trace")
 FOLDERS = ("tools/suygapid", "examples/c/include", "examples/c/library", "bindings/python", "bindings/rust", "bindings/node")
 SINGLE = ("tools/asm2elf", "examples/c/gates.h")
-PAGES = ("sfi.1", "sfi-cc.1", "sfi-gdb.1", "sfi-image.1", "sfi-library.1", "sfi-move.1",
+PAGES = ("sfi.1", "sfi-cc.1", "sfi-exec.1", "sfi-gdb.1", "sfi-image.1", "sfi-library.1", "sfi-move.1",
          "sfi-trace.1")
 DOCUMENTS = ("README.md", "CHANGELOG.md", "CONTRIBUTING.md", "SECURITY.md", "docs/*.md", "docs/*.png")  # at the same places below share/doc/suygapid
 TOLD = {"sfi_c": "The checker of Suygapid's images", "sfi_run": "Checks Suygapid's images and runs their sandboxes"}

@@ -36,7 +36,7 @@ class Version(unittest.TestCase):
 
 class Pages(unittest.TestCase):
     def test_each_option_is_in_the_manual(self):
-        for tool in ("sfi-cc", "sfi-gdb", "sfi-image", "sfi-library", "sfi-move", "sfi-trace"):
+        for tool in ("sfi-cc", "sfi-exec", "sfi-gdb", "sfi-image", "sfi-library", "sfi-move", "sfi-trace"):
             said = subprocess.run([TOOLS / tool, "--help"], capture_output=True, text=True, check=True).stdout
             page = (version.TOP / "docs" / f"{tool}.1").read_text(encoding="utf-8").replace("\\-", "-")
             for option in set(re.findall(r"^  (-[\w-]+)", said, re.MULTILINE)) - {"-h"}:

@@ -26,6 +26,7 @@ PLACES = [
     ("bindings/node/library.mjs", r'^export const VERSION = "(.*)"'),
     ("docs/sfi.1", r'^\.TH .* "Suygapid (.*)" '),
     ("docs/sfi-cc.1", r'^\.TH .* "Suygapid (.*)" '),
+    ("docs/sfi-exec.1", r'^\.TH .* "Suygapid (.*)" '),
     ("docs/sfi-gdb.1", r'^\.TH .* "Suygapid (.*)" '),
     ("docs/sfi-image.1", r'^\.TH .* "Suygapid (.*)" '),
     ("docs/sfi-move.1", r'^\.TH .* "Suygapid (.*)" '),

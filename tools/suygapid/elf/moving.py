@@ -18,7 +18,7 @@ ADDRESS, UPPER = 1, 26  # R_RISCV_32, R_RISCV_HI20
 ABSOLUTE = 0xff00  # from here on no symbol is of a section
 PAGE = 4096  # bases are multiples of it, so that the lower part of an address is that of its place in the region
 WORD, CODE_BIT, FARTHEST = 4, 128, 127
-MASKED = (2, 3, 4)  # registers to which masks give the base
+MASKED = (2, 3, 4, 29)  # registers to which masks give the base
 BASES = {"code": 24, "data": 26}  # the registers that hold them
 
 

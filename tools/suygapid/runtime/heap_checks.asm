@@ -187,18 +187,18 @@ stop:
 	sw	s4,8(sp)
 	.cfi_offset 20, -24
 	lui	s4,%hi(.LC1)
-	sw	s1,20(sp)
-	.cfi_offset 9, -12
-	mv	s1,a0
+	sw	s2,16(sp)
+	.cfi_offset 18, -16
+	mv	s2,a0
 	addi	a0,s4,%lo(.LC1)
 	sw	ra,28(sp)
 	sw	s0,24(sp)
-	sw	s2,16(sp)
+	sw	s1,20(sp)
 	.cfi_offset 1, -4
 	.cfi_offset 8, -8
-	.cfi_offset 18, -16
+	.cfi_offset 9, -12
 	mv	s0,a2
-	mv	s2,a3
+	mv	s1,a3
 	sw	s3,12(sp)
 	.cfi_offset 19, -20
 	mv	s3,a1
@@ -206,10 +206,10 @@ stop:
 	mv	a1,a0
 	addi	a0,s4,%lo(.LC1)
 	call	put
-	mv	a0,s1
+	mv	a0,s2
 	call	strlen
 	mv	a1,a0
-	mv	a0,s1
+	mv	a0,s2
 	call	put
 	lui	a0,%hi(.LC2)
 	mv	a1,s3
@@ -226,7 +226,7 @@ stop:
 	beq	a4,a5,.L50
 .L47:
 	lui	a0,%hi(.LC5)
-	mv	a1,s2
+	mv	a1,s1
 	addi	a0,a0,%lo(.LC5)
 	call	say_address
 	lui	s0,%hi(.LC6)
@@ -236,7 +236,8 @@ stop:
 	addi	a0,s0,%lo(.LC6)
 	call	put
  #APP
-# 78 "../../tools/suygapid/runtime/heap_checks.c" 1
+# 79 "../../tools/suygapid/runtime/heap_checks.c" 1
+	mv ra, s1
 	ebreak
 # 0 "" 2
  #NO_APP

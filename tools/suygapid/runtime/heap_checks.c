@@ -75,7 +75,8 @@ static void stop(const char *what, const void *bytes, const struct block *block,
         say_address(", freed by that before ", block->freed);
     say_address("; found by that before ", found);
     say("\n");
-    __asm__ volatile("ebreak"); /* for the compiler it goes on, so that each frame keeps the caller's address */
+    /* For the compiler it goes on, so that each frame keeps the caller's address. */
+    __asm__ volatile("mv ra, %0\n\tebreak" : : "r"(found) : "ra");
 }
 
 static int is_filled(const byte *from, const byte *to, byte value) {
