@@ -18,7 +18,7 @@ OF_GCC = ["-Werror=trampolines", f"--param=case-values-threshold={CASES}"]
 PLUS_PLUS = ["-fno-exceptions", "-fno-rtti", "-fno-threadsafe-statics"]
 HOSTED = "-fhosted"  # what undoes -ffreestanding, which C++ isn't compiled with
 GCC_HEADERS = ["-idirafter", os.path.join(os.path.dirname(__file__), "plus_plus")]  # what C++ by gcc has where there is no C library
-LAST = ["-fno-lto", "-mno-save-restore"]  # what outweighs the options that are given
+LAST = ["-fno-lto"]  # what outweighs the options that are given
 TARGET = ["--target=riscv32-unknown-elf", "-fno-jump-tables"]  # llc makes tables of any five cases, or none
 NAMES = "-fno-discard-value-names"  # llc takes no address of a block without a name after the block's function
 LLC = ["-march=riscv32", "-target-abi=ilp32", "--function-sections", "--data-sections"]

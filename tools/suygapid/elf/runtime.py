@@ -11,7 +11,8 @@ from suygapid.services import GATES
 
 LIB = os.path.join(TOOLS, "suygapid", "runtime")
 SCRIPT = os.path.join(LIB, "sandbox.ld")
-FUNCTIONS = [os.path.join(LIB, f"{name}.asm") for name in ("constructors", "runtime", "atomics", "stack_protector")]
+FUNCTIONS = [*(os.path.join(LIB, f"{name}.asm") for name in ("constructors", "runtime", "atomics", "stack_protector")),
+             os.path.join(LIB, "save_restore.s")]
 HEAP_CHECKS = os.path.join(LIB, "heap_checks.asm")  # the malloc of programs that stop at mistakes
 OF_MOVABLE = [os.path.join(LIB, "movable.s"), os.path.join(LIB, "settle.asm")]  # what a moved program runs before all else
 OVERRIDDEN = ("memcpy", "memmove", "memset", "memcmp", "strlen")  # a program may have its own

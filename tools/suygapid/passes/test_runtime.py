@@ -118,6 +118,32 @@ int main(void) {
 }
 '''
 
+# Functions that keep one register, some and all, beside an array.
+FRAMES = FRAME + r'''
+static unsigned state = 7;
+__attribute__((noinline)) unsigned next(void) { return state = state * 1103515245 + 12345; }
+__attribute__((noinline)) unsigned few(unsigned a) { unsigned x = next(); return (next() ^ x) + a; }
+__attribute__((noinline)) unsigned some(unsigned a, unsigned b) { unsigned x = few(a), y = few(b); return few(x + b) ^ few(y) ^ x * y; }
+__attribute__((noinline)) unsigned many(unsigned a, unsigned b, unsigned c, unsigned d, unsigned e, unsigned f) {
+    unsigned p = next(), q = few(a), r = next(), s = some(b, p);
+    for (unsigned k = 0; k < 5; k++)
+        p += next() * q + r * few(k) + a * s, q ^= b + c * d, r -= e ^ f;
+    return p ^ q ^ r ^ s ^ a ^ b ^ c ^ d ^ e ^ f;
+}
+__attribute__((noinline)) unsigned array(unsigned n) {
+    volatile unsigned of[600];
+    for (unsigned k = 0; k < n; k++)
+        of[k] = few(k);
+    return of[n - 1] + many(of[0], of[1], of[2], of[3], 4, 5);
+}
+int main(void) {
+    for (unsigned k = 0; k < 20; k++)
+        say(many(k, state, k * 3, 7, state >> 3, k) + array(10 + k));
+    end();
+    return 0;
+}
+'''
+
 # Writes as many bytes into an array of twelve as the first of the input says.
 OVERFLOW = r'''
 #include "gates.h"
@@ -169,6 +195,12 @@ class Runtime(Folder):
 
     def test_atomic_objects(self):
         self.compare(OBJECTS, "exit=8 ", ((),))
+
+    @needs("gcc")
+    def test_save_restore(self):
+        """Frames of each size, by the functions that keep registers."""
+        options = (("-msave-restore",), ("-msave-restore", "-Os"), ("-msave-restore", "-O1", "-fno-omit-frame-pointer"))
+        self.compare(FRAMES, f"exit=0 .*out={self.native(FRAMES)}\n$", options)
 
     def test_stack_protector(self):
         """An array that has overflowed, also by one byte, a zero, ends the program by an ebreak."""
