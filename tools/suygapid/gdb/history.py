@@ -7,8 +7,8 @@ else in the past, what came after it is forgotten."""
 from __future__ import annotations
 
 from collections.abc import Callable
-from dataclasses import dataclass, field, replace
-from typing import Optional
+from dataclasses import dataclass, field
+from typing import NamedTuple, Optional
 
 from sfi_run import Call, Event, Exited, NotEntered, Ready, Registers, Trapped, World
 from suygapid.gdb.answers import Answers
@@ -22,8 +22,7 @@ CHECKPOINTS = 64  # the most of them: of more each second one goes, and new ones
 CLOSE = 1000  # steps before a time that is gone back to, where a checkpoint is for the next steps back
 
 
-@dataclass(frozen=True)
-class Done:
+class Done(NamedTuple):
     """What the host did at a time. A reply to a call is a step, too; anything else takes no time."""
     time: int
     writes: tuple[tuple[int, bytes], ...] = ()
@@ -87,7 +86,7 @@ class History:
 
     def note(self, done: Done) -> None:
         self.forget_future()
-        self.done.append(replace(done, answered=len(self.answers.calls)))
+        self.done.append(done._replace(answered=len(self.answers.calls)))
         self.place += 1
 
     def forget_future(self) -> None:
