@@ -133,6 +133,14 @@ try_end() { # format
         "$(tail -n +2 "$room/output" | paste -sd' ')"
 }
 
+# From a function that the library calls back to main.
+try_callers() { # format
+    elf_of "callers.$1.elf" "$1" -Og -g elf/gdb/callers.c
+    "$tools/sfi-gdb" "$room/callers.$1.elf" -nx -batch -ex continue -ex backtrace >"$room/output" 2>&1
+    report "the library's callers in gdb, format $1" "compare qsort main" \
+        "$(grep -oE '^#.*(compare|qsort|main) \(' "$room/output" | grep -oE 'compare|qsort|main' | paste -sd' ')"
+}
+
 # At turn k of a loop the pointer is k words above the numbers, and the sum is as computed here, or gdb doesn't show them.
 try_kept() { # format, level
     elf_of "kept.$1.elf" "$1" "$2" -g elf/gdb/kept.c
@@ -171,6 +179,7 @@ try_debugging() {
     for format in $(formats_due); do
         try_gdb "$format"
         try_end "$format"
+        try_callers "$format"
         try_kept "$format" -O2
         try_kept "$format" -Og
         try_variables "$format"

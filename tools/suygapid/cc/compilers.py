@@ -18,6 +18,7 @@ OF_GCC = ["-Werror=trampolines", f"--param=case-values-threshold={CASES}"]
 PLUS_PLUS = ["-fno-exceptions", "-fno-rtti", "-fno-threadsafe-statics"]
 HOSTED = "-fhosted"  # what undoes -ffreestanding, which C++ isn't compiled with
 GCC_HEADERS = ["-idirafter", os.path.join(os.path.dirname(__file__), "plus_plus")]  # what C++ by gcc has where there is no C library
+WITH_FRAMES = "-fasynchronous-unwind-tables"  # of a library, so that a debugger finds the callers of its functions
 LAST = ["-fno-lto"]  # what outweighs the options that are given
 TARGET = ["--target=riscv32-unknown-elf", "-fno-jump-tables"]  # llc makes tables of any five cases, or none
 NAMES = "-fno-discard-value-names"  # llc takes no address of a block without a name after the block's function

@@ -4,7 +4,7 @@ import os
 import shutil
 from concurrent.futures import ThreadPoolExecutor
 
-from suygapid.cc.compilers import RESERVED_IN_WORDS, compiled, is_clang, version
+from suygapid.cc.compilers import RESERVED_IN_WORDS, WITH_FRAMES, compiled, is_clang, version
 from suygapid.kept import kept
 from suygapid.library import softfloat
 from suygapid.library.sources import GCC_SOURCE, NEWLIB_SOURCE, identity, unpacked
@@ -33,7 +33,7 @@ VARIANTS = [("vfiprintf", "libc/stdio/vfprintf.c", ["-DINTEGER_ONLY"]),
 VARIANTS += [(f"nano-{name}", "libc/stdlib/nano-mallocr.c", ["-DINTERNAL_NEWLIB", f"-DDEFINE_{name.upper()}"])
              for name in ("malloc", "free", "realloc", "calloc", "cfree", "memalign", "valloc", "pvalloc", "mallinfo",
                           "malloc_stats", "malloc_usable_size", "mallopt")]
-OPTIONS = ["-w", "-fhosted", "-fno-common", "-fno-tree-loop-distribute-patterns", "-D_LIBC", "-D_COMPILING_NEWLIB",
+OPTIONS = ["-w", WITH_FRAMES, "-fhosted", "-fno-common", "-fno-tree-loop-distribute-patterns", "-D_LIBC", "-D_COMPILING_NEWLIB",
            "-D_POSIX_MODE"]  # the functions of math.h set errno, as its math_errhandling says
 OF_GCC = {"-fno-tree-loop-distribute-patterns"}  # of these, what clang doesn't know
 # Headers whose functions newlib has for other systems alone, or that want others of such a system. A program that asks for

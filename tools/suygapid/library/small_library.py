@@ -6,7 +6,7 @@ import re
 import shutil
 
 from suygapid import TOP
-from suygapid.cc.compilers import HOSTED, RESERVED_IN_WORDS, compiled, version
+from suygapid.cc.compilers import HOSTED, RESERVED_IN_WORDS, WITH_FRAMES, compiled, version
 from suygapid.kept import kept
 
 SOURCES = os.path.join(TOP, "examples", "c", "library")
@@ -62,7 +62,7 @@ def make(compiler: str, folder: str) -> None:
     shutil.copytree(HEADERS, os.path.join(folder, "include"))
     for path in sorted(glob.glob(os.path.join(SOURCES, "*.c"))):
         room = os.path.join(folder, "room")
-        assembly, _ = compiled(compiler, [HOSTED, "-w", "-isystem", HEADERS], path, room)
+        assembly, _ = compiled(compiler, [HOSTED, "-w", WITH_FRAMES, "-isystem", HEADERS], path, room)
         os.rename(assembly, os.path.join(folder, os.path.basename(assembly)))
         shutil.rmtree(room)
     with open(os.path.join(folder, MARK), "w", encoding="utf-8"):
@@ -71,7 +71,7 @@ def make(compiler: str, folder: str) -> None:
 
 def folder_of(compiler: str) -> str:
     """The folder of the library by a compiler, which is kept."""
-    words = [version(compiler), str(RESERVED_IN_WORDS), MARK]
+    words = [version(compiler), str(RESERVED_IN_WORDS), MARK, WITH_FRAMES]
     for path in [*headers(), *sorted(glob.glob(os.path.join(SOURCES, "*"))), GATES]:
         with open(path, encoding="utf-8") as file:
             words += [os.path.basename(path), file.read()]

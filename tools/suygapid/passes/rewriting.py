@@ -16,7 +16,7 @@ from suygapid.passes.parts import joined, section_mark, sections_of, with_others
 from suygapid.passes.shown import AllShown
 from suygapid.passes.small_data import SmallData, is_near
 from suygapid.passes.soft import Order, without_soft_labels
-from suygapid.passes.telling import format_lines, frame_lines, margin_lines, name_lines
+from suygapid.passes.telling import format_lines, frame_lines, frame_table_lines, margin_lines, name_lines
 from suygapid.passes.trampolines import check_trampolines
 from suygapid.passes.typed import WORDS, check_registers, free_addresses, largest_step
 from suygapid.passes.unit import Unit
@@ -66,7 +66,7 @@ class Rewriting:
             check_registers(ops)
         self.small = SmallData(self.unit, ops)
         self.told = [*margin_lines(ops, image_format), *(format_lines(image_format) if ops else ()),
-                     *frame_lines(list(self.given.values())), *name_lines(self.unit)]
+                     *frame_lines(list(self.given.values())), *name_lines(self.unit), *frame_table_lines(self.unit)]
         writer = InBundles if image_format != WORDS else Checking if is_checking else InWords
         self.writer = writer(self.unit, self.small, image_format, is_movable)
         self.size, self.whole = len(ops), Whole(free_addresses(ops), largest_step(ops))

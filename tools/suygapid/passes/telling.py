@@ -53,3 +53,10 @@ def name_lines(unit):
     for kind, names in (("export", unit.exports()), ("import", unit.imports())):
         for name in names:
             yield from weak_number(f"__sfi_{kind}_{name}")
+
+
+def frame_table_lines(unit):
+    """Has what says where each frame lies stand where debuggers look for it, and the linker keeps it."""
+    items = (text for section in unit.sections.values() for _, text in section.soft)
+    is_asked = any(".cfi_startproc" in text for text in items) and not any(".cfi_sections" in text for text in unit.symbols)
+    return ["\t.cfi_sections .debug_frame"] * is_asked

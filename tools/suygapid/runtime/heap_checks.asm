@@ -4,9 +4,6 @@
 	.attribute unaligned_access, 0
 	.attribute stack_align, 16
 	.text
- #APP
-	.cfi_sections .debug_frame
- #NO_APP
 	.section	.text.found_from,"ax",@progbits
 found_from:
 .LFB14:
@@ -236,7 +233,7 @@ stop:
 	addi	a0,s0,%lo(.LC6)
 	call	put
  #APP
-# 79 "../../tools/suygapid/runtime/heap_checks.c" 1
+# 77 "../../tools/suygapid/runtime/heap_checks.c" 1
 	mv ra, s1
 	ebreak
 # 0 "" 2

@@ -4,8 +4,6 @@
    The heap is a row of blocks, each a head, the bytes that are handed out, and a zone behind them. What is handed out, what is
    freed and the zones are filled with bytes of their own. A block that is freed waits until the heap is a quarter full of
    such ones, and nothing may write into it meanwhile. */
-__asm__(".cfi_sections .debug_frame"); /* where debuggers find each function's caller */
-
 typedef unsigned size;
 typedef unsigned char byte;
 
