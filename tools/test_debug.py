@@ -130,6 +130,12 @@ class Debug(Folder):
                 done = self.ran(self.built(BEGINNING + HONEST, "--debug", *options))
                 self.assertEqual((done.returncode, done.stderr), (42, ""))
 
+    def test_small_heaps(self):
+        """Where there is no room, there is no memory."""
+        text = BEGINNING + "int main(void) { int n = 0; while (n < 100 && malloc(1)) n++; free(NULL); return n; }"
+        for size, count in ((0, 0), (40, 0), (64, 1), (130, 2)):
+            self.assertEqual(self.ran(self.built(text, "--debug", "--heap", str(size))).returncode, count)
+
     def test_own_functions(self):
         """A program may have a malloc of its own."""
         text = BEGINNING + "static char own[64];\nvoid *malloc(size_t n) { return own; }\nvoid free(void *p) {}\nint main(void) { return malloc(5) == own; }"

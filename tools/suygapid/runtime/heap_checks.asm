@@ -609,109 +609,107 @@ take:
 	.cfi_startproc
 	addi	sp,sp,-96
 	.cfi_def_cfa_offset 96
-	sw	s5,68(sp)
-	.cfi_offset 21, -28
-	lui	s5,%hi(cursor)
-	lw	a5,%lo(cursor)(s5)
-	sw	s0,88(sp)
-	sw	s2,80(sp)
 	sw	s6,64(sp)
-	lui	a4,%hi(__heap_size)
+	.cfi_offset 22, -32
+	lui	s6,%hi(cursor)
+	lw	a5,%lo(cursor)(s6)
+	sw	s0,88(sp)
+	sw	s3,76(sp)
 	sw	ra,92(sp)
 	sw	s1,84(sp)
-	sw	s3,76(sp)
+	sw	s2,80(sp)
 	sw	s4,72(sp)
+	sw	s5,68(sp)
 	sw	s7,60(sp)
 	.cfi_offset 8, -8
-	.cfi_offset 18, -16
-	.cfi_offset 22, -32
+	.cfi_offset 19, -20
 	.cfi_offset 1, -4
 	.cfi_offset 9, -12
-	.cfi_offset 19, -20
+	.cfi_offset 18, -16
 	.cfi_offset 20, -24
+	.cfi_offset 21, -28
 	.cfi_offset 23, -36
 	sw	a0,12(sp)
-	lw	s2,%lo(__heap_size)(a4)
 	mv	s0,a1
-	mv	s6,a2
-	beq	a5,zero,.L133
-.L102:
-	lui	a4,%hi(calls)
-	lw	a5,%lo(calls)(a4)
-	addi	a5,a5,1
-	sw	a5,%lo(calls)(a4)
-	andi	a5,a5,255
-	beq	a5,zero,.L103
-.L106:
-	lw	a5,12(sp)
-	bgeu	a5,s2,.L105
-	lw	a5,12(sp)
-	lw	a0,%lo(cursor)(s5)
-	lui	s2,%hi(__heap)
-	addi	s1,a5,31
-	andi	s1,s1,-16
-	addi	s1,s1,32
-	lui	s3,%hi(oldest)
-	lui	s4,%hi(waiting)
+	mv	s3,a2
+	beq	a5,zero,.L138
+	lui	a3,%hi(calls)
+	lw	a4,%lo(calls)(a3)
+	addi	a4,a4,1
+	sw	a4,%lo(calls)(a3)
+	andi	a4,a4,255
+	beq	a4,zero,.L126
+	lui	s2,%hi(__heap_size)
+.L105:
+	lw	a4,%lo(__heap_size)(s2)
+	lw	a3,12(sp)
+	bleu	a4,a3,.L106
+	addi	s2,a3,31
+	andi	s2,s2,-16
+	addi	s2,s2,32
+	lui	s1,%hi(__heap)
+	lui	s4,%hi(oldest)
+	lui	s5,%hi(waiting)
 	j	.L110
-.L134:
+.L139:
 	mv	a2,s0
-	mv	a1,s1
-	addi	a0,s2,%lo(__heap)
+	mv	a1,s2
+	addi	a0,s1,%lo(__heap)
 	call	found_from
 	bne	a0,zero,.L109
-	lw	s7,%lo(oldest)(s3)
-	beq	s7,zero,.L105
+	lw	s7,%lo(oldest)(s4)
+	beq	s7,zero,.L106
+	mv	a1,s3
 	mv	a0,s7
-	mv	a1,s6
 	call	look_at
-	lw	a5,%lo(waiting)(s4)
+	lw	a5,%lo(waiting)(s5)
 	lw	a4,0(s7)
 	lw	a2,20(s7)
 	li	a3,1718771712
 	sub	a5,a5,a4
 	addi	a3,a3,1381
-	addi	a4,s2,%lo(__heap)
-	sw	a2,%lo(oldest)(s3)
-	sw	a5,%lo(waiting)(s4)
+	addi	a4,s1,%lo(__heap)
+	sw	a5,%lo(waiting)(s5)
+	sw	a2,%lo(oldest)(s4)
 	sw	a3,8(s7)
-	sw	a4,%lo(cursor)(s5)
-	addi	a0,s2,%lo(__heap)
+	sw	a4,%lo(cursor)(s6)
+	addi	a5,s1,%lo(__heap)
 .L110:
 	mv	a2,s0
-	mv	a1,s1
+	mv	a1,s2
+	mv	a0,a5
 	call	found_from
-	beq	a0,zero,.L134
+	beq	a0,zero,.L139
 .L109:
 	add	a5,a0,s0
 	addi	a5,a5,31
 	neg	a4,s0
 	and	a5,a5,a4
-	addi	s2,a5,-32
-	beq	a0,s2,.L113
-	sub	a4,s2,a0
+	addi	s1,a5,-32
+	beq	a0,s1,.L113
+	sub	a4,s1,a0
 	li	a3,31
 	bgtu	a4,a3,.L113
-	addi	s2,s0,-32
-	add	s2,s2,a5
-	beq	a0,s2,.L113
-.L135:
-	sub	a5,s2,a0
-	add	a4,s0,s2
+	addi	s1,s0,-32
+	add	s1,s1,a5
+	beq	a0,s1,.L113
+.L140:
+	sub	a5,s1,a0
+	add	a4,s0,s1
 	bgtu	a5,a3,.L113
-	mv	s2,a4
-	bne	a0,s2,.L135
+	mv	s1,a4
+	bne	a0,s1,.L140
 .L113:
 	lw	a4,0(a0)
-	add	a5,s1,s2
+	add	a5,s2,s1
 	add	a3,a0,a4
 	bgtu	a5,a3,.L115
-	bleu	a5,s2,.L115
-	bne	a0,s2,.L136
+	bleu	a5,s1,.L115
+	bne	a0,s1,.L141
 .L116:
-	lw	a4,0(s2)
+	lw	a4,0(s1)
 	li	a3,31
-	sub	a4,a4,s1
+	sub	a4,a4,s2
 	bleu	a4,a3,.L117
 	sw	a4,0(a5)
 	li	a4,1718771712
@@ -723,31 +721,59 @@ take:
 	sw	zero,24(a5)
 	sw	zero,28(a5)
 	sw	a4,8(a5)
-	sw	s1,0(s2)
+	sw	s2,0(s1)
 .L117:
-	lw	s1,12(sp)
+	lw	s2,12(sp)
 	li	a5,1970495488
 	addi	a5,a5,1380
-	sw	a5,8(s2)
+	sw	a5,8(s1)
 	li	a2,8
 	li	a1,251
-	sw	s1,4(s2)
-	sw	s6,12(s2)
-	addi	a0,s2,24
+	sw	s2,4(s1)
+	sw	s3,12(s1)
+	addi	a0,s1,24
 	call	memset
-	addi	s0,s2,32
-	mv	a2,s1
+	addi	s0,s1,32
+	mv	a2,s2
 	li	a1,205
 	mv	a0,s0
 	call	memset
-	lw	a2,0(s2)
-	addi	a0,s1,32
+	lw	a2,0(s1)
+	addi	a0,s2,32
 	li	a1,251
 	addi	a2,a2,-32
-	sub	a2,a2,s1
-	add	a0,s2,a0
+	sub	a2,a2,s2
+	add	a0,s1,a0
 	call	memset
-	sw	s2,%lo(cursor)(s5)
+	sw	s1,%lo(cursor)(s6)
+	j	.L101
+.L126:
+	lui	s1,%hi(__heap)
+	lui	s2,%hi(__heap_size)
+	addi	s4,s1,%lo(__heap)
+.L104:
+	lw	a5,%lo(__heap_size)(s2)
+	addi	s1,s1,%lo(__heap)
+	andi	a5,a5,-16
+	add	s4,s4,a5
+.L107:
+	bleu	s4,s1,.L142
+	mv	a0,s1
+	mv	a1,s3
+	call	look_at
+	lw	a4,0(s1)
+	lw	a5,%lo(cursor)(s6)
+	add	s1,s1,a4
+	bne	a5,zero,.L107
+.L106:
+	lui	a5,%hi(__errno)
+	addi	a5,a5,%lo(__errno)
+	beq	a5,zero,.L111
+	call	__errno
+	li	a5,12
+	sw	a5,0(a0)
+.L111:
+	li	s0,0
 .L101:
 	lw	ra,92(sp)
 	.cfi_remember_state
@@ -772,76 +798,67 @@ take:
 	addi	sp,sp,96
 	.cfi_def_cfa_offset 0
 	jr	ra
-.L105:
+.L138:
 	.cfi_restore_state
-	lui	a5,%hi(__errno)
-	addi	a5,a5,%lo(__errno)
-	beq	a5,zero,.L111
-	call	__errno
-	li	a5,12
-	sw	a5,0(a0)
-.L111:
-	li	s0,0
-	j	.L101
-.L103:
-	lw	a5,%lo(cursor)(s5)
-	beq	a5,zero,.L106
-	lui	s1,%hi(__heap)
-	addi	a5,s1,%lo(__heap)
-	andi	s3,s2,-16
-	add	s3,s3,a5
-	addi	s1,s1,%lo(__heap)
-.L107:
-	bleu	s3,s1,.L106
-	mv	a0,s1
-	mv	a1,s6
-	call	look_at
-	lw	a4,0(s1)
-	lw	a5,%lo(cursor)(s5)
-	add	s1,s1,a4
-	bne	a5,zero,.L107
-	j	.L106
-.L133:
+	lui	s2,%hi(__heap_size)
+	lw	s5,%lo(__heap_size)(s2)
 	li	a5,63
-	bleu	s2,a5,.L102
-	lui	a0,%hi(__heap)
-	addi	s1,a0,%lo(__heap)
-	li	a2,32
-	li	a1,0
-	addi	a0,a0,%lo(__heap)
-	sw	s1,%lo(cursor)(s5)
-	call	memset
-	li	a5,101
-	sb	a5,8(s1)
-	sb	a5,9(s1)
-	li	a5,114
-	andi	a1,s2,240
-	srli	a2,s2,8
-	srli	a3,s2,16
-	srli	a4,s2,24
-	sb	a5,10(s1)
-	li	a5,102
-	sb	a1,0(s1)
-	sb	a2,1(s1)
-	sb	a3,2(s1)
-	sb	a4,3(s1)
-	sb	a5,11(s1)
-	j	.L102
-.L136:
-	sub	a3,s2,a0
+	bgtu	s5,a5,.L143
+	lui	a4,%hi(calls)
+	lw	a5,%lo(calls)(a4)
+	addi	a5,a5,1
+	sw	a5,%lo(calls)(a4)
+	j	.L106
+.L142:
+	lw	a5,%lo(cursor)(s6)
+	beq	a5,zero,.L106
+	j	.L105
+.L141:
+	sub	a3,s1,a0
 	sub	a4,a4,a3
-	sw	a4,0(s2)
+	sw	a4,0(s1)
 	li	a4,1718771712
 	addi	a4,a4,1381
-	sw	zero,4(s2)
-	sw	zero,12(s2)
-	sw	zero,16(s2)
-	sw	zero,20(s2)
-	sw	zero,24(s2)
-	sw	zero,28(s2)
-	sw	a4,8(s2)
+	sw	zero,4(s1)
+	sw	zero,12(s1)
+	sw	zero,16(s1)
+	sw	zero,20(s1)
+	sw	zero,24(s1)
+	sw	zero,28(s1)
+	sw	a4,8(s1)
 	sw	a3,0(a0)
 	j	.L116
+.L143:
+	lui	s1,%hi(__heap)
+	addi	s4,s1,%lo(__heap)
+	li	a2,32
+	li	a1,0
+	addi	a0,s1,%lo(__heap)
+	sw	s4,%lo(cursor)(s6)
+	call	memset
+	lui	a4,%hi(calls)
+	lw	a5,%lo(calls)(a4)
+	li	a3,101
+	sb	a3,8(s4)
+	sb	a3,9(s4)
+	li	a3,114
+	andi	a0,s5,240
+	srli	a1,s5,8
+	srli	a2,s5,16
+	sb	a3,10(s4)
+	srli	s5,s5,24
+	li	a3,102
+	addi	a5,a5,1
+	sb	a0,0(s4)
+	sb	a1,1(s4)
+	sb	a2,2(s4)
+	sb	s5,3(s4)
+	sb	a3,11(s4)
+	sw	a5,%lo(calls)(a4)
+	andi	a5,a5,255
+	beq	a5,zero,.L104
+	addi	a5,s1,%lo(__heap)
+	j	.L105
 .L115:
 	li	s0,0
 	li	a2,32
@@ -889,15 +906,15 @@ calloc:
 	.cfi_offset 1, -4
 	.cfi_offset 8, -8
 	mv	a2,ra
-	beq	a1,zero,.L140
+	beq	a1,zero,.L147
 	mulhu	a5,a0,a1
-	bne	a5,zero,.L156
-.L140:
+	bne	a5,zero,.L163
+.L147:
 	mul	s0,a0,a1
 	li	a1,16
 	mv	a0,s0
 	call	take
-	beq	a0,zero,.L144
+	beq	a0,zero,.L151
 	mv	a2,s0
 	lw	s0,8(sp)
 	.cfi_remember_state
@@ -908,15 +925,15 @@ calloc:
 	addi	sp,sp,16
 	.cfi_def_cfa_offset 0
 	tail	memset
-.L156:
+.L163:
 	.cfi_restore_state
 	lui	a5,%hi(__errno)
 	addi	a5,a5,%lo(__errno)
-	beq	a5,zero,.L144
+	beq	a5,zero,.L151
 	call	__errno
 	li	a5,12
 	sw	a5,0(a0)
-.L144:
+.L151:
 	lw	ra,12(sp)
 	.cfi_restore 1
 	lw	s0,8(sp)
@@ -948,18 +965,18 @@ realloc:
 	.cfi_offset 20, -24
 	mv	s0,ra
 	mv	s1,a1
-	beq	a0,zero,.L168
+	beq	a0,zero,.L175
 	mv	a1,ra
 	mv	s2,a0
 	call	block_of
 	mv	a5,a0
 	li	s3,0
-	bne	s1,zero,.L169
-.L159:
+	bne	s1,zero,.L176
+.L166:
 	mv	a1,s0
 	mv	a0,s2
 	call	give_back.part.0
-.L157:
+.L164:
 	lw	ra,28(sp)
 	.cfi_remember_state
 	.cfi_restore 1
@@ -977,7 +994,7 @@ realloc:
 	addi	sp,sp,32
 	.cfi_def_cfa_offset 0
 	jr	ra
-.L169:
+.L176:
 	.cfi_restore_state
 	mv	a2,s0
 	li	a1,16
@@ -985,16 +1002,16 @@ realloc:
 	lw	s4,4(a5)
 	call	take
 	mv	s3,a0
-	beq	a0,zero,.L157
+	beq	a0,zero,.L164
 	mv	a2,s1
-	bleu	s1,s4,.L161
+	bleu	s1,s4,.L168
 	mv	a2,s4
-.L161:
+.L168:
 	mv	a1,s2
 	mv	a0,s3
 	call	memcpy
-	j	.L159
-.L168:
+	j	.L166
+.L175:
 	lw	s0,24(sp)
 	.cfi_restore 8
 	lw	s2,16(sp)
@@ -1024,7 +1041,7 @@ free:
 	.cfi_def_cfa_offset 16
 	sw	ra,12(sp)
 	.cfi_offset 1, -4
-	beq	a0,zero,.L170
+	beq	a0,zero,.L177
 	mv	a1,ra
 	lw	ra,12(sp)
 	.cfi_remember_state
@@ -1032,7 +1049,7 @@ free:
 	addi	sp,sp,16
 	.cfi_def_cfa_offset 0
 	tail	give_back.part.0
-.L170:
+.L177:
 	.cfi_restore_state
 	lw	ra,12(sp)
 	.cfi_restore 1
@@ -1054,9 +1071,9 @@ memalign:
 	li	a4,16
 	mv	a2,ra
 	mv	a0,a1
-	bgeu	a5,a4,.L174
+	bgeu	a5,a4,.L181
 	li	a5,16
-.L174:
+.L181:
 	lw	ra,12(sp)
 	.cfi_restore 1
 	mv	a1,a5
@@ -1078,9 +1095,9 @@ aligned_alloc:
 	li	a4,16
 	mv	a2,ra
 	mv	a0,a1
-	bgeu	a5,a4,.L177
+	bgeu	a5,a4,.L184
 	li	a5,16
-.L177:
+.L184:
 	lw	ra,12(sp)
 	.cfi_restore 1
 	mv	a1,a5
@@ -1094,7 +1111,7 @@ aligned_alloc:
 malloc_usable_size:
 .LFB31:
 	.cfi_startproc
-	beq	a0,zero,.L181
+	beq	a0,zero,.L188
 	addi	sp,sp,-16
 	.cfi_def_cfa_offset 16
 	mv	a1,ra
@@ -1107,7 +1124,7 @@ malloc_usable_size:
 	addi	sp,sp,16
 	.cfi_def_cfa_offset 0
 	jr	ra
-.L181:
+.L188:
 	li	a0,0
 	ret
 	.cfi_endproc
@@ -1144,15 +1161,15 @@ _calloc_r:
 	.cfi_offset 1, -4
 	.cfi_offset 8, -8
 	mv	a2,ra
-	beq	a5,zero,.L189
+	beq	a5,zero,.L196
 	mulhu	a4,a1,a5
-	bne	a4,zero,.L205
-.L189:
+	bne	a4,zero,.L212
+.L196:
 	mul	s0,a1,a5
 	li	a1,16
 	mv	a0,s0
 	call	take
-	beq	a0,zero,.L193
+	beq	a0,zero,.L200
 	mv	a2,s0
 	lw	s0,8(sp)
 	.cfi_remember_state
@@ -1163,15 +1180,15 @@ _calloc_r:
 	addi	sp,sp,16
 	.cfi_def_cfa_offset 0
 	tail	memset
-.L205:
+.L212:
 	.cfi_restore_state
 	lui	a5,%hi(__errno)
 	addi	a5,a5,%lo(__errno)
-	beq	a5,zero,.L193
+	beq	a5,zero,.L200
 	call	__errno
 	li	a5,12
 	sw	a5,0(a0)
-.L193:
+.L200:
 	lw	ra,12(sp)
 	.cfi_restore 1
 	lw	s0,8(sp)
@@ -1203,19 +1220,19 @@ _realloc_r:
 	.cfi_offset 20, -24
 	mv	s1,ra
 	mv	s2,a2
-	beq	a1,zero,.L217
+	beq	a1,zero,.L224
 	mv	s0,a1
 	mv	a0,s0
 	mv	a1,ra
 	call	block_of
 	mv	a5,a0
 	li	s3,0
-	bne	s2,zero,.L218
-.L208:
+	bne	s2,zero,.L225
+.L215:
 	mv	a1,s1
 	mv	a0,s0
 	call	give_back.part.0
-.L206:
+.L213:
 	lw	ra,28(sp)
 	.cfi_remember_state
 	.cfi_restore 1
@@ -1233,7 +1250,7 @@ _realloc_r:
 	addi	sp,sp,32
 	.cfi_def_cfa_offset 0
 	jr	ra
-.L218:
+.L225:
 	.cfi_restore_state
 	mv	a2,s1
 	li	a1,16
@@ -1241,16 +1258,16 @@ _realloc_r:
 	lw	s4,4(a5)
 	call	take
 	mv	s3,a0
-	beq	a0,zero,.L206
+	beq	a0,zero,.L213
 	mv	a2,s2
-	bleu	s2,s4,.L210
+	bleu	s2,s4,.L217
 	mv	a2,s4
-.L210:
+.L217:
 	mv	a1,s0
 	mv	a0,s3
 	call	memcpy
-	j	.L208
-.L217:
+	j	.L215
+.L224:
 	lw	s0,24(sp)
 	.cfi_restore 8
 	lw	s1,20(sp)
@@ -1281,7 +1298,7 @@ _free_r:
 	sw	ra,12(sp)
 	.cfi_offset 1, -4
 	mv	a0,a1
-	beq	a1,zero,.L219
+	beq	a1,zero,.L226
 	mv	a1,ra
 	lw	ra,12(sp)
 	.cfi_remember_state
@@ -1289,7 +1306,7 @@ _free_r:
 	addi	sp,sp,16
 	.cfi_def_cfa_offset 0
 	tail	give_back.part.0
-.L219:
+.L226:
 	.cfi_restore_state
 	lw	ra,12(sp)
 	.cfi_restore 1
@@ -1310,9 +1327,9 @@ _memalign_r:
 	li	a5,16
 	mv	a0,a2
 	mv	a2,ra
-	bgeu	a1,a5,.L223
+	bgeu	a1,a5,.L230
 	li	a1,16
-.L223:
+.L230:
 	lw	ra,12(sp)
 	.cfi_restore 1
 	addi	sp,sp,16
@@ -1326,7 +1343,7 @@ _malloc_usable_size_r:
 .LFB37:
 	.cfi_startproc
 	mv	a5,a1
-	beq	a1,zero,.L229
+	beq	a1,zero,.L236
 	addi	sp,sp,-16
 	.cfi_def_cfa_offset 16
 	mv	a1,ra
@@ -1340,7 +1357,7 @@ _malloc_usable_size_r:
 	addi	sp,sp,16
 	.cfi_def_cfa_offset 0
 	jr	ra
-.L229:
+.L236:
 	li	a0,0
 	ret
 	.cfi_endproc
@@ -1367,7 +1384,7 @@ __wrap_exit_with:
 	.cfi_offset 9, -12
 	.cfi_offset 18, -16
 	mv	s3,a0
-	beq	a5,zero,.L237
+	beq	a5,zero,.L244
 	lui	a4,%hi(__heap_size)
 	lw	s1,%lo(__heap_size)(a4)
 	lui	s0,%hi(__heap)
@@ -1376,16 +1393,16 @@ __wrap_exit_with:
 	mv	s2,ra
 	add	s1,s1,a5
 	addi	s0,s0,%lo(__heap)
-.L236:
-	bgeu	s0,s1,.L237
+.L243:
+	bgeu	s0,s1,.L244
 	mv	a0,s0
 	mv	a1,s2
 	call	look_at
 	lw	a4,0(s0)
 	lw	a5,%lo(cursor)(s4)
 	add	s0,s0,a4
-	bne	a5,zero,.L236
-.L237:
+	bne	a5,zero,.L243
+.L244:
 	mv	a0,s3
 	call	__real_exit_with
 	.cfi_endproc

@@ -178,7 +178,7 @@ static void *take(size count, size alignment, const void *by) {
     if (!cursor && __heap_size >= 2 * sizeof(struct block))
         begin();
     look_at_times(by);
-    struct block *block = count < __heap_size ? free_block(room, alignment, by) : 0;
+    struct block *block = cursor && count < __heap_size ? free_block(room, alignment, by) : 0;
     if (!block)
         return no_memory();
     struct block *place = place_in(block, room, alignment);
