@@ -36,7 +36,9 @@ int main(void) { return deep(1000); }""",
     "what alloca has no room for": """#define N (100000 * one)
 int main(void) { volatile char *room = __builtin_alloca(N); room[0] = 1; /* here */
  return 0; }""",
-    "an array on the stack": """__attribute__((noinline)) int fill(int n) { volatile char room[8]; for (int k = 0; k < n; k++) room[k] = 1; return room[0]; } /* here */
+    "an array on the stack": """__attribute__((noinline)) int fill(int n) { volatile char room[8];
+ for (int k = 0; k < n; k++) room[k] = 1;
+ return room[0]; } /* here */
 int main(void) { return fill(twelve); }""",
     "memory that is freed": """struct link { struct link *next; };
 int main(void) { struct link *volatile first = malloc(sizeof *first); free(first);
@@ -67,8 +69,16 @@ int main(void) {
             if (taken[k][i] != (unsigned char)(k + i)) abort();
         switch (drawn() % 4) {
         case 0: free(taken[k]); taken[k] = malloc(size); break;
-        case 1: free(taken[k]); taken[k] = calloc(size, 1); for (unsigned i = 0; i < size; i++) if (taken[k][i]) abort(); break;
-        case 2: taken[k] = realloc(taken[k], size); for (unsigned i = 0; i < size && i < sizes[k]; i++) if (taken[k][i] != (unsigned char)(k + i)) abort(); break;
+        case 1:
+            free(taken[k]); taken[k] = calloc(size, 1);
+            for (unsigned i = 0; i < size; i++)
+                if (taken[k][i]) abort();
+            break;
+        case 2:
+            taken[k] = realloc(taken[k], size);
+            for (unsigned i = 0; i < size && i < sizes[k]; i++)
+                if (taken[k][i] != (unsigned char)(k + i)) abort();
+            break;
         default: free(taken[k]); taken[k] = NULL; size = 0;
         }
         if (taken[k] == NULL) size = 0;
@@ -98,6 +108,11 @@ class Debug(Folder):
     def ran(self, program, *words):
         return subprocess.run([SFI_EXEC, "--program", SFI, *words, program], capture_output=True, text=True, check=False)
 
+    def stops_here(self, text, done):
+        """Whether the last line that was told is the one that is marked."""
+        told = re.findall(r"program\.c:(\d+)$", done.stderr, re.MULTILINE)
+        self.assertEqual(told[-1:], [str(marked_line(text))], done.stderr)
+
     def test_traps(self):
         for what, body in TRAPS.items():
             for compiler in COMPILERS:
@@ -106,7 +121,7 @@ class Debug(Folder):
                     done = self.ran(self.built(text, "--debug", compiler=compiler))
                     self.assertEqual(done.returncode, 126)
                     self.assertIn("trap=Break", done.stderr)
-                    self.assertEqual(re.findall(r"program\.c:(\d+)$", done.stderr, re.MULTILINE)[-1:], [str(marked_line(text))], done.stderr)
+                    self.stops_here(text, done)
 
     def test_misuses(self):
         for number, (what, body) in enumerate(MISUSES.items()):
@@ -116,7 +131,7 @@ class Debug(Folder):
                     done = self.ran(self.built(text, "--debug", *library))
                     self.assertIn("\nmalloc: ", done.stdout)
                     self.assertIn(what, done.stdout)
-                    self.assertEqual(re.findall(r"program\.c:(\d+)$", done.stderr, re.MULTILINE)[-1:], [str(marked_line(text))], done.stderr)
+                    self.stops_here(text, done)
 
     def test_end(self):
         """What is written behind a block that nobody frees is told at the program's end."""
@@ -138,7 +153,10 @@ class Debug(Folder):
 
     def test_own_functions(self):
         """A program may have a malloc of its own."""
-        text = BEGINNING + "static char own[64];\nvoid *malloc(size_t n) { return own; }\nvoid free(void *p) {}\nint main(void) { return malloc(5) == own; }"
+        text = BEGINNING + """static char own[64];
+void *malloc(size_t n) { return own; }
+void free(void *p) {}
+int main(void) { return malloc(5) == own; }"""
         self.assertEqual(self.ran(self.built(text, "--debug")).returncode, 1)
 
     def test_sanitizer(self):
@@ -163,7 +181,7 @@ class Debug(Folder):
         """An access in a guard zone, a second program, a budget, and what is no program."""
         wrong = self.built("int main(void) { volatile int *volatile at = 0;\n return at[-2]; } /* here */", "-g")
         done = self.ran(wrong)
-        self.assertRegex(done.stderr, r"(?s)trap=Load at=017ffff8.*: main, program\.c:2\n017ffff8: in the guard zone, 8 bytes below the data")
+        self.assertRegex(done.stderr, r"(?s)trap=Load at=017ffff8.*: main, program\.c:2\n017ffff8: in the guard zone, 8 bytes below")
         other = self.path("other.elf")
         os.rename(wrong, other)
         fine = self.built("int main(void) { return 7; }", "--sandbox", "1")

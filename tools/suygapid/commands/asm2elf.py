@@ -30,8 +30,9 @@ def parsed(words):
     parser.add_argument("--into", metavar="FOLDER", help="where to write a file of the same name for each of several")
     parser.add_argument("--format", type=format_of, choices=[1, 2, WORDS], default=WORDS, help="the image's format; words if absent")
     parser.add_argument("--passes", metavar="NAMES",
-                        help=f"the passes that make the code cheaper; {','.join(PASSES)} if absent, with --debug {','.join(checking.PASSES)}")
-    parser.add_argument("--debug", action="store_true", help="in words: what masks would change is compared, and ends the run by ebreak")
+                        help=f"the passes that make the code cheaper; {','.join(PASSES)} if absent, "
+                             f"with --debug {','.join(checking.PASSES)}")
+    parser.add_argument("--debug", action="store_true", help="in words: an ebreak ends the run where masks would change something")
     parser.add_argument("--jobs", type=int, default=os.cpu_count() or 1, metavar="N", help="how many processes share a long file's functions; "
                                                                                           "as many as there are processors if absent")
     parser.add_argument("--movable", action="store_true", help="addresses are made from the bases of the sandbox's regions at run time")
