@@ -160,6 +160,7 @@ try_random() { # format
 
 # ---- Edited hosts
 
+# A mistake may have a run never end: --seconds 60 is for one that has to.
 on_edited_boards() { # words of run.sh. The image is $room/image.hex
     (cd "$edited" && OUT=$room/edited_out ./run.sh "${springing[@]}" --steps --rounds 100 --seconds 5 "$@" <"$room/image.hex")
 }
@@ -176,7 +177,7 @@ try_price() {
     build "$room/price.s" words >"$room/image.hex"
     edit_host board.S 's/^        sw      t1, FRAME_BEFORE(a0)$/        nop/'
     report "springboards: a put of no byte" "steps=$((price + $(steps_of < <("$SFI" run <"$room/image.hex"))))" \
-        "steps=$(on_edited_boards | steps_of)"
+        "steps=$(on_edited_boards --seconds 60 | steps_of)"
 }
 
 steps_of() { sed -n 's/.* steps=\([0-9]*\) .*/\1/p'; }

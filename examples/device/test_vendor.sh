@@ -64,18 +64,17 @@ try_interrupts() { # the interrupt's number, where the code of sandbox 0 is
     build "$cases/endless.s" 1 >"$room/image.hex"
     lines+=$("$SFI" run --rounds 2 <"$room/image.hex" | without_steps)
     report "interrupts of a vendor's own" "$lines" \
-        "$(INTERRUPTS=$cases/software_interrupt.c OUT=$room/interrupts run --rounds 2 <"$room/image.hex")"
+        "$(INTERRUPTS=$cases/software_interrupt.c OUT=$room/interrupts run --steps --rounds 2 <"$room/image.hex" | without_steps)"
     lines="$told"$'\n'"$told"$'\n'"$told"$'\n'"sandbox=0 trap=Interrupt at=$2 out="
     report "an interrupt that the vendor's file doesn't know" "$lines" \
-        "$(INTERRUPTS=$cases/unknown_interrupt.c OUT=$room/unknown run --rounds 2 <"$room/image.hex" | head -n 4)"
+        "$(INTERRUPTS=$cases/unknown_interrupt.c OUT=$room/unknown run --steps --rounds 2 <"$room/image.hex" | without_steps | head -n 4)"
 }
 
 # The pc and registers of `sfi run --report`, but for the instruction's name.
 try_report() { # image
     local wanted
-    wanted=$("$SFI" run --rounds 10 --report <"$1" | without_steps |
-        sed 's/\(pc=[0-9a-f]* [0-9a-f]*\) .*/\1/')
-    report "--report" "$wanted" "$(./run.sh "${on[@]}" "${by[@]}" --rounds 10 --report <"$1")"
+    wanted=$("$SFI" run --rounds 10 --report <"$1" | sed 's/\(pc=[0-9a-f]* [0-9a-f]*\) .*/\1/')
+    report "--report" "$wanted" "$(./run.sh "${on[@]}" "${by[@]}" --steps --rounds 10 --report <"$1")"
 }
 
 # The pc of each trap is told without an option, too.
@@ -84,7 +83,7 @@ try_pcs() { # image
     wanted=$("$SFI" run --rounds 10 --report <"$1" |
         sed -n 's/\(pc=[0-9a-f]* [0-9a-f]*\) .*/\1/p')
     report "the pc of a trap" "$wanted" \
-        "$(./run.sh "${on[@]}" "${by[@]}" --rounds 10 <"$1" | grep ' pc=')"
+        "$(./run.sh "${on[@]}" "${by[@]}" --steps --rounds 10 <"$1" | grep ' pc=')"
 }
 
 try_vendor() { # where the code of sandbox 0 is, the interrupt's number

@@ -97,7 +97,7 @@ mkfifo "$room/line"
 timeout "$seconds" qemu-system-riscv32 "${options[@]}" ${QEMU_OPTIONS:-} </dev/null >"$room/line" \
     2>"$room/log" &
 qemu=$!
-while read -r line; do
+while IFS= read -r line; do
     case $line in
     "status "*) exit "${line#status }" ;;
     *) echo "$line" ;;

@@ -245,26 +245,27 @@ try_slots
 
 # ---- Other mains: plug-ins as tasks of a kernel, and in U-mode
 
-# The kernel's last line has the slices of its tasks, and how often the one that never yields was preempted.
-kernel() { # words of run.sh; the image is $room/image.hex
-    MAIN="../kernel/kernel.c ../kernel/entry.S" OUT=$room/kernel run --rounds 20 "$@" <"$room/image.hex" |
-        awk -F '[=, ]' '/^slices=/ { print ($7 > 0 && $2 == $7) ? "preempted" : $0; next } { print }'
+# The kernel's last line has the slices of its tasks, and how often the one that never yields was preempted. A slice of
+# 100 us is 100,000 instructions by the clock of --steps: no other task of the host needs as many.
+kernel() { # the ticks of a slice; the image is $room/image.hex
+    MAIN="../kernel/kernel.c ../kernel/entry.S" OUT=$room/kernel run --steps --rounds 20 --turn "$1" <"$room/image.hex" |
+        without_steps | awk -F '[=, ]' '/^slices=/ { print ($7 > 0 && $2 == $7) ? "preempted" : $0; next } { print }'
 }
 
 try_kernel() {
-    local format lines
-    for chip in virt opentitan; do
+    local format lines ticks
+    while read -r chip ticks; do
         read -r code_at data_at < <(macro "FLASH_CODE CHIP_RAM")
         on=(--chip "$chip")
         for format in $formats; do
             build "$cases/endless.s" "$format" >"$room/image.hex"
             report "$chip: two plug-ins as tasks, format $format" \
-                $'sandbox=0 ready out=\nsandbox=1 exit=7 out=\npreempted' "$(kernel)"
+                $'sandbox=0 ready out=\nsandbox=1 exit=7 out=\npreempted' "$(kernel "$ticks")"
             build "$room/pair.s" "$format" >"$room/image.hex"
             lines=$("$SFI" run --rounds 20 <"$room/image.hex" | without_steps)
-            report "$chip: words between two tasks, format $format" "$lines"$'\npreempted' "$(kernel)"
+            report "$chip: words between two tasks, format $format" "$lines"$'\npreempted' "$(kernel "$ticks")"
         done
-    done
+    done <<<$'virt 1000\nopentitan 1'
 }
 
 try_kernel

@@ -63,15 +63,17 @@ def verdict_of(image):
 
 class Device:
     """A chip that runs the host. Each command is answered by a line; others tell of slots that are rolled back. MEMORY names
-    a file that keeps the memory of `virt` when the power is cut."""
+    a file that keeps the memory of `virt` when the power is cut. The chip's clock counts instructions: a turn is as long on a
+    busy machine. How many turns come between two commands depends on the machine. TRIAL is the most of a new version's."""
 
-    def __init__(self, out, chip="virt", memory=None):
-        made = subprocess.run(["make", "-s", "-C", str(HERE), f"CHIP={chip}", f"OUT={out}", f"CHECKER={CHECKER}"],
+    def __init__(self, out, chip="virt", memory=None, trial=None):
+        flags = [f"HOST_FLAGS=-DTRIAL_TURNS={trial}"] if trial else []
+        made = subprocess.run(["make", "-s", "-C", str(HERE), f"CHIP={chip}", f"OUT={out}", f"CHECKER={CHECKER}", *flags],
                               stdout=subprocess.PIPE, stderr=subprocess.STDOUT, check=False)
         if made.returncode:
             raise RuntimeError(made.stdout.decode())
         self.command = ["qemu-system-riscv32", "-M", CHIPS[chip], "-bios", "none", "-display", "none", "-monitor", "none",
-                        "-serial", "stdio", "-kernel", f"{out}/checked"]
+                        "-serial", "stdio", "-icount", "shift=0", "-kernel", f"{out}/checked"]
         if memory:
             self.command += ["-machine", "memory-backend=kept", "-object",
                              f"memory-backend-file,id=kept,size=128M,mem-path={memory},share=on"]
@@ -91,7 +93,7 @@ class Device:
 
     def read(self):
         for line in iter(self.qemu.stdout.readline, b""):
-            self.lines.put(line.decode("latin1").rstrip())
+            self.lines.put(line.decode("latin1").rstrip("\r\n"))
 
     def close(self):
         self.qemu.kill()

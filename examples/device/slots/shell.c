@@ -92,7 +92,8 @@ void print_slot(uint32_t number, const char *what) {
         print(" on trial");
     print_state(sandbox);
     item(" put=", sandbox->output_length);
-    print(" ");
+    if (sandbox->output_length > 0)
+        print(" ");
     for (uint32_t k = 0; k < sandbox->output_length && k < SHOWN_MOST; k++)
         print_hex(sandbox->output[k], 2);
     print("\n");

@@ -8,13 +8,16 @@
 #error "an update may be code in words, which guard zones that trap have to hold"
 #endif
 
+#ifndef TRIAL_TURNS
+#define TRIAL_TURNS 50          /* in which a new version has to report */
+#endif
+
 enum {
     SLOTS = 4,
     VERSIONS = 2,               /* that a slot keeps: the one in its place, and the one before it or to come */
     IMAGE_MOST = 1 << 17,       /* bytes of an image */
     SLOT_DATA = 4096,           /* bytes of a plug-in's data region */
     SLOT_CODE = 1 << 16,        /* at most, of the code of one that is moved to its slot */
-    TRIAL_TURNS = 50,           /* in which a new version has to report */
     PLACED_AT_ONCE = 4096       /* bytes of code that are copied before the neighbours have a turn */
 };
 

@@ -1,18 +1,14 @@
-# Reports, and then puts a letter once a turn, until there is no room.
+# Reports, and then counts its turns in a word of its data, without end.
 .sandbox 4096
-.gate exit 0
-.gate put 1
 .gate yield 3
 .gate report 4
         call report
-more:   la   a0, letter
-        li   a1, 1
-        call put
-        li   t0, 1
-        bne  a0, t0, full
+more:   la   t0, turns
+        lw   t1, 0(t0)
+        addi t1, t1, 1
+        sw   t1, 0(t0)
         call yield
         j    more
-full:   call exit
 
 .data
-letter: .byte 110
+turns:  .word 0
