@@ -76,12 +76,12 @@ board_end:
         .error  "the counts of instructions are wrong"
         .endif
 
-# As `trapped` of switch.S leaves, if the gate's ecall had trapped.
+# As sfi_device_trapped leaves, if the gate's ecall had trapped.
 leaves: .irp    r, 3,4,8,9,18,19,20,21,22,23,24,25,26,27
         sw      x\r, 4*\r(a0)
         .endr
         lw      t1, FRAME_CALLED(a0)
-        la      t2, trap_instructions
+        la      t2, sfi_device_trap_instructions
         lw      t2, 0(t2)
         add     t1, t1, t2
         addi    t1, t1, -(IN)

@@ -51,26 +51,18 @@ void refuse_sandbox(uint32_t number, const char *reason) {
     fail(2);
 }
 
-static void print_access(uint32_t number, const char *access, uint32_t address) {
+static _Noreturn void refuse_access(uint32_t number, const char *access, struct sfi_device_fault fault, const char *reason) {
     print(refusal);
     print("sandbox ");
     print_decimal(number);
     print(access);
-    print_hex(address, 8);
-}
-
-void refuse_load(uint32_t number, uint32_t address, const char *reason) {
-    print_access(number, ": a load at ", address);
+    print_hex(fault.address, 8);
     print(reason);
+    if (fault.status == SFI_DEVICE_IS_MIRRORED) {
+        print_hex(fault.other, 8);
+        print(", too");
+    }
     print("\n");
-    fail(2);
-}
-
-void refuse_store(uint32_t number, uint32_t address, uint32_t other) {
-    print_access(number, ": a store at ", address);
-    print(", in its data, changes the byte at ");
-    print_hex(other, 8);
-    print(", too\n");
     fail(2);
 }
 
@@ -83,7 +75,27 @@ void refuse_number(const char *reason, uint32_t number, const char *more) {
     fail(2);
 }
 
-/* A trap of the host itself: start.S and switch.S come here. */
+void refuse_fault(uint32_t number, struct sfi_device_fault fault) {
+    switch (fault.status) {
+    case SFI_DEVICE_DONE: return;
+    case SFI_DEVICE_NO_PLACE:
+        refuse_sandbox(number, "code in words is held by guard zones that trap, and here none does");
+    case SFI_DEVICE_OTHER_RULES:
+        refuse("mseccfg isn't 0: physical memory protection has rules that this host doesn't know");
+    case SFI_DEVICE_ENTRY_DIFFERS:
+        refuse_number("entry ", fault.other, " of physical memory protection isn't as it was written");
+    case SFI_DEVICE_GUARD_IS_OPEN:
+        refuse_access(number, ": a load at ", fault, ", in its guard zone, doesn't trap");
+    case SFI_DEVICE_DATA_IS_CLOSED:
+        refuse_access(number, ": a load at ", fault, ", in its data, traps");
+    case SFI_DEVICE_IS_MIRRORED:
+        refuse_access(number, ": a store at ", fault, ", in its data, changes the byte at ");
+    default:
+        refuse("a fault that this host doesn't know");
+    }
+}
+
+/* A trap of the host itself: start.S and fault.S come here. */
 void host_fault(uint32_t cause, uint32_t pc) {
     print("device: a fault of the host, cause ");
     print_hex(cause, 8);
@@ -93,18 +105,18 @@ void host_fault(uint32_t cause, uint32_t pc) {
     fail(3);
 }
 
-static void print_state(const struct sandbox *sandbox) {
+static void print_state(const struct sfi_device_sandbox *sandbox) {
     switch (sandbox->state) {
-    case EMPTY:
+    case SFI_DEVICE_EMPTY:
         break;
-    case READY:
+    case SFI_DEVICE_READY:
         print("ready");
         break;
-    case EXITED:
+    case SFI_DEVICE_EXITED:
         print("exit=");
         print_decimal(sandbox->exit_code);
         break;
-    case TRAPPED:
+    case SFI_DEVICE_TRAPPED:
         print("trap=");
         print(sandbox->trap);
         print(" at=");
@@ -113,7 +125,7 @@ static void print_state(const struct sandbox *sandbox) {
 }
 
 /* The data bytes that aren't what the image gave, each with its address. */
-static void print_written(const struct part *part) {
+static void print_written(const struct sfi_device_part *part) {
     const char *before = " written=";
     for (uint32_t offset = 0; offset < part->data_size; offset++) {
         uint8_t byte = *(const uint8_t *)(part->data_base + offset);
@@ -128,7 +140,8 @@ static void print_written(const struct part *part) {
 }
 
 static void print_sandbox(const struct world *world, uint32_t number) {
-    const struct sandbox *sandbox = &world->sandboxes[number];
+    const struct plugin *plugin = &world->plugins[number];
+    const struct sfi_device_sandbox *sandbox = &plugin->sandbox;
     print("sandbox=");
     print_decimal(number);
     print(" ");
@@ -138,8 +151,8 @@ static void print_sandbox(const struct world *world, uint32_t number) {
         print_decimal(sandbox->steps);
     }
     print(" out=");
-    for (uint32_t k = 0; k < sandbox->output_length; k++)
-        print_hex(sandbox->output[k], 2);
+    for (uint32_t k = 0; k < plugin->output_length; k++)
+        print_hex(plugin->output[k], 2);
     if (world->arguments->prints_written)
         print_written(&sandbox->part);
     print("\n");
@@ -151,7 +164,7 @@ static uint32_t half_at(const uint8_t *bytes) {
 
 /* The instruction's digits as `sfi run --report` has them; none where pc isn't in the code, to which
    accepted code never comes. */
-static void print_instruction(const struct sandbox *sandbox) {
+static void print_instruction(const struct sfi_device_sandbox *sandbox) {
     uint32_t offset = sandbox->frame.pc - sandbox->part.code_base;
     if (offset >= sandbox->part.code_size || offset % 2 != 0)
         return;
@@ -164,7 +177,7 @@ static void print_instruction(const struct sandbox *sandbox) {
         print_hex(half_at(bytes + 2) << 16 | half, 8);
 }
 
-static void print_registers(const struct frame *frame) {
+static void print_registers(const struct sfi_device_frame *frame) {
     for (uint32_t number = 1; number < 32; number++) {
         print("x");
         print_decimal(number);
@@ -176,8 +189,8 @@ static void print_registers(const struct frame *frame) {
 
 /* Of a sandbox that has trapped; with the registers, of each that hasn't exited. */
 static void print_place(const struct world *world, uint32_t number) {
-    const struct sandbox *sandbox = &world->sandboxes[number];
-    if (sandbox->state != TRAPPED && !(sandbox->state == READY && world->arguments->prints_registers))
+    const struct sfi_device_sandbox *sandbox = &world->plugins[number].sandbox;
+    if (sandbox->state != SFI_DEVICE_TRAPPED && !(sandbox->state == SFI_DEVICE_READY && world->arguments->prints_registers))
         return;
     print("sandbox=");
     print_decimal(number);

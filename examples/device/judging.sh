@@ -5,7 +5,7 @@
 make_checker() {
     local why status
     local library=${WASM_LIBRARY:-$shared/../../crates/sfi_c/out/wasm64-unknown-unknown/libsfi_c.a}
-    why=$("$shared/checker.sh" "$library" "$room/checker" 2>&1)
+    why=$("$shared/../../device/checker.sh" "$library" "$room/checker" 2>&1 && "$shared/measured.sh" "$room/checker" 2>&1)
     status=$?
     if [ "$status" = 3 ]; then
         skip 1 "the checker on the device" "${why#checker.sh: }"

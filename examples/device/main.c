@@ -10,7 +10,7 @@ void between_pieces(void) {}
 uint32_t load(void) {
     read_image(&world, ARGUMENTS, IMAGE, INPUT);
     for (uint32_t number = 0; number < world.count; number++)
-        map_sandbox(number, &world.sandboxes[number].part);
+        map_sandbox(number, &world.plugins[number].sandbox.part);
     if (put_springboards)
         put_springboards(&world);
     return finish_page_table();
@@ -41,6 +41,6 @@ void run_host(void) {
     console_is_paged();
     test_guards(&world);
     for (uint32_t number = 0; number < world.count; number++)
-        test_mirrors(number, &world.sandboxes[number].part);
+        test_mirrors(number, &world.plugins[number].sandbox.part);
     run_world(&world);
 }

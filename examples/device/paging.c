@@ -5,7 +5,7 @@
 
 enum {
     ENTRIES = PAGE / 4,
-    SMALL_MOST = PMP_ENTRIES - 2,       /* how many data regions may be smaller than a page */
+    SMALL_MOST = SFI_DEVICE_PMP_ENTRIES - 2,       /* how many data regions may be smaller than a page */
     PMP_WINDOW = SMALL_MOST,
     PMP_ALL = SMALL_MOST + 1
 };
@@ -65,12 +65,12 @@ static void map_region(uint32_t sandbox, uint32_t base, uint32_t size, uint32_t 
 
 /* A data region below 4096 bytes gets a page of the window, and a PMP entry that opens its bytes
    there. */
-static void open_small_data(uint32_t sandbox, const struct part *part) {
+static void open_small_data(uint32_t sandbox, const struct sfi_device_part *part) {
     if (small_count == SMALL_MOST)
         refuse_sandbox(sandbox, "there is room for 14 data regions below 4096 bytes");
     uint8_t *page = memset(window + PAGE * small_count, 0, PAGE);
     *entry_of(part->data_base, sandbox) = entry_to(page, PTE_R | PTE_W | PTE_ACCESSED | PTE_DIRTY);
-    protect(small_count, power_of_two((uint32_t)page + part->data_base % PAGE, part->data_size),
+    sfi_device_protect(small_count, sfi_device_power_of_two((uint32_t)page + part->data_base % PAGE, part->data_size),
             PMP_NAPOT | PMP_R | PMP_W);
     small_count++;
 }
@@ -79,11 +79,11 @@ static bool meets_host(uint64_t from, uint64_t to) {
     return from < HOST_END && to > RAM;
 }
 
-void map_sandbox(uint32_t number, const struct part *part) {
+void map_sandbox(uint32_t number, const struct sfi_device_part *part) {
     if (meets_host(part->code_base, (uint64_t)part->code_base + part->code_size))
         refuse_sandbox(number, "its code is where the host is");
     uint64_t data_end = (uint64_t)part->data_base + part->data_size;
-    if (meets_host((uint64_t)part->data_base - GUARD_ZONE, data_end + GUARD_ZONE))
+    if (meets_host((uint64_t)part->data_base - SFI_DEVICE_GUARD_ZONE, data_end + SFI_DEVICE_GUARD_ZONE))
         refuse_sandbox(number, "its data or guard zones are where the host is");
     map_region(number, part->code_base, part->code_size, PTE_X, part->code, part->code_size);
     if (part->data_size < PAGE)
@@ -102,17 +102,18 @@ uint32_t *word_of_code(uint32_t number, uint32_t address) {
     return (uint32_t *)(target_of(*entry_of(address, number)) + address % PAGE);
 }
 
-/* Of the window the host can read the data regions alone. Code lies in pages of the pool. */
-uint32_t memory_of_host(struct span spans[SPANS_MOST]) {
-    uint8_t *pool = window + WINDOW_SIZE;
-    spans[0] = (struct span){RAM, (uint32_t)stack_top - RAM};
-    spans[1] = (struct span){(uint32_t)pool, (uint32_t)(next_page - pool)};
-    spans[2] = (struct span){IMAGE, ((const struct arguments *)ARGUMENTS)->image_length};
-    return 3;
+static uint32_t host_address(uint32_t data_address) {
+    return (uint32_t)target_of(*entry_of(data_address, 0)) + data_address % PAGE;
 }
 
-uint32_t host_address(uint32_t data_address) {
-    return (uint32_t)target_of(*entry_of(data_address, 0)) + data_address % PAGE;
+/* Of the window the host can read the data regions alone. Code lies in pages of the pool. */
+void test_mirrors(uint32_t number, const struct sfi_device_part *part) {
+    uint8_t *pool = window + WINDOW_SIZE;
+    const struct sfi_device_span spans[] = {
+        {RAM, (uint32_t)stack_top - RAM}, {(uint32_t)pool, (uint32_t)(next_page - pool)},
+        {IMAGE, ((const struct arguments *)ARGUMENTS)->image_length}
+    };
+    refuse_fault(number, sfi_device_try_mirrors(part, spans, sizeof spans / sizeof spans[0], host_address));
 }
 
 /* The host's memory has no protection from the sandboxes but what the checker says of them: one
@@ -123,8 +124,8 @@ uint32_t finish_page_table(void) {
         root[address / MEGAPAGE] = entry_to((void *)address, rights | PTE_X);
     *entry_of(UART, 0) = entry_to((void *)UART_DEVICE, rights);
     *entry_of(FINISHER, 0) = entry_to((void *)FINISHER_DEVICE, rights);
-    protect(PMP_WINDOW, power_of_two((uint32_t)window, WINDOW_SIZE), PMP_NAPOT);
-    protect(PMP_ALL, UINT32_MAX, PMP_NAPOT | PMP_R | PMP_W | PMP_X); /* all addresses */
-    write_protection();
+    sfi_device_protect(PMP_WINDOW, sfi_device_power_of_two((uint32_t)window, WINDOW_SIZE), PMP_NAPOT);
+    sfi_device_protect(PMP_ALL, UINT32_MAX, PMP_NAPOT | PMP_R | PMP_W | PMP_X); /* all addresses */
+    refuse_fault(0, sfi_device_write_protection());
     return SATP_SV32 | (uint32_t)root / PAGE;
 }

@@ -30,7 +30,7 @@ clear:  sw      zero, 0(t0)
         csrw    mcounteren, t0          # S-mode reads time and instret
         li      t0, MENVCFGH_STCE
         csrs    MENVCFGH, t0
-        la      t0, trapped
+        la      t0, sfi_device_trapped
         csrw    stvec, t0
         csrr    t1, stvec
         bne     t0, t1, no_handler

@@ -316,8 +316,8 @@ END
 attack "a store into the host: it knows of no sandbox any more" V5 01000024 "status 0" <<END
         gate
         gate
-        lui     a0, %hi($(symbol world) + 8)
-        sw      x0, %lo($(symbol world) + 8)(a0)
+        lui     a0, %hi($(symbol world))
+        sw      x0, %lo($(symbol world))(a0)
         ebreak
 END
 attack "a jump to the host, which ends it" V6 01000028 "status 0" <<END

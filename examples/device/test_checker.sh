@@ -3,7 +3,7 @@
 # A stack of 1536 bytes is less than a verdict takes: the access below it is refused.
 try_small_stack() {
     local library=${WASM_LIBRARY:-../../crates/sfi_c/out/wasm64-unknown-unknown/libsfi_c.a}
-    CHECKER_FLAGS=-DMODULE_STACK=1536 ./checker.sh "$library" "$room/small"
+    CHECKER_FLAGS=-DMODULE_STACK=1536 ../../device/checker.sh "$library" "$room/small"
     report "too small a stack for the checker" $'device: the checker stopped\nstatus 2' \
         "$(run --checker "$room/small/checker.o" <../smallest.hex; echo "status $?")"
 }

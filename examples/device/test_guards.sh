@@ -63,13 +63,15 @@ try_far() { # how many sandboxes an image may have
 # ---- Hosts with an edit, which the tests or the host itself have to see
 
 edited=$room/examples/device
-edit_host() { # a file of examples/device, and what sed does to it
-    rm -rf "$edited" "$room/edited_out"
+edit_host() { # a file of device or examples/device, from the top of the repository on, and what sed does to it
+    local top=$shared/../..
+    rm -rf "$edited" "$room/device" "$room/edited_out"
     mkdir -p "$edited"
-    ln -sfn "$(realpath "$shared/../../crates")" "$room/crates"
+    ln -sfn "$(realpath "$top/crates")" "$room/crates"
+    cp -r "$top/device" "$room"
     (cd "$shared" && cp -r ./*.[chS] ./*.sh ./*.mk ./*.ld Makefile mcu "$edited")
-    sed -i "$2" "$edited/$1"
-    ! cmp -s "$shared/$1" "$edited/$1" ||
+    sed -i "$2" "$room/$1"
+    ! cmp -s "$top/$1" "$room/$1" ||
         report "$chip: sed on $1: $2" "a changed file" "the same"
 }
 
@@ -87,7 +89,7 @@ host_refuses() { # the sandbox, how far from data_at on a load doesn't do what i
 # A host on which another address is that of a byte of the data, too, as where memory is mirrored: there its probe looks
 # at the data's byte.
 changed_by_store() { # how far from data_at the byte is, the other address, and which addresses `other` are the byte's
-    edit_host mirrors.c "s/(const volatile uint8_t \*)other/(const volatile uint8_t *)($3 ? byte : other)/"
+    edit_host device/mirrors.c "s/(const volatile uint8_t \*)other/(const volatile uint8_t *)($3 ? byte : other)/"
     report "$chip: the edited host: a byte of the data where $3" \
         "$(printf 'device: sandbox 0: a store at %08x, in its data, changes the byte at %08x, too' \
             $((data_at + $1)) $(($2)))" "$(on_edited_host)"
@@ -128,7 +130,7 @@ END_OF_SOURCE
     report "$chip: a load far in the guard zone" \
         "$(printf 'sandbox=0 trap=Load at=%08x out=' $((data_at + 4342)))"$'\n'"$neighbour" \
         "$(run --rounds 3 --steps --written <"$room/image.hex" | without_steps)"
-    edit_host turns.c 's/^    stop_by_trap(/    if (cause == CAUSE_LOAD_ACCESS || cause == CAUSE_LOAD_PAGE)\
+    edit_host device/turns.c 's/^    sfi_device_stop_by_trap(/    if (cause == CAUSE_LOAD_ACCESS || cause == CAUSE_LOAD_PAGE)\
         return sandbox->frame.pc += 4, true;\n&/'
     report "$chip: a handler that goes on behind it" \
         "sandbox=0 trap=Break $neighbour written=$(printf %08x $((data_at + 0x2100))):5a" \

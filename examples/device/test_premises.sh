@@ -70,15 +70,15 @@ try_open_guards() {
     local map='map_region(number, part->data_base \/ PAGE * PAGE - PAGE, PAGE, PTE_R, part->first, 0);\n    &'
     echo $'.sandbox 256\n ebreak' >"$room/one.s"
     beside "$room/one.s"
-    edit_host paging.c "s/$small/$map/"
+    edit_host examples/device/paging.c "s/$small/$map/"
     host_refuses 0 -4096 "$open"
-    edit_host paging.c "s/$small/${map/- PAGE/+ PAGE}/"
+    edit_host examples/device/paging.c "s/$small/${map/- PAGE/+ PAGE}/"
     host_refuses 0 0x10ff "$open"
-    edit_host paging.c 's/PAGE, part->data_size)/PAGE, part->data_size * 2)/'
+    edit_host examples/device/paging.c 's/PAGE, part->data_size)/PAGE, part->data_size * 2)/'
     host_refuses 0 256 "$open"
     "$SFI" build --at 1000000:1800100 <"$room/one.s" >"$room/image.hex"
     host_refuses 0 255 "$open"
-    edit_host paging.c 's/PMP_NAPOT | PMP_R | PMP_W)/PMP_NAPOT)/'
+    edit_host examples/device/paging.c 's/PMP_NAPOT | PMP_R | PMP_W)/PMP_NAPOT)/'
     host_refuses 0 256 "data, traps"
 }
 try_open_guards

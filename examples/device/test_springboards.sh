@@ -175,7 +175,7 @@ try_price() {
     esac
     printf '.sandbox 4096\n.gate put 1\n li a1, 0\n call put\n ebreak\n' >"$room/price.s"
     build "$room/price.s" words >"$room/image.hex"
-    edit_host board.S 's/^        sw      t1, FRAME_BEFORE(a0)$/        nop/'
+    edit_host examples/device/board.S 's/^        sw      t1, FRAME_BEFORE(a0)$/        nop/'
     report "springboards: a put of no byte" "steps=$((price + $(steps_of < <("$SFI" run <"$room/image.hex"))))" \
         "steps=$(on_edited_boards --seconds 60 | steps_of)"
 }
@@ -208,12 +208,12 @@ try_mistakes() {
 END
     ) >"$room/image.hex"
     compare "springboards, a store after a call" "$room/image.hex" '' steps
-    edit_host board.S 's/^        mv      t2, a0$/&\n        la      x26, board_call/'
+    edit_host examples/device/board.S 's/^        mv      t2, a0$/&\n        la      x26, board_call/'
     seen "it doesn't restore x26"
 
     entry_source 8 | words_stub >"$room/entry.S"
     image 1 1 < <(sandbox 0x01000000 0x01800000 4096 "0 1" '' <"$room/entry.S") | in_words >"$room/image.hex"
-    edit_host springboards.c 's/^    \*word_of_code(number, address) = .*/    uint32_t *to = word_of_code(number, address);\
+    edit_host examples/device/springboards.c 's/^    \*word_of_code(number, address) = .*/    uint32_t *to = word_of_code(number, address);\
     to[0] = 0x13;\
     to[1] = ((at + 0x800) \& 0xfffff000) | 31 << 7 | 0x37;\
     to[2] = (at \& 0xfff) << 20 | 31 << 15 | 0x67;/'
@@ -221,13 +221,13 @@ END
 
     no_ecall >"$room/image.hex"
     compare "springboards, a listed gate without an ecall" "$room/image.hex" '' steps
-    edit_host springboards.c 's/little_endian(part->code + (address - part->code_base)) != ECALL || //'
+    edit_host examples/device/springboards.c 's/sfi_device_word_at(part->code + (address - part->code_base)) != ECALL || //'
     seen "a springboard where no ecall stood"
 
     build "$room/calls.s" words >"$room/image.hex"
-    edit_host springboards.c 's/frame.pc += ECALL_SIZE/frame.pc += 0/'
+    edit_host examples/device/springboards.c 's/frame.pc += ECALL_SIZE/frame.pc += 0/'
     seen "it forgets a call that an interrupt came after" --turn 1
-    edit_host board.S 's/^slot:   csrci.*/slot:   nop/'
+    edit_host examples/device/board.S 's/^slot:   csrci.*/slot:   nop/'
     seen "interrupts stay on" --turn 1
 }
 

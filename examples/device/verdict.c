@@ -18,8 +18,10 @@ static void print_finding(const struct sfi_finding *finding) {
     print_hex(finding->address, 8);
 }
 
-void print_verdict(uint32_t status, const struct sfi_verdict *verdict) {
-    switch (status) {
+void print_verdict(enum sfi_device_status status, const struct sfi_verdict *verdict) {
+    if (status != SFI_DEVICE_DONE && status != SFI_DEVICE_NOT_ACCEPTED)
+        return print("the checker stopped");
+    switch (verdict->status) {
     case SFI_ACCEPTED:
         print("accepted");
         break;
@@ -32,13 +34,10 @@ void print_verdict(uint32_t status, const struct sfi_verdict *verdict) {
         print(" first=");
         print_finding(&verdict->first);
         break;
-    case SFI_NO_IMAGE:
+    default:
         print("layout fault ");
         print_decimal(verdict->layout_fault);
         print(" ");
         print(name_of_fault(verdict->layout_fault));
-        break;
-    default:
-        print("the checker stopped");
     }
 }

@@ -3,13 +3,17 @@
 
 static uint32_t counter;
 
-enum outcome serve(struct world *world, struct call *call) {
-    if (call->service == 0)
-        return LEFT;
-    const uint8_t *word = own_bytes(world, call->caller, call->a0, 4);
-    if (word == NULL)
-        call->a0 = UINT32_MAX;
-    else
-        call->a0 = counter += little_endian(word);
-    return REPLIED;
+static enum sfi_device_outcome leave(void *host, struct sfi_device_sandbox *caller, struct sfi_device_call *call) {
+    (void)host, (void)caller, (void)call;
+    return SFI_DEVICE_LEFT;
 }
+
+static enum sfi_device_outcome add(void *host, struct sfi_device_sandbox *caller, struct sfi_device_call *call) {
+    const uint8_t *word = sfi_device_own_bytes(caller, call->a0, 4);
+    (void)host;
+    call->a0 = word == NULL ? UINT32_MAX : (counter += sfi_device_word_at(word));
+    return SFI_DEVICE_REPLIED;
+}
+
+sfi_device_service *const services[] = {leave, add};
+const uint32_t service_count = sizeof services / sizeof services[0];

@@ -9,8 +9,8 @@
         .endm
 
         .text
-        .globl  trap_of_host, start_task
-trap_of_host:
+        .globl  sfi_device_trap_of_host, start_task
+sfi_device_trap_of_host:
         addi    sp, sp, -128
         each_of_task sw
         csrr    t0, mepc

@@ -1,5 +1,5 @@
 /* A small preemptive kernel on a chip without paging: two tasks of the host beside two plug-ins, which are tasks
-   too. The timer ends a slice wherever it finds the processor: in a plug-in, which `enter` comes back from, or in
+   too. The timer ends a slice wherever it finds the processor: in a plug-in, which sfi_device_turn comes back from, or in
    a task of the host, whose trap entry.S takes. A plug-in's task has interrupts off while it is in the host. */
 #include "../host.h"
 
@@ -55,8 +55,8 @@ static void make_task(enum task task, void (*function)(uint32_t), uint32_t argum
 
 /* Has as many turns as it is asked for, and stops where the plug-in does. */
 static void run_plugin(uint32_t number) {
-    const struct sandbox *sandbox = &world.sandboxes[number];
-    for (uint32_t round = 0; round < world.arguments->rounds && sandbox->state == READY; round++) {
+    const struct sfi_device_sandbox *sandbox = &world.plugins[number].sandbox;
+    for (uint32_t round = 0; round < world.arguments->rounds && sandbox->state == SFI_DEVICE_READY; round++) {
         turn(&world, number);
         yield();
     }
@@ -94,8 +94,8 @@ static void wait_for_plugins(uint32_t none) {
 
 void run_host(void) {
     for (uint32_t number = 0; number < world.count; number++)
-        place(number, &world.sandboxes[number].part);
-    write_protection();
+        place(number, &world.plugins[number].sandbox.part);
+    refuse_fault(0, sfi_device_write_protection());
     __asm__ volatile("fence.i");
     test_guards(&world);
     plugins_left = TASKS - FIRST_PLUGIN;

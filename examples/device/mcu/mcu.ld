@@ -9,7 +9,7 @@ SECTIONS {
     text_end = .;
     ASSERT(. <= FLASH_CODE, "the host reaches the sandboxes' code")
     . = CHECKER_RAM;
-    .checker (NOLOAD) : { *(.bss.checker_memory) . = ALIGN(16); stack_bottom = .; }
+    .checker (NOLOAD) : { *(.bss.sfi_device_checker_memory) . = ALIGN(16); stack_bottom = .; }
     judge_stack_top = CHECKER_END;
     ASSERT(. + 2560 <= CHECKER_END, "no room for the checker and its stack")
     . = HOST_RAM;

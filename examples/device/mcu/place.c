@@ -2,60 +2,44 @@
    places that `sfi build --at` gave it, and data in memory. */
 #include "../host.h"
 
-enum { ENTRIES_EACH = 3 };
 #ifndef NO_PMP
-_Static_assert(ENTRIES_EACH * SANDBOXES_MOST <= PMP_ENTRIES, "chip.h");
+_Static_assert(3 * SANDBOXES_MOST <= PMP_ENTRIES, "chip.h: each sandbox takes three entries");
 #endif
 
 /* The guard zone below CHIP_RAM is nobody's: chip.h sees to that. */
-static bool data_is_free(const struct part *part) {
+static bool data_is_free(const struct sfi_device_part *part) {
     return part->data_base >= CHIP_RAM && part->data_size <= HOST_RAM - CHIP_RAM &&
            part->data_base - CHIP_RAM <= HOST_RAM - CHIP_RAM - part->data_size &&
-           HOST_RAM - part->data_base - part->data_size >= GUARD_ZONE;
+           HOST_RAM - part->data_base - part->data_size >= SFI_DEVICE_GUARD_ZONE;
 }
 
 /* Sandboxes run the bytes that flash has, and the image's are those that were checked. */
-bool is_code_in_place(const struct part *part) {
+bool sfi_device_is_code_in_place(const struct sfi_device_part *part) {
     if (part->code_base < FLASH_CODE || part->code_size > FLASH_ARGUMENTS - FLASH_CODE ||
         part->code_base > FLASH_ARGUMENTS - part->code_size)
         return false;
-    return are_same((const uint8_t *)CODE_AS_DATA(part->code_base), part->code, part->code_size);
-}
-
-/* Locked entries hold in M-mode, where host and sandboxes run, and the first entry that fits decides:
-   the data region is open, and the rest from the first address of the lower guard zone to the last of
-   the upper one is closed. */
-void close_guards(uint32_t number, const struct part *part) {
-    uint32_t entry = ENTRIES_EACH * number, data_end = part->data_base + part->data_size;
-    protect(entry, power_of_two(part->data_base, part->data_size),
-            PMP_LOCKED | PMP_NAPOT | PMP_R | PMP_W);
-    protect(entry + 1, part->data_base - GUARD_ZONE, PMP_LOCKED | PMP_OFF);
-    protect(entry + 2, data_end + GUARD_ZONE, PMP_LOCKED | PMP_TOR);
+    return sfi_device_are_same((const uint8_t *)CODE_AS_DATA(part->code_base), part->code, part->code_size);
 }
 
 extern const uint8_t text_end[]; /* of the host's code and constants */
 
-uint32_t memory_of_host(struct span spans[SPANS_MOST]) {
-    spans[0] = (struct span){CHIP_RAM, RAM_END - CHIP_RAM};
-    spans[1] = (struct span){FLASH_HOST, (uint32_t)text_end - FLASH_HOST};
-    spans[2] = (struct span){CODE_AS_DATA(FLASH_CODE), FLASH_ARGUMENTS - FLASH_CODE};
-    spans[3] = (struct span){FLASH_IMAGE, FLASH_INPUT - FLASH_IMAGE};
-    return 4;
+void test_mirrors(uint32_t number, const struct sfi_device_part *part) {
+    const struct sfi_device_span spans[] = {
+        {CHIP_RAM, RAM_END - CHIP_RAM}, {FLASH_HOST, (uint32_t)text_end - FLASH_HOST},
+        {CODE_AS_DATA(FLASH_CODE), FLASH_ARGUMENTS - FLASH_CODE}, {FLASH_IMAGE, FLASH_INPUT - FLASH_IMAGE}
+    };
+    refuse_fault(number, sfi_device_try_mirrors(part, spans, sizeof spans / sizeof spans[0], NULL));
 }
 
-uint32_t host_address(uint32_t data_address) {
-    return data_address;
-}
-
-void place(uint32_t number, const struct part *part) {
+void place(uint32_t number, const struct sfi_device_part *part) {
     if (!data_is_free(part))
         refuse_sandbox(number, "there is no memory for its data and guard zones");
-    if (!is_code_in_place(part))
+    if (!sfi_device_is_code_in_place(part))
         refuse_sandbox(number, "its code isn't in the flash");
     test_mirrors(number, part);
     memset((uint8_t *)part->data_base, 0, part->data_size);
     memcpy((uint8_t *)part->data_base, part->first, part->first_count);
-    close_guards(number, part);
+    refuse_fault(number, sfi_device_close_guards(number, part));
 }
 
 static uint64_t now(void) {

@@ -66,7 +66,7 @@ read_options "$@"
 words=$(words_of_chip)
 if [ "$unchecked" = 0 ]; then
     [ -n "$checker" ] || [ -f "$here/../out/checker.o" ] ||
-        fail 3 "there is no ../out/checker.o: ../checker.sh makes it"
+        fail 3 "there is no ../out/checker.o: device/checker.sh makes it"
     checker=${checker:-$here/../out/checker.o}
 fi
 needs_tools

@@ -37,7 +37,7 @@ no_handler:
         .balign 256                     # some cores want this
 vectors:
         .rept   32
-        j       trapped                 # of switch.S
+        j       sfi_device_trapped
         .endr
 
         .section .rodata

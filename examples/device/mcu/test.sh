@@ -181,7 +181,7 @@ try_script() {
     echo zz >>"$room/image.hex"
     refused_by_script 2 "run.sh: the image isn't pairs of hexadecimal digits: $(head -c 80 "$room/image.hex")"
     echo 534649 >"$room/image.hex"
-    report "an image of 3 bytes, unchecked" $'device: the image is cut short\nstatus 2' \
+    report "an image of 3 bytes, unchecked" $'device: layout fault 3 Short\nstatus 2' \
         "$(by=(--unchecked) && run <"$room/image.hex"; echo "status $?")"
 }
 
@@ -230,7 +230,7 @@ done <chips/table
 
 try_slots() {
     report "the host with slots: a checker that isn't there" \
-        "there is no checker none: examples/device/checker.sh makes moving.o (CHECKER=FILE names another).  Stop." \
+        "there is no checker none: device/checker.sh makes moving.o (CHECKER=FILE names another).  Stop." \
         "$(make -s -C "$shared/slots" CHECKER=none 2>&1 | sed -n 's/^Makefile:[0-9]*: \*\*\* //p')"
     if [ "${by[0]}" = --unchecked ]; then
         skip 1 "the host with slots" "there is no checker to judge its updates"

@@ -10,7 +10,7 @@ pads_rows() {
 
 # A turn is measured by QEMU's instructions and not by the machine's clock, under whose load one might end early.
 without_pmp() { # words of run.sh; the image is $room/image.hex
-    MAIN="main.c $cases/sums.c" HOST_FLAGS=-Wl,--wrap=enter OUT=$room/pads QEMU_OPTIONS="-icount shift=0" \
+    MAIN="main.c $cases/sums.c" HOST_FLAGS=-Wl,--wrap=sfi_device_enter OUT=$room/pads QEMU_OPTIONS="-icount shift=0" \
         run --no-pmp --rounds 100 "$@" <"$room/image.hex"
 }
 
@@ -62,7 +62,7 @@ try_without_pmp() {
 
 # A chip.h that says that the chip has no entries.
 try_no_entries() {
-    edit_host mcu/chips/sifive_e/chip.h 's/PMP_ENTRIES .*/PMP_ENTRIES 0/'
+    edit_host examples/device/mcu/chips/sifive_e/chip.h 's/PMP_ENTRIES .*/PMP_ENTRIES 0/'
     build "$room/pair.s" 1 >"$room/image.hex"
     report "$chip: no PMP: words between two sandboxes, with no entries in chip.h" \
         "$("$SFI" run --rounds 100 --quantum 1000000 <"$room/image.hex" | without_steps)" \
@@ -72,7 +72,7 @@ try_no_entries() {
 # A host whose own memory is in a guard zone sees that it has changed.
 try_missing_pads() {
     local from
-    edit_host mcu/place.c 's/- part->data_size >= GUARD_ZONE/- part->data_size >= 1/'
+    edit_host examples/device/mcu/place.c 's/- part->data_size >= SFI_DEVICE_GUARD_ZONE/- part->data_size >= 1/'
     from=$(printf '%x:%x' $((flash_code)) $((host_ram - 512)))
     pad_source sb lbu -1 2047 >"$room/pads.s"
     "$SFI" build --at "$from" <"$room/pads.s" >"$room/image.hex"
@@ -83,7 +83,7 @@ try_missing_pads() {
 
 # Code in words gets out on a host that doesn't refuse it.
 try_words_on_pads() {
-    edit_host mcu/pads.c 's/== FORMAT_OF_WORDS/> FORMAT_OF_WORDS/'
+    edit_host device/ports/none.c 's/== SFI_DEVICE_FORMAT/> SFI_DEVICE_FORMAT/'
     { echo .format words && head -n 14 "$room/out.s" | tail -n +2 && printf '.sandbox 256\n ebreak\n'; } >"$room/far.s"
     beside "$room/far.s"
     report "$chip: no PMP: code in words that gets out" "written=$(printf %08x $((data_at + 0x2100))):5a" \

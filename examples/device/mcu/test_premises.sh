@@ -63,17 +63,17 @@ END
 try_open_guards() {
     local open="guard zone, doesn't trap" whole='power_of_two(part->data_base, part->data_size)'
     echo $'.sandbox 256\n ebreak\n.sandbox 256\n ebreak' >"$room/two.s"
-    edit_host mcu/place.c "s/$whole/power_of_two(part->data_base \& ~511u, 512)/"
+    edit_host device/ports/pmp.c "s/$whole/power_of_two(part->data_base \& ~511u, 512)/"
     "$SFI" build $(at 1) <<<$'.sandbox 256\n ebreak' >"$room/image.hex"
     host_refuses 0 0x20ff "$open"
     beside "$room/two.s"
     host_refuses 0 256 "$open"
     [ "$chip" = sifive_e ] || return # once: the entries are the same on all
-    edit_host mcu/place.c 's/part->data_base - GUARD_ZONE/& + 4/'
+    edit_host device/ports/pmp.c 's/part->data_base - SFI_DEVICE_GUARD_ZONE/& + 4/'
     host_refuses 1 0x1100 "$open"
-    edit_host mcu/place.c 's/data_end + GUARD_ZONE/& - 4/'
+    edit_host device/ports/pmp.c 's/data_end + SFI_DEVICE_GUARD_ZONE/& - 4/'
     host_refuses 0 0x10ff "$open"
-    edit_host mcu/place.c 's/PMP_NAPOT | PMP_R | PMP_W/PMP_NAPOT/'
+    edit_host device/ports/pmp.c 's/PMP_NAPOT | PMP_R | PMP_W/PMP_NAPOT/'
     host_refuses 0 0 "data, traps"
 }
 

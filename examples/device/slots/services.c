@@ -1,28 +1,39 @@
 /* What a plug-in can ask: it exits, puts bytes into its output, yields, and reports that it works. */
 #include "slots.h"
 
-enum service { EXIT, PUT, NO_SERVICE, YIELD, REPORT };
+enum service { EXIT, PUT, YIELD = 3, REPORT };
 static const uint32_t FAILED = UINT32_MAX;
 
-static uint32_t put(struct sandbox *caller, const struct call *call) {
-    const uint8_t *bytes = own_bytes(&world, call->caller, call->a0, call->a1);
-    if (bytes == NULL || call->a1 > OUTPUT_MOST - caller->output_length || call->a1 > CALL_BYTES_MOST)
-        return FAILED;
-    memcpy(caller->output + caller->output_length, bytes, call->a1);
-    caller->output_length += call->a1;
-    return call->a1;
+static enum sfi_device_outcome leave(void *host, struct sfi_device_sandbox *sandbox, struct sfi_device_call *call) {
+    (void)host, (void)sandbox, (void)call;
+    return SFI_DEVICE_LEFT;
 }
 
-enum outcome serve(struct world *all, struct call *call) {
-    switch (call->service) {
-    case EXIT: return LEFT;
-    case PUT: call->a0 = put(&all->sandboxes[call->caller], call); break;
-    case YIELD: return YIELDED;
-    case REPORT:
-        current_of(call->caller)->trial_turns = 0;
-        call->a0 = current_of(call->caller)->number;
-        break;
-    default: call->a0 = FAILED;
+static enum sfi_device_outcome put(void *host, struct sfi_device_sandbox *sandbox, struct sfi_device_call *call) {
+    struct plugin *caller = (struct plugin *)sandbox;
+    const uint8_t *bytes = sfi_device_own_bytes(sandbox, call->a0, call->a1);
+    (void)host;
+    if (bytes == NULL || call->a1 > OUTPUT_MOST - caller->output_length || call->a1 > CALL_BYTES_MOST) {
+        call->a0 = FAILED;
+        return SFI_DEVICE_REPLIED;
     }
-    return REPLIED;
+    memcpy(caller->output + caller->output_length, bytes, call->a1);
+    caller->output_length += call->a1;
+    call->a0 = call->a1;
+    return SFI_DEVICE_REPLIED;
 }
+
+static enum sfi_device_outcome yield(void *host, struct sfi_device_sandbox *sandbox, struct sfi_device_call *call) {
+    (void)host, (void)sandbox, (void)call;
+    return SFI_DEVICE_YIELDED;
+}
+
+static enum sfi_device_outcome report(void *host, struct sfi_device_sandbox *sandbox, struct sfi_device_call *call) {
+    struct version *version = current_of(number_of(host, sandbox));
+    version->trial_turns = 0;
+    call->a0 = version->number;
+    return SFI_DEVICE_REPLIED;
+}
+
+sfi_device_service *const services[] = {[EXIT] = leave, [PUT] = put, [YIELD] = yield, [REPORT] = report};
+const uint32_t service_count = sizeof services / sizeof services[0];

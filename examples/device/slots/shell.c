@@ -69,12 +69,12 @@ static void item(const char *what, uint32_t number) {
     print_decimal(number);
 }
 
-static void print_state(const struct sandbox *sandbox) {
-    if (sandbox->state == EMPTY)
+static void print_state(const struct sfi_device_sandbox *sandbox) {
+    if (sandbox->state == SFI_DEVICE_EMPTY)
         return print(" empty");
-    if (sandbox->state == READY)
+    if (sandbox->state == SFI_DEVICE_READY)
         return print(" ready");
-    if (sandbox->state == EXITED)
+    if (sandbox->state == SFI_DEVICE_EXITED)
         return item(" exit=", sandbox->exit_code);
     print(" trap=");
     print(sandbox->trap);
@@ -83,19 +83,19 @@ static void print_state(const struct sandbox *sandbox) {
 }
 
 void print_slot(uint32_t number, const char *what) {
-    const struct sandbox *sandbox = &world.sandboxes[number];
+    const struct plugin *plugin = &world.plugins[number];
     item("slot=", number);
     print(" ");
     print(what);
     item(": version=", current_of(number)->number);
     if (current_of(number)->trial_turns > 0)
         print(" on trial");
-    print_state(sandbox);
-    item(" put=", sandbox->output_length);
-    if (sandbox->output_length > 0)
+    print_state(&plugin->sandbox);
+    item(" put=", plugin->output_length);
+    if (plugin->output_length > 0)
         print(" ");
-    for (uint32_t k = 0; k < sandbox->output_length && k < SHOWN_MOST; k++)
-        print_hex(sandbox->output[k], 2);
+    for (uint32_t k = 0; k < plugin->output_length && k < SHOWN_MOST; k++)
+        print_hex(plugin->output[k], 2);
     print("\n");
 }
 
@@ -134,7 +134,8 @@ static void judge_update(void) {
         [NOT_APART] = "not apart from another slot"
     };
     struct sfi_verdict verdict = {0};
-    uint32_t status, number = update.slot;
+    uint32_t number = update.slot;
+    enum sfi_device_status status;
     update.slot = NO_SLOT;
     enum update outcome = update_slot(number, update.length, update.moves, &status, &verdict);
     if (outcome == STARTED)
@@ -169,7 +170,7 @@ static void take_piece(void) {
 }
 
 static void call_function(void) {
-    uint32_t number, pc, arguments[ENTRY_ARGUMENTS] = {0};
+    uint32_t number, pc, arguments[SFI_DEVICE_ARGUMENTS] = {0};
     bool is_right = take_slot(&number) && take_number(&pc) && take_number(&arguments[0]) &&
                     take_number(&arguments[1]) && is_over() && call_slot(number, pc, arguments);
     answer(is_right, number, "called");
@@ -188,8 +189,8 @@ static void print_sums(void) {
     print("host=");
     print_hex(sum_of(start, (uint32_t)text_end - (uint32_t)start), 8);
     for (uint32_t number = 0; number < SLOTS; number++) {
-        const struct sandbox *sandbox = &world.sandboxes[number];
-        print(sandbox->state == EMPTY ? " none" : is_code_in_place(&sandbox->part) ? " code" : " changed");
+        const struct sfi_device_sandbox *sandbox = &world.plugins[number].sandbox;
+        print(sandbox->state == SFI_DEVICE_EMPTY ? " none" : sfi_device_is_code_in_place(&sandbox->part) ? " code" : " changed");
         print(" data=");
         print_hex(sum_of(data_of(number), SLOT_DATA), 8);
     }

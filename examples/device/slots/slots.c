@@ -33,7 +33,7 @@ void feed_watchdog(void) {
 /* ---- Places */
 
 static uint32_t data_at(uint32_t number) {
-    return CHIP_RAM + number * (SLOT_DATA + 2 * GUARD_ZONE);
+    return CHIP_RAM + number * (SLOT_DATA + 2 * SFI_DEVICE_GUARD_ZONE);
 }
 
 uint8_t *data_of(uint32_t number) {
@@ -64,7 +64,7 @@ uint8_t *update_memory(uint32_t number) {
 /* After this its place is anyone's: nothing is left of it that could be run, started or entered. */
 static void drop(uint32_t number, uint32_t version) {
     if (version == slots[number].current)
-        empty(&world.sandboxes[number]);
+        empty(&world.plugins[number]);
     slots[number].versions[version] = (struct version){0};
 }
 
@@ -72,17 +72,17 @@ void drop_next(uint32_t number) {
     drop(number, next_of(number));
 }
 
-static bool is_its_place(uint32_t number, const struct part *part) {
+static bool is_its_place(uint32_t number, const struct sfi_device_part *part) {
     return part->code_base >= FLASH_CODE && part->code_size <= FLASH_ARGUMENTS - FLASH_CODE &&
            part->code_base <= FLASH_ARGUMENTS - part->code_size && part->data_base == data_at(number) &&
            part->data_size == SLOT_DATA;
 }
 
 /* From each version that any other slot keeps, since it may be started again. */
-static bool is_apart(uint32_t number, const struct part *part) {
+static bool is_apart(uint32_t number, const struct sfi_device_part *part) {
     for (uint32_t k = 0; k < SLOTS * VERSIONS; k++) {
         const struct version *kept = &slots[k / VERSIONS].versions[k % VERSIONS];
-        if (k / VERSIONS != number && kept->number != 0 && !are_apart(part, &kept->part))
+        if (k / VERSIONS != number && kept->number != 0 && !sfi_device_are_apart(part, &kept->part))
             return false;
     }
     return true;
@@ -90,23 +90,23 @@ static bool is_apart(uint32_t number, const struct part *part) {
 
 /* The locked entries hold until the next reset, so each slot's data have one place. */
 void start_slots(void) {
-    world.arguments = &asked;
+    start_world(&world, &asked);
     world.count = SLOTS;
     for (uint32_t number = 0; number < SLOTS; number++) {
-        struct part *part = &world.sandboxes[number].part;
-        *part = (struct part){.data_base = data_at(number), .data_size = SLOT_DATA};
+        struct sfi_device_part *part = &world.plugins[number].sandbox.part;
+        *part = (struct sfi_device_part){.data_base = data_at(number), .data_size = SLOT_DATA};
         test_mirrors(number, part);
-        close_guards(number, part);
+        refuse_fault(number, sfi_device_close_guards(number, part));
     }
-    write_protection();
+    refuse_fault(0, sfi_device_write_protection());
     test_guards(&world);
     for (uint32_t number = 0; number < SLOTS; number++)
-        empty(&world.sandboxes[number]);
+        empty(&world.plugins[number]);
 }
 
 /* ---- Starting and stopping */
 
-static void place_code(const struct part *part) {
+static void place_code(const struct sfi_device_part *part) {
     uint8_t *place = (uint8_t *)CODE_AS_DATA(part->code_base);
     for (uint32_t done = 0; done < part->code_size; done += PLACED_AT_ONCE) {
         uint32_t left = part->code_size - done;
@@ -120,26 +120,26 @@ bool start_slot(uint32_t number) {
     const struct version *version = current_of(number);
     if (version->number == 0)
         return false;
-    empty(&world.sandboxes[number]); /* has no turn until all of it is placed */
+    empty(&world.plugins[number]); /* has no turn until all of it is placed */
     place_code(&version->part);
     memset(data_of(number), 0, SLOT_DATA);
     memcpy(data_of(number), version->part.first, version->part.first_count);
-    enter_start(&world.sandboxes[number], &version->part);
+    sfi_device_enter_start(&world.plugins[number].sandbox, &version->part);
     return true;
 }
 
 bool kill_slot(uint32_t number) {
-    struct sandbox *sandbox = &world.sandboxes[number];
-    if (sandbox->state != READY)
+    struct sfi_device_sandbox *sandbox = &world.plugins[number].sandbox;
+    if (sandbox->state != SFI_DEVICE_READY)
         return false;
-    sandbox->state = TRAPPED;
+    sandbox->state = SFI_DEVICE_TRAPPED;
     sandbox->trap = "Killed";
     sandbox->trap_address = sandbox->frame.pc;
     return true;
 }
 
-bool call_slot(uint32_t number, uint32_t pc, const uint32_t arguments[ENTRY_ARGUMENTS]) {
-    return current_of(number)->trial_turns == 0 && enter_again(&world.sandboxes[number], pc, arguments);
+bool call_slot(uint32_t number, uint32_t pc, const uint32_t arguments[SFI_DEVICE_ARGUMENTS]) {
+    return current_of(number)->trial_turns == 0 && sfi_device_enter_again(&world.plugins[number].sandbox, pc, arguments);
 }
 
 bool remove_slot(uint32_t number) {
@@ -160,13 +160,13 @@ static void roll_back(uint32_t number) {
 }
 
 static void run_slot(uint32_t number) {
-    const struct sandbox *sandbox = &world.sandboxes[number];
+    const struct sfi_device_sandbox *sandbox = &world.plugins[number].sandbox;
     struct version *version = current_of(number);
-    if (sandbox->state == EMPTY) /* it has no version, or that is being placed */
+    if (sandbox->state == SFI_DEVICE_EMPTY) /* it has no version, or that is being placed */
         return;
-    if (sandbox->state == READY)
+    if (sandbox->state == SFI_DEVICE_READY)
         turn(&world, number);
-    if (version->trial_turns > 0 && (sandbox->state != READY || --version->trial_turns == 0))
+    if (version->trial_turns > 0 && (sandbox->state != SFI_DEVICE_READY || --version->trial_turns == 0))
         roll_back(number);
 }
 
@@ -192,19 +192,21 @@ uint32_t free_slot(void) {
 }
 
 /* The code stays as it was judged, so the moved image is accepted, too. */
-static bool move_to_slot(uint32_t number, uint32_t length, struct part *part) {
+static bool move_to_slot(uint32_t number, uint32_t length, struct sfi_device_part *part) {
     uint8_t *image = update_memory(number);
-    return move_sandbox(image, length, 0, code_at(number), data_at(number)) && tell_part(image, length, 0, part);
+    return sfi_device_move(image, length, 0, code_at(number), data_at(number)) && sfi_device_tell(image, length, 0, part) == SFI_DEVICE_DONE;
 }
 
-enum update update_slot(uint32_t number, uint32_t length, bool moves, uint32_t *status, struct sfi_verdict *verdict) {
+enum update update_slot(uint32_t number, uint32_t length, bool moves, enum sfi_device_status *status,
+                        struct sfi_verdict *verdict) {
     const uint8_t *image = update_memory(number);
     struct version next = {.trial_turns = TRIAL_TURNS};
-    struct part further;
-    *status = check_image(image, length, verdict);
-    if (*status != SFI_ACCEPTED)
+    struct sfi_device_part further;
+    *status = sfi_device_check(image, length, between_pieces, verdict);
+    if (*status != SFI_DEVICE_DONE)
         return NOT_ACCEPTED;
-    if (!tell_part(image, length, 0, &next.part) || tell_part(image, length, 1, &further))
+    if (sfi_device_tell(image, length, 0, &next.part) != SFI_DEVICE_DONE ||
+        sfi_device_tell(image, length, 1, &further) != SFI_DEVICE_NO_SANDBOX)
         return NOT_ONE_PLUGIN;
     if ((moves && !move_to_slot(number, length, &next.part)) || !is_its_place(number, &next.part))
         return NOT_ITS_PLACE;

@@ -21,12 +21,12 @@ enum {
     PLACED_AT_ONCE = 4096       /* bytes of code that are copied before the neighbours have a turn */
 };
 
-/* All that the host keeps of a version beside its image; what runs of it is sandbox N of the world. Where there is no
+/* All that the host keeps of a version beside its image; what runs of it is plug-in N of the world. Where there is no
    version all of this is 0: `drop` of slots.c makes it so, and empties the sandbox. */
 struct version {
     uint32_t number;            /* counted from 1 in each slot */
     uint32_t trial_turns;       /* in which it has to report; 0 where it has */
-    struct part part;           /* what the checker tells of it */
+    struct sfi_device_part part;           /* what the checker tells of it */
 };
 
 struct slot {
@@ -45,7 +45,7 @@ enum update {
 };
 
 /* slots.c */
-extern struct world world;      /* sandbox N is that of slot N */
+extern struct world world;      /* plug-in N is that of slot N */
 extern struct slot slots[SLOTS];
 struct version *current_of(uint32_t number);
 void start_slots(void);         /* closes the guard zones of all of them */
@@ -55,11 +55,12 @@ uint8_t *update_memory(uint32_t number);                /* IMAGE_MOST bytes, for
 void drop_next(uint32_t number);                        /* before these are written */
 uint32_t free_slot(void);                               /* the first that has no version; SLOTS where each has one */
 /* `moves`: the image is for any place, and is moved to the slot's before it is started */
-enum update update_slot(uint32_t number, uint32_t length, bool moves, uint32_t *status, struct sfi_verdict *verdict);
+enum update update_slot(uint32_t number, uint32_t length, bool moves, enum sfi_device_status *status,
+                        struct sfi_verdict *verdict);
 bool start_slot(uint32_t number);                       /* the current version from its start, with new data */
 bool kill_slot(uint32_t number);                        /* false where it isn't ready */
-/* Enters the current version, which has stopped and isn't on trial, as enter_again does */
-bool call_slot(uint32_t number, uint32_t pc, const uint32_t arguments[ENTRY_ARGUMENTS]);
+/* Enters the current version, which has stopped and isn't on trial, as sfi_device_enter_again does */
+bool call_slot(uint32_t number, uint32_t pc, const uint32_t arguments[SFI_DEVICE_ARGUMENTS]);
 bool remove_slot(uint32_t number);                      /* drops its versions; false where it has none, or one on trial */
 void feed_watchdog(void);
 extern uint32_t longest_unfed;                          /* instructions between two feeds */

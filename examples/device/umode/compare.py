@@ -44,7 +44,7 @@ def run(image, main, flags, folder, given=""):
 
 
 def in_user_mode(image, folder, given=""):
-    return run(image, IN_USER_MODE, "-DUSER_MODE", folder, given)
+    return run(image, IN_USER_MODE, "-DSFI_DEVICE_PLUGINS_IN_U_MODE", folder, given)
 
 
 def built(text, image_format, count=1):

@@ -1,23 +1,23 @@
 # The registers of physical memory protection, whose numbers are part of the instructions. Where one isn't
 # there, the access traps, and the function ends there.
-#include "machine.h"
+#include "../privileged.h"
 
         .macro  each_entry              # csrw or csrr, and lw or sw, of `each`
         .set    number, 0
-        .rept   PMP_ENTRIES
+        .rept   SFI_DEVICE_PMP_ENTRIES
         each    PMPADDR0 + number, 4*number(a0)
         .set    number, number + 1
         .endr
         .set    number, 0
-        .rept   PMP_ENTRIES / 4
+        .rept   SFI_DEVICE_PMP_ENTRIES / 4
         each    PMPCFG0 + number, 4*number(a1)
         .set    number, number + 1
         .endr
         .endm
 
         .text
-        .globl  pmp_write, pmp_read, security_configuration
-pmp_write:                              # addresses, configurations
+        .globl  sfi_device_pmp_write, sfi_device_pmp_read, sfi_device_pmp_rules
+sfi_device_pmp_write:                              # addresses, configurations
         la      t1, ended
         csrrw   t1, mtvec, t1
         .macro  each register, place
@@ -28,7 +28,7 @@ pmp_write:                              # addresses, configurations
         .purgem each
         j       ended
 
-pmp_read:                               # where to: addresses, configurations
+sfi_device_pmp_read:                               # where to: addresses, configurations
         la      t1, ended
         csrrw   t1, mtvec, t1
         .macro  each register, place
@@ -38,7 +38,7 @@ pmp_read:                               # where to: addresses, configurations
         each_entry
         j       ended
 
-security_configuration:                 # answers mseccfg: 0 where it isn't there
+sfi_device_pmp_rules:                 # answers mseccfg: 0 where it isn't there
         la      t1, ended
         csrrw   t1, mtvec, t1
         li      a0, 0

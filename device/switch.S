@@ -1,9 +1,9 @@
 # The way into a sandbox and back. A sandbox may leave anything in its registers, so the host finds
 # its own by SCRATCH, which no accepted code can write: it holds the frame while a sandbox runs,
-# and 0 while the host does. A trap or interrupt of the host goes on to trap_of_host, with each register as it
-# was: a kernel has its own in the place of the one below. `enter` is called with interrupts off, and comes back
-# so, on whatever stack.
-#include "machine.h"
+# and 0 while the host does. A trap or interrupt of the host goes on to the firmware's
+# sfi_device_trap_of_host, with each register as it was. `sfi_device_enter` is called with interrupts off, and comes back so,
+# on whatever stack.
+#include "privileged.h"
 #include "registers.h"
 
         .macro  each_register operation # of a sandbox, but a0, which holds the frame
@@ -13,8 +13,10 @@
         .endm
 
         .text
-        .globl  enter, trapped
-enter:  addi    sp, sp, -64
+        .option norvc                   # the counts below are of instructions of 4 bytes
+        .globl  sfi_device_enter, sfi_device_trapped
+sfi_device_enter:
+        addi    sp, sp, -64
         each_kept sw
         sw      sp, FRAME_HOST_STACK(a0)
         csrw    SCRATCH, a0
@@ -31,7 +33,7 @@ count_before:
 enter_end:
 
         .balign 4
-trapped:
+sfi_device_trapped:
         csrrw   a0, SCRATCH, a0
         beqz    a0, not_of_sandbox
         each_register sw
@@ -49,19 +51,12 @@ count_after:
         ret
 not_of_sandbox:
         csrrw   a0, SCRATCH, zero
-        j       trap_of_host
-
-        .weak   trap_of_host
-trap_of_host:
-        csrr    a0, CAUSE
-        csrr    a1, EXCEPTION_PC
-        la      sp, stack_top
-        j       host_fault
+        j       sfi_device_trap_of_host
 
         .section .rodata
-        .globl  switch_instructions, trap_instructions  # each has 4 bytes: the loader has no 16-bit forms
+        .globl  sfi_device_switch_instructions, sfi_device_trap_instructions    # each has 4 bytes
         .balign 4
-switch_instructions:
-        .word   (enter_end - count_before) / 4 + JUMPS_TO_TRAPPED + (count_after - trapped) / 4
-trap_instructions:
-        .word   JUMPS_TO_TRAPPED + (count_after - trapped) / 4
+sfi_device_switch_instructions:
+        .word   (enter_end - count_before) / 4 + SFI_DEVICE_JUMPS_TO_TRAPPED + (count_after - sfi_device_trapped) / 4
+sfi_device_trap_instructions:
+        .word   SFI_DEVICE_JUMPS_TO_TRAPPED + (count_after - sfi_device_trapped) / 4

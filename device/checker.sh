@@ -1,8 +1,7 @@
 #!/usr/bin/env bash
-# Makes FOLDER/checker.o: the proved checker for RV32, which Makefile links into the loader. It makes
-# measured.o too, which prints what each image costs it (with `run.sh --steps`), and moving.o, which moves sandboxes, too.
+# Makes FOLDER/checker.o: the proved checker for RV32, which a firmware links, and moving.o, which moves sandboxes, too.
 #
-#     examples/device/checker.sh LIBRARY FOLDER     # LIBRARY is libsfi_c.a for wasm64
+#     device/checker.sh LIBRARY FOLDER              # LIBRARY is libsfi_c.a for wasm64
 #
 # The linker of Rattle's toolchain makes a WebAssembly module of the library, wasm-opt takes it from
 # 64 to 32 bits, wasm2c turns it into C, and gcc compiles that. In the environment, RATTLE is the
@@ -56,16 +55,15 @@ machine=(-march=rv32imc -mabi=ilp32)
 flags=("${machine[@]}" --specs=picolibc.specs -std=c11 -Os -mcmodel=medany -msmall-data-limit=0)
 flags+=(-ffreestanding -fno-builtin -fno-jump-tables -ffunction-sections -fdata-sections)
 flags+=(-DNDEBUG -DWASM_RT_USE_STACK_DEPTH_COUNT=0)
-flags+=(-I. -I"$here/../../crates/sfi_c/include")
+flags+=(-I. -I"$here/../crates/sfi_c/include")
 # shellcheck disable=SC2206 # words
 flags+=(${CHECKER_FLAGS:-})
 warned=(-Wall -Wextra -Wconversion -Wshadow -Wmissing-prototypes -Werror -I"$here")
 "$riscv" "${flags[@]}" -w -I"$here" -include reach.h -c -o sfi_wasm.o sfi_wasm.c
 "$riscv" "${flags[@]}" "${warned[@]}" -c -o judge.o "$here/checker.c"
-"$riscv" "${flags[@]}" "${warned[@]}" -c -o measure.o "$here/measure.c"
-linked=(-nostdlib -r -Wl,--gc-sections,-echeck_image,-utell_part,-uare_apart)
+linked=(-nostdlib -r -Wl,--gc-sections,-esfi_device_check,-usfi_device_tell,-usfi_device_are_apart)
 "$riscv" "${machine[@]}" "${linked[@]}" -o checker.o judge.o sfi_wasm.o -lgcc
-"$riscv" "${machine[@]}" "${linked[@]}" -Wl,-umove_sandbox -o moving.o judge.o sfi_wasm.o -lgcc
-riscv64-unknown-elf-objcopy --redefine-sym check_image=checker_check_image \
-    --redefine-sym tell_part=checker_tell_part checker.o renamed.o
-"$riscv" "${machine[@]}" -nostdlib -r -o measured.o measure.o renamed.o
+"$riscv" "${machine[@]}" "${linked[@]}" -Wl,-usfi_device_move -o moving.o judge.o sfi_wasm.o -lgcc
+for made in checker.o moving.o; do # no other name of theirs can meet one of the firmware's
+    riscv64-unknown-elf-objcopy --wildcard --keep-global-symbol='sfi_device_*' "$made"
+done

@@ -31,6 +31,6 @@ struct checker_memory {
     struct module_part part, other_part;
     struct sfi_gate gates[MODULE_GATES];
 };
-extern struct checker_memory checker_memory;
+extern struct checker_memory sfi_device_checker_memory;
 
 #endif

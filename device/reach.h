@@ -11,7 +11,7 @@
 struct reach {
     uint32_t first, size;
 };
-extern struct reach image_reach;
+extern struct reach sfi_device_image_reach;
 
 #define IN_EACH_ACCESS __attribute__((always_inline)) static inline
 
@@ -23,12 +23,12 @@ IN_EACH_ACCESS bool lies_in(uint32_t at, uint32_t length, struct reach reach) {
 IN_EACH_ACCESS bool module_reaches(uint64_t at, uint32_t length) {
     const struct reach own = {LINKED_STACK - MODULE_STACK, sizeof(struct checker_memory)};
     uint32_t address = (uint32_t)at;
-    return at == address && (lies_in(address, length, own) || lies_in(address, length, image_reach));
+    return at == address && (lies_in(address, length, own) || lies_in(address, length, sfi_device_image_reach));
 }
 
 /* The byte at that address of the module. */
 IN_EACH_ACCESS uint8_t *module_byte(uint32_t address) {
-    return (uint8_t *)((uintptr_t)&checker_memory - (LINKED_STACK - MODULE_STACK) + address);
+    return (uint8_t *)((uintptr_t)&sfi_device_checker_memory - (LINKED_STACK - MODULE_STACK) + address);
 }
 
 #endif

@@ -1,8 +1,8 @@
 /* What stopped a sandbox, in the words of `sfi run`. */
-#include "host.h"
-#include "machine.h"
+#include "internal.h"
+#include "privileged.h"
 
-enum { SP = 2, OPCODE_LOAD = 0x03, C_LWSP = 2 };
+enum { OPCODE_LOAD = 0x03, C_LWSP = 2 };
 
 static uint32_t bits(uint32_t word, unsigned lowest, unsigned count) {
     return word >> lowest & ((1u << count) - 1);
@@ -29,11 +29,11 @@ static uint32_t address_of_half(uint32_t half, const uint32_t x[]) {
 /* The first address of the load or store at pc. stval may be another one: where an access straddles
    two pages, it is the second page's. Code can't be read where it runs, so the instruction comes
    from the image. */
-static uint32_t access_address(const struct sandbox *sandbox) {
+static uint32_t access_address(const struct sfi_device_sandbox *sandbox) {
     const uint8_t *instruction = sandbox->part.code + (sandbox->frame.pc - sandbox->part.code_base);
     uint32_t half = instruction[0] | instruction[1] << 8;
     if (bits(half, 0, 2) == 3)
-        return address_of_word(little_endian(instruction), sandbox->frame.x);
+        return address_of_word(sfi_device_word_at(instruction), sandbox->frame.x);
     return address_of_half(half, sandbox->frame.x);
 }
 
@@ -50,8 +50,8 @@ static const char *name_of(uint32_t cause) {
     }
 }
 
-void stop_by_trap(struct sandbox *sandbox, uint32_t cause) {
-    sandbox->state = TRAPPED;
+void sfi_device_stop_by_trap(struct sfi_device_sandbox *sandbox, uint32_t cause) {
+    sandbox->state = SFI_DEVICE_TRAPPED;
     sandbox->trap = name_of(cause);
     bool accesses = sandbox->trap[0] == 'L' || sandbox->trap[0] == 'S';
     sandbox->trap_address = accesses ? access_address(sandbox) : sandbox->frame.pc;

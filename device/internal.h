@@ -1,0 +1,29 @@
+/* What the library's own files share. */
+#ifndef SFI_DEVICE_INTERNAL_H
+#define SFI_DEVICE_INTERNAL_H
+
+#include "sfi_device.h"
+
+enum { SP = 2, A0 = 10, A1 = 11, RA = 1 }; /* registers: the stack pointer, a call's arguments and answers, the return address */
+enum { ECALL_SIZE = 4 };
+
+void *memset(void *to, int byte, size_t length);
+void *memcpy(void *restrict to, const void *restrict from, size_t length);
+
+/* gates.c: answers the call at the caller's pc; false where the turn ends */
+bool sfi_device_answer_call(const struct sfi_device_firmware *firmware, struct sfi_device_sandbox *caller);
+/* Has a service of the table, or none, answer */
+enum sfi_device_outcome sfi_device_serve(const struct sfi_device_firmware *firmware, struct sfi_device_sandbox *caller,
+                                         struct sfi_device_call *call);
+/* Makes of the caller at its gate what the answer says, which isn't GOES_ON; false where the turn ends */
+bool sfi_device_take_answer(struct sfi_device_sandbox *caller, const struct sfi_device_call *call, enum sfi_device_outcome outcome);
+
+/* trap.c */
+void sfi_device_stop_by_trap(struct sfi_device_sandbox *sandbox, uint32_t cause);
+
+/* switch.S: runs until the next trap or interrupt, and answers its cause. The firmware has its traps come to
+   sfi_device_trapped, and defines sfi_device_trap_of_host, where the host's own then come, with each register as it was */
+uint32_t sfi_device_enter(struct sfi_device_frame *frame);
+extern const uint32_t sfi_device_switch_instructions;   /* how many of its own lie between the two counts */
+
+#endif
