@@ -77,7 +77,7 @@ class Folders(unittest.TestCase):
     """README files that have a line, `- NAME: what it is`, for each file and folder beside them."""
 
     def test_each_file_has_a_line(self):
-        for folder in ("examples", "examples/c", "examples/device", "tools", "tools/suygapid"):
+        for folder in ("device", "examples", "examples/c", "examples/device", "tools", "tools/suygapid"):
             with self.subTest(folder=folder):
                 names = {it.split("/")[0] for it in files_of_git(self, testing.TOP / folder)}
                 text = (testing.TOP / folder / "README.md").read_text(encoding="utf-8")

@@ -422,6 +422,11 @@ source "$here/test_premises.sh"
 try_vendor 01000000 1
 try_report "$room/words.hex"
 
+# ---- The library by itself
+
+source "$here/test_library.sh"
+try_library
+
 # ---- Gates without a trap
 
 source "$here/test_springboards.sh"

@@ -36,7 +36,7 @@ try_costs() {
         printf '.gate g63 2\n li a0, 0x01800000\n li a1, 512\n call g63\n ebreak\n'
     } >"$room/gates.s"
     build "$room/gates.s" 1 >"$room/image.hex"
-    at_most "the longest section without interrupts, of 64 gates" 1638 "$(
+    at_most "the longest section without interrupts, of 64 gates" 1604 "$(
         run --checker "$room/checker/measured.o" --steps --input "$(printf '61%.0s' {1..1024})" <"$room/image.hex" |
             tail -n 1)"
 }
