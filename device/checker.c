@@ -56,27 +56,27 @@ void *memmove(void *to, const void *from, size_t length) {
 /* ---- For the firmware */
 
 /* Feeds the image in pieces of PIECE bytes, until it is refused. Answers how many bytes. */
-static uint32_t feed_pieces(uint32_t stream, const uint8_t *image, uint32_t length, void (*between_pieces)(void)) {
+static uint32_t feed_pieces(uint32_t stream, const uint8_t *image, uint32_t length, void (*between_pieces)(void *), void *host) {
     uint32_t done = 0;
     while (done < length && !Z_sfiZ_sfi_c_refused(&module, stream)) {
         uint32_t left = length - done;
         uint32_t piece = left < PIECE ? left : PIECE;
         Z_sfiZ_sfi_c_feed(&module, stream, in_module(image + done), piece);
         if (between_pieces)
-            between_pieces();
+            between_pieces(host);
         done += piece;
     }
     return done;
 }
 
-static enum sfi_device_status judge_pieces(const uint8_t *image, uint32_t length, void (*between_pieces)(void),
+static enum sfi_device_status judge_pieces(const uint8_t *image, uint32_t length, void (*between_pieces)(void *), void *host,
                                            struct sfi_verdict *verdict) {
     uint32_t stream = in_module(&sfi_device_checker_memory.stream);
     if (*Z_sfiZ___heap_base(&module) > stream)
         return SFI_DEVICE_CHECKER_STOPPED; /* there is no room for it */
     /* Not sfi_c_check, whose code for vectors is five times as long, and slower where there are none. */
     Z_sfiZ_sfi_c_begin(&module, stream);
-    uint32_t fed = feed_pieces(stream, image, length, between_pieces);
+    uint32_t fed = feed_pieces(stream, image, length, between_pieces, host);
     Z_sfiZ_sfi_c_end(&module, stream, in_module(&sfi_device_checker_memory.verdict));
     *verdict = sfi_device_checker_memory.verdict;
     /* Of a broken rule sfi_c_end tells after the image's last byte alone. */
@@ -85,15 +85,15 @@ static enum sfi_device_status judge_pieces(const uint8_t *image, uint32_t length
     return verdict->status == SFI_ACCEPTED ? SFI_DEVICE_DONE : SFI_DEVICE_NOT_ACCEPTED;
 }
 
-enum sfi_device_status sfi_device_check(const uint8_t *image, uint32_t length, void (*between_pieces)(void),
-                                        struct sfi_verdict *verdict) {
+enum sfi_device_status sfi_device_check(const uint8_t *image, uint32_t length, void (*between_pieces)(void *host),
+                                        void *host, struct sfi_verdict *verdict) {
     memset(sfi_device_checker_memory.data, 0, sizeof sfi_device_checker_memory - MODULE_STACK);
     sfi_device_image_reach = (struct reach){in_module(image), length};
     if (__builtin_setjmp(stopped) != 0)
         return SFI_DEVICE_CHECKER_STOPPED;
     Z_sfi_init_module();
     Z_sfi_instantiate(&module);
-    return judge_pieces(image, length, between_pieces, verdict);
+    return judge_pieces(image, length, between_pieces, host, verdict);
 }
 
 /* What the module is told, in its own memory. */

@@ -115,11 +115,11 @@ struct sfi_device_firmware {
 
 /* ---- The checker: of checker.sh */
 
-/* Judges the image where it lies, in pieces, and after each of them calls between_pieces, in which a sandbox that is no part
-   of the image may have a turn. After the first piece in which a rule is broken it stops: then the verdict has no findings,
+/* Judges the image where it lies, in pieces, and after each of them calls between_pieces, if that isn't NULL, with host: in
+   it a sandbox that is no part of the image may have a turn. After the first piece in which a rule is broken it stops: then the verdict has no findings,
    unless it was the last. DONE where the image is accepted, NOT_ACCEPTED, or CHECKER_STOPPED. */
-enum sfi_device_status sfi_device_check(const uint8_t *image, uint32_t length, void (*between_pieces)(void),
-                                        struct sfi_verdict *verdict);
+enum sfi_device_status sfi_device_check(const uint8_t *image, uint32_t length, void (*between_pieces)(void *host),
+                                        void *host, struct sfi_verdict *verdict);
 /* Tells the accepted image's sandbox of that number. DONE, NO_SANDBOX or CHECKER_STOPPED. */
 enum sfi_device_status sfi_device_tell(const uint8_t *image, uint32_t length, uint32_t number, struct sfi_device_part *part);
 /* No region and no guard zone of one of them meets one of the other. */

@@ -45,8 +45,8 @@ struct world {
 void *memset(void *to, int byte, size_t length);
 void *memcpy(void *restrict to, const void *restrict from, size_t length);
 
-/* main.c: a vendor feeds the watchdog here. A sandbox that is no part of the image may have a turn */
-void between_pieces(void);
+/* A vendor's own main, where that has it: feeds the watchdog, while an image is judged */
+__attribute__((weak)) void between_pieces(void *host);
 
 /* image.c */
 /* Fills in the world's firmware. */

@@ -41,7 +41,7 @@ static uint32_t read_sandboxes(const uint8_t *image, uint32_t length, struct plu
 /* The line and status of `sfi check`, after the loader's name. */
 static void judge_image(const uint8_t *image, uint32_t length) {
     struct sfi_verdict verdict = {0};
-    enum sfi_device_status status = sfi_device_check(image, length, between_pieces, &verdict);
+    enum sfi_device_status status = sfi_device_check(image, length, between_pieces, NULL, &verdict);
     if (status == SFI_DEVICE_DONE)
         return;
     print("device: ");

@@ -4,8 +4,6 @@
 
 static struct world world;
 
-void between_pieces(void) {}
-
 /* start.S calls this in M-mode, before there is a page table. Answers what satp takes. */
 uint32_t load(void) {
     read_image(&world, ARGUMENTS, IMAGE, INPUT);

@@ -6,7 +6,8 @@
 #include "host.h"
 #include "internal.h"
 
-enum sfi_device_status checker_check(const uint8_t *image, uint32_t length, void (*between)(void), struct sfi_verdict *verdict);
+enum sfi_device_status checker_check(const uint8_t *image, uint32_t length, void (*between)(void *), void *host,
+                                     struct sfi_verdict *verdict);
 enum sfi_device_status checker_tell(const uint8_t *image, uint32_t length, uint32_t number, struct sfi_device_part *part);
 extern uint8_t stack_bottom[];
 
@@ -37,13 +38,14 @@ static void print_cost(uint32_t instructions, const uint8_t *stack_before) {
     print("\n");
 }
 
-enum sfi_device_status sfi_device_check(const uint8_t *image, uint32_t length, void (*between)(void), struct sfi_verdict *verdict) {
+enum sfi_device_status sfi_device_check(const uint8_t *image, uint32_t length, void (*between)(void *), void *host,
+                                        struct sfi_verdict *verdict) {
     uint8_t *stack_before = __builtin_frame_address(0);
     /* up to 128 bytes below, so that this call's own frame stays */
     memset(stack_bottom, PAINT, (uint32_t)stack_before - 128 - (uint32_t)stack_bottom);
     memset(sfi_device_checker_memory.stack, PAINT, MODULE_STACK);
     uint32_t before = retired();
-    enum sfi_device_status status = checker_check(image, length, between, verdict);
+    enum sfi_device_status status = checker_check(image, length, between, host, verdict);
     print_cost(retired() - before, stack_before);
     return status;
 }

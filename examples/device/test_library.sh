@@ -25,7 +25,7 @@ try_cpp() { # a compiler, and words for it
         return
     fi
     cat >"$room/firmware.cpp" <<'END_OF_FIRMWARE'
-#include "sfi_device.h"
+#include "sfi_device_slots.h"
 
 static sfi_device_outcome leave(void *, sfi_device_sandbox *, sfi_device_call *) { return SFI_DEVICE_LEFT; }
 static sfi_device_service *const services[] = {leave};

@@ -60,11 +60,11 @@ static void take_part(struct reader *reader, struct sfi_device_part *part) {
     part->first = take(reader, part->first_count);
 }
 
-enum sfi_device_status sfi_device_check(const uint8_t *image, uint32_t length, void (*between)(void),
-                                        struct sfi_verdict *verdict) {
+enum sfi_device_status sfi_device_check(const uint8_t *image, uint32_t length, void (*between)(void *),
+                                        void *host, struct sfi_verdict *verdict) {
     struct reader reader = {image, image + length, 0};
     struct sfi_device_part part;
-    (void)between;
+    (void)between, (void)host;
     for (uint32_t left = take_head(&reader, &part.format); !reader.fault && left > 0; left--)
         take_part(&reader, &part);
     *verdict = (struct sfi_verdict){.status = reader.fault ? SFI_NO_IMAGE : SFI_ACCEPTED, .layout_fault = reader.fault};

@@ -17,8 +17,6 @@ static enum task running;
 static uint32_t slices[TASKS], preempted; /* preempted: how often a task of the host was */
 static volatile uint32_t plugins_left, counted;
 
-void between_pieces(void) {}
-
 void judge(void) {
     read_image(&world, FLASH_ARGUMENTS, FLASH_IMAGE, FLASH_INPUT);
 }

@@ -29,7 +29,7 @@ static enum sfi_device_outcome yield(void *host, struct sfi_device_sandbox *sand
 }
 
 static enum sfi_device_outcome report(void *host, struct sfi_device_sandbox *sandbox, struct sfi_device_call *call) {
-    struct version *version = current_of(number_of(host, sandbox));
+    struct sfi_device_version *version = sfi_device_current(&slots, number_of(host, sandbox));
     version->trial_turns = 0;
     call->a0 = version->number;
     return SFI_DEVICE_REPLIED;

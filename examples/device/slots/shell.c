@@ -20,6 +20,7 @@ static uint32_t line_length;
 static const char *at; /* what isn't read of it */
 
 static struct {
+    uint8_t *memory;
     uint32_t slot, length, arrived;
     bool moves;
 } update; /* NO_SLOT where none is on its way */
@@ -82,13 +83,13 @@ static void print_state(const struct sfi_device_sandbox *sandbox) {
     print_hex(sandbox->trap_address, 8);
 }
 
-void print_slot(uint32_t number, const char *what) {
+static void print_slot(uint32_t number, const char *what) {
     const struct plugin *plugin = &world.plugins[number];
     item("slot=", number);
     print(" ");
     print(what);
-    item(": version=", current_of(number)->number);
-    if (current_of(number)->trial_turns > 0)
+    item(": version=", sfi_device_current(&slots, number)->number);
+    if (sfi_device_current(&slots, number)->trial_turns > 0)
         print(" on trial");
     print_state(&plugin->sandbox);
     item(" put=", plugin->output_length);
@@ -97,6 +98,10 @@ void print_slot(uint32_t number, const char *what) {
     for (uint32_t k = 0; k < plugin->output_length && k < SHOWN_MOST; k++)
         print_hex(plugin->output[k], 2);
     print("\n");
+}
+
+void tell_news(uint32_t number, enum sfi_device_news news) {
+    print_slot(number, news == SFI_DEVICE_NO_REPORT ? "no report" : "older version");
 }
 
 static void answer(bool is_done, uint32_t number, const char *what) {
@@ -111,9 +116,9 @@ static void answer(bool is_done, uint32_t number, const char *what) {
 static void await_update(uint32_t number, bool moves) {
     uint32_t length;
     if (number >= SLOTS || !take_number(&length) || !is_over() || length == 0 || length > IMAGE_MOST ||
-        current_of(number)->trial_turns > 0)
+        sfi_device_current(&slots, number)->trial_turns > 0)
         return print("no\n");
-    drop_next(number);
+    update.memory = sfi_device_begin_update(&slots, number);
     update.slot = number;
     update.length = length;
     update.arrived = 0;
@@ -130,19 +135,19 @@ static void begin_update(void) {
 
 static void judge_update(void) {
     static const char *const reasons[] = {
-        [NOT_ONE_PLUGIN] = "not one plug-in", [NOT_ITS_PLACE] = "not the slot's place",
-        [NOT_APART] = "not apart from another slot"
+        [SFI_DEVICE_NOT_ONE_PLUGIN] = "not one plug-in", [SFI_DEVICE_NOT_ITS_PLACE] = "not the slot's place",
+        [SFI_DEVICE_NOT_APART] = "not apart from another slot"
     };
     struct sfi_verdict verdict = {0};
     uint32_t number = update.slot;
     enum sfi_device_status status;
     update.slot = NO_SLOT;
-    enum update outcome = update_slot(number, update.length, update.moves, &status, &verdict);
-    if (outcome == STARTED)
+    enum sfi_device_update outcome = sfi_device_end_update(&slots, number, update.length, update.moves, &status, &verdict);
+    if (outcome == SFI_DEVICE_STARTED)
         return print_slot(number, "started");
     item("slot=", number);
     print(" stays: ");
-    if (outcome == NOT_ACCEPTED)
+    if (outcome == SFI_DEVICE_UPDATE_REFUSED)
         print_verdict(status, &verdict);
     else
         print(reasons[outcome]);
@@ -153,7 +158,7 @@ static void take_piece(void) {
     uint32_t count = 0;
     if (update.slot == NO_SLOT)
         return print("no\n");
-    uint8_t *memory = update_memory(update.slot) + update.arrived;
+    uint8_t *memory = update.memory + update.arrived;
     for (; digit(at[0]) >= 0 && digit(at[1]) >= 0; at += 2, count++) {
         if (count == PIECE_MOST || count == update.length - update.arrived)
             return print("no\n");
@@ -172,7 +177,7 @@ static void take_piece(void) {
 static void call_function(void) {
     uint32_t number, pc, arguments[SFI_DEVICE_ARGUMENTS] = {0};
     bool is_right = take_slot(&number) && take_number(&pc) && take_number(&arguments[0]) &&
-                    take_number(&arguments[1]) && is_over() && call_slot(number, pc, arguments);
+                    take_number(&arguments[1]) && is_over() && sfi_device_call_slot(&slots, number, pc, arguments);
     answer(is_right, number, "called");
 }
 
@@ -192,7 +197,7 @@ static void print_sums(void) {
         const struct sfi_device_sandbox *sandbox = &world.plugins[number].sandbox;
         print(sandbox->state == SFI_DEVICE_EMPTY ? " none" : sfi_device_is_code_in_place(&sandbox->part) ? " code" : " changed");
         print(" data=");
-        print_hex(sum_of(data_of(number), SLOT_DATA), 8);
+        print_hex(sum_of((const uint8_t *)slots.slots[number].data_base, SLOT_DATA), 8);
     }
     print("\n");
 }
@@ -209,18 +214,18 @@ static void obey(void) {
     if (takes("update"))
         begin_update();
     else if (takes("add"))
-        await_update(free_slot(), true);
+        await_update(sfi_device_free_slot(&slots), true);
     else if (takes("piece"))
         take_piece();
     else if (takes("start"))
-        answer(take_slot(&number) && is_over() && current_of(number)->trial_turns == 0 && start_slot(number), number,
+        answer(take_slot(&number) && is_over() && sfi_device_current(&slots, number)->trial_turns == 0 && sfi_device_start_slot(&slots, number), number,
                "started");
     else if (takes("kill"))
-        answer(take_slot(&number) && is_over() && kill_slot(number), number, "killed");
+        answer(take_slot(&number) && is_over() && sfi_device_kill_slot(&slots, number), number, "killed");
     else if (takes("call"))
         call_function();
     else if (takes("remove"))
-        answer(take_slot(&number) && is_over() && remove_slot(number), number, "removed");
+        answer(take_slot(&number) && is_over() && sfi_device_remove_slot(&slots, number), number, "removed");
     else if (takes("show"))
         answer(take_slot(&number) && is_over(), number, "is");
     else if (takes("sums"))
@@ -268,7 +273,7 @@ void run_host(void) {
     print("slots\n");
     for (;;) {
         feed_watchdog();
-        run_slots();
+        sfi_device_run_slots(&slots);
         take_bytes();
     }
 }

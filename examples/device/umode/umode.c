@@ -4,8 +4,6 @@
 
 static struct world world;
 
-void between_pieces(void) {}
-
 void judge(void) {
     read_image(&world, FLASH_ARGUMENTS, FLASH_IMAGE, FLASH_INPUT);
 }
