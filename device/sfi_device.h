@@ -35,7 +35,11 @@ enum sfi_device_status {
     SFI_DEVICE_NOT_ACCEPTED,        /* the verdict says why */
     SFI_DEVICE_CHECKER_STOPPED,     /* it couldn't go on: there is no verdict, and no image to run */
     SFI_DEVICE_NO_SANDBOX,          /* the image has none of that number */
-    SFI_DEVICE_NO_PLACE,            /* the port has no entry, or no guard zone, for a sandbox of that number and format */
+    SFI_DEVICE_NO_GUARDS,           /* code in words is held by guard zones that trap, and the port has none */
+    SFI_DEVICE_NO_ENTRY,            /* no entry of physical memory protection is left for the sandbox */
+    SFI_DEVICE_NO_MEMORY,           /* no page is left for it */
+    SFI_DEVICE_CODE_IS_HOST,        /* its code is where the host is */
+    SFI_DEVICE_DATA_IS_HOST,        /* its data or guard zones are */
     SFI_DEVICE_OTHER_RULES,         /* mseccfg isn't 0: the rules of physical memory protection are others */
     SFI_DEVICE_ENTRY_DIFFERS,       /* entry `other` of it isn't as it was written: it is locked, coarser, or not there */
     SFI_DEVICE_GUARD_IS_OPEN,       /* a load at `address`, in a guard zone, doesn't trap */
@@ -147,9 +151,9 @@ uint8_t *sfi_device_own_bytes(const struct sfi_device_sandbox *sandbox, uint32_t
 uint32_t sfi_device_word_at(const uint8_t *bytes);
 bool sfi_device_are_same(const uint8_t *one, const uint8_t *other, uint32_t length);
 
-/* ---- Ports: pmp.c, for code in M-mode; none.c, for a chip without physical memory protection */
+/* ---- Ports: pmp.c, for code in M-mode; none.c, for a chip without physical memory protection; sv32.c has a header */
 
-/* Closes the guard zones of the sandbox of that number, once sfi_device_write_protection is called. DONE or NO_PLACE. */
+/* Closes the guard zones of the sandbox of that number, once sfi_device_write_protection is called. DONE, NO_GUARDS or NO_ENTRY. */
 struct sfi_device_fault sfi_device_close_guards(uint32_t number, const struct sfi_device_part *part);
 /* DONE, OTHER_RULES or ENTRY_DIFFERS. */
 struct sfi_device_fault sfi_device_write_protection(void);

@@ -49,7 +49,7 @@ struct sfi_device_fault sfi_device_write_protection(void) {
 struct sfi_device_fault sfi_device_close_guards(uint32_t number, const struct sfi_device_part *part) {
     uint32_t entry = ENTRIES_EACH * number, data_end = part->data_base + part->data_size;
     if (number >= SFI_DEVICE_PMP_ENTRIES / ENTRIES_EACH)
-        return (struct sfi_device_fault){SFI_DEVICE_NO_PLACE, 0, 0};
+        return (struct sfi_device_fault){SFI_DEVICE_NO_ENTRY, 0, 0};
     sfi_device_protect(entry, sfi_device_power_of_two(part->data_base, part->data_size),
                        PMP_LOCKED | PMP_NAPOT | PMP_R | PMP_W);
     sfi_device_protect(entry + 1, part->data_base - SFI_DEVICE_GUARD_ZONE, PMP_LOCKED | PMP_OFF);

@@ -78,8 +78,16 @@ void refuse_number(const char *reason, uint32_t number, const char *more) {
 void refuse_fault(uint32_t number, struct sfi_device_fault fault) {
     switch (fault.status) {
     case SFI_DEVICE_DONE: return;
-    case SFI_DEVICE_NO_PLACE:
+    case SFI_DEVICE_NO_GUARDS:
         refuse_sandbox(number, "code in words is held by guard zones that trap, and here none does");
+    case SFI_DEVICE_NO_ENTRY:
+        refuse_sandbox(number, "no entry of physical memory protection is left for it");
+    case SFI_DEVICE_NO_MEMORY:
+        refuse_sandbox(number, "there is no room for it");
+    case SFI_DEVICE_CODE_IS_HOST:
+        refuse_sandbox(number, "its code is where the host is");
+    case SFI_DEVICE_DATA_IS_HOST:
+        refuse_sandbox(number, "its data or guard zones are where the host is");
     case SFI_DEVICE_OTHER_RULES:
         refuse("mseccfg isn't 0: physical memory protection has rules that this host doesn't know");
     case SFI_DEVICE_ENTRY_DIFFERS:

@@ -4,6 +4,7 @@
 
 #include "machine.h"
 #include "sfi_device.h"
+#include "sfi_device_sv32.h"
 
 /* docs/IMAGE.md and docs/GATES.md */
 enum {
@@ -58,13 +59,10 @@ void empty(struct plugin *plugin);
 /* The number of a sandbox of the world. */
 uint32_t number_of(const struct world *world, const struct sfi_device_sandbox *sandbox);
 
-/* paging.c: all of this before there is a page table */
-void map_sandbox(uint32_t number, const struct sfi_device_part *part);
-uint32_t finish_page_table(void);       /* with the host in it; answers what satp takes */
-uint8_t *map_slots(uint32_t number, uint32_t address);          /* a page there that can be executed */
-uint32_t *word_of_code(uint32_t number, uint32_t address);      /* where the host can write it */
+/* main.c of `virt` */
+extern struct sfi_device_sv32 space;
 
-/* paging.c, or place.c of mcu: refuses to go on where the sandbox's data are mirrored in the host's memory. On mcu before the
+/* main.c, or place.c of mcu: refuses to go on where the sandbox's data are mirrored in the host's memory. On mcu before the
    guard zones are closed */
 void test_mirrors(uint32_t number, const struct sfi_device_part *part);
 /* image.c: refuses to go on where a guard zone is open, or data are closed */

@@ -3,15 +3,42 @@
 #include "host.h"
 
 static struct world world;
+struct sfi_device_sv32 space;
+
+extern uint8_t window[]; /* aligned to its size; after it is the pool of pages, up to ARGUMENTS */
+extern uint8_t stack_top[]; /* the end of the host's own memory */
+
+static void map_host(void) {
+    sfi_device_sv32_map_host(RAM, UART);
+    if (!sfi_device_sv32_map_device(&space, UART, UART_DEVICE) || !sfi_device_sv32_map_device(&space, FINISHER, FINISHER_DEVICE))
+        refuse("there is no room for the host");
+}
 
 /* start.S calls this in M-mode, before there is a page table. Answers what satp takes. */
 uint32_t load(void) {
+    uint32_t satp;
+    space = (struct sfi_device_sv32){RAM, HOST_END, window, window + SFI_DEVICE_SV32_WINDOW, (uint8_t *)ARGUMENTS, 0};
     read_image(&world, ARGUMENTS, IMAGE, INPUT);
     for (uint32_t number = 0; number < world.count; number++)
-        map_sandbox(number, &world.plugins[number].sandbox.part);
+        refuse_fault(number, sfi_device_sv32_map(&space, &world.plugins[number].sandbox.part));
     if (put_springboards)
         put_springboards(&world);
-    return finish_page_table();
+    map_host();
+    refuse_fault(0, sfi_device_sv32_finish(&space, &satp));
+    return satp;
+}
+
+static uint32_t host_address(uint32_t data_address) {
+    return (uint32_t)sfi_device_sv32_at(&space, data_address);
+}
+
+/* Of the window the host can read the data regions alone. Code lies in pages of the pool. */
+void test_mirrors(uint32_t number, const struct sfi_device_part *part) {
+    uint32_t pool = (uint32_t)window + SFI_DEVICE_SV32_WINDOW;
+    const struct sfi_device_span spans[] = {
+        {RAM, (uint32_t)stack_top - RAM}, {pool, (uint32_t)space.pool - pool}, {IMAGE, world.arguments->image_length}
+    };
+    refuse_fault(number, sfi_device_try_mirrors(part, spans, sizeof spans / sizeof spans[0], host_address));
 }
 
 static uint64_t now(void) {

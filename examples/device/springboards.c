@@ -66,7 +66,7 @@ static void put_springboard(uint32_t number, const struct sfi_device_part *part,
     uint32_t *words = (uint32_t *)(page + gate * SLOT), end = (uint32_t)(slot_jump - slot);
     memcpy(words, slot, (size_t)((const uint8_t *)slot_end - (const uint8_t *)slot));
     words[end] = jump(at + 4 * end, address + ECALL_SIZE);
-    *word_of_code(number, address) = jump(address, at);
+    *(uint32_t *)sfi_device_sv32_at(&space, address) = jump(address, at);
 }
 
 void put_springboards(struct world *of) {
@@ -76,7 +76,11 @@ void put_springboards(struct world *of) {
         pages[number] = page_for(of, part);
         if (pages[number] == 0)
             continue;
-        uint8_t *page = map_slots(number, pages[number]);
+        uint8_t *page = sfi_device_sv32_page_of_code(&space, pages[number]);
+        if (page == NULL) {
+            pages[number] = 0;
+            continue;
+        }
         for (uint32_t gate = 0; gate < part->gate_count; gate++)
             put_springboard(number, part, gate, page);
     }

@@ -276,7 +276,7 @@ compare "the first addresses after the host" "$room/image.hex" '' steps
 for ((number = 1; number <= 16; number++)); do
     printf '.sandbox 2048\n ebreak\n'
 done >"$room/small.s"
-refused_by_loader "sandbox 14: there is room for 14 data regions below 4096 bytes" \
+refused_by_loader "sandbox 14: no entry of physical memory protection is left for it" \
     < <("$SFI" build <"$room/small.s")
 
 # ---- Attacks: refused, and what they do where nobody checks

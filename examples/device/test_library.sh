@@ -26,6 +26,7 @@ try_cpp() { # a compiler, and words for it
     fi
     cat >"$room/firmware.cpp" <<'END_OF_FIRMWARE'
 #include "sfi_device_slots.h"
+#include "sfi_device_sv32.h"
 
 static sfi_device_outcome leave(void *, sfi_device_sandbox *, sfi_device_call *) { return SFI_DEVICE_LEFT; }
 static sfi_device_service *const services[] = {leave};

@@ -55,7 +55,7 @@ END
 try_mseccfg "locked entries are those of M-mode (mseccfg.MML)" <<END
         li      t0, $host_at >> 2
         csrw    pmpaddr13, t0
-        li      t0, $(symbol next_page) >> 2
+        li      t0, $(symbol loader_memory) >> 2
         csrw    pmpaddr14, t0
         li      t0, ($boots_at | 0x7ff) >> 2
         csrw    pmpaddr15, t0
@@ -66,19 +66,19 @@ END
 
 # Hosts whose page table or entries open or close a little more than they should.
 try_open_guards() {
-    local open="guard zone, doesn't trap" small='if (part->data_size < PAGE)'
-    local map='map_region(number, part->data_base \/ PAGE * PAGE - PAGE, PAGE, PTE_R, part->first, 0);\n    &'
+    local open="guard zone, doesn't trap" small='if (part->data_size < PAGE && !open'
+    local map='map_region(space, part->data_base \/ PAGE * PAGE - PAGE, PAGE, PTE_R, part->first, 0);\n    &'
     echo $'.sandbox 256\n ebreak' >"$room/one.s"
     beside "$room/one.s"
-    edit_host examples/device/paging.c "s/$small/$map/"
+    edit_host device/ports/sv32.c "s/$small/$map/"
     host_refuses 0 -4096 "$open"
-    edit_host examples/device/paging.c "s/$small/${map/- PAGE/+ PAGE}/"
+    edit_host device/ports/sv32.c "s/$small/${map/- PAGE/+ PAGE}/"
     host_refuses 0 0x10ff "$open"
-    edit_host examples/device/paging.c 's/PAGE, part->data_size)/PAGE, part->data_size * 2)/'
+    edit_host device/ports/sv32.c 's/PAGE, part->data_size)/PAGE, part->data_size * 2)/'
     host_refuses 0 256 "$open"
     "$SFI" build --at 1000000:1800100 <"$room/one.s" >"$room/image.hex"
     host_refuses 0 255 "$open"
-    edit_host examples/device/paging.c 's/PMP_NAPOT | PMP_R | PMP_W)/PMP_NAPOT)/'
+    edit_host device/ports/sv32.c 's/PMP_NAPOT | PMP_R | PMP_W)/PMP_NAPOT)/'
     host_refuses 0 256 "data, traps"
 }
 try_open_guards

@@ -213,7 +213,7 @@ END
 
     entry_source 8 | words_stub >"$room/entry.S"
     image 1 1 < <(sandbox 0x01000000 0x01800000 4096 "0 1" '' <"$room/entry.S") | in_words >"$room/image.hex"
-    edit_host examples/device/springboards.c 's/^    \*word_of_code(number, address) = .*/    uint32_t *to = word_of_code(number, address);\
+    edit_host examples/device/springboards.c 's/^    \*(uint32_t \*)sfi_device_sv32_at.*/    uint32_t *to = sfi_device_sv32_at(\&space, address);\
     to[0] = 0x13;\
     to[1] = ((at + 0x800) \& 0xfffff000) | 31 << 7 | 0x37;\
     to[2] = (at \& 0xfff) << 20 | 31 << 15 | 0x67;/'
