@@ -209,8 +209,8 @@ def kept_lines():
 
 def write(worst):
     lines = ["# Of each kind the image whose verdict takes the most instructions, as bench/worst_verdict.py --write found it: its magic,",
-             "# the bytes that its code repeats, and the instructions of a verdict: on 65,536 bytes, of gates on 16,384, of refused code on 4,096."]
-    lines += [f"{name} {genes.magic.decode()} {genes.pattern.hex()} {instructions}" for name, (genes, instructions) in worst.items()]
+             "# the bytes that its code repeats, and the instructions of a verdict: on 65,536 bytes, of gates on 16,384, refused on 4,096."]
+    lines += [f"{name} {it.magic.decode()} {it.pattern.hex()} {instructions}" for name, (it, instructions) in worst.items()]
     KEPT.write_text("\n".join(lines) + "\n", encoding="utf-8")
 
 

@@ -10,6 +10,16 @@ uint8_t *sfi_device_own_bytes(const struct sfi_device_sandbox *sandbox, uint32_t
     return (uint8_t *)address;
 }
 
+enum sfi_device_outcome sfi_device_exit(void *host, struct sfi_device_sandbox *caller, struct sfi_device_call *call) {
+    (void)host, (void)caller, (void)call;
+    return SFI_DEVICE_LEFT;
+}
+
+enum sfi_device_outcome sfi_device_yield(void *host, struct sfi_device_sandbox *caller, struct sfi_device_call *call) {
+    (void)host, (void)caller, (void)call;
+    return SFI_DEVICE_YIELDED;
+}
+
 /* The gate at pc, or NULL. By halves: of an accepted image each lies above the one before (docs/IMAGE.md, layout fault 8). */
 static const struct sfi_device_gate *gate_at(const struct sfi_device_part *part, uint32_t pc) {
     const struct sfi_device_gate *gate = part->gates; /* and so many from it on may be the one */

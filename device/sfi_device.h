@@ -104,6 +104,9 @@ enum sfi_device_outcome {
    firmware's own. It has to be right for any a0 and a1, at any time. */
 typedef enum sfi_device_outcome sfi_device_service(void *host, struct sfi_device_sandbox *caller, struct sfi_device_call *call);
 
+/* Two services: the caller exits with a0; its turn ends. */
+sfi_device_service sfi_device_exit, sfi_device_yield;
+
 /* What the firmware gives. */
 struct sfi_device_firmware {
     /* By the numbers that images give their gates. A call of a service that isn't there has UINT32_MAX as its reply, in a0 */
@@ -120,8 +123,8 @@ struct sfi_device_firmware {
 /* ---- The checker: of checker.sh */
 
 /* Judges the image where it lies, in pieces, and after each of them calls between_pieces, if that isn't NULL, with host: in
-   it a sandbox that is no part of the image may have a turn. After the first piece in which a rule is broken it stops: then the verdict has no findings,
-   unless it was the last. DONE where the image is accepted, NOT_ACCEPTED, or CHECKER_STOPPED. */
+   it a sandbox that is no part of the image may have a turn. After the first piece in which a rule is broken it stops: then
+   the verdict has no findings, unless it was the last. DONE where the image is accepted, NOT_ACCEPTED, or CHECKER_STOPPED. */
 enum sfi_device_status sfi_device_check(const uint8_t *image, uint32_t length, void (*between_pieces)(void *host),
                                         void *host, struct sfi_verdict *verdict);
 /* Tells the accepted image's sandbox of that number. DONE, NO_SANDBOX or CHECKER_STOPPED. */

@@ -25,11 +25,6 @@ static enum sfi_device_outcome fails(struct sfi_device_call *call) {
     return SFI_DEVICE_REPLIED;
 }
 
-static enum sfi_device_outcome leave(void *host, struct sfi_device_sandbox *sandbox, struct sfi_device_call *call) {
-    (void)host, (void)sandbox, (void)call;
-    return SFI_DEVICE_LEFT;
-}
-
 static enum sfi_device_outcome put(void *host, struct sfi_device_sandbox *sandbox, struct sfi_device_call *call) {
     struct plugin *caller = (struct plugin *)sandbox;
     (void)host;
@@ -59,11 +54,6 @@ static enum sfi_device_outcome get(void *host, struct sfi_device_sandbox *sandbo
     return moved(caller, call, piece, length);
 }
 
-static enum sfi_device_outcome yield(void *host, struct sfi_device_sandbox *sandbox, struct sfi_device_call *call) {
-    (void)host, (void)sandbox, (void)call;
-    return SFI_DEVICE_YIELDED;
-}
-
 static enum sfi_device_outcome post(void *host, struct sfi_device_sandbox *sandbox, struct sfi_device_call *call) {
     struct world *world = host;
     if (call->a0 >= world->count)
@@ -91,6 +81,6 @@ static enum sfi_device_outcome take(void *host, struct sfi_device_sandbox *sandb
 }
 
 sfi_device_service *const services[] = {
-    [EXIT] = leave, [PUT] = put, [GET] = get, [YIELD] = yield, [POST] = post, [TAKE] = take
+    [EXIT] = sfi_device_exit, [PUT] = put, [GET] = get, [YIELD] = sfi_device_yield, [POST] = post, [TAKE] = take
 };
 const uint32_t service_count = sizeof services / sizeof services[0];

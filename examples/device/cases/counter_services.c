@@ -3,11 +3,6 @@
 
 static uint32_t counter;
 
-static enum sfi_device_outcome leave(void *host, struct sfi_device_sandbox *caller, struct sfi_device_call *call) {
-    (void)host, (void)caller, (void)call;
-    return SFI_DEVICE_LEFT;
-}
-
 static enum sfi_device_outcome add(void *host, struct sfi_device_sandbox *caller, struct sfi_device_call *call) {
     const uint8_t *word = sfi_device_own_bytes(caller, call->a0, 4);
     (void)host;
@@ -15,5 +10,5 @@ static enum sfi_device_outcome add(void *host, struct sfi_device_sandbox *caller
     return SFI_DEVICE_REPLIED;
 }
 
-sfi_device_service *const services[] = {leave, add};
+sfi_device_service *const services[] = {sfi_device_exit, add};
 const uint32_t service_count = sizeof services / sizeof services[0];

@@ -4,11 +4,6 @@
 enum service { EXIT, PUT, YIELD = 3, REPORT };
 static const uint32_t FAILED = UINT32_MAX;
 
-static enum sfi_device_outcome leave(void *host, struct sfi_device_sandbox *sandbox, struct sfi_device_call *call) {
-    (void)host, (void)sandbox, (void)call;
-    return SFI_DEVICE_LEFT;
-}
-
 static enum sfi_device_outcome put(void *host, struct sfi_device_sandbox *sandbox, struct sfi_device_call *call) {
     struct plugin *caller = (struct plugin *)sandbox;
     const uint8_t *bytes = sfi_device_own_bytes(sandbox, call->a0, call->a1);
@@ -23,11 +18,6 @@ static enum sfi_device_outcome put(void *host, struct sfi_device_sandbox *sandbo
     return SFI_DEVICE_REPLIED;
 }
 
-static enum sfi_device_outcome yield(void *host, struct sfi_device_sandbox *sandbox, struct sfi_device_call *call) {
-    (void)host, (void)sandbox, (void)call;
-    return SFI_DEVICE_YIELDED;
-}
-
 static enum sfi_device_outcome report(void *host, struct sfi_device_sandbox *sandbox, struct sfi_device_call *call) {
     struct sfi_device_version *version = sfi_device_current(&slots, number_of(host, sandbox));
     version->trial_turns = 0;
@@ -35,5 +25,5 @@ static enum sfi_device_outcome report(void *host, struct sfi_device_sandbox *san
     return SFI_DEVICE_REPLIED;
 }
 
-sfi_device_service *const services[] = {[EXIT] = leave, [PUT] = put, [YIELD] = yield, [REPORT] = report};
+sfi_device_service *const services[] = {[EXIT] = sfi_device_exit, [PUT] = put, [YIELD] = sfi_device_yield, [REPORT] = report};
 const uint32_t service_count = sizeof services / sizeof services[0];
