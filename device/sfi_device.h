@@ -127,6 +127,7 @@ struct sfi_device_firmware {
    the verdict has no findings, unless it was the last. DONE where the image is accepted, NOT_ACCEPTED, or CHECKER_STOPPED. */
 enum sfi_device_status sfi_device_check(const uint8_t *image, uint32_t length, void (*between_pieces)(void *host),
                                         void *host, struct sfi_verdict *verdict);
+/* These three come after it, and their image is the one that it judged last. */
 /* Tells the accepted image's sandbox of that number. DONE, NO_SANDBOX or CHECKER_STOPPED. */
 enum sfi_device_status sfi_device_tell(const uint8_t *image, uint32_t length, uint32_t number, struct sfi_device_part *part);
 /* No region and no guard zone of one of them meets one of the other. */
