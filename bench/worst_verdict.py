@@ -250,7 +250,7 @@ def main():
     if words.write:
         write({**kept, **worst})
     most = {name: instructions for name, (_, instructions) in kept_lines().items()}
-    failed = [name for name, (_, instructions) in worst.items() if instructions > most[name] * SLACK or not names(most[name])]
+    failed = [name for name, (_, instructions) in worst.items() if instructions > most.get(name, 0) * SLACK or not names(most[name])]
     print("".join(f"{name}: more than is kept, or than {PAGE} names: FAILED\n" for name in failed), end="")
     measure.end([name not in failed for name in worst])
 
