@@ -1,5 +1,6 @@
 """Where control goes from each piece of the code, and how often each piece is likely to run."""
 from copy import copy
+from functools import cached_property
 
 LOOP = 8  # how often a loop is taken to go round
 DEEPEST = 4  # loops around a piece that count
@@ -70,9 +71,13 @@ def reachable(firsts, following):
 def entries(code):
     """The pieces where control comes from anywhere: the first, and the labels that are called or
     whose address is taken, by an instruction or in the data."""
-    names = {piece.operands[-1] for piece in code
-             if not piece.is_mark and (piece.word == "la" or piece.is_call and piece.word != "jalr")}
+    names = spoken_of(code)
     return {0} | {number for name, number in labels_of(code).items() if name in names or code[number].taken}
+
+
+def spoken_of(code):
+    """The names that code calls, or of which it takes the address."""
+    return {piece.operands[-1] for piece in code if piece.is_spoken}
 
 
 class Blocks:
@@ -80,20 +85,33 @@ class Blocks:
     last."""
 
     def __init__(self, code):
-        self.code, last = code, len(code) - 1
-        starts = {0} | {number for number, piece in enumerate(code) if piece.is_mark}
-        starts |= {number + 1 for number, piece in enumerate(code) if number < last and (piece.is_goto or not piece.goes_on)}
-        self.starts = sorted(starts) if code else []
+        self.code, self.starts, is_begun = code, [], False
+        for number, piece in enumerate(code):
+            if piece.is_mark or not is_begun:
+                self.starts.append(number)
+            is_begun = piece.goes_on and not piece.is_goto
         self.ends = [*self.starts[1:], len(code)]
         self.bodies = [code[start:end] for start, end in zip(self.starts, self.ends)]
-        self.block_of = [block for block, body in enumerate(self.bodies) for _ in body]
         self.at = {body[0].name: block for block, body in enumerate(self.bodies) if body[0].is_mark}
         self.elsewhere = []  # the blocks after which control may go elsewhere
         self.following = [self.targets(block, body[-1]) for block, body in enumerate(self.bodies)]
         self.before = predecessors(self.following)
-        self.entries = {self.block_of[number] for number in entries(code)}
-        self.entries |= {block for block, others in enumerate(self.before) if not others}
-        self.order = reachable(sorted(self.entries), self.following)
+
+    @cached_property
+    def block_of(self):
+        """By a piece's number, its block."""
+        return [block for block, body in enumerate(self.bodies) for _ in body]
+
+    @cached_property
+    def entries(self):
+        """The blocks to which control comes from anywhere, or from nowhere."""
+        names = spoken_of(self.code)
+        found = {0} | {block for name, block in self.at.items() if name in names or self.bodies[block][0].taken}
+        return found | {block for block, others in enumerate(self.before) if not others}
+
+    @cached_property
+    def order(self):
+        return reachable(sorted(self.entries), self.following)
 
     def changed(self, code):
         """The same of code of which each piece is like one of this."""

@@ -70,6 +70,7 @@ class Facts(NamedTuple):
     is_jump: bool = False  # to a name, and no call
     is_goto: bool = False  # a branch or such a jump
     goes_on: bool = True  # control may go on to what stands after it
+    is_spoken: bool = False  # it calls its last operand, or takes the address of that
     is_barrier: bool = True  # nothing changes places with it
 
 
@@ -119,5 +120,5 @@ def facts_of(word, operands):
         written, values, reads, writes, bits(reads), bits(writes), bits(needed_by(word, is_call, reads)),
         word not in WITHOUT_EFFECT or writes in (set(), {"sp"}), word in ACCESSES, offset, base, base if is_masked else None,
         int(operands[2]) if word == "addi" and operands[0] == operands[1] else None,
-        is_branch, is_call, is_jump, is_branch or is_jump, goes_on,
+        is_branch, is_call, is_jump, is_branch or is_jump, goes_on, word == "la" or is_call and word != "jalr",
         not goes_on or is_branch or is_call or word == "fence")

@@ -15,7 +15,7 @@ an access. Data registers that compilers leave alone hold nothing across calls, 
 from dataclasses import dataclass, field
 from itertools import islice
 
-from suygapid.passes.control import Blocks
+from suygapid.passes.control import Blocks, leads_back
 from suygapid.passes.dependences import runs
 from suygapid.passes.deriving import derived
 from suygapid.passes.facts import bits
@@ -176,9 +176,14 @@ class Hoister:
 
 
 def with_hoisted_masks(code, names, registers, room):
-    """The code with masks before loops, in these data registers; `room` is the largest step."""
-    alive, out = iter(Liveness(Blocks(code)).before), []
+    """The code with masks before loops, in these data registers; `room` is the largest step. It is the same list where no
+    loop changes."""
+    if not registers or not leads_back(code):
+        return code
+    alive, out, has_changed = iter(Liveness(Blocks(code)).before), [], False
     for function in functions(code):
         part = Code(function.code, list(islice(alive, len(function.code))))
-        out += Hoister(part, function.outer, names, registers, room).hoisted()
-    return out
+        hoisted = Hoister(part, function.outer, names, registers, room).hoisted()
+        has_changed |= hoisted is not function.code
+        out += hoisted
+    return out if has_changed else code

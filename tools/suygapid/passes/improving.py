@@ -30,10 +30,11 @@ class Whole(NamedTuple):
 def improved(code, passes, image_format, small, names, slack, whole):
     """A part of a file's code after the passes that are named and that the format has. In bundles each branch reaches its label with some
     bytes to spare; `as` makes far branches of code in words."""
-    if "known" in passes and small.labels:
+    has_known = "known" in passes and small.offsets
+    if has_known:
         code = with_known_places(code, small, small.farthest)
     if image_format == WORDS:
-        return improved_words(code, passes, names, whole)
+        return improved_words(code, passes, names, whole, has_known)
     if "pointing" in passes and image_format == 2:
         code = with_pointing(code, names)
     if "packing" in passes:
@@ -41,12 +42,12 @@ def improved(code, passes, image_format, small, names, slack, whole):
     return with_near_branches(code, names, (image_format,), slack)
 
 
-def improved_words(code, passes, names, whole):
-    """Code in words after its own passes."""
+def improved_words(code, passes, names, whole, is_read):
+    """Code in words after its own passes. Where it `is_read`, `known` has left out what nothing reads."""
     code = with_plain_jumps(code)
     if "hoisting" in passes:
-        code = with_hoisted_masks(code, names, *whole)
-        code = without_unread(Blocks(code))
+        given, code = code, with_hoisted_masks(code, names, *whole)
+        code = code if is_read and code is given else without_unread(Blocks(code))
     if "sharing" in passes:
         code = with_shared_masks(code, whole.registers)
     if "targeting" in passes:

@@ -22,7 +22,7 @@ class Op:
         self.there = None  # where it leads to another part (`parts`), the registers that may be read there, as bits
         (self.written, self.values, self.reads, self.writes, self.read_bits, self.written_bits, self.needs, self.has_effect,
          self.is_access, self.offset, self.base, self.masked_base, self.step, self.is_branch, self.is_call, self.is_jump,
-         self.is_goto, self.goes_on, self.is_barrier) = facts_of(word, operands)
+         self.is_goto, self.goes_on, self.is_spoken, self.is_barrier) = facts_of(word, operands)
 
     def key(self):
         return self.word, self.operands, self.place, self.wide, self.pointed, self.address

@@ -42,7 +42,7 @@ class Known:
         return None
 
 
-def known_at_starts(code, blocks, following):
+def known_at_starts(blocks, following):
     """What is known where each block begins: a register with one offset on each way to it. None
     where no way leads to it."""
     states = [None] * len(blocks.starts)
@@ -52,7 +52,7 @@ def known_at_starts(code, blocks, following):
     while waiting:
         block = waiting.pop()
         after = dict(states[block])
-        for piece in code[blocks.starts[block]:blocks.ends[block]]:
+        for piece in blocks.bodies[block]:
             if not piece.is_mark:
                 following.take(piece, after)
         for target in blocks.following[block]:
@@ -76,12 +76,13 @@ def direct(op, known, farthest):
 
 
 def with_known_places(code, small, farthest=FARTHEST):
-    blocks = Blocks(code)
-    following = Known({text: offset for offset, texts in small.labels.items() for text in texts})
+    blocks, following = Blocks(code), Known(small.offsets)
+    if not any(piece.word == "la" and piece.operands[1] in small.offsets for piece in code):
+        return without_unread(blocks)
     out = []
-    for start, end, state in zip(blocks.starts, blocks.ends, known_at_starts(code, blocks, following)):
+    for body, state in zip(blocks.bodies, known_at_starts(blocks, following)):
         known = dict(state or {})
-        for piece in code[start:end]:
+        for piece in body:
             out.append(piece if piece.is_mark else direct(piece, known, farthest))
             if not piece.is_mark:
                 following.take(piece, known)

@@ -30,16 +30,11 @@ class Liveness:
 
     def spread(self):
         """Goes back from each block to those before it, until nothing more is found."""
-        before = [list(others) for others in self.blocks.before]
-        for block, body in enumerate(self.blocks.bodies):
-            for target in {self.called(piece) for piece in body if piece.is_call} - {None}:
-                before[target].append(block)
+        before = self.before_with_calls()
         waiting, is_waiting = list(range(len(before))), [True] * len(before)
         while waiting:
             block = waiting.pop()
-            is_waiting[block], alive = False, self.alive_after(block)
-            for piece in reversed(self.blocks.bodies[block]):
-                alive = self.alive_before(piece, alive)
+            is_waiting[block], alive = False, self.alive_at_start(block)
             if alive != self.at_starts[block]:
                 self.at_starts[block] = alive
                 for other in before[block]:
@@ -47,37 +42,56 @@ class Liveness:
                         is_waiting[other] = True
                         waiting.append(other)
 
+    def before_with_calls(self):
+        """For each block those that go to it, or call it."""
+        before = [list(others) for others in self.blocks.before]
+        for block, body in enumerate(self.blocks.bodies):
+            for piece in body:
+                if piece.is_call and (target := self.called(piece)) is not None:
+                    before[target].append(block)
+        return before
+
+    def alive_at_start(self, block):
+        """What is alive before a block, as far as it is found what is after it."""
+        alive = self.alive_after(block)
+        for piece in reversed(self.blocks.bodies[block]):
+            if piece.has_effect or alive & piece.written_bits:
+                alive = self.alive_before_call(piece, alive) if piece.is_call else alive & ~piece.written_bits | piece.needs
+        return alive
+
     def alive_after(self, block):
-        there = self.blocks.bodies[block][-1].there if block in self.ends_elsewhere else 0
-        alive = ALL if there is None else there
+        if block in self.ends_elsewhere:
+            there = self.blocks.bodies[block][-1].there
+            alive = ALL if there is None else there
+        else:
+            alive = 0
         for other in self.blocks.following[block]:
             alive |= self.at_starts[other]
         return alive
 
-    def alive_before(self, piece, alive):
-        """What is alive before a piece, by what is after it."""
-        kills = piece.written_bits
-        if not piece.has_effect and not alive & kills:
-            return alive
-        if piece.is_call:
-            target = self.called(piece)
-            there = piece.there if target is None else self.at_starts[target]
-            return alive & ~kills | (piece.needs if there is None else there & ~kills)
-        return alive & ~kills | piece.needs
+    def alive_before_call(self, piece, alive):
+        """What is alive before a call, by what is after it."""
+        kills, target = piece.written_bits, self.called(piece)
+        there = piece.there if target is None else self.at_starts[target]
+        return alive & ~kills | (piece.needs if there is None else there & ~kills)
 
     @cached_property
     def after(self):
         found = []
-        for block, body in reversed(list(enumerate(self.blocks.bodies))):
+        for block in range(len(self.blocks.bodies) - 1, -1, -1):
             alive = self.alive_after(block)
-            for piece in reversed(body):
+            for piece in reversed(self.blocks.bodies[block]):
                 found.append(alive)
-                alive = self.alive_before(piece, alive)
+                if piece.has_effect or alive & piece.written_bits:
+                    alive = self.alive_before_call(piece, alive) if piece.is_call else alive & ~piece.written_bits | piece.needs
         return found[::-1]
 
     @cached_property
     def before(self):
-        return [self.alive_before(*pair) for pair in zip(self.blocks.code, self.after)]
+        found = [0, *self.after]
+        for start, alive in zip(self.blocks.starts, self.at_starts):
+            found[start] = alive
+        return found[:-1]
 
 
 def without_unread(blocks):

@@ -3,7 +3,7 @@
 A part has the sections between which control goes, but for calls, and for jumps to where control comes from anywhere. What
 the passes have to know of the others stands in the code: a label that another part calls, or whose address it takes, is
 `taken`, and what leads to another part says which registers may be read there."""
-from suygapid.passes.control import Blocks
+from suygapid.passes.control import Blocks, spoken_of
 from suygapid.passes.liveness import Liveness
 from suygapid.passes.program import Mark
 
@@ -12,11 +12,6 @@ SECTION = "..section "  # begins the name of a mark that stands before the code 
 
 def section_mark(key):
     return Mark(SECTION + key, False, True, True)
-
-
-def spoken_of(pieces):
-    """The names that code calls, or of which it takes the address."""
-    return {piece.operands[-1] for piece in pieces if piece.word == "la" or piece.is_call and piece.word != "jalr"}
 
 
 def joined(sections):

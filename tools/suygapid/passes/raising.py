@@ -136,4 +136,6 @@ def raised_in(function, registers):
 
 
 def with_raised_steps(code, registers):
+    if not costly_steps(code):
+        return code
     return [piece for function in functions(code) for piece in raised_in(function, registers)]

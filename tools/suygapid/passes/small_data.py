@@ -27,11 +27,11 @@ class SmallData:
 
     def __init__(self, unit, code):
         self.small = unit.near_small()
-        self.labels, self.numbers = {}, {}
+        self.offsets, self.numbers = {}, {}  # by an address, its offset; by an object, its number
         for piece in code:
             if piece.word == "la" and self.is_near(piece.operands[1]):
                 name, addend = parts(piece.operands[1])
-                self.labels[self.offset(name, addend)] = [piece.operands[1]]
+                self.offsets[piece.operands[1]] = self.offset(name, addend)
 
     def is_near(self, text):
         """Whether an address is that of a small object of this file."""

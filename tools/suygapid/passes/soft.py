@@ -1,5 +1,7 @@
 """Where soft items (unit.py) stand once the passes have moved pieces: an item is written as soon as all the pieces before it
 in the file have been."""
+from functools import cached_property
+
 from suygapid.passes.program import Mark
 
 
@@ -35,13 +37,30 @@ class Order:
                 self.beside.setdefault(number - 1, []).append(text)
             else:
                 self.soft.append((number, text))
-        self.numbers = {id(piece): number for number, piece in enumerate(pieces)}
-        self.marks = {piece.name: number for number, piece in enumerate(pieces) if piece.is_mark}
-        self.places = {}
-        for number, piece in enumerate(pieces):
-            if not piece.is_mark:
-                self.places.setdefault(piece.place, number)
         self.kept = pieces  # so that no other piece gets the identity of one of these
+
+    @cached_property
+    def numbers(self):
+        return {id(piece): number for number, piece in enumerate(self.kept)}
+
+    @cached_property
+    def marks(self):
+        return {piece.name: number for number, piece in enumerate(self.kept) if piece.is_mark}
+
+    @cached_property
+    def places(self):
+        found = {}
+        for number, piece in enumerate(self.kept):
+            if not piece.is_mark:
+                found.setdefault(piece.place, number)
+        return found
+
+    def numbered(self, pieces):
+        """The numbers of pieces, and the least for each; nothing asks for them where all items stand at the section's end."""
+        if not self.beside and all(number == len(self.kept) for number, _ in self.soft):
+            return [None] * len(pieces), [-1] * len(pieces)
+        numbers = list(map(self.number, pieces))
+        return numbers, self.least(numbers)
 
     def number(self, piece):
         """The number of the piece of the file that one after the passes stands for; None for one that a pass has added."""

@@ -80,4 +80,4 @@ class Targeter:
 
 
 def with_targets(code):
-    return Targeter(code).targeted()
+    return Targeter(code).targeted() if any(map(is_set, code)) else code

@@ -36,10 +36,10 @@ def lines(pieces):
 
 
 class Layout:
-    """A layout with labels by their offsets."""
+    """A layout with the offsets of labels."""
 
     def __init__(self, **offsets):
-        self.labels = {offset: [name] for name, offset in offsets.items()}
+        self.offsets = offsets
 
 
 class Sizes(unittest.TestCase):

@@ -42,8 +42,8 @@ class Writer:
     def section(self, pieces, order, labels):
         """Writes the pieces."""
         waiting, self.location = list(reversed(order.soft)), None
-        numbers = list(map(order.number, pieces))
-        for number, (piece, following, least) in enumerate(zip(pieces, [*pieces[1:], None], order.least(numbers))):
+        numbers, leasts = order.numbered(pieces)
+        for number, (piece, following, least) in enumerate(zip(pieces, [*pieces[1:], None], leasts)):
             if piece.is_mark:
                 self.end_word()
             while waiting and waiting[-1][0] <= least:
