@@ -84,6 +84,13 @@ def bits(names):
 
 
 @lru_cache(maxsize=None)
+def registers(names):
+    """What these texts name beside `zero`, None being no register: as a set, and as a number."""
+    found = frozenset(names) - {None, "zero"}
+    return found, bits(found)
+
+
+@lru_cache(maxsize=None)
 def memory_parts(text):
     """The offset and the base register of a memory operand such as `4(a0)`."""
     match = MEMORY.fullmatch(text)
@@ -110,14 +117,14 @@ def facts_of(word, operands):
     shape, written = SHAPES.get(word, ""), written_by(word, operands)
     kinds = list(zip(shape, operands))[written is not None:]
     offset, base = memory_parts(operands[1]) if "M" in shape else (0, None)
-    values = {"ra"} if word == "ret" else {text for kind, text in kinds if kind == "R"}
-    values, reads, writes = (frozenset(names - {None, "zero"}) for names in (values, values | {base}, {written}))
+    values = ("ra",) if word == "ret" else tuple([text for kind, text in kinds if kind == "R"])
+    (reads, read_bits), (writes, written_bits) = registers((*values, base)), registers((written,))
     is_call = word == "call" or word in ("jal", "jalr") and written != "zero"
     is_branch, is_jump = word in INVERSE, word == "j" or word == "jal" and written == "zero"
     goes_on = not (is_jump or word in ("ret", "jr", "ebreak") or word == "jalr" and written == "zero")
     is_masked = word in ACCESSES and base not in ("zero", MASKED, *DATA)
     return Facts(
-        written, values, reads, writes, bits(reads), bits(writes), bits(needed_by(word, is_call, reads)),
+        written, registers(values)[0], reads, writes, read_bits, written_bits, bits(needed_by(word, is_call, reads)),
         word not in WITHOUT_EFFECT or writes in (set(), {"sp"}), word in ACCESSES, offset, base, base if is_masked else None,
         int(operands[2]) if word == "addi" and operands[0] == operands[1] else None,
         is_branch, is_call, is_jump, is_branch or is_jump, goes_on, word == "la" or is_call and word != "jalr",

@@ -163,6 +163,8 @@ class Converter:
         """Addresses in two parts. The upper part becomes an address near the whole, and the lower part what is left of
         the addend, so that their sum stays the same."""
         last = statement.operands[-1] if statement.operands else ""
+        if "%" not in last:
+            return None
         memory = MEMORY.fullmatch(last)
         base = memory.group(2) if memory and PART.fullmatch(memory.group(1)) else None
         part = PART.fullmatch(memory.group(1) if base else last)

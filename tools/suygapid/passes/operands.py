@@ -15,6 +15,7 @@ PART_SIZE = 2048  # what a positive offset of a load or store reaches
 SYMBOL = re.compile(r'([A-Za-z_.$][\w.$]*)((?:[+-]\w+)*)(?:@plt)?')
 ADDEND = re.compile(r'[+-]\w+')
 MEMORY = re.compile(r'(.*)\(\s*([a-z]\w*)\s*\)')
+OCTAL = re.compile(r'-?0[0-7]+')
 PART = re.compile(r'%(hi|lo|pcrel_hi|pcrel_lo)\((.*)\)')
 
 
@@ -48,7 +49,7 @@ def is_stack_pointer(text):
 
 def number_or_none(text):
     try:
-        return int(text, 8) if re.fullmatch(r'-?0[0-7]+', text) else int(text, 0)
+        return int(text, 8) if OCTAL.fullmatch(text) else int(text, 0)
     except ValueError:
         return None
 

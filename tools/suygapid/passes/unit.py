@@ -5,7 +5,7 @@ that speak of a place in the code and change nothing there."""
 import re
 from dataclasses import dataclass, field
 
-from suygapid.passes.assembly import LABEL, Label, Refused, read_parts
+from suygapid.passes.assembly import LABEL, Label, Lines, Refused, is_one_statement, read_assembly
 from suygapid.passes.facts import SHAPES
 from suygapid.passes.instructions import Converter, Op
 from suygapid.passes.pcrel import pcrel_labels
@@ -83,15 +83,20 @@ class Unit:
         self.current, self.current_name = None, ".text"
         self.has_debug_data = False
         self.location, self.is_locating = None, False
-        self.known = {}  # by a statement's word and operands, the instructions that become of it
+        self.known = {}  # by a line that is one instruction, the words and operands of what becomes of it
         self.read(text)
 
     def read(self, text):
-        lines = list(read_parts(self.name, text))
-        self.converter = Converter(pcrel_labels([piece for _, pieces in lines for piece in pieces]) if "auipc" in text else None)
+        self.converter = Converter(pcrel_labels(read_assembly(self.name, text)) if "auipc" in text else None)
         self.switch(".text", "\t.text")
-        for part, pieces in lines:
-            self.take(part, pieces)
+        lines = Lines(self.name)
+        for number, line in enumerate(text.splitlines(), 1):
+            place, made = lines.place(number, line), self.known.get(line)
+            if made is not None and self.current is not None:
+                self.add(made, place)
+                continue
+            for part, pieces in lines.parts(line, place):
+                self.take(part, pieces, line)
         for name in self.imports():  # an archive's gate wouldn't be taken for a weak reference
             for told in (self.verbatim, self.symbols):
                 told[:] = [line for line in told if not ((found := MARKING.fullmatch(line)) and found[1] == name)]
@@ -104,7 +109,7 @@ class Unit:
         """The names that are marked as gates, and that this file doesn't define."""
         return [name for name in self.marked if name in self.weak and name not in self.defined]
 
-    def take(self, part, pieces):
+    def take(self, part, pieces, line):
         for piece in pieces:
             if isinstance(piece, Label):
                 self.label(piece.name)
@@ -118,7 +123,10 @@ class Unit:
         elif statement.word.startswith("."):
             self.directive(part, statement)
         else:
-            self.instruction(statement)
+            made = self.converted(statement)
+            if is_one_statement(line):
+                self.known[line] = made
+            self.add(made, statement.place)
 
     # Sections.
 
@@ -193,20 +201,20 @@ class Unit:
         if name not in self.marked:
             self.marked.append(name)
 
-    def instruction(self, statement):
+    def add(self, made, place):
+        """Adds the instructions of these words and operands."""
         self.is_locating = False
-        for word, operands in self.converted(statement):
-            self.current.pieces.append(Op(word, operands, statement.place))
-        self.locations[statement.place] = self.location
+        for word, operands in made:
+            self.current.pieces.append(Op(word, operands, place))
+        if self.location:
+            self.locations[place] = self.location
 
     def converted(self, statement):
-        """The words and operands of the instructions that become of one, which the file may repeat."""
-        found = self.known.get(statement[:2])
-        if found is None:
-            if any(map(THREAD_LOCAL_OPERAND.match, statement.operands)):
-                raise Refused(statement.place, THREAD_LOCAL)
-            found = self.known[statement[:2]] = [(op.word, op.operands) for op in self.converter.convert(statement)]
-            self.spoken.update(WORD.match(operands[-1])[0] for word, operands in found if SHAPES.get(word, "")[-1:] in ("J", "A"))
+        """The words and operands of the instructions that become of one."""
+        if any(map(THREAD_LOCAL_OPERAND.match, statement.operands)):
+            raise Refused(statement.place, THREAD_LOCAL)
+        found = [(op.word, op.operands) for op in self.converter.convert(statement)]
+        self.spoken.update(WORD.match(operands[-1])[0] for word, operands in found if SHAPES.get(word, "")[-1:] in ("J", "A"))
         return found
 
     def directive(self, part, statement):

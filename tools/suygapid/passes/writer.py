@@ -53,7 +53,8 @@ class Writer:
             if piece.is_mark:
                 self.label(piece.name)
             else:
-                self.locate(piece)
+                if self.unit.locations:
+                    self.locate(piece)
                 begun = len(self.out)
                 self.piece(piece, following)
                 for text in order.beside.get(numbers[number], ()):
