@@ -29,27 +29,28 @@ class Liveness:
         return self.blocks.at.get(piece.operands[-1]) if piece.is_call else None
 
     def spread(self):
-        """Goes back from each block to those before it, until nothing more is found."""
-        before = self.before_with_calls()
-        waiting, is_waiting = list(range(len(before))), [True] * len(before)
-        while waiting:
-            block = waiting.pop()
-            is_waiting[block], alive = False, self.alive_at_start(block)
-            if alive != self.at_starts[block]:
-                self.at_starts[block] = alive
-                for other in before[block]:
-                    if not is_waiting[other]:
-                        is_waiting[other] = True
-                        waiting.append(other)
+        """Goes back from each block to those before it, in rounds from the last block to the first, until nothing more is
+        found."""
+        callers, is_waiting, is_done = self.callers(), [True] * len(self.blocks.bodies), False
+        while not is_done:
+            is_done = True
+            for block in range(len(is_waiting) - 1, -1, -1):
+                if is_waiting[block]:
+                    is_waiting[block], alive = False, self.alive_at_start(block)
+                    if alive != self.at_starts[block]:
+                        self.at_starts[block] = alive
+                        for other in (*self.blocks.before[block], *callers.get(block, ())):
+                            is_waiting[other] = True
+                            is_done &= other < block
 
-    def before_with_calls(self):
-        """For each block those that go to it, or call it."""
-        before = [list(others) for others in self.blocks.before]
+    def callers(self):
+        """By a block that is called, the blocks that call it."""
+        found = {}
         for block, body in enumerate(self.blocks.bodies):
             for piece in body:
                 if piece.is_call and (target := self.called(piece)) is not None:
-                    before[target].append(block)
-        return before
+                    found.setdefault(target, []).append(block)
+        return found
 
     def alive_at_start(self, block):
         """What is alive before a block, as far as it is found what is after it."""

@@ -10,7 +10,7 @@ before which it's set, and the later accesses are at the same addresses as befor
 from typing import Optional
 
 from suygapid.passes.control import Blocks
-from suygapid.passes.facts import DATA
+from suygapid.passes.facts import DATA, bits
 from suygapid.passes.known import KEPT_BY_CALLS
 from suygapid.passes.operands import REGISTERS
 from suygapid.passes.typed import HIGHEST, LOWEST, on_base, set_to, step_of
@@ -137,9 +137,14 @@ class Sharer:
                      for other in self.blocks.before[block] if rank[other] >= rank[block]]
         into_empty = {(other, block) for block in self.empty for other in self.blocks.before[block]}
         self.later = wanted_after(self.blocks, [BITS[piece.masked_base] for piece in code], list(map(forgotten, code)), into_empty | set(self.back))
-        self.live = wanted_after(self.blocks, [piece.read_bits for piece in code], [piece.written_bits for piece in code])
+        self.live = self.read_later(bits(frozenset(registers)))
         self.most = {}  # for the first block of a loop, the most that may be taken to be held there
         self.done = {}  # by block, what was held before it the last time, its new code, and what was held after it
+
+    def read_later(self, own):
+        """For each piece those of some registers that are read after it: few parts of the code have any before this pass."""
+        reads = [piece.read_bits & own for piece in self.code]
+        return wanted_after(self.blocks, reads, [piece.written_bits for piece in self.code]) if any(reads) else reads
 
     def shared(self):
         """What is taken to be held at the first block of a loop has to be held where the loop leads back, too: as long as it
