@@ -1,4 +1,7 @@
 """Tests of the results that are kept by content: `tools/unit_tests.py tools test_results.py`."""
+import contextlib
+import gc
+import io
 import os
 import pathlib
 import subprocess
@@ -7,6 +10,7 @@ from concurrent.futures import ThreadPoolExecutor
 from unittest import mock
 
 from suygapid import results
+from suygapid.commands import asm2elf
 from suygapid.elf import tools
 from suygapid.elf.tools import Target
 from suygapid.passes import rewriting
@@ -15,6 +19,10 @@ from testing import TOOLS, Folder
 ASSEMBLY = "\t.text\n" + "".join(f"\t.globl f{number}\nf{number}:\n\tlw a5,0(a0)\n\tlw a4,4(a0)\n\tbeqz a5,.L{number}\n\tcall f{number // 2}\n"
                                  f"\tj f{number // 3}\n.L{number}:\n\tadd a0,a4,a5\n\tret\n\t.section .text.f{number},\"ax\"\n" for number in range(60))
 PROCESS = "import sys; from suygapid.results import kept; sys.stdout.buffer.write(kept([b'x'], lambda: b'made ' * 100000))"
+
+
+def wrong_pass(_):
+    raise KeyError("of a pass")
 
 
 class Results(Folder):
@@ -85,3 +93,14 @@ class Processes(Folder):
             for jobs in (1, 3):
                 with self.assertRaisesRegex(rewriting.Refused, r"\Aa\.s:\d+: a jump to a register plus a number\Z"):
                     rewriting.rewritten("a.s", ASSEMBLY + "\tjalr zero,4(a0)\n", jobs=jobs)
+
+    def test_mistake_of_a_pass(self):
+        """It is told once, with its traceback and the file's name, whichever process it shows in."""
+        path, told = self.write("a.s", ASSEMBLY), io.StringIO()
+        for jobs in ("1", "3"):
+            with mock.patch("suygapid.passes.rewriting.MANY", 0), mock.patch("suygapid.passes.improving.with_pairs", wrong_pass):
+                with mock.patch.object(sys, "argv", ["asm2elf", "--jobs", jobs, path]), contextlib.redirect_stderr(told):
+                    self.assertEqual(asm2elf.main(), 1)
+            gc.enable()
+            self.assertRegex(told.getvalue(), r"\Aasm2elf: a\.s: a mistake of the converter:\nTraceback .*\n(  .*\n)+KeyError: 'of a pass'\n\Z")
+            told.truncate(told.seek(0))

@@ -5,17 +5,17 @@
 
 Only instructions change: each gets its masks, its size, and its place in a word or a bundle. Labels, data, symbols and
 sections go on to `as`, and debug information but for the places of variables that the passes make wrong; `ld` places,
-joins and relocates. Nothing of this is trusted: the
-checker reads the bytes of the image that tools/sfi-image makes. What can't be rewritten is told on standard error with its
-file and line, and the status is 1; it is 2 where a file can't be read or written. docs/C.md says more.
+joins and relocates. Nothing of this is trusted: the checker reads the bytes of the image that tools/sfi-image makes. What
+can't be rewritten is told on standard error with its file and line, a mistake of the converter with its file and traceback,
+and the status is 1; it is 2 where a file can't be read or written. docs/C.md says more.
 """
 import argparse
 import gc
 import os
 import sys
 
-from suygapid.passes.assembly import Refused
 from suygapid.passes import checking
+from suygapid.passes.assembly import Broken, Refused
 from suygapid.passes.improving import PASSES
 from suygapid.passes.rewriting import rewritten
 from suygapid.passes.typed import WORDS, format_of
@@ -65,8 +65,8 @@ def main():
     try:
         for path in options.files:
             rewrite(options, path)
-    except Refused as refused:
-        print(f"asm2elf: {refused}", file=sys.stderr)
+    except (Refused, Broken) as reason:
+        print(f"asm2elf: {reason}", file=sys.stderr)
         return 1
     except OSError as error:
         print(f"asm2elf: {error.filename or 'standard output'}: {error.strerror}", file=sys.stderr)

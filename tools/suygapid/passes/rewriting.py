@@ -1,10 +1,11 @@
 """One file of a compiler's assembly, rewritten to GNU assembly for a format."""
 import os
 import pickle
+import traceback
 from functools import cached_property
 from heapq import heapreplace
 
-from suygapid.passes.assembly import Refused
+from suygapid.passes.assembly import Broken, Refused
 from suygapid.passes.checking import Checking
 from suygapid.passes.debug_data import Unknown
 from suygapid.passes.improving import PASSES, Whole, improved
@@ -91,11 +92,13 @@ class Rewriting:
         return {key: self.writer.text(key, pieces, self.orders[key], {}) for key, pieces in self.improved(number).items()}
 
     def answer(self, numbers):
-        """The texts of some parts' sections, or why one is refused."""
+        """The texts of some parts' sections, or why there are none."""
         try:
             return {key: text for number in numbers for key, text in self.written(number).items()}
         except Refused as refused:
             return refused
+        except Exception:
+            return Broken(self.unit.name, traceback.format_exc())
 
     def text(self, jobs=1):
         try:
@@ -131,7 +134,7 @@ def side_by_side(rewriting, jobs):
             answers.append(pickle.load(file))
         os.waitpid(process, 0)
     for answer in answers:
-        if isinstance(answer, Refused):
+        if isinstance(answer, (Refused, Broken)):
             raise answer
         found.update(answer)
     return found
@@ -153,4 +156,9 @@ def begin(rewriting, numbers):
 
 def rewritten(name, text, passes=PASSES, image_format=WORDS, is_movable=False, jobs=1, is_checking=False):
     """The GNU assembly of a file, whose name and text are given, by so many processes."""
-    return Rewriting(name, text, passes, image_format, is_movable, is_checking).text(jobs)
+    try:
+        return Rewriting(name, text, passes, image_format, is_movable, is_checking).text(jobs)
+    except (Refused, Broken):
+        raise
+    except Exception as error:
+        raise Broken(name, traceback.format_exc()) from error
