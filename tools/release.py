@@ -10,6 +10,9 @@ times and the order of the files don't depend on where and when it is made. Noth
 where what is built is missing, empty or older than a source, where suygapid_check.c, the checker in one file of C, can't be
 made (tools/checker_file.py), or where what is packed doesn't do what tools/release_trial.py tries.
 
+In it are also the libraries that sfi-cc would else compile and convert at their first use (tools/converted.py); where the
+compiler or sources aren't there, they aren't, as a line says.
+
 LOG is what `rt ci --anew > LOG` printed over this commit. Of it the page of evidence is made (tools/evidence.py), and both are
 in the folder `evidence` of the tar file. Without LOG neither is, as a line says; with one that proves nothing there is no release.
 `./test` after that run builds all that a release wants.
@@ -28,6 +31,7 @@ import tempfile
 TOP = pathlib.Path(__file__).resolve().parent.parent
 sys.dont_write_bytecode = True
 import checker_file
+import converted
 import definitions
 import evidence
 import installed
@@ -90,10 +94,19 @@ def evidence_files(log):
     return {evidence.RELEASED: (page.encode(), False), "evidence/ci.log": (log.read_bytes(), False)}
 
 
+def library_files():
+    """The libraries as sfi-cc keeps them; nothing where they can't be made, of which a line is printed."""
+    try:
+        return converted.files()
+    except converted.Failed as failed:
+        print(f"release.py: no converted libraries are in it: {failed}", file=sys.stderr)
+        return {}
+
+
 def contents(log):
     """The bytes of each file of the release and whether it can be run, by its path."""
     paths = [it for it in git("ls-files", "-z").split("\0") if it] + built_files()
-    return {path: ((TOP / path).read_bytes(), os.access(TOP / path, os.X_OK)) for path in paths} | evidence_files(log)
+    return {path: ((TOP / path).read_bytes(), os.access(TOP / path, os.X_OK)) for path in paths} | library_files() | evidence_files(log)
 
 
 def checksums(files):

@@ -44,7 +44,7 @@ class Floats(Folder):
 
     def answer(self, process):
         image, told = process.communicate()
-        self.assertRegex(told.decode(), r"\A(sfi-cc: .*, which may take a minute; they are kept\n)?\Z")
+        self.assertRegex(told.decode(), r"\A(sfi-cc: .*, which may take a minute, once: kept in .*\n)?\Z")
         return subprocess.run([SFI, "run", "--quantum", "100000"], input=image, capture_output=True, check=True).stdout
 
     @unittest.skipUnless(SOURCES and os.path.exists(SFI), "GCC's sources or the program isn't there")

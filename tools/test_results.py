@@ -9,7 +9,8 @@ import sys
 from concurrent.futures import ThreadPoolExecutor
 from unittest import mock
 
-from suygapid import results
+import converted
+from suygapid import kept, results
 from suygapid.commands import asm2elf
 from suygapid.elf import tools
 from suygapid.elf.tools import Target
@@ -81,6 +82,30 @@ class Results(Folder):
             self.assertEqual(tools.rewritten(path, Target("words"), "known"), b"anew")
             with mock.patch("suygapid.elf.tools.converter", lambda: b"another"):
                 self.assertEqual(tools.rewritten(path, Target("words")), b"anew")
+
+
+class Made(Folder):
+    """Folders that are made once and kept."""
+
+    def setUp(self):
+        super().setUp()
+        for patch in (mock.patch.dict(os.environ, XDG_CACHE_HOME=self.path("home")), mock.patch("suygapid.kept.RELEASED", self.path("made"))):
+            patch.start()
+            self.addCleanup(patch.stop)
+
+    def test_of_a_release(self):
+        """One that a release brings isn't made; one that is made of something else is."""
+        first = kept.kept("library", ["text"], lambda folder: None)
+        os.mkdir(self.path("made"))
+        os.rename(first, self.path(f"made/{os.path.basename(first)}"))
+        self.assertEqual(kept.kept("library", ["text"], self.fail), self.path(f"made/{os.path.basename(first)}"))
+        self.assertEqual(os.path.dirname(kept.kept("library", ["texts"], lambda folder: None)), self.path("home/sfi-cc"))
+
+    def test_for_a_release(self):
+        """Each file of the folders is packed where `kept` looks for it."""
+        folder = kept.kept("library", ["text"], lambda folder: pathlib.Path(folder, "a.o").write_bytes(b"made"))
+        with mock.patch("converted.folders", lambda: [folder]), mock.patch("converted.TOP", pathlib.Path(self.folder)):
+            self.assertEqual(converted.files(), {f"made/{os.path.basename(folder)}/a.o": (b"made", False)})
 
 
 class Processes(Folder):

@@ -1,10 +1,13 @@
-"""Folders that are made once and kept, below $XDG_CACHE_HOME, or ~/.cache where that isn't set."""
+"""Folders that are made once and kept, below $XDG_CACHE_HOME, or ~/.cache where that isn't set. A release brings some."""
 import hashlib
 import os
 import sys
 import tempfile
 from typing import Callable, Iterable, Optional
 
+from suygapid import TOOLS
+
+RELEASED = os.path.join(TOOLS, "suygapid", "made")  # those that a release brings
 told: list[str] = []  # what was said of folders that take long to make
 
 
@@ -25,14 +28,14 @@ def root() -> str:
 
 def kept(name: str, words: Iterable[str], make: Callable[[str], object], long: Optional[str] = None) -> str:
     """The folder of a name that `make` fills; `words` are all that it is made of, so that another goes by another name;
-    `long` is what to tell where it isn't there, if that takes long. It is whole as soon as it is there: two runs at once may
-    make it, and one of theirs stays."""
+    `long` is what to tell where it isn't there, if that takes long, beside where it is kept. It is whole as soon as it is there:
+    two runs at once may make it, and one of theirs stays."""
     digest = hashlib.sha256("\0".join(words).encode("utf-8", "surrogateescape")).hexdigest()
-    place = os.path.join(root(), f"{name}-{digest[:16]}")
-    if os.path.isdir(place):
-        return place
+    place, released = (os.path.join(home, f"{name}-{digest[:16]}") for home in (root(), RELEASED))
+    for there in filter(os.path.isdir, (place, released)):
+        return there
     if long:
-        tell_once(long)
+        tell_once(f"{long}, once: kept in {place}")
     os.makedirs(root(), exist_ok=True)
     with tempfile.TemporaryDirectory(dir=root(), prefix=f"{name}-new-") as room:
         fresh = os.path.join(room, name)

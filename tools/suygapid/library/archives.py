@@ -56,7 +56,7 @@ def archive_of(folder: str, target: Target) -> str:
         raise Failed(2, f"{folder} is no folder")
     paths = assembly_of(folder)
     words = [*ingredients(target), *map(digest_of, paths)]
-    long = f"{len(paths)} files of a library are converted for format {target.format}, which may take a minute; they are kept"
+    long = f"{len(paths)} files of a library are converted for format {target.format}, which may take a minute"
     return os.path.join(kept("library", words, lambda room: make(room, paths, target), long if len(paths) > MANY else None), ARCHIVE)
 
 

@@ -101,4 +101,4 @@ def folder_of(compiler: str) -> str:
              *sorted(LEFT_OUT), *FOLDERS, *POSIX, *WITHOUT_FUNCTIONS, str(VARIANTS), str(RESERVED_IN_WORDS),
              os.path.basename(softfloat.folder_of(compiler) or "")]
     return kept("newlib", words, lambda folder: compile_all(compiler, folder),
-                "newlib is compiled and converted, which takes some minutes; it is kept")
+                "newlib is compiled and converted, which takes some minutes")

@@ -92,4 +92,4 @@ def folder_of(compiler: str) -> Optional[str]:
     words = [version(compiler), identity(source), *LIBGCC2, SOFT_FP.pattern, *MODES, LONGLONG, *own,
              str(RESERVED_IN_WORDS)]
     return kept("softfloat", words, lambda folder: compile_all(compiler, unpacked(GCC_SOURCE, *PARTS), folder),
-                "the functions of floating point are compiled, which may take a minute; they are kept")
+                "the functions of floating point are compiled, which may take a minute")
