@@ -1,5 +1,7 @@
 """Tests of the functions that compilers call by themselves: `tools/unit_tests.py tools/suygapid/passes`. C programs give
 their native answers, by gcc and by clang, in words, and by turns in bundles. They are skipped where a compiler or the program isn't there."""
+import random
+import struct
 import subprocess
 
 from testing import COMPILERS, SFI, SFI_CC, Folder, formats_due, needs, needs_a_compiler, needs_program
@@ -66,6 +68,50 @@ int main(void) {
     return 0;
 }
 '''
+
+# Puts the quotients and remainders, without signs and with them, of the pairs of numbers that it gets.
+QUOTIENTS = r'''
+#include "gates.h"
+typedef unsigned long long u8;
+typedef long long s8;
+int main(void) {
+    u8 pair[2], found[4];
+    while (get(pair, 16) == 16) {
+        found[0] = pair[0] / pair[1], found[1] = pair[0] % pair[1];
+        found[2] = (s8)pair[0] / (s8)pair[1], found[3] = (s8)pair[0] % (s8)pair[1];
+        put(found, 32);
+    }
+    return 0;
+}
+'''
+ALL = 1 << 64
+CORNERS = {(one + by) % ALL for place in range(65) for one in (1 << place, -1 << place) for by in (-1, 0, 1)} - {0}
+
+
+def pairs():
+    """Numbers around each power of two with each other, others of any length, and quotients that are just whole."""
+    pick = random.Random(1)
+    yield from ((one, other) for one in CORNERS for other in CORNERS if pick.random() < 0.2)
+    for _ in range(100_000):
+        one, other = ((pick.getrandbits(64) >> pick.randrange(64)) | 1 for _ in range(2))
+        yield pick.choice((one, one * other % ALL, (one * other - 1) % ALL)), other
+
+
+def signed(number):
+    return number - ALL if number >> 63 else number
+
+
+def quotient(one, other):
+    """As C has it, towards 0."""
+    found = abs(one) // abs(other)
+    return found if (one < 0) == (other < 0) else -found
+
+
+def answers(one, other):
+    first, second = signed(one), signed(other)
+    found = quotient(first, second)
+    return one // other, one % other, found % ALL, (first - found * second) % ALL
+
 
 OPERATIONS = {"add": 5, "sub": 9, "or": 0x55, "and": 0xfe, "xor": 0x81, "nand": 0x3c}
 AFTERWARDS = [
@@ -188,6 +234,17 @@ class Runtime(Folder):
     @needs("gcc")
     def test_numbers(self):
         self.compare(NUMBERS, f"exit=0 .*out={self.native(NUMBERS)}\n$")
+
+    def test_quotients(self):
+        """100,000 and more by what Python's integers answer."""
+        path, given = self.write("program.c", QUOTIENTS), list(pairs())
+        numbers, wanted = b"".join(struct.pack("<2Q", *pair) for pair in given), [struct.pack("<4Q", *answers(*pair)) for pair in given]
+        for compiler in COMPILERS:
+            words = [SFI_CC, "--program", SFI, "--cc", compiler, "-o", self.path("program.image"), path]
+            subprocess.run(words, check=True)
+            found = subprocess.run([SFI, "exec", self.path("program.image")], input=numbers, capture_output=True, check=True).stdout
+            wrong = [pair for place, pair in enumerate(given) if found[32 * place:32 * place + 32] != wanted[place]]
+            self.assertEqual((len(found), wrong[:3]), (32 * len(given), []), compiler)
 
     @needs("gcc")
     def test_atomics(self):

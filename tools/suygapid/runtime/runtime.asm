@@ -4,279 +4,362 @@
 	.attribute unaligned_access, 0
 	.attribute stack_align, 16
 	.text
-	.section	.text.long_divided,"ax",@progbits
-long_divided:
-	bne	a3,zero,.L2
-	bne	a2,zero,.L3
-	beq	a4,zero,.L19
-	ret
-.L3:
-	divu	t3,a1,a2
-	mv	a7,a2
-	remu	a5,a1,a2
-	j	.L5
-.L2:
-	srli	a5,a1,1
-	mv	a7,a3
-	li	t3,0
-.L5:
-	addi	sp,sp,-32
-	sw	s0,28(sp)
-	sw	s1,24(sp)
-	sw	s2,20(sp)
-	sw	s3,16(sp)
-	sw	s4,12(sp)
-	sw	s5,8(sp)
+	.section	.text.divided_by_more,"ax",@progbits
+divided_by_more:
+	srli	a5,a3,16
+	mv	a7,a0
+	addi	a6,a3,1
+	beq	a5,zero,.L2
+	bne	a6,zero,.L21
 	li	t1,0
-.L6:
-	srli	a6,a7,28
-	bne	a6,zero,.L8
-	addi	t1,t1,4
-	slli	a7,a7,4
-	j	.L6
-.L8:
-	blt	a7,zero,.L27
-	addi	t1,t1,1
-	slli	a7,a7,1
-	j	.L8
-.L27:
-	li	t0,31
-	srli	a6,a0,1
-	sub	t0,t0,t1
-	beq	a3,zero,.L10
-	srli	t2,a2,1
-	srl	t2,t2,t0
-	or	a7,a7,t2
-	slli	t2,a1,31
-	or	t2,t2,a6
-	j	.L11
-.L10:
-	sll	a5,a5,t1
-	srl	a6,a6,t0
-	or	a5,a5,a6
-	sll	t2,a0,t1
-.L11:
-	slli	s4,a7,16
-	srli	s3,a7,16
-	srli	s4,s4,16
-	li	a6,0
-	li	s0,2
+	li	a5,0
+.L3:
+	sub	t1,a7,t1
+	sub	a5,a1,a5
+	sgtu	a7,t1,a7
+	sub	a5,a5,a7
+	mv	a0,t1
+	mv	a1,a5
+	bgtu	a3,a5,.L10
+	beq	a3,a5,.L22
 .L15:
-	divu	s2,a5,s3
-	remu	s5,a5,s3
-	srli	a5,t2,16
-	mul	s1,s2,s4
-	slli	s5,s5,16
-	or	a5,a5,s5
-	mv	s5,s2
-	bleu	s1,a5,.L12
-	add	a5,a7,a5
-	addi	s5,s2,-1
-	bltu	a5,a7,.L12
-	bleu	s1,a5,.L12
-	addi	s5,s2,-2
-	add	a5,a5,a7
-.L12:
+	sub	a0,t1,a2
+	sgtu	t1,a0,t1
+	sub	a5,a5,a3
+	sub	a1,a5,t1
+	addi	a6,a6,1
+.L10:
+	bne	a4,zero,.L1
+	mv	a0,a6
+	li	a1,0
+.L1:
+	ret
+.L2:
+	not	a5,a3
+	divu	a5,a5,a6
+	addi	a5,a5,1
+	mulhu	a6,a0,a5
+	mul	a0,a5,a1
+	mulhu	t3,a5,a2
+	add	a0,a6,a0
+	sltu	a6,a0,a6
+	srli	a0,a0,16
+	mul	t1,a5,a3
+	mulhu	a5,a5,a1
+	add	t1,t1,t3
+	srli	t0,t1,16
+	slli	t3,t1,16
+	srli	t3,t3,16
+	add	a6,a6,a5
+	divu	a5,a6,t0
+	remu	a6,a6,t0
+	mul	t3,t3,a5
 	slli	a6,a6,16
-	addi	s0,s0,-1
-	sub	a5,a5,s1
-	or	a6,a6,s5
-	slli	t2,t2,16
-	bne	s0,zero,.L15
-	beq	a3,zero,.L16
-	srl	t0,a6,t0
-	snez	a6,t0
-	sub	a6,t0,a6
-	mul	a7,a2,a6
-	mulhu	t1,a2,a6
-	sub	a7,a0,a7
-	sgtu	a0,a7,a0
+	or	a6,a6,a0
+	bleu	t3,a6,.L7
+	add	a6,t1,a6
+	addi	a0,a5,-1
+	bltu	a6,t1,.L14
+	bleu	t3,a6,.L14
+	addi	a5,a5,-2
+	add	a6,a6,t1
+.L7:
+	sub	a6,a6,t3
+	divu	a6,a6,t0
+	slli	a5,a5,16
+	add	a6,a6,a5
+	mul	a5,a6,a2
+	mulhu	t1,a6,a2
+	sub	a0,a7,a5
+	sgtu	a7,a0,a7
 	mul	a5,a6,a3
 	add	a5,a5,t1
-	sub	a5,a1,a5
-	sub	a5,a5,a0
-	mv	a1,a5
-	mv	a0,a7
-	bgtu	a3,a5,.L17
-	bne	a3,a5,.L21
-	bgtu	a2,a7,.L17
+	sub	a1,a1,a5
+	sub	a1,a1,a7
+	bge	a1,zero,.L10
+.L11:
+	add	a5,a0,a2
+	sltu	a0,a5,a0
+	add	a1,a1,a3
+	add	a1,a0,a1
+	addi	a6,a6,-1
+	mv	a0,a5
+	bge	a1,zero,.L10
+	add	a5,a0,a2
+	sltu	a0,a5,a0
+	add	a1,a1,a3
+	add	a1,a0,a1
+	addi	a6,a6,-1
+	mv	a0,a5
+	blt	a1,zero,.L11
+	j	.L10
 .L21:
-	sub	a0,a7,a2
-	sgtu	a7,a0,a7
-	sub	a5,a5,a3
-	sub	a1,a5,a7
-	addi	a6,a6,1
-	j	.L17
-.L16:
-	srl	a0,a5,t1
+	divu	a6,a1,a6
+	mulhu	a0,a6,a2
+	mul	a5,a6,a3
+	mul	t1,a6,a2
+	add	a5,a5,a0
+	j	.L3
+.L14:
+	mv	a5,a0
+	j	.L7
+.L22:
+	bgtu	a2,t1,.L10
+	j	.L15
+	.section	.text.divided,"ax",@progbits
+divided:
+	mv	a5,a0
+	mv	a6,a1
+	mv	a7,a2
+	mv	t1,a4
+	bne	a3,zero,.L44
+	beq	a2,zero,.L45
+	beq	a1,zero,.L46
+	srli	a4,a2,16
+	remu	a3,a1,a2
+	beq	a4,zero,.L30
+	li	a2,65536
+	addi	a4,a4,1
+	divu	a4,a2,a4
+	mul	a1,a7,a4
+	mulhu	a0,a0,a4
+	srli	t0,a1,16
+	slli	a2,a1,16
+	srli	a2,a2,16
+	mul	a3,a4,a3
+	add	a3,a3,a0
+	divu	a0,a3,t0
+	remu	a3,a3,t0
+	mul	t3,a5,a4
+	slli	a3,a3,16
+	mul	a5,a0,a2
+	srli	t2,t3,16
+	or	a3,a3,t2
+	bleu	a5,a3,.L31
+	add	a3,a1,a3
+	addi	t2,a0,-1
+	bgeu	a3,a1,.L47
+.L41:
+	mv	a0,t2
+.L31:
+	sub	a3,a3,a5
+	divu	a5,a3,t0
+	slli	t3,t3,16
+	srli	t3,t3,16
+	remu	a3,a3,t0
+	mul	a2,a2,a5
+	slli	a3,a3,16
+	or	a3,a3,t3
+	bleu	a2,a3,.L34
+	add	a3,a1,a3
+	addi	t3,a5,-1
+	bltu	a3,a1,.L43
+	bleu	a2,a3,.L43
+	addi	a5,a5,-2
+	add	a3,a3,a1
+.L34:
+	beq	t1,zero,.L37
+	sub	a3,a3,a2
+	divu	a0,a3,a4
 	li	a1,0
-.L17:
-	bne	a4,zero,.L4
-	mv	a0,a6
-	mv	a1,t3
-	j	.L4
-.L19:
+	ret
+.L45:
+	beq	a4,zero,.L39
+	ret
+.L44:
+	tail	divided_by_more
+.L46:
+	beq	a4,zero,.L28
+	remu	a5,a0,a2
+.L29:
+	mv	a0,a5
+	li	a1,0
+	ret
+.L30:
+	srli	a4,a0,16
+	slli	a3,a3,16
+	or	a3,a3,a4
+	remu	a4,a3,a2
+	slli	a5,a0,16
+	srli	a5,a5,16
+	slli	a4,a4,16
+	or	a4,a4,a5
+	beq	t1,zero,.L38
+	remu	a0,a4,a2
+	li	a1,0
+	ret
+.L39:
 	li	a0,-1
 	li	a1,-1
 	ret
-.L4:
-	lw	s0,28(sp)
-	lw	s1,24(sp)
-	lw	s2,20(sp)
-	lw	s3,16(sp)
-	lw	s4,12(sp)
-	lw	s5,8(sp)
-	addi	sp,sp,32
-	jr	ra
-	.section	.text.divided,"ax",@progbits
-divided:
-	or	a5,a1,a3
-	bne	a5,zero,.L29
-	beq	a2,zero,.L29
-	beq	a4,zero,.L31
-	remu	a0,a0,a2
-	li	a1,0
+.L43:
+	mv	a5,t3
+	j	.L34
+.L28:
+	divu	a5,a0,a2
+	j	.L29
+.L38:
+	divu	a3,a3,a2
+	divu	a4,a4,a2
+	slli	a3,a3,16
+	divu	a1,a1,a2
+	add	a0,a3,a4
 	ret
-.L29:
-	tail	long_divided
-.L31:
-	divu	a0,a0,a2
-	li	a1,0
+.L37:
+	slli	a0,a0,16
+	divu	a1,a6,a7
+	or	a0,a0,a5
 	ret
+.L47:
+	bleu	a5,a3,.L41
+	addi	a0,a0,-2
+	add	a3,a3,a1
+	j	.L31
 	.section	.text.signed_divided,"ax",@progbits
 signed_divided:
-	or	t3,a1,a3
-	bge	t3,zero,.L38
-	addi	sp,sp,-32
-	sw	s2,16(sp)
-	sw	s3,12(sp)
-	srai	s2,a3,31
-	srai	s3,a1,31
-	xor	t1,a2,s2
-	xor	a7,a0,s3
-	sub	a2,t1,s2
-	sub	a0,a7,s3
-	xor	a3,a3,s2
-	xor	a1,a1,s3
-	sgtu	t1,a2,t1
-	sgtu	a7,a0,a7
-	sub	a3,a3,s2
-	sub	a1,a1,s3
-	sub	a3,a3,t1
-	sub	a1,a1,a7
-	sw	s0,24(sp)
-	sw	s1,20(sp)
-	sw	ra,28(sp)
-	mv	s1,a4
+	addi	sp,sp,-16
+	sw	s0,8(sp)
+	sw	ra,12(sp)
+	mv	a5,a1
+	mv	t1,a0
+	mv	a7,a2
+	mv	a6,a3
+	xor	s0,a1,a3
+	beq	a4,zero,.L49
+	mv	s0,a1
+.L49:
+	or	t3,a5,a6
+	bge	t3,zero,.L59
+	blt	a5,zero,.L60
+	blt	a6,zero,.L61
+.L53:
 	call	divided
-	mv	s0,s3
-	mv	a4,s3
-	bne	s1,zero,.L35
-	xor	s0,s3,s2
-	mv	a4,s0
-.L35:
-	xor	a5,a0,s0
-	sub	a0,a5,s0
-	lw	ra,28(sp)
-	lw	s0,24(sp)
-	xor	a1,a1,a4
-	sgtu	a5,a0,a5
-	sub	a1,a1,a4
-	lw	s1,20(sp)
-	lw	s2,16(sp)
-	lw	s3,12(sp)
-	sub	a1,a1,a5
-	addi	sp,sp,32
+	blt	s0,zero,.L62
+.L55:
+	lw	ra,12(sp)
+	lw	s0,8(sp)
+	addi	sp,sp,16
 	jr	ra
-.L38:
+.L62:
+	lw	ra,12(sp)
+	lw	s0,8(sp)
+	snez	a5,a0
+	neg	a1,a1
+	sub	a1,a1,a5
+	neg	a0,a0
+	addi	sp,sp,16
+	jr	ra
+.L61:
+	snez	a3,a7
+	neg	a6,a6
+	neg	a2,a7
+	sub	a3,a6,a3
+	call	divided
+	bge	s0,zero,.L55
+	j	.L62
+.L60:
+	snez	a1,t1
+	neg	a5,a5
+	neg	a0,t1
+	sub	a1,a5,a1
+	bge	a6,zero,.L53
+	j	.L61
+.L59:
+	lw	s0,8(sp)
+	lw	ra,12(sp)
+	mv	a2,a7
+	mv	a3,a6
+	mv	a0,t1
+	mv	a1,a5
+	addi	sp,sp,16
 	tail	divided
 	.section	.text.memcpy,"ax",@progbits
 	.globl	memcpy
 memcpy:
 	or	a5,a0,a1
 	andi	a5,a5,3
-	bne	a5,zero,.L46
+	bne	a5,zero,.L70
 	li	a5,3
-	bleu	a2,a5,.L46
+	bleu	a2,a5,.L70
 	addi	a7,a2,-4
 	andi	a7,a7,-4
 	addi	a7,a7,4
 	add	a5,a0,a7
 	mv	a3,a1
 	mv	a4,a0
-.L44:
+.L68:
 	lw	a6,0(a3)
 	addi	a4,a4,4
 	addi	a3,a3,4
 	sw	a6,-4(a4)
-	bne	a4,a5,.L44
+	bne	a4,a5,.L68
 	andi	a2,a2,3
 	add	a1,a1,a7
 	add	a3,a5,a2
-	bne	a2,zero,.L45
-.L50:
+	bne	a2,zero,.L69
+.L74:
 	ret
-.L46:
+.L70:
 	mv	a5,a0
 	add	a3,a5,a2
-	beq	a2,zero,.L50
-.L45:
+	beq	a2,zero,.L74
+.L69:
 	lbu	a4,0(a1)
 	addi	a5,a5,1
 	addi	a1,a1,1
 	sb	a4,-1(a5)
-	bne	a5,a3,.L45
+	bne	a5,a3,.L69
 	ret
 	.section	.text.memmove,"ax",@progbits
 	.globl	memmove
 memmove:
-	bleu	a0,a1,.L52
+	bleu	a0,a1,.L76
 	addi	a5,a2,-1
 	li	a6,-1
-	beq	a2,zero,.L66
-.L53:
+	beq	a2,zero,.L90
+.L77:
 	add	a4,a1,a5
 	lbu	a3,0(a4)
 	add	a4,a0,a5
 	addi	a5,a5,-1
 	sb	a3,0(a4)
-	bne	a5,a6,.L53
+	bne	a5,a6,.L77
 	ret
-.L52:
+.L76:
 	or	a5,a0,a1
 	andi	a5,a5,3
-	bne	a5,zero,.L60
+	bne	a5,zero,.L84
 	li	a5,3
-	bleu	a2,a5,.L60
+	bleu	a2,a5,.L84
 	addi	a5,a2,-4
 	andi	a5,a5,-4
 	addi	a5,a5,4
 	add	a6,a1,a5
 	mv	a4,a0
-.L58:
+.L82:
 	lw	a3,0(a1)
 	addi	a1,a1,4
 	addi	a4,a4,4
 	sw	a3,-4(a4)
-	bne	a6,a1,.L58
+	bne	a6,a1,.L82
 	andi	a2,a2,3
 	add	a5,a0,a5
-	j	.L57
-.L60:
+	j	.L81
+.L84:
 	mv	a5,a0
-.L57:
+.L81:
 	add	a3,a1,a2
-	beq	a2,zero,.L67
-.L59:
+	beq	a2,zero,.L91
+.L83:
 	lbu	a4,0(a1)
 	addi	a1,a1,1
 	addi	a5,a5,1
 	sb	a4,-1(a5)
-	bne	a3,a1,.L59
+	bne	a3,a1,.L83
 	ret
-.L66:
+.L90:
 	ret
-.L67:
+.L91:
 	ret
 	.section	.text.memset,"ax",@progbits
 	.globl	memset
@@ -287,92 +370,92 @@ memset:
 	slli	a5,a3,16
 	andi	a1,a1,0xff
 	add	a3,a3,a5
-	beq	a2,zero,.L80
+	beq	a2,zero,.L104
 	andi	a5,a0,3
-	beq	a5,zero,.L77
+	beq	a5,zero,.L101
 	mv	a5,a0
-	j	.L72
-.L88:
-	beq	a4,zero,.L70
-.L72:
+	j	.L96
+.L112:
+	beq	a4,zero,.L94
+.L96:
 	sb	a1,0(a5)
 	addi	a2,a2,-1
 	addi	a5,a5,1
 	andi	a4,a5,3
-	bne	a2,zero,.L88
-.L80:
+	bne	a2,zero,.L112
+.L104:
 	ret
-.L77:
+.L101:
 	mv	a5,a0
-.L70:
+.L94:
 	li	a4,3
-	bleu	a2,a4,.L89
+	bleu	a2,a4,.L113
 	addi	a4,a2,-4
 	andi	a4,a4,-4
 	addi	a4,a4,4
 	add	a4,a5,a4
-.L73:
+.L97:
 	sw	a3,0(a5)
 	addi	a5,a5,4
-	bne	a4,a5,.L73
+	bne	a4,a5,.L97
 	andi	a2,a2,3
-	beq	a2,zero,.L80
-.L76:
+	beq	a2,zero,.L104
+.L100:
 	add	a2,a4,a2
-.L74:
+.L98:
 	addi	a4,a4,1
 	sb	a1,-1(a4)
-	bne	a2,a4,.L74
+	bne	a2,a4,.L98
 	ret
-.L89:
+.L113:
 	mv	a4,a5
-	j	.L76
+	j	.L100
 	.section	.text.memcmp,"ax",@progbits
 	.globl	memcmp
 memcmp:
-	beq	a2,zero,.L94
+	beq	a2,zero,.L118
 	add	a2,a1,a2
-	j	.L93
-.L92:
-	beq	a1,a2,.L94
-.L93:
+	j	.L117
+.L116:
+	beq	a1,a2,.L118
+.L117:
 	lbu	a5,0(a0)
 	lbu	a4,0(a1)
 	addi	a0,a0,1
 	addi	a1,a1,1
-	beq	a5,a4,.L92
+	beq	a5,a4,.L116
 	sub	a0,a5,a4
 	ret
-.L94:
+.L118:
 	li	a0,0
 	ret
 	.section	.text.strlen,"ax",@progbits
 	.globl	strlen
 strlen:
 	lbu	a5,0(a0)
-	beq	a5,zero,.L99
+	beq	a5,zero,.L123
 	mv	a5,a0
-.L98:
+.L122:
 	lbu	a4,1(a5)
 	addi	a5,a5,1
-	bne	a4,zero,.L98
+	bne	a4,zero,.L122
 	sub	a0,a5,a0
 	ret
-.L99:
+.L123:
 	li	a0,0
 	ret
 	.section	.text.__ashldi3,"ax",@progbits
 	.globl	__ashldi3
 __ashldi3:
 	mv	a5,a0
-	beq	a2,zero,.L104
+	beq	a2,zero,.L128
 	li	a4,31
-	ble	a2,a4,.L103
+	ble	a2,a4,.L127
 	addi	a1,a2,-32
 	li	a0,0
 	sll	a1,a5,a1
 	ret
-.L103:
+.L127:
 	li	a4,32
 	sub	a4,a4,a2
 	srl	a4,a0,a4
@@ -380,42 +463,42 @@ __ashldi3:
 	sll	a0,a0,a2
 	or	a1,a4,a1
 	ret
-.L104:
+.L128:
 	ret
 	.section	.text.__lshrdi3,"ax",@progbits
 	.globl	__lshrdi3
 __lshrdi3:
-	beq	a2,zero,.L105
+	beq	a2,zero,.L129
 	li	a5,31
-	ble	a2,a5,.L107
+	ble	a2,a5,.L131
 	addi	a2,a2,-32
 	srl	a0,a1,a2
 	li	a1,0
 	ret
-.L107:
+.L131:
 	li	a5,32
 	sub	a5,a5,a2
 	sll	a5,a1,a5
 	srl	a0,a0,a2
 	or	a0,a5,a0
 	srl	a1,a1,a2
-.L105:
+.L129:
 	ret
 	.section	.text.__ashrdi3,"ax",@progbits
 	.globl	__ashrdi3
 __ashrdi3:
-	beq	a2,zero,.L109
+	beq	a2,zero,.L133
 	li	a5,31
-	bgt	a2,a5,.L113
+	bgt	a2,a5,.L137
 	li	a5,32
 	sub	a5,a5,a2
 	sll	a5,a1,a5
 	srl	a0,a0,a2
 	or	a0,a5,a0
 	sra	a1,a1,a2
-.L109:
+.L133:
 	ret
-.L113:
+.L137:
 	addi	a2,a2,-32
 	sra	a0,a1,a2
 	srai	a1,a1,31
@@ -455,25 +538,25 @@ __moddi3:
 __clzsi2:
 	srli	a4,a0,16
 	li	a5,32
-	beq	a4,zero,.L120
+	beq	a4,zero,.L144
 	mv	a0,a4
 	li	a5,16
-.L120:
+.L144:
 	srli	a4,a0,8
-	beq	a4,zero,.L121
+	beq	a4,zero,.L145
 	addi	a5,a5,-8
 	mv	a0,a4
-.L121:
+.L145:
 	srli	a4,a0,4
-	beq	a4,zero,.L122
+	beq	a4,zero,.L146
 	addi	a5,a5,-4
 	mv	a0,a4
-.L122:
+.L146:
 	srli	a4,a0,2
-	beq	a4,zero,.L123
+	beq	a4,zero,.L147
 	addi	a5,a5,-2
 	mv	a0,a4
-.L123:
+.L147:
 	srli	a4,a0,1
 	sub	a5,a5,a4
 	snez	a0,a0
@@ -482,10 +565,10 @@ __clzsi2:
 	.section	.text.__clzdi2,"ax",@progbits
 	.globl	__clzdi2
 __clzdi2:
-	beq	a1,zero,.L136
+	beq	a1,zero,.L160
 	mv	a0,a1
 	tail	__clzsi2
-.L136:
+.L160:
 	addi	sp,sp,-16
 	sw	ra,12(sp)
 	call	__clzsi2
@@ -496,7 +579,7 @@ __clzdi2:
 	.section	.text.__ctzsi2,"ax",@progbits
 	.globl	__ctzsi2
 __ctzsi2:
-	beq	a0,zero,.L141
+	beq	a0,zero,.L165
 	neg	a5,a0
 	addi	sp,sp,-16
 	and	a0,a5,a0
@@ -507,7 +590,7 @@ __ctzsi2:
 	sub	a0,a5,a0
 	addi	sp,sp,16
 	jr	ra
-.L141:
+.L165:
 	li	a0,32
 	ret
 	.section	.text.__ctzdi2,"ax",@progbits
@@ -515,19 +598,19 @@ __ctzsi2:
 __ctzdi2:
 	addi	sp,sp,-16
 	sw	ra,12(sp)
-	beq	a0,zero,.L147
+	beq	a0,zero,.L171
 	neg	a5,a0
 	and	a0,a5,a0
 	call	__clzsi2
 	li	a5,31
 	sub	a0,a5,a0
-.L146:
+.L170:
 	lw	ra,12(sp)
 	addi	sp,sp,16
 	jr	ra
-.L147:
+.L171:
 	li	a0,64
-	beq	a1,zero,.L146
+	beq	a1,zero,.L170
 	neg	a0,a1
 	and	a0,a0,a1
 	call	__clzsi2
@@ -539,7 +622,7 @@ __ctzdi2:
 	.section	.text.__ffssi2,"ax",@progbits
 	.globl	__ffssi2
 __ffssi2:
-	beq	a0,zero,.L155
+	beq	a0,zero,.L179
 	neg	a5,a0
 	addi	sp,sp,-16
 	and	a0,a5,a0
@@ -550,32 +633,32 @@ __ffssi2:
 	sub	a0,a5,a0
 	addi	sp,sp,16
 	jr	ra
-.L155:
+.L179:
 	li	a0,0
 	ret
 	.section	.text.__ffsdi2,"ax",@progbits
 	.globl	__ffsdi2
 __ffsdi2:
 	or	a5,a0,a1
-	beq	a5,zero,.L166
+	beq	a5,zero,.L190
 	addi	sp,sp,-16
 	sw	ra,12(sp)
-	beq	a0,zero,.L163
+	beq	a0,zero,.L187
 	neg	a5,a0
 	and	a0,a5,a0
 	call	__clzsi2
 	li	a5,32
 	sub	a0,a5,a0
-.L160:
+.L184:
 	lw	ra,12(sp)
 	addi	sp,sp,16
 	jr	ra
-.L166:
+.L190:
 	li	a0,0
 	ret
-.L163:
+.L187:
 	li	a0,65
-	beq	a1,zero,.L160
+	beq	a1,zero,.L184
 	neg	a0,a1
 	and	a0,a0,a1
 	call	__clzsi2
@@ -602,14 +685,14 @@ __clrsbdi2:
 	addi	sp,sp,-16
 	sw	ra,12(sp)
 	srai	a5,a1,31
-	beq	a1,a5,.L179
+	beq	a1,a5,.L203
 	xor	a0,a1,a5
 	call	__clzsi2
 	lw	ra,12(sp)
 	addi	a0,a0,-1
 	addi	sp,sp,16
 	jr	ra
-.L179:
+.L203:
 	xor	a0,a1,a0
 	call	__clzsi2
 	lw	ra,12(sp)
@@ -621,66 +704,66 @@ __clrsbdi2:
 __popcountsi2:
 	mv	a5,a0
 	li	a0,0
-	beq	a5,zero,.L183
-.L182:
+	beq	a5,zero,.L207
+.L206:
 	addi	a4,a5,-1
 	and	a5,a5,a4
 	addi	a0,a0,1
-	bne	a5,zero,.L182
+	bne	a5,zero,.L206
 	ret
-.L183:
+.L207:
 	ret
 	.section	.text.__popcountdi2,"ax",@progbits
 	.globl	__popcountdi2
 __popcountdi2:
 	mv	a5,a0
 	li	a0,0
-	beq	a5,zero,.L186
-.L187:
+	beq	a5,zero,.L210
+.L211:
 	addi	a4,a5,-1
 	and	a5,a5,a4
 	addi	a0,a0,1
-	bne	a5,zero,.L187
-.L186:
-	beq	a1,zero,.L185
+	bne	a5,zero,.L211
+.L210:
+	beq	a1,zero,.L209
 	li	a5,0
-.L189:
+.L213:
 	addi	a4,a1,-1
 	and	a1,a1,a4
 	addi	a5,a5,1
-	bne	a1,zero,.L189
+	bne	a1,zero,.L213
 	add	a0,a0,a5
-.L185:
+.L209:
 	ret
 	.section	.text.__paritysi2,"ax",@progbits
 	.globl	__paritysi2
 __paritysi2:
-	beq	a0,zero,.L199
+	beq	a0,zero,.L223
 	li	a5,0
-.L198:
+.L222:
 	addi	a4,a0,-1
 	and	a0,a0,a4
 	addi	a5,a5,1
-	bne	a0,zero,.L198
+	bne	a0,zero,.L222
 	andi	a0,a5,1
 	ret
-.L199:
+.L223:
 	li	a0,0
 	ret
 	.section	.text.__paritydi2,"ax",@progbits
 	.globl	__paritydi2
 __paritydi2:
 	xor	a5,a0,a1
-	beq	a0,a1,.L204
+	beq	a0,a1,.L228
 	li	a0,0
-.L203:
+.L227:
 	addi	a4,a5,-1
 	and	a5,a5,a4
 	addi	a0,a0,1
-	bne	a5,zero,.L203
+	bne	a5,zero,.L227
 	andi	a0,a0,1
 	ret
-.L204:
+.L228:
 	li	a0,0
 	ret
 	.section	.text.__bswapsi2,"ax",@progbits
@@ -733,30 +816,30 @@ __cxa_pure_virtual:
 _Znwj:
 	addi	sp,sp,-16
 	sw	ra,12(sp)
-	bne	a0,zero,.L210
+	bne	a0,zero,.L234
 	li	a0,1
-.L210:
+.L234:
 	call	malloc
-	beq	a0,zero,.L213
+	beq	a0,zero,.L237
 	lw	ra,12(sp)
 	addi	sp,sp,16
 	jr	ra
-.L213:
+.L237:
 	ebreak
 	.section	.text._Znaj,"ax",@progbits
 	.globl	_Znaj
 _Znaj:
 	addi	sp,sp,-16
 	sw	ra,12(sp)
-	bne	a0,zero,.L215
+	bne	a0,zero,.L239
 	li	a0,1
-.L215:
+.L239:
 	call	malloc
-	beq	a0,zero,.L218
+	beq	a0,zero,.L242
 	lw	ra,12(sp)
 	addi	sp,sp,16
 	jr	ra
-.L218:
+.L242:
 	ebreak
 	.section	.text._ZdlPv,"ax",@progbits
 	.globl	_ZdlPv

@@ -101,77 +101,88 @@ u64 __muldi3(u64 a, u64 b) {
     return joined(high_half(low) + (u32)a * high_half(b) + high_half(a) * (u32)b, low);
 }
 
-/* The quotient by a divisor whose first bit is 1, and which is above the upper word of the dividend, and what is left in
-   `*rest`: two digits of 16 bits, each by the divisor's upper half, and then one or two less (Knuth, The Art of Computer
+/* The product of a number and one half. */
+static u64 times(u64 number, u32 factor) {
+    u64 low = product(number, factor);
+    return joined(high_half(low) + high_half(number) * factor, low);
+}
+
+/* The next 16 bits of a quotient by a divisor whose first bit is 1, and what is left then in `*left`: `next` are the next 16
+   bits of the dividend. A digit by the divisor's upper half alone may be one or two too large (Knuth, The Art of Computer
    Programming, volume 2, 4.3.1, algorithm D). */
-static inline __attribute__((always_inline)) u32 two_digits(u32 *rest, u32 low, u32 divisor) {
-    u32 upper = divisor >> 16, lower = divisor & 0xffff, quotient = 0, left = *rest;
-    int count = 2;
-    __asm__("" : "+r"(count)); /* the compiler isn't to write the digits apart */
-    do {
-        u32 digit = left / upper, less = digit * lower;
-        left = left % upper << 16 | low >> 16;
-        if (left < less) {
+static inline __attribute__((always_inline)) u32 digit_of(u32 *left, u32 next, u32 divisor) {
+    u32 upper = divisor >> 16, digit = *left / upper, less = digit * (divisor & 0xffff), rest = *left % upper << 16 | next;
+    if (rest < less) {
+        digit--;
+        rest += divisor;
+        if (rest >= divisor && rest < less) {
             digit--;
-            left += divisor;
-            if (left >= divisor && left < less) {
-                digit--;
-                left += divisor;
-            }
+            rest += divisor;
         }
-        left -= less;
-        quotient = quotient << 16 | digit;
-        low <<= 16;
-    } while (--count);
-    *rest = left;
-    return quotient;
+    }
+    *left = rest - less;
+    return digit;
 }
 
-/* The quotient of two numbers of which one has more than 32 bits, or the remainder. Division by 0 answers all ones, with
-   the dividend as remainder, as the machine's own instructions do. Of a divisor of more than 32 bits the upper ones give
-   a quotient that is right or one too large, so one less is taken, and mended by the remainder (Warren, Hacker's Delight,
-   9-5). */
-static __attribute__((noinline, optimize("Os"))) u64 long_divided(u64 dividend, u64 divisor, int wants_remainder) {
-    u32 high = high_half(dividend), low = dividend, above = high_half(divisor), below = divisor;
-    u32 first = 0, quotient, rest = high >> 1, top = above;
-    int shift = 0;
-    if (!above) {
-        if (!below)
-            return wants_remainder ? dividend : (u64)-1;
-        first = high / below;
-        rest = high % below;
-        top = below;
-    }
-    for (; !(top >> 28); top <<= 4)
-        shift += 4;
-    for (; !(top >> 31); top <<= 1)
-        shift++;
-    if (above) {
-        top |= below >> 1 >> (31 - shift);
-        low = high << 31 | low >> 1;
-    } else {
-        rest = rest << shift | low >> 1 >> (31 - shift);
-        low <<= shift;
-    }
-    quotient = two_digits(&rest, low, top);
-    if (above) {
-        quotient >>= 31 - shift;
-        quotient -= quotient != 0;
-        dividend -= joined(high_half(product(quotient, below)) + quotient * above, quotient * below);
-        if (dividend >= divisor) {
-            dividend -= divisor;
-            quotient++;
-        }
-    } else
-        dividend = rest >> shift;
-    return wants_remainder ? dividend : joined(first, quotient);
+/* Divisors get their first bit by a product with the power of two over their upper part and one, as algorithm D has it, and so
+   does what is divided: that takes fewer steps than to find how far to shift. */
+
+/* The quotient by a divisor of at most 16 bits, or the remainder. */
+static inline __attribute__((always_inline)) u64 divided_by_16_bits(u32 high, u32 low, u32 divisor, int wants_remainder) {
+    u32 first = high % divisor << 16 | low >> 16, second = first % divisor << 16 | (low & 0xffff);
+    return wants_remainder ? second % divisor : joined(high / divisor, (first / divisor << 16) + second / divisor);
 }
 
-/* The quotient of two numbers, or the remainder. */
+/* By one of 17 to 32 bits. */
+static inline __attribute__((always_inline)) u64 divided_by_32_bits(u32 high, u32 low, u32 divisor, int wants_remainder) {
+    u32 factor = 65536 / ((divisor >> 16) + 1), first = high / divisor;
+    u64 next = product(low, factor);
+    u32 left = high % divisor * factor + high_half(next), second = digit_of(&left, (u32)next >> 16, divisor * factor);
+    second = second << 16 | digit_of(&left, next & 0xffff, divisor * factor);
+    return wants_remainder ? left / factor : joined(first, second);
+}
+
+/* By one of 33 to 48 bits. After the product its upper 32 alone give a quotient that is up to two too large, and for the second
+   digit its upper 16, so two more: this shows by the remainder, which is then below 0. */
+static inline __attribute__((always_inline)) u64 divided_by_48_bits(u64 dividend, u64 divisor, int wants_remainder) {
+    u32 most = high_half(divisor) + 1, factor = -most / most + 1, quotient;
+    u32 top = high_half(divisor) * factor + high_half(product(divisor, factor));
+    u64 next = product(high_half(dividend), factor) + high_half(product(dividend, factor));
+    u32 left = high_half(next), first = digit_of(&left, (u32)next >> 16, top);
+    quotient = (first << 16) + left / (top >> 16);
+    for (dividend -= times(divisor, quotient); (int)high_half(dividend) < 0; dividend += divisor)
+        quotient--;
+    return wants_remainder ? dividend : quotient;
+}
+
+/* By one of more: that by its upper half and one is right or one too small. */
+static inline __attribute__((always_inline)) u64 divided_by_64_bits(u64 dividend, u64 divisor, int wants_remainder) {
+    u32 most = high_half(divisor) + 1, quotient = most ? high_half(dividend) / most : 0;
+    dividend -= times(divisor, quotient);
+    if (dividend >= divisor) {
+        dividend -= divisor;
+        quotient++;
+    }
+    return wants_remainder ? dividend : quotient;
+}
+
+static __attribute__((noinline)) u64 divided_by_more(u64 dividend, u64 divisor, int wants_remainder) {
+    return high_half(divisor) >> 16 ? divided_by_64_bits(dividend, divisor, wants_remainder)
+                                    : divided_by_48_bits(dividend, divisor, wants_remainder);
+}
+
+/* The quotient of two numbers, or the remainder. Division by 0 answers all ones, with the dividend as remainder, as the
+   machine's own instructions do. */
 static __attribute__((noinline)) u64 divided(u64 dividend, u64 divisor, int wants_remainder) {
-    if (high_half(dividend) | high_half(divisor) || !(u32)divisor)
-        return long_divided(dividend, divisor, wants_remainder);
-    return wants_remainder ? (u32)dividend % (u32)divisor : (u32)dividend / (u32)divisor;
+    u32 high = high_half(dividend), low = dividend, below = divisor;
+    if (high_half(divisor))
+        return divided_by_more(dividend, divisor, wants_remainder);
+    if (!below)
+        return wants_remainder ? dividend : (u64)-1;
+    if (!high)
+        return wants_remainder ? low % below : low / below;
+    return below >> 16 ? divided_by_32_bits(high, low, below, wants_remainder)
+                       : divided_by_16_bits(high, low, below, wants_remainder);
 }
 
 u64 __udivdi3(u64 dividend, u64 divisor) {
@@ -182,19 +193,19 @@ u64 __umoddi3(u64 dividend, u64 divisor) {
     return divided(dividend, divisor, 1);
 }
 
-/* The number, or less than 0 where the sign is -1 in place of 0. */
-static u64 with_sign(u64 number, s64 sign) {
-    return (number ^ (u64)sign) - (u64)sign;
+/* A number without its sign, as a number of 64 bits that all count. */
+static u64 magnitude(s64 number) {
+    return number < 0 ? -(u64)number : (u64)number;
 }
 
 /* A remainder has the sign of the dividend. */
 static __attribute__((noinline)) s64 signed_divided(s64 dividend, s64 divisor, int wants_remainder) {
-    s64 first = dividend >> 63, second = divisor >> 63;
+    int sign = high_half(dividend) ^ (wants_remainder ? 0 : high_half(divisor));
     u64 found;
     if ((int)(high_half(dividend) | high_half(divisor)) >= 0)
         return divided(dividend, divisor, wants_remainder);
-    found = divided(with_sign(dividend, first), with_sign(divisor, second), wants_remainder);
-    return with_sign(found, wants_remainder ? first : first ^ second);
+    found = divided(magnitude(dividend), magnitude(divisor), wants_remainder);
+    return sign < 0 ? -found : found;
 }
 
 s64 __divdi3(s64 dividend, s64 divisor) {
