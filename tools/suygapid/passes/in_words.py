@@ -30,7 +30,7 @@ class InWords(Writer):
 
     # Sizes.
 
-    def write(self, in_half, *texts):
+    def write(self, in_half, texts):
         """Writes one form of 16 bits that may be, or what has 32 bits."""
         if in_half is None:
             self.end_word()
@@ -48,21 +48,23 @@ class InWords(Writer):
         self.half = None
 
     def wide(self, *texts):
-        self.made.append((None, *("\t" + text for text in texts)))
+        self.made.append((None, ["\t" + text for text in texts]))
 
     def itself(self, op):
-        self.made.append((short(op), "\t" + plain(op)))
+        self.made.append((short(op), ["\t" + plain(op)]))
 
     # Instructions.
 
     def piece(self, op, following):
         beside = following and op.written in DATA and (following.word, following.operands)
         key = op.word, op.operands, op.wide, op.address, beside
-        if key not in self.known:
+        made = self.known.get(key)
+        if made is None:
             self.make(op, following)
-            self.known[key], self.made = self.made, []
-        for written in self.known[key]:
-            self.write(*written)
+            made = self.known[key] = self.made
+            self.made = []
+        for in_half, texts in made:
+            self.write(in_half, texts)
 
     def make(self, op, following):
         """What becomes of an instruction, before the piece that follows it."""

@@ -36,7 +36,9 @@ class Op:
 
 def replace(op, **changes):
     """An instruction with some of its attributes changed."""
-    return Op(*(changes.get(name, value) for name, value in zip(Op.__slots__, op.key())))
+    changed = changes.get
+    return Op(changed("word", op.word), changed("operands", op.operands), op.place, changed("wide", op.wide),
+              changed("pointed", op.pointed), changed("address", op.address))
 
 
 # The assembler takes these with a number as the last operand, too.
@@ -97,6 +99,7 @@ class Converter:
 
     def __init__(self, pcrel=None):
         self.pcrel = pcrel or {}
+        self.known = {}  # by an operand's kind and text, what is written for it
 
     def convert(self, statement):
         """The instructions of the source language that do what this one does."""
@@ -221,8 +224,16 @@ class Converter:
         shape = SHAPES[statement.word]
         if len(shape) != len(statement.operands):
             raise Refused(statement.place, f"{statement.word} has {len(shape)} operands")
-        operands = tuple(str(OPERANDS[kind](text, statement.place)) for kind, text in zip(shape, statement.operands))
+        operands = tuple([self.operand(pair, statement.place) for pair in zip(shape, statement.operands)])
         return Op(statement.word, operands, statement.place)
+
+    def operand(self, pair, place):
+        """An operand's own spelling, by its kind and text."""
+        found = self.known.get(pair)
+        if found is None:
+            kind, text = pair
+            found = self.known[pair] = str(OPERANDS[kind](text, place))
+        return found
 
 
 def memory_operand(text, place):

@@ -24,16 +24,17 @@ from suygapid.passes.program import Mark
 from suygapid.passes.sizes import expansions, number_parts
 
 COMMUTATIVE = ("add", "and", "or", "xor")
+REORDERED = frozenset((*COMMUTATIVE, "mv"))
 
 
 def shortened(piece):
     """An instruction that has a 16-bit form when its operands are in another order, and a copy
     in the form that has one: `add` of zero."""
-    if piece.is_mark:
+    if piece.word not in REORDERED:
         return piece
     if piece.word == "mv" and "zero" not in piece.operands and piece.operands[0] != "sp":
         return replace(piece, word="add", operands=(piece.operands[0], "zero", piece.operands[1]))
-    if piece.word in COMMUTATIVE and piece.operands[0] == piece.operands[2]:
+    if piece.word != "mv" and piece.operands[0] == piece.operands[2]:
         target, left, right = piece.operands
         return replace(piece, operands=(target, right, left))
     return piece

@@ -34,7 +34,7 @@ def frames(pieces):
         first = pieces[run[0]]
         if first.is_mark:
             name = name if first.name.startswith(".") else first.name
-        elif name is not None:
+        elif name is not None and any(pieces[number].written == "sp" for number in run):
             size = deepest([pieces[number] for number in run])
             found[name] = max(found.get(name, 0), size)
     return found
