@@ -1,5 +1,6 @@
 """The libraries that a release has compiled and converted, so that sfi-cc doesn't have to at their first use: newlib, floating
-point, the small library and what each program is linked with, by gcc for code in words."""
+point, the small library and what each program is linked with, by gcc for code in words. Their sources, and so their licences, are those of Debian's packages
+newlib-source and gcc-12-source."""
 import os
 import pathlib
 import shutil
