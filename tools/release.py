@@ -7,8 +7,9 @@ in the repository.
 FOLDER gets suygapid-VERSION-x86_64-linux.tar.gz and, with .sha256 at its end, the checksum of it. In the tar file
 SHA256SUMS has that of every other file. The same commit, the same built files and the same LOG make the same bytes: owners,
 times and the order of the files don't depend on where and when it is made. Nothing is made where a file isn't committed,
-where what is built is missing, empty or older than a source, where suygapid_check.c, the checker in one file of C, can't be
-made (tools/checker_file.py), or where what is packed doesn't do what tools/release_trial.py tries.
+where what is built is missing, empty or older than a source, where suygapid_check.c and suygapid_run.c, the checker and the runtime
+in one file of C each, can't be made (tools/checker_file.py, tools/runtime_file.py), or where what is packed doesn't do what
+tools/release_trial.py tries.
 
 In it are also the libraries that sfi-cc would else compile and convert at their first use (tools/converted.py); where the
 compiler or sources aren't there, they aren't, as a line says.
@@ -37,6 +38,7 @@ import evidence
 import installed
 import libraries
 import release_trial
+import runtime_file
 import toolchain
 import verify_evidence
 import version
@@ -68,10 +70,11 @@ def built_files():
     found = [str(path.relative_to(TOP)) for path in [*installed.built(), *MADE]]
     for crate in libraries.HEADERS:
         found += [os.path.relpath(path, TOP) for path in libraries.make(crate)]
-    lacking = [it.removeprefix(f"{TOP}/") for it in checker_file.missing()]
-    if lacking:
-        fail(f"suygapid_check.c, which README.md says is in a release, can't be made: {' and '.join(lacking)} isn't there")
-    found.append(os.path.relpath(checker_file.make(), TOP))
+    for name, maker in (("suygapid_check.c", checker_file), ("suygapid_run.c", runtime_file)):
+        lacking = [it.removeprefix(f"{TOP}/") for it in maker.missing()]
+        if lacking:
+            fail(f"{name}, which docs/EMBEDDING.md says is in a release, can't be made: {' and '.join(lacking)} isn't there")
+        found.append(os.path.relpath(maker.make(), TOP))
     empty = [path for path in found if not (TOP / path).stat().st_size]
     if empty:
         fail(f"{empty[0]} has 0 bytes")

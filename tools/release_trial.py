@@ -1,5 +1,5 @@
 """Tries what a release holds, in the folder to which its tar file was unpacked: that each file has its checksum, and that the
-program, both WebAssembly modules and the checker in one file of C say of the smallest image what they have to.
+program, both WebAssembly modules, and the checker and the runtime in one file of C each say of the smallest image what they have to.
 """
 import base64
 import hashlib
@@ -13,6 +13,8 @@ SMALLEST = "examples/smallest.hex"
 ACCEPTED = "accepted sandboxes=1 bundles=16\n"
 PROGRAM = "crates/sfi/out/sfi"
 CHECKER = "crates/sfi_c/out/suygapid_check.c"
+RUNTIME = "crates/sfi_run/out/suygapid_run.c"
+HEADERS = ["crates/sfi_c/include/sfi.h", "crates/sfi_run/include/sfi_run.h"]
 # The page's module by the page's own script, which asks for nothing of a browser but in what loads it.
 PAGE_MODULE = """
 import { readFileSync } from "node:fs";
@@ -29,6 +31,23 @@ import { readFileSync } from "node:fs";
 const { load } = await import(`file://${process.cwd()}/bindings/node/index.mjs`);
 const image = Buffer.from(readFileSync(0, "utf8").replace(/\\s/g, ""), "hex");
 console.log((await load(image)).sandboxes[0].turn(5).cause);
+"""
+
+# A host that says by which cause the image on standard input traps.
+HOST = """
+#include "sfi_run.h"
+#include <stdio.h>
+
+int main(void) {
+    static uint8_t image[4096];
+    struct sfi_run_world world = SFI_RUN_NO_WORLD;
+    struct sfi_verdict verdict;
+    struct sfi_run_event event = {0};
+    sfi_run_load(image, fread(image, 1, sizeof image, stdin), &world, &verdict);
+    sfi_run_turn(&world, 0, 5, &event);
+    puts(event.kind == SFI_RUN_TRAPPED && event.number == SFI_RUN_BREAK ? "Break" : "another");
+    sfi_run_free(&world);
+}
 """
 
 
@@ -49,15 +68,22 @@ def faults_of_run(what, words, top, given, wanted):
     return [f"{what} doesn't say {wanted.strip()!r} of {SMALLEST}: {said[-1] if said else f'status {done.returncode}'}"]
 
 
-def faults_of_checker(top, image):
-    """Compiles the checker in one file of C, which takes a minute, and runs it."""
+def faults_of_c(what, words, top, image, wanted):
+    """Compiles a file of C, which takes a minute, and runs it."""
     with tempfile.TemporaryDirectory() as room:
         # Without optimization functions stay that nothing calls, and that want -lm.
-        words = ["gcc", "-std=c11", "-O0", "-w", "-DSUYGAPID_CHECK_MAIN", top / CHECKER, "-o", f"{room}/check", "-lm"]
-        done = subprocess.run(words, capture_output=True, text=True, check=False)
+        words = ["gcc", "-std=c11", "-O0", "-w", *words, top / what, "-o", f"{room}/made", "-lm"]
+        done = subprocess.run(words, input=HOST, capture_output=True, text=True, check=False)
         if done.returncode:
-            return [f"{CHECKER} isn't compiled: {done.stderr.splitlines()[0] if done.stderr else ''}"]
-        return faults_of_run(CHECKER, [f"{room}/check"], top, bytes.fromhex(image), ACCEPTED)
+            return [f"{what} isn't compiled: {done.stderr.splitlines()[0] if done.stderr else ''}"]
+        return faults_of_run(what, [f"{room}/made"], top, bytes.fromhex(image), wanted)
+
+
+def faults_of_files(top, image):
+    """What is wrong with the files of C. With the runtime a host is compiled, from standard input."""
+    host = [f"-I{(top / it).parent}" for it in HEADERS] + ["-xc", "-"]
+    return (faults_of_c(CHECKER, ["-DSUYGAPID_CHECK_MAIN"], top, image, ACCEPTED)
+            + faults_of_c(RUNTIME, host, top, image, "Break\n"))
 
 
 def faults_of_text(top):
@@ -68,7 +94,7 @@ def faults_of_text(top):
 
 
 def faults(top):
-    """What is wrong with the release in this folder. Its checker in C is tried where nothing else is."""
+    """What is wrong with the release in this folder. Its files of C are tried where nothing else is."""
     missing = [it for it in ("node", "gcc") if not shutil.which(it)]
     if missing:
         return [f"{' and '.join(missing)} isn't there, by which what is packed is tried"]
@@ -78,4 +104,4 @@ def faults(top):
     found = (faults_of_sums(top) + faults_of_run(PROGRAM, [top / PROGRAM, "check"], top, given, ACCEPTED) + faults_of_text(top)
              + faults_of_run("page/sfi.wasm", [*node, PAGE_MODULE], top, given, ACCEPTED)
              + faults_of_run("bindings/node/sfi_run.wasm", [*node, NODE_MODULE], top, given, "Break\n"))
-    return found or faults_of_checker(top, image)
+    return found or faults_of_files(top, image)

@@ -18,6 +18,7 @@ import installed
 import libraries
 import release
 import release_trial
+import runtime_file
 import test_evidence
 import verify_evidence
 from testing import TOP, Folder, needs
@@ -32,7 +33,15 @@ FILES = {
     "page/sfi.wasm.js": f'const SFI_WASM = "{base64.b64encode(WASM).decode()}";\n'.encode(),
     "bindings/node/index.mjs": b'export const load = async () => ({ sandboxes: [{ turn: () => ({ cause: "Break" }) }] });\n',
     release_trial.CHECKER: b'#include <stdio.h>\nint main(void) { puts("accepted sandboxes=1 bundles=16"); }\n',
+    release_trial.RUNTIME: b"""#include "sfi_run.h"
+uint32_t sfi_run_load(const uint8_t *image, size_t length, struct sfi_run_world *world, struct sfi_verdict *verdict) { return 0; }
+void sfi_run_free(struct sfi_run_world *world) {}
+uint32_t sfi_run_turn(struct sfi_run_world *world, uint32_t sandbox, uint32_t steps, struct sfi_run_event *event) {
+    event->kind = SFI_RUN_TRAPPED, event->number = SFI_RUN_BREAK;
+    return event->kind;
 }
+""",
+} | {it: (TOP / it).read_bytes() for it in release_trial.HEADERS}
 # What stands in the place of a file, and what is said then.
 DAMAGES = [
     (release_trial.PROGRAM, b"#!/bin/sh\necho accepted\n", "crates/sfi/out/sfi doesn't say 'accepted sandboxes=1 bundles=16'"),
@@ -44,6 +53,8 @@ DAMAGES = [
     ("bindings/node/index.mjs", b"export const load = 1;\n", "bindings/node/sfi_run.wasm doesn't say 'Break'"),
     (release_trial.CHECKER, b"int main(void) { return 0; }\n", f"{release_trial.CHECKER} doesn't say"),
     (release_trial.CHECKER, b"int main(void) {\n", f"{release_trial.CHECKER} isn't compiled"),
+    (release_trial.RUNTIME, FILES[release_trial.RUNTIME].replace(b"= SFI_RUN_BREAK", b"= SFI_RUN_FETCH"), f"{release_trial.RUNTIME} doesn't say 'Break'"),
+    (release_trial.RUNTIME, b"int none;\n", f"{release_trial.RUNTIME} isn't compiled"),
 ]
 
 
@@ -88,7 +99,7 @@ class Whole(Folder):
     def setUp(self):
         super().setUp()
         self.top = self.room / "top"
-        built = (release_trial.PROGRAM, "page/sfi.wasm", "page/sfi.wasm.js", release_trial.CHECKER)
+        built = (release_trial.PROGRAM, "page/sfi.wasm", "page/sfi.wasm.js", release_trial.CHECKER, release_trial.RUNTIME)
         for path, data in FILES.items():
             (self.top / path).parent.mkdir(parents=True, exist_ok=True)
             (self.top / path).write_bytes(data)
@@ -96,9 +107,10 @@ class Whole(Folder):
         (self.top / ".gitignore").write_text("\n".join(built), encoding="utf-8")
         for words in (["init", "-q"], ["add", "-A"], ["-c", "user.name=a", "-c", "user.email=a@b", "commit", "-qm", "all"]):
             subprocess.run(["git", "-C", self.top, *words], check=True)
-        first, *pages, checker = (self.top / it for it in built)
+        first, *pages, checker, runtime = (self.top / it for it in built)
         for where, what, how in ((release, "TOP", self.top), (release, "MADE", pages), (release, "stale", list), (libraries, "HEADERS", {}),
-                                 (installed, "built", lambda: [first]), (checker_file, "missing", list), (checker_file, "make", lambda: checker)):
+                                 (installed, "built", lambda: [first]), (checker_file, "missing", list), (checker_file, "make", lambda: checker),
+                                 (runtime_file, "missing", list), (runtime_file, "make", lambda: runtime)):
             patched = mock.patch.object(where, what, how)
             patched.start()
             self.addCleanup(patched.stop)
@@ -129,14 +141,16 @@ class Whole(Folder):
     def test_nothing_is_released(self):
         for path, data, why in ((release_trial.PROGRAM, b"", f"{release_trial.PROGRAM} has 0 bytes"), ("page/sfi.wasm", b"", "page/sfi.wasm has 0 bytes"),
                                 (release_trial.CHECKER, b"", f"{release_trial.CHECKER} has 0 bytes"),
+                                (release_trial.RUNTIME, b"", f"{release_trial.RUNTIME} has 0 bytes"),
                                 (release_trial.PROGRAM, b"#!/bin/sh\n", f"nothing is released: {release_trial.PROGRAM} doesn't say"),
                                 ("page/sfi.wasm.js", b"other", "nothing is released: page/sfi.wasm.js doesn't hold page/sfi.wasm")):
             with self.subTest(why):
                 (self.top / path).write_bytes(data)
                 self.assertEqual(self.release()[0].partition(" of ")[0].removesuffix(" 'accepted sandboxes=1 bundles=16'"), f"release.py: {why}")
                 (self.top / path).write_bytes(FILES[path])
-        with mock.patch.object(checker_file, "missing", lambda: ["wasm2c"]):
-            self.assertIn("suygapid_check.c, which README.md says is in a release, can't be made: wasm2c isn't there", self.release()[0])
+        for name, maker in (("suygapid_check.c", checker_file), ("suygapid_run.c", runtime_file)):
+            with mock.patch.object(maker, "missing", lambda: ["wasm2c"]):
+                self.assertIn(f"{name}, which docs/EMBEDDING.md says is in a release, can't be made: wasm2c isn't there", self.release()[0])
         self.assertFalse((self.room / "made").exists())
 
 

@@ -1,5 +1,5 @@
-"""Makes WebAssembly modules of crates with a heap of their own: sfi.wasm of the page has sfi_tool_c and sfi_run, and
-sfi_run.wasm of the package for node has sfi_run alone.
+"""Makes WebAssembly modules of crates that take memory: sfi.wasm of the page has sfi_tool_c and sfi_run, sfi_run.wasm of the
+package for node has sfi_run alone, and of the module that has no vectors and no heap tools/runtime_file.py makes C.
 
 The toolchain compiles no crate for wasm64 that calls C, as one that takes memory does. So each crate is proved and built for
 x86-64, and what the toolchain then gives its clang, which is the whole library as one LLVM module, is compiled a second time,
@@ -8,6 +8,7 @@ for wasm64: both targets are little-endian, have pointers of 64 bits, and lay st
 What this trusts beyond a build for x86-64: that nothing else in the LLVM module depends on its target (`retargeted` refuses
 what would), clang's target wasm64, wasm-ld, the files of crates/sfi_tool_c/c, and heap.c of crates/sfi_run.
 """
+import dataclasses
 import os
 import re
 import shutil
@@ -22,10 +23,9 @@ import toolchain
 
 HEADERS = {"sfi_tool_c": "sfi_tool.h", "sfi_run": "sfi_run.h"}
 C_FOLDER = os.path.join(toolchain.TOP, "crates", "sfi_tool_c", "c")
-C_FILES = [os.path.join(C_FOLDER, it) for it in ("wasm_heap.c", "wasm_wide.c")]
-C_FILES.append(os.path.join(toolchain.TOP, "crates", "sfi_run", "c", "heap.c"))
+WIDE, OWN_HEAP = (os.path.join(C_FOLDER, it) for it in ("wasm_wide.c", "wasm_heap.c"))
+HEAP = os.path.join(toolchain.TOP, "crates", "sfi_run", "c", "heap.c")
 LAYOUT = "e-m:e-p:64:64-p10:8:8-p20:8:8-i64:64-i128:128-n32:64-S128-ni:1:10:20"
-FEATURES = ["-mbulk-memory", "-msimd128", "-mnontrapping-fptoint", "-msign-ext"]
 STACK = 1 << 20
 LEVEL = "-O2"
 
@@ -41,8 +41,38 @@ define internal <16 x i8> @sfi_shuffled(<16 x i8> %bytes, <16 x i8> %indices) al
 declare <16 x i8> @llvm.wasm.swizzle(<16 x i8>, <16 x i8>)
 """
 
+# The same without vectors, byte by byte.
+SHUFFLED_BYTE = """
+  %index{at} = extractelement <16 x i8> %indices, i32 {at}
+  %kept{at} = and i8 %index{at}, 15
+  %place{at} = zext i8 %kept{at} to i32
+  %found{at} = extractelement <16 x i8> %bytes, i32 %place{at}
+  %none{at} = icmp slt i8 %index{at}, 0
+  %byte{at} = select i1 %none{at}, i8 0, i8 %found{at}
+  %made{next} = insertelement <16 x i8> %made{at}, i8 %byte{at}, i32 {at}"""
+SHUFFLED_BYTES = f"""
+define internal <16 x i8> @sfi_shuffled(<16 x i8> %bytes, <16 x i8> %indices) {{
+  %made0 = freeze <16 x i8> zeroinitializer{"".join(SHUFFLED_BYTE.format(at=it, next=it + 1) for it in range(16))}
+  ret <16 x i8> %made16
+}}
+"""
+
 # A barrier for the compiler alone, as counts of owners have: no instruction.
 BARRIER = 'call void asm sideeffect "", "~{memory}"()'
+
+
+@dataclasses.dataclass(frozen=True)
+class Form:
+    """Of which instructions a module may be made, and what is linked with the crates: C files, and words for wasm-ld."""
+    features: tuple
+    shuffled: str
+    c_files: tuple
+    words: tuple
+    exports: tuple
+
+
+WHOLE = Form(("-mbulk-memory", "-msimd128", "-mnontrapping-fptoint", "-msign-ext"), SHUFFLED, (OWN_HEAP, WIDE, HEAP),
+             ("--strip-all", "-z", f"stack-size={STACK}"), ("malloc", "free"))
 
 # Stands for the toolchain's clang: it keeps what is compiled, and then compiles it.
 KEEPING = """#!/bin/sh
@@ -92,11 +122,11 @@ def keep_module(rtlib, name):
         shutil.move(f"{room}/kept.bc", kept_path(name))
 
 
-def retargeted(text):
+def retargeted(text, shuffled=SHUFFLED):
     """An LLVM module's text for wasm64. It refuses what belongs to x86-64 alone."""
     if SHUFFLE in text:
         text = re.sub(rf"^declare .*{re.escape(SHUFFLE)}\(.*$", "", text, flags=re.MULTILINE)
-        text = text.replace(SHUFFLE, "@sfi_shuffled") + SHUFFLED
+        text = text.replace(SHUFFLE, "@sfi_shuffled") + shuffled
     odd = sorted(set(re.findall(r"@llvm\.x86\.[\w.]+|x86_fp80|\basm sideeffect\b|module asm", text.replace(BARRIER, ""))))
     if odd:
         sys.exit(f"wasm_module: the LLVM module holds {', '.join(odd)}, which is of x86-64 alone")
@@ -105,44 +135,54 @@ def retargeted(text):
     return re.sub(r' "target-(?:cpu|features)"="[^"]*"| "tune-cpu"="[^"]*"', "", text)
 
 
-def compiled(clang, name, room):
+def compiled(clang, name, form, room):
     """The path of a crate's object for wasm64."""
     text, made = f"{room}/{name}.ll", f"{room}/{name}.o"
     # What is kept is bitcode: clang writes it as text.
     subprocess.run([clang, "-x", "ir", "-Xclang", "-disable-llvm-passes", "-S", "-emit-llvm", kept_path(name), "-o", text], check=True)
     with open(text, encoding="utf-8") as file:
-        fresh = retargeted(file.read())
+        fresh = retargeted(file.read(), form.shuffled)
     with open(text, "w", encoding="utf-8") as file:
         file.write(fresh)
-    to_wasm = [clang, f"--target={build_library.WASM}", *FEATURES, LEVEL, "-c"]
+    to_wasm = [clang, f"--target={build_library.WASM}", *form.features, LEVEL, "-c"]
     subprocess.run([*to_wasm, "-Wno-override-module", text, "-o", made], check=True)
     return made
 
 
-def compiled_c(clang, path, room):
+def compiled_c(clang, path, form, room):
     made = f"{room}/{os.path.basename(path)[:-2]}.o"
     words = ["-std=c11", "-ffreestanding", "-nostdinc", "-Wall", "-Wextra", "-Werror", "-I", f"{C_FOLDER}/freestanding"]
-    subprocess.run([clang, f"--target={build_library.WASM}", *FEATURES, LEVEL, "-c", *words, path, "-o", made], check=True)
+    subprocess.run([clang, f"--target={build_library.WASM}", *form.features, LEVEL, "-c", *words, path, "-o", made], check=True)
     return made
 
 
-def link(kit, target, names):
-    """Links the kept modules of these crates, and the C files, into the module `target`."""
+def objects(kit, names, form, room):
+    """The paths of the objects for wasm64 of the kept modules of these crates, and of the form's C files."""
     clang = f"{kit}/toolchain/bin/clang"
+    return [compiled(clang, name, form, room) for name in names] + [compiled_c(clang, it, form, room) for it in form.c_files]
+
+
+def link(kit, target, names, form, made, room):
+    """Links these objects of these crates into the module `target`, which exports the calls of the crates' headers."""
     headers = [libraries.path(name, "include", HEADERS[name]) for name in names]
-    exports = ["malloc", "free", *(call for header in headers for call in libraries.calls(header))]
-    with tempfile.TemporaryDirectory() as room:
-        objects = [compiled(clang, name, room) for name in names] + [compiled_c(clang, it, room) for it in C_FILES]
-        os.symlink(clang, f"{room}/wasm-ld")
-        subprocess.run([f"{room}/wasm-ld", "-mwasm64", "--no-entry", "--gc-sections", "--strip-all", "-z", f"stack-size={STACK}",
-                        "--stack-first", *(f"--export={it}" for it in exports), *objects, "-o", target], check=True)
+    exports = [*form.exports, *(call for header in headers for call in libraries.calls(header))]
+    if not os.path.exists(f"{room}/wasm-ld"):
+        os.symlink(f"{kit}/toolchain/bin/clang", f"{room}/wasm-ld")
+    subprocess.run([f"{room}/wasm-ld", "-mwasm64", "--no-entry", "--gc-sections", "--stack-first", *form.words,
+                    *(f"--export={it}" for it in exports), *made, "-o", target], check=True)
 
 
-def make(target, names=tuple(HEADERS)):
-    """Makes the module of these crates, after those LLVM modules that aren't kept or are older than a source."""
-    rtlib = toolchain.rtlib()
+def keep_late(rtlib, names):
+    """Keeps the LLVM modules of these crates that aren't kept or are older than a source."""
     rtlib.guarded()  # what it starts ends with it
     late = [name for name in names if is_older(kept_path(name), name)]
     with ThreadPoolExecutor(len(names)) as pool:
         list(pool.map(lambda name: keep_module(rtlib, name), late))
-    link(rtlib.KIT, target, names)
+
+
+def make(target, names=tuple(HEADERS)):
+    """Makes the module of these crates, for the page or node."""
+    rtlib = toolchain.rtlib()
+    keep_late(rtlib, names)
+    with tempfile.TemporaryDirectory() as room:
+        link(rtlib.KIT, target, names, WHOLE, objects(rtlib.KIT, names, WHOLE, room), room)

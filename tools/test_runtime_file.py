@@ -1,0 +1,92 @@
+"""Tests of tools/runtime_file.py on small modules, by the text of WebAssembly. fuzz/ports.py tries what it makes."""
+import unittest
+
+import runtime_file
+
+MODULE = r"""(module $it.wasm
+  (import "env" "malloc" (func $malloc (type 0)))
+  (func $outer (type 1) (param i64) (result i32)
+    global.get $__stack_pointer
+    i64.const 32
+    i64.sub
+    global.set $__stack_pointer
+    i64.const {first}
+    call $inner
+    local.get 0
+    i32.load8_u offset={second} align=1)
+  (func $inner (type 1) (param i64) (result i32)
+    global.get $__stack_pointer
+    i64.const 16
+    i64.sub
+    local.tee 1
+    i64.const 7
+    i64.store offset=8
+    memory.copy
+    i32.const 1)
+  (memory (;0;) i64 2)
+  (global $__stack_pointer (mut i64) (i64.const 65536))
+  (global (;1;) i64 (i64.const {end}))
+  (export "memory" (memory 0))
+  (export "__heap_base" (global 1))
+  (export "outer" (func $outer))
+  (data $.rodata (i64.const {first}) "a\00\"\5c\ff\t"))""".replace("\n  (data", "\n  (data")
+
+
+def lines(place, text=MODULE):
+    return text.format(first=place, second=place + 4, end=place + 16).splitlines()
+
+
+def linked(text=MODULE):
+    return [lines(place, text) for place in runtime_file.PLACES]
+
+
+class Opened(unittest.TestCase):
+    def text(self, texts):
+        return [it.strip() for it in runtime_file.Opened(texts).text().splitlines()]
+
+    def test_accesses_are_calls(self):
+        text = self.text(linked())
+        for wanted in ("i64.const 8 call $i64_store", "call $memory_copy", "call $constants i64.const 4 i64.add call $i32_load8_u)",
+                       "call $constants i64.const 0 i64.add", '(import "env" "i64_store" (func $i64_store (param i64 i64 i64)))',
+                       '(import "env" "i32_load8_u" (func $i32_load8_u (param i64 i64) (result i32)))', "i64.const 32"):
+            self.assertIn(wanted, text)
+        self.assertFalse([it for it in text if it.startswith(("(memory", "(data", "i32.load", "i64.store"))])
+
+    def test_other_differences_are_refused(self):
+        for old, new in (("i64.const 7", "i64.const 8"), ("i32.const 1)", "i32.const 2)"), ("call $inner", "call $outer"), ("offset=8", "offset=9")):
+            texts = [lines(runtime_file.PLACES[0]), lines(runtime_file.PLACES[1], MODULE.replace(old, new))]
+            with self.subTest(old), self.assertRaisesRegex(SystemExit, "the two links differ"):
+                self.text(texts)
+
+    def test_other_instructions_are_refused(self):
+        for odd in ("memory.grow", "call_indirect (type 0)", "i64.atomic.rmw.xor", "i32.atomic.load", "i32.load8_x"):
+            with self.subTest(odd), self.assertRaisesRegex(SystemExit, "has no function for"):
+                self.text(linked(MODULE.replace("memory.copy", odd)))
+
+
+class Parts(unittest.TestCase):
+    def test_constants(self):
+        self.assertEqual(runtime_file.constants(lines(1 << 20), 1 << 20), b'a\0"\\\xff\t' + bytes(10))
+
+    def test_addresses_among_constants_are_refused(self):
+        with self.assertRaisesRegex(SystemExit, "addresses among the constants"):
+            runtime_file.check_constants([lines(runtime_file.PLACES[0]), lines(runtime_file.PLACES[1], MODULE.replace(r"a\00", r"b\00"))])
+        runtime_file.check_constants(linked())
+
+    def test_the_stack(self):
+        found = runtime_file.functions(lines(1 << 20))
+        self.assertEqual(runtime_file.deepest(found, "$outer"), 48)
+        with self.assertRaisesRegex(SystemExit, "calls itself"):
+            runtime_file.deepest(runtime_file.functions(lines(1 << 20, MODULE.replace("memory.copy", "call $outer"))), "$outer")
+
+    def test_a_call(self):
+        made = runtime_file.call_of("bool", "sfi_run_read", "struct sfi_run_world *world, uint32_t at, size_t length, uint8_t *bytes")
+        self.assertIn("struct held held_world = {world->held, 0, at_of(world->at)};", made)
+        self.assertIn("Z_sfi_runZ_sfi_run_read(&call.module, at_of(&held_world), at, length, at_of(bytes));", made)
+        self.assertIn("world->held = held_world.held, world->at = place(held_world.at);\n    return answer;", made)
+        made = runtime_file.call_of("void", "sfi_run_go", "const uint32_t arguments[8]")
+        self.assertIn("    Z_sfi_runZ_sfi_run_go(&call.module, at_of(arguments));\n}", made)
+
+
+if __name__ == "__main__":
+    unittest.main()
