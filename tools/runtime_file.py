@@ -20,6 +20,7 @@ import toolchain
 import wasm_module
 
 FOLDER = os.path.join(toolchain.TOP, "tools", "runtime_file")
+PARTS = ("front.c", "reach.c", "begin.c")
 TARGET = libraries.path("sfi_run", "out", "suygapid_run.c")
 PLACES = (1 << 20, 1 << 21)  # of the constants, in the two links
 FORM = wasm_module.Form(("-mcpu=lime1", "-mbulk-memory", "-matomics"), wasm_module.SHUFFLED_BYTES, (wasm_module.WIDE, wasm_module.HEAP),
@@ -213,8 +214,18 @@ def numbers(data):
     return ",\n    ".join(rows)
 
 
+def is_fresh(target):
+    """Whether the file is there, and no older than all that it is made of."""
+    made_of = [__file__, one_file.__file__, wasm_module.__file__, *FORM.c_files, libraries.header("sfi_c"), libraries.header("sfi_run"),
+               *(os.path.join(FOLDER, it) for it in PARTS)]
+    return not wasm_module.is_older(target, "sfi_run") and os.path.getmtime(target) >= max(map(os.path.getmtime, made_of))
+
+
 def make(target=TARGET):
+    """Makes the file, where it isn't fresh, and gives its path."""
     one_file.check_there(missing())
+    if is_fresh(target):
+        return target
     rtlib = toolchain.rtlib()
     wasm_module.keep_late(rtlib, ["sfi_run"])
     text, calls = header()
@@ -229,7 +240,7 @@ def make(target=TARGET):
     found = functions(texts[0])
     stack = max(deepest(found, f"${name}") for _, name, _ in calls)
     own = OWN.format(stack=stack // 16 * 16 + 64, constants=numbers(constants(texts[0], PLACES[0])))
-    front, reach, begin = (one_file.read(FOLDER, it) for it in ("front.c", "reach.c", "begin.c"))
+    front, reach, begin = (one_file.read(FOLDER, it) for it in PARTS)
     return one_file.write(target, [front, text, own, reach, one_file.quiet(declared + code), begin, *(call_of(*it) for it in calls)])
 
 

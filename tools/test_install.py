@@ -15,10 +15,13 @@ import evidence
 import installed
 import libraries
 import release
+import runtime_file
 import test_evidence
 import version
+import wasm_module
 from testing import GCC, TOP, Folder, needs
 
+NO_FILES = checker_file.missing() + runtime_file.missing()
 READY = all(it.is_file() for it in installed.built()) and shutil.which("gcc") and shutil.which("git")
 SMALLEST = (TOP / "examples" / "smallest.hex").read_text(encoding="ascii")
 ACCEPTED = "accepted sandboxes=1 bundles=16\n"
@@ -244,7 +247,7 @@ class Removing(Installing):
 
 
 @unittest.skipUnless(all(it.is_file() for it in release.MADE), "the page or node's module isn't made: tools/build_page.py, tools/build_node.py")
-@unittest.skipIf(checker_file.missing(), f"suygapid_check.c can't be made: there is no {' and no '.join(checker_file.missing())}")
+@unittest.skipIf(NO_FILES, f"suygapid_check.c and suygapid_run.c can't be made: there is no {' and no '.join(NO_FILES)}")
 @needs("node", "rt")
 class Scratch(Installing):
     """A scratch repository with the files of this one, and what is built here."""
@@ -264,8 +267,9 @@ class Scratch(Installing):
         env = {**os.environ, "GIT_COMMITTER_DATE": "2026-11-25T12:00:00Z"}
         for words in (["init", "-q"], ["add", "-A"], ["-c", "user.name=a", "-c", "user.email=a@b", "commit", "-qm", "all"]):
             self.assertEqual(run("git", "-C", top, *words, env=env).stderr, "")
-        library = pathlib.Path(checker_file.LIBRARY)  # of which a release's suygapid_check.c is made
-        for path in [*installed.built(), *release.MADE, *([library] if library.is_file() else [])]:
+        # The last are those of which a release's suygapid_check.c and suygapid_run.c are made, and the latter, which takes a minute.
+        more = map(pathlib.Path, (checker_file.LIBRARY, wasm_module.kept_path("sfi_run"), runtime_file.TARGET))
+        for path in [*installed.built(), *release.MADE, *(it for it in more if it.is_file())]:
             place = top / path.relative_to(TOP)
             place.parent.mkdir(parents=True, exist_ok=True)
             shutil.copy(path, place)
