@@ -14,6 +14,7 @@ import commands
 import corpus
 import escapes
 import mutants
+import ports
 import second
 import verdicts
 import worlds
@@ -162,6 +163,38 @@ class Planted(testing.Folder):
                 beside.Beside(pick, images, planted(judge), lambda: worlds.Model(judge), tally).live()
 
             self.found(tally, try_one, name)
+
+
+# A call that says of the sandbox of number 1 what isn't so.
+PLANTED_CALL = """
+#include "sfi_run.h"
+#undef sfi_run_steps
+uint64_t sfi_run_steps(struct sfi_run_world *world, uint32_t sandbox);
+uint64_t planted(struct sfi_run_world *world, uint32_t sandbox) { return sfi_run_steps(world, sandbox) + (sandbox == 1); }
+"""
+
+
+class Ports(testing.Folder):
+    """fuzz/player.c by libsfi_run, and with a call of another's."""
+
+    @needs_gcc
+    @unittest.skipUnless(os.path.exists(calls.LIBRARY), "libsfi_run.a isn't built")
+    def test_another_answer_is_seen(self):
+        made, (library, _) = ports.Trace(), ports.libraries.make("sfi_run", calls.LIBRARY, self.folder)
+        made.put("load", 1, made.image(bytes.fromhex((testing.TOP / "examples" / "smallest.hex").read_text(encoding="ascii"))))
+        for sandbox in (0, 1, 2):
+            made.put("steps", 1, sandbox, 0)
+        trace, planted = measure.written(self.path("trace"), b"".join(made.records)), self.write("planted.c", PLANTED_CALL)
+        players = [ports.Port("own", ["gcc"], ports.HERE), ports.Port("other", ["gcc", "-Dsfi_run_steps=planted"], ports.HERE)]
+        answers = []
+        for port, parts in zip(players, ([library], [planted, library])):
+            program, said = ports.compiled(port, self.folder, *parts)
+            self.assertEqual(said, "")
+            answers.append(ports.digests(port, program, trace))
+        tally = fuzzing.Tally()
+        cases = [(f"0 --round {number}", end) for number, end in enumerate((4, 5, 6))]
+        silently(ports.see_cases, tally, players[1], cases, *answers)
+        self.assertEqual((len(answers[0]), tally.compared, tally.wrong), (48, {"other": 3}, {"other": 1}))
 
 
 class Scripts(testing.Folder):
