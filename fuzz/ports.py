@@ -36,7 +36,7 @@ call call_back set_registers steps registers region version""".split()
 WORLDS, MODULES = 4096, 16  # as in player.c
 BATCH = 20  # so many cases are one trace
 DIGEST = 8  # bytes of the player's for each call
-WARNINGS = ["-std=c11", "-Wall", "-Wextra", "-Werror"]
+WARNINGS = ["-std=c11", "-Wall", "-Wextra", "-pedantic", "-Werror"]
 
 
 @dataclasses.dataclass(frozen=True)

@@ -17,7 +17,8 @@ SETTINGS = """
 #define WASM_RT_USE_STACK_DEPTH_COUNT 0
 
 """
-UNUSED = ("value", "parameter", "variable", "but-set-variable", "const-variable", "function", "label")
+# Warnings that what wasm2c makes gives: of what isn't used, and of `return call();` in a function without a result.
+QUIET = (*(f"unused-{it}" for it in ("value", "parameter", "variable", "but-set-variable", "const-variable", "function", "label")), "pedantic")
 OF_WINDOWS = re.compile(r"#if defined\(_MSC_VER\)\n#include <intrin.h>\n.*?#endif\n", re.DOTALL)
 
 
@@ -58,9 +59,9 @@ def translated(room, module, name):
 
 
 def quiet(code):
-    """Code without warnings of what a compiler finds unused in it."""
-    unused = "".join(f'#pragma GCC diagnostic ignored "-Wunused-{it}"\n' for it in UNUSED)
-    return f"\n#pragma GCC diagnostic push\n{unused}{code}\n#pragma GCC diagnostic pop\n"
+    """Code of wasm2c without these warnings."""
+    ignored = "".join(f'#pragma GCC diagnostic ignored "-W{it}"\n' for it in QUIET)
+    return f"\n#pragma GCC diagnostic push\n{ignored}{code}\n#pragma GCC diagnostic pop\n"
 
 
 def write(target, parts):
