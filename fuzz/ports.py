@@ -179,7 +179,7 @@ def digests(port, program, trace):
     """What the player writes for this trace, or what it complains of."""
     target = f"{program}.digests"
     words = port.runner.format(program=program, trace=trace, digests=target).split()
-    done = subprocess.run(words, stdin=subprocess.DEVNULL, capture_output=True, check=False)
+    done = subprocess.run(words, stdin=subprocess.DEVNULL, capture_output=True, check=False, timeout=5 * fuzzing.MOST_SECONDS)
     if done.returncode:
         return done.stderr[-300:]
     with open(target, "rb") as file:

@@ -8,6 +8,7 @@
  * suygapid_run_malloc, suygapid_run_realloc and suygapid_run_free, which are declared below, in their place. It wants a
  * little-endian machine with addresses of 32 or 64 bits, and gcc or clang, which have atomic counts of owners; with
  * -DSUYGAPID_RUN_NO_THREADS, for machines without atomic instructions, all worlds of a module are used by one thread.
+ * Where it was measured on x86-64, calls took at most 15 KB of stack, but without optimization (-O0) 101 KB.
  *
  * tools/runtime_file.py made this file. Don't edit it. What is trusted beside the proof of the crate sfi_run: Rattle's
  * compiler, which built the proved crate; tools/wasm_module.py, clang and wasm-ld, which made of its LLVM module one for wasm64; wabt
