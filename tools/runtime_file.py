@@ -43,6 +43,8 @@ OWN = """
 static const _Alignas(16) uint8_t constants[] = {{
     {constants}}};
 """
+FRAME = re.compile(r"global\.get \$__stack_pointer\n +i64\.const (\d+)\n +i64\.sub$", re.MULTILINE)
+CALLED = re.compile(r"^ +call ([^\s)]+)", re.MULTILINE)
 LEFT_OUT = ("(memory ", "(export \"memory\"", "(data ", "(export \"__heap_base\"")
 CALL_OF_HEADER = re.compile(r"^(\w+) (sfi_run_\w+)\(([^)]*)\);", re.MULTILINE)
 HELD = re.compile(r"struct sfi_run_(world|module|console) \*(\w+)")
@@ -156,16 +158,12 @@ def check_constants(texts):
 
 def functions(lines):
     """Of each function its frame on the module's stack, and which it calls."""
-    found, name = {}, ""
-    for before, line in zip(["", "", *lines], ["", *lines, ""]):
-        words = line.split()
-        if words[:1] == ["(func"]:
-            name = words[1]
-            found[name] = [0, set()]
-        elif words[:1] == ["call"]:
-            found[name][1].add(words[1].rstrip(")"))
-        elif words[:1] == ["i64.const"] and before.strip() == "global.get $__stack_pointer":
-            found[name][0] = max(found[name][0], int(words[1]))
+    found = {}
+    for text in "\n".join(lines).split("\n  (func ")[1:]:
+        frames = [int(it) for it in FRAME.findall(text)]
+        if len(frames) != text.count("global.get $__stack_pointer"):
+            one_file.fail(f"a function takes its frame in another way: {text.split()[0]}")
+        found[text.split()[0]] = max(frames, default=0), set(CALLED.findall(text))
     return found
 
 

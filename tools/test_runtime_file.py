@@ -76,6 +76,8 @@ class Parts(unittest.TestCase):
     def test_the_stack(self):
         found = runtime_file.functions(lines(1 << 20))
         self.assertEqual(runtime_file.deepest(found, "$outer"), 48)
+        with self.assertRaisesRegex(SystemExit, "its frame in another way: .outer"):
+            runtime_file.functions(lines(1 << 20, MODULE.replace("i64.const 32", "i64.const -32")))
         with self.assertRaisesRegex(SystemExit, "calls itself"):
             runtime_file.deepest(runtime_file.functions(lines(1 << 20, MODULE.replace("memory.copy", "call $outer"))), "$outer")
 
