@@ -4,7 +4,7 @@ import re
 import shutil
 import subprocess
 import sys
-from typing import Iterable, Sequence
+from typing import Iterable, Optional, Sequence
 
 from suygapid import TOP
 
@@ -41,10 +41,10 @@ class Failed(Exception):
         self.told = told
 
 
-def ran(words: Sequence[str], data: bytes = b"") -> tuple[bytes, bytes]:
-    """What a program prints, and what it says on standard error. Where it fails, that includes what it printed."""
+def ran(words: Sequence[str], data: bytes = b"", folder: Optional[str] = None) -> tuple[bytes, bytes]:
+    """What a program prints, run in a folder, and what it says on standard error. Where it fails, that includes what it printed."""
     try:
-        done = subprocess.run(words, input=data, stdout=subprocess.PIPE, stderr=subprocess.PIPE, check=False)
+        done = subprocess.run(words, input=data, stdout=subprocess.PIPE, stderr=subprocess.PIPE, check=False, cwd=folder)
     except OSError as error:
         raise Failed(2, f"{words[0]} can't be run: {error.strerror}") from error
     if done.returncode:
@@ -74,7 +74,7 @@ def name_of(words: Sequence[str]) -> str:
     """How a program is told: by its own name, and by the tool or the command that it was to run."""
     if words[0] == sys.executable:
         return os.path.basename(words[2])
-    name = os.path.basename(words[0])
+    name = os.path.basename(words[1] if words[0] == "sh" else words[0])
     return f"{name} {words[1]}" if words[1:2] in (["build"], ["check"]) else name
 
 

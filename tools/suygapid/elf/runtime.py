@@ -15,7 +15,9 @@ FUNCTIONS = [*(os.path.join(LIB, f"{name}.asm") for name in ("constructors", "ru
              os.path.join(LIB, "save_restore.s")]
 HEAP_CHECKS = os.path.join(LIB, "heap_checks.asm")  # the malloc of programs that stop at mistakes
 OF_MOVABLE = [os.path.join(LIB, "movable.s"), os.path.join(LIB, "settle.asm")]  # what a moved program runs before all else
-OVERRIDDEN = ("memcpy", "memmove", "memset", "memcmp", "strlen")  # a program may have its own
+# What a program or a library may have its own of: the last are those of C++, and `new` and `delete`.
+OVERRIDDEN = ("memcpy", "memmove", "memset", "memcmp", "strlen", "__cxa_pure_virtual", "_Znwj", "_Znaj", "_ZdlPv", "_ZdaPv", "_ZdlPvj",
+              "_ZdaPvj")
 MADE_OF = (*CONVERTER, "suygapid/services.py", "suygapid/runtime/*.asm", "suygapid/runtime/*.s", "suygapid/cc/compilers.py",
            "suygapid/elf/*.py", "suygapid/library/archives.py", "../examples/c/gates.h")
 

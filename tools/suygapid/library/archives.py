@@ -4,19 +4,21 @@ import glob
 import hashlib
 import os
 from concurrent.futures import ThreadPoolExecutor
-from typing import Iterable, Sequence
+from typing import Callable, Iterable, Sequence
 
 from suygapid.cc.compilers import ASSEMBLY, HOSTED, Failed
 from suygapid.elf.runtime import ingredients
 from suygapid.elf.tools import Target, archived, assembled, rewritten_into
 from suygapid.kept import kept
-from suygapid.library import newlib, small_library, softfloat
+from suygapid.library import newlib, plus_plus, small_library, softfloat
 from suygapid.library.sources import GCC_SOURCE
 
 ARCHIVE = "library.a"
 MANY = 40  # files of assembly: to convert more takes long
 SMALL = "small"  # what a program has that asks for a library and names none
-NAMED = {"newlib": newlib.folder_of, SMALL: small_library.folder_of}  # what makes the folder of a name, by a compiler
+# What makes the folders of a name, by a compiler, in the order in which headers are looked for.
+NAMED: dict[str, Sequence[Callable[[str], str]]] = {
+    "newlib": [newlib.folder_of], "c++": [plus_plus.folder_of, newlib.folder_of], SMALL: [small_library.folder_of]}
 
 
 def assembly_of(folder: str) -> list[str]:
@@ -62,7 +64,8 @@ def archive_of(folder: str, target: Target) -> str:
 
 def folders_of(libraries: Iterable[str], compiler: str) -> list[str]:
     """The folders of libraries that are named, or given as folders."""
-    return [NAMED[library](compiler) if library in NAMED else library for library in libraries]
+    found = [[folder_of(compiler) for folder_of in NAMED[library]] if library in NAMED else [library] for library in libraries]
+    return list(dict.fromkeys(folder for folders in found for folder in folders))
 
 
 def headers(libraries: Sequence[str]) -> list[str]:

@@ -2,11 +2,11 @@
 import glob
 import os
 import shutil
-from concurrent.futures import ThreadPoolExecutor
 
-from suygapid.cc.compilers import RESERVED_IN_WORDS, WITH_FRAMES, compiled, is_clang, version
+from suygapid.cc.compilers import RESERVED_IN_WORDS, WITH_FRAMES, is_clang, version
 from suygapid.kept import kept
 from suygapid.library import softfloat
+from suygapid.library.compiling import Job, compile_into
 from suygapid.library.sources import GCC_SOURCE, NEWLIB_SOURCE, identity, unpacked
 
 GLUE = os.path.join(os.path.dirname(os.path.abspath(__file__)), "newlib_glue")
@@ -66,21 +66,12 @@ def headers(tree, folder):
 def compile_all(compiler: str, folder: str) -> None:
     """Fills a folder with the library."""
     tree = os.path.join(unpacked(NEWLIB_SOURCE, *PARTS), "newlib")
-    include, room = os.path.join(folder, "include"), os.path.join(folder, "room")
-    os.makedirs(room)
+    include = os.path.join(folder, "include")
     headers(tree, include)
     own = [word for word in OPTIONS if not (is_clang(compiler) and word in OF_GCC)]
     options = [*own, "-isystem", include, *(word for part in SEARCHED for word in ("-I", f"{tree}/{part}"))]
-    glue: list[tuple[str, str, list[str]]] = [(os.path.join(GLUE, f"{name}.c"), f"sandbox-{name}", []) for name in ("system", "heap", "pow", "sqrt")]
-
-    def compile_one(job):
-        path, name, more = job
-        assembly, _ = compiled(compiler, [*options, *more], path, os.path.join(room, name))
-        os.rename(assembly, os.path.join(folder, f"{name}.asm"))
-
-    with ThreadPoolExecutor(os.cpu_count()) as pool:
-        list(pool.map(compile_one, [*jobs(tree), *glue]))
-    shutil.rmtree(room)
+    glue: list[Job] = [(os.path.join(GLUE, f"{name}.c"), f"sandbox-{name}", []) for name in ("system", "heap", "pow", "sqrt")]
+    compile_into(folder, compiler, options, [*jobs(tree), *glue])
     for name in WITHOUT_FUNCTIONS:
         os.remove(os.path.join(include, name))
     shutil.rmtree(os.path.join(include, "rpc"))

@@ -4,11 +4,11 @@ import glob
 import os
 import re
 import shutil
-from concurrent.futures import ThreadPoolExecutor
 from typing import Iterable, Optional
 
-from suygapid.cc.compilers import RESERVED_IN_WORDS, compiled, version
+from suygapid.cc.compilers import RESERVED_IN_WORDS, version
 from suygapid.kept import kept
+from suygapid.library.compiling import compile_into
 from suygapid.library.sources import GCC_SOURCE, identity, unpacked
 
 PARTS = ("libgcc/soft-fp", "libgcc/config/riscv", "libgcc/libgcc2.c", "libgcc/libgcc2.h", "include/longlong.h")
@@ -63,21 +63,13 @@ def jobs(tree, stubs):
 
 def compile_all(compiler, tree, folder):
     """Fills a folder with the assembly of each function."""
-    room = os.path.join(folder, "room")
-    stubs = os.path.join(room, "stubs")
+    stubs = os.path.join(folder, "stubs")
     os.makedirs(stubs)
     for name, text in {**dict.fromkeys(EMPTY_HEADERS, ""), "longlong.h": LONGLONG}.items():
         with open(os.path.join(stubs, name), "w", encoding="utf-8") as file:
             file.write(text)
-
-    def compile_one(job):
-        path, name, options = job
-        assembly, _ = compiled(compiler, options, path, os.path.join(room, name))
-        os.rename(assembly, os.path.join(folder, f"{name}.asm"))
-
-    with ThreadPoolExecutor(os.cpu_count()) as pool:
-        list(pool.map(compile_one, jobs(tree, stubs)))
-    shutil.rmtree(room)
+    compile_into(folder, compiler, [], jobs(tree, stubs))
+    shutil.rmtree(stubs)
 
 
 def folder_of(compiler: str) -> Optional[str]:
