@@ -28,14 +28,15 @@ INSTALLED = (("include", ["install"]), ("libsupc++", ["install-stdHEADERS", "ins
 SOURCES = {
     ("libsupc++", "gnu++17"): "array_type_info bad_alloc bad_array_length bad_array_new bad_cast bad_typeid class_type_info "
                               "del_op del_opa del_opant del_opnt del_ops del_opsa del_opv del_opva del_opvant del_opvnt del_opvs "
-                              "del_opvsa dyncast eh_exception enum_type_info function_type_info fundamental_type_info hash_bytes "
-                              "new_handler new_op new_opa new_opant new_opnt new_opv new_opva new_opvant new_opvnt "
+                              "del_opvsa dyncast eh_aux_runtime eh_exception eh_term_handler eh_terminate enum_type_info "
+                              "function_type_info fundamental_type_info hash_bytes new_handler new_op new_opa new_opv new_opva "
                               "pbase_type_info pmem_type_info pointer_type_info pure si_class_type_info tinfo tinfo2 "
                               "vmi_class_type_info",
-    ("src/c++98", "gnu++98"): "list stdexcept tree",
+    ("src/c++98", "gnu++98"): "allocator-inst list stdexcept tree",
     ("src/c++11", "gnu++11"): "cow-stdexcept cow-string-inst cxx11-stdexcept hash_c++0x hashtable_c++0x limits placeholders "
                               "shared_ptr snprintf_lite string-inst system_error wstring-inst",
 }
+OWN = ("nothrow", "thrown")
 OPTIONS = ["-w", "-frtti", "-fno-implicit-templates"]
 OF_NEW = ["-include", "bits/functexcept.h", "-D_GLIBCXX_THROW_OR_ABORT(thrown)=std::__throw_bad_alloc()"]  # of new_op.cc and new_opa.cc
 
@@ -65,7 +66,7 @@ def headers_of(compiler: str, tree: str) -> str:
 
 def jobs(tree: str) -> list[Job]:
     """The files to compile."""
-    found: list[Job] = [(os.path.join(GLUE, "thrown.cc"), "sandbox-thrown", [])]
+    found: list[Job] = [(os.path.join(GLUE, f"{name}.cc"), f"sandbox-{name}", []) for name in OWN]
     for (folder, standard), names in SOURCES.items():
         found += [(f"{tree}/libstdc++-v3/{folder}/{name}.cc", f"{os.path.basename(folder)}-{name}",
                    [f"-std={standard}", *(OF_NEW if name in ("new_op", "new_opa") else [])]) for name in names.split()]
@@ -83,9 +84,11 @@ def compile_all(compiler: str, folder: str) -> None:
 
 def folder_of(compiler: str) -> str:
     """The folder of the library by a compiler, which is kept."""
-    with open(os.path.join(GLUE, "thrown.cc"), encoding="utf-8") as file:
-        own = file.read()
-    words = [version(compiler), identity(GCC_SOURCE.path()), own, *PARTS, *CONFIGURED, str(INSTALLED), str(SOURCES), *OPTIONS,
+    own = []
+    for name in OWN:
+        with open(os.path.join(GLUE, f"{name}.cc"), encoding="utf-8") as file:
+            own.append(file.read())
+    words = [version(compiler), identity(GCC_SOURCE.path()), *own, *PARTS, *CONFIGURED, str(INSTALLED), str(SOURCES), *OPTIONS,
              str(RESERVED_IN_WORDS), os.path.basename(newlib.folder_of(compiler))]
     return kept("plus_plus", words, lambda folder: compile_all(compiler, folder),
                 "libstdc++ is compiled and converted, which takes some minutes; it is kept")
