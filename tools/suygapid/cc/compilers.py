@@ -17,6 +17,7 @@ COMMON = ["-march=rv32imc", "-mabi=ilp32", "-fno-builtin", "-ffunction-sections"
 OF_GCC = ["-Werror=trampolines", f"--param=case-values-threshold={CASES}"]
 PLUS_PLUS = ["-fno-exceptions", "-fno-rtti", "-fno-threadsafe-statics"]
 HOSTED = "-fhosted"  # what undoes -ffreestanding, which C++ isn't compiled with
+EXCEPTIONS = "-fexceptions"
 GCC_HEADERS = ["-idirafter", os.path.join(os.path.dirname(__file__), "plus_plus")]  # what C++ by gcc has where there is no C library
 WITH_FRAMES = "-fasynchronous-unwind-tables"  # of a library, so that a debugger finds the callers of its functions
 LAST = ["-fno-lto"]  # what outweighs the options that are given
@@ -90,8 +91,8 @@ def language(file):
 
 
 def for_language(file, given):
-    """The options that are given for all files, without what gcc takes for C alone."""
-    return [word for word in given if word != HOSTED] if file.endswith(PLUS_PLUS_SOURCES) else given
+    """The options that are given for all files, without what gcc takes for C alone, and what C++ hasn't here."""
+    return [word for word in given if word not in (HOSTED, EXCEPTIONS)] if file.endswith(PLUS_PLUS_SOURCES) else given
 
 
 def is_clang(compiler: str) -> bool:

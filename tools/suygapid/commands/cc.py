@@ -28,7 +28,7 @@ from suygapid.elf.tools import Target, assembled, rewritten
 from suygapid.elf.where import told
 from suygapid.image.layout import MOST_SANDBOXES, NAMED as FORMATS
 from suygapid.image.names import LONGEST, SERVICE, is_name, too_long_lists
-from suygapid.library import small_library
+from suygapid.library import plus_plus, small_library
 from suygapid.library.archives import NAMED, SMALL, folders_of, headers
 from suygapid.services import GATES
 
@@ -187,6 +187,7 @@ def compiled_by(options, words, file, place):
         assembly, said = compiled(options.cc, words, file, place, reserved(options.format))
         return Source(file, words, assembly), said
     except Failed as failed:
+        failed.told += plus_plus.advice(failed.told)
         if options.library:
             raise
         if not small_library.is_asked_for(failed.told):
@@ -198,7 +199,7 @@ def compiled_by(options, words, file, place):
         assembly, said = compiled(options.cc, hosted, file, os.path.join(place, SMALL), reserved(options.format))
         return Source(file, hosted, assembly), said
     except Failed as failed:
-        failed.told += small_library.advice(failed.told, small_library.speaks_of_others(failed.told))
+        failed.told += plus_plus.advice(failed.told) + small_library.advice(failed.told, small_library.speaks_of_others(failed.told))
         raise
 
 

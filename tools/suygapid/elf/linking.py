@@ -7,7 +7,7 @@ from suygapid.elf import runtime
 from suygapid.elf.elf import Elf, Wrong
 from suygapid.elf.tools import archived, assembled, binutil
 from suygapid.image.names import API, SERVICE, entries, marked, signatures
-from suygapid.library import small_library
+from suygapid.library import plus_plus, small_library
 from suygapid.library.archives import SMALL, Libraries, folders_of
 from suygapid.services import GATES
 
@@ -96,6 +96,7 @@ def linked(options, objects, folder):
         try:
             return linked_with(options, options.library, objects, folder)
         except Failed as failed:
+            failed.told += plus_plus.advice(failed.told)
             if options.library or not small_library.is_called(failed.told):
                 raise
     try:

@@ -2,6 +2,7 @@
 make its headers; some of its files are compiled, and what they throw ends the program by thrown.cc."""
 import glob
 import os
+import re
 import shutil
 import tempfile
 
@@ -35,10 +36,25 @@ SOURCES = {
     ("src/c++98", "gnu++98"): "allocator-inst list stdexcept tree",
     ("src/c++11", "gnu++11"): "cow-stdexcept cow-string-inst cxx11-stdexcept hash_c++0x hashtable_c++0x limits placeholders "
                               "shared_ptr snprintf_lite string-inst system_error wstring-inst",
+    ("src/c++17", "gnu++17"): "string-inst",
 }
 OWN = ("nothrow", "thrown")
 OPTIONS = ["-w", "-frtti", "-fno-implicit-templates"]
+NO_EXCEPTIONS = re.compile(rb"exception handling disabled|with exceptions disabled")  # what gcc and clang say of throw and try
+MISSING = re.compile(rb": fatal error: '?([a-z_]+)'?[: ]")  # a header without an ending that a compiler doesn't find
+STREAMS = re.compile(rb"undefined reference to `(std::(?:__cxx11::)?(?:locale|ios_base|c(?:in|out|err|log)|basic_[a-z]*(?:stream|buf|ios))\b)")
 OF_NEW = ["-include", "bits/functexcept.h", "-D_GLIBCXX_THROW_OR_ABORT(thrown)=std::__throw_bad_alloc()"]  # of new_op.cc and new_opa.cc
+
+
+def advice(told: bytes) -> bytes:
+    """A line for what a compiler or the linker complained of in C++: exceptions, a header of C++, or streams."""
+    missing, stream = MISSING.search(told), STREAMS.search(told)
+    if NO_EXCEPTIONS.search(told):
+        return (b"sfi-cc: a sandbox has no exceptions, with -fexceptions neither; many libraries have an option to do without, and what "
+                b"std's functions throw ends the program\n")
+    if missing:
+        return b"sfi-cc: " + missing[1] + b": the headers of C++ are those of --library c++\n"
+    return b"sfi-cc: " + stream[1] + b": --library c++ has no streams and locales\n" if stream else b""
 
 
 def configured(compiler: str, tree: str, folder: str) -> None:
@@ -68,7 +84,7 @@ def jobs(tree: str) -> list[Job]:
     """The files to compile."""
     found: list[Job] = [(os.path.join(GLUE, f"{name}.cc"), f"sandbox-{name}", []) for name in OWN]
     for (folder, standard), names in SOURCES.items():
-        found += [(f"{tree}/libstdc++-v3/{folder}/{name}.cc", f"{os.path.basename(folder)}-{name}",
+        found += [(f"{tree}/libstdc++-v3/{folder}/{name}.cc", f"{folder.replace('/', '-')}-{name}",
                    [f"-std={standard}", *(OF_NEW if name in ("new_op", "new_opa") else [])]) for name in names.split()]
     return found
 

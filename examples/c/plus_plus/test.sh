@@ -1,0 +1,57 @@
+#!/usr/bin/env bash
+# Compiles these programs of C++ with --library c++, in words, and compares what they do with what native g++ makes of them.
+#
+#     examples/c/plus_plus/test.sh [SFI]      # SFI is the program; ./sfi at the top if absent
+set -uo pipefail
+unset CDPATH
+here=$(cd "$(dirname "${BASH_SOURCE[0]}")" && pwd)
+sfi=$(realpath "${1:-$here/../../../sfi}")
+tools=$(realpath "$here/../../../tools")
+cd "$here" || exit 1
+source ../../harness.sh
+
+options="-std=c++17 -Wall -Wextra -Werror"
+
+# Exit code and output, which has standard error's at its place: so a native program, too, puts its output by lines.
+outcome() { # a command
+    local status
+    "$@" >"$room/output" 2>&1
+    status=$?
+    echo "exit=$status $(cat "$room/output")"
+}
+
+compile() { # the image; options and files
+    "$tools/sfi-cc" --program "$sfi" --library c++ -o "$1" $options "${@:2}" 2>"$room/messages"
+}
+
+try_program() { # program, level of optimization, its option; inputs
+    local input level=$2 image="$room/$1.hex"
+    g++ $options "$3" -O2 -o "$room/$1" "$1.cpp" 2>"$room/messages" && compile "$image" "$3" "$level" "$1.cpp" ||
+        { report "$1.cpp $level: compiled" programs "$(cat "$room/messages")"; return; }
+    for input in "${@:4}"; do
+        ../inputs.py "$input" >"$room/input"
+        report "$1.cpp $level, $input" "$(outcome stdbuf -oL "$room/$1" <"$room/input")" "$(outcome "$sfi" exec "$image" <"$room/input")"
+    done
+}
+
+try_refused() { # what sfi-cc says at last; the program
+    echo "$2" >"$room/refused.cpp"
+    report "$2" "$1" "$(compile "$room/refused.hex" "$room/refused.cpp"; grep -m 1 ^sfi-cc "$room/messages")"
+}
+
+why=
+has g++ || why="g++ isn't there"
+has riscv64-unknown-elf-gcc || why="riscv64-unknown-elf-gcc isn't there"
+sources=$(PYTHONPATH=$tools python3 -c 'from suygapid.library.sources import GCC_SOURCE, NEWLIB_SOURCE
+print(next((it.wanted() for it in (GCC_SOURCE, NEWLIB_SOURCE) if it.where() is None), ""))')
+why=${why:-$sources}
+if [ -n "$why" ]; then
+    skip 1 "C++ with its library" "$why"
+else
+    try_program containers -O2 -fno-rtti empty prose json-tree
+    try_program types -O0 -frtti empty
+    try_refused "sfi-cc: a sandbox has no exceptions, with -fexceptions neither; many libraries have an option to do without, and what std's functions throw ends the program" \
+        'int main() { throw 1; }'
+    try_refused "sfi-cc: std::cout: --library c++ has no streams and locales" $'#include <iostream>\nint main() { std::cout << 1; }'
+fi
+finish
