@@ -1,5 +1,5 @@
 #!/usr/bin/env python3
-"""Programs that people have, of their sources as they are: natively, and by sfi-cc with newlib in each format.
+"""Programs that people have, of their sources as they are: natively, and by sfi-cc with newlib or C++'s library in each format.
 
     examples/c/programs.py [OPTIONS] [NAME ..]
 
@@ -50,6 +50,10 @@ class Program:
     left_out: str = "-"
     heap: int = 400000
     stack: int = 65536
+    library: str = "newlib"
+
+    def is_plus_plus(self):
+        return self.library == "c++"
 
 
 PROGRAMS = {
@@ -64,6 +68,9 @@ PROGRAMS = {
     "decnumber": Program(GCC_SOURCE.name, "libdecnumber/decContext.c libdecnumber/decNumber.c", "-DDECNUMDIGITS=50"),
     "demangle": Program(GCC_SOURCE.name, "libiberty/cp-demangle.c libiberty/cplus-dem.c libiberty/[dr]*-demangle.c "
                         "libiberty/safe-ctype.c", "-DHAVE_CONFIG_H -DHAVE_LIMITS_H -DHAVE_STDLIB_H -DHAVE_STRING_H", "mangled"),
+    "tinyxml2": Program("tinyxml2", "tinyxml2.cpp", inputs="list.xml", library="c++"),
+    "pugixml": Program("pugixml", "src/pugixml.cpp", "-DPUGIXML_NO_EXCEPTIONS", "list.xml", library="c++"),
+    "json": Program("nlohmann-json3", "", "-std=c++17", "json-tree", library="c++"),
 }
 
 
@@ -102,7 +109,7 @@ def files_of(name, tree):
     """The files of a program, ours last."""
     program = PROGRAMS[name]
     found = [path for pattern in program.files.split() for path in sorted(glob.glob(os.path.join(tree, pattern)))]
-    own = os.path.join(OWN, f"{name}.c")
+    own = os.path.join(OWN, f"{name}.cpp" if program.is_plus_plus() else f"{name}.c")
     return [path for path in found if not path.endswith(program.left_out)] + [own] * os.path.exists(own)
 
 
@@ -128,7 +135,8 @@ def given_to(name, tree):
 def natively(name, tree, folder):
     """What the program does with each input, as gcc makes it here."""
     native = os.path.join(folder, f"{name}.native")
-    subprocess.run(["gcc", *options_of(name, tree, folder), "-o", native, *files_of(name, tree), "-lm"], check=True)
+    compiler = "g++" if PROGRAMS[name].is_plus_plus() else "gcc"
+    subprocess.run([compiler, *options_of(name, tree, folder), "-o", native, *files_of(name, tree), "-lm"], check=True)
     runs = [(it, subprocess.run([native], input=given_to(it, tree), stdout=subprocess.PIPE, check=False))
             for it in PROGRAMS[name].inputs.split()]
     return {it: Found(done.returncode, done.stdout) for it, done in runs}
@@ -137,7 +145,7 @@ def natively(name, tree, folder):
 def built(name, tree, folder, image_format, options):
     """The linked program and its image, or what sfi-cc says."""
     program, path = PROGRAMS[name], os.path.join(folder, f"{name}.elf")
-    words = [SFI_CC, "--format", image_format, "--library", "newlib", "--heap", str(program.heap), "--stack", str(program.stack),
+    words = [SFI_CC, "--format", image_format, "--library", program.library, "--heap", str(program.heap), "--stack", str(program.stack),
              *options_of(name, tree, folder), *options.given]
     done = subprocess.run([*words, "-o", path, *files_of(name, tree)], stderr=subprocess.PIPE, check=False)
     if done.returncode:
