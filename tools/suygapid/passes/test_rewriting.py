@@ -32,6 +32,16 @@ class Refusals(Folder):
                                                 "assembly that names it wants --format 2")
 
 
+class WeakNames(Folder):
+    def test_the_call_of_an_alias_is_a_jump(self):
+        """A constructor in C++ has two names. An address is wanted where nothing may define the name."""
+        text = "\t.text\n\t.weak f\nf:\tret\n\t.weak g\n\t.set g,f\n\t.weak h\nmain:\tcall g\n\tcall h\n"
+        for image_format in (1, 2, WORDS):
+            made = rewritten("a.s", text, PASSES, image_format)
+            self.assertIn("jal ra, g", made)
+            self.assertNotIn("jal ra, h", made)
+
+
 @needs(f"{BINUTILS}as")
 class Attributes(Folder):
     def test_the_objects_code_has_16_bit_forms(self):

@@ -192,6 +192,7 @@ class Unit:
         if word in (".set", ".equ"):
             self.data_names.update(WORD.findall(operands[1]))
             self.globals.add(operands[0])
+            self.defined.add(operands[0])
 
     def mark(self, name, place):
         if name.startswith("_Z"):
