@@ -3,7 +3,7 @@ instructions do."""
 import unittest
 
 from suygapid.passes.assembly import Refused
-from suygapid.passes.rewriting import rewritten
+from suygapid.passes.rewriting import Rewriting, rewritten
 from suygapid.passes.typed import WORDS
 
 FUNCTION = """\t.text
@@ -92,6 +92,14 @@ class Entries(unittest.TestCase):
         self.assertEqual(self.found("0x7f,4"), [".byte 0x80, 0x80, 0"])
         self.assertEqual(self.found("0x5a"), [".byte 1", ".byte 0x5a"])
         self.assertEqual(self.found("0x5f", ()), [".byte 1", ".byte 0x5f"])
+
+
+class Frames(unittest.TestCase):
+    def test_one_ends_with_its_function(self):
+        """Before the next one begins nothing may be told of a frame, also where a pass puts a copy of the stack pointer there."""
+        made = Rewriting("a.s", "\t.text\nf:\n\t.cfi_startproc\n\tret\n\t.cfi_endproc\n", (), 2)
+        self.assertIn(".cfi_endproc", made.text())
+        self.assertFalse(made.writer.frame.is_on_stack)
 
 
 if __name__ == "__main__":

@@ -60,7 +60,8 @@ class Writer:
                 for text in order.beside.get(numbers[number], ()):
                     self.beside(text, begun)
         self.end_word()
-        self.out += [text for _, text in reversed(waiting)]
+        for _, text in reversed(waiting):
+            self.soft(text)
 
     def soft(self, text):
         self.out.append(text)
