@@ -6,7 +6,7 @@ import re
 import shutil
 import tempfile
 
-from suygapid.cc.compilers import RESERVED_IN_WORDS, TARGET, is_clang, ran, version
+from suygapid.cc.compilers import GCC, RESERVED_IN_WORDS, ran, version
 from suygapid.elf.tools import binutil
 from suygapid.kept import kept
 from suygapid.library import newlib
@@ -38,7 +38,7 @@ SOURCES = {
                               "shared_ptr snprintf_lite string-inst system_error wstring-inst",
     ("src/c++17", "gnu++17"): "string-inst",
 }
-OWN = ("nothrow", "thrown")
+OWN, OWN_STANDARD = ("nothrow", "thrown"), "gnu++17"  # the files beside this one
 OPTIONS = ["-w", "-frtti", "-fno-implicit-templates"]
 NO_EXCEPTIONS = re.compile(rb"exception handling disabled|with exceptions disabled")  # what gcc and clang say of throw and try
 MISSING = re.compile(rb": fatal error: '?([a-z_]+)'?[: ]")  # a header without an ending that a compiler doesn't find
@@ -57,10 +57,9 @@ def advice(told: bytes) -> bytes:
     return b"sfi-cc: " + stream[1] + b": --library c++ has no streams and locales\n" if stream else b""
 
 
-def configured(compiler: str, tree: str, folder: str) -> None:
-    """Fills a folder with libstdc++'s headers, as a build over newlib installs them."""
-    own = TARGET if is_clang(compiler) else []
-    words = " ".join([compiler, *own, "-march=rv32imc", "-mabi=ilp32", "-isystem", os.path.join(newlib.folder_of(compiler), "include")])
+def configured(tree: str, folder: str) -> None:
+    """Fills a folder with libstdc++'s headers, as a build by gcc over newlib installs them."""
+    words = f"{GCC} -march=rv32imc -mabi=ilp32 -isystem {newlib.folder_of(GCC)}/include"
     tools = [f"{name.upper()}={binutil(name)}" for name in ("ar", "as", "ld", "nm", "ranlib", "strip")]
     with tempfile.TemporaryDirectory() as room:
         build = ran(["sh", os.path.join(tree, "config.guess")])[0].decode().strip()
@@ -74,15 +73,15 @@ def configured(compiler: str, tree: str, folder: str) -> None:
     shutil.rmtree(os.path.join(folder, MACHINE))
 
 
-def headers_of(compiler: str, tree: str) -> str:
-    """The folder of the headers by a compiler, which is kept."""
-    words = [version(compiler), tree, *CONFIGURED, str(INSTALLED), os.path.basename(newlib.folder_of(compiler))]
-    return kept("plus_plus_headers", words, lambda folder: configured(compiler, tree, folder))
+def headers_of(tree: str) -> str:
+    """The folder of the headers, which is kept. clang uses those of gcc, which says by itself that there is one thread."""
+    words = [version(GCC), tree, *CONFIGURED, str(INSTALLED), os.path.basename(newlib.folder_of(GCC))]
+    return kept("plus_plus_headers", words, lambda folder: configured(tree, folder))
 
 
 def jobs(tree: str) -> list[Job]:
     """The files to compile."""
-    found: list[Job] = [(os.path.join(GLUE, f"{name}.cc"), f"sandbox-{name}", []) for name in OWN]
+    found: list[Job] = [(os.path.join(GLUE, f"{name}.cc"), f"sandbox-{name}", [f"-std={OWN_STANDARD}"]) for name in OWN]
     for (folder, standard), names in SOURCES.items():
         found += [(f"{tree}/libstdc++-v3/{folder}/{name}.cc", f"{folder.replace('/', '-')}-{name}",
                    [f"-std={standard}", *(OF_NEW if name in ("new_op", "new_opa") else [])]) for name in names.split()]
@@ -92,7 +91,7 @@ def jobs(tree: str) -> list[Job]:
 def compile_all(compiler: str, folder: str) -> None:
     """Fills a folder with the library."""
     tree, include = unpacked(GCC_SOURCE, *PARTS), os.path.join(folder, "include")
-    shutil.copytree(headers_of(compiler, tree), include)
+    shutil.copytree(headers_of(tree), include)
     found = ["-isystem", include, "-isystem", os.path.join(newlib.folder_of(compiler), "include"), "-I", f"{tree}/libstdc++-v3/libsupc++",
              "-I", f"{tree}/libgcc"]
     compile_into(folder, compiler, [*OPTIONS, *found], jobs(tree))
@@ -104,7 +103,7 @@ def folder_of(compiler: str) -> str:
     for name in OWN:
         with open(os.path.join(GLUE, f"{name}.cc"), encoding="utf-8") as file:
             own.append(file.read())
-    words = [version(compiler), identity(GCC_SOURCE.path()), *own, *PARTS, *CONFIGURED, str(INSTALLED), str(SOURCES), *OPTIONS,
+    words = [version(compiler), identity(GCC_SOURCE.path()), *own, *PARTS, *CONFIGURED, str(INSTALLED), str(SOURCES), OWN_STANDARD, *OPTIONS, *OF_NEW,
              str(RESERVED_IN_WORDS), os.path.basename(newlib.folder_of(compiler))]
     return kept("plus_plus", words, lambda folder: compile_all(compiler, folder),
                 "libstdc++ is compiled and converted, which takes some minutes; it is kept")
