@@ -11,6 +11,8 @@ cd "$here" || exit 1
 source ../../harness.sh
 
 options="-std=c++17 -Wall -Wextra -Werror"
+no_exceptions="sfi-cc: a sandbox has no exceptions, with -fexceptions neither; many libraries have an option to do without, \
+and what std's functions throw ends the program"
 
 # Exit code and output, which has standard error's at its place: so a native program, too, puts its output by lines.
 outcome() { # a command
@@ -50,8 +52,7 @@ if [ -n "$why" ]; then
 else
     try_program containers -O2 -fno-rtti empty prose json-tree
     try_program types -O0 -frtti empty
-    try_refused "sfi-cc: a sandbox has no exceptions, with -fexceptions neither; many libraries have an option to do without, and what std's functions throw ends the program" \
-        'int main() { throw 1; }'
+    try_refused "$no_exceptions" 'int main() { throw 1; }'
     try_refused "sfi-cc: std::cout: --library c++ has no streams and locales" $'#include <iostream>\nint main() { std::cout << 1; }'
 fi
 finish

@@ -42,7 +42,8 @@ OWN, OWN_STANDARD = ("nothrow", "thrown"), "gnu++17"  # the files beside this on
 OPTIONS = ["-w", "-frtti", "-fno-implicit-templates"]
 NO_EXCEPTIONS = re.compile(rb"exception handling disabled|with exceptions disabled")  # what gcc and clang say of throw and try
 MISSING = re.compile(rb": fatal error: '?([a-z_]+)'?[: ]")  # a header without an ending that a compiler doesn't find
-STREAMS = re.compile(rb"undefined reference to `(std::(?:__cxx11::)?(?:locale|ios_base|c(?:in|out|err|log)|basic_[a-z]*(?:stream|buf|ios))\b)")
+STREAMS = re.compile(rb"undefined reference to `(std::(?:__cxx11::)?"
+                     rb"(?:locale|ios_base|c(?:in|out|err|log)|basic_[a-z]*(?:stream|buf|ios))\b)")
 OF_NEW = ["-include", "bits/functexcept.h", "-D_GLIBCXX_THROW_OR_ABORT(thrown)=std::__throw_bad_alloc()"]  # of new_op.cc and new_opa.cc
 
 
@@ -103,7 +104,7 @@ def folder_of(compiler: str) -> str:
     for name in OWN:
         with open(os.path.join(GLUE, f"{name}.cc"), encoding="utf-8") as file:
             own.append(file.read())
-    words = [version(compiler), identity(GCC_SOURCE.path()), *own, *PARTS, *CONFIGURED, str(INSTALLED), str(SOURCES), OWN_STANDARD, *OPTIONS, *OF_NEW,
-             str(RESERVED_IN_WORDS), os.path.basename(newlib.folder_of(compiler))]
+    words = [version(compiler), identity(GCC_SOURCE.path()), *own, *PARTS, *CONFIGURED, str(INSTALLED), str(SOURCES), OWN_STANDARD,
+             *OPTIONS, *OF_NEW, str(RESERVED_IN_WORDS), os.path.basename(newlib.folder_of(compiler))]
     return kept("plus_plus", words, lambda folder: compile_all(compiler, folder),
                 "libstdc++ is compiled and converted, which takes some minutes; it is kept")
