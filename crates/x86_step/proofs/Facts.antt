@@ -1,6 +1,16 @@
--- What holds of every step: a law, for proofs in the crates above.
-use Rattle.x86_step.specs.Laws.{FixedStays}
+-- What holds of every step: laws, for proofs in the crates above.
+use Rattle.x86_step.specs.Laws.{FixedStays, SpelledRun, SpelledSteps, StepsJoin}
 use Rattle.x86_step.proofs.Fixed as fixed
+use Rattle.x86_step.proofs.Running as running
 
 pub fixed_stays : FixedStays
 fixed_stays = fixed.fixed_stays
+
+pub steps_join : StepsJoin
+steps_join = running.reaches_join
+
+pub spelled_steps : SpelledSteps
+spelled_steps = running.spelled_steps
+
+pub spelled_run : SpelledRun
+spelled_run = running.spelled_run

@@ -1,4 +1,5 @@
 pub mod Bytes
 pub mod Shifts
 pub mod Fixed
+pub mod Running
 pub mod Facts

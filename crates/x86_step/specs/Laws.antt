@@ -1,7 +1,28 @@
 -- What holds of every step.
-use Rattle.x86_step.specs.State.{IsFixed, Machine, Text}
-use Rattle.x86_step.specs.Step.{Reaches}
+use Rattle.std.specs.Prelude.{◌≡◌, ℕ, ◌+◌, true, List, length, Ok}
+use Rattle.x86_instr.specs.declared.instr.Instr.{Instr}
+use Rattle.x86_instr.specs.Spelling.{spelling}
+use Rattle.x86_step.specs.State.{Core, IsFixed, Machine, Text}
+use Rattle.x86_step.specs.Step.{Reaches, effect, step}
+use Rattle.x86_step.specs.Running.{HasAt, are_straight, exec, spellings}
 
 -- code that is fixed stays so
 abbrev pub FixedStays : Type 0
 FixedStays = (t : Text) (m k : Machine) → Reaches t m k → IsFixed t k.core
+
+-- some steps, and some from there
+abbrev pub StepsJoin : Type 0
+StepsJoin = (t : Text) (m n k : Machine) → Reaches t m n → Reaches t n k → Reaches t m k
+
+-- at the bytes that spell an instruction, the step does what it does
+abbrev pub SpelledSteps : Type 0
+SpelledSteps =
+    (t : Text) (at : ℕ) (i : Instr) (c : Core) → HasAt t at (spelling i)
+    → step t (record { rip = at; core = c }) ≡ effect i (at + length (spelling i)) c
+
+-- the bytes that spell straight instructions run as these do, up to their end
+abbrev pub SpelledRun : Type 0
+SpelledRun =
+    (t : Text) (at : ℕ) (is : List Instr) (c d : Core) → IsFixed t c → are_straight is ≡ true
+    → HasAt t at (spellings is) → exec is c ≡ Ok d
+    → Reaches t (record { rip = at; core = c }) (record { rip = at + length (spellings is); core = d })

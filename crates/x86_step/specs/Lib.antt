@@ -2,3 +2,4 @@ pub mod State
 pub mod Step
 pub mod Held
 pub mod Laws
+pub mod Running
