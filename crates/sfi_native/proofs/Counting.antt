@@ -1,0 +1,45 @@
+-- A step less is left.
+use Rattle.std.proofs.Common.{◌≡◌, ℕ, ◌+◌, ◌-◌, ◌^◌, refl, ◌∙◌, arith}
+use Rattle.std.specs.Prelude.{Ok}
+use Rattle.sfi_image.specs.Spelling.{Part}
+use Rattle.sfi_translate.specs.Machine.{Going, one_less}
+use Rattle.x86_instr.specs.declared.instr.Width.TheVariants.{Dword}
+use Rattle.x86_step.specs.declared.machine.Flags.{Flags}
+use Rattle.x86_step.specs.State.{Core, with_flags, with_register}
+use Rattle.x86_step.specs.Step.{difference, low}
+unfoldable use Rattle.x86_step.specs.Step.{computes}
+use Rattle.x86_step.specs.Running.{exec}
+use Rattle.sfi_native.specs.declared.layout.Layout.{Layout}
+use Rattle.sfi_native.specs.Layout.{IsRelated}
+use Rattle.sfi_native.specs.Code.{count}
+use Rattle.sfi_native.proofs.Computing.{updated_other}
+
+abbrev pub counted : Going → Going
+counted g = record { place = g.place; state = g.state; left = one_less g.left }
+
+abbrev counted_core : Core → ℕ → Flags → Core
+counted_core c n f = with_flags (with_register c 14 n) f
+
+module _ (p : Part) (l : Layout) (g : Going) (c : Core) (is : IsRelated p l g c) where
+  less_is : low Dword (low Dword (c.registers 14) + (2 ^ 32 - 1)) ≡ one_less g.left
+  less_is = omega (arith, is.left, is.few)
+
+  counted_related : (n : ℕ) (f : Flags) → n ≡ one_less g.left → IsRelated p l (counted g) (counted_core c n f)
+  counted_related n f less = record {
+    count = is.count;
+    words = is.words;
+    registers = is.registers;
+    frame = updated_other c.registers 14 n 4 (λ e. omega (arith, e)) ∙ is.frame;
+    frame_is_written = is.frame_is_written;
+    few = omega arith;
+    left = less;
+    bytes = is.bytes;
+    bytes_are_written = is.bytes_are_written;
+    origin_is = updated_other c.registers 14 n 15 (λ e. omega (arith, e)) ∙ is.origin_is;
+  }
+
+  pub counts : (d : Core) × (exec count c ≡ Ok d) × IsRelated p l (counted g) d
+  unfolding computes
+  counts =
+      let r = difference Dword (low Dword (c.registers 14)) 1 in
+      (counted_core c r.result r.flags, refl, counted_related r.result r.flags less_is)

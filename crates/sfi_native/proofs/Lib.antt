@@ -1,0 +1,9 @@
+pub mod Memory
+pub mod Fixed
+pub mod Arithmetic
+pub mod Computing
+pub mod Fetching
+pub mod Counting
+pub mod Lines
+pub mod Lists
+pub mod Facts

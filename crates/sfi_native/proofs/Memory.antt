@@ -1,0 +1,66 @@
+-- Numbers of bytes, written and read.
+use Rattle.std.proofs.Common.{◌≡◌, ℕ, zero, suc, ◌+◌, ◌-◌, ◌*◌, ◌/◌, ◌%◌, ◌^◌, ◌<◌, ◌≤◌, ◌⊎◌, inl, inr, Bool, true, false, Option, Some, refl, ap, ◌∙◌, subst, arith, nat_lt}
+use Rattle.std.specs.Prelude.{Ok, nat_le}
+use Rattle.std.proofs.lemmas.Bool.{cases_Bool, le-leb, lt-ltb, le-ltb, leb-true}
+use Rattle.x86_step.specs.State.{Core, joined, may_write, number_at, with_memory, written}
+use Rattle.x86_step.specs.Step.{loaded, stored}
+
+module _ (m : ℕ → Option ℕ) (n at v : ℕ) where
+  -- a byte that was written
+  pub written_here : (k : ℕ) → k < n → written m n at v (at + k) ≡ Some (v / 256 ^ k % 256)
+  written_here k small =
+      let low : nat_le at (at + k) ≡ true = le-leb at (at + k) (omega arith) in
+      let high : nat_lt (at + k) (at + n) ≡ true = lt-ltb (at + k) (at + n) (omega (arith, small)) in
+      let place : at + k - at ≡ k = omega arith in
+      rw (low, high, place) refl
+
+  -- and one that wasn't
+  pub written_elsewhere : (q : ℕ) → (q < at) ⊎ (at + n ≤ q) → written m n at v q ≡ m q
+  written_elsewhere q (inl below) = elim (cases_Bool (nat_le at q)) [
+    | inl e ↦ absurd (omega (arith, below, leb-true at q e))
+    | inr e ↦ rw e refl
+  ]
+  written_elsewhere q (inr above) =
+      let high : nat_lt q (at + n) ≡ false = le-ltb q (at + n) above in
+      elim (cases_Bool (nat_le at q)) [
+        | inl e ↦ rw (e, high) refl
+        | inr e ↦ rw e refl
+      ]
+
+  pub number_elsewhere : (j b : ℕ) → (b + j ≤ at) ⊎ (at + n ≤ b) → number_at (written m n at v) j b ≡ number_at m j b
+  number_elsewhere zero b apart = refl
+  number_elsewhere (suc j) b apart =
+      let here : written m n at v b ≡ m b = written_elsewhere b (elim apart [ inl h ↦ inl (omega (arith, h)) | inr h ↦ inr h ]) in
+      let rest = number_elsewhere j (b + 1) (elim apart [ inl h ↦ inl (omega (arith, h)) | inr h ↦ inr (omega (arith, h)) ]) in
+      rw (here, rest) refl
+
+-- four bytes that were written make the number
+pub number_written : (m : ℕ → Option ℕ) (at v : ℕ) → v < 2 ^ 32 → number_at (written m 4 at v) 4 at ≡ Some v
+number_written m at v fits =
+    let z : at ≡ at + 0 = omega arith in
+    let one : at + 1 + 1 ≡ at + 2 = omega arith in
+    let two : at + 1 + 1 + 1 ≡ at + 3 = omega arith in
+    let b0 : written m 4 at v at ≡ Some (v % 256) = ap (written m 4 at v) z ∙ written_here m 4 at v 0 (omega arith) ∙ ap Some (omega arith) in
+    let b1 : written m 4 at v (at + 1) ≡ Some (v / 256 % 256) = written_here m 4 at v 1 (omega arith) ∙ ap Some (omega arith) in
+    let b2 : written m 4 at v (at + 1 + 1) ≡ Some (v / 65536 % 256) = ap (written m 4 at v) one ∙ written_here m 4 at v 2 (omega arith) ∙ ap Some (omega arith) in
+    let b3 : written m 4 at v (at + 1 + 1 + 1) ≡ Some (v / 16777216 % 256) = ap (written m 4 at v) two ∙ written_here m 4 at v 3 (omega arith) ∙ ap Some (omega arith) in
+    let sum : v % 256 + 256 * (v / 256 % 256 + 256 * (v / 65536 % 256 + 256 * (v / 16777216 % 256 + 256 * 0))) ≡ v = omega (arith, fits) in
+    let all : joined (written m 4 at v at) (joined (written m 4 at v (at + 1)) (joined (written m 4 at v (at + 1 + 1)) (joined (written m 4 at v (at + 1 + 1 + 1)) (Some 0))))
+    ≡ joined (Some (v % 256)) (joined (Some (v / 256 % 256)) (joined (Some (v / 65536 % 256)) (joined (Some (v / 16777216 % 256)) (Some 0)))) = rw (b0, b1, b2, b3) refl in
+    all ∙ ap Some sum
+
+pub load_there : (c : Core) (n at v : ℕ) → at + n ≤ 2 ^ 64 → number_at c.memory n at ≡ Some v → loaded c n at ≡ Ok v
+load_there c n at v fits is = rw (le-leb (at + n) (2 ^ 64) fits, is) refl
+
+pub store_there : (c : Core) (n at old v : ℕ) → at + n ≤ 2 ^ 64 → number_at c.memory n at ≡ Some old → may_write c.writable n at ≡ true
+    → stored c n at v ≡ Ok (with_memory c (written c.memory n at v))
+store_there c n at old v fits is can = rw (load_there c n at old fits is, can) refl
+
+-- bytes of which each may be written
+pub may_write_each : (w : ℕ → Bool) (n at : ℕ) → ((k : ℕ) → k < n → w (at + k) ≡ true) → may_write w n at ≡ true
+may_write_each w zero at each = refl
+may_write_each w (suc n) at each =
+    let z : at + 0 ≡ at = omega arith in
+    let here : w at ≡ true = subst (λ a. w a ≡ true) z (each 0 (omega arith)) in
+    let rest = may_write_each w n (at + 1) (λ k small. let next : at + suc k ≡ at + 1 + k = omega arith in subst (λ a. w a ≡ true) next (each (suc k) (omega (arith, small)))) in
+    rw (here, rest) refl

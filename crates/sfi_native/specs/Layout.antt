@@ -1,0 +1,40 @@
+-- Where a sandbox's state lies in a processor, and when both have the same state.
+use Rattle.std.specs.Prelude.{◌≡◌, ℕ, ◌+◌, ◌-◌, ◌*◌, ◌%◌, ◌^◌, ◌<◌, ◌≤◌, ◌⊎◌, true, length, Some}
+use Rattle.rv_mem.specs.Bytes.{byte_at}
+use Rattle.rv_step.specs.State.{register}
+use Rattle.sfi_image.specs.Spelling.{Part}
+use Rattle.sfi_translate.specs.Machine.{Going, fixed}
+use Rattle.x86_step.specs.State.{Core, number_at}
+use Rattle.sfi_native.specs.declared.layout.Layout.{Layout}
+
+-- the frame has four bytes for each of the 32 registers
+abbrev pub frame_size : ℕ
+frame_size = 128
+
+-- Frame and data lie apart, and end at the last address of 64 bits at the latest.
+pub record IsLayout (data_size : ℕ) (l : Layout) : Type 0 where
+  pub frame_ends : l.frame + frame_size ≤ 2 ^ 64
+  pub data_ends : l.data_start + data_size ≤ 2 ^ 64
+  pub apart : (l.frame + frame_size ≤ l.data_start) ⊎ (l.data_start + data_size ≤ l.frame)
+
+-- the host's address of the sandbox's address 0, of which r15 holds 64 bits
+abbrev pub origin : ℕ → Layout → ℕ
+origin data_base l = (l.data_start + (2 ^ 64 - data_base)) % 2 ^ 64
+
+-- the value of register r, as lines take it
+abbrev pub value : Part → Going → ℕ → ℕ
+value p g r = register (fixed p g.state.hart) r
+
+-- The processor has the turn's state: rsp (4) leads to the frame, r14 (14) has the steps left, r15 (15) the origin of
+-- the data. Where the turn is, rip says, which isn't part of it.
+pub record IsRelated (p : Part) (l : Layout) (g : Going) (c : Core) : Type 0 where
+  pub count : length g.state.hart.registers ≡ 32
+  pub words : (r : ℕ) → value p g r < 2 ^ 32
+  pub registers : (r : ℕ) → r < 32 → number_at c.memory 4 (l.frame + 4 * r) ≡ Some (value p g r)
+  pub frame : c.registers 4 ≡ l.frame
+  pub frame_is_written : (k : ℕ) → k < frame_size → c.writable (l.frame + k) ≡ true
+  pub few : g.left < 2 ^ 32
+  pub left : c.registers 14 ≡ g.left
+  pub bytes : (k : ℕ) → k < p.data_size → c.memory (l.data_start + k) ≡ byte_at g.state.memory (p.data_base + k)
+  pub bytes_are_written : (k : ℕ) → k < p.data_size → c.writable (l.data_start + k) ≡ true
+  pub origin_is : c.registers 15 ≡ origin p.data_base l

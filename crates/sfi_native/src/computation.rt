@@ -1,0 +1,125 @@
+//! The bytes of a line that computes.
+ghost use Rattle.std.specs.Prelude.{◌≡◌, ◌++◌, ◌*◌, ◌%◌, ◌^◌, ◌+◌, IfOk, OnOk, true, if◌then◌else◌};
+ghost use Rattle.sfi_native.specs.Code.{computation, computing_line, count, does_compute, has_op, imm_code, number_code, op_code};
+ghost use Rattle.x86_step.specs.Running.{spellings};
+
+use crate::operation::{put, put_compute, put_compute_imm, put_fetch, put_write};
+use rv_word::{ImmOp, Instr, Reg, RegOp};
+use std::alloc::AllocError;
+use x86_instr::{AluOp, Instr as Native, Operand, Register, Width};
+
+/// Writes a number into a register.
+#[tactic(auto, using(crate::proofs::Lists::two_parts))]
+fn put_number(out: &mut Vec<u8>, rd: Reg, number: u32) -> Result<(), AllocError>
+    ensures { OnOk result (out.new.items ≡ out.old.items ++ spellings (number_code rd number)) }
+{
+    put(
+        out,
+        Native::MovImm {
+            dst: Register::Rax,
+            imm: number,
+        },
+    )?;
+    put_write(out, rd)
+}
+
+#[tactic(auto, using(crate::proofs::Lists::op_parts))]
+fn put_op(out: &mut Vec<u8>, op: RegOp, rd: Reg, rs1: Reg, rs2: Reg) -> Result<(), AllocError>
+    requires { has_op op ≡ true }
+    ensures { OnOk result (out.new.items ≡ out.old.items ++ spellings (op_code op rd rs1 rs2)) }
+{
+    put_fetch(out, Register::Rax, rs1)?;
+    put_fetch(out, Register::Rcx, rs2)?;
+    put_compute(out, op)?;
+    put_write(out, rd)
+}
+
+#[tactic(auto, using(crate::proofs::Lists::imm_parts))]
+fn put_op_imm(out: &mut Vec<u8>, op: ImmOp, rd: Reg, rs1: Reg, imm: u32) -> Result<(), AllocError>
+    ensures { OnOk result (out.new.items ≡ out.old.items ++ spellings (imm_code op rd rs1 imm)) }
+{
+    put_fetch(out, Register::Rax, rs1)?;
+    put_compute_imm(out, op, imm)?;
+    put_write(out, rd)
+}
+
+/// Writes what an instruction at that address computes.
+#[tactic(auto, unfolding(crate::specs::Code::computation))]
+fn put_computation(out: &mut Vec<u8>, at: u32, instr: &Instr) -> Result<(), AllocError>
+    requires { does_compute instr.now ≡ true }
+    ensures { OnOk result (out.new.items ≡ out.old.items ++ spellings (computation at instr.now)) }
+{
+    match *instr {
+        Instr::Op { op, rd, rs1, rs2 } => put_op(out, op, rd, rs1, rs2),
+        Instr::OpImm { op, rd, rs1, imm } => put_op_imm(out, op, rd, rs1, imm.cast_unsigned()),
+        Instr::Lui { rd, imm } => put_number(out, rd, imm.wrapping_mul(4096)),
+        Instr::Auipc { rd, imm } => put_number(out, rd, at.wrapping_add(imm.wrapping_mul(4096))),
+        _ => Ok(()),
+    }
+}
+
+/// Writes that a step less is left.
+pub(crate) fn put_count(out: &mut Vec<u8>) -> Result<(), AllocError>
+    ensures { OnOk result (out.new.items ≡ out.old.items ++ spellings count) }
+{
+    put(
+        out,
+        Native::AluImm {
+            op: AluOp::Sub,
+            width: Width::Dword,
+            dst: Operand::Reg(Register::R14),
+            imm: 1,
+        },
+    )
+}
+
+/// An operation that the code has.
+fn has_operation(op: RegOp) -> bool
+    ensures { result ≡ has_op op }
+{
+    !matches!(
+        op,
+        RegOp::Mulh | RegOp::Mulhsu | RegOp::Div | RegOp::Divu | RegOp::Rem | RegOp::Remu
+    )
+}
+
+/// Whether the line of an instruction is one that computes.
+fn computes(instr: &Instr) -> bool
+    ensures { result ≡ does_compute instr.now }
+{
+    match *instr {
+        Instr::Op {
+            op,
+            rd: _,
+            rs1: _,
+            rs2: _,
+        } => has_operation(op),
+        Instr::OpImm {
+            op: _,
+            rd: _,
+            rs1: _,
+            imm: _,
+        } => true,
+        Instr::Lui { rd: _, imm: _ } | Instr::Auipc { rd: _, imm: _ } => true,
+        Instr::Fence {
+            imm: _,
+            rd: _,
+            rs1: _,
+        } => true,
+        _ => false,
+    }
+}
+
+/// Writes the line of an instruction at that address behind what is there, if it computes; tells whether.
+#[tactic(auto, using(crate::proofs::Lists::two_parts))]
+pub fn push_computing_line(out: &mut Vec<u8>, at: u32, instr: Instr) -> Result<bool, AllocError>
+    ensures computes { IfOk result (λ written. written ≡ does_compute instr) }
+    ensures bytes { OnOk result (out.new.items ≡ (if does_compute instr then out.old.items ++ spellings (computing_line at instr) else out.old.items)) }
+{
+    if !computes(&instr) {
+        return Ok(false);
+    }
+    put_computation(out, at, &instr)?;
+    put_count(out)?;
+    Ok(true)
+}

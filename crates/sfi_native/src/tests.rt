@@ -1,0 +1,49 @@
+//! Lines of code, as the GNU assembler spells their instructions.
+use crate::push_computing_line;
+use rv_word::{ImmOp, Instr, Reg, RegOp};
+use std::test::Fail;
+
+// {load} add and {rex} setl choose among spellings of one instruction. x24 isn't written, and an ecall isn't computed.
+const BYTES: [u8; 50] = [
+    139, 68, 36, 20, // mov eax, [rsp+20]
+    139, 76, 36, 24, // mov ecx, [rsp+24]
+    3, 193, // {load} add eax, ecx
+    137, 68, 36, 28, // mov [rsp+28], eax
+    65, 131, 238, 1, // sub r14d, 1
+    139, 68, 36, 20, // mov eax, [rsp+20]
+    131, 248, 251, // cmp eax, -5
+    64, 15, 156, 192, // {rex} setl al
+    64, 15, 182, 192, // {rex} movzx eax, al
+    137, 68, 36, 124, // mov [rsp+124], eax
+    65, 131, 238, 1, // sub r14d, 1
+    184, 0, 176, 173, 222, // mov eax, 0xdeadb000
+    65, 131, 238, 1, // sub r14d, 1
+];
+
+#[test]
+fn lines_are_spelled(rt: HostRuntime) -> Result<(), Fail> {
+    let mut out = Vec::new(rt.alloc());
+    let (x5, x6, x7) = (Reg::numbered(5), Reg::numbered(6), Reg::numbered(7));
+    let add = Instr::Op {
+        op: RegOp::Add,
+        rd: x7,
+        rs1: x5,
+        rs2: x6,
+    };
+    assert!(rt; push_computing_line(&mut out, 0, add)?);
+    let slti = Instr::OpImm {
+        op: ImmOp::Slti,
+        rd: Reg::numbered(31),
+        rs1: x5,
+        imm: -5,
+    };
+    assert!(rt; push_computing_line(&mut out, 4, slti)?);
+    let lui = Instr::Lui {
+        rd: Reg::numbered(24),
+        imm: 0xdeadb,
+    };
+    assert!(rt; push_computing_line(&mut out, 8, lui)?);
+    assert!(rt; !push_computing_line(&mut out, 12, Instr::Ecall)?);
+    assert!(rt; out.as_slice() == BYTES.as_slice());
+    Ok(())
+}
