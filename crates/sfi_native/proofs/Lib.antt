@@ -4,6 +4,7 @@ pub mod Arithmetic
 pub mod Computing
 pub mod Fetching
 pub mod Counting
+pub mod Held
 pub mod Lines
 pub mod Lists
 pub mod Facts

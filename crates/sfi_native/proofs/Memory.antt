@@ -2,7 +2,7 @@
 use Rattle.std.proofs.Common.{◌≡◌, ℕ, zero, suc, ◌+◌, ◌-◌, ◌*◌, ◌/◌, ◌%◌, ◌^◌, ◌<◌, ◌≤◌, ◌⊎◌, inl, inr, Bool, true, false, Option, Some, refl, ap, ◌∙◌, subst, arith, nat_lt}
 use Rattle.std.specs.Prelude.{Ok, nat_le}
 use Rattle.std.proofs.lemmas.Bool.{cases_Bool, le-leb, lt-ltb, le-ltb, leb-true}
-use Rattle.x86_step.specs.State.{Core, joined, may_write, number_at, with_memory, written}
+use Rattle.x86_step.specs.State.{Core, may_write, number_at, with_memory, written}
 use Rattle.x86_step.specs.Step.{loaded, stored}
 
 module _ (m : ℕ → Option ℕ) (n at v : ℕ) where
@@ -34,20 +34,22 @@ module _ (m : ℕ → Option ℕ) (n at v : ℕ) where
       let rest = number_elsewhere j (b + 1) (elim apart [ inl h ↦ inl (omega (arith, h)) | inr h ↦ inr (omega (arith, h)) ]) in
       rw (here, rest) refl
 
--- four bytes that were written make the number
-pub number_written : (m : ℕ → Option ℕ) (at v : ℕ) → v < 2 ^ 32 → number_at (written m 4 at v) 4 at ≡ Some v
-number_written m at v fits =
+-- a number's four bytes make it
+pub number_of_bytes : (m : ℕ → Option ℕ) (at v : ℕ) → v < 2 ^ 32 → ((j : ℕ) → j < 4 → m (at + j) ≡ Some (v / 256 ^ j % 256)) → number_at m 4 at ≡ Some v
+number_of_bytes m at v fits each =
     let z : at ≡ at + 0 = omega arith in
     let one : at + 1 + 1 ≡ at + 2 = omega arith in
     let two : at + 1 + 1 + 1 ≡ at + 3 = omega arith in
-    let b0 : written m 4 at v at ≡ Some (v % 256) = ap (written m 4 at v) z ∙ written_here m 4 at v 0 (omega arith) ∙ ap Some (omega arith) in
-    let b1 : written m 4 at v (at + 1) ≡ Some (v / 256 % 256) = written_here m 4 at v 1 (omega arith) ∙ ap Some (omega arith) in
-    let b2 : written m 4 at v (at + 1 + 1) ≡ Some (v / 65536 % 256) = ap (written m 4 at v) one ∙ written_here m 4 at v 2 (omega arith) ∙ ap Some (omega arith) in
-    let b3 : written m 4 at v (at + 1 + 1 + 1) ≡ Some (v / 16777216 % 256) = ap (written m 4 at v) two ∙ written_here m 4 at v 3 (omega arith) ∙ ap Some (omega arith) in
+    let b0 : m at ≡ Some (v % 256) = ap m z ∙ each 0 (omega arith) ∙ ap Some (omega arith) in
+    let b1 : m (at + 1) ≡ Some (v / 256 % 256) = each 1 (omega arith) ∙ ap Some (omega arith) in
+    let b2 : m (at + 1 + 1) ≡ Some (v / 65536 % 256) = ap m one ∙ each 2 (omega arith) ∙ ap Some (omega arith) in
+    let b3 : m (at + 1 + 1 + 1) ≡ Some (v / 16777216 % 256) = ap m two ∙ each 3 (omega arith) ∙ ap Some (omega arith) in
     let sum : v % 256 + 256 * (v / 256 % 256 + 256 * (v / 65536 % 256 + 256 * (v / 16777216 % 256 + 256 * 0))) ≡ v = omega (arith, fits) in
-    let all : joined (written m 4 at v at) (joined (written m 4 at v (at + 1)) (joined (written m 4 at v (at + 1 + 1)) (joined (written m 4 at v (at + 1 + 1 + 1)) (Some 0))))
-    ≡ joined (Some (v % 256)) (joined (Some (v / 256 % 256)) (joined (Some (v / 65536 % 256)) (joined (Some (v / 16777216 % 256)) (Some 0)))) = rw (b0, b1, b2, b3) refl in
-    all ∙ ap Some sum
+    rw (b0, b1, b2, b3) (ap Some sum)
+
+-- four bytes that were written
+pub number_written : (m : ℕ → Option ℕ) (at v : ℕ) → v < 2 ^ 32 → number_at (written m 4 at v) 4 at ≡ Some v
+number_written m at v fits = number_of_bytes (written m 4 at v) at v fits (written_here m 4 at v)
 
 pub load_there : (c : Core) (n at v : ℕ) → at + n ≤ 2 ^ 64 → number_at c.memory n at ≡ Some v → loaded c n at ≡ Ok v
 load_there c n at v fits is = rw (le-leb (at + n) (2 ^ 64) fits, is) refl

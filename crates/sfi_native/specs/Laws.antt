@@ -1,5 +1,5 @@
 -- What holds of the code of lines.
-use Rattle.std.specs.Prelude.{◌≡◌, ℕ, ◌+◌, true, List, ◌∷◌, length}
+use Rattle.std.specs.Prelude.{◌≡◌, ℕ, ◌+◌, ◌^◌, ◌<◌, true, List, ◌∷◌, length}
 use Rattle.rv_word.specs.declared.instr.Instr.{Instr}
 use Rattle.rv_word.specs.Spelling.{InRange}
 use Rattle.sfi_image.specs.Spelling.{Part}
@@ -9,8 +9,15 @@ use Rattle.x86_step.specs.State.{Core, IsFixed, Text}
 use Rattle.x86_step.specs.Step.{Reaches}
 use Rattle.x86_step.specs.Running.{HasAt, spellings}
 use Rattle.sfi_native.specs.declared.layout.Layout.{Layout}
-use Rattle.sfi_native.specs.Layout.{IsLayout, IsRelated}
+use Rattle.sfi_native.specs.Layout.{IsLayout, IsRelated, value}
 use Rattle.sfi_native.specs.Code.{computing_line, does_compute}
+
+-- Each turn, its registers of 32 bits, has a processor with its state, at each layout: what follows asks for nothing
+-- that can't be.
+abbrev pub EachTurnIsHeld : Type 0
+EachTurnIsHeld =
+    (p : Part) (l : Layout) (g : Going) → IsLayout p.data_size l → length g.state.hart.registers ≡ 32
+    → ((r : ℕ) → value p g r < 2 ^ 32) → g.left < 2 ^ 32 → (c : Core) × IsRelated p l g c
 
 -- The bytes of these instructions lead from a state of the processor at their start, which has the state of one turn, to
 -- one at their end that has the state of another.

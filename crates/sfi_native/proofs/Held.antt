@@ -1,0 +1,96 @@
+-- A processor that has a turn's state.
+use Rattle.std.proofs.Common.{◌≡◌, ℕ, ◌+◌, ◌-◌, ◌*◌, ◌/◌, ◌%◌, ◌^◌, ◌<◌, ◌≤◌, ◌==◌, ◌&&◌, ◌⊎◌, inl, inr, Bool, true, false, Option, Some, length, refl, ap, ◌∙◌, arith, if◌then◌else◌, nat_lt}
+use Rattle.std.specs.Prelude.{nat_le, ◌||◌}
+use Rattle.std.proofs.lemmas.Bool.{cases_Bool, le-leb, lt-ltb, le-ltb, lt-leb}
+use Rattle.rv_mem.specs.Bytes.{byte_at}
+use Rattle.sfi_image.specs.Spelling.{Part}
+use Rattle.sfi_translate.specs.Machine.{Going}
+use Rattle.x86_step.specs.State.{Core, number_at}
+use Rattle.x86_step.specs.Step.{unknown}
+use Rattle.sfi_native.specs.declared.layout.Layout.{Layout}
+use Rattle.sfi_native.specs.Laws.{EachTurnIsHeld}
+use Rattle.sfi_native.specs.Layout.{IsLayout, IsRelated, frame_size, origin, value}
+use Rattle.sfi_native.proofs.Memory.{number_of_bytes}
+
+module _ (p : Part) (l : Layout) (g : Going) (layout : IsLayout p.data_size l) where
+  abbrev in_frame : ℕ → Bool
+  in_frame a = nat_le l.frame a && nat_lt a (l.frame + frame_size)
+
+  abbrev in_data : ℕ → Bool
+  in_data a = nat_le l.data_start a && nat_lt a (l.data_start + p.data_size)
+
+  -- byte k of the frame
+  abbrev frame_byte : ℕ → ℕ
+  frame_byte k = value p g (k / 4) / 256 ^ (k % 4) % 256
+
+  abbrev bytes : ℕ → Option ℕ
+  bytes a = if in_frame a then Some (frame_byte (a - l.frame)) else byte_at g.state.memory (p.data_base + (a - l.data_start))
+
+  abbrev registers : ℕ → ℕ
+  registers r = if r == 4 then l.frame else if r == 14 then g.left else origin p.data_base l
+
+  abbrev held : Core
+  held = record { registers = registers; flags = unknown; memory = bytes; writable = λ a. in_frame a || in_data a }
+
+  frame_has : (k : ℕ) → k < frame_size → in_frame (l.frame + k) ≡ true
+  frame_has k small =
+      let low : nat_le l.frame (l.frame + k) ≡ true = le-leb l.frame (l.frame + k) (omega arith) in
+      let high : nat_lt (l.frame + k) (l.frame + frame_size) ≡ true = lt-ltb (l.frame + k) (l.frame + frame_size) (omega (arith, small)) in
+      rw (low, high) refl
+
+  frame_lacks : (a : ℕ) → (a < l.frame) ⊎ (l.frame + frame_size ≤ a) → in_frame a ≡ false
+  frame_lacks a (inl below) = rw (lt-leb l.frame a below) refl
+  frame_lacks a (inr above) = elim (cases_Bool (nat_le l.frame a)) [
+    | inl e ↦ rw (e, le-ltb a (l.frame + frame_size) above) refl
+    | inr e ↦ rw e refl
+  ]
+
+  data_has : (k : ℕ) → k < p.data_size → in_data (l.data_start + k) ≡ true
+  data_has k small =
+      let low : nat_le l.data_start (l.data_start + k) ≡ true = le-leb l.data_start (l.data_start + k) (omega arith) in
+      let high : nat_lt (l.data_start + k) (l.data_start + p.data_size) ≡ true = lt-ltb (l.data_start + k) (l.data_start + p.data_size) (omega (arith, small)) in
+      rw (low, high) refl
+
+  apart : (k : ℕ) → k < p.data_size → in_frame (l.data_start + k) ≡ false
+  apart k small = frame_lacks (l.data_start + k) (elim layout.apart [
+    | inl above ↦ inr (omega (arith, above))
+    | inr below ↦ inl (omega (arith, below, small))
+  ])
+
+  byte_is : (k a : ℕ) → k < frame_size → a ≡ l.frame + k → bytes a ≡ Some (frame_byte k)
+  byte_is k a small is =
+      let place : l.frame + k - l.frame ≡ k = omega arith in
+      let there : bytes (l.frame + k) ≡ Some (frame_byte k) = rw (frame_has k small, place) refl in
+      ap bytes is ∙ there
+
+  slot_byte : (r j : ℕ) → r < 32 → j < 4 → bytes (l.frame + 4 * r + j) ≡ Some (value p g r / 256 ^ j % 256)
+  slot_byte r j small few =
+      let quotient : (4 * r + j) / 4 ≡ r = omega (arith, few) in
+      let rest : (4 * r + j) % 4 ≡ j = omega (arith, few) in
+      byte_is (4 * r + j) (l.frame + 4 * r + j) (omega (arith, small, few)) (omega arith)
+      ∙ ap (λ q. Some (value p g q / 256 ^ ((4 * r + j) % 4) % 256)) quotient ∙ ap (λ k. Some (value p g r / 256 ^ k % 256)) rest
+
+  slot_holds : (r : ℕ) → r < 32 → value p g r < 2 ^ 32 → number_at bytes 4 (l.frame + 4 * r) ≡ Some (value p g r)
+  slot_holds r small fits = number_of_bytes bytes (l.frame + 4 * r) (value p g r) fits (λ j few. slot_byte r j small few)
+
+  data_is : (k : ℕ) → k < p.data_size → bytes (l.data_start + k) ≡ byte_at g.state.memory (p.data_base + k)
+  data_is k small =
+      let place : l.data_start + k - l.data_start ≡ k = omega arith in
+      rw (apart k small, place) refl
+
+  pub held_is : length g.state.hart.registers ≡ 32 → ((r : ℕ) → value p g r < 2 ^ 32) → g.left < 2 ^ 32 → IsRelated p l g held
+  held_is count words few = record {
+    count = count;
+    words = words;
+    registers = λ r small. slot_holds r small (words r);
+    frame = refl;
+    frame_is_written = λ k small. rw (frame_has k small) refl;
+    few = few;
+    left = refl;
+    bytes = data_is;
+    bytes_are_written = λ k small. rw (apart k small, data_has k small) refl;
+    origin_is = refl;
+  }
+
+pub each_turn_is_held : EachTurnIsHeld
+each_turn_is_held p l g layout count words few = (held p l g layout, held_is p l g layout count words few)
