@@ -38,8 +38,20 @@ module _ (p : Part) (l : Layout) (g : Going) (c : Core) (is : IsRelated p l g c)
     origin_is = updated_other c.registers 14 n 15 (λ e. omega (arith, e)) ∙ is.origin_is;
   }
 
-  pub counts : (d : Core) × (exec count c ≡ Ok d) × IsRelated p l (counted g) d
+  -- registers but r14 stay
+  pub record Counts : Type 0 where
+    pub core : Core
+    pub runs : exec count c ≡ Ok core
+    pub related : IsRelated p l (counted g) core
+    pub others : (k : ℕ) → (k ≡ 14 → ⊥) → core.registers k ≡ c.registers k
+
+  pub counts : Counts
   unfolding computes
   counts =
       let r = difference Dword (low Dword (c.registers 14)) 1 in
-      (counted_core c r.result r.flags, refl, counted_related r.result r.flags less_is)
+      record {
+        core = counted_core c r.result r.flags;
+        runs = refl;
+        related = counted_related r.result r.flags less_is;
+        others = λ k other. updated_other c.registers 14 r.result k other;
+      }

@@ -1,6 +1,7 @@
 -- What holds of the code of lines: laws, for proofs in the crates above.
-use Rattle.sfi_native.specs.Laws.{ComputingLinesRun, EachTurnIsHeld}
+use Rattle.sfi_native.specs.Laws.{BranchLinesRun, ComputingLinesRun, EachTurnIsHeld, JalLinesRun}
 use Rattle.sfi_native.proofs.Held as held
+use Rattle.sfi_native.proofs.Jumps as jumps
 use Rattle.sfi_native.proofs.Lines as lines
 
 pub each_turn_is_held : EachTurnIsHeld
@@ -8,3 +9,9 @@ each_turn_is_held = held.each_turn_is_held
 
 pub computing_lines_run : ComputingLinesRun
 computing_lines_run = lines.computing_lines_run
+
+pub branch_lines_run : BranchLinesRun
+branch_lines_run = jumps.branch_lines_run
+
+pub jal_lines_run : JalLinesRun
+jal_lines_run = jumps.jal_lines_run

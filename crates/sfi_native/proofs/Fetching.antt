@@ -3,7 +3,7 @@ use Rattle.std.proofs.Common.{◌≡◌, ℕ, ◌+◌, ◌*◌, ◌%◌, ◌^◌
 use Rattle.std.specs.Prelude.{Ok}
 use Rattle.std.proofs.lemmas.Bool.{cases_Bool, cases_eq, cases_lt, false≢true, lt-ltb}
 use Rattle.std.proofs.lemmas.List.{get_or-set_same, get_or-set_other, length-set}
-use Rattle.rv_step.specs.State.{Hart, past, register, with_pc, with_register as with_value}
+use Rattle.rv_step.specs.State.{Hart, register, with_pc, with_register as with_value}
 use Rattle.sfi_image.specs.Spelling.{Part}
 use Rattle.sfi_translate.specs.Machine.{ControlPoint, Going, fixed}
 use Rattle.x86_instr.specs.declared.operand.Register.{Register}
@@ -30,9 +30,9 @@ pub record IsWritten (p : Part) (g : Going) (rd v : ℕ) (k : Hart) : Type 0 whe
   pub new : is_fixed rd ≡ false → register (fixed p k) rd ≡ v
   pub old : (r : ℕ) → (is_fixed rd ≡ true) ⊎ (r ≡ rd → ⊥) → register (fixed p k) r ≡ value p g r
 
-module _ (p : Part) (g : Going) (count : length g.state.hart.registers ≡ 32) (at n rd v : ℕ) where
+module _ (p : Part) (g : Going) (count : length g.state.hart.registers ≡ 32) (pc rd v : ℕ) where
   abbrev before : Hart
-  before = past (with_pc (fixed p g.state.hart) at) n
+  before = with_pc (fixed p g.state.hart) pc
 
   abbrev after : Hart
   after = fixed p (with_value before rd v)

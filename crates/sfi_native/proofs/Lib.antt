@@ -7,4 +7,5 @@ pub mod Counting
 pub mod Held
 pub mod Lines
 pub mod Lists
+pub mod Jumps
 pub mod Facts

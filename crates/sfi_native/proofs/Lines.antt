@@ -9,12 +9,13 @@ use Rattle.rv_word.specs.declared.instr.ImmOp.TheVariants.{Addi}
 use Rattle.rv_word.specs.declared.instr.Instr.{Instr}
 use Rattle.rv_word.specs.declared.instr.Instr.TheVariants.{Op, OpImm, Lui, Auipc, Fence}
 unfoldable use Rattle.rv_word.specs.Spelling.{InRange}
+use Rattle.rv_mem.specs.Bytes.{address_after}
 use Rattle.rv_step.specs.Step.{register_op, result_of, word}
-use Rattle.rv_step.specs.State.{Hart, past, with_pc, with_register as with_value}
+use Rattle.rv_step.specs.State.{Hart, with_pc, with_register as with_value}
 use Rattle.rv_step.proofs.States.{result_fits, word_fits}
 use Rattle.sfi_image.specs.Spelling.{Part}
 use Rattle.sfi_translate.specs.Lines.{Line, Does}
-use Rattle.sfi_translate.specs.Machine.{Before, Going, Target, fixed, line_step}
+use Rattle.sfi_translate.specs.Machine.{Before, ControlPoint, Going, Target, fixed, line_step}
 use Rattle.x86_instr.specs.declared.operand.Register.TheVariants.{Rax, Rcx}
 use Rattle.x86_instr.specs.declared.instr.Instr.{Instr as Native}
 use Rattle.x86_instr.specs.declared.instr.Instr.TheVariants.{MovImm}
@@ -26,7 +27,7 @@ use Rattle.x86_step.proofs.Running.{exec_append, straight_append}
 use Rattle.sfi_native.specs.declared.layout.Layout.{Layout}
 use Rattle.sfi_native.specs.Layout.{IsLayout, IsRelated, value}
 use Rattle.sfi_native.specs.Laws.{ComputingLinesRun}
-use Rattle.sfi_native.specs.Code.{computing_line, count, does_compute, fetch, has_op, is_fixed, number_code, write}
+use Rattle.sfi_native.specs.Code.{computing_line, count, does_compute, fetch, has_op, imm_code, is_fixed, number_code, op_code, write}
 unfoldable use Rattle.sfi_native.specs.Code.{computation, compute, compute_imm}
 use Rattle.sfi_native.proofs.Computing.{Computed, Kept, computed, computed_imm, kept_join, kept_register}
 use Rattle.sfi_native.proofs.Counting.{counted, counts}
@@ -44,7 +45,7 @@ unfolding compute_imm
 imm_straight Addi n = refl
 imm_straight _ n = refl
 
-write_straight : (rd : ℕ) → are_straight (write rd) ≡ true
+pub write_straight : (rd : ℕ) → are_straight (write rd) ≡ true
 write_straight rd = elim (cases_Bool (is_fixed rd)) [ inl e ↦ rw e refl | inr e ↦ rw e refl ]
 
 after_straight : (is : List Native) (rd : ℕ) → are_straight is ≡ true → are_straight (is ++ write rd) ≡ true
@@ -79,29 +80,28 @@ behind c d one more v runs kept done = record {
 }
 
 -- the step is counted
-then_count : (p : Part) (l : Layout) (c : Core) (is : List Native) (g : Going) → Comes is p l c g → Comes (is ++ count) p l c (counted g)
+pub then_count : (p : Part) (l : Layout) (c : Core) (is : List Native) (g : Going) → Comes is p l c g → Comes (is ++ count) p l c (counted g)
 then_count p l c is g come =
     let last = counts p l g come.core come.related in
-    record { core = last.0; runs = exec_append is count c come.core come.runs ∙ last.1; related = last.2 }
+    record { core = last.core; runs = exec_append is count c come.core come.runs ∙ last.runs; related = last.related }
 
-module _ (p : Part) (l : Layout) (layout : IsLayout p.data_size l) (g : Going) (c : Core) (is : IsRelated p l g c) (rest : List Line) (at n : ℕ) where
+module _ (p : Part) (l : Layout) (layout : IsLayout p.data_size l) (g : Going) (c : Core) (is : IsRelated p l g c) (place : ControlPoint) (pc : ℕ) where
   -- the hart after a value goes to rd
   abbrev hart_with : ℕ → ℕ → Hart
-  hart_with rd v = fixed p (with_value (past (with_pc (fixed p g.state.hart) at) n) rd v)
+  hart_with rd v = fixed p (with_value (with_pc (fixed p g.state.hart) pc) rd v)
 
   abbrev turn_with : ℕ → ℕ → ℕ → Going
-  turn_with rd v left = record { place = Before rest; state = record { hart = hart_with rd v; memory = g.state.memory }; left = left }
+  turn_with rd v left = record { place = place; state = record { hart = hart_with rd v; memory = g.state.memory }; left = left }
 
   -- a value that was computed goes to rd, and the step is counted
   finish : (front : List Native) (rd v : ℕ) → rd < 32 → v < 2 ^ 32 → Computed front c v → Comes (front ++ write rd) p l c (turn_with rd v g.left)
   finish front rd v small fits done =
       let kept = related_kept p l layout g c done.after is done.kept in
-      let w = wrote p l layout g done.after kept (Before rest) rd v (hart_with rd v) small fits (hart_written p g is.count at n rd v small) done.result in
+      let w = wrote p l layout g done.after kept place rd v (hart_with rd v) small fits (hart_written p g is.count pc rd v small) done.result in
       record { core = w.0; runs = exec_append front (write rd) c done.after done.runs ∙ w.1; related = w.2 }
 
   op_comes : (op : RegOp) (rd rs1 rs2 : ℕ) → has_op op ≡ true → rd < 32 → rs1 < 32 → rs2 < 32
-      → Comes (computation at (Op op rd rs1 rs2)) p l c (turn_with rd (result_of op (value p g rs1) (value p g rs2)) g.left)
-  unfolding computation
+      → Comes (op_code op rd rs1 rs2) p l c (turn_with rd (result_of op (value p g rs1) (value p g rs2)) g.left)
   op_comes op rd rs1 rs2 has fd f1 f2 =
       let a = value p g rs1 in
       let b = value p g rs2 in
@@ -114,8 +114,7 @@ module _ (p : Part) (l : Layout) (layout : IsLayout p.data_size l) (g : Going) (
       finish (fetch Rax rs1 ++ (fetch Rcx rs2 ++ compute op)) rd (result_of op a b) fd (result_fits op a b (is.words rs1) (is.words rs2)) done
 
   imm_comes : (op : ImmOp) (rd rs1 : ℕ) (imm : ℤ) → rd < 32 → rs1 < 32
-      → Comes (computation at (OpImm op rd rs1 imm)) p l c (turn_with rd (result_of (register_op op) (value p g rs1) (word imm)) g.left)
-  unfolding computation
+      → Comes (imm_code op rd rs1 (word imm)) p l c (turn_with rd (result_of (register_op op) (value p g rs1) (word imm)) g.left)
   imm_comes op rd rs1 imm fd f1 =
       let a = value p g rs1 in
       let v = result_of (register_op op) a (word imm) in
@@ -124,30 +123,36 @@ module _ (p : Part) (l : Layout) (layout : IsLayout p.data_size l) (g : Going) (
       (computed_imm op (word imm) c1 (is.words rs1) (word_fits imm)) in
       finish (fetch Rax rs1 ++ compute_imm op (word imm)) rd v fd (result_fits (register_op op) a (word imm) (is.words rs1) (word_fits imm)) done
 
-  number_comes : (rd v : ℕ) → rd < 32 → v < 2 ^ 32 → Comes (number_code rd v) p l c (turn_with rd v g.left)
+  pub number_comes : (rd v : ℕ) → rd < 32 → v < 2 ^ 32 → Comes (number_code rd v) p l c (turn_with rd v g.left)
   unfolding computes
   number_comes rd v fd fits =
       finish (MovImm Rax v ∷ []) rd v fd fits (record { after = with_register c 0 v; runs = refl; result = refl; kept = kept_register c 0 v (omega arith) })
 
-  -- x0 stays
-  none_comes : Comes [] p l c (turn_with 0 0 g.left)
-  none_comes =
-      record { core = c; runs = refl; related = unwritten p l layout g c (Before rest) 0 0 (hart_with 0 0) is (hart_written p g is.count at n 0 0 (omega arith)) refl }
+  -- no register changes
+  pub none_comes : IsRelated p l (turn_with 0 0 g.left) c
+  none_comes = unwritten p l layout g c place 0 0 (hart_with 0 0) is (hart_written p g is.count pc 0 0 (omega arith)) refl
 
-  computation_comes : (i : Instr) → does_compute i ≡ true → InRange i → (target : Target) (code : List Line)
-      → Comes (computing_line at i) p l c (line_step target p code (Does at n i ∷ rest) g)
+module _ (target : Target) (p : Part) (code rest : List Line) (at n : ℕ) (l : Layout) (layout : IsLayout p.data_size l) (g : Going) (c : Core) (is : IsRelated p l g c) where
+  computation_comes : (i : Instr) → does_compute i ≡ true → InRange i → Comes (computing_line at i) p l c (line_step target p code (Does at n i ∷ rest) g)
   unfolding computation InRange
-  computation_comes (Op op rd rs1 rs2) has range target code = then_count p l c (computation at (Op op rd rs1 rs2)) _ (op_comes op rd rs1 rs2 has range.0 range.1 range.2)
-  computation_comes (OpImm op rd rs1 imm) has range target code = then_count p l c (computation at (OpImm op rd rs1 imm)) _ (imm_comes op rd rs1 imm range.0 range.1)
-  computation_comes (Lui rd imm) has range target code = then_count p l c (computation at (Lui rd imm)) _ (number_comes rd ((imm * 4096) % 2 ^ 32) range.0 (omega arith))
-  computation_comes (Auipc rd imm) has range target code = then_count p l c (computation at (Auipc rd imm)) _ (number_comes rd ((at + imm * 4096) % 2 ^ 32) range.0 (omega arith))
-  computation_comes (Fence imm rd rs1) has range target code = then_count p l c [] _ none_comes
-  computation_comes i has range target code = absurd (false≢true has)
+  computation_comes (Op op rd rs1 rs2) has range =
+      then_count p l c (op_code op rd rs1 rs2) _ (op_comes p l layout g c is (Before rest) (address_after at n) op rd rs1 rs2 has range.0 range.1 range.2)
+  computation_comes (OpImm op rd rs1 imm) has range =
+      then_count p l c (imm_code op rd rs1 (word imm)) _ (imm_comes p l layout g c is (Before rest) (address_after at n) op rd rs1 imm range.0 range.1)
+  computation_comes (Lui rd imm) has range =
+      let v = (imm * 4096) % 2 ^ 32 in
+      then_count p l c (number_code rd v) _ (number_comes p l layout g c is (Before rest) (address_after at n) rd v range.0 (omega arith))
+  computation_comes (Auipc rd imm) has range =
+      let v = (at + imm * 4096) % 2 ^ 32 in
+      then_count p l c (number_code rd v) _ (number_comes p l layout g c is (Before rest) (address_after at n) rd v range.0 (omega arith))
+  computation_comes (Fence imm rd rs1) has range =
+      then_count p l c [] _ (record { core = c; runs = refl; related = none_comes p l layout g c is (Before rest) (address_after at n) })
+  computation_comes i has range = absurd (false≢true has)
 
 -- wherever its bytes stand
 pub computing_lines_run : ComputingLinesRun
 computing_lines_run target p code rest address size i l t at g c has range layout fixed_text stands is =
-    let line = computation_comes p l layout g c is rest address size i has range target code in
+    let line = computation_comes target p code rest address size l layout g c is i has range in
     record {
       after = line.core;
       reached = spelled_run t at (computing_line address i) c line.core fixed_text (line_straight address i) stands line.runs;

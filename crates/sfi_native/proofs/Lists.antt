@@ -7,7 +7,12 @@ use Rattle.x86_instr.specs.declared.instr.Instr.{Instr}
 use Rattle.x86_instr.specs.Spelling.{spelling}
 use Rattle.x86_step.specs.Running.{spellings}
 use Rattle.x86_step.proofs.Running.{spellings_append}
-use Rattle.sfi_native.specs.Code.{compute, compute_imm, fetch, imm_code, op_code, write}
+use Rattle.x86_instr.specs.declared.instr.Instr.TheVariants.{Alu, Jcc, Jmp}
+use Rattle.x86_instr.specs.declared.instr.AluOp.TheVariants as alu
+use Rattle.x86_instr.specs.declared.instr.Width.TheVariants.{Dword}
+use Rattle.x86_instr.specs.declared.operand.Operand.TheVariants.{Reg}
+use Rattle.rv_word.specs.declared.instr.Cond.{Cond}
+use Rattle.sfi_native.specs.Code.{branch_line, compare_code, compute, compute_imm, condition_of, count, fetch, imm_code, jal_line, number_code, op_code, write}
 
 pub one_part : (old : List ℕ) (i : Instr) → old ++ spelling i ≡ old ++ spellings (i ∷ [])
 one_part old i = ap (λ x. old ++ x) (sym (append-nil (spelling i)))
@@ -28,3 +33,16 @@ op_parts old op rd rs1 rs2 = four_parts old (fetch Rax rs1) (fetch Rcx rs2) (com
 pub imm_parts : (old : List ℕ) (op : ImmOp) (rd rs1 n : ℕ)
     → ((old ++ spellings (fetch Rax rs1)) ++ spellings (compute_imm op n)) ++ spellings (write rd) ≡ old ++ spellings (imm_code op rd rs1 n)
 imm_parts old op rd rs1 n = three_parts old (fetch Rax rs1) (compute_imm op n) (write rd)
+
+pub compare_parts : (old : List ℕ) (rs1 rs2 : ℕ)
+    → (((old ++ spellings (fetch Rax rs1)) ++ spellings (fetch Rcx rs2)) ++ spellings count) ++ spellings (Alu alu.Cmp Dword Rax (Reg Rcx) ∷ []) ≡ old ++ spellings (compare_code rs1 rs2)
+compare_parts old rs1 rs2 = four_parts old (fetch Rax rs1) (fetch Rcx rs2) count (Alu alu.Cmp Dword Rax (Reg Rcx) ∷ [])
+
+pub branch_parts : (old : List ℕ) (cond : Cond) (rs1 rs2 distance : ℕ)
+    → (old ++ spellings (compare_code rs1 rs2)) ++ spellings (Jcc (condition_of cond) distance ∷ []) ≡ old ++ spellings (branch_line cond rs1 rs2 distance)
+branch_parts old cond rs1 rs2 distance = two_parts old (compare_code rs1 rs2) (Jcc (condition_of cond) distance ∷ [])
+
+pub jal_parts : (old : List ℕ) (rd next distance : ℕ)
+    → ((old ++ spellings (number_code rd next)) ++ spellings count) ++ spellings (Jmp distance ∷ []) ≡ old ++ spellings (jal_line rd next distance)
+jal_parts old rd next distance =
+    ap (λ x. x ++ spellings (Jmp distance ∷ [])) (two_parts old (number_code rd next) count) ∙ two_parts old (number_code rd next ++ count) (Jmp distance ∷ [])

@@ -4,6 +4,8 @@ use Rattle.rv_word.specs.declared.instr.RegOp.{RegOp}
 use Rattle.rv_word.specs.declared.instr.RegOp.TheVariants.{Add, Sub, Sll, Slt, Sltu, Xor, Srl, Sra, Or, And, Mul, Mulh, Mulhsu, Mulhu, Div, Divu, Rem, Remu}
 use Rattle.rv_word.specs.declared.instr.ImmOp.{ImmOp}
 use Rattle.rv_word.specs.declared.instr.ImmOp.TheVariants.{Addi, Slti, Sltiu, Xori, Ori, Andi, Slli, Srli, Srai}
+use Rattle.rv_word.specs.declared.instr.Cond.{Cond}
+use Rattle.rv_word.specs.declared.instr.Cond.TheVariants.{Beq, Bne, Blt, Bge, Bltu, Bgeu}
 use Rattle.rv_word.specs.declared.instr.Instr.{Instr}
 use Rattle.rv_word.specs.declared.instr.Instr.TheVariants.{Op, OpImm, Lui, Auipc, Fence}
 use Rattle.rv_step.specs.Step.{word}
@@ -18,9 +20,9 @@ use Rattle.x86_instr.specs.declared.instr.Extension.TheVariants.{Zero}
 use Rattle.x86_instr.specs.declared.instr.AluOp.TheVariants as alu
 use Rattle.x86_instr.specs.declared.instr.ShiftOp.TheVariants.{Shl, Shr, Sar}
 use Rattle.x86_instr.specs.declared.instr.Condition.{Condition}
-use Rattle.x86_instr.specs.declared.instr.Condition.TheVariants.{Below, Less}
+use Rattle.x86_instr.specs.declared.instr.Condition.TheVariants.{AboveOrEqual, Below, Equal, GreaterOrEqual, Less, NotEqual}
 use Rattle.x86_instr.specs.declared.instr.Instr.{Instr as Native}
-use Rattle.x86_instr.specs.declared.instr.Instr.TheVariants.{Mov, MovStore, MovImm, MovExtended, Alu, AluImm, ShiftImm, ShiftCl, Imul, Setcc}
+use Rattle.x86_instr.specs.declared.instr.Instr.TheVariants.{Mov, MovStore, MovImm, MovExtended, Alu, AluImm, ShiftImm, ShiftCl, Imul, Setcc, Jcc, Jmp}
 
 -- x0 and x24 to x27 have one value for lines, so that none writes them
 abbrev pub is_fixed : ℕ → Bool
@@ -121,3 +123,24 @@ count = AluImm alu.Sub Dword (Reg R14) 1 ∷ []
 -- the line of an instruction that computes
 abbrev pub computing_line : ℕ → Instr → List Native
 computing_line at i = computation at i ++ count
+
+-- ==== Jumps. Their step is counted before, as that changes flags; the distance is from the line's end.
+
+abbrev pub condition_of : Cond → Condition
+condition_of Beq = Equal
+condition_of Bne = NotEqual
+condition_of Blt = Less
+condition_of Bge = GreaterOrEqual
+condition_of Bltu = Below
+condition_of Bgeu = AboveOrEqual
+
+abbrev pub compare_code : ℕ → ℕ → List Native
+compare_code rs1 rs2 = fetch Rax rs1 ++ (fetch Rcx rs2 ++ (count ++ (Alu alu.Cmp Dword Rax (Reg Rcx) ∷ [])))
+
+-- the line of a branch
+abbrev pub branch_line : Cond → ℕ → ℕ → ℕ → List Native
+branch_line cond rs1 rs2 distance = compare_code rs1 rs2 ++ (Jcc (condition_of cond) distance ∷ [])
+
+-- the line of a jal, behind which the address `next` comes
+abbrev pub jal_line : ℕ → ℕ → ℕ → List Native
+jal_line rd next distance = (number_code rd next ++ count) ++ (Jmp distance ∷ [])

@@ -1,16 +1,21 @@
 -- What holds of the code of lines.
-use Rattle.std.specs.Prelude.{◌≡◌, ℕ, ◌+◌, ◌^◌, ◌<◌, true, List, ◌∷◌, length}
+use Rattle.std.specs.Prelude.{ℤ, if◌then◌else◌, ◌≡◌, ℕ, ◌+◌, ◌^◌, ◌<◌, true, List, ◌∷◌, length}
+use Rattle.rv_word.specs.declared.instr.Cond.{Cond}
 use Rattle.rv_word.specs.declared.instr.Instr.{Instr}
+use Rattle.rv_word.specs.declared.instr.Instr.TheVariants.{Branch, Jal}
 use Rattle.rv_word.specs.Spelling.{InRange}
+use Rattle.rv_mem.specs.Bytes.{address_after}
+use Rattle.rv_step.specs.Step.{is_taken}
 use Rattle.sfi_image.specs.Spelling.{Part}
 use Rattle.sfi_translate.specs.Lines.{Line, Does}
 use Rattle.sfi_translate.specs.Machine.{Target, Going, line_step}
 use Rattle.x86_step.specs.State.{Core, IsFixed, Text}
-use Rattle.x86_step.specs.Step.{Reaches}
+use Rattle.x86_instr.specs.declared.instr.Instr.{Instr as Native}
+use Rattle.x86_step.specs.Step.{Reaches, is_canonical, jumped}
 use Rattle.x86_step.specs.Running.{HasAt, spellings}
 use Rattle.sfi_native.specs.declared.layout.Layout.{Layout}
 use Rattle.sfi_native.specs.Layout.{IsLayout, IsRelated, value}
-use Rattle.sfi_native.specs.Code.{computing_line, does_compute}
+use Rattle.sfi_native.specs.Code.{branch_line, computing_line, does_compute, jal_line}
 
 -- Each turn, its registers of 32 bits, has a processor with its state, at each layout: what follows asks for nothing
 -- that can't be.
@@ -19,12 +24,15 @@ EachTurnIsHeld =
     (p : Part) (l : Layout) (g : Going) → IsLayout p.data_size l → length g.state.hart.registers ≡ 32
     → ((r : ℕ) → value p g r < 2 ^ 32) → g.left < 2 ^ 32 → (c : Core) × IsRelated p l g c
 
--- The bytes of these instructions lead from a state of the processor at their start, which has the state of one turn, to
--- one at their end that has the state of another.
-pub record LeadsOn (t : Text) (at : ℕ) (bytes : List ℕ) (p : Part) (l : Layout) (c : Core) (g : Going) : Type 0 where
+-- From a state of the processor at an address, code leads to another address, and to the state of that turn.
+pub record LeadsTo (t : Text) (at to : ℕ) (p : Part) (l : Layout) (c : Core) (g : Going) : Type 0 where
   pub after : Core
-  pub reached : Reaches t (record { rip = at; core = c }) (record { rip = at + length bytes; core = after })
+  pub reached : Reaches t (record { rip = at; core = c }) (record { rip = to; core = after })
   pub related : IsRelated p l g after
+
+-- where a line's bytes end
+abbrev pub end_of : ℕ → List Native → ℕ
+end_of at is = at + length (spellings is)
 
 -- Wherever the bytes of a computing line stand, they do what the line does, by which its step is counted.
 abbrev pub ComputingLinesRun : Type 0
@@ -33,4 +41,27 @@ ComputingLinesRun =
     (g : Going) (c : Core)
     → does_compute i ≡ true → InRange i → IsLayout p.data_size l → IsFixed t c → HasAt t at (spellings (computing_line address i))
     → IsRelated p l g c
-    → LeadsOn t at (spellings (computing_line address i)) p l c (line_step target p code (Does address size i ∷ rest) g)
+    → LeadsTo t at (end_of at (computing_line address i)) p l c (line_step target p code (Does address size i ∷ rest) g)
+
+-- A branch goes over its distance where it is taken, if that leads to a canonical address, and else to its end.
+abbrev pub BranchLinesRun : Type 0
+BranchLinesRun =
+    (target : Target) (p : Part) (code rest : List Line) (address size : ℕ) (cond : Cond) (rs1 rs2 : ℕ) (offset : ℤ) (distance : ℕ)
+    (l : Layout) (t : Text) (at : ℕ) (g : Going) (c : Core)
+    → InRange (Branch cond rs1 rs2 offset) → IsLayout p.data_size l → IsFixed t c
+    → HasAt t at (spellings (branch_line cond rs1 rs2 distance)) → IsRelated p l g c
+    → is_canonical (jumped (end_of at (branch_line cond rs1 rs2 distance)) distance) ≡ true
+    → LeadsTo t at (if is_taken cond (value p g rs1) (value p g rs2) then jumped (end_of at (branch_line cond rs1 rs2 distance)) distance
+    else end_of at (branch_line cond rs1 rs2 distance))
+    p l c (line_step target p code (Does address size (Branch cond rs1 rs2 offset) ∷ rest) g)
+
+-- a jal over its distance
+abbrev pub JalLinesRun : Type 0
+JalLinesRun =
+    (target : Target) (p : Part) (code rest : List Line) (address size rd : ℕ) (offset : ℤ) (distance : ℕ) (l : Layout) (t : Text)
+    (at : ℕ) (g : Going) (c : Core)
+    → InRange (Jal rd offset) → IsLayout p.data_size l → IsFixed t c
+    → HasAt t at (spellings (jal_line rd (address_after address size) distance)) → IsRelated p l g c
+    → is_canonical (jumped (end_of at (jal_line rd (address_after address size) distance)) distance) ≡ true
+    → LeadsTo t at (jumped (end_of at (jal_line rd (address_after address size) distance)) distance)
+    p l c (line_step target p code (Does address size (Jal rd offset) ∷ rest) g)

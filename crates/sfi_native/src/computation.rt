@@ -10,7 +10,7 @@ use x86_instr::{AluOp, Instr as Native, Operand, Register, Width};
 
 /// Writes a number into a register.
 #[tactic(auto, using(crate::proofs::Lists::two_parts))]
-fn put_number(out: &mut Vec<u8>, rd: Reg, number: u32) -> Result<(), AllocError>
+pub(crate) fn put_number(out: &mut Vec<u8>, rd: Reg, number: u32) -> Result<(), AllocError>
     ensures { OnOk result (out.new.items ≡ out.old.items ++ spellings (number_code rd number)) }
 {
     put(

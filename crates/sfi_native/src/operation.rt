@@ -99,7 +99,7 @@ fn put_set_if(out: &mut Vec<u8>, compare: Instr, condition: Condition) -> Result
 }
 
 /// The operation of eax and ecx.
-fn with_ecx(op: AluOp) -> Instr
+pub(crate) fn with_ecx(op: AluOp) -> Instr
     ensures { result ≡ Alu op Dword Rax (InRegister Rcx) }
 {
     Instr::Alu {

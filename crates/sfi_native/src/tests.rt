@@ -1,6 +1,6 @@
 //! Lines of code, as the GNU assembler spells their instructions.
-use crate::push_computing_line;
-use rv_word::{ImmOp, Instr, Reg, RegOp};
+use crate::{push_branch_line, push_computing_line, push_jal_line};
+use rv_word::{Cond, ImmOp, Instr, Reg, RegOp};
 use std::test::Fail;
 
 // {load} add and {rex} setl choose among spellings of one instruction. x24 isn't written, and an ecall isn't computed.
@@ -45,5 +45,32 @@ fn lines_are_spelled(rt: HostRuntime) -> Result<(), Fail> {
     assert!(rt; push_computing_line(&mut out, 8, lui)?);
     assert!(rt; !push_computing_line(&mut out, 12, Instr::Ecall)?);
     assert!(rt; out.as_slice() == BYTES.as_slice());
+    Ok(())
+}
+
+const JUMPS: [u8; 38] = [
+    139, 68, 36, 20, // mov eax, [rsp+20]
+    139, 76, 36, 24, // mov ecx, [rsp+24]
+    65, 131, 238, 1, // sub r14d, 1
+    59, 193, // {load} cmp eax, ecx
+    15, 131, 0, 1, 0, 0, // jae .+262
+    184, 4, 0, 0, 1, // mov eax, 0x1000004
+    137, 68, 36, 4, // mov [rsp+4], eax
+    65, 131, 238, 1, // sub r14d, 1
+    233, 240, 255, 255, 255, // jmp .-11
+];
+
+#[test]
+fn jumps_are_spelled(rt: HostRuntime) -> Result<(), Fail> {
+    let mut out = Vec::new(rt.alloc());
+    push_branch_line(
+        &mut out,
+        Cond::Bgeu,
+        Reg::numbered(5),
+        Reg::numbered(6),
+        256,
+    )?;
+    push_jal_line(&mut out, Reg::numbered(1), 0x0100_0004, 0xffff_fff0)?;
+    assert!(rt; out.as_slice() == JUMPS.as_slice());
     Ok(())
 }
