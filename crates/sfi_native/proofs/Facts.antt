@@ -1,8 +1,9 @@
 -- What holds of the code of lines: laws, for proofs in the crates above.
-use Rattle.sfi_native.specs.Laws.{BranchLinesRun, ComputingLinesRun, EachTurnIsHeld, JalLinesRun}
+use Rattle.sfi_native.specs.Laws.{BranchLinesRun, ComputingLinesRun, EachTurnIsHeld, JalLinesRun, LoadLinesRun}
 use Rattle.sfi_native.proofs.Held as held
 use Rattle.sfi_native.proofs.Jumps as jumps
 use Rattle.sfi_native.proofs.Lines as lines
+use Rattle.sfi_native.proofs.Loads as loads
 
 pub each_turn_is_held : EachTurnIsHeld
 each_turn_is_held = held.each_turn_is_held
@@ -15,3 +16,6 @@ branch_lines_run = jumps.branch_lines_run
 
 pub jal_lines_run : JalLinesRun
 jal_lines_run = jumps.jal_lines_run
+
+pub load_lines_run : LoadLinesRun
+load_lines_run = loads.load_lines_run

@@ -8,4 +8,5 @@ pub mod Held
 pub mod Lines
 pub mod Lists
 pub mod Jumps
+pub mod Loads
 pub mod Facts

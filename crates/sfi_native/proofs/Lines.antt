@@ -71,7 +71,7 @@ pub record Comes (is : List Native) (p : Part) (l : Layout) (c : Core) (g : Goin
   pub related : IsRelated p l g core
 
 -- instructions in front that only change free registers
-behind : (c d : Core) (one more : List Native) (v : ℕ) → exec one c ≡ Ok d → Kept c d → Computed more d v → Computed (one ++ more) c v
+pub behind : (c d : Core) (one more : List Native) (v : ℕ) → exec one c ≡ Ok d → Kept c d → Computed more d v → Computed (one ++ more) c v
 behind c d one more v runs kept done = record {
   after = done.after;
   runs = exec_append one more c d runs ∙ done.runs;
@@ -94,7 +94,7 @@ module _ (p : Part) (l : Layout) (layout : IsLayout p.data_size l) (g : Going) (
   turn_with rd v left = record { place = place; state = record { hart = hart_with rd v; memory = g.state.memory }; left = left }
 
   -- a value that was computed goes to rd, and the step is counted
-  finish : (front : List Native) (rd v : ℕ) → rd < 32 → v < 2 ^ 32 → Computed front c v → Comes (front ++ write rd) p l c (turn_with rd v g.left)
+  pub finish : (front : List Native) (rd v : ℕ) → rd < 32 → v < 2 ^ 32 → Computed front c v → Comes (front ++ write rd) p l c (turn_with rd v g.left)
   finish front rd v small fits done =
       let kept = related_kept p l layout g c done.after is done.kept in
       let w = wrote p l layout g done.after kept place rd v (hart_with rd v) small fits (hart_written p g is.count pc rd v small) done.result in

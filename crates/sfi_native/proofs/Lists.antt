@@ -12,7 +12,8 @@ use Rattle.x86_instr.specs.declared.instr.AluOp.TheVariants as alu
 use Rattle.x86_instr.specs.declared.instr.Width.TheVariants.{Dword}
 use Rattle.x86_instr.specs.declared.operand.Operand.TheVariants.{Reg}
 use Rattle.rv_word.specs.declared.instr.Cond.{Cond}
-use Rattle.sfi_native.specs.Code.{branch_line, compare_code, compute, compute_imm, condition_of, count, fetch, imm_code, jal_line, number_code, op_code, write}
+use Rattle.rv_word.specs.declared.instr.LoadKind.{LoadKind}
+use Rattle.sfi_native.specs.Code.{branch_line, compare_code, compute, compute_imm, condition_of, count, data_address, fetch, imm_code, jal_line, load_code, load_from, load_line, number_code, op_code, write}
 
 pub one_part : (old : List ℕ) (i : Instr) → old ++ spelling i ≡ old ++ spellings (i ∷ [])
 one_part old i = ap (λ x. old ++ x) (sym (append-nil (spelling i)))
@@ -46,3 +47,9 @@ pub jal_parts : (old : List ℕ) (rd next distance : ℕ)
     → ((old ++ spellings (number_code rd next)) ++ spellings count) ++ spellings (Jmp distance ∷ []) ≡ old ++ spellings (jal_line rd next distance)
 jal_parts old rd next distance =
     ap (λ x. x ++ spellings (Jmp distance ∷ [])) (two_parts old (number_code rd next) count) ∙ two_parts old (number_code rd next ++ count) (Jmp distance ∷ [])
+
+pub load_parts : (old : List ℕ) (kind : LoadKind) (rd rs1 displacement : ℕ)
+    → (((old ++ spellings (fetch Rax rs1)) ++ spellings (load_from kind (data_address displacement) ∷ [])) ++ spellings (write rd)) ++ spellings count ≡ old ++ spellings (load_line kind rd rs1 displacement)
+load_parts old kind rd rs1 displacement =
+    ap (λ x. x ++ spellings count) (three_parts old (fetch Rax rs1) (load_from kind (data_address displacement) ∷ []) (write rd))
+    ∙ two_parts old (load_code kind rd rs1 displacement) count

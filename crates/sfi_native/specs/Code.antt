@@ -4,19 +4,21 @@ use Rattle.rv_word.specs.declared.instr.RegOp.{RegOp}
 use Rattle.rv_word.specs.declared.instr.RegOp.TheVariants.{Add, Sub, Sll, Slt, Sltu, Xor, Srl, Sra, Or, And, Mul, Mulh, Mulhsu, Mulhu, Div, Divu, Rem, Remu}
 use Rattle.rv_word.specs.declared.instr.ImmOp.{ImmOp}
 use Rattle.rv_word.specs.declared.instr.ImmOp.TheVariants.{Addi, Slti, Sltiu, Xori, Ori, Andi, Slli, Srli, Srai}
+use Rattle.rv_word.specs.declared.instr.LoadKind.{LoadKind}
+use Rattle.rv_word.specs.declared.instr.LoadKind.TheVariants.{Lb, Lh, Lw, Lbu, Lhu}
 use Rattle.rv_word.specs.declared.instr.Cond.{Cond}
 use Rattle.rv_word.specs.declared.instr.Cond.TheVariants.{Beq, Bne, Blt, Bge, Bltu, Bgeu}
 use Rattle.rv_word.specs.declared.instr.Instr.{Instr}
 use Rattle.rv_word.specs.declared.instr.Instr.TheVariants.{Op, OpImm, Lui, Auipc, Fence}
 use Rattle.rv_step.specs.Step.{word}
 use Rattle.x86_instr.specs.declared.operand.Register.{Register}
-use Rattle.x86_instr.specs.declared.operand.Register.TheVariants.{Rax, Rcx, Rsp, R14}
+use Rattle.x86_instr.specs.declared.operand.Register.TheVariants.{Rax, Rcx, Rsp, R14, R15}
 use Rattle.x86_instr.specs.declared.operand.Scale.TheVariants.{One}
 use Rattle.x86_instr.specs.declared.operand.Address.{Address}
 use Rattle.x86_instr.specs.declared.operand.Operand.TheVariants.{Reg, Mem}
 use Rattle.x86_instr.specs.declared.instr.Width.TheVariants.{Dword, Qword}
-use Rattle.x86_instr.specs.declared.instr.Narrow.TheVariants.{Byte}
-use Rattle.x86_instr.specs.declared.instr.Extension.TheVariants.{Zero}
+use Rattle.x86_instr.specs.declared.instr.Narrow.TheVariants.{Byte, Word}
+use Rattle.x86_instr.specs.declared.instr.Extension.TheVariants.{Zero, Sign}
 use Rattle.x86_instr.specs.declared.instr.AluOp.TheVariants as alu
 use Rattle.x86_instr.specs.declared.instr.ShiftOp.TheVariants.{Shl, Shr, Sar}
 use Rattle.x86_instr.specs.declared.instr.Condition.{Condition}
@@ -144,3 +146,22 @@ branch_line cond rs1 rs2 distance = compare_code rs1 rs2 ++ (Jcc (condition_of c
 -- the line of a jal, behind which the address `next` comes
 abbrev pub jal_line : ℕ → ℕ → ℕ → List Native
 jal_line rd next distance = (number_code rd next ++ count) ++ (Jmp distance ∷ [])
+
+-- ==== Loads: eax has the value of rs1, r15 the origin of the data.
+
+abbrev pub data_address : ℕ → Address
+data_address displacement = record { base = R15; index = Rax; scale = One; displacement = displacement }
+
+abbrev pub load_from : LoadKind → Address → Native
+load_from Lb a = MovExtended Sign Byte Rax (Mem a)
+load_from Lh a = MovExtended Sign Word Rax (Mem a)
+load_from Lw a = Mov Dword Rax (Mem a)
+load_from Lbu a = MovExtended Zero Byte Rax (Mem a)
+load_from Lhu a = MovExtended Zero Word Rax (Mem a)
+
+abbrev pub load_code : LoadKind → ℕ → ℕ → ℕ → List Native
+load_code kind rd rs1 displacement = fetch Rax rs1 ++ (load_from kind (data_address displacement) ∷ write rd)
+
+-- the line of a load; the step is counted last, since an access may fault
+abbrev pub load_line : LoadKind → ℕ → ℕ → ℕ → List Native
+load_line kind rd rs1 displacement = load_code kind rd rs1 displacement ++ count

@@ -1,21 +1,23 @@
 -- What holds of the code of lines.
-use Rattle.std.specs.Prelude.{ℤ, if◌then◌else◌, ◌≡◌, ℕ, ◌+◌, ◌^◌, ◌<◌, true, List, ◌∷◌, length}
+use Rattle.std.specs.Prelude.{Some, ◌≤◌, ℤ, if◌then◌else◌, ◌≡◌, ℕ, ◌+◌, ◌^◌, ◌<◌, true, List, ◌∷◌, length}
 use Rattle.rv_word.specs.declared.instr.Cond.{Cond}
 use Rattle.rv_word.specs.declared.instr.Instr.{Instr}
-use Rattle.rv_word.specs.declared.instr.Instr.TheVariants.{Branch, Jal}
-use Rattle.rv_word.specs.Spelling.{InRange}
-use Rattle.rv_mem.specs.Bytes.{address_after}
-use Rattle.rv_step.specs.Step.{is_taken}
+use Rattle.rv_word.specs.declared.instr.Instr.TheVariants.{Branch, Jal, Load}
+use Rattle.rv_word.specs.declared.instr.LoadKind.{LoadKind}
+use Rattle.rv_word.specs.Spelling.{InRange, offset_by}
+use Rattle.rv_mem.specs.Bytes.{IsMemory, address_after, loaded}
+use Rattle.rv_step.specs.Step.{is_taken, load_size, word}
+use Rattle.sfi_image.specs.Parts.{HasGuardRoom}
 use Rattle.sfi_image.specs.Spelling.{Part}
 use Rattle.sfi_translate.specs.Lines.{Line, Does}
-use Rattle.sfi_translate.specs.Machine.{Target, Going, line_step}
+use Rattle.sfi_translate.specs.Machine.{Target, Going, is_tested, line_step}
 use Rattle.x86_step.specs.State.{Core, IsFixed, Text}
 use Rattle.x86_instr.specs.declared.instr.Instr.{Instr as Native}
 use Rattle.x86_step.specs.Step.{Reaches, is_canonical, jumped}
 use Rattle.x86_step.specs.Running.{HasAt, spellings}
 use Rattle.sfi_native.specs.declared.layout.Layout.{Layout}
 use Rattle.sfi_native.specs.Layout.{IsLayout, IsRelated, value}
-use Rattle.sfi_native.specs.Code.{branch_line, computing_line, does_compute, jal_line}
+use Rattle.sfi_native.specs.Code.{branch_line, computing_line, does_compute, jal_line, load_line}
 
 -- Each turn, its registers of 32 bits, has a processor with its state, at each layout: what follows asks for nothing
 -- that can't be.
@@ -65,3 +67,15 @@ JalLinesRun =
     → is_canonical (jumped (end_of at (jal_line rd (address_after address size) distance)) distance) ≡ true
     → LeadsTo t at (jumped (end_of at (jal_line rd (address_after address size) distance)) distance)
     p l c (line_step target p code (Does address size (Jal rd offset) ∷ rest) g)
+
+-- a load from the data, where it reads v
+abbrev pub LoadLinesRun : Type 0
+LoadLinesRun =
+    (target : Target) (p : Part) (code rest : List Line) (address size : ℕ) (kind : LoadKind) (rd rs1 : ℕ) (imm : ℤ) (v : ℕ)
+    (l : Layout) (t : Text) (at : ℕ) (g : Going) (c : Core)
+    → InRange (Load kind rd rs1 imm) → HasGuardRoom p.data_base p.data_size → 4 ≤ p.data_size → IsMemory g.state.memory
+    → is_tested p (offset_by (value p g rs1) imm) (load_size kind) ≡ true
+    → loaded g.state.memory (offset_by (value p g rs1) imm) (load_size kind) ≡ Some v
+    → IsLayout p.data_size l → IsFixed t c → HasAt t at (spellings (load_line kind rd rs1 (word imm))) → IsRelated p l g c
+    → LeadsTo t at (end_of at (load_line kind rd rs1 (word imm))) p l c
+    (line_step target p code (Does address size (Load kind rd rs1 imm) ∷ rest) g)

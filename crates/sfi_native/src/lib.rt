@@ -3,9 +3,11 @@
 //! Each of the sandbox's 32 registers has four bytes in a frame on the stack, r14 has the steps left, r15 the host's
 //! address of the sandbox's address 0; eax, ecx and edx are free between lines. `specs/Code.antt` says which
 //! instructions a line becomes, `specs/Layout.antt` when a processor has the state of a turn. Laws say that
-//! the bytes of lines then do what these do: `Facts::computing_lines_run`, `branch_lines_run`, `jal_lines_run`.
+//! the bytes of lines then do what these do: `Facts::computing_lines_run`, `branch_lines_run`, `jal_lines_run`,
+//! `load_lines_run`.
 #![tactic(auto)]
 
+mod access;
 mod computation;
 mod jump;
 pub mod layout;
@@ -13,6 +15,7 @@ mod operation;
 #[cfg(test)]
 mod tests;
 
+pub use access::push_load_line;
 pub use computation::push_computing_line;
 pub use jump::{push_branch_line, push_jal_line};
 pub use layout::Layout;

@@ -1,6 +1,6 @@
 //! Lines of code, as the GNU assembler spells their instructions.
-use crate::{push_branch_line, push_computing_line, push_jal_line};
-use rv_word::{Cond, ImmOp, Instr, Reg, RegOp};
+use crate::{push_branch_line, push_computing_line, push_jal_line, push_load_line};
+use rv_word::{Cond, ImmOp, Instr, LoadKind, Reg, RegOp};
 use std::test::Fail;
 
 // {load} add and {rex} setl choose among spellings of one instruction. x24 isn't written, and an ecall isn't computed.
@@ -72,5 +72,26 @@ fn jumps_are_spelled(rt: HostRuntime) -> Result<(), Fail> {
     )?;
     push_jal_line(&mut out, Reg::numbered(1), 0x0100_0004, 0xffff_fff0)?;
     assert!(rt; out.as_slice() == JUMPS.as_slice());
+    Ok(())
+}
+
+const LOAD: [u8; 18] = [
+    139, 68, 36, 8, // mov eax, [rsp+8]
+    65, 15, 190, 68, 7, 252, // movsx eax, byte ptr [r15+rax-4]
+    137, 68, 36, 40, // mov [rsp+40], eax
+    65, 131, 238, 1, // sub r14d, 1
+];
+
+#[test]
+fn loads_are_spelled(rt: HostRuntime) -> Result<(), Fail> {
+    let mut out = Vec::new(rt.alloc());
+    push_load_line(
+        &mut out,
+        LoadKind::Lb,
+        Reg::numbered(10),
+        Reg::numbered(2),
+        0xffff_fffc,
+    )?;
+    assert!(rt; out.as_slice() == LOAD.as_slice());
     Ok(())
 }
