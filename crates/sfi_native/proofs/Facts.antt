@@ -1,9 +1,10 @@
 -- What holds of the code of lines: laws, for proofs in the crates above.
-use Rattle.sfi_native.specs.Laws.{BranchLinesRun, ComputingLinesRun, EachTurnIsHeld, JalLinesRun, LoadLinesRun}
+use Rattle.sfi_native.specs.Laws.{BranchLinesRun, ComputingLinesRun, EachTurnIsHeld, JalLinesRun, LoadLinesRun, StoreLinesRun}
 use Rattle.sfi_native.proofs.Held as held
 use Rattle.sfi_native.proofs.Jumps as jumps
 use Rattle.sfi_native.proofs.Lines as lines
 use Rattle.sfi_native.proofs.Loads as loads
+use Rattle.sfi_native.proofs.Stores as stores
 
 pub each_turn_is_held : EachTurnIsHeld
 each_turn_is_held = held.each_turn_is_held
@@ -19,3 +20,6 @@ jal_lines_run = jumps.jal_lines_run
 
 pub load_lines_run : LoadLinesRun
 load_lines_run = loads.load_lines_run
+
+pub store_lines_run : StoreLinesRun
+store_lines_run = stores.store_lines_run

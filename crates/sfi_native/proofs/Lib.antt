@@ -8,5 +8,7 @@ pub mod Held
 pub mod Lines
 pub mod Lists
 pub mod Jumps
+pub mod Accessing
 pub mod Loads
+pub mod Stores
 pub mod Facts

@@ -13,7 +13,8 @@ use Rattle.x86_instr.specs.declared.instr.Width.TheVariants.{Dword}
 use Rattle.x86_instr.specs.declared.operand.Operand.TheVariants.{Reg}
 use Rattle.rv_word.specs.declared.instr.Cond.{Cond}
 use Rattle.rv_word.specs.declared.instr.LoadKind.{LoadKind}
-use Rattle.sfi_native.specs.Code.{branch_line, compare_code, compute, compute_imm, condition_of, count, data_address, fetch, imm_code, jal_line, load_code, load_from, load_line, number_code, op_code, write}
+use Rattle.rv_word.specs.declared.instr.StoreWidth.{StoreWidth}
+use Rattle.sfi_native.specs.Code.{branch_line, compare_code, compute, compute_imm, condition_of, count, data_address, fetch, imm_code, jal_line, load_code, load_from, load_line, number_code, op_code, store_line, store_to, write}
 
 pub one_part : (old : List ℕ) (i : Instr) → old ++ spelling i ≡ old ++ spellings (i ∷ [])
 one_part old i = ap (λ x. old ++ x) (sym (append-nil (spelling i)))
@@ -53,3 +54,7 @@ pub load_parts : (old : List ℕ) (kind : LoadKind) (rd rs1 displacement : ℕ)
 load_parts old kind rd rs1 displacement =
     ap (λ x. x ++ spellings count) (three_parts old (fetch Rax rs1) (load_from kind (data_address displacement) ∷ []) (write rd))
     ∙ two_parts old (load_code kind rd rs1 displacement) count
+
+pub store_parts : (old : List ℕ) (width : StoreWidth) (rs1 rs2 displacement : ℕ)
+    → (((old ++ spellings (fetch Rax rs1)) ++ spellings (fetch Rcx rs2)) ++ spellings (store_to width (data_address displacement) ∷ [])) ++ spellings count ≡ old ++ spellings (store_line width rs1 rs2 displacement)
+store_parts old width rs1 rs2 displacement = four_parts old (fetch Rax rs1) (fetch Rcx rs2) (store_to width (data_address displacement) ∷ []) count

@@ -6,6 +6,8 @@ use Rattle.rv_word.specs.declared.instr.ImmOp.{ImmOp}
 use Rattle.rv_word.specs.declared.instr.ImmOp.TheVariants.{Addi, Slti, Sltiu, Xori, Ori, Andi, Slli, Srli, Srai}
 use Rattle.rv_word.specs.declared.instr.LoadKind.{LoadKind}
 use Rattle.rv_word.specs.declared.instr.LoadKind.TheVariants.{Lb, Lh, Lw, Lbu, Lhu}
+use Rattle.rv_word.specs.declared.instr.StoreWidth.{StoreWidth}
+use Rattle.rv_word.specs.declared.instr.StoreWidth.TheVariants.{Sb, Sh, Sw}
 use Rattle.rv_word.specs.declared.instr.Cond.{Cond}
 use Rattle.rv_word.specs.declared.instr.Cond.TheVariants.{Beq, Bne, Blt, Bge, Bltu, Bgeu}
 use Rattle.rv_word.specs.declared.instr.Instr.{Instr}
@@ -24,7 +26,7 @@ use Rattle.x86_instr.specs.declared.instr.ShiftOp.TheVariants.{Shl, Shr, Sar}
 use Rattle.x86_instr.specs.declared.instr.Condition.{Condition}
 use Rattle.x86_instr.specs.declared.instr.Condition.TheVariants.{AboveOrEqual, Below, Equal, GreaterOrEqual, Less, NotEqual}
 use Rattle.x86_instr.specs.declared.instr.Instr.{Instr as Native}
-use Rattle.x86_instr.specs.declared.instr.Instr.TheVariants.{Mov, MovStore, MovImm, MovExtended, Alu, AluImm, ShiftImm, ShiftCl, Imul, Setcc, Jcc, Jmp}
+use Rattle.x86_instr.specs.declared.instr.Instr.TheVariants.{Mov, MovStore, MovStoreByte, MovStoreWord, MovImm, MovExtended, Alu, AluImm, ShiftImm, ShiftCl, Imul, Setcc, Jcc, Jmp}
 
 -- x0 and x24 to x27 have one value for lines, so that none writes them
 abbrev pub is_fixed : ℕ → Bool
@@ -147,7 +149,7 @@ branch_line cond rs1 rs2 distance = compare_code rs1 rs2 ++ (Jcc (condition_of c
 abbrev pub jal_line : ℕ → ℕ → ℕ → List Native
 jal_line rd next distance = (number_code rd next ++ count) ++ (Jmp distance ∷ [])
 
--- ==== Loads: eax has the value of rs1, r15 the origin of the data.
+-- ==== Accesses: eax has the value of rs1, ecx that of rs2, r15 the origin of the data.
 
 abbrev pub data_address : ℕ → Address
 data_address displacement = record { base = R15; index = Rax; scale = One; displacement = displacement }
@@ -162,6 +164,16 @@ load_from Lhu a = MovExtended Zero Word Rax (Mem a)
 abbrev pub load_code : LoadKind → ℕ → ℕ → ℕ → List Native
 load_code kind rd rs1 displacement = fetch Rax rs1 ++ (load_from kind (data_address displacement) ∷ write rd)
 
--- the line of a load; the step is counted last, since an access may fault
+-- the line of a load: its step is counted last, as it isn't done where the access faults
 abbrev pub load_line : LoadKind → ℕ → ℕ → ℕ → List Native
 load_line kind rd rs1 displacement = load_code kind rd rs1 displacement ++ count
+
+abbrev pub store_to : StoreWidth → Address → Native
+store_to Sb a = MovStoreByte a Rcx
+store_to Sh a = MovStoreWord a Rcx
+store_to Sw a = MovStore Dword a Rcx
+
+-- the line of a store
+abbrev pub store_line : StoreWidth → ℕ → ℕ → ℕ → List Native
+store_line width rs1 rs2 displacement =
+    fetch Rax rs1 ++ (fetch Rcx rs2 ++ ((store_to width (data_address displacement) ∷ []) ++ count))

@@ -2,11 +2,12 @@
 use Rattle.std.specs.Prelude.{Some, ◌≤◌, ℤ, if◌then◌else◌, ◌≡◌, ℕ, ◌+◌, ◌^◌, ◌<◌, true, List, ◌∷◌, length}
 use Rattle.rv_word.specs.declared.instr.Cond.{Cond}
 use Rattle.rv_word.specs.declared.instr.Instr.{Instr}
-use Rattle.rv_word.specs.declared.instr.Instr.TheVariants.{Branch, Jal, Load}
+use Rattle.rv_word.specs.declared.instr.Instr.TheVariants.{Branch, Jal, Load, Store}
+use Rattle.rv_word.specs.declared.instr.StoreWidth.{StoreWidth}
 use Rattle.rv_word.specs.declared.instr.LoadKind.{LoadKind}
 use Rattle.rv_word.specs.Spelling.{InRange, offset_by}
-use Rattle.rv_mem.specs.Bytes.{IsMemory, address_after, loaded}
-use Rattle.rv_step.specs.Step.{is_taken, load_size, word}
+use Rattle.rv_mem.specs.Bytes.{IsMemory, IsThere, address_after, loaded}
+use Rattle.rv_step.specs.Step.{is_taken, load_size, store_size, word}
 use Rattle.sfi_image.specs.Parts.{HasGuardRoom}
 use Rattle.sfi_image.specs.Spelling.{Part}
 use Rattle.sfi_translate.specs.Lines.{Line, Does}
@@ -17,7 +18,7 @@ use Rattle.x86_step.specs.Step.{Reaches, is_canonical, jumped}
 use Rattle.x86_step.specs.Running.{HasAt, spellings}
 use Rattle.sfi_native.specs.declared.layout.Layout.{Layout}
 use Rattle.sfi_native.specs.Layout.{IsLayout, IsRelated, value}
-use Rattle.sfi_native.specs.Code.{branch_line, computing_line, does_compute, jal_line, load_line}
+use Rattle.sfi_native.specs.Code.{branch_line, computing_line, does_compute, jal_line, load_line, store_line}
 
 -- Each turn, its registers of 32 bits, has a processor with its state, at each layout: what follows asks for nothing
 -- that can't be.
@@ -79,3 +80,15 @@ LoadLinesRun =
     → IsLayout p.data_size l → IsFixed t c → HasAt t at (spellings (load_line kind rd rs1 (word imm))) → IsRelated p l g c
     → LeadsTo t at (end_of at (load_line kind rd rs1 (word imm))) p l c
     (line_step target p code (Does address size (Load kind rd rs1 imm) ∷ rest) g)
+
+-- a store to the data, of which each byte is there
+abbrev pub StoreLinesRun : Type 0
+StoreLinesRun =
+    (target : Target) (p : Part) (code rest : List Line) (address size : ℕ) (width : StoreWidth) (rs1 rs2 : ℕ) (imm : ℤ)
+    (l : Layout) (t : Text) (at : ℕ) (g : Going) (c : Core)
+    → InRange (Store width rs1 rs2 imm) → HasGuardRoom p.data_base p.data_size → 4 ≤ p.data_size
+    → is_tested p (offset_by (value p g rs1) imm) (store_size width) ≡ true
+    → IsThere g.state.memory (offset_by (value p g rs1) imm) (store_size width)
+    → IsLayout p.data_size l → IsFixed t c → HasAt t at (spellings (store_line width rs1 rs2 (word imm))) → IsRelated p l g c
+    → LeadsTo t at (end_of at (store_line width rs1 rs2 (word imm))) p l c
+    (line_step target p code (Does address size (Store width rs1 rs2 imm) ∷ rest) g)

@@ -1,6 +1,6 @@
 //! The bytes of a load or a store.
 ghost use Rattle.std.specs.Prelude.{◌≡◌, ◌++◌, OnOk};
-ghost use Rattle.sfi_native.specs.Code.{data_address as data_address_at, load_from as load_of, load_line};
+ghost use Rattle.sfi_native.specs.Code.{data_address as data_address_at, load_from as load_of, load_line, store_line, store_to as store_of};
 ghost use Rattle.x86_instr.specs.declared.instr.Instr.TheVariants.{MovExtended};
 ghost use Rattle.x86_instr.specs.declared.operand.Operand.TheVariants.{Mem};
 ghost use Rattle.x86_instr.specs.declared.operand.Register.TheVariants.{Rax};
@@ -8,7 +8,7 @@ ghost use Rattle.x86_step.specs.Running.{spellings};
 
 use crate::computation::put_count;
 use crate::operation::{put, put_fetch, put_write};
-use rv_word::{LoadKind, Reg};
+use rv_word::{LoadKind, Reg, StoreWidth};
 use std::alloc::AllocError;
 use x86_instr::{Address, Extension, Instr, Narrow, Operand, Register, Scale, Width};
 
@@ -67,5 +67,43 @@ pub fn push_load_line(
     put_fetch(out, Register::Rax, rs1)?;
     put(out, load_from(kind, data_address(displacement)))?;
     put_write(out, rd)?;
+    put_count(out)
+}
+
+/// A store of ecx.
+fn store_to(width: StoreWidth, place: Address) -> Instr
+    ensures { result ≡ store_of width place }
+{
+    match width {
+        StoreWidth::Sb => Instr::MovStoreByte {
+            dst: place,
+            src: Register::Rcx,
+        },
+        StoreWidth::Sh => Instr::MovStoreWord {
+            dst: place,
+            src: Register::Rcx,
+        },
+        StoreWidth::Sw => Instr::MovStore {
+            width: Width::Dword,
+            dst: place,
+            src: Register::Rcx,
+        },
+    }
+}
+
+/// Writes the line of a store of `rs2` behind what is there. The displacement is the immediate, in two's complement.
+#[tactic(auto, using(crate::proofs::Lists::store_parts))]
+pub fn push_store_line(
+    out: &mut Vec<u8>,
+    width: StoreWidth,
+    rs1: Reg,
+    rs2: Reg,
+    displacement: u32,
+) -> Result<(), AllocError>
+    ensures { OnOk result (out.new.items ≡ out.old.items ++ spellings (store_line width rs1 rs2 displacement)) }
+{
+    put_fetch(out, Register::Rax, rs1)?;
+    put_fetch(out, Register::Rcx, rs2)?;
+    put(out, store_to(width, data_address(displacement)))?;
     put_count(out)
 }

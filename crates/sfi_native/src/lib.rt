@@ -4,7 +4,7 @@
 //! address of the sandbox's address 0; eax, ecx and edx are free between lines. `specs/Code.antt` says which
 //! instructions a line becomes, `specs/Layout.antt` when a processor has the state of a turn. Laws say that
 //! the bytes of lines then do what these do: `Facts::computing_lines_run`, `branch_lines_run`, `jal_lines_run`,
-//! `load_lines_run`.
+//! `load_lines_run`, `store_lines_run`.
 #![tactic(auto)]
 
 mod access;
@@ -15,7 +15,7 @@ mod operation;
 #[cfg(test)]
 mod tests;
 
-pub use access::push_load_line;
+pub use access::{push_load_line, push_store_line};
 pub use computation::push_computing_line;
 pub use jump::{push_branch_line, push_jal_line};
 pub use layout::Layout;

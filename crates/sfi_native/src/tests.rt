@@ -1,6 +1,8 @@
 //! Lines of code, as the GNU assembler spells their instructions.
-use crate::{push_branch_line, push_computing_line, push_jal_line, push_load_line};
-use rv_word::{Cond, ImmOp, Instr, LoadKind, Reg, RegOp};
+use crate::{
+    push_branch_line, push_computing_line, push_jal_line, push_load_line, push_store_line,
+};
+use rv_word::{Cond, ImmOp, Instr, LoadKind, Reg, RegOp, StoreWidth};
 use std::test::Fail;
 
 // {load} add and {rex} setl choose among spellings of one instruction. x24 isn't written, and an ecall isn't computed.
@@ -75,15 +77,19 @@ fn jumps_are_spelled(rt: HostRuntime) -> Result<(), Fail> {
     Ok(())
 }
 
-const LOAD: [u8; 18] = [
+const ACCESSES: [u8; 38] = [
     139, 68, 36, 8, // mov eax, [rsp+8]
     65, 15, 190, 68, 7, 252, // movsx eax, byte ptr [r15+rax-4]
     137, 68, 36, 40, // mov [rsp+40], eax
     65, 131, 238, 1, // sub r14d, 1
+    139, 68, 36, 8, // mov eax, [rsp+8]
+    139, 76, 36, 44, // mov ecx, [rsp+44]
+    65, 137, 140, 7, 0, 1, 0, 0, // mov [r15+rax+256], ecx
+    65, 131, 238, 1, // sub r14d, 1
 ];
 
 #[test]
-fn loads_are_spelled(rt: HostRuntime) -> Result<(), Fail> {
+fn accesses_are_spelled(rt: HostRuntime) -> Result<(), Fail> {
     let mut out = Vec::new(rt.alloc());
     push_load_line(
         &mut out,
@@ -92,6 +98,13 @@ fn loads_are_spelled(rt: HostRuntime) -> Result<(), Fail> {
         Reg::numbered(2),
         0xffff_fffc,
     )?;
-    assert!(rt; out.as_slice() == LOAD.as_slice());
+    push_store_line(
+        &mut out,
+        StoreWidth::Sw,
+        Reg::numbered(2),
+        Reg::numbered(11),
+        256,
+    )?;
+    assert!(rt; out.as_slice() == ACCESSES.as_slice());
     Ok(())
 }

@@ -1,0 +1,164 @@
+-- The code of stores to the data.
+use Rattle.std.proofs.Common.{◌≡◌, ℕ, zero, suc, ◌+◌, ◌-◌, ◌*◌, ◌/◌, ◌%◌, ◌^◌, ◌<◌, ◌≤◌, ◌⊎◌, true, Some, None, Option, List, [], ◌∷◌, ◌++◌, refl, sym, ap, ◌∙◌, subst, arith, inl, inr}
+use Rattle.std.specs.Prelude.{Ok, is_some}
+use Rattle.std.specs.Option.{option_map}
+use Rattle.std.specs.Int.{bytes_low_first}
+use Rattle.std.proofs.lemmas.Bool.{cases_lt, false≢true}
+use Rattle.rv_word.specs.declared.instr.StoreWidth.{StoreWidth}
+use Rattle.rv_word.specs.declared.instr.StoreWidth.TheVariants.{Sb, Sh, Sw}
+use Rattle.rv_word.specs.Spelling.{offset_by}
+unfoldable use Rattle.rv_word.specs.Spelling.{InRange}
+use Rattle.rv_mem.specs.Bytes.{Bytes, address_after, addresses, byte_at, bytes_at, number_of, stored}
+use Rattle.rv_mem.proofs.Facts.{addresses_are_these, others_stay, written_is_there}
+use Rattle.rv_step.specs.Step.{store_size, word}
+use Rattle.sfi_safe_runs.proofs.Accessing.{store_sized}
+use Rattle.sfi_image.specs.Spelling.{Part}
+use Rattle.sfi_translate.specs.Machine.{Before, Going}
+use Rattle.x86_instr.specs.declared.operand.Register.TheVariants.{Rax, Rcx}
+use Rattle.x86_instr.specs.declared.operand.Address.{Address}
+use Rattle.x86_step.specs.State.{Core, may_write, number_at, with_memory, with_register, written}
+use Rattle.x86_step.specs.Step.{address, stored as stores}
+unfoldable use Rattle.x86_step.specs.Step.{computes}
+use Rattle.x86_step.specs.Running.{are_straight, exec}
+use Rattle.x86_step.proofs.Facts.{spelled_run}
+use Rattle.x86_step.proofs.Running.{exec_append}
+use Rattle.sfi_native.specs.declared.layout.Layout.{Layout}
+use Rattle.sfi_native.specs.Layout.{IsLayout, IsRelated, value}
+use Rattle.sfi_native.specs.Laws.{StoreLinesRun}
+use Rattle.sfi_native.specs.Code.{count, data_address, fetch, store_line, store_to}
+use Rattle.sfi_native.proofs.Accessing.{number_is, place_is, within}
+use Rattle.sfi_native.proofs.Computing.{kept_register}
+use Rattle.sfi_native.proofs.Counting.{counts}
+use Rattle.sfi_native.proofs.Fetching.{fetched, related_kept}
+use Rattle.sfi_native.proofs.Lines.{none_comes}
+use Rattle.sfi_native.proofs.Memory.{may_write_each, number_elsewhere, store_there, written_elsewhere, written_here}
+
+some_number : (q : Option (List ℕ)) → is_some q ≡ true → (n : ℕ) × (option_map number_of q ≡ Some n)
+some_number None e = absurd (false≢true e)
+some_number (Some bs) e = (number_of bs, refl)
+
+-- ==== The memory of the machine after a store.
+
+new_byte : (m : Bytes) (at : ℕ) (width : StoreWidth) (v i : ℕ) → at + store_size width ≤ 2 ^ 32 → i < store_size width
+    → byte_at (stored m at (store_size width) v) (at + i) ≡ Some (v / 256 ^ i % 256)
+new_byte m at Sb v zero room few = written_is_there m at (bytes_low_first 0 1 v) 0 room few ∙ ap Some (omega arith)
+new_byte m at Sb v (suc i) room few = absurd (omega (arith, few))
+new_byte m at Sh v zero room few = written_is_there m at (bytes_low_first 0 2 v) 0 room few ∙ ap Some (omega arith)
+new_byte m at Sh v (suc zero) room few = written_is_there m at (bytes_low_first 0 2 v) 1 room few ∙ ap Some (omega arith)
+new_byte m at Sh v (suc (suc i)) room few = absurd (omega (arith, few))
+new_byte m at Sw v zero room few = written_is_there m at (bytes_low_first 0 4 v) 0 room few ∙ ap Some (omega arith)
+new_byte m at Sw v (suc zero) room few = written_is_there m at (bytes_low_first 0 4 v) 1 room few ∙ ap Some (omega arith)
+new_byte m at Sw v (suc (suc zero)) room few = written_is_there m at (bytes_low_first 0 4 v) 2 room few ∙ ap Some (omega arith)
+new_byte m at Sw v (suc (suc (suc zero))) room few = written_is_there m at (bytes_low_first 0 4 v) 3 room few ∙ ap Some (omega arith)
+new_byte m at Sw v (suc (suc (suc (suc i)))) room few = absurd (omega (arith, few))
+
+old_byte : (m : Bytes) (at n v a : ℕ) → at + n ≤ 2 ^ 32 → (a < at) ⊎ (at + n ≤ a) → byte_at (stored m at n v) a ≡ byte_at m a
+old_byte m at n v a room apart = others_stay m (addresses at n) (bytes_low_first 0 n v) a (λ has.
+    let one = (addresses_are_these at n a).0 has in
+    let e : a ≡ at + one.0 = omega (arith, one.1, one.2, room) in
+    elim apart [ inl h ↦ omega (arith, e, h) | inr h ↦ omega (arith, e, h, one.1) ])
+
+-- ==== Both memories after it.
+
+module _ (p : Part) (l : Layout) (layout : IsLayout p.data_size l) (g : Going) (c : Core) (is : IsRelated p l g c) (width : StoreWidth) (at v : ℕ)
+    (low : p.data_base ≤ at) (high : at - p.data_base + store_size width ≤ p.data_size) (room : p.data_base + p.data_size ≤ 2 ^ 32) where
+  abbrev place : ℕ
+  place = l.data_start + (at - p.data_base)
+
+  abbrev pub turned : Going
+  turned = record { place = g.place; state = record { hart = g.state.hart; memory = stored g.state.memory at (store_size width) v }; left = g.left }
+
+  ends : at + store_size width ≤ 2 ^ 32
+  ends = omega (arith, low, high, room)
+
+  new : (i : ℕ) → i < store_size width → written c.memory (store_size width) place v (place + i) ≡ byte_at turned.state.memory (at + i)
+  new i few = written_here c.memory (store_size width) place v i few ∙ sym (new_byte g.state.memory at width v i ends few)
+
+  old : (k : ℕ) → k < p.data_size → (k < at - p.data_base) ⊎ (at - p.data_base + store_size width ≤ k)
+      → written c.memory (store_size width) place v (l.data_start + k) ≡ byte_at turned.state.memory (p.data_base + k)
+  old k inside apart =
+      written_elsewhere c.memory (store_size width) place v (l.data_start + k) (elim apart [ inl h ↦ inl (omega (arith, h)) | inr h ↦ inr (omega (arith, h)) ])
+      ∙ is.bytes k inside
+      ∙ sym (old_byte g.state.memory at (store_size width) v (p.data_base + k) ends (elim apart [ inl h ↦ inl (omega (arith, h, low)) | inr h ↦ inr (omega (arith, h, low)) ]))
+
+  same : (k : ℕ) → k < p.data_size → written c.memory (store_size width) place v (l.data_start + k) ≡ byte_at turned.state.memory (p.data_base + k)
+  same k inside = elim (cases_lt k (at - p.data_base)) [
+    | inl before ↦ old k inside (inl before)
+    | inr from ↦ elim (cases_lt k (at - p.data_base + store_size width)) [
+      | inl here ↦
+          let i = k - (at - p.data_base) in
+          let e1 : l.data_start + k ≡ place + i = omega (arith, from) in
+          let e2 : at + i ≡ p.data_base + k = omega (arith, from, low) in
+          ap (written c.memory (store_size width) place v) e1 ∙ new i (omega (arith, here, from)) ∙ ap (byte_at turned.state.memory) e2
+      | inr after ↦ old k inside (inr after)
+    ]
+  ]
+
+  pub related_stored : IsRelated p l turned (with_memory c (written c.memory (store_size width) place v))
+  related_stored = record {
+    count = is.count;
+    words = is.words;
+    registers = λ r small. number_elsewhere c.memory (store_size width) place v 4 (l.frame + 4 * r) (elim layout.apart [
+      | inl above ↦ inl (omega (arith, above, small))
+      | inr below ↦ inr (omega (arith, below, high))
+    ]) ∙ is.registers r small;
+    frame = is.frame;
+    frame_is_written = is.frame_is_written;
+    few = is.few;
+    left = is.left;
+    bytes = same;
+    bytes_are_written = is.bytes_are_written;
+    origin_is = is.origin_is;
+  }
+
+  pub may_be_written : may_write c.writable (store_size width) place ≡ true
+  may_be_written = may_write_each c.writable (store_size width) place (λ k few.
+      let e : l.data_start + (at - p.data_base + k) ≡ place + k = omega arith in
+      subst (λ a. c.writable a ≡ true) e (is.bytes_are_written (at - p.data_base + k) (omega (arith, few, high))))
+
+-- ==== A store.
+
+store_straight : (width : StoreWidth) (a : Address) → are_straight ((store_to width a ∷ []) ++ count) ≡ true
+store_straight Sb a = refl
+store_straight _ a = refl
+
+-- ecx goes to the place
+puts : (width : StoreWidth) (a : Address) (c d : Core) → stores c (store_size width) (address c a) (c.registers 1) ≡ Ok d → exec (store_to width a ∷ []) c ≡ Ok d
+unfolding computes
+puts Sb a c d is = rw is refl
+puts Sh a c d is = rw is refl
+puts Sw a c d is = rw is refl
+
+pub store_lines_run : StoreLinesRun
+unfolding InRange
+store_lines_run target p code rest own size width rs1 rs2 imm l t at g c range room some tested there layout fixed_text stands is =
+    let n = store_size width in
+    let sized = store_sized width in
+    let a = value p g rs1 in
+    let b = value p g rs2 in
+    let to = data_address (word imm) in
+    let c1 = with_register c 0 a in
+    let c2 = with_register c1 1 b in
+    let is1 = related_kept p l layout g c c1 is (kept_register c 0 a (omega arith)) in
+    let is2 = related_kept p l layout g c1 c2 is1 (kept_register c1 1 b (omega arith)) in
+    let w = within p l layout g c is room some n sized.some sized.most rs1 imm range.2 tested in
+    let place = l.data_start + (offset_by a imm - p.data_base) in
+    let old = some_number (bytes_at g.state.memory (addresses (offset_by a imm) n)) there in
+    let held : number_at c.memory n place ≡ Some old.0 = number_is p l layout g c is room some n sized.some sized.most rs1 imm range.2 tested ∙ old.1 in
+    let inside : p.data_base + p.data_size ≤ 2 ^ 32 = omega (arith, room.above) in
+    let c3 = with_memory c2 (written c.memory n place b) in
+    let is3 = related_stored p l layout g c2 is2 width (offset_by a imm) b w.0 w.1 inside in
+    let put : stores c2 n (address c2 to) b ≡ Ok c3 =
+    ap (λ q. stores c2 n q b) (place_is p l layout g c is room some n sized.some sized.most rs1 imm range.2 tested)
+    ∙ store_there c2 n place old.0 b (omega (arith, w.1, layout.data_ends)) held (may_be_written p l layout g c2 is2 width (offset_by a imm) b w.0 w.1 inside) in
+    let still = none_comes p l layout _ c3 is3 (Before rest) (address_after own size) in
+    let last = counts p l _ c3 still in
+    let runs : exec (store_line width rs1 rs2 (word imm)) c ≡ Ok last.core =
+    exec_append (fetch Rax rs1) (fetch Rcx rs2 ++ ((store_to width to ∷ []) ++ count)) c c1 (fetched p l layout g c Rax rs1 range.0 is)
+    ∙ exec_append (fetch Rcx rs2) ((store_to width to ∷ []) ++ count) c1 c2 (fetched p l layout g c1 Rcx rs2 range.1 is1)
+    ∙ exec_append (store_to width to ∷ []) count c2 c3 (puts width to c2 c3 put) ∙ last.runs in
+    rw (tested, there) (record {
+      after = last.core;
+      reached = spelled_run t at (store_line width rs1 rs2 (word imm)) c last.core fixed_text (store_straight width to) stands runs;
+      related = last.related;
+    })
