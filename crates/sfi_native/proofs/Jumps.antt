@@ -137,19 +137,19 @@ branch_effect condition distance after end d false is met canonical = rw (met, i
 
 pub branch_lines_run : BranchLinesRun
 unfolding InRange
-branch_lines_run target p code rest address size cond rs1 rs2 offset distance l t at g c range layout fixed_text stands is canonical =
+branch_lines_run target p code rest address size cond rs1 rs2 offset distance l t at g c range here canonical =
     let a = value p g rs1 in
     let b = value p g rs2 in
-    let done = compares p l layout g c is rs1 rs2 range.0 range.1 in
+    let done = compares p l here.layout g c here.related rs1 rs2 range.0 range.1 in
     let end = end_of at (branch_line cond rs1 rs2 distance) in
     let met : is_met (condition_of cond) done.core.flags ≡ Some (is_taken cond a b) =
-    ap (is_met (condition_of cond)) done.flags ∙ met_is cond a b (is.words rs1) (is.words rs2) in
+    ap (is_met (condition_of cond)) done.flags ∙ met_is cond a b (here.related.words rs1) (here.related.words rs2) in
     record {
       after = done.core;
-      reached = jumps_to t at (compare_code rs1 rs2) (Jcc (condition_of cond) distance) c done.core fixed_text refl stands done.runs
+      reached = jumps_to t at (compare_code rs1 rs2) (Jcc (condition_of cond) distance) c done.core here.text_is_fixed refl here.stands done.runs
           (if is_taken cond a b then jumped end distance else end)
           (λ after e. branch_effect (condition_of cond) distance after end done.core (is_taken cond a b) e met canonical);
-      related = by_branch p l layout g c is (is_taken cond a b) _ address size (offset_by address offset) done.core done.related;
+      related = by_branch p l here.layout g c here.related (is_taken cond a b) _ address size (offset_by address offset) done.core done.related;
     }
 
 -- ==== A jal.
@@ -160,14 +160,14 @@ jal_effect distance after end d is canonical = rw (is, canonical) refl
 
 pub jal_lines_run : JalLinesRun
 unfolding InRange
-jal_lines_run target p code rest address size rd offset distance l t at g c range layout fixed_text stands is canonical =
+jal_lines_run target p code rest address size rd offset distance l t at g c range here canonical =
     let v = address_after address size in
     let end = end_of at (jal_line rd v distance) in
-    let front = number_comes p l layout g c is (jumps target code address (offset_by address offset) (one_less g.left)) (offset_by address offset) rd v range.0 (omega arith) in
+    let front = number_comes p l here.layout g c here.related (jumps target code address (offset_by address offset) (one_less g.left)) (offset_by address offset) rd v range.0 (omega arith) in
     let done = then_count p l c (number_code rd v) _ front in
     record {
       after = done.core;
-      reached = jumps_to t at (number_code rd v ++ count) (Jmp distance) c done.core fixed_text (straight_append (number_code rd v) count (write_straight rd) refl) stands done.runs
+      reached = jumps_to t at (number_code rd v ++ count) (Jmp distance) c done.core here.text_is_fixed (straight_append (number_code rd v) count (write_straight rd) refl) here.stands done.runs
           (jumped end distance) (λ after e. jal_effect distance after end done.core e canonical);
       related = done.related;
     }

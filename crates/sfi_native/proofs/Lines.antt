@@ -151,10 +151,10 @@ module _ (target : Target) (p : Part) (code rest : List Line) (at n : ℕ) (l : 
 
 -- wherever its bytes stand
 pub computing_lines_run : ComputingLinesRun
-computing_lines_run target p code rest address size i l t at g c has range layout fixed_text stands is =
-    let line = computation_comes target p code rest address size l layout g c is i has range in
+computing_lines_run target p code rest address size i l t at g c has range here =
+    let line = computation_comes target p code rest address size l here.layout g c here.related i has range in
     record {
       after = line.core;
-      reached = spelled_run t at (computing_line address i) c line.core fixed_text (line_straight address i) stands line.runs;
+      reached = spelled_run t at (computing_line address i) c line.core here.text_is_fixed (line_straight address i) here.stands line.runs;
       related = line.related;
     }

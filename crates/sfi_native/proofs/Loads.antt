@@ -86,15 +86,15 @@ module _ (p : Part) (l : Layout) (layout : IsLayout p.data_size l) (g : Going) (
 
 pub load_lines_run : LoadLinesRun
 unfolding InRange
-load_lines_run target p code rest address size kind rd rs1 imm v l t at g c range room some memory tested reads layout fixed_text stands is =
+load_lines_run target p code rest address size kind rd rs1 imm v l t at g c range in_data memory reads here =
     let value_fits = extended_fits kind v (loaded_fits g.state.memory (offset_by (value p g rs1) imm) v kind memory reads) in
-    let front = load_computed p l layout g c is room some memory kind rs1 imm v range.1 range.2 tested reads in
-    let written = finish p l layout g c is (Before rest) (address_after address size) (fetch Rax rs1 ++ (load_from kind (data_address (word imm)) ∷ [])) rd (extended kind v) range.0 value_fits front in
+    let front = load_computed p l here.layout g c here.related in_data.room in_data.some memory kind rs1 imm v range.1 range.2 in_data.tested reads in
+    let written = finish p l here.layout g c here.related (Before rest) (address_after address size) (fetch Rax rs1 ++ (load_from kind (data_address (word imm)) ∷ [])) rd (extended kind v) range.0 value_fits front in
     let done = then_count p l c (load_code kind rd rs1 (word imm)) _ written in
     let straight = straight_append (load_code kind rd rs1 (word imm)) count
     (straight_append (load_from kind (data_address (word imm)) ∷ []) (write rd) (load_straight kind (data_address (word imm))) (write_straight rd)) refl in
-    rw (tested, reads) (record {
+    rw (in_data.tested, reads) (record {
       after = done.core;
-      reached = spelled_run t at (load_code kind rd rs1 (word imm) ++ count) c done.core fixed_text straight stands done.runs;
+      reached = spelled_run t at (load_code kind rd rs1 (word imm) ++ count) c done.core here.text_is_fixed straight here.stands done.runs;
       related = done.related;
     })

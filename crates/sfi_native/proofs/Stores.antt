@@ -131,7 +131,7 @@ puts Sw a c d is = rw is refl
 
 pub store_lines_run : StoreLinesRun
 unfolding InRange
-store_lines_run target p code rest own size width rs1 rs2 imm l t at g c range room some tested there layout fixed_text stands is =
+store_lines_run target p code rest own size width rs1 rs2 imm l t at g c range in_data there here =
     let n = store_size width in
     let sized = store_sized width in
     let a = value p g rs1 in
@@ -139,26 +139,26 @@ store_lines_run target p code rest own size width rs1 rs2 imm l t at g c range r
     let to = data_address (word imm) in
     let c1 = with_register c 0 a in
     let c2 = with_register c1 1 b in
-    let is1 = related_kept p l layout g c c1 is (kept_register c 0 a (omega arith)) in
-    let is2 = related_kept p l layout g c1 c2 is1 (kept_register c1 1 b (omega arith)) in
-    let w = within p l layout g c is room some n sized.some sized.most rs1 imm range.2 tested in
+    let is1 = related_kept p l here.layout g c c1 here.related (kept_register c 0 a (omega arith)) in
+    let is2 = related_kept p l here.layout g c1 c2 is1 (kept_register c1 1 b (omega arith)) in
+    let w = within p l here.layout g c here.related in_data.room in_data.some n sized.some sized.most rs1 imm range.2 in_data.tested in
     let place = l.data_start + (offset_by a imm - p.data_base) in
     let old = some_number (bytes_at g.state.memory (addresses (offset_by a imm) n)) there in
-    let held : number_at c.memory n place ≡ Some old.0 = number_is p l layout g c is room some n sized.some sized.most rs1 imm range.2 tested ∙ old.1 in
-    let inside : p.data_base + p.data_size ≤ 2 ^ 32 = omega (arith, room.above) in
+    let held : number_at c.memory n place ≡ Some old.0 = number_is p l here.layout g c here.related in_data.room in_data.some n sized.some sized.most rs1 imm range.2 in_data.tested ∙ old.1 in
+    let inside : p.data_base + p.data_size ≤ 2 ^ 32 = omega (arith, in_data.room.above) in
     let c3 = with_memory c2 (written c.memory n place b) in
-    let is3 = related_stored p l layout g c2 is2 width (offset_by a imm) b w.0 w.1 inside in
+    let is3 = related_stored p l here.layout g c2 is2 width (offset_by a imm) b w.0 w.1 inside in
     let put : stores c2 n (address c2 to) b ≡ Ok c3 =
-    ap (λ q. stores c2 n q b) (place_is p l layout g c is room some n sized.some sized.most rs1 imm range.2 tested)
-    ∙ store_there c2 n place old.0 b (omega (arith, w.1, layout.data_ends)) held (may_be_written p l layout g c2 is2 width (offset_by a imm) b w.0 w.1 inside) in
-    let still = none_comes p l layout _ c3 is3 (Before rest) (address_after own size) in
+    ap (λ q. stores c2 n q b) (place_is p l here.layout g c here.related in_data.room in_data.some n sized.some sized.most rs1 imm range.2 in_data.tested)
+    ∙ store_there c2 n place old.0 b (omega (arith, w.1, here.layout.data_ends)) held (may_be_written p l here.layout g c2 is2 width (offset_by a imm) b w.0 w.1 inside) in
+    let still = none_comes p l here.layout _ c3 is3 (Before rest) (address_after own size) in
     let last = counts p l _ c3 still in
     let runs : exec (store_line width rs1 rs2 (word imm)) c ≡ Ok last.core =
-    exec_append (fetch Rax rs1) (fetch Rcx rs2 ++ ((store_to width to ∷ []) ++ count)) c c1 (fetched p l layout g c Rax rs1 range.0 is)
-    ∙ exec_append (fetch Rcx rs2) ((store_to width to ∷ []) ++ count) c1 c2 (fetched p l layout g c1 Rcx rs2 range.1 is1)
+    exec_append (fetch Rax rs1) (fetch Rcx rs2 ++ ((store_to width to ∷ []) ++ count)) c c1 (fetched p l here.layout g c Rax rs1 range.0 here.related)
+    ∙ exec_append (fetch Rcx rs2) ((store_to width to ∷ []) ++ count) c1 c2 (fetched p l here.layout g c1 Rcx rs2 range.1 is1)
     ∙ exec_append (store_to width to ∷ []) count c2 c3 (puts width to c2 c3 put) ∙ last.runs in
-    rw (tested, there) (record {
+    rw (in_data.tested, there) (record {
       after = last.core;
-      reached = spelled_run t at (store_line width rs1 rs2 (word imm)) c last.core fixed_text (store_straight width to) stands runs;
+      reached = spelled_run t at (store_line width rs1 rs2 (word imm)) c last.core here.text_is_fixed (store_straight width to) here.stands runs;
       related = last.related;
     })

@@ -37,13 +37,25 @@ pub record LeadsTo (t : Text) (at to : ℕ) (p : Part) (l : Layout) (c : Core) (
 abbrev pub end_of : ℕ → List Native → ℕ
 end_of at is = at + length (spellings is)
 
+-- The processor is before code that stands in a fixed text, and has the turn's state.
+pub record IsBefore (is : List Native) (t : Text) (at : ℕ) (p : Part) (l : Layout) (g : Going) (c : Core) : Type 0 where
+  pub layout : IsLayout p.data_size l
+  pub text_is_fixed : IsFixed t c
+  pub stands : HasAt t at (spellings is)
+  pub related : IsRelated p l g c
+
+-- An access of n bytes lies in the data, around which guard zones have room.
+pub record IsInData (p : Part) (at n : ℕ) : Type 0 where
+  pub room : HasGuardRoom p.data_base p.data_size
+  pub some : 4 ≤ p.data_size
+  pub tested : is_tested p at n ≡ true
+
 -- Wherever the bytes of a computing line stand, they do what the line does, by which its step is counted.
 abbrev pub ComputingLinesRun : Type 0
 ComputingLinesRun =
     (target : Target) (p : Part) (code rest : List Line) (address size : ℕ) (i : Instr) (l : Layout) (t : Text) (at : ℕ)
     (g : Going) (c : Core)
-    → does_compute i ≡ true → InRange i → IsLayout p.data_size l → IsFixed t c → HasAt t at (spellings (computing_line address i))
-    → IsRelated p l g c
+    → does_compute i ≡ true → InRange i → IsBefore (computing_line address i) t at p l g c
     → LeadsTo t at (end_of at (computing_line address i)) p l c (line_step target p code (Does address size i ∷ rest) g)
 
 -- A branch goes over its distance where it is taken, if that leads to a canonical address, and else to its end.
@@ -51,44 +63,39 @@ abbrev pub BranchLinesRun : Type 0
 BranchLinesRun =
     (target : Target) (p : Part) (code rest : List Line) (address size : ℕ) (cond : Cond) (rs1 rs2 : ℕ) (offset : ℤ) (distance : ℕ)
     (l : Layout) (t : Text) (at : ℕ) (g : Going) (c : Core)
-    → InRange (Branch cond rs1 rs2 offset) → IsLayout p.data_size l → IsFixed t c
-    → HasAt t at (spellings (branch_line cond rs1 rs2 distance)) → IsRelated p l g c
-    → is_canonical (jumped (end_of at (branch_line cond rs1 rs2 distance)) distance) ≡ true
-    → LeadsTo t at (if is_taken cond (value p g rs1) (value p g rs2) then jumped (end_of at (branch_line cond rs1 rs2 distance)) distance
-    else end_of at (branch_line cond rs1 rs2 distance))
-    p l c (line_step target p code (Does address size (Branch cond rs1 rs2 offset) ∷ rest) g)
+    → let end = end_of at (branch_line cond rs1 rs2 distance) in
+    InRange (Branch cond rs1 rs2 offset) → IsBefore (branch_line cond rs1 rs2 distance) t at p l g c
+    → is_canonical (jumped end distance) ≡ true
+    → LeadsTo t at (if is_taken cond (value p g rs1) (value p g rs2) then jumped end distance else end) p l c
+    (line_step target p code (Does address size (Branch cond rs1 rs2 offset) ∷ rest) g)
 
 -- a jal over its distance
 abbrev pub JalLinesRun : Type 0
 JalLinesRun =
     (target : Target) (p : Part) (code rest : List Line) (address size rd : ℕ) (offset : ℤ) (distance : ℕ) (l : Layout) (t : Text)
     (at : ℕ) (g : Going) (c : Core)
-    → InRange (Jal rd offset) → IsLayout p.data_size l → IsFixed t c
-    → HasAt t at (spellings (jal_line rd (address_after address size) distance)) → IsRelated p l g c
-    → is_canonical (jumped (end_of at (jal_line rd (address_after address size) distance)) distance) ≡ true
-    → LeadsTo t at (jumped (end_of at (jal_line rd (address_after address size) distance)) distance)
-    p l c (line_step target p code (Does address size (Jal rd offset) ∷ rest) g)
+    → let line = jal_line rd (address_after address size) distance in
+    InRange (Jal rd offset) → IsBefore line t at p l g c → is_canonical (jumped (end_of at line) distance) ≡ true
+    → LeadsTo t at (jumped (end_of at line) distance) p l c (line_step target p code (Does address size (Jal rd offset) ∷ rest) g)
 
 -- a load from the data, where it reads v
 abbrev pub LoadLinesRun : Type 0
 LoadLinesRun =
     (target : Target) (p : Part) (code rest : List Line) (address size : ℕ) (kind : LoadKind) (rd rs1 : ℕ) (imm : ℤ) (v : ℕ)
     (l : Layout) (t : Text) (at : ℕ) (g : Going) (c : Core)
-    → InRange (Load kind rd rs1 imm) → HasGuardRoom p.data_base p.data_size → 4 ≤ p.data_size → IsMemory g.state.memory
-    → is_tested p (offset_by (value p g rs1) imm) (load_size kind) ≡ true
-    → loaded g.state.memory (offset_by (value p g rs1) imm) (load_size kind) ≡ Some v
-    → IsLayout p.data_size l → IsFixed t c → HasAt t at (spellings (load_line kind rd rs1 (word imm))) → IsRelated p l g c
-    → LeadsTo t at (end_of at (load_line kind rd rs1 (word imm))) p l c
-    (line_step target p code (Does address size (Load kind rd rs1 imm) ∷ rest) g)
+    → let line = load_line kind rd rs1 (word imm) in
+    let from = offset_by (value p g rs1) imm in
+    InRange (Load kind rd rs1 imm) → IsInData p from (load_size kind) → IsMemory g.state.memory
+    → loaded g.state.memory from (load_size kind) ≡ Some v → IsBefore line t at p l g c
+    → LeadsTo t at (end_of at line) p l c (line_step target p code (Does address size (Load kind rd rs1 imm) ∷ rest) g)
 
 -- a store to the data, of which each byte is there
 abbrev pub StoreLinesRun : Type 0
 StoreLinesRun =
     (target : Target) (p : Part) (code rest : List Line) (address size : ℕ) (width : StoreWidth) (rs1 rs2 : ℕ) (imm : ℤ)
     (l : Layout) (t : Text) (at : ℕ) (g : Going) (c : Core)
-    → InRange (Store width rs1 rs2 imm) → HasGuardRoom p.data_base p.data_size → 4 ≤ p.data_size
-    → is_tested p (offset_by (value p g rs1) imm) (store_size width) ≡ true
-    → IsThere g.state.memory (offset_by (value p g rs1) imm) (store_size width)
-    → IsLayout p.data_size l → IsFixed t c → HasAt t at (spellings (store_line width rs1 rs2 (word imm))) → IsRelated p l g c
-    → LeadsTo t at (end_of at (store_line width rs1 rs2 (word imm))) p l c
-    (line_step target p code (Does address size (Store width rs1 rs2 imm) ∷ rest) g)
+    → let line = store_line width rs1 rs2 (word imm) in
+    let to = offset_by (value p g rs1) imm in
+    InRange (Store width rs1 rs2 imm) → IsInData p to (store_size width) → IsThere g.state.memory to (store_size width)
+    → IsBefore line t at p l g c
+    → LeadsTo t at (end_of at line) p l c (line_step target p code (Does address size (Store width rs1 rs2 imm) ∷ rest) g)
