@@ -1,10 +1,10 @@
 -- What the instructions of a computation leave in eax.
-use Rattle.std.proofs.Common.{◌≡◌, ℕ, ◌+◌, ◌-◌, ◌*◌, ◌%◌, ◌^◌, ◌<◌, ◌≤◌, Bool, true, false, List, Some, refl, ap, ◌∙◌, arith}
+use Rattle.std.proofs.Common.{◌≡◌, ◌/◌, ℕ, ◌+◌, ◌-◌, ◌*◌, ◌%◌, ◌^◌, ◌<◌, ◌≤◌, Bool, true, false, List, [], ◌∷◌, Some, refl, ap, ◌∙◌, arith}
 use Rattle.std.specs.Prelude.{Ok, nat_lt, int_lt}
 use Rattle.std.specs.Int.{from_bool}
 use Rattle.std.proofs.lemmas.Bool.{ne_eqb, false≢true}
 use Rattle.rv_word.specs.declared.instr.RegOp.{RegOp}
-use Rattle.rv_word.specs.declared.instr.RegOp.TheVariants.{Add, Sub, Sll, Slt, Sltu, Xor, Srl, Sra, Or, And, Mul, Mulhu}
+use Rattle.rv_word.specs.declared.instr.RegOp.TheVariants.{Add, Sub, Sll, Slt, Sltu, Xor, Srl, Sra, Or, And, Mul, Mulh, Mulhsu, Mulhu}
 use Rattle.rv_word.specs.declared.instr.ImmOp.{ImmOp}
 use Rattle.rv_word.specs.declared.instr.ImmOp.TheVariants.{Addi, Slti, Sltiu, Xori, Ori, Andi, Slli, Srli, Srai}
 use Rattle.rv_step.specs.Step.{register_op, result_of, signed}
@@ -12,13 +12,18 @@ use Rattle.x86_instr.specs.declared.instr.Condition.{Condition}
 use Rattle.x86_instr.specs.declared.instr.Condition.TheVariants.{Below, Less}
 use Rattle.x86_instr.specs.declared.instr.Width.TheVariants.{Dword, Qword}
 use Rattle.x86_instr.specs.declared.instr.Instr.{Instr as Native}
+use Rattle.x86_instr.specs.declared.instr.Instr.TheVariants.{ShiftImm}
+use Rattle.x86_instr.specs.declared.instr.ShiftOp.TheVariants.{Shr}
+use Rattle.x86_instr.specs.declared.operand.Operand.TheVariants.{Reg}
+use Rattle.x86_instr.specs.declared.operand.Register.TheVariants.{Rax}
 use Rattle.x86_step.specs.declared.machine.Flags.{Flags}
 use Rattle.x86_step.specs.State.{Core, updated, with_flags, with_register}
-use Rattle.x86_step.specs.Step.{difference, is_met, low, product}
+use Rattle.x86_step.specs.Step.{difference, is_met, low, product, sign_extended}
 unfoldable use Rattle.x86_step.specs.Step.{computes}
 use Rattle.x86_step.specs.Running.{exec}
-use Rattle.sfi_native.specs.Code.{has_op, high_half, set_if}
+use Rattle.sfi_native.specs.Code.{has_op, high_product, set_if}
 unfoldable use Rattle.sfi_native.specs.Code.{compute, compute_imm}
+use Rattle.sfi_native.proofs.Products.{mixed_high, signed_high}
 use Rattle.sfi_native.proofs.Arithmetic.{difference_is, less_is, low_is, sar_is, shl_is, shr_is, unsigned_product}
 
 -- eax, ecx, edx and the flags may differ
@@ -75,6 +80,23 @@ set_computed c compare condition f t runs met =
       kept = kept_join c d (with_register d 0 (x % 2 ^ 8)) (kept_join c (with_flags c f) d (kept_flags c f) (kept_register (with_flags c f) 0 x (omega arith))) (kept_register d 0 (x % 2 ^ 8) (omega arith));
     }
 
+-- the high half of the product of rax and rcx
+high_computed : (c : Core) (v : ℕ) → low Qword (low Qword (low Qword (c.registers 0) * low Qword (c.registers 1))) / 2 ^ 32 ≡ v → Computed high_product c v
+unfolding computes
+high_computed c v is =
+    let product_is = low Qword (low Qword (c.registers 0) * low Qword (c.registers 1)) in
+    let f = (product Qword (low Qword (c.registers 0)) (low Qword (c.registers 1))).flags in
+    let d = with_flags (with_register c 0 product_is) f in
+    let rest = computed_by d (ShiftImm Shr Qword (Reg Rax) 32 ∷ []) _ _ _ refl is in
+    record { after = rest.after; runs = rest.runs; result = rest.result; kept = kept_join c d rest.after (kept_result c 0 product_is f (omega arith)) rest.kept }
+
+-- the same after instructions in front
+after_signs : (c d : Core) (is : List Native) (v : ℕ) → Kept c d → exec is c ≡ exec high_product d
+    → low Qword (low Qword (low Qword (d.registers 0) * low Qword (d.registers 1))) / 2 ^ 32 ≡ v → Computed is c v
+after_signs c d is v kept same value =
+    let rest = high_computed d v value in
+    record { after = rest.after; runs = same ∙ rest.runs; result = rest.result; kept = kept_join c d rest.after kept rest.kept }
+
 -- an operation on eax and ecx
 pub computed : (op : RegOp) (c : Core) → has_op op ≡ true → c.registers 0 < 2 ^ 32 → c.registers 1 < 2 ^ 32 → Computed (compute op) c (result_of op (c.registers 0) (c.registers 1))
 unfolding compute computes
@@ -93,15 +115,16 @@ computed Slt c has fa fb =
 computed Sltu c has fa fb =
     set_computed c _ Below (difference Dword (low Dword (c.registers 0)) (low Dword (c.registers 1))).flags (nat_lt (c.registers 0) (c.registers 1)) refl
     (rw (low_is (c.registers 0) fa, low_is (c.registers 1) fb) refl)
-computed Mulhu c has fa fb =
-    let d = with_flags (with_register c 0 (low Qword (low Qword (c.registers 0) * low Qword (c.registers 1)))) (product Qword (low Qword (c.registers 0)) (low Qword (c.registers 1))).flags in
-    let rest = computed_by d high_half _ _ _ refl (unsigned_product (c.registers 0) (c.registers 1) fa fb) in
-    record {
-      after = rest.after;
-      runs = rest.runs;
-      result = rest.result;
-      kept = kept_join c d rest.after (kept_result c 0 (low Qword (low Qword (c.registers 0) * low Qword (c.registers 1))) (product Qword (low Qword (c.registers 0)) (low Qword (c.registers 1))).flags (omega arith)) rest.kept;
-    }
+computed Mulh c has fa fb =
+    let a = sign_extended (low Dword (c.registers 0)) in
+    let b = sign_extended (low Dword (c.registers 1)) in
+    let d = with_register c 0 a in
+    after_signs c (with_register d 1 b) _ _ (kept_join c d (with_register d 1 b) (kept_register c 0 a (omega arith)) (kept_register d 1 b (omega arith))) refl
+    (signed_high (c.registers 0) (c.registers 1) fa fb)
+computed Mulhsu c has fa fb =
+    let a = sign_extended (low Dword (c.registers 0)) in
+    after_signs c (with_register c 0 a) _ _ (kept_register c 0 a (omega arith)) refl (mixed_high (c.registers 0) (c.registers 1) fa fb)
+computed Mulhu c has fa fb = high_computed c _ (unsigned_product (c.registers 0) (c.registers 1) fa fb)
 computed op c has fa fb = absurd (false≢true has)
 
 -- the same on a number

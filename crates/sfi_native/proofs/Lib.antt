@@ -1,6 +1,7 @@
 pub mod Memory
 pub mod Fixed
 pub mod Arithmetic
+pub mod Products
 pub mod Computing
 pub mod Fetching
 pub mod Counting

@@ -26,7 +26,7 @@ use Rattle.x86_instr.specs.declared.instr.ShiftOp.TheVariants.{Shl, Shr, Sar}
 use Rattle.x86_instr.specs.declared.instr.Condition.{Condition}
 use Rattle.x86_instr.specs.declared.instr.Condition.TheVariants.{AboveOrEqual, Below, Equal, GreaterOrEqual, Less, NotEqual}
 use Rattle.x86_instr.specs.declared.instr.Instr.{Instr as Native}
-use Rattle.x86_instr.specs.declared.instr.Instr.TheVariants.{Mov, MovStore, MovStoreByte, MovStoreWord, MovImm, MovExtended, Alu, AluImm, ShiftImm, ShiftCl, Imul, Setcc, Jcc, Jmp}
+use Rattle.x86_instr.specs.declared.instr.Instr.TheVariants.{Mov, MovStore, MovStoreByte, MovStoreWord, MovImm, MovExtended, Movsxd, Alu, AluImm, ShiftImm, ShiftCl, Imul, Setcc, Jcc, Jmp}
 
 -- x0 and x24 to x27 have one value for lines, so that none writes them
 abbrev pub is_fixed : ℕ → Bool
@@ -50,14 +50,12 @@ write r = if is_fixed r then [] else MovStore Dword (slot r) Rax ∷ []
 abbrev pub set_if : Native → Condition → List Native
 set_if compare condition = compare ∷ Setcc condition Rax ∷ MovExtended Zero Byte Rax (Reg Rax) ∷ []
 
--- the high half of rax
-abbrev pub high_half : List Native
-high_half = ShiftImm Shr Qword (Reg Rax) 32 ∷ []
+-- the high 32 bits of rax times rcx
+abbrev pub high_product : List Native
+high_product = Imul Qword Rax (Reg Rcx) ∷ ShiftImm Shr Qword (Reg Rax) 32 ∷ []
 
--- All but the high half of a product with a sign, and divisions, which ask what the divisor is.
+-- All but divisions, which ask what the divisor is.
 abbrev pub has_op : RegOp → Bool
-has_op Mulh = false
-has_op Mulhsu = false
 has_op Div = false
 has_op Divu = false
 has_op Rem = false
@@ -76,7 +74,9 @@ compute Sra = ShiftCl Sar Rax ∷ []
 compute Or = Alu alu.Or Dword Rax (Reg Rcx) ∷ []
 compute And = Alu alu.And Dword Rax (Reg Rcx) ∷ []
 compute Mul = Imul Dword Rax (Reg Rcx) ∷ []
-compute Mulhu = Imul Qword Rax (Reg Rcx) ∷ high_half
+compute Mulh = Movsxd Rax (Reg Rax) ∷ Movsxd Rcx (Reg Rcx) ∷ high_product
+compute Mulhsu = Movsxd Rax (Reg Rax) ∷ high_product
+compute Mulhu = high_product
 compute op = []
 
 -- of eax and a number of 32 bits

@@ -77,10 +77,7 @@ pub(crate) fn put_count(out: &mut Vec<u8>) -> Result<(), AllocError>
 fn has_operation(op: RegOp) -> bool
     ensures { result ≡ has_op op }
 {
-    !matches!(
-        op,
-        RegOp::Mulh | RegOp::Mulhsu | RegOp::Div | RegOp::Divu | RegOp::Rem | RegOp::Remu
-    )
+    !matches!(op, RegOp::Div | RegOp::Divu | RegOp::Rem | RegOp::Remu)
 }
 
 /// Whether the line of an instruction is one that computes.

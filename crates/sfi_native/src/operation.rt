@@ -1,8 +1,8 @@
 //! The instructions of one operation on eax and ecx, and those that fetch and write registers of the frame.
 ghost use Rattle.std.specs.Prelude.{◌≡◌, ◌++◌, ◌∷◌, [], ◌%◌, OnOk, true};
-ghost use Rattle.sfi_native.specs.Code.{compute, compute_imm, fetch, has_op, high_half, is_fixed as is_fixed_register, set_if, slot as slot_of, write};
-ghost use Rattle.rv_word.specs.declared.instr.RegOp.TheVariants.{Mulhu};
-ghost use Rattle.x86_instr.specs.declared.instr.Instr.TheVariants.{Alu, AluImm, ShiftImm};
+ghost use Rattle.sfi_native.specs.Code.{compute, compute_imm, fetch, has_op, high_product, is_fixed as is_fixed_register, set_if, slot as slot_of, write};
+ghost use Rattle.rv_word.specs.declared.instr.RegOp.TheVariants.{Mulh, Mulhsu};
+ghost use Rattle.x86_instr.specs.declared.instr.Instr.TheVariants.{Alu, AluImm, Movsxd, ShiftImm};
 ghost use Rattle.x86_instr.specs.declared.instr.Width.TheVariants.{Dword};
 ghost use Rattle.x86_instr.specs.declared.operand.Operand.TheVariants.{Reg as InRegister};
 ghost use Rattle.x86_instr.specs.declared.operand.Register.TheVariants.{Rax, Rcx};
@@ -110,10 +110,10 @@ pub(crate) fn with_ecx(op: AluOp) -> Instr
     }
 }
 
-/// Writes the high half of an unsigned product.
-#[tactic(auto, unfolding(crate::specs::Code::compute), using(crate::proofs::Lists::two_parts))]
+/// Writes the high half of the product of rax and rcx.
+#[tactic(auto, using(crate::proofs::Lists::two_parts))]
 fn put_high_product(out: &mut Vec<u8>) -> Result<(), AllocError>
-    ensures { OnOk result (out.new.items ≡ out.old.items ++ spellings (compute Mulhu)) }
+    ensures { OnOk result (out.new.items ≡ out.old.items ++ spellings high_product) }
 {
     put(
         out,
@@ -132,6 +132,35 @@ fn put_high_product(out: &mut Vec<u8>) -> Result<(), AllocError>
             amount: 32,
         },
     )
+}
+
+/// The sign of a register's 32 bits, copied to its upper half.
+fn with_sign(register: Register) -> Instr
+    ensures { result ≡ Movsxd register (InRegister register) }
+{
+    Instr::Movsxd {
+        dst: register,
+        src: Operand::Reg(register),
+    }
+}
+
+/// Writes the high half of a product with signs.
+#[tactic(auto, unfolding(crate::specs::Code::compute), using(crate::proofs::Lists::three_parts))]
+fn put_signed_product(out: &mut Vec<u8>) -> Result<(), AllocError>
+    ensures { OnOk result (out.new.items ≡ out.old.items ++ spellings (compute Mulh)) }
+{
+    put(out, with_sign(Register::Rax))?;
+    put(out, with_sign(Register::Rcx))?;
+    put_high_product(out)
+}
+
+/// Writes the high half of a product of which the first factor has a sign.
+#[tactic(auto, unfolding(crate::specs::Code::compute), using(crate::proofs::Lists::two_parts))]
+fn put_mixed_product(out: &mut Vec<u8>) -> Result<(), AllocError>
+    ensures { OnOk result (out.new.items ≡ out.old.items ++ spellings (compute Mulhsu)) }
+{
+    put(out, with_sign(Register::Rax))?;
+    put_high_product(out)
 }
 
 /// Writes an operation of eax and ecx.
@@ -178,7 +207,8 @@ pub(crate) fn put_compute(out: &mut Vec<u8>, op: RegOp) -> Result<(), AllocError
             },
         ),
         RegOp::Mulhu => put_high_product(out),
-        RegOp::Mulh | RegOp::Mulhsu => Ok(()),
+        RegOp::Mulh => put_signed_product(out),
+        RegOp::Mulhsu => put_mixed_product(out),
         RegOp::Div | RegOp::Divu | RegOp::Rem | RegOp::Remu => Ok(()),
     }
 }
