@@ -6,6 +6,7 @@ pub mod Computing
 pub mod Fetching
 pub mod Counting
 pub mod Held
+pub mod Frames
 pub mod Lines
 pub mod Lists
 pub mod Jumps

@@ -9,6 +9,7 @@
 
 mod access;
 mod computation;
+pub mod frame;
 mod jump;
 pub mod layout;
 mod operation;
@@ -17,5 +18,6 @@ mod tests;
 
 pub use access::{push_load_line, push_store_line};
 pub use computation::push_computing_line;
+pub use frame::frame_of;
 pub use jump::{push_branch_line, push_jal_line};
 pub use layout::Layout;
