@@ -1,5 +1,5 @@
 -- What holds of the code of lines: laws, for proofs in the crates above.
-use Rattle.sfi_native.specs.Laws.{BranchLinesRun, ComputingLinesRun, EachTurnIsHeld, JalLinesRun, LoadLinesRun, StoreLinesRun}
+use Rattle.sfi_native.specs.Laws.{BranchLinesRun, ComputingLinesRun, EachCodeCanBeRun, EachTurnIsHeld, JalLinesRun, LoadLinesRun, StoreLinesRun}
 use Rattle.sfi_native.proofs.Held as held
 use Rattle.sfi_native.proofs.Jumps as jumps
 use Rattle.sfi_native.proofs.Lines as lines
@@ -8,6 +8,9 @@ use Rattle.sfi_native.proofs.Stores as stores
 
 pub each_turn_is_held : EachTurnIsHeld
 each_turn_is_held = held.each_turn_is_held
+
+pub each_code_can_be_run : EachCodeCanBeRun
+each_code_can_be_run = held.each_code_can_be_run
 
 pub computing_lines_run : ComputingLinesRun
 computing_lines_run = lines.computing_lines_run

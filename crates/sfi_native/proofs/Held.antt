@@ -1,14 +1,15 @@
 -- A processor that has a turn's state.
-use Rattle.std.proofs.Common.{◌≡◌, ℕ, ◌+◌, ◌-◌, ◌*◌, ◌/◌, ◌%◌, ◌^◌, ◌<◌, ◌≤◌, ◌==◌, ◌&&◌, ◌⊎◌, inl, inr, Bool, true, false, Option, Some, length, refl, ap, ◌∙◌, arith, if◌then◌else◌, nat_lt}
+use Rattle.std.proofs.Common.{List, [], sym, append-nil, ◌≡◌, ℕ, ◌+◌, ◌-◌, ◌*◌, ◌/◌, ◌%◌, ◌^◌, ◌<◌, ◌≤◌, ◌==◌, ◌&&◌, ◌⊎◌, inl, inr, Bool, true, false, Option, Some, length, refl, ap, ◌∙◌, arith, if◌then◌else◌, nat_lt}
 use Rattle.std.specs.Prelude.{nat_le, ◌||◌}
 use Rattle.std.proofs.lemmas.Bool.{cases_Bool, le-leb, lt-ltb, le-ltb, lt-leb}
 use Rattle.rv_mem.specs.Bytes.{byte_at}
 use Rattle.sfi_image.specs.Spelling.{Part}
 use Rattle.sfi_translate.specs.Machine.{Going}
-use Rattle.x86_step.specs.State.{Core, number_at}
+use Rattle.x86_step.specs.State.{Core, IsFixed, Text, number_at}
 use Rattle.x86_step.specs.Step.{unknown}
+use Rattle.x86_step.specs.Running.{spellings}
 use Rattle.sfi_native.specs.declared.layout.Layout.{Layout}
-use Rattle.sfi_native.specs.Laws.{EachTurnIsHeld}
+use Rattle.sfi_native.specs.Laws.{AreApart, EachCodeCanBeRun, EachTurnIsHeld}
 use Rattle.sfi_native.specs.Layout.{IsLayout, IsRelated, frame_size, origin, value}
 use Rattle.sfi_native.proofs.Memory.{number_of_bytes}
 
@@ -92,5 +93,39 @@ module _ (p : Part) (l : Layout) (g : Going) (layout : IsLayout p.data_size l) w
     origin_is = refl;
   }
 
+  data_lacks : (a : ℕ) → (a < l.data_start) ⊎ (l.data_start + p.data_size ≤ a) → in_data a ≡ false
+  data_lacks a (inl below) = rw (lt-leb l.data_start a below) refl
+  data_lacks a (inr above) = elim (cases_Bool (nat_le l.data_start a)) [
+    | inl e ↦ rw (e, le-ltb a (l.data_start + p.data_size) above) refl
+    | inr e ↦ rw e refl
+  ]
+
+  beside : (at n b m a : ℕ) → AreApart at n b m → at ≤ a → a < at + n → (a < b) ⊎ (b + m ≤ a)
+  beside at n b m a (inl before) low high = inl (omega (arith, before, high))
+  beside at n b m a (inr after) low high = inr (omega (arith, after, low))
+
+  pub fixed_is : (bytes : List ℕ) (at : ℕ) → at + length bytes < 2 ^ 64 → AreApart at (length bytes) l.frame frame_size → AreApart at (length bytes) l.data_start p.data_size
+      → IsFixed (record { base = at; bytes = bytes }) held
+  fixed_is bytes at ends frame data_apart = record {
+    ends = ends;
+    apart = λ a low high.
+        let e1 : in_frame a ≡ false = frame_lacks a (beside at (length bytes) l.frame frame_size a frame low high) in
+        let e2 : in_data a ≡ false = data_lacks a (beside at (length bytes) l.data_start p.data_size a data_apart low high) in
+        rw (e1, e2) refl;
+  }
+
 pub each_turn_is_held : EachTurnIsHeld
 each_turn_is_held p l g layout count words few = (held p l g layout, held_is p l g layout count words few)
+
+pub each_code_can_be_run : EachCodeCanBeRun
+each_code_can_be_run is at p l g layout count words few ends frame data_apart =
+    let text : Text = record { base = at; bytes = spellings is } in (
+      text,
+      held p l g layout,
+      record {
+        layout = layout;
+        text_is_fixed = fixed_is p l g layout (spellings is) at ends frame data_apart;
+        stands = record { before = []; after = []; bytes_are = sym (append-nil (spellings is)); at_is = omega arith };
+        related = held_is p l g layout count words few;
+      },
+    )

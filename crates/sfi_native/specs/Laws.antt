@@ -1,5 +1,5 @@
 -- What holds of the code of lines.
-use Rattle.std.specs.Prelude.{Some, ◌≤◌, ℤ, if◌then◌else◌, ◌≡◌, ℕ, ◌+◌, ◌^◌, ◌<◌, true, List, ◌∷◌, length}
+use Rattle.std.specs.Prelude.{◌⊎◌, Some, ◌≤◌, ℤ, if◌then◌else◌, ◌≡◌, ℕ, ◌+◌, ◌^◌, ◌<◌, true, List, ◌∷◌, length}
 use Rattle.rv_word.specs.declared.instr.Cond.{Cond}
 use Rattle.rv_word.specs.declared.instr.Instr.{Instr}
 use Rattle.rv_word.specs.declared.instr.Instr.TheVariants.{Branch, Jal, Load, Store}
@@ -17,7 +17,7 @@ use Rattle.x86_instr.specs.declared.instr.Instr.{Instr as Native}
 use Rattle.x86_step.specs.Step.{Reaches, is_canonical, jumped}
 use Rattle.x86_step.specs.Running.{HasAt, spellings}
 use Rattle.sfi_native.specs.declared.layout.Layout.{Layout}
-use Rattle.sfi_native.specs.Layout.{IsLayout, IsRelated, value}
+use Rattle.sfi_native.specs.Layout.{IsLayout, IsRelated, frame_size, value}
 use Rattle.sfi_native.specs.Code.{branch_line, computing_line, does_compute, jal_line, load_line, store_line}
 
 -- Each turn, its registers of 32 bits, has a processor with its state, at each layout: what follows asks for nothing
@@ -43,6 +43,19 @@ pub record IsBefore (is : List Native) (t : Text) (at : ℕ) (p : Part) (l : Lay
   pub text_is_fixed : IsFixed t c
   pub stands : HasAt t at (spellings is)
   pub related : IsRelated p l g c
+
+-- m bytes from a on and n bytes from b on don't meet
+abbrev pub AreApart : ℕ → ℕ → ℕ → ℕ → Type 0
+AreApart a m b n = (a + m ≤ b) ⊎ (b + n ≤ a)
+
+-- That can be: before each code, wherever it stands apart from frame and data.
+abbrev pub EachCodeCanBeRun : Type 0
+EachCodeCanBeRun =
+    (is : List Native) (at : ℕ) (p : Part) (l : Layout) (g : Going) → IsLayout p.data_size l
+    → length g.state.hart.registers ≡ 32 → ((r : ℕ) → value p g r < 2 ^ 32) → g.left < 2 ^ 32
+    → end_of at is < 2 ^ 64 → AreApart at (length (spellings is)) l.frame frame_size
+    → AreApart at (length (spellings is)) l.data_start p.data_size
+    → (t : Text) × (c : Core) × IsBefore is t at p l g c
 
 -- An access of n bytes lies in the data, around which guard zones have room.
 pub record IsInData (p : Part) (at n : ℕ) : Type 0 where
