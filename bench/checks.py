@@ -70,11 +70,12 @@ def print_speeds(commands, folder, rounds):
 
 
 def print_peaks(commands, folder):
-    names = ["`check`", "`check --report`", "`check --raw`"]
-    print("| bytes of image | bytes of text |", " | ".join(names), "|")
+    commands = {name: commands[name] for name in ("`check`", "`check --report`", "`check --raw`")}
+    commands["`check` of bytes"] = (commands["`check`"][0], commands["`check --raw`"][1])
+    print("| bytes of image | bytes of text |", " | ".join(commands), "|")
     for shape in images.SIZES:
         size = write_image(folder, "pairs", *shape)
-        peaks = [measure.peak(*commands[name]) for name in names]
+        peaks = [measure.peak(*command) for command in commands.values()]
         text_size = os.path.getsize(os.path.join(folder, "text"))
         print("|", " | ".join(f"{n:,}" for n in [size, text_size] + peaks), "|", flush=True)
 

@@ -5,18 +5,15 @@ use Rattle.sfi_check.specs.declared.refusal.Refusal.TheVariants.{Layout, Finding
 use Rattle.sfi_image.specs.Faults.{IsFault}
 use Rattle.sfi_image.specs.declared.fault.LayoutFault.{LayoutFault}
 use Rattle.sfi_rules.specs.declared.finding.Finding.{Finding}
-use Rattle.sfi_answers.specs.Answers.{IsRefusalText, SaysRefused, on_verdict, on_image, check, Meaning, Refuses, Answers, IsLayoutFault, IsStop, SaysVerdict, accepted_text, refused_line, refused_text}
+use Rattle.sfi_answers.specs.Answers.{IsRefusalText, SaysRefused, on_verdict, check, Meaning, Refuses, Answers, IsLayoutFault, IsStop, SaysVerdict, accepted_text, refused_line, refused_text}
 use Rattle.sfi_answers.specs.FaultTexts.{IsFaultLine, layout_text, stop_text}
-use Rattle.sfi_answers.specs.declared.fault.InputFault.TheVariants.{TooLarge}
 use Rattle.sfi_answers.specs.declared.fault.Stop.{Stop}
 use Rattle.sfi_answers.specs.declared.fault.Stop.TheVariants as stop
 use Rattle.sfi_answers.specs.declared.verdict.Answer.{Answer}
 use Rattle.std.specs.Prelude.{IfOk, IsTrue, Result}
 use Rattle.std.specs.Io.KnownBytes.{Consumes}
 use Rattle.std.specs.Fmt.{option_append}
-use Rattle.sfi_io.specs.Hexadecimal.{BeginsAsImage, IsInput}
-use Rattle.sfi_io.specs.declared.streams.Input.TheVariants.{Whole}
-use Rattle.sfi_io.specs.declared.streams.Input.TheVariants as inputs
+use Rattle.sfi_io.specs.Hexadecimal.{BeginsAsImage}
 use Rattle.std.proofs.lemmas.List.{append-nil}
 use Rattle.sfi_image.specs.Prefixes.{HasFaultWhateverFollows}
 use Rattle.sfi_image.specs.Sources.{Streams}
@@ -78,19 +75,6 @@ line_of_stop command input why (Ok a) is other text = λ _. (why, of_stop (comma
 line_of_stop command input why (Err e) is other text = tt
 
 -- ==== What is answered on an image that is read, by its first bytes.
-
--- the line of a fault of the bytes that a reader held is one of its input, which is these
-pub line_of_whole : (command : Meaning) (held : Option (List ℕ)) (bytes : Vec ℕ Global) (line : List ℕ) → IsInput held (Whole bytes) → IsFaultLine command bytes.items line
-    → IfSome held (λ input. BeginsAsImage input → IsFaultLine (on_image command) input line)
-line_of_whole command None bytes line is h = tt
-line_of_whole command (Some input) bytes line is h =
-    λ begins. (h.0, inr (input, inl (record { begins = begins; short = is.1; same = refl }), subst (λ (b : List ℕ). command.why b h.0) is.0 h.1), h.2)
-
--- and that of a reader that holds too much
-pub line_of_large : (command : Meaning) (held : Option (List ℕ)) (line : List ℕ) → IsInput held inputs.TooLarge → line ≡ stop_text (stop.Input TooLarge)
-    → IfSome held (λ input. BeginsAsImage input → IsFaultLine (on_image command) input line)
-line_of_large command None line is text = tt
-line_of_large command (Some input) line is text = λ begins. (stop.Input TooLarge, inl is, text)
 
 -- the front begins as an image, and so does the input; or neither does
 pub all_begin : (old : Option (List ℕ)) (front read : List ℕ) (b : Bool) → read ≡ front → IsTrue b ↔ BeginsAsImage read

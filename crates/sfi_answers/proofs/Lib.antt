@@ -1,4 +1,4 @@
-pub mod Spelled
+pub mod InputPieces
 pub mod Sources
 pub mod Conversions
 pub mod Moves

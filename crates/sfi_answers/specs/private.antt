@@ -1,10 +1,12 @@
 -- Words that private contracts and proofs alone cite: no public statement rests on them.
-use Rattle.std.specs.Prelude.{◌≡◌, ◌≢◌, ◌⊎◌, List, [], Result, Ok, Err, ℕ, Bool, true, false, ◌++◌, Option, Some, None, IfSome, Vec}
+use Rattle.std.specs.Prelude.{◌≡◌, ◌≢◌, List, [], Result, Ok, Err, ℕ, Bool, true, false, ◌++◌, Option, Some, None, IfSome, Vec, ◌+◌, length, nat_lt, if◌then◌else◌, option_map}
 use Rattle.std.specs.declared.alloc.Global.{Global}
 use Rattle.sfi_formats.specs.declared.place.Place.{Place}
 use Rattle.sfi_places.specs.Moving.{IsMoved, IsMoveFault}
 use Rattle.sfi_places.specs.declared.moving.MoveFault.TheVariants as moving
-use Rattle.sfi_answers.specs.Answers.{refused_line, IsAcceptedImage}
+use Rattle.sfi_answers.specs.Answers.{check, refused_line, IsAcceptedImage}
+use Rattle.sfi_answers.specs.FaultTexts.{IsFaultLine, stop_text}
+use Rattle.sfi_io.specs.Hexadecimal.{limit}
 use Rattle.sfi_answers.specs.declared.fault.InputFault.TheVariants as faults
 use Rattle.sfi_rules.specs.declared.finding.Finding.{Finding}
 use Rattle.sfi_check.specs.declared.conversion.ConvertFault.{ConvertFault}
@@ -18,8 +20,9 @@ use Rattle.sfi_check.specs.Verdict.{IsVerdictOn}
 use Rattle.sfi_check.specs.declared.stream_answer.StreamAnswer.{StreamAnswer}
 use Rattle.sfi_io.specs.Pieces.{Leads}
 use Rattle.sfi_io.specs.declared.text.TextStop.{TextStop}
-use Rattle.sfi_answers.specs.declared.text.TextState.{TextState}
-use Rattle.sfi_answers.specs.declared.text.TextState.TheVariants.{Reading, Ended, Stopped}
+use Rattle.sfi_io.specs.declared.text.TextStop.TheVariants.{Fault, TooLarge, Failed}
+use Rattle.sfi_answers.specs.declared.pieces.PieceState.{PieceState}
+use Rattle.sfi_answers.specs.declared.pieces.PieceState.TheVariants.{Reading, Ended, Stopped}
 
 -- ---- bytes that are not converted
 
@@ -73,7 +76,7 @@ IsMovedOrMemory (Err (stop.Layout k)) = ⊥
 IsMovedOrMemory (Err (stop.Build fault)) = ⊥
 IsMovedOrMemory (Err stop.Memory) = Unit {0}
 
--- ---- bytes of which a stream hands out a front, and the bytes that a text spells as such a stream
+-- ---- bytes of which a stream hands out a front, and input that is read as such a stream
 
 -- these are all the bytes, of which a stream gave a front, and all where it found the end, and the
 -- answer is the verdict on what it gave
@@ -85,14 +88,14 @@ pub record IsJudged (answer : StreamAnswer) (all : List ℕ) : Type 0 where
   pub none_left : ends ≡ true → rest ≡ []
   pub verdict : IsVerdictOn given ends answer
 
--- what is known to come of a text: after its end nothing, and after a stop no more than that
+-- what is known to come of input: after its end nothing, and after a stop no more than that
 abbrev pub known :
-    TextState → Option (Result (List ℕ) TextStop) → Option (Result (List ℕ) TextStop)
+    PieceState → Option (Result (List ℕ) TextStop) → Option (Result (List ℕ) TextStop)
 known Reading told = told
 known Ended told = Some (Ok [])
 known (Stopped stop) told = Some (Err stop)
 
-abbrev pub is_stopped : TextState → Bool
+abbrev pub is_stopped : PieceState → Bool
 is_stopped Reading = false
 is_stopped Ended = false
 is_stopped (Stopped stop) = true
@@ -102,10 +105,30 @@ abbrev pub fails : Bool → Option (List ℕ) → Bool
 fails before None = true
 fails before (Some bytes) = before
 
--- one read of such a stream: what was known to come of the text before, and whether a read had
+-- one read of such a stream: what was known to come of the input before, and whether a read had
 -- failed; the length of the buffer and the bytes that were handed out; and the same after it
 pub record HandsOut (known : Option (Result (List ℕ) TextStop)) (was : Bool) (len : ℕ)
     (answer : Option (List ℕ)) (after : Option (Result (List ℕ) TextStop)) (is : Bool) : Type 0 where
   pub leads : Leads known after (bytes_of answer)
   pub at_end : is_end len answer ≡ true → IfSome after (λ r. r ≡ Ok [])
   pub failed : is ≡ fails was answer
+
+-- what comes of an image's own bytes after `read` others: all of them, unless they pass the limit
+abbrev pub own_bytes : ℕ → List ℕ → Result (List ℕ) TextStop
+own_bytes read bytes = if nat_lt limit (read + length bytes) then Err TooLarge else Ok bytes
+
+-- what is known to come of them
+abbrev pub own_to_come : ℕ → Option (List ℕ) → Option (Result (List ℕ) TextStop)
+own_to_come read bytes = option_map (own_bytes read) bytes
+
+-- the verdict on the bytes that come
+abbrev pub SaysOf : Result (List ℕ) TextStop → ℕ → List ℕ → Type 0
+SaysOf (Ok bytes) status text = (check false).says bytes status text
+SaysOf (Err stop) status text = ⊥
+
+-- the line of their fault, or of why none come
+abbrev pub IsLineOf : Result (List ℕ) TextStop → List ℕ → Type 0
+IsLineOf (Ok bytes) line = IsFaultLine (check false) bytes line
+IsLineOf (Err (Fault fault)) line = line ≡ stop_text (stop.Input (faults.Hex fault))
+IsLineOf (Err TooLarge) line = line ≡ stop_text (stop.Input faults.TooLarge)
+IsLineOf (Err Failed) line = ⊥

@@ -1,37 +1,20 @@
 //! The command `check` on an image that is read: its own bytes, or its text.
 
 ghost use Rattle.std.specs.Prelude.{◌≡◌, ◌<◌, ◌≤◌, false, IfOk, IfSome};
-ghost use Rattle.sfi_io.specs.Hexadecimal.{BeginsAsImage};
 ghost use Rattle.sfi_answers.specs.Answers.{on_image};
 ghost use Rattle.sfi_answers.specs.Answers.{check};
 ghost use Rattle.sfi_answers.specs.FaultTexts.{IsFaultLine};
 
-use crate::checking::bytes_answer;
-use crate::fault::{InputFault, Stop, stop_answer};
-use crate::text::text_answer;
+use crate::own_bytes::OwnBytes;
+use crate::pieces::pieces_answer;
 use crate::verdict::Answer;
-use sfi_io::{Input, ReadStop, begins_as_image, read_first_bytes, read_input};
+use sfi_io::{HexReader, ReadStop, begins_as_image, read_first_bytes};
 use std::alloc::Global;
 use std::io::Read;
 
-/// The verdict on the image whose bytes the reader gives, which are held.
-fn held_answer<R: Read>(alloc: Global, reader: &mut R) -> Result<Answer, ReadStop>
-    ensures statuses { IfOk result (λ a. a.status ≤ 2) }
-    ensures says { IfOk result (λ a. a.status < 2 → IfSome (R.remaining reader.old)
-        (λ input. BeginsAsImage input → (on_image (check false)).says input a.status a.output.items)) }
-    ensures line { IfOk result (λ a. a.status ≡ 2 → IfSome (R.remaining reader.old)
-        (λ input. BeginsAsImage input
-        → IsFaultLine (on_image (check false)) input a.output.items)) }
-{
-    match read_input(alloc, reader)? {
-        Input::Whole(bytes) => Ok(bytes_answer(alloc, false, &bytes)?),
-        Input::TooLarge => Ok(stop_answer(alloc, Stop::Input(InputFault::TooLarge))?),
-    }
-}
-
-/// The verdict on the image that the reader gives, as an image's bytes or as hexadecimal text.
-/// Bytes are held whole, of a text one piece at a time. A text is read to its end or past its
-/// limit, since its fault goes before the verdict.
+/// The verdict on the image that the reader gives, as an image's bytes or as hexadecimal text. One
+/// piece is held at a time. Input is read to its end or past its limit, since its fault goes before the
+/// verdict.
 pub fn image_answer<R: Read>(alloc: Global, reader: &mut R) -> Result<Answer, ReadStop>
     ensures statuses { IfOk result (λ a. a.status ≤ 2) }
     ensures says { IfOk result (λ a. a.status < 2 → IfSome (R.remaining reader.old)
@@ -42,8 +25,8 @@ pub fn image_answer<R: Read>(alloc: Global, reader: &mut R) -> Result<Answer, Re
     let front = read_first_bytes(alloc, reader)?;
     let mut whole = front.as_slice().chain(reader);
     if begins_as_image(&front) {
-        held_answer(alloc, &mut whole)
+        pieces_answer(alloc, OwnBytes::new(&mut whole))
     } else {
-        text_answer(alloc, &mut whole)
+        pieces_answer(alloc, HexReader::new(&mut whole))
     }
 }

@@ -57,7 +57,7 @@ fn streamed_answer<R: Read>(alloc: Global, raw: bool, reader: &mut R) -> Result<
     }
 }
 
-/// Runs `check` without a report: only an image that comes as bytes, and without `raw`, is held whole.
+/// Runs `check` without a report: of the input one piece is held at a time.
 fn run_check<R: Read, W: Write>(alloc: Global, raw: bool, reader: &mut R, writer: &mut W) -> u8
     ensures runs { Runs (Check raw false) (R.remaining reader.old)
         (W.contents writer.old) (W.contents writer.new) result }

@@ -1,5 +1,5 @@
-use Rattle.std.proofs.Common.{ℕ, ◌∙◌, List, arith, inl, inr, sym, subst}
-use Rattle.std.specs.Prelude.{◌⊎◌, string_bytes}
+use Rattle.std.proofs.Common.{ℕ, ◌∙◌, List, sym, subst}
+use Rattle.std.specs.Prelude.{string_bytes}
 use Rattle.sfi_build.specs.Texts.{IsBuildFault}
 use Rattle.sfi_link.specs.Names.{MapEntry}
 use Rattle.sfi_image.specs.Parts.{IsImage}

@@ -1,4 +1,4 @@
-use Rattle.std.proofs.Common.{◌≡◌, List, ℕ, refl, sym, subst}
+use Rattle.std.proofs.Common.{subst}
 use Rattle.std.specs.Prelude.{string_bytes}
 use Rattle.sfi_formats.specs.declared.format.Format.{Format}
 use Rattle.sfi_image.specs.Spelling.{view, format_of}

@@ -1,4 +1,4 @@
-use Rattle.std.proofs.Common.{◌≡◌, rules, length, subst, sym}
+use Rattle.std.proofs.Common.{◌≡◌, rules, length, subst}
 use Rattle.sfi_places.specs.Moving.{IsMoveFault}
 use Rattle.sfi_places.specs.declared.moving.MoveFault.TheVariants.{NoImage, NoSandbox, NoPlace}
 use Rattle.sfi_answers.proofs.Moves.{copied, no_move, of_copy, whole}
