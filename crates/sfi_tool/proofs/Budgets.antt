@@ -105,17 +105,17 @@ room budget k (Exited n) steps fits few = omega (arith, fits, few)
 room budget k (Trapped cause at) steps fits few = omega (arith, fits, few)
 room budget k Stopped steps fits few = omega (arith, fits, few)
 
-at_most : (a b c : ℕ) → a ≤ b → b ≤ c → a ≤ c
+pub at_most : (a b c : ℕ) → a ≤ b → b ≤ c → a ≤ c
 at_most a b c first last = omega (arith, first, last)
 
 module _ (machine : Machine) (t : Turn) (old : List Slot) where
-  plan_slots : (next : StepResult) (m : Moved (Unit {0})) → (and_plan next t.sandbox m old (joined machine silent [])).slots ≡ slice_set old t.sandbox m.slot
+  pub plan_slots : (next : StepResult) (m : Moved (Unit {0})) → (and_plan next t.sandbox m old (joined machine silent [])).slots ≡ slice_set old t.sandbox m.slot
   unfolding joined
   plan_slots Continue m = refl
   plan_slots TurnEnds m = refl
   plan_slots RunEnds m = refl
 
-  same_slots : (turn_and machine silent t old tt None (joined machine silent [])).slots ≡ old
+  pub same_slots : (turn_and machine silent t old tt None (joined machine silent [])).slots ≡ old
   unfolding joined
   same_slots = refl
 

@@ -1,7 +1,6 @@
 -- How many steps of its budget a sandbox has left: fewer after each turn and each reply.
 use Rattle.sfi_tool.proofs.Prelude.{◌≡◌, ◌∙◌, ℕ, List, refl, sym, ap, subst, arith, slice_get, inl}
 use Rattle.std.proofs.Common.{◌≢◌, ◌⊎◌, ⊎_elim, inr, suc, zero, ◌+◌, ◌-◌, ◌^◌, ◌≤◌, ◌<◌, ◌∷◌, [], Option, Some, None}
-use Rattle.std.specs.Prelude.{slice_set}
 use Rattle.std.proofs.Math.Nat.{le-min, min-eq_left}
 use Rattle.std.proofs.lemmas.Bool.{cases_eq}
 use Rattle.rv_step.specs.State.{State}
@@ -11,7 +10,7 @@ use Rattle.rv_step.specs.declared.outcome.Outcome.TheVariants as outcome
 use Rattle.sfi_host.proofs.Facts.{one_machine, some_machine}
 use Rattle.sfi_decoded.proofs.Lists.{get_set_same}
 use Rattle.sfi_host.specs.Hosts.{Way, Replied, Yield, Exit}
-use Rattle.sfi_host.specs.Joint.{Machine, IsMachine, Moved, and_more, and_plan, joined, moved, moved_if, replied, slot_after_step, status_after, turn_and, turned}
+use Rattle.sfi_host.specs.Joint.{Machine, IsMachine, Moved, and_more, joined, moved, moved_if, replied, slot_after_step, status_after, turn_and, turned}
 use Rattle.sfi_host.specs.Slots.{Slot, one_more, state_of}
 use Rattle.sfi_host.specs.Waiting.{IsAtCall, silent, to_call}
 use Rattle.sfi_host.specs.declared.status.Status.{Status}
@@ -20,6 +19,7 @@ use Rattle.sfi_host.specs.declared.turn.StepResult.{StepResult}
 use Rattle.sfi_host.specs.declared.turn.StepResult.TheVariants.{Continue, TurnEnds, RunEnds}
 use Rattle.sfi_host.specs.declared.turn.Turn.{Turn}
 use Rattle.sfi_tool.specs.private.{HasLess, IsReplyTo, left_by, left_of}
+use Rattle.sfi_tool.proofs.Budgets.{at_most, plan_slots, same_slots}
 
 -- ---- a step
 
@@ -54,9 +54,6 @@ nothing_below n = omega arith
 
 same_most : (n : ℕ) → n ≤ n
 same_most n = omega arith
-
-at_most : (a b c : ℕ) → a ≤ b → b ≤ c → a ≤ c
-at_most a b c first last = omega (arith, first, last)
 
 below : (a b c : ℕ) → a ≤ b → b < c → a < c
 below a b c first last = omega (arith, first, last)
@@ -121,24 +118,14 @@ module _ (machine : Machine) (budget : ℕ) (most : budget ≤ 2 ^ 64 - 1) (i : 
 -- ---- among others
 
 module _ (machine : Machine) (budget : ℕ) (most : budget ≤ 2 ^ 64 - 1) (t : Turn) (old : List Slot) where
-  plan_slots : (next : StepResult) (m : Moved (Unit {0})) → (and_plan next t.sandbox m old (joined machine silent [])).slots ≡ slice_set old t.sandbox m.slot
-  unfolding joined
-  plan_slots Continue m = refl
-  plan_slots TurnEnds m = refl
-  plan_slots RunEnds m = refl
-
-  same_slots : (turn_and machine silent t old tt None (joined machine silent [])).slots ≡ old
-  unfolding joined
-  same_slots = refl
-
   found_slots : (slot : Slot) → slice_get old t.sandbox ≡ Some slot
       → slice_get (turn_and machine silent t old tt (Some slot) (joined machine silent [])).slots t.sandbox ≡ Some (turned machine silent t.sandbox t.steps slot tt).slot
   found_slots slot e =
       let m = turned machine silent t.sandbox t.steps slot tt in
-      ap (λ (slots : List Slot). slice_get slots t.sandbox) (plan_slots m.next m) ∙ get_set_same old t.sandbox slot m.slot e
+      ap (λ (slots : List Slot). slice_get slots t.sandbox) (plan_slots machine t old m.next m) ∙ get_set_same old t.sandbox slot m.slot e
 
   no_more_found : (o : Option Slot) → slice_get old t.sandbox ≡ o → left_of budget (slice_get (turn_and machine silent t old tt o (joined machine silent [])).slots t.sandbox) ≤ left_of budget o
-  no_more_found None e = subst (λ (n : ℕ). n ≤ 0) (sym (ap (λ (slots : List Slot). left_of budget (slice_get slots t.sandbox)) same_slots ∙ ap (left_of budget) e)) (same_most 0)
+  no_more_found None e = subst (λ (n : ℕ). n ≤ 0) (sym (ap (λ (slots : List Slot). left_of budget (slice_get slots t.sandbox)) (same_slots machine t old) ∙ ap (left_of budget) e)) (same_most 0)
   no_more_found (Some slot) e =
       subst (λ (o : Option Slot). left_of budget o ≤ left budget slot) (sym (found_slots slot e)) (turn_no_more machine budget most t.sandbox t.steps slot)
 
