@@ -199,7 +199,7 @@ name_of (Check raw report) = codes "check"
 name_of Dis = codes "dis"
 name_of (Build raw places) = codes "build"
 name_of (Map places) = codes "map"
-name_of (Run rounds quantum input report) = codes "run"
+name_of (Run options) = codes "run"
 name_of (Exec image budget) = codes "exec"
 name_of (Convert raw) = codes "convert"
 name_of (Move raw sandbox place) = codes "move"
@@ -215,10 +215,11 @@ HasOptions found Dis = Unit {0}
 HasOptions found (Build raw places) =
     IsGiven (codes "raw") found raw × SpellPlaces (texts_of (codes "at") found) places.items
 HasOptions found (Map places) = SpellPlaces (texts_of (codes "at") found) places.items
-HasOptions found (Run rounds quantum input report) =
-    IsCount (codes "rounds") 1 rounds_most found rounds
-    × IsCount (codes "quantum") 1 quantum_most found quantum
-    × IsInputOf (first_of (codes "input") found) input.items × IsGiven (codes "report") found report
+HasOptions found (Run options) =
+    IsCount (codes "rounds") 1 rounds_most found options.rounds
+    × IsCount (codes "quantum") 1 quantum_most found options.quantum
+    × IsInputOf (first_of (codes "input") found) options.input.items
+    × IsGiven (codes "report") found options.report
 HasOptions found (Exec image budget) =
     (first_of (codes "image") found ≡ Some (string_bytes image))
     × IsBudget (first_of (codes "budget") found) budget

@@ -8,6 +8,19 @@ use sfi_formats::Place;
 use std::alloc::{AllocError, Global};
 use thiserror::Error;
 
+/// The options of a run.
+#[derive(Drop)]
+pub struct RunOptions {
+    /// How often each sandbox gets a turn, from 1 to 10000.
+    pub rounds: u32,
+    /// How many steps a turn has, from 1 to 1000000.
+    pub quantum: u32,
+    /// What each sandbox reads.
+    pub input: Vec<u8>,
+    /// Whether the pc and the registers are printed of each sandbox that may go on or trapped.
+    pub report: bool,
+}
+
 /// A command with its options as values. An image that is read is its bytes or hexadecimal text.
 #[derive(Drop)]
 pub enum Job {
@@ -34,16 +47,7 @@ pub enum Job {
         places: Vec<Place>,
     },
     /// A run of the image's sandboxes.
-    Run {
-        /// How often each sandbox gets a turn, from 1 to 10000.
-        rounds: u32,
-        /// How many steps a turn has, from 1 to 1000000.
-        quantum: u32,
-        /// What each sandbox reads.
-        input: Vec<u8>,
-        /// Whether the pc and the registers are printed of each sandbox that may go on or trapped.
-        report: bool,
-    },
+    Run(RunOptions),
     /// A run of the sandboxes of an image in a file, one after another, whose put and get are those of
     /// the process.
     Exec {

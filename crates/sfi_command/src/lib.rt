@@ -11,4 +11,4 @@ mod rows;
 
 pub use command_line::job_of;
 pub use commands::VERSION;
-pub use job::{HEX_LINE, Job, JobFault};
+pub use job::{HEX_LINE, Job, JobFault, RunOptions};

@@ -27,6 +27,7 @@ use Rattle.std.specs.Bool.{OnTrue, OnFalse}
 use Rattle.sfi_tool.specs.declared.execution.Ended.{Ended}
 use Rattle.sfi_tool.specs.Executing.{AreExecuted, Begins, Executes, HaveExecuted, IfKnown, IsBegun, IsRefusalLine, IsStopText, IsTextAccepted, IsTold, Tells, TellsOf, first_streams, status_among, streams}
 use Rattle.sfi_tool.specs.Running.{first_slots, SaysRun}
+use Rattle.sfi_command.specs.declared.job.RunOptions.{RunOptions}
 use Rattle.sfi_tool.specs.private.{AreCut, AreStreamed, AreWithin, Runs, kept}
 use Rattle.sfi_answers.proofs.Images.{of_stop}
 use Rattle.sfi_tool.proofs.Budgets.{first_within}
@@ -322,9 +323,9 @@ of_verdict : (report : Bool) (bytes : List ℕ) (status : ℕ) (text : List ℕ)
 of_verdict report bytes status text (inl accepted) = omega (arith, accepted.status_is)
 of_verdict report bytes status text (inr refused) = omega (arith, refused.status_is)
 
-of_run : (rounds quantum : ℕ) (given : List ℕ) (report : Bool) (bytes : List ℕ) (status : ℕ) (text : List ℕ) → SaysRun rounds quantum given report bytes status text → status ≤ 1
-of_run rounds quantum given report bytes status text (inl ran) = omega (arith, ran.status_is)
-of_run rounds quantum given report bytes status text (inr refused) = omega (arith, refused.status_is)
+of_run : (options : RunOptions) (bytes : List ℕ) (status : ℕ) (text : List ℕ) → SaysRun options bytes status text → status ≤ 1
+of_run options bytes status text (inl ran) = omega (arith, ran.status_is)
+of_run options bytes status text (inr refused) = omega (arith, refused.status_is)
 
 of_conversion : (raw : Bool) (bytes : List ℕ) (status : ℕ) (text : List ℕ) → SaysConversion raw bytes status text → status ≤ 1
 of_conversion raw bytes status text (inl converted) = omega (arith, converted.status_is)
@@ -345,7 +346,7 @@ status_of_answer (Check false report) input status text says = of_verdict report
 status_of_answer Dis input status text says = omega (arith, says.2.status_is)
 status_of_answer (Build raw places) input status text says = omega (arith, says.status_is)
 status_of_answer (Map places) input status text says = omega (arith, says.status_is)
-status_of_answer (Run rounds quantum given report) input status text says = of_run rounds quantum given.items report says.0 status text says.2
+status_of_answer (Run options) input status text says = of_run options says.0 status text says.2
 status_of_answer (Exec image budget) input status text says = absurd says
 status_of_answer (Convert raw) input status text says = of_conversion raw says.0 status text says.2
 status_of_answer (Move raw sandbox place) input status text says = of_move raw sandbox place says.0 status text says.2

@@ -1,6 +1,6 @@
 -- That what was read has at most one of a job's faults.
-use Rattle.sfi_tool.proofs.Prelude.{◌≡◌, ◌∙◌, ℕ, List, Bool, ap, arith, length, refl, subst, sym}
-use Rattle.std.proofs.Common.{◌≤◌, Ok, Err, true, false, inl, inr}
+use Rattle.sfi_tool.proofs.Prelude.{◌≡◌, ◌∙◌, ℕ, List, ap, arith, length, refl, subst, sym}
+use Rattle.std.proofs.Common.{true, false, inl, inr}
 use Rattle.std.specs.Prelude.{IsErr}
 use Rattle.sfi_formats.specs.declared.place.Place.{Place}
 use Rattle.sfi_image.proofs.Facts.{never_both, one_fault, one_image}
@@ -17,7 +17,6 @@ use Rattle.sfi_tool.specs.Running.{run}
 use Rattle.sfi_answers.specs.declared.fault.InputFault.TheVariants.{Hex, Utf8, TooLarge, NotOld, Words, NoSandbox, NoPlace, NoFile}
 use Rattle.sfi_answers.specs.declared.fault.Stop.{Stop}
 use Rattle.sfi_answers.specs.declared.fault.Stop.TheVariants as stop
-use Rattle.sfi_command.specs.declared.job.Job.{Job}
 use Rattle.sfi_command.specs.declared.job.Job.TheVariants.{Check, Dis, Build, Map, Run, Exec, Convert, Move, Translate}
 use Rattle.sfi_tool.specs.Laws.{OneFault}
 use Rattle.sfi_tool.specs.Says.{IsNotHere}
@@ -135,7 +134,7 @@ one_of_job (Check false report) = images (check report) layouts
 one_of_job Dis = images dis layouts
 one_of_job (Build raw places) = sources places.items
 one_of_job (Map places) = sources places.items
-one_of_job (Run rounds quantum given report) = images (run rounds quantum given.items report) layouts
+one_of_job (Run options) = images (run options) layouts
 one_of_job (Exec image budget) = not_here
 one_of_job (Convert raw) = images (convert raw) conversions
 one_of_job (Move raw sandbox place) = images (move raw sandbox place) (moves sandbox place)

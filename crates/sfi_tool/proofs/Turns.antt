@@ -5,6 +5,7 @@ use Rattle.sfi_host.specs.Joint.{Machine, joined, joint, IsMachine, replied}
 use Rattle.sfi_host.specs.Plans.{IsJoint}
 use Rattle.sfi_host.specs.Slots.{Slot, bytes_in}
 use Rattle.sfi_tool.specs.Running.{plan_of, first_slots, run_of, run_lines, IsRunTextOf}
+use Rattle.sfi_command.specs.declared.job.RunOptions.{RunOptions}
 use Rattle.std.specs.FinMap.{empty}
 use Rattle.rv_mem.specs.Bytes.{Bytes}
 use Rattle.sfi_host.specs.Consoles.{ConsoleState, console, new_console}
@@ -39,21 +40,22 @@ one_more_round k quantum count =
 
 -- ---- what is said
 
-pub said_of_run : (report : Bool) (machine : Machine) (rounds quantum : ℕ) (given : List ℕ) (ps : List Part) (count : ℕ) (w : Sandboxes) (c : ConsoleState) (slots : List Slot) (host : ConsoleState) (text : List ℕ)
-    → count ≡ length ps → w.seats ≡ map first_seat ps → w.bytes ≡ with_parts empty ps → c ≡ new_console count given
-    → IsJoint machine console (plan_of rounds quantum count) (slots_of w) c slots host
-    → IsRunTextOf report ps slots host text
-    → IsRunTextOf report ps (run_of machine rounds quantum given ps).slots (run_of machine rounds quantum given ps).host.host text
-said_of_run report machine rounds quantum given ps count w c slots host text e seats bytes begins j h =
+pub said_of_run : (options : RunOptions) (machine : Machine) (ps : List Part) (count : ℕ) (w : Sandboxes) (c : ConsoleState) (slots : List Slot) (host : ConsoleState) (text : List ℕ)
+    → count ≡ length ps → w.seats ≡ map first_seat ps → w.bytes ≡ with_parts empty ps → c ≡ new_console count options.input.items
+    → IsJoint machine console (plan_of options.rounds options.quantum count) (slots_of w) c slots host
+    → IsRunTextOf options.report ps slots host text
+    → IsRunTextOf options.report ps (run_of machine options ps).slots (run_of machine options ps).host.host text
+said_of_run options machine ps count w c slots host text e seats bytes begins j h =
+    let rounds = plan_of options.rounds options.quantum in
     let first : slots_of w ≡ first_slots ps =
     ap (λ (b : Bytes). slots_of (record { bytes = b; seats = w.seats })) bytes
     ∙ ap (λ (s : List Seat). slots_of (record { bytes = with_parts empty ps; seats = s })) seats in
-    let same : joint machine console (plan_of rounds quantum count) (slots_of w) c None ≡ run_of machine rounds quantum given ps =
-    ap (λ (x : List Slot). joint machine console (plan_of rounds quantum count) x c None) first
-    ∙ ap (λ (x : ConsoleState). joint machine console (plan_of rounds quantum count) (first_slots ps) x None) begins
-    ∙ ap (λ (n : ℕ). joint machine console (plan_of rounds quantum n) (first_slots ps) (new_console n given) None) e in
-    subst (λ (x : List Slot). IsRunTextOf report ps x (run_of machine rounds quantum given ps).host.host text) (j.slots ∙ ap (λ r. r.slots) same)
-    (subst (λ (x : ConsoleState). IsRunTextOf report ps slots x text) (j.host ∙ ap (λ r. r.host.host) same) h)
+    let same : joint machine console (rounds count) (slots_of w) c None ≡ run_of machine options ps =
+    ap (λ (x : List Slot). joint machine console (rounds count) x c None) first
+    ∙ ap (λ (x : ConsoleState). joint machine console (rounds count) (first_slots ps) x None) begins
+    ∙ ap (λ (n : ℕ). joint machine console (rounds n) (first_slots ps) (new_console n options.input.items) None) e in
+    subst (λ (x : List Slot). IsRunTextOf options.report ps x (run_of machine options ps).host.host text) (j.slots ∙ ap (λ r. r.slots) same)
+    (subst (λ (x : ConsoleState). IsRunTextOf options.report ps slots x text) (j.host ∙ ap (λ r. r.host.host) same) h)
 
 -- the lines with what is told
 pub lines_and_states : (report : Bool) (ps : List Part) (slots : List Slot) (host : ConsoleState) (count : ℕ) (lines text : List ℕ) → report ≡ true → count ≡ length ps

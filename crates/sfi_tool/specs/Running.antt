@@ -19,6 +19,7 @@ use Rattle.sfi_host.specs.Slots.{Slot}
 use Rattle.sfi_host.specs.Worlds.{slots_of}
 use Rattle.sfi_safety.specs.Clean.{IsAccepted}
 use Rattle.sfi_answers.specs.Answers.{Meaning, SaysRefused, on_verdict}
+use Rattle.sfi_command.specs.declared.job.RunOptions.{RunOptions}
 
 -- ---- lines
 
@@ -111,37 +112,34 @@ abbrev pub first_slots : List Part → List Slot
 first_slots ps = slots_of (record { bytes = with_parts empty ps; seats = map first_seat ps })
 
 -- the sandboxes and their host, which answers each call, after that plan
-abbrev pub run_of : Machine → ℕ → ℕ → List ℕ → List Part → Joined (Limited ConsoleState)
-run_of machine rounds quantum given ps =
-    joint machine console (plan_of rounds quantum (length ps)) (first_slots ps)
-    (new_console (length ps) given) None
+abbrev pub run_of : Machine → RunOptions → List Part → Joined (Limited ConsoleState)
+run_of machine options ps =
+    joint machine console (plan_of options.rounds options.quantum (length ps)) (first_slots ps)
+    (new_console (length ps) options.input.items) None
 
 -- the text says what the sandboxes and their outputs are then, with a report or without; what is
 -- said holds of the machine, which is one function
-abbrev pub IsRunText : Bool → ℕ → ℕ → List ℕ → List Part → List ℕ → Type 0
-IsRunText report rounds quantum given ps text =
-    (machine : Machine) → IsMachine machine
-    → IsRunTextOf report ps
-    (run_of machine rounds quantum given ps).slots
-    (run_of machine rounds quantum given ps).host.host text
+abbrev pub IsRunText : RunOptions → List Part → List ℕ → Type 0
+IsRunText options ps text =
+    (machine : Machine) → IsMachine machine → IsRunTextOf options.report ps
+    (run_of machine options ps).slots (run_of machine options ps).host.host text
 
 -- ---- the command
 
 -- the image has no findings: status 0 and the text of a run of its sandboxes, each of which reads
--- what is given
-pub record SaysRan (rounds quantum : ℕ) (given : List ℕ) (report : Bool) (bytes : List ℕ)
-    (status : ℕ) (text : List ℕ) : Type 0 where
+-- the input
+pub record SaysRan (options : RunOptions) (bytes : List ℕ) (status : ℕ) (text : List ℕ) : Type 0 where
   pub parts : List Part
   pub accepted : IsAccepted bytes parts
   pub status_is : status ≡ 0
-  pub text_is : IsRunText report rounds quantum given parts text
+  pub text_is : IsRunText options parts text
 
 -- the text of a run, or the verdict on an image with findings
-abbrev pub SaysRun : ℕ → ℕ → List ℕ → Bool → List ℕ → ℕ → List ℕ → Type 0
-SaysRun rounds quantum given report bytes status text =
-    SaysRan rounds quantum given report bytes status text ⊎ SaysRefused false bytes status text
+abbrev pub SaysRun : RunOptions → List ℕ → ℕ → List ℕ → Type 0
+SaysRun options bytes status text =
+    SaysRan options bytes status text ⊎ SaysRefused false bytes status text
 
--- `run`, of `rounds` rounds of turns of `quantum` steps, where each sandbox reads what is given,
--- with a report or without
-abbrev pub run : ℕ → ℕ → List ℕ → Bool → Meaning
-run rounds quantum given report = on_verdict (SaysRun rounds quantum given report)
+-- `run` with these options: so many rounds of turns of so many steps, where each sandbox reads the
+-- input, with a report or without
+abbrev pub run : RunOptions → Meaning
+run options = on_verdict (SaysRun options)

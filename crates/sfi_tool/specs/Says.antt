@@ -38,8 +38,7 @@ meaning_of (Check false report) = on_image (check report)
 meaning_of Dis = on_image dis
 meaning_of (Build raw places) = build raw places.items
 meaning_of (Map places) = map places.items
-meaning_of (Run rounds quantum given report) =
-    on_image (run rounds quantum given.items report)
+meaning_of (Run options) = on_image (run options)
 meaning_of (Exec image budget) = not_here
 meaning_of (Convert raw) = on_image (convert raw)
 meaning_of (Move raw sandbox place) = on_image (move raw sandbox place)

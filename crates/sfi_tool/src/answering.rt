@@ -28,19 +28,7 @@ fn job_answer(alloc: Global, job: &Job, text: &[u8]) -> Result<Answer, Stop>
         Job::Dis => listing_answer(alloc, &image_bytes(alloc, text)?),
         Job::Build { raw, places } => build_answer(alloc, *raw, places, text),
         Job::Map { places } => map_answer(alloc, places, text),
-        Job::Run {
-            rounds,
-            quantum,
-            input,
-            report,
-        } => run_answer(
-            alloc,
-            *rounds,
-            *quantum,
-            input,
-            *report,
-            &image_bytes(alloc, text)?,
-        ),
+        Job::Run(options) => run_answer(alloc, options, &image_bytes(alloc, text)?),
         Job::Exec { .. } => Err(Stop::Input(InputFault::NoFile)),
         Job::Convert { raw } => conversion_answer(alloc, *raw, &image_bytes(alloc, text)?),
         Job::Move {

@@ -10,6 +10,7 @@ use crate::states::push_states;
 use rv_mem::{Memory, Pages};
 use sfi_answers::{Answer, Stop, refusal_answer};
 use sfi_check::{Accepted, check};
+use sfi_command::RunOptions;
 use sfi_host::{Console, RunAnswer, Turn, World};
 use std::alloc::{AllocError, Global};
 
@@ -77,38 +78,32 @@ fn run_text<M: Memory>(
 fn run_and_report(
     alloc: Global,
     accepted: &Accepted<'_>,
-    rounds: u32,
-    quantum: u32,
-    input: &[u8],
-    report: bool,
+    options: &RunOptions,
 ) -> Result<String, AllocError>
     ensures { IfOk result
-        (λ text. IsRunText report rounds quantum input.now accepted.now (string_bytes text)) }
+        (λ text. IsRunText options.now accepted.now (string_bytes text)) }
 {
     let count = accepted.sandbox_count() as u32;
     let mut world = World::load(alloc, accepted, Pages::new(alloc))?;
-    let mut console = Console::new(alloc, count, input)?;
-    take_rounds(alloc, rounds, quantum, count, &mut world, &mut console)?;
-    run_text(alloc, accepted, report, count, &world, &console)
+    let mut console = Console::new(alloc, count, &options.input)?;
+    take_rounds(
+        alloc,
+        options.rounds,
+        options.quantum,
+        count,
+        &mut world,
+        &mut console,
+    )?;
+    run_text(alloc, accepted, options.report, count, &world, &console)
 }
 
 /// The verdict on the image with these bytes where it has findings, and else what became of its
 /// sandboxes.
-pub(crate) fn run_answer(
-    alloc: Global,
-    rounds: u32,
-    quantum: u32,
-    input: &[u8],
-    report: bool,
-    bytes: &[u8],
-) -> Result<Answer, Stop>
-    ensures { Answers (run rounds quantum input.now report) bytes.now result }
+pub(crate) fn run_answer(alloc: Global, options: &RunOptions, bytes: &[u8]) -> Result<Answer, Stop>
+    ensures { Answers (run options.now) bytes.now result }
 {
     match check(alloc, bytes) {
-        Ok(accepted) => Ok(Answer::lines(
-            0,
-            run_and_report(alloc, &accepted, rounds, quantum, input, report)?,
-        )),
+        Ok(accepted) => Ok(Answer::lines(0, run_and_report(alloc, &accepted, options)?)),
         Err(refusal) => refusal_answer(alloc, false, bytes, refusal),
     }
 }

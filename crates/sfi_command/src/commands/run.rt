@@ -6,7 +6,7 @@ ghost use Rattle.clap.specs.Walk.{first_of, rows_of};
 ghost use Rattle.sfi_command.specs.Command.{IsInputOf, number_of};
 ghost use Rattle.sfi_command.specs.private.{IsAsked, IsInputFault};
 
-use crate::job::{Job, JobFault, no_job};
+use crate::job::{Job, JobFault, RunOptions, no_job};
 use crate::options::{count_of, is_given};
 use crate::rows::{CommandRow, OptionRow, Takes};
 use clap::ArgMatches;
@@ -104,10 +104,10 @@ pub(super) fn asked_run(alloc: Global, found: &ArgMatches<'_>) -> Result<Job, Jo
         return Err(no_job(alloc));
     };
     let report = is_given(found, "report");
-    Ok(Job::Run {
+    Ok(Job::Run(RunOptions {
         rounds,
         quantum,
         input,
         report,
-    })
+    }))
 }

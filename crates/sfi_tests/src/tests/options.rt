@@ -31,18 +31,12 @@ const RUNS: &[Run] = &[
 #[test]
 fn run_options(rt: HostRuntime) -> Result<(), Fail> {
     for Run(line, numbers, bytes, reports) in RUNS {
-        let Job::Run {
-            rounds,
-            quantum,
-            input,
-            report,
-        } = job(rt.alloc(), line)?
-        else {
+        let Job::Run(options) = job(rt.alloc(), line)? else {
             return Err(Fail::new("no run"));
         };
-        assert_eq!(rt; (rounds, quantum), *numbers, "{line}");
-        assert_eq!(rt; input.as_slice(), *bytes, "{line}");
-        assert_eq!(rt; report, *reports, "{line}");
+        assert_eq!(rt; (options.rounds, options.quantum), *numbers, "{line}");
+        assert_eq!(rt; options.input.as_slice(), *bytes, "{line}");
+        assert_eq!(rt; options.report, *reports, "{line}");
     }
     Ok(())
 }

@@ -40,9 +40,9 @@ returns-in_ok-image_bytes-in-Dis c =
 pub returns-in_ok-image_bytes-in-Run : goal.returns-in_ok-image_bytes-in-Run
 returns-in_ok-image_bytes-in-Run c =
     as_job _ _ _ c.run_answer.result c.in-Run.is
-    (on_bytes (run c.in-Run.rounds c.in-Run.quantum c.in-Run.input.items c.in-Run.report) c.args.text.now c.in_ok-image_bytes-in-Run.field-0.items c.deref-in-Run-2.result.now c.run_answer.result
-    c.in_ok-image_bytes-in-Run.ensures.bytes c.in_ok-image_bytes-in-Run.ensures.only_bytes (λ u. let e = c.in_ok-image_bytes-in-Run.ensures.only_stop u in absurd cc) c.deref-in-Run-2.ensures.value
-    (subst (λ (given : List ℕ). Answers (run c.in-Run.rounds c.in-Run.quantum given c.in-Run.report) c.deref-in-Run-2.result.now c.run_answer.result) c.deref-in-Run.ensures.value c.run_answer.ensures))
+    (on_bytes (run c.in-Run.options) c.args.text.now c.in_ok-image_bytes-in-Run.field-0.items c.deref-in-Run.result.now c.run_answer.result
+    c.in_ok-image_bytes-in-Run.ensures.bytes c.in_ok-image_bytes-in-Run.ensures.only_bytes (λ u. let e = c.in_ok-image_bytes-in-Run.ensures.only_stop u in absurd cc) c.deref-in-Run.ensures.value
+    c.run_answer.ensures)
 
 pub returns-in_ok-image_bytes-in-Convert : goal.returns-in_ok-image_bytes-in-Convert
 returns-in_ok-image_bytes-in-Convert c =
@@ -80,7 +80,7 @@ returns-in_err-image_bytes-in-Dis c =
 pub returns-in_err-image_bytes-in-Run : goal.returns-in_err-image_bytes-in-Run
 returns-in_err-image_bytes-in-Run c =
     as_job _ _ _ c.from_residual-in_err-image_bytes-in-Run.result c.in-Run.is
-    (on_no_bytes (run c.in-Run.rounds c.in-Run.quantum c.in-Run.input.items c.in-Run.report) c.args.text.now c.in_err-image_bytes-in-Run.field-0.0 c.from_residual-in_err-image_bytes-in-Run.result c.requires.within_limit c.in_err-image_bytes-in-Run.ensures.stop c.in_err-image_bytes-in-Run.ensures.only_bytes
+    (on_no_bytes (run c.in-Run.options) c.args.text.now c.in_err-image_bytes-in-Run.field-0.0 c.from_residual-in_err-image_bytes-in-Run.result c.requires.within_limit c.in_err-image_bytes-in-Run.ensures.stop c.in_err-image_bytes-in-Run.ensures.only_bytes
     c.from_residual-in_err-image_bytes-in-Run.ensures.1)
 
 pub returns-in_err-image_bytes-in-Convert : goal.returns-in_err-image_bytes-in-Convert

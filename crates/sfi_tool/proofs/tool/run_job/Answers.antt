@@ -1,4 +1,3 @@
-use Rattle.std.specs.Prelude.{◌≡◌, List, ℕ}
 use Rattle.std.proofs.Common.{sym, subst, ◌∙◌}
 use Rattle.sfi_io.specs.declared.streams.Input.{Input}
 use Rattle.sfi_io.specs.Hexadecimal.{IsInput}

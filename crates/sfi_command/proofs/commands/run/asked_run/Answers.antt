@@ -8,11 +8,11 @@ use Rattle.sfi_command.proofs.Words.{no_run, other, usage_of_named}
 use Rattle.sfi_command.proofs.commands.run.asked_run.Goals as goal
 
 no_rounds : (rows : List Row) → ((n : ℕ) → ¬ IsCount (codes "rounds") 1 rounds_most rows n) → (job : Job) → codes "run" ≡ name_of job → ¬ HasOptions rows job
-no_rounds rows none (Run rounds quantum input report) e has = none rounds has.0
+no_rounds rows none (Run options) e has = none options.rounds has.0
 no_rounds rows none _ e has = other _ _ refl e
 
 no_quantum : (rows : List Row) → ((n : ℕ) → ¬ IsCount (codes "quantum") 1 quantum_most rows n) → (job : Job) → codes "run" ≡ name_of job → ¬ HasOptions rows job
-no_quantum rows none (Run rounds quantum input report) e has = none quantum has.1
+no_quantum rows none (Run options) e has = none options.quantum has.1
 no_quantum rows none _ e has = other _ _ refl e
 
 pub returns-in_default : goal.returns-in_default
