@@ -43,9 +43,10 @@ void sfi_device_empty(struct sfi_device_sandbox *sandbox) {
 }
 
 void sfi_device_enter_start(struct sfi_device_sandbox *sandbox, const struct sfi_device_part *part) {
+    const struct sfi_device_part whole = *part; /* it may be that of the sandbox */
     sfi_device_empty(sandbox);
-    sandbox->part = *part;
-    set_registers(sandbox, part->start);
+    sandbox->part = whole;
+    set_registers(sandbox, whole.start);
     sandbox->state = SFI_DEVICE_READY;
 }
 

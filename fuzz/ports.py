@@ -26,6 +26,7 @@ import worlds
 
 import libraries
 import measure
+import runtime_file
 import testing
 
 FILE = os.path.join(fuzzing.TOP, "crates", "sfi_run", "out", "suygapid_run.c")
@@ -237,9 +238,12 @@ def main(words=None):
     parser.add_argument("--file", default=FILE)
     parser.add_argument("--all", action="store_true", help="by all compilers")
     given = parser.parse_args(words)
-    lacking = "gcc isn't there" if not fuzzing.has_gcc() else "tools/runtime_file.py hasn't made it" if not os.path.exists(given.file) else ""
+    lacking = [] if os.path.exists(given.file) else runtime_file.missing()
+    lacking += [] if fuzzing.has_gcc() else ["gcc"]
     if lacking:
-        return fuzzing.all_skipped(len(due(given.all)), "suygapid_run.c", lacking)
+        return fuzzing.all_skipped(len(due(given.all)), "suygapid_run.c", f"{' and '.join(lacking)} isn't there")
+    if not os.path.exists(given.file):
+        sys.exit(f"fuzz: no file {given.file}: tools/runtime_file.py makes it")
     program = measure.program_at(given.program)
     with tempfile.TemporaryDirectory() as folder:
         tally = fuzzing.Tally("calls of libsfi_run", "traces")

@@ -1,6 +1,6 @@
 """The libraries that a release has compiled and converted, so that sfi-cc doesn't have to at their first use: newlib, floating
-point, the small library and what each program is linked with, by gcc for code in words. Their sources, and so their licences, are those of Debian's packages
-newlib-source and gcc-12-source."""
+point, the small library and what each program is linked with, by gcc for code in words. Their sources, and so their licences, are
+those of Debian's packages newlib-source and gcc-12-source."""
 import os
 import pathlib
 import shutil
@@ -10,10 +10,11 @@ from suygapid.cc.compilers import GCC, Failed
 from suygapid.elf import runtime
 from suygapid.elf.tools import Target, binutil
 from suygapid.library import softfloat
-from suygapid.library.archives import NAMED, archive_of
+from suygapid.library.archives import SMALL, archive_of, folders_of
 
 TOP = pathlib.Path(kept.RELEASED).resolve().parent.parent.parent
 TARGET = Target("words")
+LIBRARIES = ("newlib", SMALL)
 
 
 def folders() -> list[str]:
@@ -21,7 +22,7 @@ def folders() -> list[str]:
     for program in (GCC, binutil("as")):
         if not shutil.which(program):
             raise Failed(2, f"{program} isn't there")
-    assembly = [make(GCC) for make in NAMED.values()] + [softfloat.folder_of(GCC) or ""]
+    assembly = [*folders_of(LIBRARIES, GCC), softfloat.folder_of(GCC) or ""]
     return [runtime.folder_of(TARGET), *assembly, *(os.path.dirname(archive_of(folder, TARGET)) for folder in assembly)]
 
 

@@ -172,10 +172,11 @@ int main(void) { return malloc(5) == own; }"""
                     self.assertIn(f"program.c:{marked_line(text)}\n", done.stderr)
 
     def test_refused(self):
-        for image_format in ("1", "2"):
-            done = subprocess.run([SFI_CC, "--debug", "--format", image_format, "x.c"], capture_output=True, text=True, check=False)
+        for words, told in ((("--format", "1"), "--debug is for words"), (("--format", "2"), "--debug is for words"),
+                            (("--passes", "known"), "--debug has passes of its own")):
+            done = subprocess.run([SFI_CC, "--debug", *words, "x.c"], capture_output=True, text=True, check=False)
             self.assertEqual(done.returncode, 2)
-            self.assertIn("--debug is for words", done.stderr)
+            self.assertIn(told, done.stderr)
 
     def test_exec(self):
         """An access in a guard zone, a second program, a budget, and what is no program."""

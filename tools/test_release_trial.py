@@ -12,6 +12,7 @@ import unittest
 from unittest import mock
 
 import checker_file
+import converted
 import definitions
 import evidence
 import installed
@@ -110,7 +111,7 @@ class Whole(Folder):
         first, *pages, checker, runtime = (self.top / it for it in built)
         for where, what, how in ((release, "TOP", self.top), (release, "MADE", pages), (release, "stale", list), (libraries, "HEADERS", {}),
                                  (installed, "built", lambda: [first]), (checker_file, "missing", list), (checker_file, "make", lambda: checker),
-                                 (runtime_file, "missing", list), (runtime_file, "make", lambda: runtime)):
+                                 (runtime_file, "missing", list), (runtime_file, "make", lambda: runtime), (converted, "files", dict)):
             patched = mock.patch.object(where, what, how)
             patched.start()
             self.addCleanup(patched.stop)

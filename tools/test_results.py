@@ -10,6 +10,7 @@ from concurrent.futures import ThreadPoolExecutor
 from unittest import mock
 
 import converted
+import installed
 from suygapid import kept, results
 from suygapid.commands import asm2elf
 from suygapid.elf import tools
@@ -79,9 +80,15 @@ class Results(Folder):
         with mock.patch("suygapid.elf.tools.ran", lambda words: (b"anew", b"")):
             self.assertEqual(tools.rewritten(path, Target("words"), is_kept=False), b"anew")
             self.assertEqual(tools.rewritten(path, Target("2")), b"anew")
+            self.assertEqual(tools.rewritten(path, Target("words", is_checking=True)), b"anew")
             self.assertEqual(tools.rewritten(path, Target("words"), "known"), b"anew")
             with mock.patch("suygapid.elf.tools.converter", lambda: b"another"):
                 self.assertEqual(tools.rewritten(path, Target("words")), b"anew")
+
+    def test_converter(self):
+        """The converter is files that are installed: what a release keeps by them is found after an installation."""
+        for path in tools.files_of(tools.CONVERTER):
+            self.assertTrue(installed.is_tool_file(pathlib.Path(path)), path)
 
 
 class Made(Folder):

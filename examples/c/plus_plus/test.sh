@@ -44,7 +44,7 @@ try_refused() { # what sfi-cc says at last; the program
 why=
 has g++ || why="g++ isn't there"
 has riscv64-unknown-elf-gcc || why="riscv64-unknown-elf-gcc isn't there"
-sources=$(PYTHONPATH=$tools python3 -c 'from suygapid.library.sources import GCC_SOURCE, NEWLIB_SOURCE
+sources=$(PYTHONPATH=$tools python3 -B -c 'from suygapid.library.sources import GCC_SOURCE, NEWLIB_SOURCE
 print(next((it.wanted() for it in (GCC_SOURCE, NEWLIB_SOURCE) if it.where() is None), ""))')
 why=${why:-$sources}
 if [ -n "$why" ]; then
@@ -52,6 +52,7 @@ if [ -n "$why" ]; then
 else
     try_program containers -O2 -fno-rtti empty prose json-tree
     try_program types -O0 -frtti empty
+    try_program types --debug -frtti empty
     try_refused "$no_exceptions" 'int main() { throw 1; }'
     try_refused "sfi-cc: std::cout: --library c++ has no streams and locales" $'#include <iostream>\nint main() { std::cout << 1; }'
 fi

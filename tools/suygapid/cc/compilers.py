@@ -74,7 +74,7 @@ def run(words: Sequence[str], data: bytes = b"") -> bytes:
 def name_of(words: Sequence[str]) -> str:
     """How a program is told: by its own name, and by the tool or the command that it was to run."""
     if words[0] == sys.executable:
-        return os.path.basename(words[2])
+        return os.path.basename(next(word for word in words[1:] if not word.startswith("-")))
     name = os.path.basename(words[1] if words[0] == "sh" else words[0])
     return f"{name} {words[1]}" if words[1:2] in (["build"], ["check"]) else name
 
@@ -93,6 +93,11 @@ def language(file):
 def for_language(file, given):
     """The options that are given for all files, without what gcc takes for C alone, and what C++ hasn't here."""
     return [word for word in given if word not in (HOSTED, EXCEPTIONS)] if file.endswith(PLUS_PLUS_SOURCES) else given
+
+
+def key_of(compiler: str) -> list[str]:
+    """What the code of a library depends on beside its sources and their own options."""
+    return [version(compiler), str(RESERVED_IN_WORDS), str([COMMON, OF_GCC, PLUS_PLUS, LAST])]
 
 
 def is_clang(compiler: str) -> bool:

@@ -37,11 +37,12 @@ def parsed(words):
                                                                                           "as many as there are processors if absent")
     parser.add_argument("--movable", action="store_true", help="addresses are made from the bases of the sandbox's regions at run time")
     options = parser.parse_args(words)
+    passes = checking.PASSES if options.debug else PASSES
     if options.passes is None:
-        options.passes = ",".join(checking.PASSES if options.debug else PASSES)
+        options.passes = ",".join(passes)
     options.passes = tuple(name for name in options.passes.split(",") if name)
-    if not set(options.passes) <= set(PASSES):
-        parser.error(f"the passes are {', '.join(PASSES)}")
+    if not set(options.passes) <= set(passes):
+        parser.error(f"the passes are {', '.join(passes)}")
     if options.debug and options.format != WORDS:
         parser.error("--debug is for words")
     if len(options.files) > 1 and not options.into:

@@ -130,6 +130,8 @@ def parsed(words):
     options.target, options.takes_small = Target(options.format, options.movable, options.debug), False
     if options.debug and options.format != "words":
         parser.error("--debug is for words")
+    if options.debug and options.passes is not None:
+        parser.error("--debug has passes of its own")
     given = [*DEBUG * options.debug, *given]
     for option, names in (("gate", [name for name, _ in options.gate]), ("export", options.exports), ("import", options.imports)):
         if len(set(names)) < len(names):

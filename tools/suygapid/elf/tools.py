@@ -38,10 +38,16 @@ class Target:
         return [f"--format={self.format}", *["--movable"] * self.is_movable, *["--debug"] * self.is_checking]
 
 
+def files_of(patterns: Iterable[str]) -> list[str]:
+    """The files below tools/ that these patterns name, in the order of their paths, without those that aren't installed."""
+    found = sorted(path for pattern in patterns for path in glob.glob(os.path.join(TOOLS, pattern)))
+    return [path for path in found if not os.path.basename(path).startswith(("test_", "random_c"))]
+
+
 def texts_of(patterns: Iterable[str]) -> list[str]:
     """The texts of the files below tools/ that these patterns name, in the order of their paths."""
     found = []
-    for path in sorted(path for pattern in patterns for path in glob.glob(os.path.join(TOOLS, pattern))):
+    for path in files_of(patterns):
         with open(path, encoding="utf-8") as file:
             found.append(file.read())
     return found

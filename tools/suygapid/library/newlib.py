@@ -3,7 +3,7 @@ import glob
 import os
 import shutil
 
-from suygapid.cc.compilers import RESERVED_IN_WORDS, WITH_FRAMES, is_clang, version
+from suygapid.cc.compilers import WITH_FRAMES, is_clang, key_of
 from suygapid.kept import kept
 from suygapid.library import softfloat
 from suygapid.library.compiling import Job, compile_into
@@ -88,8 +88,8 @@ def folder_of(compiler: str) -> str:
     for path in sorted(glob.glob(os.path.join(GLUE, "*"))):
         with open(path, encoding="utf-8") as file:
             own.append(file.read())
-    words = [version(compiler), *sources, *own, *OPTIONS,
-             *sorted(LEFT_OUT), *FOLDERS, *POSIX, *WITHOUT_FUNCTIONS, str(VARIANTS), str(RESERVED_IN_WORDS),
+    words = [*key_of(compiler), *sources, *own, *OPTIONS,
+             *sorted(LEFT_OUT), *FOLDERS, *POSIX, *WITHOUT_FUNCTIONS, str(VARIANTS),
              os.path.basename(softfloat.folder_of(compiler) or "")]
     return kept("newlib", words, lambda folder: compile_all(compiler, folder),
                 "newlib is compiled and converted, which takes some minutes")

@@ -6,7 +6,7 @@ import re
 import shutil
 import tempfile
 
-from suygapid.cc.compilers import GCC, RESERVED_IN_WORDS, ran, version
+from suygapid.cc.compilers import GCC, WITH_FRAMES, key_of, ran, version
 from suygapid.elf.tools import binutil
 from suygapid.kept import kept
 from suygapid.library import newlib
@@ -39,7 +39,7 @@ SOURCES = {
     ("src/c++17", "gnu++17"): "string-inst",
 }
 OWN, OWN_STANDARD = ("nothrow", "thrown"), "gnu++17"  # the files beside this one
-OPTIONS = ["-w", "-frtti", "-fno-implicit-templates"]
+OPTIONS = ["-w", WITH_FRAMES, "-frtti", "-fno-implicit-templates"]
 NO_EXCEPTIONS = re.compile(rb"exception handling disabled|with exceptions disabled")  # what gcc and clang say of throw and try
 MISSING = re.compile(rb": fatal error: '?([a-z_]+)'?[: ]")  # a header without an ending that a compiler doesn't find
 STREAMS = re.compile(rb"undefined reference to `(std::(?:__cxx11::)?"
@@ -104,7 +104,7 @@ def folder_of(compiler: str) -> str:
     for name in OWN:
         with open(os.path.join(GLUE, f"{name}.cc"), encoding="utf-8") as file:
             own.append(file.read())
-    words = [version(compiler), identity(GCC_SOURCE.path()), *own, *PARTS, *CONFIGURED, str(INSTALLED), str(SOURCES), OWN_STANDARD,
-             *OPTIONS, *OF_NEW, str(RESERVED_IN_WORDS), os.path.basename(newlib.folder_of(compiler))]
+    words = [*key_of(compiler), version(GCC), identity(GCC_SOURCE.path()), *own, *PARTS, *CONFIGURED, str(INSTALLED), str(SOURCES),
+             OWN_STANDARD, *OPTIONS, *OF_NEW, os.path.basename(newlib.folder_of(compiler))]
     return kept("plus_plus", words, lambda folder: compile_all(compiler, folder),
                 "libstdc++ is compiled and converted, which takes some minutes; it is kept")

@@ -6,7 +6,7 @@ import re
 import shutil
 
 from suygapid import TOP
-from suygapid.cc.compilers import HOSTED, RESERVED_IN_WORDS, WITH_FRAMES, compiled, version
+from suygapid.cc.compilers import HOSTED, WITH_FRAMES, compiled, key_of
 from suygapid.kept import kept
 
 SOURCES = os.path.join(TOP, "examples", "c", "library")
@@ -71,7 +71,7 @@ def make(compiler: str, folder: str) -> None:
 
 def folder_of(compiler: str) -> str:
     """The folder of the library by a compiler, which is kept."""
-    words = [version(compiler), str(RESERVED_IN_WORDS), MARK, WITH_FRAMES]
+    words = [*key_of(compiler), MARK, WITH_FRAMES]
     for path in [*headers(), *sorted(glob.glob(os.path.join(SOURCES, "*"))), GATES]:
         with open(path, encoding="utf-8") as file:
             words += [os.path.basename(path), file.read()]

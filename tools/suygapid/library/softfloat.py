@@ -6,7 +6,7 @@ import re
 import shutil
 from typing import Iterable, Optional
 
-from suygapid.cc.compilers import RESERVED_IN_WORDS, version
+from suygapid.cc.compilers import WITH_FRAMES, key_of
 from suygapid.kept import kept
 from suygapid.library.compiling import compile_into
 from suygapid.library.sources import GCC_SOURCE, identity, unpacked
@@ -68,7 +68,7 @@ def compile_all(compiler, tree, folder):
     for name, text in {**dict.fromkeys(EMPTY_HEADERS, ""), "longlong.h": LONGLONG}.items():
         with open(os.path.join(stubs, name), "w", encoding="utf-8") as file:
             file.write(text)
-    compile_into(folder, compiler, [], jobs(tree, stubs))
+    compile_into(folder, compiler, [WITH_FRAMES], jobs(tree, stubs))
     shutil.rmtree(stubs)
 
 
@@ -81,7 +81,6 @@ def folder_of(compiler: str) -> Optional[str]:
     for name in (OWN_HEADER, *(f"{name}.c" for name in OWN)):
         with open(os.path.join(FOLDER, name), encoding="utf-8") as file:
             own.append(file.read())
-    words = [version(compiler), identity(source), *LIBGCC2, SOFT_FP.pattern, *MODES, LONGLONG, *own,
-             str(RESERVED_IN_WORDS)]
+    words = [*key_of(compiler), identity(source), *LIBGCC2, SOFT_FP.pattern, *MODES, LONGLONG, *own, WITH_FRAMES]
     return kept("softfloat", words, lambda folder: compile_all(compiler, unpacked(GCC_SOURCE, *PARTS), folder),
                 "the functions of floating point are compiled, which may take a minute")

@@ -54,7 +54,7 @@ class Checking(InWords):
 
     def look_at_stack(self):
         if self.is_lower:
-            self.write(None, *("\t" + text for text in room_for(0)))
+            self.write(None, ["\t" + text for text in room_for(0)])
         self.is_lower = False
 
     def one(self, op, following):
