@@ -13,7 +13,7 @@ struct reach sfi_device_image_reach;
 
 enum { PIECE = 4096 }; /* bytes of an image that are judged at a time */
 
-_Static_assert(MODULE_GATES == SFI_DEVICE_GATES_MOST, "the gates of the module are those of a part");
+_Static_assert((int)MODULE_GATES == (int)SFI_DEVICE_GATES_MOST, "the gates of the module are those of a part");
 
 /* ---- For the C that wasm2c made */
 

@@ -246,7 +246,8 @@ try_slots
 # ---- Other mains: plug-ins as tasks of a kernel, and in U-mode
 
 # The kernel's last line has the slices of its tasks, and how often the one that never yields was preempted. A slice of
-# 100 us is 100,000 instructions by the clock of --steps: no other task of the host needs as many.
+# 100 us or more has 100,000 instructions by the clock of --steps: no other task of the host needs as many. A tick of
+# opentitan has 100 us, and the first of a slice has begun before it.
 kernel() { # the ticks of a slice; the image is $room/image.hex
     MAIN="../kernel/kernel.c ../kernel/entry.S" OUT=$room/kernel run --steps --rounds 20 --turn "$1" <"$room/image.hex" |
         without_steps | awk -F '[=, ]' '/^slices=/ { print ($7 > 0 && $2 == $7) ? "preempted" : $0; next } { print }'
@@ -265,7 +266,7 @@ try_kernel() {
             lines=$("$SFI" run --rounds 20 <"$room/image.hex" | without_steps)
             report "$chip: words between two tasks, format $format" "$lines"$'\npreempted' "$(kernel "$ticks")"
         done
-    done <<<$'virt 1000\nopentitan 1'
+    done <<<$'virt 1000\nopentitan 2'
 }
 
 try_kernel
