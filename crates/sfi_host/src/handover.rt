@@ -11,10 +11,10 @@ use rv_mem::Memory;
 use std::alloc::AllocError;
 
 /// a0 of a refused call.
-const FAILED: u32 = u32::MAX;
+pub const FAILED: u32 = u32::MAX;
 
 /// How many bytes one call may hand over.
-const MOST_HANDED: u32 = 65536;
+pub const MOST_HANDED: u32 = 65536;
 
 /// Whether the caller's a1 bytes from a0 on may be handed over: there aren't too many,
 /// and all are in its data region.

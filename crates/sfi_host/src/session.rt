@@ -17,8 +17,10 @@ use std::marker::Model;
 // The services, by the numbers that a gate asks with.
 pub const EXIT: u32 = 0;
 
+/// The service that writes.
 pub const PUT: u32 = 1;
 
+/// The service that reads.
 pub const GET: u32 = 2;
 
 pub const YIELD: u32 = 3;

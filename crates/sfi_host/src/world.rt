@@ -410,10 +410,10 @@ impl<M: Memory> World<M> {
     /// function is called; `false` where there is no such sandbox, it hasn't stopped, or no bundle
     /// or word of its code begins at `pc`, and then nothing changed. The return address x1 is that
     /// of the first gate of service 0, if one is listed, so that a function that returns calls that
-    /// gate. The other registers are as `load` sets them: the stack pointer x2 lies a first frame
-    /// below the data's end, x24 to x27 hold what is theirs, where code is in words x3, x4 and x29
-    /// hold the data base and x30 holds pc, and all that is left is 0. Its data stay, and its steps
-    /// are counted on.
+    /// gate. The stack pointer x2 is lower than `load` sets it by the room that the image asks for.
+    /// The other registers are as `load` sets them: x24 to x27 hold what is theirs, where code is in
+    /// words x3, x4 and x29 hold the data base and x30 holds pc, and all that is left is 0. Its data
+    /// stay, and its steps are counted on.
     pub fn enter(&mut self, i: u32, pc: u32, arguments: &[u32; 8]) -> bool
         ensures may { IsTrue result ↔ MayEnterAt (slots_of self.old) i pc }
         ensures done { OnTrue result (self.new ≡ with_entry self.old i pc arguments.now) }

@@ -13,7 +13,7 @@ ghost use Rattle.sfi_tool.specs.declared.execution.ExecFault.TheVariants.{Image,
 ghost use Rattle.sfi_tool.specs.declared.serving.Interruption.TheVariants.{Memory};
 
 use crate::executing::execute_sandboxes;
-use crate::serving::{Interruption, MOST_HANDED, flush_output};
+use crate::serving::{BUFFER, Interruption, flush_output};
 use crate::stopping::{first_nonzero_status, stop_text};
 use rv_mem::Pages;
 use sfi_answers::{Stop, TOO_LARGE_LINE, refusal_answer, stop_answer};
@@ -119,7 +119,7 @@ fn execute_accepted<R: Read, W: Write, E: Write>(
     let count = accepted.sandbox_count() as u32;
     let mut world = World::load(alloc, accepted, Pages::new(alloc))?;
     let mut console = Console::new(alloc, count, &[])?;
-    let mut buffer = vec![in alloc; 0u8; MOST_HANDED]?;
+    let mut buffer = vec![in alloc; 0u8; BUFFER]?;
     let ran = execute_sandboxes(
         &mut world,
         &mut console,

@@ -10,21 +10,14 @@ ghost use Rattle.sfi_tool.specs.private.{GoesOnWith, IsAnsweredBy, IsCut, IsPiec
 
 use crate::piece::Piece;
 use rv_mem::Memory;
-use sfi_host::{Console, Gates, Later, Request, RunAnswer, Turn, World};
+use sfi_host::{
+    Console, FAILED, GET, Gates, Later, MOST_HANDED, PUT, Request, RunAnswer, Turn, World,
+};
 use sfi_io::write_out;
 use std::io::{Read, Write};
 
-/// The most bytes that one call hands over.
-pub(crate) const MOST_HANDED: usize = 65536;
-
-/// a0 after a call that is refused.
-const FAILED: u32 = 0xffffffff;
-
-/// The service that writes.
-const PUT: u32 = 1;
-
-/// The service that reads.
-const GET: u32 = 2;
+/// How many bytes hold what one call hands over.
+pub(crate) const BUFFER: usize = MOST_HANDED as usize;
 
 /// What broke off a run, or before it the reading or the check of its image.
 #[derive(Clone, Copy, Debug, Drop, PartialEq, Eq)]
@@ -47,7 +40,7 @@ fn take_handed<M: Memory>(world: &World<M>, request: Request, buffer: &mut [u8])
     ensures refused { OnFalse result (handed_by (slots_of world.now) request ≡ None) }
 {
     let count = request.a1 as usize;
-    count <= MOST_HANDED && world.read(request.sandbox, request.a0, &mut buffer[..count])
+    count <= BUFFER && world.read(request.sandbox, request.a0, &mut buffer[..count])
 }
 
 /// Has a host answer a call.

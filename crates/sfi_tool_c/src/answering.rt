@@ -14,7 +14,7 @@ use std::alloc::{AllocError, Global};
 
 const NO_TEXT: &str = "error: the words are not UTF-8, or the last one is not ended\n";
 
-/// What the job answers on what was read.
+/// As `answer_job`; but a raw check, which that doesn't take, reads bytes.
 fn answer_to(alloc: Global, job: &Job, input: &[u8]) -> Result<Answer, AllocError>
     ensures statuses { IfOk result (λ a. a.status ≤ 2) }
     ensures says { IfOk result (λ a. a.status < 2
