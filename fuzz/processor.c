@@ -8,7 +8,6 @@
  * registers, flags and address after the instruction.
  */
 #define _GNU_SOURCE
-#include <cpuid.h>
 #include <inttypes.h>
 #include <signal.h>
 #include <stdbool.h>
@@ -193,11 +192,11 @@ static void run_case(const struct trial *t) {
     memset(code, HLT, t->c.length);
 }
 
-/* The definitions know addresses of 48 bits. To a processor that has them of 57, by LA57, a jump to one of these is done. */
+/* The definitions know addresses of 48 bits, and fault at a jump to another. A processor that has them of 57, by LA57, does
+   it; and one that hasn't may fault behind it. */
 static bool is_wide_jump(void) {
-    unsigned a, b, features = 0, d;
     const uint64_t to = now.registers[RIP], end = 1ULL << 47;
-    return to >= end && to < -end && __get_cpuid_count(7, 0, &a, &b, &features, &d) && features >> 16 & 1;
+    return to >= end && to < -end;
 }
 
 /* What differs, or NULL. */
