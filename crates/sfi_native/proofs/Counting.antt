@@ -12,7 +12,7 @@ use Rattle.x86_step.specs.Running.{exec}
 use Rattle.sfi_native.specs.declared.layout.Layout.{Layout}
 use Rattle.sfi_native.specs.Layout.{IsRelated}
 use Rattle.sfi_native.specs.Code.{count}
-use Rattle.sfi_native.proofs.Computing.{updated_other}
+use Rattle.sfi_native.proofs.Kept.{updated_other}
 
 abbrev pub counted : Going → Going
 counted g = record { place = g.place; state = g.state; left = one_less g.left }

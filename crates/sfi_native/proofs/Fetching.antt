@@ -15,7 +15,7 @@ use Rattle.x86_step.specs.Running.{exec}
 use Rattle.sfi_native.specs.declared.layout.Layout.{Layout}
 use Rattle.sfi_native.specs.Layout.{IsLayout, IsRelated, value}
 use Rattle.sfi_native.specs.Code.{fetch, is_fixed, slot, write}
-use Rattle.sfi_native.proofs.Computing.{Kept}
+use Rattle.sfi_native.proofs.Kept.{Kept}
 use Rattle.sfi_native.proofs.Fixed.{fixed_free, fixed_length, fixed_same}
 use Rattle.sfi_native.proofs.Memory.{load_there, may_write_each, number_elsewhere, number_written, store_there, written_elsewhere}
 

@@ -124,7 +124,8 @@ each_code_can_be_run is at p l g layout count words few ends frame data_apart =
       held p l g layout,
       record {
         layout = layout;
-        text_is_fixed = fixed_is p l g layout (spellings is) at ends frame data_apart;
+        text_is_fixed = fixed_is p l g layout (spellings is) at (omega (arith, ends)) frame data_apart;
+        text_is_low = ends;
         stands = record { before = []; after = []; bytes_are = sym (append-nil (spellings is)); at_is = omega arith };
         related = held_is p l g layout count words few;
       },

@@ -9,56 +9,52 @@ use Rattle.rv_step.specs.State.{past, with_pc}
 use Rattle.sfi_image.specs.Spelling.{Part}
 use Rattle.sfi_translate.specs.Machine.{ControlPoint, Going, fixed, jumps, one_less}
 use Rattle.x86_instr.specs.declared.operand.Register.TheVariants.{Rax, Rcx}
-use Rattle.x86_instr.specs.declared.instr.Condition.{Condition}
 use Rattle.x86_instr.specs.declared.instr.Width.TheVariants.{Dword}
 use Rattle.x86_instr.specs.declared.instr.Instr.{Instr as Native}
 use Rattle.x86_instr.specs.declared.instr.Instr.TheVariants.{Alu, Jcc, Jmp}
 use Rattle.x86_instr.specs.declared.instr.AluOp.TheVariants as alu
 use Rattle.x86_instr.specs.declared.operand.Operand.TheVariants.{Reg}
 use Rattle.x86_instr.specs.Spelling.{spelling}
-use Rattle.x86_step.specs.State.{Core, IsFixed, Machine, Text, with_flags, with_register}
-use Rattle.x86_step.specs.Step.{Reaches, stay, go, difference, effect, is_canonical, is_met, jumped, low, step}
+use Rattle.x86_step.specs.State.{Core, IsFixed, Text, with_flags, with_register}
+use Rattle.x86_step.specs.Step.{Reaches, difference, effect, is_canonical, is_met, jumped, low}
 unfoldable use Rattle.x86_step.specs.Step.{computes}
-use Rattle.x86_step.specs.Running.{HasAt, are_straight, exec, spellings}
-use Rattle.x86_step.proofs.Facts.{fixed_stays, spelled_run, spelled_steps, steps_join}
-use Rattle.x86_step.proofs.Running.{exec_append, has_back, has_front, spellings_append, straight_append}
+use Rattle.x86_step.specs.Running.{HasAt, exec, spellings}
+use Rattle.x86_step.proofs.Facts.{fixed_stays, steps_join}
+use Rattle.x86_step.proofs.Running.{exec_append, has_back, has_front, spellings_append}
 use Rattle.sfi_native.specs.declared.layout.Layout.{Layout}
 use Rattle.sfi_native.specs.Layout.{IsLayout, IsRelated, value}
-use Rattle.sfi_native.specs.Laws.{BranchLinesRun, JalLinesRun, end_of}
+use Rattle.sfi_native.specs.Laws.{BranchLinesRun, IsLow, JalLinesRun, end_of}
 use Rattle.sfi_native.specs.Code.{branch_line, compare_code, condition_of, count, fetch, jal_line, number_code}
 use Rattle.sfi_native.proofs.Arithmetic.{low_is, met_is}
-use Rattle.sfi_native.proofs.Computing.{kept_flags, kept_register}
+use Rattle.sfi_native.proofs.Kept.{kept_flags, kept_register}
 use Rattle.sfi_native.proofs.Counting.{counts}
+use Rattle.sfi_native.proofs.Runs.{Runs, branch_effect, one_step, straight_runs}
 use Rattle.sfi_native.proofs.Fetching.{fetched, related_kept}
-use Rattle.sfi_native.proofs.Lines.{none_comes, number_comes, then_count, write_straight}
+use Rattle.sfi_native.proofs.Lines.{none_comes, number_comes, then_count}
 
--- ==== A jump behind straight instructions.
+-- ==== A jump behind instructions.
 
--- the instruction's step leads on from where the front led
-module _ (t : Text) (at : ℕ) (front : List Native) (jump : Native) (c d : Core) (fixed_text : IsFixed t c) (straight : are_straight front ≡ true)
-    (stands : HasAt t at (spellings (front ++ (jump ∷ [])))) (runs : exec front c ≡ Ok d) where
+module _ (t : Text) (at : ℕ) (front : List Native) (jump : Native) (c d : Core) (fixed_text : IsFixed t c) (low : IsLow t)
+    (stands : HasAt t at (spellings (front ++ (jump ∷ [])))) (runs : Runs front c d) where
   parts : HasAt t at (spellings front ++ spellings (jump ∷ []))
   parts = subst (λ bytes. HasAt t at bytes) (spellings_append front (jump ∷ [])) stands
 
-  ends_at : end_of (at + length (spellings front)) (jump ∷ []) ≡ end_of at (front ++ (jump ∷ []))
+  ends_at : end_of (end_of at front) (jump ∷ []) ≡ end_of at (front ++ (jump ∷ []))
   ends_at = omega (arith, ap length (spellings_append front (jump ∷ [])), length-append (spellings front) (spellings (jump ∷ [])))
 
-  first : Reaches t (record { rip = at; core = c }) (record { rip = at + length (spellings front); core = d })
-  first = spelled_run t at front c d fixed_text straight (has_front t at (spellings front) (spellings (jump ∷ [])) parts) runs
+  first : Reaches t (record { rip = at; core = c }) (record { rip = end_of at front; core = d })
+  first = runs t at fixed_text low (has_front t at (spellings front) (spellings (jump ∷ [])) parts)
 
-  own : HasAt t (at + length (spellings front)) (spelling jump)
-  own = subst (λ bytes. HasAt t (at + length (spellings front)) bytes) (append-nil (spelling jump)) (has_back t at (spellings front) (spellings (jump ∷ [])) parts)
+  own : HasAt t (end_of at front) (spelling jump)
+  own = subst (λ bytes. HasAt t (end_of at front) bytes) (append-nil (spelling jump)) (has_back t at (spellings front) (spellings (jump ∷ [])) parts)
 
-  own_end : at + length (spellings front) + length (spelling jump) ≡ end_of at (front ++ (jump ∷ []))
+  own_end : end_of at front + length (spelling jump) ≡ end_of at (front ++ (jump ∷ []))
   own_end = omega (arith, ends_at, ap length (append-nil (spelling jump)))
 
   pub jumps_to : (to : ℕ) → ((after : ℕ) → after ≡ end_of at (front ++ (jump ∷ [])) → effect jump after d ≡ Ok (record { rip = to; core = d }))
       → Reaches t (record { rip = at; core = c }) (record { rip = to; core = d })
   jumps_to to does =
-      let middle : Machine = record { rip = at + length (spellings front); core = d } in
-      let last : Machine = record { rip = to; core = d } in
-      let one : step t middle ≡ Ok last = spelled_steps t (at + length (spellings front)) jump d own ∙ does (at + length (spellings front) + length (spelling jump)) own_end in
-      steps_join t (record { rip = at; core = c }) middle last first (record { fixed = fixed_stays t _ middle first; steps = go middle last last one (stay last) })
+      steps_join t _ _ _ first (one_step t (end_of at front) to jump d d (fixed_stays t _ _ first) own (does (end_of at front + length (spelling jump)) own_end))
 
 -- ==== A branch.
 
@@ -129,12 +125,6 @@ module _ (p : Part) (l : Layout) (layout : IsLayout p.data_size l) where
     by_branch true place at n to d related = related place to
     by_branch false place at n to d related = related place (address_after at n)
 
-branch_effect : (condition : Condition) (distance after end : ℕ) (d : Core) (t : Bool) → after ≡ end → is_met condition d.flags ≡ Some t → is_canonical (jumped end distance) ≡ true
-    → effect (Jcc condition distance) after d ≡ Ok (record { rip = if t then jumped end distance else end; core = d })
-unfolding computes
-branch_effect condition distance after end d true is met canonical = rw (met, is, canonical) refl
-branch_effect condition distance after end d false is met canonical = rw (met, is) refl
-
 pub branch_lines_run : BranchLinesRun
 unfolding InRange
 branch_lines_run target p code rest address size cond rs1 rs2 offset distance l t at g c range here canonical =
@@ -146,7 +136,8 @@ branch_lines_run target p code rest address size cond rs1 rs2 offset distance l 
     ap (is_met (condition_of cond)) done.flags ∙ met_is cond a b (here.related.words rs1) (here.related.words rs2) in
     record {
       after = done.core;
-      reached = jumps_to t at (compare_code rs1 rs2) (Jcc (condition_of cond) distance) c done.core here.text_is_fixed refl here.stands done.runs
+      reached = jumps_to t at (compare_code rs1 rs2) (Jcc (condition_of cond) distance) c done.core here.text_is_fixed here.text_is_low here.stands
+          (straight_runs (compare_code rs1 rs2) c done.core refl done.runs)
           (if is_taken cond a b then jumped end distance else end)
           (λ after e. branch_effect (condition_of cond) distance after end done.core (is_taken cond a b) e met canonical);
       related = by_branch p l here.layout g c here.related (is_taken cond a b) _ address size (offset_by address offset) done.core done.related;
@@ -167,7 +158,7 @@ jal_lines_run target p code rest address size rd offset distance l t at g c rang
     let done = then_count p l c (number_code rd v) _ front in
     record {
       after = done.core;
-      reached = jumps_to t at (number_code rd v ++ count) (Jmp distance) c done.core here.text_is_fixed (straight_append (number_code rd v) count (write_straight rd) refl) here.stands done.runs
+      reached = jumps_to t at (number_code rd v ++ count) (Jmp distance) c done.core here.text_is_fixed here.text_is_low here.stands done.runs
           (jumped end distance) (λ after e. jal_effect distance after end done.core e canonical);
       related = done.related;
     }

@@ -2,6 +2,9 @@ pub mod Memory
 pub mod Fixed
 pub mod Arithmetic
 pub mod Products
+pub mod Runs
+pub mod Kept
+pub mod Divisions
 pub mod Computing
 pub mod Fetching
 pub mod Counting

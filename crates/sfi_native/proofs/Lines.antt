@@ -1,11 +1,9 @@
 -- The code of a computing line, from its first instruction to its last.
-use Rattle.std.proofs.Common.{◌≡◌, ℕ, ◌+◌, ◌*◌, ◌%◌, ◌^◌, ◌<◌, true, List, [], ◌∷◌, ◌++◌, refl, ◌∙◌, arith, inl, inr}
-use Rattle.std.specs.Prelude.{Ok, ℤ}
+use Rattle.std.proofs.Common.{◌≡◌, ℕ, ◌+◌, ◌*◌, ◌%◌, ◌^◌, ◌<◌, true, List, [], ◌∷◌, ◌++◌, refl, arith, inl, inr}
+use Rattle.std.specs.Prelude.{ℤ}
 use Rattle.std.proofs.lemmas.Bool.{cases_Bool, false≢true}
 use Rattle.rv_word.specs.declared.instr.RegOp.{RegOp}
-use Rattle.rv_word.specs.declared.instr.RegOp.TheVariants.{Add}
 use Rattle.rv_word.specs.declared.instr.ImmOp.{ImmOp}
-use Rattle.rv_word.specs.declared.instr.ImmOp.TheVariants.{Addi}
 use Rattle.rv_word.specs.declared.instr.Instr.{Instr}
 use Rattle.rv_word.specs.declared.instr.Instr.TheVariants.{Op, OpImm, Lui, Auipc, Fence}
 unfoldable use Rattle.rv_word.specs.Spelling.{InRange}
@@ -21,69 +19,34 @@ use Rattle.x86_instr.specs.declared.instr.Instr.{Instr as Native}
 use Rattle.x86_instr.specs.declared.instr.Instr.TheVariants.{MovImm}
 use Rattle.x86_step.specs.State.{Core, with_register}
 unfoldable use Rattle.x86_step.specs.Step.{computes}
-use Rattle.x86_step.specs.Running.{are_straight, exec}
-use Rattle.x86_step.proofs.Facts.{spelled_run}
-use Rattle.x86_step.proofs.Running.{exec_append, straight_append}
+use Rattle.x86_step.specs.Running.{are_straight}
 use Rattle.sfi_native.specs.declared.layout.Layout.{Layout}
 use Rattle.sfi_native.specs.Layout.{IsLayout, IsRelated, value}
 use Rattle.sfi_native.specs.Laws.{ComputingLinesRun}
-use Rattle.sfi_native.specs.Code.{computing_line, count, does_compute, fetch, has_op, imm_code, is_fixed, number_code, op_code, write}
+use Rattle.sfi_native.specs.Code.{computing_line, count, does_compute, fetch, imm_code, is_fixed, number_code, op_code, write}
 unfoldable use Rattle.sfi_native.specs.Code.{computation, compute, compute_imm}
-use Rattle.sfi_native.proofs.Computing.{Computed, Kept, computed, computed_imm, kept_join, kept_register}
+use Rattle.sfi_native.proofs.Computing.{computed, computed_imm}
+use Rattle.sfi_native.proofs.Kept.{Computed, behind, kept_register}
 use Rattle.sfi_native.proofs.Counting.{counted, counts}
+use Rattle.sfi_native.proofs.Runs.{Runs, runs_join, straight_runs}
 use Rattle.sfi_native.proofs.Fetching.{fetched, hart_written, related_kept, unwritten, wrote}
-
--- ==== No instruction jumps.
-
-op_straight : (op : RegOp) → are_straight (compute op) ≡ true
-unfolding compute
-op_straight Add = refl
-op_straight _ = refl
-
-imm_straight : (op : ImmOp) (n : ℕ) → are_straight (compute_imm op n) ≡ true
-unfolding compute_imm
-imm_straight Addi n = refl
-imm_straight _ n = refl
 
 pub write_straight : (rd : ℕ) → are_straight (write rd) ≡ true
 write_straight rd = elim (cases_Bool (is_fixed rd)) [ inl e ↦ rw e refl | inr e ↦ rw e refl ]
-
-after_straight : (is : List Native) (rd : ℕ) → are_straight is ≡ true → are_straight (is ++ write rd) ≡ true
-after_straight is rd e = straight_append is (write rd) e (write_straight rd)
-
-computation_straight : (at : ℕ) (i : Instr) → are_straight (computation at i) ≡ true
-unfolding computation
-computation_straight at (Op op rd rs1 rs2) = after_straight (compute op) rd (op_straight op)
-computation_straight at (OpImm op rd rs1 imm) = after_straight (compute_imm op (word imm)) rd (imm_straight op (word imm))
-computation_straight at (Lui rd imm) = write_straight rd
-computation_straight at (Auipc rd imm) = write_straight rd
-computation_straight at i = refl
-
-line_straight : (at : ℕ) (i : Instr) → are_straight (computing_line at i) ≡ true
-line_straight at i = straight_append (computation at i) count (computation_straight at i) refl
 
 -- ==== What the instructions come to.
 
 -- the instructions lead to a core that has the turn's state
 pub record Comes (is : List Native) (p : Part) (l : Layout) (c : Core) (g : Going) : Type 0 where
   pub core : Core
-  pub runs : exec is c ≡ Ok core
+  pub runs : Runs is c core
   pub related : IsRelated p l g core
-
--- instructions in front that only change free registers
-pub behind : (c d : Core) (one more : List Native) (v : ℕ) → exec one c ≡ Ok d → Kept c d → Computed more d v → Computed (one ++ more) c v
-behind c d one more v runs kept done = record {
-  after = done.after;
-  runs = exec_append one more c d runs ∙ done.runs;
-  result = done.result;
-  kept = kept_join c d done.after kept done.kept;
-}
 
 -- the step is counted
 pub then_count : (p : Part) (l : Layout) (c : Core) (is : List Native) (g : Going) → Comes is p l c g → Comes (is ++ count) p l c (counted g)
 then_count p l c is g come =
     let last = counts p l g come.core come.related in
-    record { core = last.core; runs = exec_append is count c come.core come.runs ∙ last.runs; related = last.related }
+    record { core = last.core; runs = runs_join is count c come.core last.core come.runs (straight_runs count come.core last.core refl last.runs); related = last.related }
 
 module _ (p : Part) (l : Layout) (layout : IsLayout p.data_size l) (g : Going) (c : Core) (is : IsRelated p l g c) (place : ControlPoint) (pc : ℕ) where
   -- the hart after a value goes to rd
@@ -98,19 +61,19 @@ module _ (p : Part) (l : Layout) (layout : IsLayout p.data_size l) (g : Going) (
   finish front rd v small fits done =
       let kept = related_kept p l layout g c done.after is done.kept in
       let w = wrote p l layout g done.after kept place rd v (hart_with rd v) small fits (hart_written p g is.count pc rd v small) done.result in
-      record { core = w.0; runs = exec_append front (write rd) c done.after done.runs ∙ w.1; related = w.2 }
+      record { core = w.0; runs = runs_join front (write rd) c done.after w.0 done.runs (straight_runs (write rd) done.after w.0 (write_straight rd) w.1); related = w.2 }
 
-  op_comes : (op : RegOp) (rd rs1 rs2 : ℕ) → has_op op ≡ true → rd < 32 → rs1 < 32 → rs2 < 32
+  op_comes : (op : RegOp) (rd rs1 rs2 : ℕ) → rd < 32 → rs1 < 32 → rs2 < 32
       → Comes (op_code op rd rs1 rs2) p l c (turn_with rd (result_of op (value p g rs1) (value p g rs2)) g.left)
-  op_comes op rd rs1 rs2 has fd f1 f2 =
+  op_comes op rd rs1 rs2 fd f1 f2 =
       let a = value p g rs1 in
       let b = value p g rs2 in
       let c1 = with_register c 0 a in
       let c2 = with_register c1 1 b in
       let k1 = kept_register c 0 a (omega arith) in
-      let second = behind c1 c2 (fetch Rcx rs2) (compute op) (result_of op a b) (fetched p l layout g c1 Rcx rs2 f2 (related_kept p l layout g c c1 is k1)) (kept_register c1 1 b (omega arith))
-      (computed op c2 has (is.words rs1) (is.words rs2)) in
-      let done = behind c c1 (fetch Rax rs1) (fetch Rcx rs2 ++ compute op) (result_of op a b) (fetched p l layout g c Rax rs1 f1 is) k1 second in
+      let second = behind c1 c2 (fetch Rcx rs2) (compute op) (result_of op a b) (straight_runs (fetch Rcx rs2) c1 c2 refl (fetched p l layout g c1 Rcx rs2 f2 (related_kept p l layout g c c1 is k1))) (kept_register c1 1 b (omega arith))
+      (computed op c2 (is.words rs1) (is.words rs2)) in
+      let done = behind c c1 (fetch Rax rs1) (fetch Rcx rs2 ++ compute op) (result_of op a b) (straight_runs (fetch Rax rs1) c c1 refl (fetched p l layout g c Rax rs1 f1 is)) k1 second in
       finish (fetch Rax rs1 ++ (fetch Rcx rs2 ++ compute op)) rd (result_of op a b) fd (result_fits op a b (is.words rs1) (is.words rs2)) done
 
   imm_comes : (op : ImmOp) (rd rs1 : ℕ) (imm : ℤ) → rd < 32 → rs1 < 32
@@ -119,14 +82,14 @@ module _ (p : Part) (l : Layout) (layout : IsLayout p.data_size l) (g : Going) (
       let a = value p g rs1 in
       let v = result_of (register_op op) a (word imm) in
       let c1 = with_register c 0 a in
-      let done = behind c c1 (fetch Rax rs1) (compute_imm op (word imm)) v (fetched p l layout g c Rax rs1 f1 is) (kept_register c 0 a (omega arith))
+      let done = behind c c1 (fetch Rax rs1) (compute_imm op (word imm)) v (straight_runs (fetch Rax rs1) c c1 refl (fetched p l layout g c Rax rs1 f1 is)) (kept_register c 0 a (omega arith))
       (computed_imm op (word imm) c1 (is.words rs1) (word_fits imm)) in
       finish (fetch Rax rs1 ++ compute_imm op (word imm)) rd v fd (result_fits (register_op op) a (word imm) (is.words rs1) (word_fits imm)) done
 
   pub number_comes : (rd v : ℕ) → rd < 32 → v < 2 ^ 32 → Comes (number_code rd v) p l c (turn_with rd v g.left)
   unfolding computes
   number_comes rd v fd fits =
-      finish (MovImm Rax v ∷ []) rd v fd fits (record { after = with_register c 0 v; runs = refl; result = refl; kept = kept_register c 0 v (omega arith) })
+      finish (MovImm Rax v ∷ []) rd v fd fits (record { after = with_register c 0 v; runs = straight_runs (MovImm Rax v ∷ []) c (with_register c 0 v) refl refl; result = refl; kept = kept_register c 0 v (omega arith) })
 
   -- no register changes
   pub none_comes : IsRelated p l (turn_with 0 0 g.left) c
@@ -136,7 +99,7 @@ module _ (target : Target) (p : Part) (code rest : List Line) (at n : ℕ) (l : 
   computation_comes : (i : Instr) → does_compute i ≡ true → InRange i → Comes (computing_line at i) p l c (line_step target p code (Does at n i ∷ rest) g)
   unfolding computation InRange
   computation_comes (Op op rd rs1 rs2) has range =
-      then_count p l c (op_code op rd rs1 rs2) _ (op_comes p l layout g c is (Before rest) (address_after at n) op rd rs1 rs2 has range.0 range.1 range.2)
+      then_count p l c (op_code op rd rs1 rs2) _ (op_comes p l layout g c is (Before rest) (address_after at n) op rd rs1 rs2 range.0 range.1 range.2)
   computation_comes (OpImm op rd rs1 imm) has range =
       then_count p l c (imm_code op rd rs1 (word imm)) _ (imm_comes p l layout g c is (Before rest) (address_after at n) op rd rs1 imm range.0 range.1)
   computation_comes (Lui rd imm) has range =
@@ -146,7 +109,7 @@ module _ (target : Target) (p : Part) (code rest : List Line) (at n : ℕ) (l : 
       let v = (at + imm * 4096) % 2 ^ 32 in
       then_count p l c (number_code rd v) _ (number_comes p l layout g c is (Before rest) (address_after at n) rd v range.0 (omega arith))
   computation_comes (Fence imm rd rs1) has range =
-      then_count p l c [] _ (record { core = c; runs = refl; related = none_comes p l layout g c is (Before rest) (address_after at n) })
+      then_count p l c [] _ (record { core = c; runs = straight_runs [] c c refl refl; related = none_comes p l layout g c is (Before rest) (address_after at n) })
   computation_comes i has range = absurd (false≢true has)
 
 -- wherever its bytes stand
@@ -155,6 +118,6 @@ computing_lines_run target p code rest address size i l t at g c has range here 
     let line = computation_comes target p code rest address size l here.layout g c here.related i has range in
     record {
       after = line.core;
-      reached = spelled_run t at (computing_line address i) c line.core here.text_is_fixed (line_straight address i) here.stands line.runs;
+      reached = line.runs t at here.text_is_fixed here.text_is_low here.stands;
       related = line.related;
     }

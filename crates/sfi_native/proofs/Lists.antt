@@ -1,20 +1,22 @@
 -- Bytes of instructions behind others.
-use Rattle.std.proofs.Common.{◌≡◌, ℕ, List, [], ◌∷◌, ◌++◌, sym, ap, ◌∙◌, append_assoc, append-nil}
+use Rattle.std.proofs.Common.{◌≡◌, ℕ, ◌-◌, ◌^◌, List, [], ◌∷◌, ◌++◌, sym, ap, ◌∙◌, append_assoc, append-nil}
 use Rattle.rv_word.specs.declared.instr.ImmOp.{ImmOp}
 use Rattle.rv_word.specs.declared.instr.RegOp.{RegOp}
-use Rattle.x86_instr.specs.declared.operand.Register.TheVariants.{Rax, Rcx}
+use Rattle.x86_instr.specs.declared.operand.Register.TheVariants.{Rax, Rcx, Rdx}
 use Rattle.x86_instr.specs.declared.instr.Instr.{Instr}
-use Rattle.x86_instr.specs.Spelling.{spelling}
+unfoldable use Rattle.x86_instr.specs.Spelling.{rex, spelling}
 use Rattle.x86_step.specs.Running.{spellings}
 use Rattle.x86_step.proofs.Running.{spellings_append}
-use Rattle.x86_instr.specs.declared.instr.Instr.TheVariants.{Alu, Jcc, Jmp}
+use Rattle.x86_instr.specs.declared.instr.Instr.TheVariants.{Alu, Jcc, Jmp, Mov, MovImm, Unary}
 use Rattle.x86_instr.specs.declared.instr.AluOp.TheVariants as alu
+use Rattle.x86_instr.specs.declared.instr.UnaryOp.TheVariants.{Neg}
+use Rattle.x86_instr.specs.declared.instr.Condition.TheVariants.{Equal, NotEqual}
 use Rattle.x86_instr.specs.declared.instr.Width.TheVariants.{Dword}
 use Rattle.x86_instr.specs.declared.operand.Operand.TheVariants.{Reg}
 use Rattle.rv_word.specs.declared.instr.Cond.{Cond}
 use Rattle.rv_word.specs.declared.instr.LoadKind.{LoadKind}
 use Rattle.rv_word.specs.declared.instr.StoreWidth.{StoreWidth}
-use Rattle.sfi_native.specs.Code.{branch_line, compare_code, compute, compute_imm, condition_of, count, data_address, fetch, imm_code, jal_line, load_code, load_from, load_line, number_code, op_code, store_line, store_to, write}
+use Rattle.sfi_native.specs.Code.{avoid_minus_one, avoid_zero, branch_line, compare_code, compare_divisor, compute, compute_imm, condition_of, count, data_address, divide_by_one, divide_signed, divide_unsigned, fetch, imm_code, jal_line, load_code, load_from, load_line, number_code, op_code, remainder, store_line, store_to, test_divisor, write}
 
 pub one_part : (old : List ℕ) (i : Instr) → old ++ spelling i ≡ old ++ spellings (i ∷ [])
 one_part old i = ap (λ x. old ++ x) (sym (append-nil (spelling i)))
@@ -58,3 +60,30 @@ load_parts old kind rd rs1 displacement =
 pub store_parts : (old : List ℕ) (width : StoreWidth) (rs1 rs2 displacement : ℕ)
     → (((old ++ spellings (fetch Rax rs1)) ++ spellings (fetch Rcx rs2)) ++ spellings (store_to width (data_address displacement) ∷ [])) ++ spellings count ≡ old ++ spellings (store_line width rs1 rs2 displacement)
 store_parts old width rs1 rs2 displacement = four_parts old (fetch Rax rs1) (fetch Rcx rs2) (store_to width (data_address displacement) ∷ []) count
+
+-- ==== Divisions: distances are sizes of what is skipped.
+
+pub avoid_zero_parts : (old : List ℕ)
+    → (((old ++ spellings (test_divisor ∷ [])) ++ spellings (Jcc NotEqual 10 ∷ [])) ++ spellings (MovImm Rax (2 ^ 32 - 1) ∷ [])) ++ spellings (MovImm Rcx 1 ∷ []) ≡ old ++ spellings avoid_zero
+unfolding spelling rex
+avoid_zero_parts old = four_parts old (test_divisor ∷ []) (Jcc NotEqual 10 ∷ []) (MovImm Rax (2 ^ 32 - 1) ∷ []) (MovImm Rcx 1 ∷ [])
+
+pub avoid_minus_one_parts : (old : List ℕ)
+    → (((old ++ spellings (compare_divisor ∷ [])) ++ spellings (Jcc NotEqual 7 ∷ [])) ++ spellings (Unary Neg (Reg Rax) ∷ [])) ++ spellings (MovImm Rcx 1 ∷ []) ≡ old ++ spellings avoid_minus_one
+unfolding spelling rex
+avoid_minus_one_parts old = four_parts old (compare_divisor ∷ []) (Jcc NotEqual 7 ∷ []) (Unary Neg (Reg Rax) ∷ []) (MovImm Rcx 1 ∷ [])
+
+pub divide_by_one_parts : (old : List ℕ)
+    → ((old ++ spellings (compare_divisor ∷ [])) ++ spellings (Jcc NotEqual 5 ∷ [])) ++ spellings (MovImm Rcx 1 ∷ []) ≡ old ++ spellings divide_by_one
+unfolding spelling rex
+divide_by_one_parts old = three_parts old (compare_divisor ∷ []) (Jcc NotEqual 5 ∷ []) (MovImm Rcx 1 ∷ [])
+
+pub signed_remainder_parts : (old : List ℕ)
+    → (((old ++ spellings (test_divisor ∷ [])) ++ spellings (Jcc Equal 5 ∷ [])) ++ spellings divide_signed) ++ spellings (Mov Dword Rax (Reg Rdx) ∷ []) ≡ old ++ spellings (remainder divide_signed)
+unfolding spelling rex
+signed_remainder_parts old = four_parts old (test_divisor ∷ []) (Jcc Equal 5 ∷ []) divide_signed (Mov Dword Rax (Reg Rdx) ∷ [])
+
+pub unsigned_remainder_parts : (old : List ℕ)
+    → (((old ++ spellings (test_divisor ∷ [])) ++ spellings (Jcc Equal 9 ∷ [])) ++ spellings divide_unsigned) ++ spellings (Mov Dword Rax (Reg Rdx) ∷ []) ≡ old ++ spellings (remainder divide_unsigned)
+unfolding spelling rex
+unsigned_remainder_parts old = four_parts old (test_divisor ∷ []) (Jcc Equal 9 ∷ []) divide_unsigned (Mov Dword Rax (Reg Rdx) ∷ [])

@@ -21,16 +21,15 @@ use Rattle.x86_step.specs.State.{Core, number_at, with_register}
 use Rattle.x86_step.specs.Step.{address, loaded, extended as extended_by}
 unfoldable use Rattle.x86_step.specs.Step.{computes}
 use Rattle.x86_step.specs.Running.{are_straight, exec}
-use Rattle.x86_step.proofs.Facts.{spelled_run}
-use Rattle.x86_step.proofs.Running.{straight_append}
 use Rattle.sfi_native.specs.declared.layout.Layout.{Layout}
 use Rattle.sfi_native.specs.Layout.{IsLayout, IsRelated, value}
 use Rattle.sfi_native.specs.Laws.{LoadLinesRun}
-use Rattle.sfi_native.specs.Code.{count, data_address, fetch, load_code, load_from, write}
+use Rattle.sfi_native.specs.Code.{data_address, fetch, load_code, load_from}
 use Rattle.sfi_native.proofs.Accessing.{number_is, place_is, within}
-use Rattle.sfi_native.proofs.Computing.{Computed, kept_register}
+use Rattle.sfi_native.proofs.Runs.{straight_runs}
+use Rattle.sfi_native.proofs.Kept.{Computed, behind, kept_register}
 use Rattle.sfi_native.proofs.Fetching.{fetched}
-use Rattle.sfi_native.proofs.Lines.{behind, finish, then_count, write_straight}
+use Rattle.sfi_native.proofs.Lines.{finish, then_count}
 use Rattle.sfi_native.proofs.Memory.{load_there}
 
 byte_extended : (v : ℕ) → v < 256 → extended_by Sign Byte v ≡ extended Lb v
@@ -78,11 +77,12 @@ module _ (p : Part) (l : Layout) (layout : IsLayout p.data_size l) (g : Going) (
       ∙ load_there fetched_core (load_size kind) (l.data_start + (at - p.data_base)) v (omega (arith, inside.1, layout.data_ends)) there in
       let done : Computed (load_from kind (data_address (word imm)) ∷ []) fetched_core (extended kind v) = record {
         after = with_register fetched_core 0 (extended kind v);
-        runs = loads kind (data_address (word imm)) fetched_core v fits load;
+        runs = straight_runs (load_from kind (data_address (word imm)) ∷ []) fetched_core (with_register fetched_core 0 (extended kind v)) (load_straight kind (data_address (word imm)))
+            (loads kind (data_address (word imm)) fetched_core v fits load);
         result = refl;
         kept = kept_register fetched_core 0 (extended kind v) (omega arith);
       } in
-      behind c fetched_core (fetch Rax rs1) (load_from kind (data_address (word imm)) ∷ []) (extended kind v) (fetched p l layout g c Rax rs1 small is) (kept_register c 0 (value p g rs1) (omega arith)) done
+      behind c fetched_core (fetch Rax rs1) (load_from kind (data_address (word imm)) ∷ []) (extended kind v) (straight_runs (fetch Rax rs1) c fetched_core refl (fetched p l layout g c Rax rs1 small is)) (kept_register c 0 (value p g rs1) (omega arith)) done
 
 pub load_lines_run : LoadLinesRun
 unfolding InRange
@@ -91,10 +91,8 @@ load_lines_run target p code rest address size kind rd rs1 imm v l t at g c rang
     let front = load_computed p l here.layout g c here.related in_data.room in_data.some memory kind rs1 imm v range.1 range.2 in_data.tested reads in
     let written = finish p l here.layout g c here.related (Before rest) (address_after address size) (fetch Rax rs1 ++ (load_from kind (data_address (word imm)) ∷ [])) rd (extended kind v) range.0 value_fits front in
     let done = then_count p l c (load_code kind rd rs1 (word imm)) _ written in
-    let straight = straight_append (load_code kind rd rs1 (word imm)) count
-    (straight_append (load_from kind (data_address (word imm)) ∷ []) (write rd) (load_straight kind (data_address (word imm))) (write_straight rd)) refl in
     rw (in_data.tested, reads) (record {
       after = done.core;
-      reached = spelled_run t at (load_code kind rd rs1 (word imm) ++ count) c done.core here.text_is_fixed straight here.stands done.runs;
+      reached = done.runs t at here.text_is_fixed here.text_is_low here.stands;
       related = done.related;
     })

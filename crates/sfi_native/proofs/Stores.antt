@@ -27,7 +27,7 @@ use Rattle.sfi_native.specs.Layout.{IsLayout, IsRelated, value}
 use Rattle.sfi_native.specs.Laws.{StoreLinesRun}
 use Rattle.sfi_native.specs.Code.{count, data_address, fetch, store_line, store_to}
 use Rattle.sfi_native.proofs.Accessing.{number_is, place_is, within}
-use Rattle.sfi_native.proofs.Computing.{kept_register}
+use Rattle.sfi_native.proofs.Kept.{kept_register}
 use Rattle.sfi_native.proofs.Counting.{counts}
 use Rattle.sfi_native.proofs.Fetching.{fetched, related_kept}
 use Rattle.sfi_native.proofs.Lines.{none_comes}

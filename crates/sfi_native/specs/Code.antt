@@ -1,5 +1,5 @@
 -- The instructions of x86-64 that a line becomes. eax, ecx and edx are free between lines.
-use Rattle.std.specs.Prelude.{ℕ, ◌+◌, ◌*◌, ◌%◌, ◌^◌, ◌==◌, ◌||◌, Bool, true, false, List, [], ◌∷◌, ◌++◌, if◌then◌else◌}
+use Rattle.std.specs.Prelude.{ℕ, ◌+◌, ◌-◌, ◌*◌, ◌%◌, ◌^◌, ◌==◌, ◌||◌, Bool, true, false, List, [], ◌∷◌, ◌++◌, length, if◌then◌else◌}
 use Rattle.rv_word.specs.declared.instr.RegOp.{RegOp}
 use Rattle.rv_word.specs.declared.instr.RegOp.TheVariants.{Add, Sub, Sll, Slt, Sltu, Xor, Srl, Sra, Or, And, Mul, Mulh, Mulhsu, Mulhu, Div, Divu, Rem, Remu}
 use Rattle.rv_word.specs.declared.instr.ImmOp.{ImmOp}
@@ -14,7 +14,7 @@ use Rattle.rv_word.specs.declared.instr.Instr.{Instr}
 use Rattle.rv_word.specs.declared.instr.Instr.TheVariants.{Op, OpImm, Lui, Auipc, Fence}
 use Rattle.rv_step.specs.Step.{word}
 use Rattle.x86_instr.specs.declared.operand.Register.{Register}
-use Rattle.x86_instr.specs.declared.operand.Register.TheVariants.{Rax, Rcx, Rsp, R14, R15}
+use Rattle.x86_instr.specs.declared.operand.Register.TheVariants.{Rax, Rcx, Rdx, Rsp, R14, R15}
 use Rattle.x86_instr.specs.declared.operand.Scale.TheVariants.{One}
 use Rattle.x86_instr.specs.declared.operand.Address.{Address}
 use Rattle.x86_instr.specs.declared.operand.Operand.TheVariants.{Reg, Mem}
@@ -22,11 +22,14 @@ use Rattle.x86_instr.specs.declared.instr.Width.TheVariants.{Dword, Qword}
 use Rattle.x86_instr.specs.declared.instr.Narrow.TheVariants.{Byte, Word}
 use Rattle.x86_instr.specs.declared.instr.Extension.TheVariants.{Zero, Sign}
 use Rattle.x86_instr.specs.declared.instr.AluOp.TheVariants as alu
+use Rattle.x86_instr.specs.declared.instr.UnaryOp.TheVariants.{Neg}
 use Rattle.x86_instr.specs.declared.instr.ShiftOp.TheVariants.{Shl, Shr, Sar}
+use Rattle.x86_instr.specs.declared.instr.DivideOp.TheVariants as divide
 use Rattle.x86_instr.specs.declared.instr.Condition.{Condition}
 use Rattle.x86_instr.specs.declared.instr.Condition.TheVariants.{AboveOrEqual, Below, Equal, GreaterOrEqual, Less, NotEqual}
 use Rattle.x86_instr.specs.declared.instr.Instr.{Instr as Native}
-use Rattle.x86_instr.specs.declared.instr.Instr.TheVariants.{Mov, MovStore, MovStoreByte, MovStoreWord, MovImm, MovExtended, Movsxd, Alu, AluImm, ShiftImm, ShiftCl, Imul, Setcc, Jcc, Jmp}
+use Rattle.x86_instr.specs.declared.instr.Instr.TheVariants.{Mov, MovStore, MovStoreByte, MovStoreWord, MovImm, MovExtended, Movsxd, Alu, AluImm, Test, Unary, ShiftImm, ShiftCl, Imul, Divide, Cdq, Setcc, Jcc, Jmp}
+use Rattle.x86_step.specs.Running.{spellings}
 
 -- x0 and x24 to x27 have one value for lines, so that none writes them
 abbrev pub is_fixed : ℕ → Bool
@@ -44,7 +47,7 @@ fetch dst r = Mov Dword dst (Mem (slot r)) ∷ []
 abbrev pub write : ℕ → List Native
 write r = if is_fixed r then [] else MovStore Dword (slot r) Rax ∷ []
 
--- ==== Computations: of eax and ecx, into eax.
+-- ==== Computations: of eax and ecx, into eax; edx and the flags may change.
 
 -- 1 where the comparison meets the condition, else 0
 abbrev pub set_if : Native → Condition → List Native
@@ -54,13 +57,39 @@ set_if compare condition = compare ∷ Setcc condition Rax ∷ MovExtended Zero 
 abbrev pub high_product : List Native
 high_product = Imul Qword Rax (Reg Rcx) ∷ ShiftImm Shr Qword (Reg Rax) 32 ∷ []
 
--- All but divisions, which ask what the divisor is.
-abbrev pub has_op : RegOp → Bool
-has_op Div = false
-has_op Divu = false
-has_op Rem = false
-has_op Remu = false
-has_op op = true
+-- Divisions: eax by ecx, the quotient into eax, the remainder into edx. A processor has none by 0, or of -2^31 by -1.
+
+-- these instructions, unless the condition is met
+abbrev pub unless : Condition → List Native → List Native
+unless condition is = Jcc condition (length (spellings is)) ∷ is
+
+abbrev pub divide_unsigned : List Native
+divide_unsigned = MovImm Rdx 0 ∷ Divide divide.Div Rcx ∷ []
+
+abbrev pub divide_signed : List Native
+divide_signed = Cdq ∷ Divide divide.Idiv Rcx ∷ []
+
+abbrev pub test_divisor : Native
+test_divisor = Test Rcx Rcx
+
+abbrev pub compare_divisor : Native
+compare_divisor = AluImm alu.Cmp Dword (Reg Rcx) (2 ^ 32 - 1)
+
+-- where the divisor is 0, the quotient is that of 2^32 - 1 by 1
+abbrev pub avoid_zero : List Native
+avoid_zero = test_divisor ∷ unless NotEqual (MovImm Rax (2 ^ 32 - 1) ∷ MovImm Rcx 1 ∷ [])
+
+-- where it is -1, the quotient is that of the negated dividend by 1
+abbrev pub avoid_minus_one : List Native
+avoid_minus_one = compare_divisor ∷ unless NotEqual (Unary Neg (Reg Rax) ∷ MovImm Rcx 1 ∷ [])
+
+-- and the remainder that of the dividend by 1
+abbrev pub divide_by_one : List Native
+divide_by_one = compare_divisor ∷ unless NotEqual (MovImm Rcx 1 ∷ [])
+
+-- the remainder of a division into eax, which stays as it is where the divisor is 0
+abbrev pub remainder : List Native → List Native
+remainder division = test_divisor ∷ unless Equal (division ++ (Mov Dword Rax (Reg Rdx) ∷ []))
 
 unfoldable pub compute : RegOp → List Native
 compute Add = Alu alu.Add Dword Rax (Reg Rcx) ∷ []
@@ -77,7 +106,10 @@ compute Mul = Imul Dword Rax (Reg Rcx) ∷ []
 compute Mulh = Movsxd Rax (Reg Rax) ∷ Movsxd Rcx (Reg Rcx) ∷ high_product
 compute Mulhsu = Movsxd Rax (Reg Rax) ∷ high_product
 compute Mulhu = high_product
-compute op = []
+compute Div = avoid_zero ++ (avoid_minus_one ++ divide_signed)
+compute Divu = avoid_zero ++ divide_unsigned
+compute Rem = divide_by_one ++ remainder divide_signed
+compute Remu = remainder divide_unsigned
 
 -- of eax and a number of 32 bits
 unfoldable pub compute_imm : ImmOp → ℕ → List Native
@@ -95,7 +127,7 @@ compute_imm Srai n = ShiftImm Sar Dword (Reg Rax) (n % 256) ∷ []
 
 -- a line of these sets rd, if it has one, and counts its step
 abbrev pub does_compute : Instr → Bool
-does_compute (Op op rd rs1 rs2) = has_op op
+does_compute (Op op rd rs1 rs2) = true
 does_compute (OpImm op rd rs1 imm) = true
 does_compute (Lui rd imm) = true
 does_compute (Auipc rd imm) = true

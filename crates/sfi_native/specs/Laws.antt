@@ -37,10 +37,15 @@ pub record LeadsTo (t : Text) (at to : ℕ) (p : Part) (l : Layout) (c : Core) (
 abbrev pub end_of : ℕ → List Native → ℕ
 end_of at is = at + length (spellings is)
 
+-- A text of the canonical addresses below 2^47, where processes have their code: no jump within it faults.
+abbrev pub IsLow : Text → Type 0
+IsLow t = t.base + length t.bytes < 2 ^ 47
+
 -- The processor is before code that stands in a fixed text, and has the turn's state.
 pub record IsBefore (is : List Native) (t : Text) (at : ℕ) (p : Part) (l : Layout) (g : Going) (c : Core) : Type 0 where
   pub layout : IsLayout p.data_size l
   pub text_is_fixed : IsFixed t c
+  pub text_is_low : IsLow t
   pub stands : HasAt t at (spellings is)
   pub related : IsRelated p l g c
 
@@ -48,12 +53,12 @@ pub record IsBefore (is : List Native) (t : Text) (at : ℕ) (p : Part) (l : Lay
 abbrev pub AreApart : ℕ → ℕ → ℕ → ℕ → Type 0
 AreApart a m b n = (a + m ≤ b) ⊎ (b + n ≤ a)
 
--- That can be: before each code, wherever it stands apart from frame and data.
+-- That can be: before each code, wherever it stands below 2^47, apart from frame and data.
 abbrev pub EachCodeCanBeRun : Type 0
 EachCodeCanBeRun =
     (is : List Native) (at : ℕ) (p : Part) (l : Layout) (g : Going) → IsLayout p.data_size l
     → length g.state.hart.registers ≡ 32 → ((r : ℕ) → value p g r < 2 ^ 32) → g.left < 2 ^ 32
-    → end_of at is < 2 ^ 64 → AreApart at (length (spellings is)) l.frame frame_size
+    → end_of at is < 2 ^ 47 → AreApart at (length (spellings is)) l.frame frame_size
     → AreApart at (length (spellings is)) l.data_start p.data_size
     → (t : Text) × (c : Core) × IsBefore is t at p l g c
 

@@ -1,6 +1,6 @@
 //! The bytes of a line that computes.
 ghost use Rattle.std.specs.Prelude.{◌≡◌, ◌++◌, ◌*◌, ◌%◌, ◌^◌, ◌+◌, IfOk, OnOk, true, if◌then◌else◌};
-ghost use Rattle.sfi_native.specs.Code.{computation, computing_line, count, does_compute, has_op, imm_code, number_code, op_code};
+ghost use Rattle.sfi_native.specs.Code.{computation, computing_line, count, does_compute, imm_code, number_code, op_code};
 ghost use Rattle.x86_step.specs.Running.{spellings};
 
 use crate::operation::{put, put_compute, put_compute_imm, put_fetch, put_write};
@@ -25,7 +25,6 @@ pub(crate) fn put_number(out: &mut Vec<u8>, rd: Reg, number: u32) -> Result<(), 
 
 #[tactic(auto, using(crate::proofs::Lists::op_parts))]
 fn put_op(out: &mut Vec<u8>, op: RegOp, rd: Reg, rs1: Reg, rs2: Reg) -> Result<(), AllocError>
-    requires { has_op op ≡ true }
     ensures { OnOk result (out.new.items ≡ out.old.items ++ spellings (op_code op rd rs1 rs2)) }
 {
     put_fetch(out, Register::Rax, rs1)?;
@@ -73,24 +72,17 @@ pub(crate) fn put_count(out: &mut Vec<u8>) -> Result<(), AllocError>
     )
 }
 
-/// An operation that the code has.
-fn has_operation(op: RegOp) -> bool
-    ensures { result ≡ has_op op }
-{
-    !matches!(op, RegOp::Div | RegOp::Divu | RegOp::Rem | RegOp::Remu)
-}
-
 /// Whether the line of an instruction is one that computes.
 fn computes(instr: &Instr) -> bool
     ensures { result ≡ does_compute instr.now }
 {
     match *instr {
         Instr::Op {
-            op,
+            op: _,
             rd: _,
             rs1: _,
             rs2: _,
-        } => has_operation(op),
+        } => true,
         Instr::OpImm {
             op: _,
             rd: _,

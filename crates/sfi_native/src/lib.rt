@@ -9,6 +9,7 @@
 
 mod access;
 mod computation;
+mod division;
 pub mod frame;
 mod jump;
 pub mod layout;

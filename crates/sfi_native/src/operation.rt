@@ -1,6 +1,6 @@
 //! The instructions of one operation on eax and ecx, and those that fetch and write registers of the frame.
-ghost use Rattle.std.specs.Prelude.{◌≡◌, ◌++◌, ◌∷◌, [], ◌%◌, OnOk, true};
-ghost use Rattle.sfi_native.specs.Code.{compute, compute_imm, fetch, has_op, high_product, is_fixed as is_fixed_register, set_if, slot as slot_of, write};
+ghost use Rattle.std.specs.Prelude.{◌≡◌, ◌++◌, ◌∷◌, [], ◌%◌, OnOk};
+ghost use Rattle.sfi_native.specs.Code.{compute, compute_imm, fetch, high_product, is_fixed as is_fixed_register, set_if, slot as slot_of, write};
 ghost use Rattle.rv_word.specs.declared.instr.RegOp.TheVariants.{Mulh, Mulhsu};
 ghost use Rattle.x86_instr.specs.declared.instr.Instr.TheVariants.{Alu, AluImm, Movsxd, ShiftImm};
 ghost use Rattle.x86_instr.specs.declared.instr.Width.TheVariants.{Dword};
@@ -8,6 +8,9 @@ ghost use Rattle.x86_instr.specs.declared.operand.Operand.TheVariants.{Reg as In
 ghost use Rattle.x86_instr.specs.declared.operand.Register.TheVariants.{Rax, Rcx};
 ghost use Rattle.x86_step.specs.Running.{spellings};
 
+use crate::division::{
+    put_signed_quotient, put_signed_remainder, put_unsigned_quotient, put_unsigned_remainder,
+};
 use rv_word::{ImmOp, Reg, RegOp};
 use std::alloc::AllocError;
 use x86_instr::{
@@ -166,7 +169,6 @@ fn put_mixed_product(out: &mut Vec<u8>) -> Result<(), AllocError>
 /// Writes an operation of eax and ecx.
 #[tactic(auto, unfolding(crate::specs::Code::compute))]
 pub(crate) fn put_compute(out: &mut Vec<u8>, op: RegOp) -> Result<(), AllocError>
-    requires { has_op op ≡ true }
     ensures { OnOk result (out.new.items ≡ out.old.items ++ spellings (compute op)) }
 {
     match op {
@@ -209,7 +211,10 @@ pub(crate) fn put_compute(out: &mut Vec<u8>, op: RegOp) -> Result<(), AllocError
         RegOp::Mulhu => put_high_product(out),
         RegOp::Mulh => put_signed_product(out),
         RegOp::Mulhsu => put_mixed_product(out),
-        RegOp::Div | RegOp::Divu | RegOp::Rem | RegOp::Remu => Ok(()),
+        RegOp::Div => put_signed_quotient(out),
+        RegOp::Divu => put_unsigned_quotient(out),
+        RegOp::Rem => put_signed_remainder(out),
+        RegOp::Remu => put_unsigned_remainder(out),
     }
 }
 

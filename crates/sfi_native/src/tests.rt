@@ -108,3 +108,68 @@ fn accesses_are_spelled(rt: HostRuntime) -> Result<(), Fail> {
     assert!(rt; out.as_slice() == ACCESSES.as_slice());
     Ok(())
 }
+
+// {disp32} chooses a distance of 32 bits.
+const DIVISIONS: [u8; 170] = [
+    139, 68, 36, 20, // mov eax, [rsp+20]
+    139, 76, 36, 24, // mov ecx, [rsp+24]
+    133, 201, // test ecx, ecx
+    15, 133, 10, 0, 0, 0, // {disp32} jne .+16
+    184, 255, 255, 255, 255, // mov eax, 0xffffffff
+    185, 1, 0, 0, 0, // mov ecx, 1
+    131, 249, 255, // cmp ecx, -1
+    15, 133, 7, 0, 0, 0, // {disp32} jne .+13
+    247, 216, // neg eax
+    185, 1, 0, 0, 0, // mov ecx, 1
+    153, // cdq
+    247, 249, // idiv ecx
+    137, 68, 36, 28, // mov [rsp+28], eax
+    65, 131, 238, 1, // sub r14d, 1
+    139, 68, 36, 20, // mov eax, [rsp+20]
+    139, 76, 36, 24, // mov ecx, [rsp+24]
+    133, 201, // test ecx, ecx
+    15, 132, 9, 0, 0, 0, // {disp32} je .+15
+    186, 0, 0, 0, 0, // mov edx, 0
+    247, 241, // div ecx
+    139, 194, // {load} mov eax, edx
+    137, 68, 36, 28, // mov [rsp+28], eax
+    65, 131, 238, 1, // sub r14d, 1
+    139, 68, 36, 20, // mov eax, [rsp+20]
+    139, 76, 36, 24, // mov ecx, [rsp+24]
+    131, 249, 255, // cmp ecx, -1
+    15, 133, 5, 0, 0, 0, // {disp32} jne .+11
+    185, 1, 0, 0, 0, // mov ecx, 1
+    133, 201, // test ecx, ecx
+    15, 132, 5, 0, 0, 0, // {disp32} je .+11
+    153, // cdq
+    247, 249, // idiv ecx
+    139, 194, // {load} mov eax, edx
+    137, 68, 36, 28, // mov [rsp+28], eax
+    65, 131, 238, 1, // sub r14d, 1
+    139, 68, 36, 20, // mov eax, [rsp+20]
+    139, 76, 36, 24, // mov ecx, [rsp+24]
+    133, 201, // test ecx, ecx
+    15, 133, 10, 0, 0, 0, // {disp32} jne .+16
+    184, 255, 255, 255, 255, // mov eax, 0xffffffff
+    185, 1, 0, 0, 0, // mov ecx, 1
+    186, 0, 0, 0, 0, // mov edx, 0
+    247, 241, // div ecx
+    137, 68, 36, 28, // mov [rsp+28], eax
+    65, 131, 238, 1, // sub r14d, 1
+];
+
+#[test]
+fn divisions_are_spelled(rt: HostRuntime) -> Result<(), Fail> {
+    let mut out = Vec::new(rt.alloc());
+    for op in [RegOp::Div, RegOp::Remu, RegOp::Rem, RegOp::Divu] {
+        let division = Instr::Op {
+            op,
+            rd: Reg::numbered(7),
+            rs1: Reg::numbered(5),
+            rs2: Reg::numbered(6),
+        };
+        assert!(rt; push_computing_line(&mut out, 0, division)?);
+    }
+    assert!(rt; out.as_slice() == DIVISIONS.as_slice());
+    Ok(())
+}

@@ -1,0 +1,48 @@
+-- What code keeps that computes a value.
+use Rattle.std.proofs.Common.{◌≡◌, ℕ, ◌<◌, ◌≤◌, List, ◌++◌, refl, ◌∙◌, arith}
+use Rattle.std.proofs.lemmas.Bool.{ne_eqb}
+use Rattle.x86_instr.specs.declared.instr.Instr.{Instr as Native}
+use Rattle.x86_step.specs.declared.machine.Flags.{Flags}
+use Rattle.x86_step.specs.State.{Core, updated, with_flags, with_register}
+use Rattle.sfi_native.proofs.Runs.{Runs, runs_join}
+
+-- eax, ecx, edx and the flags may differ
+pub record Kept (c d : Core) : Type 0 where
+  pub registers : (k : ℕ) → 2 < k → d.registers k ≡ c.registers k
+  pub memory : d.memory ≡ c.memory
+  pub writable : d.writable ≡ c.writable
+
+pub kept_join : (c d e : Core) → Kept c d → Kept d e → Kept c e
+kept_join c d e a b = record {
+  registers = λ k more. b.registers k more ∙ a.registers k more;
+  memory = b.memory ∙ a.memory;
+  writable = b.writable ∙ a.writable;
+}
+
+pub updated_other : (f : ℕ → ℕ) (r v k : ℕ) → (k ≡ r → ⊥) → updated f r v k ≡ f k
+updated_other f r v k other = rw (ne_eqb k r other) refl
+
+pub kept_register : (c : Core) (r v : ℕ) → r ≤ 2 → Kept c (with_register c r v)
+kept_register c r v free = record { registers = λ k more. updated_other c.registers r v k (λ e. omega (arith, e, more, free)); memory = refl; writable = refl }
+
+pub kept_flags : (c : Core) (f : Flags) → Kept c (with_flags c f)
+kept_flags c f = record { registers = λ k more. refl; memory = refl; writable = refl }
+
+pub kept_result : (c : Core) (r v : ℕ) (f : Flags) → r ≤ 2 → Kept c (with_flags (with_register c r v) f)
+kept_result c r v f free = kept_join c (with_register c r v) (with_flags (with_register c r v) f) (kept_register c r v free) (kept_flags (with_register c r v) f)
+
+-- the instructions leave v in eax
+pub record Computed (is : List Native) (c : Core) (v : ℕ) : Type 0 where
+  pub after : Core
+  pub runs : Runs is c after
+  pub result : after.registers 0 ≡ v
+  pub kept : Kept c after
+
+-- instructions in front that only change free registers
+pub behind : (c d : Core) (one more : List Native) (v : ℕ) → Runs one c d → Kept c d → Computed more d v → Computed (one ++ more) c v
+behind c d one more v runs kept done = record {
+  after = done.after;
+  runs = runs_join one more c d done.after runs done.runs;
+  result = done.result;
+  kept = kept_join c d done.after kept done.kept;
+}

@@ -1,0 +1,92 @@
+-- Code with jumps within it, from its start to its end.
+use Rattle.std.proofs.Common.{◌≡◌, ℕ, ◌+◌, ◌^◌, ◌<◌, ◌≤◌, true, false, Bool, Some, List, [], ◌∷◌, ◌++◌, length, refl, ap, ◌∙◌, subst, arith, if◌then◌else◌, append-nil, length-append, nat_lt}
+use Rattle.std.specs.Prelude.{Ok}
+use Rattle.std.proofs.lemmas.Bool.{lt-ltb}
+use Rattle.x86_instr.specs.declared.instr.Condition.{Condition}
+use Rattle.x86_instr.specs.declared.instr.Instr.{Instr as Native}
+use Rattle.x86_instr.specs.declared.instr.Instr.TheVariants.{Jcc}
+use Rattle.x86_instr.specs.Spelling.{spelling}
+use Rattle.x86_step.specs.State.{Core, IsFixed, Machine, Text}
+use Rattle.x86_step.specs.Step.{Reaches, stay, go, effect, is_canonical, is_met, jumped, step}
+unfoldable use Rattle.x86_step.specs.Step.{computes}
+use Rattle.x86_step.specs.Running.{HasAt, are_straight, exec, is_straight, spellings}
+use Rattle.x86_step.proofs.Facts.{fixed_stays, spelled_run, spelled_steps, steps_join}
+use Rattle.x86_step.proofs.Running.{has_back, has_front, spellings_append}
+use Rattle.sfi_native.specs.Laws.{IsLow, end_of}
+use Rattle.sfi_native.specs.Code.{unless}
+
+-- wherever the bytes stand in a fixed text
+abbrev pub Runs : List Native → Core → Core → Type 0
+Runs is c d =
+    (t : Text) (at : ℕ) → IsFixed t c → IsLow t → HasAt t at (spellings is)
+    → Reaches t (record { rip = at; core = c }) (record { rip = end_of at is; core = d })
+
+pub straight_runs : (is : List Native) (c d : Core) → are_straight is ≡ true → exec is c ≡ Ok d → Runs is c d
+straight_runs is c d straight e t at fixed low has = spelled_run t at is c d fixed straight has e
+
+end_append : (at : ℕ) (is js : List Native) → end_of (end_of at is) js ≡ end_of at (is ++ js)
+end_append at is js = omega (arith, ap length (spellings_append is js), length-append (spellings is) (spellings js))
+
+pub runs_join : (is js : List Native) (c d e : Core) → Runs is c d → Runs js d e → Runs (is ++ js) c e
+runs_join is js c d e one more t at fixed low has =
+    let parts : HasAt t at (spellings is ++ spellings js) = subst (λ bytes. HasAt t at bytes) (spellings_append is js) has in
+    let first = one t at fixed low (has_front t at (spellings is) (spellings js) parts) in
+    let second = more t (end_of at is) (fixed_stays t _ _ first) low (has_back t at (spellings is) (spellings js) parts) in
+    subst (λ to. Reaches t (record { rip = at; core = c }) (record { rip = to; core = e })) (end_append at is js) (steps_join t _ _ _ first second)
+
+-- ==== Jumps.
+
+pub bytes_end : (t : Text) (at : ℕ) (bytes : List ℕ) → HasAt t at bytes → at + length bytes ≤ t.base + length t.bytes
+bytes_end t at bytes has =
+    omega (arith, has.at_is, ap length has.bytes_are, length-append has.before (bytes ++ has.after), length-append bytes has.after)
+
+pub low_canonical : (a : ℕ) → a < 2 ^ 47 → is_canonical a ≡ true
+low_canonical a low = rw (lt-ltb a (2 ^ 47) low) refl
+
+pub branch_effect : (condition : Condition) (distance after end : ℕ) (d : Core) (t : Bool) → after ≡ end → is_met condition d.flags ≡ Some t → is_canonical (jumped end distance) ≡ true
+    → effect (Jcc condition distance) after d ≡ Ok (record { rip = if t then jumped end distance else end; core = d })
+unfolding computes
+branch_effect condition distance after end d true is met canonical = rw (met, is, canonical) refl
+branch_effect condition distance after end d false is met canonical = rw (met, is) refl
+
+-- one instruction
+pub one_step : (t : Text) (at to : ℕ) (i : Native) (c d : Core) → IsFixed t c → HasAt t at (spelling i) → effect i (at + length (spelling i)) c ≡ Ok (record { rip = to; core = d })
+    → Reaches t (record { rip = at; core = c }) (record { rip = to; core = d })
+one_step t at to i c d fixed has does =
+    let last : Machine = record { rip = to; core = d } in
+    let one : step t (record { rip = at; core = c }) ≡ Ok last = spelled_steps t at i c has ∙ does in
+    record { fixed = fixed; steps = go (record { rip = at; core = c }) last last one (stay last) }
+
+-- A test, and instructions that the condition skips.
+module _ (test : Native) (condition : Condition) (is : List Native) (c k : Core) (straight : is_straight test ≡ true) (tests : computes test c ≡ Ok k)
+    (few : nat_lt (length (spellings is)) (2 ^ 31) ≡ true) where
+  abbrev jump : Native
+  jump = Jcc condition (length (spellings is))
+
+  over_is : (at : ℕ) → end_of at (jump ∷ is) < 2 ^ 47 → jumped (at + length (spelling jump)) (length (spellings is)) ≡ end_of at (jump ∷ is)
+  over_is at low = rw few (omega (arith, low, length-append (spelling jump) (spellings is)))
+
+  skipped : is_met condition k.flags ≡ Some true → Runs (unless condition is) k k
+  skipped met t at fixed low has =
+      let ends : end_of at (jump ∷ is) < 2 ^ 47 = omega (arith, bytes_end t at (spellings (jump ∷ is)) has, low) in
+      let to = jumped (at + length (spelling jump)) (length (spellings is)) in
+      let canonical : is_canonical to ≡ true = ap is_canonical (over_is at ends) ∙ low_canonical (end_of at (jump ∷ is)) ends in
+      subst (λ a. Reaches t (record { rip = at; core = k }) (record { rip = a; core = k })) (over_is at ends)
+      (one_step t at to jump k k fixed (has_front t at (spelling jump) (spellings is) has) (branch_effect condition (length (spellings is)) _ _ k true refl met canonical))
+
+  falls : is_met condition k.flags ≡ Some false → Runs (jump ∷ []) k k
+  unfolding computes
+  falls met t at fixed low has =
+      let own : HasAt t at (spelling jump) = has_front t at (spelling jump) [] has in
+      let end : at + length (spelling jump) ≡ end_of at (jump ∷ []) = omega (arith, ap length (append-nil (spelling jump))) in
+      subst (λ a. Reaches t (record { rip = at; core = k }) (record { rip = a; core = k })) end
+      (one_step t at (at + length (spelling jump)) jump k k fixed own (rw met refl))
+
+  tested : Runs (test ∷ []) c k
+  tested = straight_runs (test ∷ []) c k (rw straight refl) (rw tests refl)
+
+  pub over : is_met condition k.flags ≡ Some true → Runs (test ∷ unless condition is) c k
+  over met = runs_join (test ∷ []) (unless condition is) c k k tested (skipped met)
+
+  pub into : (d : Core) → is_met condition k.flags ≡ Some false → Runs is k d → Runs (test ∷ unless condition is) c d
+  into d met rest = runs_join (test ∷ []) (unless condition is) c k d tested (runs_join (jump ∷ []) is k k d (falls met) rest)

@@ -1,0 +1,172 @@
+//! The instructions of a division of eax by ecx, without those that a processor doesn't do.
+ghost use Rattle.std.specs.Prelude.{◌≡◌, ◌++◌, ◌∷◌, [], OnOk};
+ghost use Rattle.sfi_native.specs.Code.{avoid_minus_one, avoid_zero, compare_divisor as compare_of, compute, divide_by_one, divide_signed, divide_unsigned, remainder, test_divisor as test_of};
+ghost use Rattle.rv_word.specs.declared.instr.RegOp.TheVariants.{Div, Divu, Rem};
+ghost use Rattle.x86_instr.specs.declared.instr.Instr.TheVariants.{Divide, Jcc, Mov, MovImm};
+ghost use Rattle.x86_instr.specs.declared.instr.Width.TheVariants.{Dword};
+ghost use Rattle.x86_instr.specs.declared.operand.Operand.TheVariants.{Reg as InRegister};
+ghost use Rattle.x86_instr.specs.declared.operand.Register.TheVariants.{Rax, Rcx, Rdx};
+ghost use Rattle.x86_step.specs.Running.{spellings};
+
+use crate::operation::put;
+use std::alloc::AllocError;
+use x86_instr::{AluOp, Condition, DivideOp, Instr, Operand, Register, UnaryOp, Width};
+
+fn test_divisor() -> Instr
+    ensures { result ≡ test_of }
+{
+    Instr::Test {
+        first: Register::Rcx,
+        second: Register::Rcx,
+    }
+}
+
+/// The comparison of the divisor with -1.
+fn compare_divisor() -> Instr
+    ensures { result ≡ compare_of }
+{
+    Instr::AluImm {
+        op: AluOp::Cmp,
+        width: Width::Dword,
+        dst: Operand::Reg(Register::Rcx),
+        imm: 0xffff_ffff,
+    }
+}
+
+/// A jump over `distance` bytes, where the condition is met.
+fn jump_over(condition: Condition, distance: u32) -> Instr
+    ensures { result ≡ Jcc condition distance }
+{
+    Instr::Jcc {
+        condition,
+        distance,
+    }
+}
+
+/// A number into a register.
+fn number(dst: Register, imm: u32) -> Instr
+    ensures { result ≡ MovImm dst imm }
+{
+    Instr::MovImm { dst, imm }
+}
+
+/// The remainder of a division into eax.
+fn take_remainder() -> Instr
+    ensures { result ≡ Mov Dword Rax (InRegister Rdx) }
+{
+    Instr::Mov {
+        width: Width::Dword,
+        dst: Register::Rax,
+        src: Operand::Reg(Register::Rdx),
+    }
+}
+
+/// Writes a division of edx:eax.
+#[tactic(auto, using(crate::proofs::Lists::two_parts))]
+fn put_division(out: &mut Vec<u8>, extension: Instr, op: DivideOp) -> Result<(), AllocError>
+    ensures { OnOk result (out.new.items ≡ out.old.items ++ spellings (extension ∷ Divide op Rcx ∷ [])) }
+{
+    put(out, extension)?;
+    put(
+        out,
+        Instr::Divide {
+            op,
+            src: Register::Rcx,
+        },
+    )
+}
+
+fn put_divide_unsigned(out: &mut Vec<u8>) -> Result<(), AllocError>
+    ensures { OnOk result (out.new.items ≡ out.old.items ++ spellings divide_unsigned) }
+{
+    put_division(out, number(Register::Rdx, 0), DivideOp::Div)
+}
+
+fn put_divide_signed(out: &mut Vec<u8>) -> Result<(), AllocError>
+    ensures { OnOk result (out.new.items ≡ out.old.items ++ spellings divide_signed) }
+{
+    put_division(out, Instr::Cdq, DivideOp::Idiv)
+}
+
+/// Writes that the quotient by 0 is that of 2^32 - 1 by 1.
+#[tactic(auto, using(crate::proofs::Lists::avoid_zero_parts))]
+fn put_avoid_zero(out: &mut Vec<u8>) -> Result<(), AllocError>
+    ensures { OnOk result (out.new.items ≡ out.old.items ++ spellings avoid_zero) }
+{
+    put(out, test_divisor())?;
+    put(out, jump_over(Condition::NotEqual, 10))?;
+    put(out, number(Register::Rax, 0xffff_ffff))?;
+    put(out, number(Register::Rcx, 1))
+}
+
+/// Writes that the quotient by -1 is that of the negated dividend by 1.
+#[tactic(auto, using(crate::proofs::Lists::avoid_minus_one_parts))]
+fn put_avoid_minus_one(out: &mut Vec<u8>) -> Result<(), AllocError>
+    ensures { OnOk result (out.new.items ≡ out.old.items ++ spellings avoid_minus_one) }
+{
+    put(out, compare_divisor())?;
+    put(out, jump_over(Condition::NotEqual, 7))?;
+    put(
+        out,
+        Instr::Unary {
+            op: UnaryOp::Neg,
+            dst: Operand::Reg(Register::Rax),
+        },
+    )?;
+    put(out, number(Register::Rcx, 1))
+}
+
+/// Writes that the remainder by -1 is that by 1.
+#[tactic(auto, using(crate::proofs::Lists::divide_by_one_parts))]
+fn put_divide_by_one(out: &mut Vec<u8>) -> Result<(), AllocError>
+    ensures { OnOk result (out.new.items ≡ out.old.items ++ spellings divide_by_one) }
+{
+    put(out, compare_divisor())?;
+    put(out, jump_over(Condition::NotEqual, 5))?;
+    put(out, number(Register::Rcx, 1))
+}
+
+#[tactic(auto, using(crate::proofs::Lists::signed_remainder_parts))]
+fn put_nonzero_remainder(out: &mut Vec<u8>) -> Result<(), AllocError>
+    ensures { OnOk result (out.new.items ≡ out.old.items ++ spellings (remainder divide_signed)) }
+{
+    put(out, test_divisor())?;
+    put(out, jump_over(Condition::Equal, 5))?;
+    put_divide_signed(out)?;
+    put(out, take_remainder())
+}
+
+#[tactic(auto, using(crate::proofs::Lists::unsigned_remainder_parts))]
+pub(crate) fn put_unsigned_remainder(out: &mut Vec<u8>) -> Result<(), AllocError>
+    ensures { OnOk result (out.new.items ≡ out.old.items ++ spellings (remainder divide_unsigned)) }
+{
+    put(out, test_divisor())?;
+    put(out, jump_over(Condition::Equal, 9))?;
+    put_divide_unsigned(out)?;
+    put(out, take_remainder())
+}
+
+#[tactic(auto, unfolding(crate::specs::Code::compute), using(crate::proofs::Lists::two_parts))]
+pub(crate) fn put_signed_remainder(out: &mut Vec<u8>) -> Result<(), AllocError>
+    ensures { OnOk result (out.new.items ≡ out.old.items ++ spellings (compute Rem)) }
+{
+    put_divide_by_one(out)?;
+    put_nonzero_remainder(out)
+}
+
+#[tactic(auto, unfolding(crate::specs::Code::compute), using(crate::proofs::Lists::two_parts))]
+pub(crate) fn put_unsigned_quotient(out: &mut Vec<u8>) -> Result<(), AllocError>
+    ensures { OnOk result (out.new.items ≡ out.old.items ++ spellings (compute Divu)) }
+{
+    put_avoid_zero(out)?;
+    put_divide_unsigned(out)
+}
+
+#[tactic(auto, unfolding(crate::specs::Code::compute), using(crate::proofs::Lists::three_parts))]
+pub(crate) fn put_signed_quotient(out: &mut Vec<u8>) -> Result<(), AllocError>
+    ensures { OnOk result (out.new.items ≡ out.old.items ++ spellings (compute Div)) }
+{
+    put_avoid_zero(out)?;
+    put_avoid_minus_one(out)?;
+    put_divide_signed(out)
+}
