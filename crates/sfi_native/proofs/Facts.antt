@@ -1,9 +1,10 @@
 -- What holds of the code of lines: laws, for proofs in the crates above.
-use Rattle.sfi_native.specs.Laws.{BranchLinesRun, ComputingLinesRun, EachCodeCanBeRun, EachTurnIsHeld, JalLinesRun, LoadLinesRun, StoreLinesRun}
+use Rattle.sfi_native.specs.Laws.{BranchLinesRun, ComputingLinesRun, EachCodeCanBeRun, EachTurnIsHeld, JalLinesRun, LoadLinesRun, PlacedLinesRun, StoreLinesRun}
 use Rattle.sfi_native.proofs.Held as held
 use Rattle.sfi_native.proofs.Jumps as jumps
 use Rattle.sfi_native.proofs.Lines as lines
 use Rattle.sfi_native.proofs.Loads as loads
+use Rattle.sfi_native.proofs.Placed as placed
 use Rattle.sfi_native.proofs.Stores as stores
 
 pub each_turn_is_held : EachTurnIsHeld
@@ -26,3 +27,6 @@ load_lines_run = loads.load_lines_run
 
 pub store_lines_run : StoreLinesRun
 store_lines_run = stores.store_lines_run
+
+pub placed_lines_run : PlacedLinesRun
+placed_lines_run = placed.placed_lines_run

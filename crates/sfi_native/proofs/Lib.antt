@@ -4,6 +4,7 @@ pub mod Arithmetic
 pub mod Products
 pub mod Runs
 pub mod Kept
+pub mod Places
 pub mod Divisions
 pub mod Computing
 pub mod Fetching
@@ -16,4 +17,5 @@ pub mod Jumps
 pub mod Accessing
 pub mod Loads
 pub mod Stores
+pub mod Placed
 pub mod Facts

@@ -1,8 +1,8 @@
 -- What holds of the code of lines.
-use Rattle.std.specs.Prelude.{◌⊎◌, Some, ◌≤◌, ℤ, if◌then◌else◌, ◌≡◌, ℕ, ◌+◌, ◌^◌, ◌<◌, true, List, ◌∷◌, length}
+use Rattle.std.specs.Prelude.{◌⊎◌, Some, ◌≤◌, ℤ, if◌then◌else◌, ◌≡◌, ℕ, ◌+◌, ◌^◌, ◌<◌, Bool, true, false, List, ◌∷◌, length}
 use Rattle.rv_word.specs.declared.instr.Cond.{Cond}
 use Rattle.rv_word.specs.declared.instr.Instr.{Instr}
-use Rattle.rv_word.specs.declared.instr.Instr.TheVariants.{Branch, Jal, Load, Store}
+use Rattle.rv_word.specs.declared.instr.Instr.TheVariants.{Branch, Jal, Jalr, Load, Store, Ecall, Ebreak}
 use Rattle.rv_word.specs.declared.instr.StoreWidth.{StoreWidth}
 use Rattle.rv_word.specs.declared.instr.LoadKind.{LoadKind}
 use Rattle.rv_word.specs.Spelling.{InRange, offset_by}
@@ -11,7 +11,7 @@ use Rattle.rv_step.specs.Step.{is_taken, load_size, store_size, word}
 use Rattle.sfi_image.specs.Parts.{HasGuardRoom}
 use Rattle.sfi_image.specs.Spelling.{Part}
 use Rattle.sfi_translate.specs.Lines.{Line, Does}
-use Rattle.sfi_translate.specs.Machine.{Target, Going, is_tested, line_step}
+use Rattle.sfi_translate.specs.Machine.{Target, Assembly, Before, Going, is_tested, line_step}
 use Rattle.x86_step.specs.State.{Core, IsFixed, Text}
 use Rattle.x86_instr.specs.declared.instr.Instr.{Instr as Native}
 use Rattle.x86_step.specs.Step.{Reaches, is_canonical, jumped}
@@ -19,6 +19,7 @@ use Rattle.x86_step.specs.Running.{HasAt, spellings}
 use Rattle.sfi_native.specs.declared.layout.Layout.{Layout}
 use Rattle.sfi_native.specs.Layout.{IsLayout, IsRelated, frame_size, value}
 use Rattle.sfi_native.specs.Code.{branch_line, computing_line, does_compute, jal_line, load_line, store_line}
+use Rattle.sfi_native.specs.Places.{AreLast, code_of, size_of_all, start}
 
 -- Each turn, its registers of 32 bits, has a processor with its state, at each layout: what follows asks for nothing
 -- that can't be.
@@ -117,3 +118,36 @@ StoreLinesRun =
     InRange (Store width rs1 rs2 imm) → IsInData p to (store_size width) → IsThere g.state.memory to (store_size width)
     → IsBefore line t at p l g c
     → LeadsTo t at (end_of at line) p l c (line_step target p code (Does address size (Store width rs1 rs2 imm) ∷ rest) g)
+
+-- ==== Lines among all lines of the code.
+
+-- all but those that leave the code
+abbrev pub has_code : Instr → Bool
+has_code (Jalr rd rs1 imm) = false
+has_code Ecall = false
+has_code Ebreak = false
+has_code i = true
+
+-- an access is one to the data, of which each byte is there
+abbrev pub Accesses : Part → Going → Instr → Type 0
+Accesses p g (Load kind rd rs1 imm) =
+    let from = offset_by (value p g rs1) imm in
+    IsInData p from (load_size kind) × IsMemory g.state.memory
+    × (v : ℕ) × (loaded g.state.memory from (load_size kind) ≡ Some v)
+Accesses p g (Store width rs1 rs2 imm) =
+    let to = offset_by (value p g rs1) imm in
+    IsInData p to (store_size width) × IsThere g.state.memory to (store_size width)
+Accesses p g i = Unit {0}
+
+abbrev pub IsReady : Part → Going → Line → Type 0
+IsReady p g (Does at n i) = (has_code i ≡ true) × InRange i × Accesses p g i
+IsReady p g line = Unit {0}
+
+-- Where all lines' code stands, a line's code leads to that of the lines before which its step leads. Nothing is said
+-- where the step leads elsewhere: heads, and jumps that test what is left, don't do so yet.
+abbrev pub PlacedLinesRun : Type 0
+PlacedLinesRun =
+    (p : Part) (code rest to : List Line) (line : Line) (l : Layout) (t : Text) (base : ℕ) (g : Going) (c : Core)
+    → IsBefore (code_of code code) t base p l g c → size_of_all code < 2 ^ 31 → AreLast code (line ∷ rest) → IsReady p g line
+    → (line_step Assembly p code (line ∷ rest) g).place ≡ Before to
+    → LeadsTo t (base + start code (line ∷ rest)) (base + start code to) p l c (line_step Assembly p code (line ∷ rest) g)

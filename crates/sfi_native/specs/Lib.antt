@@ -1,3 +1,4 @@
 pub mod Layout
 pub mod Code
+pub mod Places
 pub mod Laws

@@ -1,0 +1,121 @@
+-- Where lines stand, and where jumps to their labels lead.
+use Rattle.std.proofs.Common.{◌≡◌, ℕ, ◌+◌, ◌^◌, ◌<◌, ◌≤◌, Bool, true, false, List, [], ◌∷◌, ◌++◌, length, Option, Some, None, refl, sym, ap, ◌∙◌, subst, arith, inl, inr, if◌then◌else◌, length-append, nat_lt}
+use Rattle.std.specs.Prelude.{◌==◌}
+use Rattle.std.proofs.lemmas.Bool.{cases_lt, le-ltb, lt-ltb}
+use Rattle.rv_word.specs.declared.instr.Instr.TheVariants.{Branch, Jal}
+use Rattle.rv_mem.specs.Bytes.{address_after}
+use Rattle.sfi_translate.specs.Lines.{Line, Function, End, Entry, Head, Does}
+use Rattle.sfi_translate.specs.Machine.{label}
+use Rattle.x86_instr.specs.declared.instr.Instr.{Instr as Native}
+use Rattle.x86_instr.specs.declared.instr.Instr.TheVariants.{Jcc, Jmp}
+unfoldable use Rattle.x86_instr.specs.Spelling.{spelling}
+use Rattle.x86_step.specs.State.{Text}
+use Rattle.x86_step.specs.Step.{is_canonical, jumped}
+use Rattle.x86_step.specs.Running.{HasAt, spellings}
+use Rattle.x86_step.proofs.Running.{has_back, has_front, spellings_append}
+use Rattle.sfi_native.proofs.Runs.{low_canonical}
+use Rattle.sfi_native.specs.Code.{compare_code, condition_of, count, number_code}
+use Rattle.sfi_native.specs.Places.{AreLast, code_of, distance, distances, line_code, size_of, size_of_all, start, start_or_end}
+
+-- ==== Sizes.
+
+last_size : (front : List Native) (a b : Native) → length (spellings (a ∷ [])) ≡ length (spellings (b ∷ [])) → length (spellings (front ++ (a ∷ []))) ≡ length (spellings (front ++ (b ∷ [])))
+last_size front a b same =
+    omega (arith, same, ap length (spellings_append front (a ∷ [])), ap length (spellings_append front (b ∷ [])), length-append (spellings front) (spellings (a ∷ [])), length-append (spellings front) (spellings (b ∷ [])))
+
+pub line_size : (d : ℕ → ℕ) (line : Line) → length (spellings (line_code d line)) ≡ size_of line
+unfolding spelling
+line_size d (Does at n (Branch cond rs1 rs2 offset)) = last_size (compare_code rs1 rs2) (Jcc (condition_of cond) _) (Jcc (condition_of cond) 0) refl
+line_size d (Does at n (Jal rd offset)) = last_size (number_code rd (address_after at n) ++ count) (Jmp _) (Jmp 0) refl
+line_size d (Does at n i) = refl
+line_size d line = refl
+
+pub sizes_append : (front rest : List Line) → size_of_all (front ++ rest) ≡ size_of_all front + size_of_all rest
+sizes_append [] rest = omega arith
+sizes_append (line ∷ front) rest = omega (arith, sizes_append front rest)
+
+pub last_below : (code rest : List Line) → AreLast code rest → size_of_all rest ≤ size_of_all code
+last_below code rest last = omega (arith, ap size_of_all last.is, sizes_append last.front rest)
+
+pub code_size : (code lines : List Line) → length (spellings (code_of code lines)) ≡ size_of_all lines
+code_size code [] = refl
+code_size code (line ∷ rest) =
+    let own = line_code (distances code rest) line in
+    omega (arith, ap length (spellings_append own (code_of code rest)), length-append (spellings own) (spellings (code_of code rest)), line_size (distances code rest) line, code_size code rest)
+
+-- ==== Where bytes stand.
+
+module _ (t : Text) (code : List Line) where
+  stands_from : (at : ℕ) (front rest : List Line) → HasAt t at (spellings (code_of code (front ++ rest))) → HasAt t (at + size_of_all front) (spellings (code_of code rest))
+  stands_from at [] rest has =
+      let z : at ≡ at + 0 = omega arith in
+      subst (λ a. HasAt t a (spellings (code_of code rest))) z has
+  stands_from at (line ∷ front) rest has =
+      let own = line_code (distances code (front ++ rest)) line in
+      let parts = subst (λ bytes. HasAt t at bytes) (spellings_append own (code_of code (front ++ rest))) has in
+      let back = stands_from (at + length (spellings own)) front rest (has_back t at (spellings own) _ parts) in
+      let e : at + length (spellings own) + size_of_all front ≡ at + size_of_all (line ∷ front) = omega (arith, line_size (distances code (front ++ rest)) line) in
+      subst (λ a. HasAt t a (spellings (code_of code rest))) e back
+
+  module _ (base : ℕ) (has : HasAt t base (spellings (code_of code code))) (line : Line) (rest : List Line) (last : AreLast code (line ∷ rest)) where
+    front_is : start code (line ∷ rest) ≡ size_of_all last.front
+    front_is = omega (arith, ap size_of_all last.is, sizes_append last.front (line ∷ rest))
+
+    -- a line's bytes
+    pub line_stands : HasAt t (base + start code (line ∷ rest)) (spellings (line_code (distances code rest) line))
+    line_stands =
+        let own = line_code (distances code rest) line in
+        let whole = subst (λ lines. HasAt t base (spellings (code_of code lines))) last.is has in
+        let here = stands_from base last.front (line ∷ rest) whole in
+        let parts = subst (λ bytes. HasAt t (base + size_of_all last.front) bytes) (spellings_append own (code_of code rest)) here in
+        subst (λ n. HasAt t (base + n) (spellings own)) (sym front_is) (has_front t (base + size_of_all last.front) (spellings own) _ parts)
+
+    -- end where the next begin
+    pub line_ends : base + start code (line ∷ rest) + length (spellings (line_code (distances code rest) line)) ≡ base + start code rest
+    line_ends = omega (arith, line_size (distances code rest) line, last_below code (line ∷ rest) last)
+
+-- ==== Labels.
+
+pub one_more : (line : Line) (lines rest : List Line) → AreLast lines rest → AreLast (line ∷ lines) rest
+one_more line lines rest last = record { front = line ∷ last.front; is = ap (λ x. line ∷ x) last.is }
+
+found : (t : Bool) (line : Line) (lines rest : List Line) (o : Option (List Line)) → (o ≡ Some rest → AreLast lines rest)
+    → (if t then Some (line ∷ lines) else o) ≡ Some rest → AreLast (line ∷ lines) rest
+found true line lines rest o later e = record { front = []; is = cc }
+found false line lines rest o later e = one_more line lines rest (later e)
+
+pub label_last : (to : ℕ) (code rest : List Line) → label to code ≡ Some rest → AreLast code rest
+label_last to [] rest e = absurd (cc)
+label_last to (Does at n i ∷ lines) rest e = found (at == to) (Does at n i) lines rest (label to lines) (label_last to lines rest) e
+label_last to (Function sandbox at ∷ lines) rest e = one_more _ lines rest (label_last to lines rest e)
+label_last to (End at ∷ lines) rest e = one_more _ lines rest (label_last to lines rest e)
+label_last to (Entry at ∷ lines) rest e = one_more _ lines rest (label_last to lines rest e)
+label_last to (Head at ∷ lines) rest e = one_more _ lines rest (label_last to lines rest e)
+
+-- a jump over a distance leads to its place
+pub far : (base from to : ℕ) → from < 2 ^ 31 → to < 2 ^ 31 → base + to < 2 ^ 64 → jumped (base + from) (distance from to) ≡ base + to
+far base from to ff ft below = elim (cases_lt to from) [
+  | inl back ↦
+      let e : nat_lt (distance from to) (2 ^ 31) ≡ false = le-ltb (distance from to) (2 ^ 31) (omega (arith, back, ff, ft)) in
+      rw e (omega (arith, back, ff, ft, below))
+  | inr on ↦
+      let e : nat_lt (distance from to) (2 ^ 31) ≡ true = lt-ltb (distance from to) (2 ^ 31) (omega (arith, on, ff, ft)) in
+      rw e (omega (arith, on, ff, ft, below))
+]
+
+place_below : (code : List Line) (o : Option (List Line)) → start_or_end code o ≤ size_of_all code
+place_below code None = omega arith
+place_below code (Some rest) = omega arith
+
+-- a jump to a label
+pub label_reached : (base : ℕ) (code rest : List Line) (to : ℕ) → size_of_all code < 2 ^ 31 → base + size_of_all code < 2 ^ 47
+    → jumped (base + start code rest) (distances code rest to) ≡ base + start_or_end code (label to code)
+label_reached base code rest to few low =
+    let below = place_below code (label to code) in
+    far base (start code rest) (start_or_end code (label to code)) (omega (arith, few)) (omega (arith, few, below)) (omega (arith, low, below))
+
+pub label_canonical : (base : ℕ) (code rest : List Line) (to : ℕ) → size_of_all code < 2 ^ 31 → base + size_of_all code < 2 ^ 47
+    → is_canonical (jumped (base + start code rest) (distances code rest to)) ≡ true
+label_canonical base code rest to few low =
+    let place = base + start_or_end code (label to code) in
+    ap is_canonical (label_reached base code rest to few low) ∙ low_canonical place (omega (arith, low, place_below code (label to code)))

@@ -1,0 +1,62 @@
+-- Where the code of lines stands: each line's behind the one before, from the first line on.
+use Rattle.std.specs.Prelude.{◌≡◌, ℕ, ◌+◌, ◌-◌, ◌%◌, ◌^◌, List, [], ◌∷◌, ◌++◌, length, Option, Some, None}
+use Rattle.rv_word.specs.declared.instr.Instr.{Instr}
+use Rattle.rv_word.specs.declared.instr.Instr.TheVariants.{Load, Store, Branch, Jal, Jalr, Ecall, Ebreak}
+use Rattle.rv_word.specs.Spelling.{offset_by}
+use Rattle.rv_mem.specs.Bytes.{address_after}
+use Rattle.rv_step.specs.Step.{word}
+use Rattle.sfi_translate.specs.Lines.{Line, Does}
+use Rattle.sfi_translate.specs.Machine.{label}
+use Rattle.x86_instr.specs.declared.instr.Instr.{Instr as Native}
+use Rattle.x86_step.specs.Running.{spellings}
+use Rattle.sfi_native.specs.Code.{branch_line, computing_line, jal_line, load_line, store_line}
+
+-- The instruction of n bytes at that address, where `distance` tells how far a label is from the line's end. Those that
+-- leave the code have none yet.
+abbrev pub instruction_code : (ℕ → ℕ) → ℕ → ℕ → Instr → List Native
+instruction_code distance at n (Branch cond rs1 rs2 offset) = branch_line cond rs1 rs2 (distance (offset_by at offset))
+instruction_code distance at n (Jal rd offset) = jal_line rd (address_after at n) (distance (offset_by at offset))
+instruction_code distance at n (Load kind rd rs1 imm) = load_line kind rd rs1 (word imm)
+instruction_code distance at n (Store width rs1 rs2 imm) = store_line width rs1 rs2 (word imm)
+instruction_code distance at n (Jalr rd rs1 imm) = []
+instruction_code distance at n Ecall = []
+instruction_code distance at n Ebreak = []
+instruction_code distance at n i = computing_line at i
+
+abbrev pub line_code : (ℕ → ℕ) → Line → List Native
+line_code distance (Does at n i) = instruction_code distance at n i
+line_code distance line = []
+
+-- how many bytes a line has, whatever its distances are
+abbrev pub size_of : Line → ℕ
+size_of line = length (spellings (line_code (λ to. 0) line))
+
+abbrev pub size_of_all : List Line → ℕ
+size_of_all [] = 0
+size_of_all (line ∷ lines) = size_of line + size_of_all lines
+
+-- where the last lines of the code begin
+abbrev pub start : List Line → List Line → ℕ
+start code rest = size_of_all code - size_of_all rest
+
+abbrev pub start_or_end : List Line → Option (List Line) → ℕ
+start_or_end code (Some rest) = start code rest
+start_or_end code None = size_of_all code
+
+-- from a place to another, in 32 bits
+abbrev pub distance : ℕ → ℕ → ℕ
+distance from to = (to + (2 ^ 32 - from)) % 2 ^ 32
+
+-- to labels, from where the rest begins
+abbrev pub distances : List Line → List Line → ℕ → ℕ
+distances code rest to = distance (start code rest) (start_or_end code (label to code))
+
+-- the code of these last lines of all the code
+abbrev pub code_of : List Line → List Line → List Native
+code_of code [] = []
+code_of code (line ∷ rest) = line_code (distances code rest) line ++ code_of code rest
+
+-- these are the last lines of the code
+pub record AreLast (code rest : List Line) : Type 0 where
+  pub front : List Line
+  pub is : code ≡ front ++ rest
