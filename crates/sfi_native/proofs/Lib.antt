@@ -17,5 +17,6 @@ pub mod Jumps
 pub mod Accessing
 pub mod Loads
 pub mod Stores
+pub mod Heads
 pub mod Placed
 pub mod Facts

@@ -7,19 +7,21 @@ use Rattle.rv_word.specs.Spelling.{InRange, offset_by}
 use Rattle.rv_step.specs.Step.{is_taken}
 use Rattle.sfi_image.specs.Spelling.{Part}
 use Rattle.sfi_translate.specs.Lines.{Line, Function, End, Entry, Head, Does}
-use Rattle.sfi_translate.specs.Machine.{Assembly, Before, ControlPoint, Going, Lost, Slow, before_or, goes, is_short, jumps, label, line_step, one_less}
-use Rattle.x86_step.specs.State.{Core, Text}
-use Rattle.x86_step.specs.Step.{is_canonical, jumped, stay}
+use Rattle.sfi_translate.specs.Machine.{Assembly, Before, ControlPoint, Going, Lost, Slow, before_or, goes, goes_with, is_short, jumps, label, line_step, one_less}
+use Rattle.x86_step.specs.State.{Core, Machine, Text}
+use Rattle.x86_step.specs.Step.{Reaches, is_canonical, jumped, stay}
 use Rattle.x86_step.specs.Running.{spellings}
 use Rattle.sfi_native.specs.declared.layout.Layout.{Layout}
 use Rattle.sfi_native.specs.Layout.{IsRelated, value}
-use Rattle.sfi_native.specs.Laws.{Accesses, IsBefore, LeadsTo, PlacedLinesRun, end_of, has_code}
-use Rattle.sfi_native.specs.Places.{AreLast, code_of, distances, line_code, size_of_all, start, start_or_end}
+use Rattle.sfi_native.specs.Laws.{Accesses, IsAlike, IsBefore, IsCovered, IsReady, LeadsTo, PlacedLinesRun, end_of, has_code}
+use Rattle.sfi_native.specs.Places.{AreLast, IsAtPlace, code_of, distance_out, distances, placed, size_of_all, start, start_or_end}
+use Rattle.sfi_native.specs.Code.{head_line}
+use Rattle.sfi_native.proofs.Heads.{Tests, head_tests}
 use Rattle.sfi_native.proofs.Jumps.{branch_lines_run, jal_lines_run}
 use Rattle.sfi_native.proofs.Lines.{computing_lines_run}
 use Rattle.sfi_native.proofs.Loads.{load_lines_run}
-use Rattle.sfi_native.proofs.Places.{code_size, label_canonical, label_reached, line_ends, line_stands}
-use Rattle.sfi_native.proofs.Runs.{bytes_end}
+use Rattle.sfi_native.proofs.Places.{code_size, label_canonical, end_reached, label_reached, line_ends, line_stands}
+use Rattle.sfi_native.proofs.Runs.{bytes_end, low_canonical}
 use Rattle.sfi_native.proofs.Stores.{store_lines_run}
 
 -- ==== Where a step goes on.
@@ -48,8 +50,9 @@ of_done : (done : Bool) (one other : Going) (to : List Line) → done ≡ true �
 of_done true one other to is e = e
 of_done false one other to is e = absurd (false≢true is)
 
-related_goes : (p : Part) (l : Layout) (g : Going) (c : Core) (place : ControlPoint) → IsRelated p l g c → IsRelated p l (goes g place) c
-related_goes p l g c place is = record {
+-- where the turn is doesn't matter
+related_goes : (p : Part) (l : Layout) (g : Going) (c : Core) (place : ControlPoint) (pc : ℕ) → IsRelated p l g c → IsRelated p l (goes_with g place pc) c
+related_goes p l g c place pc is = record {
   count = is.count;
   words = is.words;
   registers = is.registers;
@@ -72,7 +75,7 @@ module _ (p : Part) (code rest to : List Line) (l : Layout) (t : Text) (base : �
     abbrev place : ℕ
     place = base + start code (line ∷ rest)
 
-    own : IsBefore (line_code (distances code rest) line) t place p l g c
+    own : IsBefore (placed code rest line) t place p l g c
     own = record {
       layout = here.layout;
       text_is_fixed = here.text_is_fixed;
@@ -81,42 +84,37 @@ module _ (p : Part) (code rest to : List Line) (l : Layout) (t : Text) (base : �
       related = here.related;
     }
 
-    ends : end_of place (line_code (distances code rest) line) ≡ base + start code rest
+    ends : end_of place (placed code rest line) ≡ base + start code rest
     ends = line_ends t code base here.stands line rest last
 
     -- to the next line
-    on : (k : Going) → LeadsTo t place (end_of place (line_code (distances code rest) line)) p l c k → Before rest ≡ Before to → LeadsTo t place (base + start code to) p l c k
+    on : (k : Going) → LeadsTo t place (end_of place (placed code rest line)) p l c k → Before rest ≡ Before to → LeadsTo t place (base + start code to) p l c k
     on k leads e = subst (λ a. LeadsTo t place a p l c k) (ends ∙ ap (λ r. base + start code r) (sym (same_lines rest to e))) leads
 
     -- to a label
     to_label : (address left target : ℕ) → jumps Assembly code address target left ≡ Before to
-        → jumped (end_of place (line_code (distances code rest) line)) (distances code rest target) ≡ base + start code to
+        → jumped (end_of place (placed code rest line)) (distances code rest target) ≡ base + start code to
     to_label address left target e =
         ap (λ a. jumped a (distances code rest target)) ends ∙ label_reached base code rest target few low
         ∙ ap (λ o. base + start_or_end code o) (jumps_label code address target left to e)
 
-    canonical : (target : ℕ) → is_canonical (jumped (end_of place (line_code (distances code rest) line)) (distances code rest target)) ≡ true
+    canonical : (target : ℕ) → is_canonical (jumped (end_of place (placed code rest line)) (distances code rest target)) ≡ true
     canonical target = ap (λ a. is_canonical (jumped a (distances code rest target))) ends ∙ label_canonical base code rest target few low
 
     either : (taken : Bool) (address left target : ℕ) → (if taken then jumps Assembly code address target left else Before rest) ≡ Before to
-        → (if taken then jumped (end_of place (line_code (distances code rest) line)) (distances code rest target) else end_of place (line_code (distances code rest) line)) ≡ base + start code to
+        → (if taken then jumped (end_of place (placed code rest line)) (distances code rest target) else end_of place (placed code rest line)) ≡ base + start code to
     either true address left target e = to_label address left target e
     either false address left target e = ends ∙ ap (λ r. base + start code r) (sym (same_lines rest to e))
 
     -- a line without code
-    nothing : line_code (distances code rest) line ≡ [] → Before rest ≡ Before to → LeadsTo t place (base + start code to) p l c (goes g (Before rest))
+    nothing : placed code rest line ≡ [] → Before rest ≡ Before to → LeadsTo t place (base + start code to) p l c (goes g (Before rest))
     nothing none e =
-        let z : end_of place (line_code (distances code rest) line) ≡ place = ap (end_of place) none ∙ omega arith in
+        let z : end_of place (placed code rest line) ≡ place = ap (end_of place) none ∙ omega arith in
         on (goes g (Before rest)) (subst (λ a. LeadsTo t place a p l c (goes g (Before rest))) (sym z) (record {
           after = c;
           reached = record { fixed = here.text_is_fixed; steps = stay _ };
-          related = related_goes p l g c (Before rest) here.related;
+          related = related_goes p l g c (Before rest) g.state.hart.pc here.related;
         })) e
-
-  head : (short : Bool) (at : ℕ) (slow : Going) → AreLast code (Head at ∷ rest) → slow.place ≡ Slow → (if short then slow else goes g (Before rest)).place ≡ Before to
-      → LeadsTo t (base + start code (Head at ∷ rest)) (base + start code to) p l c (if short then slow else goes g (Before rest))
-  head true at slow last is e = let clash : Slow ≡ Before to = sym is ∙ e in absurd (cc)
-  head false at slow last is e = nothing (Head at) last refl e
 
   instruction : (address n : ℕ) (i : Instr) → AreLast code (Does address n i ∷ rest) → has_code i ≡ true → InRange i → Accesses p g i
       → (line_step Assembly p code (Does address n i ∷ rest) g).place ≡ Before to
@@ -151,9 +149,57 @@ module _ (p : Part) (code rest to : List Line) (l : Layout) (t : Text) (base : �
       subst (λ a. LeadsTo t (place line last) a p l c (line_step Assembly p code (line ∷ rest) g)) (to_label line last address (one_less g.left) target e) leads
   instruction address n i last has range asked e = absurd (false≢true has)
 
+  -- a head, by the outcome of its test
+  module _ (address : ℕ) (last : AreLast code (Head address ∷ rest)) (left : g.left < 2 ^ 31) where
+    abbrev from : ℕ
+    from = base + start code (Head address ∷ rest)
+
+    abbrev out : ℕ
+    out = distance_out code rest
+
+    out_is : jumped (end_of from (head_line address out)) out ≡ base + size_of_all code
+    out_is = ap (λ a. jumped a out) (ends (Head address) last) ∙ end_reached base code rest few low
+
+    tests : Tests p l t from address out g c
+    tests = head_tests p l t from address out g c (own (Head address) last) left (ap is_canonical out_is ∙ low_canonical (base + size_of_all code) low)
+
+    head : (short : Bool) → Reaches t (record { rip = from; core = c })
+        (record { rip = if short then jumped (end_of from (head_line address out)) out else end_of from (head_line address out); core = tests.after })
+        → (k : Machine) × Reaches t (record { rip = from; core = c }) k × IsAlike p l base code (if short then goes_with g Slow address else goes g (Before rest)) k
+    head true reached = (_, reached, record { related = related_goes p l g tests.after Slow address tests.related; is_at = (out_is, tests.edx) })
+    head false reached = (_, reached, record { related = related_goes p l g tests.after (Before rest) g.state.hart.pc tests.related; is_at = ends (Head address) last })
+
+-- ==== As the turn goes.
+
+-- the lines before which a step leads
+before_of : (place : ControlPoint) → IsCovered (End 0) place → (to : List Line) × (place ≡ Before to)
+before_of (Before to) covered = (to, refl)
+before_of place covered = absurd covered
+
+module _ (p : Part) (code rest : List Line) (l : Layout) (t : Text) (base : ℕ) (g : Going) (m : Machine) (here : IsBefore (code_of code code) t base p l g m.core) (few : size_of_all code < 2 ^ 31) where
+  abbrev start_of : Line → Machine
+  start_of line = record { rip = base + start code (line ∷ rest); core = m.core }
+
+  -- what leads to lines leads on
+  leads_on : (line : Line) (to : List Line) (k : Going) → k.place ≡ Before to → LeadsTo t (base + start code (line ∷ rest)) (base + start code to) p l m.core k
+      → (n : Machine) × Reaches t (start_of line) n × IsAlike p l base code k n
+  leads_on line to k e leads =
+      let n : Machine = record { rip = base + start code to; core = leads.after } in
+      (n, leads.reached, record { related = leads.related; is_at = subst (λ place. IsAtPlace base code place k.state.hart.pc n) (sym e) refl })
+
+  line_runs : (line : Line) → AreLast code (line ∷ rest) → IsReady p g line → IsCovered line (line_step Assembly p code (line ∷ rest) g).place
+      → (n : Machine) × Reaches t (start_of line) n × IsAlike p l base code (line_step Assembly p code (line ∷ rest) g) n
+  line_runs (Function sandbox at) last ready covered = leads_on (Function sandbox at) rest _ refl (nothing p code rest rest l t base g m.core here few (Function sandbox at) last refl refl)
+  line_runs (End at) last ready covered = leads_on (End at) rest _ refl (nothing p code rest rest l t base g m.core here few (End at) last refl refl)
+  line_runs (Entry at) last ready covered = leads_on (Entry at) rest _ refl (nothing p code rest rest l t base g m.core here few (Entry at) last refl refl)
+  line_runs (Head at) last ready covered =
+      head p code rest rest l t base g m.core here few at last ready (is_short Assembly g.left) (tests p code rest rest l t base g m.core here few at last ready).reached
+  line_runs (Does at n i) last ready covered =
+      let to = before_of (line_step Assembly p code (Does at n i ∷ rest) g).place covered in
+      leads_on (Does at n i) to.0 _ to.1 (instruction p code rest to.0 l t base g m.core here few at n i last ready.0 ready.1 ready.2 to.1)
+
 pub placed_lines_run : PlacedLinesRun
-placed_lines_run p code rest to (Function sandbox at) l t base g c here few last ready e = nothing p code rest to l t base g c here few (Function sandbox at) last refl e
-placed_lines_run p code rest to (End at) l t base g c here few last ready e = nothing p code rest to l t base g c here few (End at) last refl e
-placed_lines_run p code rest to (Entry at) l t base g c here few last ready e = nothing p code rest to l t base g c here few (Entry at) last refl e
-placed_lines_run p code rest to (Head at) l t base g c here few last ready e = head p code rest to l t base g c here few (is_short Assembly g.left) at _ last refl e
-placed_lines_run p code rest to (Does at n i) l t base g c here few last ready e = instruction p code rest to l t base g c here few at n i last ready.0 ready.1 ready.2 e
+placed_lines_run p code rest line l t base g m here few last place is_at ready covered =
+    let rip : m.rip ≡ base + start code (line ∷ rest) = subst (λ q. IsAtPlace base code q g.state.hart.pc m) place is_at in
+    let leads = line_runs p code rest l t base g m here few line last ready covered in
+    (leads.0, subst (λ a. Reaches t (record { rip = a; core = m.core }) leads.0) (sym rip) leads.1, leads.2)

@@ -5,9 +5,14 @@ use Rattle.std.proofs.lemmas.Bool.{cases_lt, le-ltb, lt-ltb}
 use Rattle.rv_word.specs.declared.instr.Instr.TheVariants.{Branch, Jal}
 use Rattle.rv_mem.specs.Bytes.{address_after}
 use Rattle.sfi_translate.specs.Lines.{Line, Function, End, Entry, Head, Does}
-use Rattle.sfi_translate.specs.Machine.{label}
+use Rattle.sfi_translate.specs.Machine.{label, most}
 use Rattle.x86_instr.specs.declared.instr.Instr.{Instr as Native}
-use Rattle.x86_instr.specs.declared.instr.Instr.TheVariants.{Jcc, Jmp}
+use Rattle.x86_instr.specs.declared.instr.Instr.TheVariants.{AluImm, Jcc, Jmp, MovImm}
+use Rattle.x86_instr.specs.declared.instr.AluOp.TheVariants as alu
+use Rattle.x86_instr.specs.declared.instr.Condition.TheVariants.{Below}
+use Rattle.x86_instr.specs.declared.instr.Width.TheVariants.{Dword}
+use Rattle.x86_instr.specs.declared.operand.Operand.TheVariants.{Reg}
+use Rattle.x86_instr.specs.declared.operand.Register.TheVariants.{Rdx, R14}
 unfoldable use Rattle.x86_instr.specs.Spelling.{spelling}
 use Rattle.x86_step.specs.State.{Text}
 use Rattle.x86_step.specs.Step.{is_canonical, jumped}
@@ -15,7 +20,7 @@ use Rattle.x86_step.specs.Running.{HasAt, spellings}
 use Rattle.x86_step.proofs.Running.{has_back, has_front, spellings_append}
 use Rattle.sfi_native.proofs.Runs.{low_canonical}
 use Rattle.sfi_native.specs.Code.{compare_code, condition_of, count, number_code}
-use Rattle.sfi_native.specs.Places.{AreLast, code_of, distance, distances, line_code, size_of, size_of_all, start, start_or_end}
+use Rattle.sfi_native.specs.Places.{AreLast, code_of, distance, distance_out, distances, line_code, placed, size_of, size_of_all, start, start_or_end}
 
 -- ==== Sizes.
 
@@ -23,12 +28,13 @@ last_size : (front : List Native) (a b : Native) → length (spellings (a ∷ []
 last_size front a b same =
     omega (arith, same, ap length (spellings_append front (a ∷ [])), ap length (spellings_append front (b ∷ [])), length-append (spellings front) (spellings (a ∷ [])), length-append (spellings front) (spellings (b ∷ [])))
 
-pub line_size : (d : ℕ → ℕ) (line : Line) → length (spellings (line_code d line)) ≡ size_of line
+pub line_size : (d : ℕ → ℕ) (out : ℕ) (line : Line) → length (spellings (line_code d out line)) ≡ size_of line
 unfolding spelling
-line_size d (Does at n (Branch cond rs1 rs2 offset)) = last_size (compare_code rs1 rs2) (Jcc (condition_of cond) _) (Jcc (condition_of cond) 0) refl
-line_size d (Does at n (Jal rd offset)) = last_size (number_code rd (address_after at n) ++ count) (Jmp _) (Jmp 0) refl
-line_size d (Does at n i) = refl
-line_size d line = refl
+line_size d out (Does at n (Branch cond rs1 rs2 offset)) = last_size (compare_code rs1 rs2) (Jcc (condition_of cond) _) (Jcc (condition_of cond) 0) refl
+line_size d out (Does at n (Jal rd offset)) = last_size (number_code rd (address_after at n) ++ count) (Jmp _) (Jmp 0) refl
+line_size d out (Does at n i) = refl
+line_size d out (Head at) = last_size (MovImm Rdx at ∷ AluImm alu.Cmp Dword (Reg R14) most ∷ []) (Jcc Below out) (Jcc Below 0) refl
+line_size d out line = refl
 
 pub sizes_append : (front rest : List Line) → size_of_all (front ++ rest) ≡ size_of_all front + size_of_all rest
 sizes_append [] rest = omega arith
@@ -40,8 +46,8 @@ last_below code rest last = omega (arith, ap size_of_all last.is, sizes_append l
 pub code_size : (code lines : List Line) → length (spellings (code_of code lines)) ≡ size_of_all lines
 code_size code [] = refl
 code_size code (line ∷ rest) =
-    let own = line_code (distances code rest) line in
-    omega (arith, ap length (spellings_append own (code_of code rest)), length-append (spellings own) (spellings (code_of code rest)), line_size (distances code rest) line, code_size code rest)
+    let own = placed code rest line in
+    omega (arith, ap length (spellings_append own (code_of code rest)), length-append (spellings own) (spellings (code_of code rest)), line_size (distances code rest) (distance_out code rest) line, code_size code rest)
 
 -- ==== Where bytes stand.
 
@@ -51,10 +57,10 @@ module _ (t : Text) (code : List Line) where
       let z : at ≡ at + 0 = omega arith in
       subst (λ a. HasAt t a (spellings (code_of code rest))) z has
   stands_from at (line ∷ front) rest has =
-      let own = line_code (distances code (front ++ rest)) line in
+      let own = placed code (front ++ rest) line in
       let parts = subst (λ bytes. HasAt t at bytes) (spellings_append own (code_of code (front ++ rest))) has in
       let back = stands_from (at + length (spellings own)) front rest (has_back t at (spellings own) _ parts) in
-      let e : at + length (spellings own) + size_of_all front ≡ at + size_of_all (line ∷ front) = omega (arith, line_size (distances code (front ++ rest)) line) in
+      let e : at + length (spellings own) + size_of_all front ≡ at + size_of_all (line ∷ front) = omega (arith, line_size (distances code (front ++ rest)) (distance_out code (front ++ rest)) line) in
       subst (λ a. HasAt t a (spellings (code_of code rest))) e back
 
   module _ (base : ℕ) (has : HasAt t base (spellings (code_of code code))) (line : Line) (rest : List Line) (last : AreLast code (line ∷ rest)) where
@@ -62,17 +68,17 @@ module _ (t : Text) (code : List Line) where
     front_is = omega (arith, ap size_of_all last.is, sizes_append last.front (line ∷ rest))
 
     -- a line's bytes
-    pub line_stands : HasAt t (base + start code (line ∷ rest)) (spellings (line_code (distances code rest) line))
+    pub line_stands : HasAt t (base + start code (line ∷ rest)) (spellings (placed code rest line))
     line_stands =
-        let own = line_code (distances code rest) line in
+        let own = placed code rest line in
         let whole = subst (λ lines. HasAt t base (spellings (code_of code lines))) last.is has in
         let here = stands_from base last.front (line ∷ rest) whole in
         let parts = subst (λ bytes. HasAt t (base + size_of_all last.front) bytes) (spellings_append own (code_of code rest)) here in
         subst (λ n. HasAt t (base + n) (spellings own)) (sym front_is) (has_front t (base + size_of_all last.front) (spellings own) _ parts)
 
     -- end where the next begin
-    pub line_ends : base + start code (line ∷ rest) + length (spellings (line_code (distances code rest) line)) ≡ base + start code rest
-    line_ends = omega (arith, line_size (distances code rest) line, last_below code (line ∷ rest) last)
+    pub line_ends : base + start code (line ∷ rest) + length (spellings (placed code rest line)) ≡ base + start code rest
+    line_ends = omega (arith, line_size (distances code rest) (distance_out code rest) line, last_below code (line ∷ rest) last)
 
 -- ==== Labels.
 
@@ -119,3 +125,8 @@ pub label_canonical : (base : ℕ) (code rest : List Line) (to : ℕ) → size_o
 label_canonical base code rest to few low =
     let place = base + start_or_end code (label to code) in
     ap is_canonical (label_reached base code rest to few low) ∙ low_canonical place (omega (arith, low, place_below code (label to code)))
+
+-- the same to the end
+pub end_reached : (base : ℕ) (code rest : List Line) → size_of_all code < 2 ^ 31 → base + size_of_all code < 2 ^ 47
+    → jumped (base + start code rest) (distance_out code rest) ≡ base + size_of_all code
+end_reached base code rest few low = far base (start code rest) (size_of_all code) (omega (arith, few)) few (omega (arith, low))

@@ -13,6 +13,7 @@ use Rattle.rv_word.specs.declared.instr.Cond.TheVariants.{Beq, Bne, Blt, Bge, Bl
 use Rattle.rv_word.specs.declared.instr.Instr.{Instr}
 use Rattle.rv_word.specs.declared.instr.Instr.TheVariants.{Op, OpImm, Lui, Auipc, Fence}
 use Rattle.rv_step.specs.Step.{word}
+use Rattle.sfi_translate.specs.Machine.{most}
 use Rattle.x86_instr.specs.declared.operand.Register.{Register}
 use Rattle.x86_instr.specs.declared.operand.Register.TheVariants.{Rax, Rcx, Rdx, Rsp, R14, R15}
 use Rattle.x86_instr.specs.declared.operand.Scale.TheVariants.{One}
@@ -209,3 +210,9 @@ store_to Sw a = MovStore Dword a Rcx
 abbrev pub store_line : StoreWidth → ℕ → ℕ → ℕ → List Native
 store_line width rs1 rs2 displacement =
     fetch Rax rs1 ++ (fetch Rcx rs2 ++ ((store_to width (data_address displacement) ∷ []) ++ count))
+
+-- ==== Heads.
+
+-- The line of a head: where too few steps are left it goes over the distance, with its address in edx.
+abbrev pub head_line : ℕ → ℕ → List Native
+head_line at distance = MovImm Rdx at ∷ AluImm alu.Cmp Dword (Reg R14) most ∷ Jcc Below distance ∷ []

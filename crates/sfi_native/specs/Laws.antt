@@ -10,16 +10,16 @@ use Rattle.rv_mem.specs.Bytes.{IsMemory, IsThere, address_after, loaded}
 use Rattle.rv_step.specs.Step.{is_taken, load_size, store_size, word}
 use Rattle.sfi_image.specs.Parts.{HasGuardRoom}
 use Rattle.sfi_image.specs.Spelling.{Part}
-use Rattle.sfi_translate.specs.Lines.{Line, Does}
-use Rattle.sfi_translate.specs.Machine.{Target, Assembly, Before, Going, is_tested, line_step}
-use Rattle.x86_step.specs.State.{Core, IsFixed, Text}
+use Rattle.sfi_translate.specs.Lines.{Line, Head, Does}
+use Rattle.sfi_translate.specs.Machine.{Target, Assembly, ControlPoint, Before, Going, is_tested, line_step}
+use Rattle.x86_step.specs.State.{Core, IsFixed, Machine, Text}
 use Rattle.x86_instr.specs.declared.instr.Instr.{Instr as Native}
 use Rattle.x86_step.specs.Step.{Reaches, is_canonical, jumped}
 use Rattle.x86_step.specs.Running.{HasAt, spellings}
 use Rattle.sfi_native.specs.declared.layout.Layout.{Layout}
 use Rattle.sfi_native.specs.Layout.{IsLayout, IsRelated, frame_size, value}
 use Rattle.sfi_native.specs.Code.{branch_line, computing_line, does_compute, jal_line, load_line, store_line}
-use Rattle.sfi_native.specs.Places.{AreLast, code_of, size_of_all, start}
+use Rattle.sfi_native.specs.Places.{AreLast, IsAt, code_of, size_of_all}
 
 -- Each turn, its registers of 32 bits, has a processor with its state, at each layout: what follows asks for nothing
 -- that can't be.
@@ -139,15 +139,28 @@ Accesses p g (Store width rs1 rs2 imm) =
     IsInData p to (store_size width) × IsThere g.state.memory to (store_size width)
 Accesses p g i = Unit {0}
 
+-- A head's code compares all 32 bits of the steps left, of which the machine counts 31.
 abbrev pub IsReady : Part → Going → Line → Type 0
 IsReady p g (Does at n i) = (has_code i ≡ true) × InRange i × Accesses p g i
+IsReady p g (Head at) = g.left < 2 ^ 31
 IsReady p g line = Unit {0}
 
--- Where all lines' code stands, a line's code leads to that of the lines before which its step leads. Nothing is said
--- where the step leads elsewhere: heads, and jumps that test what is left, don't do so yet.
+-- where lines lead so far: no jump does to a slow step
+abbrev pub IsCovered : Line → ControlPoint → Type 0
+IsCovered (Head at) place = Unit {0}
+IsCovered line (Before to) = Unit {0}
+IsCovered line place = ⊥
+
+-- The processor is where the turn is, and has its state.
+pub record IsAlike (p : Part) (l : Layout) (base : ℕ) (code : List Line) (g : Going) (m : Machine) : Type 0 where
+  pub related : IsRelated p l g m.core
+  pub is_at : IsAt base code g m
+
+-- Where all lines' code stands, a line's leads on as its step does.
 abbrev pub PlacedLinesRun : Type 0
 PlacedLinesRun =
-    (p : Part) (code rest to : List Line) (line : Line) (l : Layout) (t : Text) (base : ℕ) (g : Going) (c : Core)
-    → IsBefore (code_of code code) t base p l g c → size_of_all code < 2 ^ 31 → AreLast code (line ∷ rest) → IsReady p g line
-    → (line_step Assembly p code (line ∷ rest) g).place ≡ Before to
-    → LeadsTo t (base + start code (line ∷ rest)) (base + start code to) p l c (line_step Assembly p code (line ∷ rest) g)
+    (p : Part) (code rest : List Line) (line : Line) (l : Layout) (t : Text) (base : ℕ) (g : Going) (m : Machine)
+    → let next = line_step Assembly p code (line ∷ rest) g in
+    IsBefore (code_of code code) t base p l g m.core → size_of_all code < 2 ^ 31 → AreLast code (line ∷ rest)
+    → g.place ≡ Before (line ∷ rest) → IsAt base code g m → IsReady p g line → IsCovered line next.place
+    → (k : Machine) × Reaches t m k × IsAlike p l base code next k

@@ -5,11 +5,12 @@ use Rattle.rv_word.specs.declared.instr.Instr.TheVariants.{Load, Store, Branch, 
 use Rattle.rv_word.specs.Spelling.{offset_by}
 use Rattle.rv_mem.specs.Bytes.{address_after}
 use Rattle.rv_step.specs.Step.{word}
-use Rattle.sfi_translate.specs.Lines.{Line, Does}
-use Rattle.sfi_translate.specs.Machine.{label}
+use Rattle.sfi_translate.specs.Lines.{Line, Head, Does}
+use Rattle.sfi_translate.specs.Machine.{ControlPoint, Before, Slow, Going, label}
 use Rattle.x86_instr.specs.declared.instr.Instr.{Instr as Native}
+use Rattle.x86_step.specs.State.{Machine}
 use Rattle.x86_step.specs.Running.{spellings}
-use Rattle.sfi_native.specs.Code.{branch_line, computing_line, jal_line, load_line, store_line}
+use Rattle.sfi_native.specs.Code.{branch_line, computing_line, head_line, jal_line, load_line, store_line}
 
 -- The instruction of n bytes at that address, where `distance` tells how far a label is from the line's end. Those that
 -- leave the code have none yet.
@@ -23,13 +24,15 @@ instruction_code distance at n Ecall = []
 instruction_code distance at n Ebreak = []
 instruction_code distance at n i = computing_line at i
 
-abbrev pub line_code : (ℕ → ℕ) → Line → List Native
-line_code distance (Does at n i) = instruction_code distance at n i
-line_code distance line = []
+-- the same of a line, where `out` is the distance to the end of all lines
+abbrev pub line_code : (ℕ → ℕ) → ℕ → Line → List Native
+line_code distance out (Does at n i) = instruction_code distance at n i
+line_code distance out (Head at) = head_line at out
+line_code distance out line = []
 
 -- how many bytes a line has, whatever its distances are
 abbrev pub size_of : Line → ℕ
-size_of line = length (spellings (line_code (λ to. 0) line))
+size_of line = length (spellings (line_code (λ to. 0) 0 line))
 
 abbrev pub size_of_all : List Line → ℕ
 size_of_all [] = 0
@@ -51,12 +54,30 @@ distance from to = (to + (2 ^ 32 - from)) % 2 ^ 32
 abbrev pub distances : List Line → List Line → ℕ → ℕ
 distances code rest to = distance (start code rest) (start_or_end code (label to code))
 
+-- to the end
+abbrev pub distance_out : List Line → List Line → ℕ
+distance_out code rest = distance (start code rest) (size_of_all code)
+
+-- the line before the rest
+abbrev pub placed : List Line → List Line → Line → List Native
+placed code rest line = line_code (distances code rest) (distance_out code rest) line
+
 -- the code of these last lines of all the code
 abbrev pub code_of : List Line → List Line → List Native
 code_of code [] = []
-code_of code (line ∷ rest) = line_code (distances code rest) line ++ code_of code rest
+code_of code (line ∷ rest) = placed code rest line ++ code_of code rest
 
 -- these are the last lines of the code
 pub record AreLast (code rest : List Line) : Type 0 where
   pub front : List Line
   pub is : code ≡ front ++ rest
+
+-- where a processor is: at the lines of the turn, or behind all, with the pc in edx (2) for a slow step
+abbrev pub IsAtPlace : ℕ → List Line → ControlPoint → ℕ → Machine → Type 0
+IsAtPlace base code (Before rest) pc m = m.rip ≡ base + start code rest
+IsAtPlace base code Slow pc m = (m.rip ≡ base + size_of_all code) × (m.core.registers 2 ≡ pc)
+IsAtPlace base code place pc m = ⊥
+
+-- a processor is where the turn is, before a line or a slow step
+abbrev pub IsAt : ℕ → List Line → Going → Machine → Type 0
+IsAt base code g m = IsAtPlace base code g.place g.state.hart.pc m

@@ -5,13 +5,14 @@
 //! instructions a line becomes, `specs/Layout.antt` when a processor has the state of a turn. Laws say that
 //! the bytes of lines then do what these do: `Facts::computing_lines_run`, `branch_lines_run`, `jal_lines_run`,
 //! `load_lines_run`, `store_lines_run`; `placed_lines_run` where each line's bytes stand behind the one before
-//! (`specs/Places.antt`).
+//! (`specs/Places.antt`), up to jumps that lead to a slow step.
 #![tactic(auto)]
 
 mod access;
 mod computation;
 mod division;
 pub mod frame;
+mod head;
 mod jump;
 pub mod layout;
 mod operation;
@@ -21,5 +22,6 @@ mod tests;
 pub use access::{push_load_line, push_store_line};
 pub use computation::push_computing_line;
 pub use frame::frame_of;
+pub use head::push_head_line;
 pub use jump::{push_branch_line, push_jal_line};
 pub use layout::Layout;

@@ -1,6 +1,7 @@
 //! Lines of code, as the GNU assembler spells their instructions.
 use crate::{
-    push_branch_line, push_computing_line, push_jal_line, push_load_line, push_store_line,
+    push_branch_line, push_computing_line, push_head_line, push_jal_line, push_load_line,
+    push_store_line,
 };
 use rv_word::{Cond, ImmOp, Instr, LoadKind, Reg, RegOp, StoreWidth};
 use std::test::Fail;
@@ -50,7 +51,7 @@ fn lines_are_spelled(rt: HostRuntime) -> Result<(), Fail> {
     Ok(())
 }
 
-const JUMPS: [u8; 38] = [
+const JUMPS: [u8; 53] = [
     139, 68, 36, 20, // mov eax, [rsp+20]
     139, 76, 36, 24, // mov ecx, [rsp+24]
     65, 131, 238, 1, // sub r14d, 1
@@ -60,6 +61,9 @@ const JUMPS: [u8; 38] = [
     137, 68, 36, 4, // mov [rsp+4], eax
     65, 131, 238, 1, // sub r14d, 1
     233, 240, 255, 255, 255, // jmp .-11
+    186, 128, 0, 0, 1, // mov edx, 0x1000080
+    65, 131, 254, 65, // cmp r14d, 65
+    15, 130, 0, 16, 0, 0, // jb .+4102
 ];
 
 #[test]
@@ -73,6 +77,7 @@ fn jumps_are_spelled(rt: HostRuntime) -> Result<(), Fail> {
         256,
     )?;
     push_jal_line(&mut out, Reg::numbered(1), 0x0100_0004, 0xffff_fff0)?;
+    push_head_line(&mut out, 0x0100_0080, 4096)?;
     assert!(rt; out.as_slice() == JUMPS.as_slice());
     Ok(())
 }

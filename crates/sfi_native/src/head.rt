@@ -1,0 +1,39 @@
+//! The bytes of a head.
+ghost use Rattle.std.specs.Prelude.{◌≡◌, ◌++◌, OnOk};
+ghost use Rattle.sfi_native.specs.Code.{head_line};
+ghost use Rattle.x86_step.specs.Running.{spellings};
+
+use crate::operation::put;
+use std::alloc::AllocError;
+use x86_instr::{AluOp, Condition, Instr, Operand, Register, Width};
+
+/// Writes the line of a head at that address behind what is there. The distance is in bytes, from the line's end, in
+/// two's complement.
+#[tactic(auto, using(crate::proofs::Lists::three_parts))]
+pub fn push_head_line(out: &mut Vec<u8>, at: u32, distance: u32) -> Result<(), AllocError>
+    ensures { OnOk result (out.new.items ≡ out.old.items ++ spellings (head_line at distance)) }
+{
+    put(
+        out,
+        Instr::MovImm {
+            dst: Register::Rdx,
+            imm: at,
+        },
+    )?;
+    put(
+        out,
+        Instr::AluImm {
+            op: AluOp::Cmp,
+            width: Width::Dword,
+            dst: Operand::Reg(Register::R14),
+            imm: 65,
+        },
+    )?;
+    put(
+        out,
+        Instr::Jcc {
+            condition: Condition::Below,
+            distance,
+        },
+    )
+}
