@@ -18,6 +18,9 @@ use Rattle.rv_word.specs.declared.instr.LoadKind.{LoadKind}
 use Rattle.rv_word.specs.declared.instr.StoreWidth.{StoreWidth}
 use Rattle.sfi_native.specs.Code.{avoid_minus_one, avoid_zero, branch_line, compare_code, compare_divisor, compute, compute_imm, condition_of, count, data_address, divide_by_one, divide_signed, divide_unsigned, fetch, imm_code, jal_line, load_code, load_from, load_line, number_code, op_code, remainder, store_line, store_to, test_divisor, write}
 
+pub no_part : (old : List ℕ) → old ≡ old ++ spellings []
+no_part old = sym (append-nil old)
+
 pub one_part : (old : List ℕ) (i : Instr) → old ++ spelling i ≡ old ++ spellings (i ∷ [])
 one_part old i = ap (λ x. old ++ x) (sym (append-nil (spelling i)))
 

@@ -13,8 +13,8 @@ use Rattle.x86_step.specs.Step.{Reaches, is_canonical, jumped, stay}
 use Rattle.x86_step.specs.Running.{spellings}
 use Rattle.sfi_native.specs.declared.layout.Layout.{Layout}
 use Rattle.sfi_native.specs.Layout.{IsRelated, value}
-use Rattle.sfi_native.specs.Laws.{Accesses, IsAlike, IsBefore, IsCovered, IsReady, LeadsTo, PlacedLinesRun, end_of, has_code}
-use Rattle.sfi_native.specs.Places.{AreLast, IsAtPlace, code_of, distance_out, distances, placed, size_of_all, start, start_or_end}
+use Rattle.sfi_native.specs.Laws.{Accesses, IsAlike, IsBefore, IsCovered, IsReady, LeadsTo, PlacedLinesRun, end_of}
+use Rattle.sfi_native.specs.Places.{AreLast, IsAtPlace, code_of, distance_out, distances, has_code, placed, size_of_all, start, start_or_end}
 use Rattle.sfi_native.specs.Code.{head_line}
 use Rattle.sfi_native.proofs.Heads.{Tests, head_tests}
 use Rattle.sfi_native.proofs.Jumps.{branch_lines_run, jal_lines_run}

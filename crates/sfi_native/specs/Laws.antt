@@ -1,8 +1,8 @@
 -- What holds of the code of lines.
-use Rattle.std.specs.Prelude.{◌⊎◌, Some, ◌≤◌, ℤ, if◌then◌else◌, ◌≡◌, ℕ, ◌+◌, ◌^◌, ◌<◌, Bool, true, false, List, ◌∷◌, length}
+use Rattle.std.specs.Prelude.{◌⊎◌, Some, ◌≤◌, ℤ, if◌then◌else◌, ◌≡◌, ℕ, ◌+◌, ◌^◌, ◌<◌, true, List, ◌∷◌, length}
 use Rattle.rv_word.specs.declared.instr.Cond.{Cond}
 use Rattle.rv_word.specs.declared.instr.Instr.{Instr}
-use Rattle.rv_word.specs.declared.instr.Instr.TheVariants.{Branch, Jal, Jalr, Load, Store, Ecall, Ebreak}
+use Rattle.rv_word.specs.declared.instr.Instr.TheVariants.{Branch, Jal, Load, Store}
 use Rattle.rv_word.specs.declared.instr.StoreWidth.{StoreWidth}
 use Rattle.rv_word.specs.declared.instr.LoadKind.{LoadKind}
 use Rattle.rv_word.specs.Spelling.{InRange, offset_by}
@@ -19,7 +19,7 @@ use Rattle.x86_step.specs.Running.{HasAt, spellings}
 use Rattle.sfi_native.specs.declared.layout.Layout.{Layout}
 use Rattle.sfi_native.specs.Layout.{IsLayout, IsRelated, frame_size, value}
 use Rattle.sfi_native.specs.Code.{branch_line, computing_line, does_compute, jal_line, load_line, store_line}
-use Rattle.sfi_native.specs.Places.{AreLast, IsAt, code_of, size_of_all}
+use Rattle.sfi_native.specs.Places.{AreLast, IsAt, code_of, has_code, size_of_all}
 
 -- Each turn, its registers of 32 bits, has a processor with its state, at each layout: what follows asks for nothing
 -- that can't be.
@@ -120,13 +120,6 @@ StoreLinesRun =
     → LeadsTo t at (end_of at line) p l c (line_step target p code (Does address size (Store width rs1 rs2 imm) ∷ rest) g)
 
 -- ==== Lines among all lines of the code.
-
--- all but those that leave the code
-abbrev pub has_code : Instr → Bool
-has_code (Jalr rd rs1 imm) = false
-has_code Ecall = false
-has_code Ebreak = false
-has_code i = true
 
 -- an access is one to the data, of which each byte is there
 abbrev pub Accesses : Part → Going → Instr → Type 0

@@ -1,4 +1,5 @@
 pub mod Layout
 pub mod Code
 pub mod Places
+pub mod Lines
 pub mod Laws

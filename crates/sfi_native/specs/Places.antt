@@ -1,5 +1,5 @@
 -- Where the code of lines stands: each line's behind the one before, from the first line on.
-use Rattle.std.specs.Prelude.{◌≡◌, ℕ, ◌+◌, ◌-◌, ◌%◌, ◌^◌, List, [], ◌∷◌, ◌++◌, length, Option, Some, None}
+use Rattle.std.specs.Prelude.{◌≡◌, ℕ, ◌+◌, ◌-◌, ◌%◌, ◌^◌, Bool, true, false, List, [], ◌∷◌, ◌++◌, length, Option, Some, None}
 use Rattle.rv_word.specs.declared.instr.Instr.{Instr}
 use Rattle.rv_word.specs.declared.instr.Instr.TheVariants.{Load, Store, Branch, Jal, Jalr, Ecall, Ebreak}
 use Rattle.rv_word.specs.Spelling.{offset_by}
@@ -23,6 +23,13 @@ instruction_code distance at n (Jalr rd rs1 imm) = []
 instruction_code distance at n Ecall = []
 instruction_code distance at n Ebreak = []
 instruction_code distance at n i = computing_line at i
+
+-- all but those that leave the code
+abbrev pub has_code : Instr → Bool
+has_code (Jalr rd rs1 imm) = false
+has_code Ecall = false
+has_code Ebreak = false
+has_code i = true
 
 -- the same of a line, where `out` is the distance to the end of all lines
 abbrev pub line_code : (ℕ → ℕ) → ℕ → Line → List Native

@@ -15,6 +15,7 @@ pub mod frame;
 mod head;
 mod jump;
 pub mod layout;
+pub mod line;
 mod operation;
 #[cfg(test)]
 mod tests;
@@ -25,3 +26,4 @@ pub use frame::frame_of;
 pub use head::push_head_line;
 pub use jump::{push_branch_line, push_jal_line};
 pub use layout::Layout;
+pub use line::{Line, push_line};

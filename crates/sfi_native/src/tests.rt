@@ -1,7 +1,7 @@
 //! Lines of code, as the GNU assembler spells their instructions.
 use crate::{
-    push_branch_line, push_computing_line, push_head_line, push_jal_line, push_load_line,
-    push_store_line,
+    Line, push_branch_line, push_computing_line, push_head_line, push_jal_line, push_line,
+    push_load_line, push_store_line,
 };
 use rv_word::{Cond, ImmOp, Instr, LoadKind, Reg, RegOp, StoreWidth};
 use std::test::Fail;
@@ -176,5 +176,55 @@ fn divisions_are_spelled(rt: HostRuntime) -> Result<(), Fail> {
         assert!(rt; push_computing_line(&mut out, 0, division)?);
     }
     assert!(rt; out.as_slice() == DIVISIONS.as_slice());
+    Ok(())
+}
+
+#[test]
+fn each_kind_of_line_is_spelled(rt: HostRuntime) -> Result<(), Fail> {
+    let mut out = Vec::new(rt.alloc());
+    let branch = Instr::Branch {
+        cond: Cond::Bgeu,
+        rs1: Reg::numbered(5),
+        rs2: Reg::numbered(6),
+        offset: 64,
+    };
+    let jal = Instr::Jal {
+        rd: Reg::numbered(1),
+        offset: 64,
+    };
+    let (at, size) = (0x0100_0000, 4);
+    assert!(rt; push_line(&mut out, Line::Function { sandbox: 0, at }, 0, 0)?);
+    assert!(rt;
+        push_line(
+            &mut out,
+            Line::Does {
+                at,
+                size,
+                instr: branch
+            },
+            256,
+            0
+        )?
+    );
+    assert!(rt;
+        push_line(
+            &mut out,
+            Line::Does {
+                at,
+                size,
+                instr: jal
+            },
+            0xffff_fff0,
+            0
+        )?
+    );
+    assert!(rt; push_line(&mut out, Line::Head { at: at + 128 }, 0, 4096)?);
+    let ecall = Line::Does {
+        at,
+        size,
+        instr: Instr::Ecall,
+    };
+    assert!(rt; !push_line(&mut out, ecall, 0, 0)?);
+    assert!(rt; out.as_slice() == JUMPS.as_slice());
     Ok(())
 }

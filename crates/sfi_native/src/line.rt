@@ -1,0 +1,73 @@
+//! The bytes of a line.
+ghost use Rattle.std.specs.Prelude.{◌≡◌, ◌++◌, IfOk, OnOk};
+ghost use Rattle.sfi_native.specs.Lines.{is_written, line_of};
+ghost use Rattle.sfi_native.specs.Places.{has_code, instruction_code, line_code};
+ghost use Rattle.x86_step.specs.Running.{spellings};
+
+use crate::access::{push_load_line, push_store_line};
+use crate::computation::push_computing_line;
+use crate::head::push_head_line;
+use crate::jump::{push_branch_line, push_jal_line};
+use rv_word::Instr;
+use std::alloc::AllocError;
+
+/// A line of a sandbox's code. Addresses are the sandbox's.
+#[derive(Clone, Copy)]
+pub enum Line {
+    /// A function of that sandbox begins.
+    Function { sandbox: u32, at: u32 },
+    /// A function ends.
+    End { at: u32 },
+    /// A unit that may be entered from outside and by indirect jumps.
+    Entry { at: u32 },
+    /// The steps that are left are looked at.
+    Head { at: u32 },
+    /// An instruction of `size` bytes.
+    Does { at: u32, size: u32, instr: Instr },
+}
+
+/// Writes a line of an instruction, if it has code; tells whether.
+#[tactic(auto, using(crate::proofs::Lists::no_part))]
+fn put_instruction(
+    out: &mut Vec<u8>,
+    at: u32,
+    size: u32,
+    instr: Instr,
+    label: u32,
+) -> Result<bool, AllocError>
+    ensures written { IfOk result (λ written. written ≡ has_code instr) }
+    ensures bytes { OnOk result (out.new.items ≡ out.old.items ++ spellings (instruction_code (λ to. label) at size instr)) }
+{
+    match instr {
+        Instr::Branch { cond, rs1, rs2, .. } => push_branch_line(out, cond, rs1, rs2, label)?,
+        Instr::Jal { rd, .. } => push_jal_line(out, rd, at.wrapping_add(size), label)?,
+        Instr::Load { kind, rd, rs1, imm } => {
+            push_load_line(out, kind, rd, rs1, imm.cast_unsigned())?
+        }
+        Instr::Store {
+            width,
+            rs1,
+            rs2,
+            imm,
+        } => push_store_line(out, width, rs1, rs2, imm.cast_unsigned())?,
+        _ => return push_computing_line(out, at, instr),
+    }
+    Ok(true)
+}
+
+/// Writes a line behind what is there, if it has code; tells whether. Distances are in bytes, from the line's end, in
+/// two's complement: `label` to where it jumps, `exit` to the end of all lines.
+#[tactic(auto, using(crate::proofs::Lists::no_part))]
+pub fn push_line(out: &mut Vec<u8>, line: Line, label: u32, exit: u32) -> Result<bool, AllocError>
+    ensures written { IfOk result (λ written. written ≡ is_written (line_of line)) }
+    ensures bytes { OnOk result (out.new.items ≡ out.old.items ++ spellings (line_code (λ to. label) exit (line_of line))) }
+{
+    match line {
+        Line::Function { .. } | Line::End { .. } | Line::Entry { .. } => Ok(true),
+        Line::Head { at } => {
+            push_head_line(out, at, exit)?;
+            Ok(true)
+        }
+        Line::Does { at, size, instr } => put_instruction(out, at, size, instr, label),
+    }
+}
