@@ -1,10 +1,11 @@
 -- What holds of the code of lines: laws, for proofs in the crates above.
-use Rattle.sfi_native.specs.Laws.{BranchLinesRun, ComputingLinesRun, EachCodeCanBeRun, EachTurnIsHeld, JalLinesRun, LoadLinesRun, PlacedLinesRun, StoreLinesRun}
+use Rattle.sfi_native.specs.Laws.{BranchLinesRun, ComputingLinesRun, EachCodeCanBeRun, EachTurnIsHeld, JalLinesRun, LinesStand, LoadLinesRun, PlacedLinesRun, StoreLinesRun}
 use Rattle.sfi_native.proofs.Held as held
 use Rattle.sfi_native.proofs.Jumps as jumps
 use Rattle.sfi_native.proofs.Lines as lines
 use Rattle.sfi_native.proofs.Loads as loads
 use Rattle.sfi_native.proofs.Placed as placed
+use Rattle.sfi_native.proofs.Places as places
 use Rattle.sfi_native.proofs.Stores as stores
 
 pub each_turn_is_held : EachTurnIsHeld
@@ -27,6 +28,9 @@ load_lines_run = loads.load_lines_run
 
 pub store_lines_run : StoreLinesRun
 store_lines_run = stores.store_lines_run
+
+pub lines_stand : LinesStand
+lines_stand t base code rest line stands last = places.line_stands t code base stands line rest last
 
 pub placed_lines_run : PlacedLinesRun
 placed_lines_run = placed.placed_lines_run

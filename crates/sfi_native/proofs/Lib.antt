@@ -19,4 +19,5 @@ pub mod Loads
 pub mod Stores
 pub mod Heads
 pub mod Placed
+pub mod Compiled
 pub mod Facts

@@ -19,7 +19,7 @@ use Rattle.x86_step.specs.Running.{HasAt, spellings}
 use Rattle.sfi_native.specs.declared.layout.Layout.{Layout}
 use Rattle.sfi_native.specs.Layout.{IsLayout, IsRelated, frame_size, value}
 use Rattle.sfi_native.specs.Code.{branch_line, computing_line, does_compute, jal_line, load_line, store_line}
-use Rattle.sfi_native.specs.Places.{AreLast, IsAt, code_of, has_code, size_of_all}
+use Rattle.sfi_native.specs.Places.{AreLast, IsAt, code_of, has_code, placed, size_of_all, start}
 
 -- Each turn, its registers of 32 bits, has a processor with its state, at each layout: what follows asks for nothing
 -- that can't be.
@@ -120,6 +120,13 @@ StoreLinesRun =
     → LeadsTo t at (end_of at line) p l c (line_step target p code (Does address size (Store width rs1 rs2 imm) ∷ rest) g)
 
 -- ==== Lines among all lines of the code.
+
+-- Where all lines' code stands, each line's stands where it starts.
+abbrev pub LinesStand : Type 0
+LinesStand =
+    (t : Text) (base : ℕ) (code rest : List Line) (line : Line)
+    → HasAt t base (spellings (code_of code code)) → AreLast code (line ∷ rest)
+    → HasAt t (base + start code (line ∷ rest)) (spellings (placed code rest line))
 
 -- an access is one to the data, of which each byte is there
 abbrev pub Accesses : Part → Going → Instr → Type 0

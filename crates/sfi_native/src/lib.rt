@@ -4,11 +4,12 @@
 //! address of the sandbox's address 0; eax, ecx and edx are free between lines. `specs/Code.antt` says which
 //! instructions a line becomes, `specs/Layout.antt` when a processor has the state of a turn. Laws say that
 //! the bytes of lines then do what these do: `Facts::computing_lines_run`, `branch_lines_run`, `jal_lines_run`,
-//! `load_lines_run`, `store_lines_run`; `placed_lines_run` where each line's bytes stand behind the one before
+//! `load_lines_run`, `store_lines_run`; `lines_stand`, `placed_lines_run` of all that [`compile`] writes
 //! (`specs/Places.antt`), up to jumps that lead to a slow step.
 #![tactic(auto)]
 
 mod access;
+mod compilation;
 mod computation;
 mod division;
 pub mod frame;
@@ -21,6 +22,7 @@ mod operation;
 mod tests;
 
 pub use access::{push_load_line, push_store_line};
+pub use compilation::compile;
 pub use computation::push_computing_line;
 pub use frame::frame_of;
 pub use head::push_head_line;

@@ -1,6 +1,6 @@
 //! Lines of code, as the GNU assembler spells their instructions.
 use crate::{
-    Line, push_branch_line, push_computing_line, push_head_line, push_jal_line, push_line,
+    Line, compile, push_branch_line, push_computing_line, push_head_line, push_jal_line, push_line,
     push_load_line, push_store_line,
 };
 use rv_word::{Cond, ImmOp, Instr, LoadKind, Reg, RegOp, StoreWidth};
@@ -226,5 +226,73 @@ fn each_kind_of_line_is_spelled(rt: HostRuntime) -> Result<(), Fail> {
     };
     assert!(rt; !push_line(&mut out, ecall, 0, 0)?);
     assert!(rt; out.as_slice() == JUMPS.as_slice());
+    Ok(())
+}
+
+const COMPILED: [u8; 62] = [
+    186, 0, 0, 0, 1, // mov edx, 0x1000000
+    65, 131, 254, 65, // cmp r14d, 65
+    15, 130, 47, 0, 0, 0, // {disp32} jb 9f
+    139, 68, 36, 20, // 1: mov eax, [rsp+20]
+    139, 76, 36, 24, // mov ecx, [rsp+24]
+    65, 131, 238, 1, // sub r14d, 1
+    59, 193, // {load} cmp eax, ecx
+    15, 131, 9, 0, 0, 0, // {disp32} jae 2f
+    184, 0, 176, 173, 222, // mov eax, 0xdeadb000
+    65, 131, 238, 1, // sub r14d, 1
+    184, 12, 0, 0, 1, // 2: mov eax, 0x100000c
+    137, 68, 36, 4, // mov [rsp+4], eax
+    65, 131, 238, 1, // sub r14d, 1
+    233, 209, 255, 255, 255, // {disp32} jmp 1b; 9:
+];
+
+#[test]
+fn code_is_compiled(rt: HostRuntime) -> Result<(), Fail> {
+    let at = 0x0100_0000;
+    let branch = Instr::Branch {
+        cond: Cond::Bgeu,
+        rs1: Reg::numbered(5),
+        rs2: Reg::numbered(6),
+        offset: 8,
+    };
+    let lui = Instr::Lui {
+        rd: Reg::numbered(24),
+        imm: 0xdeadb,
+    };
+    let jal = Instr::Jal {
+        rd: Reg::numbered(1),
+        offset: -8,
+    };
+    let lines = [
+        Line::Function { sandbox: 0, at },
+        Line::Head { at },
+        Line::Does {
+            at,
+            size: 4,
+            instr: branch,
+        },
+        Line::Does {
+            at: at + 4,
+            size: 4,
+            instr: lui,
+        },
+        Line::Does {
+            at: at + 8,
+            size: 4,
+            instr: jal,
+        },
+    ];
+    let Some(code) = compile(rt.alloc(), lines.as_slice())? else {
+        panic!(rt; "no code");
+    };
+    assert!(rt; code.as_slice() == COMPILED.as_slice());
+    // no line has the branch's label; an ecall has no code
+    assert!(rt; compile(rt.alloc(), &lines[..4])?.is_none());
+    let ecall = Line::Does {
+        at,
+        size: 4,
+        instr: Instr::Ecall,
+    };
+    assert!(rt; compile(rt.alloc(), [ecall].as_slice())?.is_none());
     Ok(())
 }

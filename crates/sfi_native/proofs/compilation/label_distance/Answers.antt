@@ -1,0 +1,12 @@
+use Rattle.std.proofs.Common.{◌≡◌, Some, sym, ap, ◌∙◌}
+use Rattle.std.specs.BTreeMap.{get}
+use Rattle.std.specs.Ordering.{nat_cmp}
+use Rattle.sfi_native.specs.Places.{distances}
+use Rattle.sfi_native.proofs.Compiled.{label_far}
+use Rattle.sfi_native.proofs.compilation.label_distance.Goals as goal
+
+pub returns : goal.returns
+returns c = λ code rest bytes to measured all_is end_is target_is.
+    let same : c.in-Some.to ≡ to = cc in
+    let held : get nat_cmp c.args.labels.now c.in-Some.to ≡ Some c.in_ok-left.left.now = sym c.in_ok-left.ensures.value in
+    c.distance.ensures ∙ label_far code rest bytes c.args.labels.now c.in-Some.to c.in_ok-left.left.now c.args.all c.args.end measured all_is end_is held ∙ ap (λ a. distances code rest a) same
