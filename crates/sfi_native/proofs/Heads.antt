@@ -1,4 +1,4 @@
--- The code of a head.
+-- The code of lines that lead to a slow step.
 use Rattle.std.proofs.Common.{◌≡◌, ℕ, ◌%◌, ◌^◌, ◌<◌, true, Some, [], ◌∷◌, refl, ap, arith, nat_lt, if◌then◌else◌}
 use Rattle.sfi_image.specs.Spelling.{Part}
 use Rattle.sfi_translate.specs.Machine.{Assembly, Going, is_short, most}
@@ -7,16 +7,16 @@ use Rattle.x86_instr.specs.declared.operand.Operand.TheVariants.{Reg}
 use Rattle.x86_instr.specs.declared.instr.AluOp.TheVariants as alu
 use Rattle.x86_instr.specs.declared.instr.Condition.TheVariants.{Below}
 use Rattle.x86_instr.specs.declared.instr.Width.TheVariants.{Dword}
-use Rattle.x86_instr.specs.declared.instr.Instr.TheVariants.{AluImm, Jcc, MovImm}
+use Rattle.x86_instr.specs.declared.instr.Instr.TheVariants.{AluImm, Jcc, Jmp, MovImm}
 use Rattle.x86_step.specs.State.{Core, Text, with_flags, with_register}
 use Rattle.x86_step.specs.Step.{Reaches, difference, is_canonical, is_met, jumped, low}
 unfoldable use Rattle.x86_step.specs.Step.{computes}
 use Rattle.sfi_native.specs.declared.layout.Layout.{Layout}
 use Rattle.sfi_native.specs.Layout.{IsRelated}
 use Rattle.sfi_native.specs.Laws.{IsBefore, end_of}
-use Rattle.sfi_native.specs.Code.{head_line}
+use Rattle.sfi_native.specs.Code.{head_line, leave_line}
 use Rattle.sfi_native.proofs.Fetching.{related_kept}
-use Rattle.sfi_native.proofs.Jumps.{jumps_to}
+use Rattle.sfi_native.proofs.Jumps.{jal_effect, jumps_to}
 use Rattle.sfi_native.proofs.Kept.{kept_flags, kept_join, kept_register}
 use Rattle.sfi_native.proofs.Runs.{branch_effect, straight_runs}
 
@@ -45,5 +45,27 @@ head_tests p l t from at out g c here few canonical =
           (if is_short Assembly g.left then jumped end out else end)
           (λ after e. branch_effect Below out after end d (is_short Assembly g.left) e met canonical);
       related = related_kept p l here.layout g c d here.related (kept_join c k d (kept_register c 2 at (omega arith)) (kept_flags k f));
+      edx = refl;
+    }
+
+-- A line that goes out always.
+pub record Leaves (p : Part) (l : Layout) (t : Text) (from at out : ℕ) (g : Going) (c : Core) : Type 0 where
+  pub after : Core
+  pub reached : Reaches t (record { rip = from; core = c }) (record { rip = jumped (end_of from (leave_line at out)) out; core = after })
+  pub related : IsRelated p l g after
+  pub edx : after.registers 2 ≡ at
+
+pub leaves : (p : Part) (l : Layout) (t : Text) (from at out : ℕ) (g : Going) (c : Core) → IsBefore (leave_line at out) t from p l g c
+    → is_canonical (jumped (end_of from (leave_line at out)) out) ≡ true → Leaves p l t from at out g c
+unfolding computes
+leaves p l t from at out g c here canonical =
+    let front = MovImm Rdx at ∷ [] in
+    let d = with_register c 2 at in
+    let end = end_of from (leave_line at out) in
+    record {
+      after = d;
+      reached = jumps_to t from front (Jmp out) c d here.text_is_fixed here.text_is_low here.stands (straight_runs front c d refl refl)
+          (jumped end out) (λ after e. jal_effect out after end d e canonical);
+      related = related_kept p l here.layout g c d here.related (kept_register c 2 at (omega arith));
       edx = refl;
     }

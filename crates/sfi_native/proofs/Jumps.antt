@@ -145,7 +145,7 @@ branch_lines_run target p code rest address size cond rs1 rs2 offset distance l 
 
 -- ==== A jal.
 
-jal_effect : (distance after end : ℕ) (d : Core) → after ≡ end → is_canonical (jumped end distance) ≡ true → effect (Jmp distance) after d ≡ Ok (record { rip = jumped end distance; core = d })
+pub jal_effect : (distance after end : ℕ) (d : Core) → after ≡ end → is_canonical (jumped end distance) ≡ true → effect (Jmp distance) after d ≡ Ok (record { rip = jumped end distance; core = d })
 unfolding computes
 jal_effect distance after end d is canonical = rw (is, canonical) refl
 

@@ -1,8 +1,8 @@
 -- Lines among all lines of the code, from where each begins to where the next does.
-use Rattle.std.proofs.Common.{◌≡◌, ℕ, ◌+◌, ◌^◌, ◌<◌, Bool, true, false, List, [], ◌∷◌, Option, Some, None, refl, sym, ap, ◌∙◌, subst, arith, if◌then◌else◌}
+use Rattle.std.proofs.Common.{◌⊎◌, inl, inr, None, ◌≡◌, ℕ, ◌+◌, ◌^◌, ◌<◌, Bool, true, false, List, [], ◌∷◌, Option, Some, refl, sym, ap, ◌∙◌, subst, arith, if◌then◌else◌}
 use Rattle.std.proofs.lemmas.Bool.{false≢true}
 use Rattle.rv_word.specs.declared.instr.Instr.{Instr}
-use Rattle.rv_word.specs.declared.instr.Instr.TheVariants.{Op, OpImm, Load, Store, Branch, Jal, Lui, Auipc, Fence}
+use Rattle.rv_word.specs.declared.instr.Instr.TheVariants.{Op, OpImm, Load, Store, Branch, Jal, Jalr, Lui, Auipc, Fence, Ecall, Ebreak}
 use Rattle.rv_word.specs.Spelling.{InRange, offset_by}
 use Rattle.rv_step.specs.Step.{is_taken}
 use Rattle.sfi_image.specs.Spelling.{Part}
@@ -14,9 +14,10 @@ use Rattle.x86_step.specs.Running.{spellings}
 use Rattle.sfi_native.specs.declared.layout.Layout.{Layout}
 use Rattle.sfi_native.specs.Layout.{IsRelated, value}
 use Rattle.sfi_native.specs.Laws.{Accesses, IsAlike, IsBefore, IsCovered, IsReady, LeadsTo, PlacedLinesRun, end_of}
+use Rattle.sfi_native.specs.Lines.{target_of}
 use Rattle.sfi_native.specs.Places.{AreLast, IsAtPlace, code_of, distance_out, distances, has_code, placed, size_of_all, start, start_or_end}
-use Rattle.sfi_native.specs.Code.{head_line}
-use Rattle.sfi_native.proofs.Heads.{Tests, head_tests}
+use Rattle.sfi_native.specs.Code.{head_line, leave_line}
+use Rattle.sfi_native.proofs.Heads.{Tests, head_tests, leaves}
 use Rattle.sfi_native.proofs.Jumps.{branch_lines_run, jal_lines_run}
 use Rattle.sfi_native.proofs.Lines.{computing_lines_run}
 use Rattle.sfi_native.proofs.Loads.{load_lines_run}
@@ -51,6 +52,11 @@ of_done true one other to is e = e
 of_done false one other to is e = absurd (false≢true is)
 
 -- where the turn is doesn't matter
+-- what is done leads to lines
+not_slow : (done : Bool) (one other : Going) (rest : List Line) → done ≡ true → one.place ≡ Before rest → (if done then one else other).place ≡ Slow → ⊥
+not_slow true one other rest is before e = let clash : Before rest ≡ Slow = sym before ∙ e in cc
+not_slow false one other rest is before e = absurd (false≢true is)
+
 related_goes : (p : Part) (l : Layout) (g : Going) (c : Core) (place : ControlPoint) (pc : ℕ) → IsRelated p l g c → IsRelated p l (goes_with g place pc) c
 related_goes p l g c place pc is = record {
   count = is.count;
@@ -147,7 +153,38 @@ module _ (p : Part) (code rest to : List Line) (l : Layout) (t : Text) (base : �
       let target = offset_by address offset in
       let leads = jal_lines_run Assembly p code rest address n rd offset (distances code rest target) l t _ g c range (own line last) (canonical line last target) in
       subst (λ a. LeadsTo t (place line last) a p l c (line_step Assembly p code (line ∷ rest) g)) (to_label line last address (one_less g.left) target e) leads
+  instruction address n Ecall last has range asked e = absurd (cc)
+  instruction address n Ebreak last has range asked e = absurd (cc)
   instruction address n i last has range asked e = absurd (false≢true has)
+
+  -- a line that goes out
+  left_by : (address : ℕ) (line : Line) → AreLast code (line ∷ rest) → placed code rest line ≡ leave_line address (distance_out code rest)
+      → (k : Machine) × Reaches t (record { rip = base + start code (line ∷ rest); core = c }) k × IsAlike p l base code (goes_with g Slow address) k
+  left_by address line last is =
+      let from = base + start code (line ∷ rest) in
+      let out = distance_out code rest in
+      let out_is : jumped (end_of from (leave_line address out)) out ≡ base + size_of_all code =
+      ap (λ is. jumped (end_of from is) out) (sym is) ∙ ap (λ a. jumped a out) (ends line last) ∙ end_reached base code rest few low in
+      let before : IsBefore (leave_line address out) t from p l g c = subst (λ is. IsBefore is t from p l g c) is (own line last) in
+      let it = leaves p l t from address out g c before (ap is_canonical out_is ∙ low_canonical (base + size_of_all code) low) in
+      (_, it.reached, record { related = related_goes p l g it.after Slow address it.related; is_at = (out_is, it.edx) })
+
+  -- a line that isn't a jump and leads to a slow step
+  slow_instruction : (address n : ℕ) (i : Instr) → AreLast code (Does address n i ∷ rest) → has_code i ≡ true → Accesses p g i → target_of (Does address n i) ≡ None
+      → (line_step Assembly p code (Does address n i ∷ rest) g).place ≡ Slow
+      → (k : Machine) × Reaches t (record { rip = base + start code (Does address n i ∷ rest); core = c }) k × IsAlike p l base code (line_step Assembly p code (Does address n i ∷ rest) g) k
+  slow_instruction address n Ecall last has asked none e = left_by address (Does address n Ecall) last refl
+  slow_instruction address n Ebreak last has asked none e = left_by address (Does address n Ebreak) last refl
+  slow_instruction address n (Load kind rd rs1 imm) last has asked none e = absurd (not_slow _ _ _ rest asked.0.tested refl e)
+  slow_instruction address n (Store width rs1 rs2 imm) last has asked none e = absurd (not_slow _ _ _ rest asked.0.tested refl e)
+  slow_instruction address n (Jalr rd rs1 imm) last has asked none e = absurd (false≢true has)
+  slow_instruction address n (Branch cond rs1 rs2 offset) last has asked none e = absurd (cc)
+  slow_instruction address n (Jal rd offset) last has asked none e = absurd (cc)
+  slow_instruction address n (Op op rd rs1 rs2) last has asked none e = absurd (cc)
+  slow_instruction address n (OpImm op rd rs1 imm) last has asked none e = absurd (cc)
+  slow_instruction address n (Lui rd imm) last has asked none e = absurd (cc)
+  slow_instruction address n (Auipc rd imm) last has asked none e = absurd (cc)
+  slow_instruction address n (Fence imm rd rs1) last has asked none e = absurd (cc)
 
   -- a head, by the outcome of its test
   module _ (address : ℕ) (last : AreLast code (Head address ∷ rest)) (left : g.left < 2 ^ 31) where
@@ -171,10 +208,11 @@ module _ (p : Part) (code rest to : List Line) (l : Layout) (t : Text) (base : �
 
 -- ==== As the turn goes.
 
--- the lines before which a step leads
-before_of : (place : ControlPoint) → IsCovered (End 0) place → (to : List Line) × (place ≡ Before to)
-before_of (Before to) covered = (to, refl)
-before_of place covered = absurd covered
+-- where a step of a line leads
+led : (line : Line) (place : ControlPoint) → IsCovered line place → ((to : List Line) × (place ≡ Before to)) ⊎ ((place ≡ Slow) × (target_of line ≡ None))
+led line (Before to) covered = inl (to, refl)
+led line Slow covered = inr (refl, covered)
+led line place covered = absurd covered
 
 module _ (p : Part) (code rest : List Line) (l : Layout) (t : Text) (base : ℕ) (g : Going) (m : Machine) (here : IsBefore (code_of code code) t base p l g m.core) (few : size_of_all code < 2 ^ 31) where
   abbrev start_of : Line → Machine
@@ -195,8 +233,10 @@ module _ (p : Part) (code rest : List Line) (l : Layout) (t : Text) (base : ℕ)
   line_runs (Head at) last ready covered =
       head p code rest rest l t base g m.core here few at last ready (is_short Assembly g.left) (tests p code rest rest l t base g m.core here few at last ready).reached
   line_runs (Does at n i) last ready covered =
-      let to = before_of (line_step Assembly p code (Does at n i ∷ rest) g).place covered in
-      leads_on (Does at n i) to.0 _ to.1 (instruction p code rest to.0 l t base g m.core here few at n i last ready.0 ready.1 ready.2 to.1)
+      elim (led (Does at n i) (line_step Assembly p code (Does at n i ∷ rest) g).place covered) [
+        | inl to ↦ leads_on (Does at n i) to.0 _ to.1 (instruction p code rest to.0 l t base g m.core here few at n i last ready.0 ready.1 ready.2 to.1)
+        | inr slow ↦ slow_instruction p code rest rest l t base g m.core here few at n i last ready.0 ready.2 slow.1 slow.0
+      ]
 
 pub placed_lines_run : PlacedLinesRun
 placed_lines_run p code rest line l t base g m here few last place is_at ready covered =

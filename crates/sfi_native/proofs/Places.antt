@@ -2,7 +2,7 @@
 use Rattle.std.proofs.Common.{◌≡◌, ℕ, ◌+◌, ◌^◌, ◌<◌, ◌≤◌, Bool, true, false, List, [], ◌∷◌, ◌++◌, length, Option, Some, None, refl, sym, ap, ◌∙◌, subst, arith, inl, inr, if◌then◌else◌, length-append, nat_lt}
 use Rattle.std.specs.Prelude.{◌==◌}
 use Rattle.std.proofs.lemmas.Bool.{cases_lt, le-ltb, lt-ltb}
-use Rattle.rv_word.specs.declared.instr.Instr.TheVariants.{Branch, Jal}
+use Rattle.rv_word.specs.declared.instr.Instr.TheVariants.{Branch, Jal, Ecall, Ebreak}
 use Rattle.rv_mem.specs.Bytes.{address_after}
 use Rattle.sfi_translate.specs.Lines.{Line, Function, End, Entry, Head, Does}
 use Rattle.sfi_translate.specs.Machine.{label, most}
@@ -32,6 +32,8 @@ pub line_size : (d : ℕ → ℕ) (out : ℕ) (line : Line) → length (spelling
 unfolding spelling
 line_size d out (Does at n (Branch cond rs1 rs2 offset)) = last_size (compare_code rs1 rs2) (Jcc (condition_of cond) _) (Jcc (condition_of cond) 0) refl
 line_size d out (Does at n (Jal rd offset)) = last_size (number_code rd (address_after at n) ++ count) (Jmp _) (Jmp 0) refl
+line_size d out (Does at n Ecall) = last_size (MovImm Rdx at ∷ []) (Jmp out) (Jmp 0) refl
+line_size d out (Does at n Ebreak) = last_size (MovImm Rdx at ∷ []) (Jmp out) (Jmp 0) refl
 line_size d out (Does at n i) = refl
 line_size d out (Head at) = last_size (MovImm Rdx at ∷ AluImm alu.Cmp Dword (Reg R14) most ∷ []) (Jcc Below out) (Jcc Below 0) refl
 line_size d out line = refl

@@ -211,8 +211,12 @@ abbrev pub store_line : StoreWidth → ℕ → ℕ → ℕ → List Native
 store_line width rs1 rs2 displacement =
     fetch Rax rs1 ++ (fetch Rcx rs2 ++ ((store_to width (data_address displacement) ∷ []) ++ count))
 
--- ==== Heads.
+-- ==== Slow steps: edx has the address of the line.
 
--- The line of a head: where too few steps are left it goes over the distance, with its address in edx.
+-- the line of a head, which goes over the distance where too few steps are left
 abbrev pub head_line : ℕ → ℕ → List Native
 head_line at distance = MovImm Rdx at ∷ AluImm alu.Cmp Dword (Reg R14) most ∷ Jcc Below distance ∷ []
+
+-- the line of an ecall or an ebreak, over the distance
+abbrev pub leave_line : ℕ → ℕ → List Native
+leave_line at distance = MovImm Rdx at ∷ Jmp distance ∷ []

@@ -1,5 +1,5 @@
 -- What holds of the code of lines.
-use Rattle.std.specs.Prelude.{◌⊎◌, Some, ◌≤◌, ℤ, if◌then◌else◌, ◌≡◌, ℕ, ◌+◌, ◌^◌, ◌<◌, true, List, ◌∷◌, length}
+use Rattle.std.specs.Prelude.{◌⊎◌, Some, None, ◌≤◌, ℤ, if◌then◌else◌, ◌≡◌, ℕ, ◌+◌, ◌^◌, ◌<◌, true, List, ◌∷◌, length}
 use Rattle.rv_word.specs.declared.instr.Cond.{Cond}
 use Rattle.rv_word.specs.declared.instr.Instr.{Instr}
 use Rattle.rv_word.specs.declared.instr.Instr.TheVariants.{Branch, Jal, Load, Store}
@@ -11,7 +11,7 @@ use Rattle.rv_step.specs.Step.{is_taken, load_size, store_size, word}
 use Rattle.sfi_image.specs.Parts.{HasGuardRoom}
 use Rattle.sfi_image.specs.Spelling.{Part}
 use Rattle.sfi_translate.specs.Lines.{Line, Head, Does}
-use Rattle.sfi_translate.specs.Machine.{Target, Assembly, ControlPoint, Before, Going, is_tested, line_step}
+use Rattle.sfi_translate.specs.Machine.{Target, Assembly, ControlPoint, Before, Slow, Going, is_tested, line_step}
 use Rattle.x86_step.specs.State.{Core, IsFixed, Machine, Text}
 use Rattle.x86_instr.specs.declared.instr.Instr.{Instr as Native}
 use Rattle.x86_step.specs.Step.{Reaches, is_canonical, jumped}
@@ -19,6 +19,7 @@ use Rattle.x86_step.specs.Running.{HasAt, spellings}
 use Rattle.sfi_native.specs.declared.layout.Layout.{Layout}
 use Rattle.sfi_native.specs.Layout.{IsLayout, IsRelated, frame_size, value}
 use Rattle.sfi_native.specs.Code.{branch_line, computing_line, does_compute, jal_line, load_line, store_line}
+use Rattle.sfi_native.specs.Lines.{target_of}
 use Rattle.sfi_native.specs.Places.{AreLast, IsAt, code_of, has_code, placed, size_of_all, start}
 
 -- Each turn, its registers of 32 bits, has a processor with its state, at each layout: what follows asks for nothing
@@ -147,8 +148,8 @@ IsReady p g line = Unit {0}
 
 -- where lines lead so far: no jump does to a slow step
 abbrev pub IsCovered : Line → ControlPoint → Type 0
-IsCovered (Head at) place = Unit {0}
 IsCovered line (Before to) = Unit {0}
+IsCovered line Slow = target_of line ≡ None
 IsCovered line place = ⊥
 
 -- The processor is where the turn is, and has its state.

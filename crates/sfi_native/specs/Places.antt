@@ -10,30 +10,27 @@ use Rattle.sfi_translate.specs.Machine.{ControlPoint, Before, Slow, Going, label
 use Rattle.x86_instr.specs.declared.instr.Instr.{Instr as Native}
 use Rattle.x86_step.specs.State.{Machine}
 use Rattle.x86_step.specs.Running.{spellings}
-use Rattle.sfi_native.specs.Code.{branch_line, computing_line, head_line, jal_line, load_line, store_line}
+use Rattle.sfi_native.specs.Code.{branch_line, computing_line, head_line, jal_line, leave_line, load_line, store_line}
 
--- The instruction of n bytes at that address, where `distance` tells how far a label is from the line's end. Those that
--- leave the code have none yet.
-abbrev pub instruction_code : (ℕ → ℕ) → ℕ → ℕ → Instr → List Native
-instruction_code distance at n (Branch cond rs1 rs2 offset) = branch_line cond rs1 rs2 (distance (offset_by at offset))
-instruction_code distance at n (Jal rd offset) = jal_line rd (address_after at n) (distance (offset_by at offset))
-instruction_code distance at n (Load kind rd rs1 imm) = load_line kind rd rs1 (word imm)
-instruction_code distance at n (Store width rs1 rs2 imm) = store_line width rs1 rs2 (word imm)
-instruction_code distance at n (Jalr rd rs1 imm) = []
-instruction_code distance at n Ecall = []
-instruction_code distance at n Ebreak = []
-instruction_code distance at n i = computing_line at i
+-- The instruction of n bytes at that address: `distance` tells how far labels are from the line's end, `out` how far the
+-- end of all lines is. An indirect jump has no code yet.
+abbrev pub instruction_code : (ℕ → ℕ) → ℕ → ℕ → ℕ → Instr → List Native
+instruction_code distance out at n (Branch cond rs1 rs2 offset) = branch_line cond rs1 rs2 (distance (offset_by at offset))
+instruction_code distance out at n (Jal rd offset) = jal_line rd (address_after at n) (distance (offset_by at offset))
+instruction_code distance out at n (Load kind rd rs1 imm) = load_line kind rd rs1 (word imm)
+instruction_code distance out at n (Store width rs1 rs2 imm) = store_line width rs1 rs2 (word imm)
+instruction_code distance out at n (Jalr rd rs1 imm) = []
+instruction_code distance out at n Ecall = leave_line at out
+instruction_code distance out at n Ebreak = leave_line at out
+instruction_code distance out at n i = computing_line at i
 
--- all but those that leave the code
 abbrev pub has_code : Instr → Bool
 has_code (Jalr rd rs1 imm) = false
-has_code Ecall = false
-has_code Ebreak = false
 has_code i = true
 
--- the same of a line, where `out` is the distance to the end of all lines
+-- the code of a line
 abbrev pub line_code : (ℕ → ℕ) → ℕ → Line → List Native
-line_code distance out (Does at n i) = instruction_code distance at n i
+line_code distance out (Does at n i) = instruction_code distance out at n i
 line_code distance out (Head at) = head_line at out
 line_code distance out line = []
 

@@ -142,8 +142,9 @@ fn place(
     Ok(true)
 }
 
-/// The code of these lines, which are all of a sandbox's; none where a line has none, where a jump leads to no line, or
-/// where it has 2^31 bytes or more.
+/// The code of these lines, which are all of a sandbox's. It goes on at its end, with the pc in edx, where a slow step
+/// comes; behind the last line it does so too, without the pc. None where there is an indirect jump, a jump to no line,
+/// or 2^31 bytes or more.
 pub fn compile(alloc: Global, lines: &[Line]) -> Result<Option<Vec<u8>>, AllocError>
     ensures bytes { IfOk result (λ code. IfSome code (λ v.
         v.items ≡ spellings (code_of (map line_of lines.now) (map line_of lines.now)))) }

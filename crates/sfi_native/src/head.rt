@@ -1,6 +1,6 @@
-//! The bytes of a head.
+//! The bytes of lines that lead to a slow step.
 ghost use Rattle.std.specs.Prelude.{◌≡◌, ◌++◌, OnOk};
-ghost use Rattle.sfi_native.specs.Code.{head_line};
+ghost use Rattle.sfi_native.specs.Code.{head_line, leave_line};
 ghost use Rattle.x86_step.specs.Running.{spellings};
 
 use crate::operation::put;
@@ -36,4 +36,19 @@ pub fn push_head_line(out: &mut Vec<u8>, at: u32, distance: u32) -> Result<(), A
             distance,
         },
     )
+}
+
+/// Writes the line of an ecall or ebreak at that address behind what is there. The distance is as above.
+#[tactic(auto, using(crate::proofs::Lists::two_parts))]
+pub fn push_leave_line(out: &mut Vec<u8>, at: u32, distance: u32) -> Result<(), AllocError>
+    ensures { OnOk result (out.new.items ≡ out.old.items ++ spellings (leave_line at distance)) }
+{
+    put(
+        out,
+        Instr::MovImm {
+            dst: Register::Rdx,
+            imm: at,
+        },
+    )?;
+    put(out, Instr::Jmp { distance })
 }

@@ -25,7 +25,7 @@ pub use access::{push_load_line, push_store_line};
 pub use compilation::compile;
 pub use computation::push_computing_line;
 pub use frame::frame_of;
-pub use head::push_head_line;
+pub use head::{push_head_line, push_leave_line};
 pub use jump::{push_branch_line, push_jal_line};
 pub use layout::Layout;
 pub use line::{Line, push_line};

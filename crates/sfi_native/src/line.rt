@@ -6,7 +6,7 @@ ghost use Rattle.x86_step.specs.Running.{spellings};
 
 use crate::access::{push_load_line, push_store_line};
 use crate::computation::push_computing_line;
-use crate::head::push_head_line;
+use crate::head::{push_head_line, push_leave_line};
 use crate::jump::{push_branch_line, push_jal_line};
 use rv_word::Instr;
 use std::alloc::AllocError;
@@ -34,9 +34,10 @@ fn put_instruction(
     size: u32,
     instr: Instr,
     label: u32,
+    exit: u32,
 ) -> Result<bool, AllocError>
     ensures written { IfOk result (λ written. written ≡ has_code instr) }
-    ensures bytes { OnOk result (out.new.items ≡ out.old.items ++ spellings (instruction_code (λ to. label) at size instr)) }
+    ensures bytes { OnOk result (out.new.items ≡ out.old.items ++ spellings (instruction_code (λ to. label) exit at size instr)) }
 {
     match instr {
         Instr::Branch { cond, rs1, rs2, .. } => push_branch_line(out, cond, rs1, rs2, label)?,
@@ -50,6 +51,8 @@ fn put_instruction(
             rs2,
             imm,
         } => push_store_line(out, width, rs1, rs2, imm.cast_unsigned())?,
+        Instr::Ecall => push_leave_line(out, at, exit)?,
+        Instr::Ebreak => push_leave_line(out, at, exit)?,
         _ => return push_computing_line(out, at, instr),
     }
     Ok(true)
@@ -68,6 +71,6 @@ pub fn push_line(out: &mut Vec<u8>, line: Line, label: u32, exit: u32) -> Result
             push_head_line(out, at, exit)?;
             Ok(true)
         }
-        Line::Does { at, size, instr } => put_instruction(out, at, size, instr, label),
+        Line::Does { at, size, instr } => put_instruction(out, at, size, instr, label, exit),
     }
 }

@@ -1,7 +1,7 @@
 //! Lines of code, as the GNU assembler spells their instructions.
 use crate::{
-    Line, compile, push_branch_line, push_computing_line, push_head_line, push_jal_line, push_line,
-    push_load_line, push_store_line,
+    Line, compile, push_branch_line, push_computing_line, push_head_line, push_jal_line,
+    push_leave_line, push_line, push_load_line, push_store_line,
 };
 use rv_word::{Cond, ImmOp, Instr, LoadKind, Reg, RegOp, StoreWidth};
 use std::test::Fail;
@@ -51,7 +51,7 @@ fn lines_are_spelled(rt: HostRuntime) -> Result<(), Fail> {
     Ok(())
 }
 
-const JUMPS: [u8; 53] = [
+const JUMPS: [u8; 63] = [
     139, 68, 36, 20, // mov eax, [rsp+20]
     139, 76, 36, 24, // mov ecx, [rsp+24]
     65, 131, 238, 1, // sub r14d, 1
@@ -64,6 +64,8 @@ const JUMPS: [u8; 53] = [
     186, 128, 0, 0, 1, // mov edx, 0x1000080
     65, 131, 254, 65, // cmp r14d, 65
     15, 130, 0, 16, 0, 0, // jb .+4102
+    186, 132, 0, 0, 1, // mov edx, 0x1000084
+    233, 0, 16, 0, 0, // jmp .+4101
 ];
 
 #[test]
@@ -78,6 +80,7 @@ fn jumps_are_spelled(rt: HostRuntime) -> Result<(), Fail> {
     )?;
     push_jal_line(&mut out, Reg::numbered(1), 0x0100_0004, 0xffff_fff0)?;
     push_head_line(&mut out, 0x0100_0080, 4096)?;
+    push_leave_line(&mut out, 0x0100_0084, 4096)?;
     assert!(rt; out.as_slice() == JUMPS.as_slice());
     Ok(())
 }
@@ -179,6 +182,14 @@ fn divisions_are_spelled(rt: HostRuntime) -> Result<(), Fail> {
     Ok(())
 }
 
+fn jump_register() -> Instr {
+    Instr::Jalr {
+        rd: Reg::numbered(0),
+        rs1: Reg::numbered(1),
+        imm: 0,
+    }
+}
+
 #[test]
 fn each_kind_of_line_is_spelled(rt: HostRuntime) -> Result<(), Fail> {
     let mut out = Vec::new(rt.alloc());
@@ -220,11 +231,17 @@ fn each_kind_of_line_is_spelled(rt: HostRuntime) -> Result<(), Fail> {
     );
     assert!(rt; push_line(&mut out, Line::Head { at: at + 128 }, 0, 4096)?);
     let ecall = Line::Does {
-        at,
+        at: at + 132,
         size,
         instr: Instr::Ecall,
     };
-    assert!(rt; !push_line(&mut out, ecall, 0, 0)?);
+    assert!(rt; push_line(&mut out, ecall, 0, 4096)?);
+    let jalr = Line::Does {
+        at,
+        size,
+        instr: jump_register(),
+    };
+    assert!(rt; !push_line(&mut out, jalr, 0, 0)?);
     assert!(rt; out.as_slice() == JUMPS.as_slice());
     Ok(())
 }
@@ -286,13 +303,13 @@ fn code_is_compiled(rt: HostRuntime) -> Result<(), Fail> {
         panic!(rt; "no code");
     };
     assert!(rt; code.as_slice() == COMPILED.as_slice());
-    // no line has the branch's label; an ecall has no code
+    // no line has the branch's label; an indirect jump has no code
     assert!(rt; compile(rt.alloc(), &lines[..4])?.is_none());
-    let ecall = Line::Does {
+    let jalr = Line::Does {
         at,
         size: 4,
-        instr: Instr::Ecall,
+        instr: jump_register(),
     };
-    assert!(rt; compile(rt.alloc(), [ecall].as_slice())?.is_none());
+    assert!(rt; compile(rt.alloc(), [jalr].as_slice())?.is_none());
     Ok(())
 }
