@@ -1,6 +1,6 @@
 """The libraries that a release has compiled and converted, so that sfi-cc doesn't have to at their first use: newlib, floating
-point, the small library and what each program is linked with, by gcc for code in words. Their sources, and so their licences, are
-those of Debian's packages newlib-source and gcc-12-source."""
+point, the small library and what each program is linked with, by gcc for code in words. Beside them are the licences of their
+sources, which are Debian's packages newlib-source and gcc-12-source."""
 import os
 import pathlib
 import shutil
@@ -11,10 +11,12 @@ from suygapid.elf import runtime
 from suygapid.elf.tools import Target, binutil
 from suygapid.library import softfloat
 from suygapid.library.archives import SMALL, archive_of, folders_of
+from suygapid.library.sources import GCC_SOURCE, NEWLIB_SOURCE, unpacked
 
 TOP = pathlib.Path(kept.RELEASED).resolve().parent.parent.parent
 TARGET = Target("words")
 LIBRARIES = ("newlib", SMALL)
+LICENCES = {NEWLIB_SOURCE: ("COPYING.NEWLIB",), GCC_SOURCE: ("COPYING3", "COPYING3.LIB", "COPYING.RUNTIME")}
 
 
 def folders() -> list[str]:
@@ -26,11 +28,15 @@ def folders() -> list[str]:
     return [runtime.folder_of(TARGET), *assembly, *(os.path.dirname(archive_of(folder, TARGET)) for folder in assembly)]
 
 
+def licences() -> dict[str, pathlib.Path]:
+    """The texts of the licences, by the names that they get."""
+    return {f"{package.name}-{name}": pathlib.Path(unpacked(package, *names), name) for package, names in LICENCES.items() for name in names}
+
+
 def files() -> dict[str, tuple[bytes, bool]]:
-    """The bytes of each file of these folders, and that it can't be run, by its path in the repository."""
-    found = {}
+    """The bytes of each file of these folders and of the licences, and that it can't be run, by its path in the repository."""
+    found = licences()
     for folder in map(pathlib.Path, folders()):
-        for path in filter(pathlib.Path.is_file, folder.rglob("*")):
-            place = pathlib.Path(kept.RELEASED, folder.name, path.relative_to(folder))
-            found[str(place.relative_to(TOP))] = path.read_bytes(), False
-    return found
+        found |= {f"{folder.name}/{path.relative_to(folder)}": path for path in folder.rglob("*") if path.is_file()}
+    made = pathlib.Path(kept.RELEASED).relative_to(TOP)
+    return {f"{made}/{name}": (path.read_bytes(), False) for name, path in found.items()}
