@@ -70,6 +70,14 @@ def never():
 @needs(GCC)
 @unittest.skipUnless(READY, "sfi or the library of the runtime isn't built")
 class Histories(Folder):
+    @classmethod
+    def setUpClass(cls):
+        super().setUpClass()
+        if "SFI_RUN_LIBRARY" not in os.environ:
+            patched = mock.patch.dict(os.environ, SFI_RUN_LIBRARY=libraries.make("sfi_run")[1])
+            patched.start()
+            cls.addClassCleanup(patched.stop)
+
     def programs(self):
         """An ELF file and its image in each format."""
         source = self.write("program.c", PROGRAM)
