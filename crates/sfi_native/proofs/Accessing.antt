@@ -1,9 +1,9 @@
 -- Where an access lies in the data, and in the host.
 use Rattle.std.proofs.Common.{◌≡◌, ℕ, zero, suc, ◌+◌, ◌-◌, ◌*◌, ◌%◌, ◌^◌, ◌<◌, ◌≤◌, true, Some, None, Option, List, map, refl, ap, ◌∙◌, arith}
-use Rattle.std.specs.Prelude.{ℤ, pos, negsuc}
+use Rattle.std.specs.Prelude.{ℤ, pos, negsuc, is_some}
 use Rattle.std.specs.List.{range_with_len}
 use Rattle.std.specs.Option.{option_map}
-use Rattle.std.proofs.lemmas.Bool.{leb-true, le-ltb, lt-ltb}
+use Rattle.std.proofs.lemmas.Bool.{false≢true, leb-true, le-ltb, lt-ltb}
 use Rattle.std.proofs.lemmas.Int.{ints}
 use Rattle.rv_word.specs.Spelling.{IsImm12, offset_by}
 unfoldable use Rattle.rv_word.specs.Spelling.{InRange}
@@ -41,6 +41,10 @@ module _ (p : Part) (l : Layout) (g : Going) (c : Core) (is : IsRelated p l g c)
       ap (λ b. joined b (number_at c.memory n (l.data_start + j + i + 1))) first
       ∙ ap (joined (byte_at g.state.memory (address_after (p.data_base + j) i))) rest
       ∙ both (byte_at g.state.memory (address_after (p.data_base + j) i)) (bytes_at g.state.memory (map (address_after (p.data_base + j)) (range_with_len (i + 1) n)))
+
+pub some_number : (q : Option (List ℕ)) → is_some q ≡ true → (n : ℕ) × (option_map number_of q ≡ Some n)
+some_number None e = absurd (false≢true e)
+some_number (Some bs) e = (number_of bs, refl)
 
 -- ==== Where an access goes.
 
@@ -83,13 +87,10 @@ module _ (a base size n start : ℕ) (low : 4096 ≤ base) (high : base + size +
       omega (arith, far, whole, at.0, at.1, ends, low, high, small)
 
 -- an access of n bytes that is in the data
-module _ (p : Part) (l : Layout) (layout : IsLayout p.data_size l) (g : Going) (c : Core) (is : IsRelated p l g c) (room : HasGuardRoom p.data_base p.data_size) (size_some : 4 ≤ p.data_size)
-    (n : ℕ) (some : 0 < n) (most : n ≤ 4) (rs1 : ℕ) (imm : ℤ) (range : IsImm12 imm) (tested : is_tested p (offset_by (value p g rs1) imm) n ≡ true) where
+module _ (p : Part) (l : Layout) (layout : IsLayout p.data_size l) (g : Going) (c : Core) (is : IsRelated p l g c) (room : HasGuardRoom p.data_base p.data_size)
+    (n : ℕ) (some : 0 < n) (few : n ≤ p.data_size) (rs1 : ℕ) (imm : ℤ) (range : IsImm12 imm) (tested : is_tested p (offset_by (value p g rs1) imm) n ≡ true) where
   abbrev at : ℕ
   at = offset_by (value p g rs1) imm
-
-  few : n ≤ p.data_size
-  few = omega (arith, most, size_some)
 
   close : (at + (2 ^ 32 - p.data_base)) % 2 ^ 32 ≤ p.data_size - n
   close = leb-true _ (p.data_size - n) tested

@@ -10,7 +10,7 @@ use Rattle.x86_step.specs.Step.{difference, low}
 unfoldable use Rattle.x86_step.specs.Step.{computes}
 use Rattle.x86_step.specs.Running.{exec}
 use Rattle.sfi_native.specs.declared.layout.Layout.{Layout}
-use Rattle.sfi_native.specs.Layout.{IsRelated}
+use Rattle.sfi_native.specs.Layout.{IsRelated, OthersStay}
 use Rattle.sfi_native.specs.Code.{count}
 use Rattle.sfi_native.proofs.Kept.{updated_other}
 
@@ -26,7 +26,7 @@ module _ (p : Part) (l : Layout) (g : Going) (c : Core) (is : IsRelated p l g c)
 
   counted_related : (n : ℕ) (f : Flags) → n ≡ one_less g.left → IsRelated p l (counted g) (counted_core c n f)
   counted_related n f less = record {
-    count = is.count;
+    register_count = is.register_count;
     words = is.words;
     registers = is.registers;
     frame = updated_other c.registers 14 n 4 (λ e. omega (arith, e)) ∙ is.frame;
@@ -44,6 +44,7 @@ module _ (p : Part) (l : Layout) (g : Going) (c : Core) (is : IsRelated p l g c)
     pub runs : exec count c ≡ Ok core
     pub related : IsRelated p l (counted g) core
     pub others : (k : ℕ) → (k ≡ 14 → ⊥) → core.registers k ≡ c.registers k
+    pub stay : OthersStay p l c core
 
   pub counts : Counts
   unfolding computes
@@ -54,4 +55,5 @@ module _ (p : Part) (l : Layout) (g : Going) (c : Core) (is : IsRelated p l g c)
         runs = refl;
         related = counted_related r.result r.flags less_is;
         others = λ k other. updated_other c.registers 14 r.result k other;
+        stay = record { others = λ k more other. updated_other c.registers 14 r.result k other; elsewhere = λ a by_frame by_data. refl; writable = refl };
       }

@@ -1,5 +1,5 @@
 -- What holds of the code of lines: laws, for proofs in the crates above.
-use Rattle.sfi_native.specs.Laws.{BranchLinesRun, ComputingLinesRun, EachCodeCanBeRun, EachTurnIsHeld, JalLinesRun, LinesStand, LoadLinesRun, PlacedLinesRun, StoreLinesRun}
+use Rattle.sfi_native.specs.Laws.{BranchLinesRun, ComputingLinesRun, EachCodeCanBeRun, JalLinesRun, LinesStand, LoadLinesRun, PlacedLinesRun, StoreLinesRun}
 use Rattle.sfi_native.proofs.Held as held
 use Rattle.sfi_native.proofs.Jumps as jumps
 use Rattle.sfi_native.proofs.Lines as lines
@@ -7,9 +7,6 @@ use Rattle.sfi_native.proofs.Loads as loads
 use Rattle.sfi_native.proofs.Placed as placed
 use Rattle.sfi_native.proofs.Places as places
 use Rattle.sfi_native.proofs.Stores as stores
-
-pub each_turn_is_held : EachTurnIsHeld
-each_turn_is_held = held.each_turn_is_held
 
 pub each_code_can_be_run : EachCodeCanBeRun
 each_code_can_be_run = held.each_code_can_be_run

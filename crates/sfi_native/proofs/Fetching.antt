@@ -13,9 +13,9 @@ use Rattle.x86_step.specs.Step.{address, loaded, stored}
 unfoldable use Rattle.x86_step.specs.Step.{computes}
 use Rattle.x86_step.specs.Running.{exec}
 use Rattle.sfi_native.specs.declared.layout.Layout.{Layout}
-use Rattle.sfi_native.specs.Layout.{IsLayout, IsRelated, value}
+use Rattle.sfi_native.specs.Layout.{IsLayout, IsRelated, OthersStay, value}
 use Rattle.sfi_native.specs.Code.{fetch, is_fixed, slot, write}
-use Rattle.sfi_native.proofs.Kept.{Kept}
+use Rattle.sfi_native.proofs.Kept.{Kept, others_same}
 use Rattle.sfi_native.proofs.Fixed.{fixed_free, fixed_length, fixed_same}
 use Rattle.sfi_native.proofs.Memory.{load_there, may_write_each, number_elsewhere, number_written, store_there, written_elsewhere}
 
@@ -78,7 +78,7 @@ module _ (p : Part) (l : Layout) (layout : IsLayout p.data_size l) where
   -- free registers may have anything
   pub related_kept : (g : Going) (c d : Core) → IsRelated p l g c → Kept c d → IsRelated p l g d
   related_kept g c d is k = record {
-    count = is.count;
+    register_count = is.register_count;
     words = is.words;
     registers = λ r small. ap (λ m. number_at m 4 (l.frame + 4 * r)) k.memory ∙ is.registers r small;
     frame = k.registers 4 (omega arith) ∙ is.frame;
@@ -111,7 +111,7 @@ module _ (p : Part) (l : Layout) (layout : IsLayout p.data_size l) where
   pub unwritten : (g : Going) (c : Core) (place : ControlPoint) (rd v : ℕ) (k : Hart) → IsRelated p l g c → IsWritten p g rd v k → is_fixed rd ≡ true
       → IsRelated p l (record { place = place; state = record { hart = k; memory = g.state.memory }; left = g.left }) c
   unwritten g c place rd v k is w held = record {
-    count = w.count;
+    register_count = w.count;
     words = λ r. subst (λ x. x < 2 ^ 32) (sym (w.old r (inl held))) (is.words r);
     registers = λ r small. is.registers r small ∙ ap Some (sym (w.old r (inl held)));
     frame = is.frame;
@@ -164,7 +164,7 @@ module _ (p : Part) (l : Layout) (layout : IsLayout p.data_size l) where
 
     rewritten : is_fixed rd ≡ false → IsRelated p l turned stored_core
     rewritten free = record {
-      count = w.count;
+      register_count = w.count;
       words = word_is;
       registers = in_frame free;
       frame = is.frame;
@@ -186,9 +186,19 @@ module _ (p : Part) (l : Layout) (layout : IsLayout p.data_size l) where
         ap (λ a. stored c 4 a (c.registers 0)) (slot_is g c rd small is) ∙ ap (stored c 4 at) in_eax
         ∙ store_there c 4 at (value p g rd) v (slot_below rd small) (is.registers rd small) can
 
-    pub wrote : (e : Core) × (exec (write rd) c ≡ Ok e) × IsRelated p l turned e
+    stay : OthersStay p l c stored_core
+    stay = record {
+      others = λ j more other. refl;
+      elsewhere = λ a by_frame by_data. written_elsewhere c.memory 4 at v a (elim by_frame [
+        | inl below ↦ inl (omega (arith, below))
+        | inr above ↦ inr (omega (arith, above, small))
+      ]);
+      writable = refl;
+    }
+
+    pub wrote : (e : Core) × (exec (write rd) c ≡ Ok e) × IsRelated p l turned e × OthersStay p l c e
     unfolding computes
     wrote = elim (cases_Bool (is_fixed rd)) [
-      | inl held ↦ (c, rw held refl, unwritten g c place rd v k is w held)
-      | inr free ↦ (stored_core, rw (free, store) refl, rewritten free)
+      | inl held ↦ (c, rw held refl, unwritten g c place rd v k is w held, others_same p l c)
+      | inr free ↦ (stored_core, rw (free, store) refl, rewritten free, stay)
     ]

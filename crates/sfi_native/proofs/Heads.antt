@@ -12,12 +12,12 @@ use Rattle.x86_step.specs.State.{Core, Text, with_flags, with_register}
 use Rattle.x86_step.specs.Step.{Reaches, difference, is_canonical, is_met, jumped, low}
 unfoldable use Rattle.x86_step.specs.Step.{computes}
 use Rattle.sfi_native.specs.declared.layout.Layout.{Layout}
-use Rattle.sfi_native.specs.Layout.{IsRelated}
+use Rattle.sfi_native.specs.Layout.{IsRelated, OthersStay}
 use Rattle.sfi_native.specs.Laws.{IsBefore, end_of}
 use Rattle.sfi_native.specs.Code.{head_line, leave_line}
 use Rattle.sfi_native.proofs.Fetching.{related_kept}
 use Rattle.sfi_native.proofs.Jumps.{jal_effect, jumps_to}
-use Rattle.sfi_native.proofs.Kept.{kept_flags, kept_join, kept_register}
+use Rattle.sfi_native.proofs.Kept.{kept_flags, kept_join, kept_register, others_kept}
 use Rattle.sfi_native.proofs.Runs.{branch_effect, straight_runs}
 
 -- It goes out where too few steps are left.
@@ -26,6 +26,7 @@ pub record Tests (p : Part) (l : Layout) (t : Text) (from at out : ℕ) (g : Goi
   pub reached : Reaches t (record { rip = from; core = c })
       (record { rip = if is_short Assembly g.left then jumped (end_of from (head_line at out)) out else end_of from (head_line at out); core = after })
   pub related : IsRelated p l g after
+  pub others : OthersStay p l c after
   pub edx : after.registers 2 ≡ at
 
 pub head_tests : (p : Part) (l : Layout) (t : Text) (from at out : ℕ) (g : Going) (c : Core) → IsBefore (head_line at out) t from p l g c → g.left < 2 ^ 31
@@ -45,6 +46,7 @@ head_tests p l t from at out g c here few canonical =
           (if is_short Assembly g.left then jumped end out else end)
           (λ after e. branch_effect Below out after end d (is_short Assembly g.left) e met canonical);
       related = related_kept p l here.layout g c d here.related (kept_join c k d (kept_register c 2 at (omega arith)) (kept_flags k f));
+      others = others_kept p l c d (kept_join c k d (kept_register c 2 at (omega arith)) (kept_flags k f));
       edx = refl;
     }
 
@@ -53,6 +55,7 @@ pub record Leaves (p : Part) (l : Layout) (t : Text) (from at out : ℕ) (g : Go
   pub after : Core
   pub reached : Reaches t (record { rip = from; core = c }) (record { rip = jumped (end_of from (leave_line at out)) out; core = after })
   pub related : IsRelated p l g after
+  pub others : OthersStay p l c after
   pub edx : after.registers 2 ≡ at
 
 pub leaves : (p : Part) (l : Layout) (t : Text) (from at out : ℕ) (g : Going) (c : Core) → IsBefore (leave_line at out) t from p l g c
@@ -67,5 +70,6 @@ leaves p l t from at out g c here canonical =
       reached = jumps_to t from front (Jmp out) c d here.text_is_fixed here.text_is_low here.stands (straight_runs front c d refl refl)
           (jumped end out) (λ after e. jal_effect out after end d e canonical);
       related = related_kept p l here.layout g c d here.related (kept_register c 2 at (omega arith));
+      others = others_kept p l c d (kept_register c 2 at (omega arith));
       edx = refl;
     }

@@ -9,8 +9,8 @@ use Rattle.x86_step.specs.State.{Core, IsFixed, Text, number_at}
 use Rattle.x86_step.specs.Step.{unknown}
 use Rattle.x86_step.specs.Running.{spellings}
 use Rattle.sfi_native.specs.declared.layout.Layout.{Layout}
-use Rattle.sfi_native.specs.Laws.{AreApart, EachCodeCanBeRun, EachTurnIsHeld}
-use Rattle.sfi_native.specs.Layout.{IsLayout, IsRelated, frame_size, origin, value}
+use Rattle.sfi_native.specs.Laws.{EachCodeCanBeRun}
+use Rattle.sfi_native.specs.Layout.{DoNotMeet, IsLayout, IsRelated, frame_size, origin, value}
 use Rattle.sfi_native.proofs.Memory.{number_of_bytes}
 
 module _ (p : Part) (l : Layout) (g : Going) (layout : IsLayout p.data_size l) where
@@ -79,9 +79,9 @@ module _ (p : Part) (l : Layout) (g : Going) (layout : IsLayout p.data_size l) w
       let place : l.data_start + k - l.data_start ≡ k = omega arith in
       rw (apart k small, place) refl
 
-  pub held_is : length g.state.hart.registers ≡ 32 → ((r : ℕ) → value p g r < 2 ^ 32) → g.left < 2 ^ 32 → IsRelated p l g held
+  held_is : length g.state.hart.registers ≡ 32 → ((r : ℕ) → value p g r < 2 ^ 32) → g.left < 2 ^ 32 → IsRelated p l g held
   held_is count words few = record {
-    count = count;
+    register_count = count;
     words = words;
     registers = λ r small. slot_holds r small (words r);
     frame = refl;
@@ -100,11 +100,11 @@ module _ (p : Part) (l : Layout) (g : Going) (layout : IsLayout p.data_size l) w
     | inr e ↦ rw e refl
   ]
 
-  beside : (at n b m a : ℕ) → AreApart at n b m → at ≤ a → a < at + n → (a < b) ⊎ (b + m ≤ a)
+  beside : (at n b m a : ℕ) → DoNotMeet at n b m → at ≤ a → a < at + n → (a < b) ⊎ (b + m ≤ a)
   beside at n b m a (inl before) low high = inl (omega (arith, before, high))
   beside at n b m a (inr after) low high = inr (omega (arith, after, low))
 
-  pub fixed_is : (bytes : List ℕ) (at : ℕ) → at + length bytes < 2 ^ 64 → AreApart at (length bytes) l.frame frame_size → AreApart at (length bytes) l.data_start p.data_size
+  fixed_is : (bytes : List ℕ) (at : ℕ) → at + length bytes < 2 ^ 64 → DoNotMeet at (length bytes) l.frame frame_size → DoNotMeet at (length bytes) l.data_start p.data_size
       → IsFixed (record { base = at; bytes = bytes }) held
   fixed_is bytes at ends frame data_apart = record {
     ends = ends;
@@ -113,9 +113,6 @@ module _ (p : Part) (l : Layout) (g : Going) (layout : IsLayout p.data_size l) w
         let e2 : in_data a ≡ false = data_lacks a (beside at (length bytes) l.data_start p.data_size a data_apart low high) in
         rw (e1, e2) refl;
   }
-
-pub each_turn_is_held : EachTurnIsHeld
-each_turn_is_held p l g layout count words few = (held p l g layout, held_is p l g layout count words few)
 
 pub each_code_can_be_run : EachCodeCanBeRun
 each_code_can_be_run is at p l g layout count words few ends frame data_apart =

@@ -22,11 +22,11 @@ use Rattle.x86_step.specs.Running.{HasAt, exec, spellings}
 use Rattle.x86_step.proofs.Facts.{fixed_stays, steps_join}
 use Rattle.x86_step.proofs.Running.{exec_append, has_back, has_front, spellings_append}
 use Rattle.sfi_native.specs.declared.layout.Layout.{Layout}
-use Rattle.sfi_native.specs.Layout.{IsLayout, IsRelated, value}
+use Rattle.sfi_native.specs.Layout.{IsLayout, IsRelated, OthersStay, value}
 use Rattle.sfi_native.specs.Laws.{BranchLinesRun, IsLow, JalLinesRun, end_of}
 use Rattle.sfi_native.specs.Code.{branch_line, compare_code, condition_of, count, fetch, jal_line, number_code}
 use Rattle.sfi_native.proofs.Arithmetic.{low_is, met_is}
-use Rattle.sfi_native.proofs.Kept.{kept_flags, kept_register}
+use Rattle.sfi_native.proofs.Kept.{kept_flags, kept_join, kept_register, others_join, others_kept}
 use Rattle.sfi_native.proofs.Counting.{counts}
 use Rattle.sfi_native.proofs.Runs.{Runs, branch_effect, one_step, straight_runs}
 use Rattle.sfi_native.proofs.Fetching.{fetched, related_kept}
@@ -64,7 +64,7 @@ module _ (p : Part) (l : Layout) (layout : IsLayout p.data_size l) where
       → IsRelated p l (record { place = place; state = record { hart = fixed p (record { pc = from; registers = registers }); memory = m }; left = left }) d
       → IsRelated p l (record { place = next; state = record { hart = fixed p (record { pc = to; registers = registers }); memory = m }; left = left }) d
   replaced registers m left from to place next d is = record {
-    count = is.count;
+    register_count = is.register_count;
     words = is.words;
     registers = is.registers;
     frame = is.frame;
@@ -89,6 +89,7 @@ module _ (p : Part) (l : Layout) (layout : IsLayout p.data_size l) where
       pub core : Core
       pub runs : exec (compare_code rs1 rs2) c ≡ Ok core
       pub related : (place : ControlPoint) (pc : ℕ) → IsRelated p l (moved place pc) core
+      pub others : OthersStay p l c core
       pub flags : core.flags ≡ (difference Dword (value p g rs1) (value p g rs2)).flags
 
     pub compares : (rs1 rs2 : ℕ) → rs1 < 32 → rs2 < 32 → Compares rs1 rs2
@@ -112,6 +113,8 @@ module _ (p : Part) (l : Layout) (layout : IsLayout p.data_size l) where
               ∙ exec_append count (Alu alu.Cmp Dword Rax (Reg Rcx) ∷ []) c2 n.core n.runs ∙ refl;
           related = λ place pc. replaced (fixed p g.state.hart).registers g.state.memory (one_less g.left) 0 pc g.place place (with_flags n.core f)
               (related_kept p l layout _ n.core (with_flags n.core f) n.related (kept_flags n.core f));
+          others = others_join p l c c2 (with_flags n.core f) (others_kept p l c c2 (kept_join c c1 c2 (kept_register c 0 a (omega arith)) (kept_register c1 1 b (omega arith))))
+              (others_join p l c2 n.core (with_flags n.core f) n.stay (others_kept p l n.core (with_flags n.core f) (kept_flags n.core f)));
           flags = ap (λ x. (difference Dword x (low Dword (n.core.registers 1))).flags) in_eax ∙ ap (λ x. (difference Dword a x).flags) in_ecx;
         }
 
@@ -141,6 +144,7 @@ branch_lines_run target p code rest address size cond rs1 rs2 offset distance l 
           (if is_taken cond a b then jumped end distance else end)
           (λ after e. branch_effect (condition_of cond) distance after end done.core (is_taken cond a b) e met canonical);
       related = by_branch p l here.layout g c here.related (is_taken cond a b) _ address size (offset_by address offset) done.core done.related;
+      others = done.others;
     }
 
 -- ==== A jal.
@@ -161,4 +165,5 @@ jal_lines_run target p code rest address size rd offset distance l t at g c rang
       reached = jumps_to t at (number_code rd v ++ count) (Jmp distance) c done.core here.text_is_fixed here.text_is_low here.stands done.runs
           (jumped end distance) (λ after e. jal_effect distance after end done.core e canonical);
       related = done.related;
+      others = done.others;
     }

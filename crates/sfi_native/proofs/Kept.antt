@@ -1,9 +1,12 @@
 -- What code keeps that computes a value.
-use Rattle.std.proofs.Common.{◌≡◌, ℕ, ◌<◌, ◌≤◌, List, ◌++◌, refl, ◌∙◌, arith}
+use Rattle.std.proofs.Common.{◌≡◌, ℕ, ◌<◌, ◌≤◌, List, ◌++◌, refl, ap, ◌∙◌, arith}
 use Rattle.std.proofs.lemmas.Bool.{ne_eqb}
+use Rattle.sfi_image.specs.Spelling.{Part}
 use Rattle.x86_instr.specs.declared.instr.Instr.{Instr as Native}
 use Rattle.x86_step.specs.declared.machine.Flags.{Flags}
 use Rattle.x86_step.specs.State.{Core, updated, with_flags, with_register}
+use Rattle.sfi_native.specs.declared.layout.Layout.{Layout}
+use Rattle.sfi_native.specs.Layout.{OthersStay}
 use Rattle.sfi_native.proofs.Runs.{Runs, runs_join}
 
 -- eax, ecx, edx and the flags may differ
@@ -11,6 +14,20 @@ pub record Kept (c d : Core) : Type 0 where
   pub registers : (k : ℕ) → 2 < k → d.registers k ≡ c.registers k
   pub memory : d.memory ≡ c.memory
   pub writable : d.writable ≡ c.writable
+
+module _ (p : Part) (l : Layout) where
+  pub others_kept : (c d : Core) → Kept c d → OthersStay p l c d
+  others_kept c d k = record { others = λ r more not_left. k.registers r more; elsewhere = λ a by_frame by_data. ap (λ m. m a) k.memory; writable = k.writable }
+
+  pub others_join : (c d e : Core) → OthersStay p l c d → OthersStay p l d e → OthersStay p l c e
+  others_join c d e a b = record {
+    others = λ k more not_left. b.others k more not_left ∙ a.others k more not_left;
+    elsewhere = λ at by_frame by_data. b.elsewhere at by_frame by_data ∙ a.elsewhere at by_frame by_data;
+    writable = b.writable ∙ a.writable;
+  }
+
+  pub others_same : (c : Core) → OthersStay p l c c
+  others_same c = record { others = λ k more not_left. refl; elsewhere = λ a by_frame by_data. refl; writable = refl }
 
 pub kept_join : (c d e : Core) → Kept c d → Kept d e → Kept c e
 kept_join c d e a b = record {

@@ -21,12 +21,12 @@ use Rattle.x86_step.specs.State.{Core, with_register}
 unfoldable use Rattle.x86_step.specs.Step.{computes}
 use Rattle.x86_step.specs.Running.{are_straight}
 use Rattle.sfi_native.specs.declared.layout.Layout.{Layout}
-use Rattle.sfi_native.specs.Layout.{IsLayout, IsRelated, value}
+use Rattle.sfi_native.specs.Layout.{IsLayout, IsRelated, OthersStay, value}
 use Rattle.sfi_native.specs.Laws.{ComputingLinesRun}
 use Rattle.sfi_native.specs.Code.{computing_line, count, does_compute, fetch, imm_code, is_fixed, number_code, op_code, write}
 unfoldable use Rattle.sfi_native.specs.Code.{computation, compute, compute_imm}
 use Rattle.sfi_native.proofs.Computing.{computed, computed_imm}
-use Rattle.sfi_native.proofs.Kept.{Computed, behind, kept_register}
+use Rattle.sfi_native.proofs.Kept.{Computed, behind, kept_register, others_join, others_kept, others_same}
 use Rattle.sfi_native.proofs.Counting.{counted, counts}
 use Rattle.sfi_native.proofs.Runs.{Runs, runs_join, straight_runs}
 use Rattle.sfi_native.proofs.Fetching.{fetched, hart_written, related_kept, unwritten, wrote}
@@ -41,12 +41,13 @@ pub record Comes (is : List Native) (p : Part) (l : Layout) (c : Core) (g : Goin
   pub core : Core
   pub runs : Runs is c core
   pub related : IsRelated p l g core
+  pub others : OthersStay p l c core
 
 -- the step is counted
 pub then_count : (p : Part) (l : Layout) (c : Core) (is : List Native) (g : Going) → Comes is p l c g → Comes (is ++ count) p l c (counted g)
 then_count p l c is g come =
     let last = counts p l g come.core come.related in
-    record { core = last.core; runs = runs_join is count c come.core last.core come.runs (straight_runs count come.core last.core refl last.runs); related = last.related }
+    record { core = last.core; runs = runs_join is count c come.core last.core come.runs (straight_runs count come.core last.core refl last.runs); related = last.related; others = others_join p l c come.core last.core come.others last.stay }
 
 module _ (p : Part) (l : Layout) (layout : IsLayout p.data_size l) (g : Going) (c : Core) (is : IsRelated p l g c) (place : ControlPoint) (pc : ℕ) where
   -- the hart after a value goes to rd
@@ -60,8 +61,8 @@ module _ (p : Part) (l : Layout) (layout : IsLayout p.data_size l) (g : Going) (
   pub finish : (front : List Native) (rd v : ℕ) → rd < 32 → v < 2 ^ 32 → Computed front c v → Comes (front ++ write rd) p l c (turn_with rd v g.left)
   finish front rd v small fits done =
       let kept = related_kept p l layout g c done.after is done.kept in
-      let w = wrote p l layout g done.after kept place rd v (hart_with rd v) small fits (hart_written p g is.count pc rd v small) done.result in
-      record { core = w.0; runs = runs_join front (write rd) c done.after w.0 done.runs (straight_runs (write rd) done.after w.0 (write_straight rd) w.1); related = w.2 }
+      let w = wrote p l layout g done.after kept place rd v (hart_with rd v) small fits (hart_written p g is.register_count pc rd v small) done.result in
+      record { core = w.0; runs = runs_join front (write rd) c done.after w.0 done.runs (straight_runs (write rd) done.after w.0 (write_straight rd) w.1); related = w.2; others = others_join p l c done.after w.0 (others_kept p l c done.after done.kept) w.3 }
 
   op_comes : (op : RegOp) (rd rs1 rs2 : ℕ) → rd < 32 → rs1 < 32 → rs2 < 32
       → Comes (op_code op rd rs1 rs2) p l c (turn_with rd (result_of op (value p g rs1) (value p g rs2)) g.left)
@@ -93,7 +94,7 @@ module _ (p : Part) (l : Layout) (layout : IsLayout p.data_size l) (g : Going) (
 
   -- no register changes
   pub none_comes : IsRelated p l (turn_with 0 0 g.left) c
-  none_comes = unwritten p l layout g c place 0 0 (hart_with 0 0) is (hart_written p g is.count pc 0 0 (omega arith)) refl
+  none_comes = unwritten p l layout g c place 0 0 (hart_with 0 0) is (hart_written p g is.register_count pc 0 0 (omega arith)) refl
 
 module _ (target : Target) (p : Part) (code rest : List Line) (at n : ℕ) (l : Layout) (layout : IsLayout p.data_size l) (g : Going) (c : Core) (is : IsRelated p l g c) where
   computation_comes : (i : Instr) → does_compute i ≡ true → InRange i → Comes (computing_line at i) p l c (line_step target p code (Does at n i ∷ rest) g)
@@ -109,7 +110,7 @@ module _ (target : Target) (p : Part) (code rest : List Line) (at n : ℕ) (l : 
       let v = (at + imm * 4096) % 2 ^ 32 in
       then_count p l c (number_code rd v) _ (number_comes p l layout g c is (Before rest) (address_after at n) rd v range.0 (omega arith))
   computation_comes (Fence imm rd rs1) has range =
-      then_count p l c [] _ (record { core = c; runs = straight_runs [] c c refl refl; related = none_comes p l layout g c is (Before rest) (address_after at n) })
+      then_count p l c [] _ (record { core = c; runs = straight_runs [] c c refl refl; related = none_comes p l layout g c is (Before rest) (address_after at n); others = others_same p l c })
   computation_comes i has range = absurd (false≢true has)
 
 -- wherever its bytes stand
@@ -120,4 +121,5 @@ computing_lines_run target p code rest address size i l t at g c has range here 
       after = line.core;
       reached = line.runs t at here.text_is_fixed here.text_is_low here.stands;
       related = line.related;
+      others = line.others;
     }

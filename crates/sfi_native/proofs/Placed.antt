@@ -13,12 +13,13 @@ use Rattle.x86_step.specs.Step.{Reaches, is_canonical, jumped, stay}
 use Rattle.x86_step.specs.Running.{spellings}
 use Rattle.sfi_native.specs.declared.layout.Layout.{Layout}
 use Rattle.sfi_native.specs.Layout.{IsRelated, value}
-use Rattle.sfi_native.specs.Laws.{Accesses, IsAlike, IsBefore, IsCovered, IsReady, LeadsTo, PlacedLinesRun, end_of}
+use Rattle.sfi_native.specs.Laws.{Accesses, Follows, IsBefore, IsCovered, IsReady, LeadsTo, PlacedLinesRun, end_of}
 use Rattle.sfi_native.specs.Lines.{target_of}
 use Rattle.sfi_native.specs.Places.{AreLast, IsAtPlace, code_of, distance_out, distances, has_code, placed, size_of_all, start, start_or_end}
 use Rattle.sfi_native.specs.Code.{head_line, leave_line}
 use Rattle.sfi_native.proofs.Heads.{Tests, head_tests, leaves}
 use Rattle.sfi_native.proofs.Jumps.{branch_lines_run, jal_lines_run}
+use Rattle.sfi_native.proofs.Kept.{others_same}
 use Rattle.sfi_native.proofs.Lines.{computing_lines_run}
 use Rattle.sfi_native.proofs.Loads.{load_lines_run}
 use Rattle.sfi_native.proofs.Places.{code_size, label_canonical, end_reached, label_reached, line_ends, line_stands}
@@ -51,15 +52,15 @@ of_done : (done : Bool) (one other : Going) (to : List Line) → done ≡ true �
 of_done true one other to is e = e
 of_done false one other to is e = absurd (false≢true is)
 
--- where the turn is doesn't matter
 -- what is done leads to lines
 not_slow : (done : Bool) (one other : Going) (rest : List Line) → done ≡ true → one.place ≡ Before rest → (if done then one else other).place ≡ Slow → ⊥
 not_slow true one other rest is before e = let clash : Before rest ≡ Slow = sym before ∙ e in cc
 not_slow false one other rest is before e = absurd (false≢true is)
 
+-- where the turn is doesn't matter
 related_goes : (p : Part) (l : Layout) (g : Going) (c : Core) (place : ControlPoint) (pc : ℕ) → IsRelated p l g c → IsRelated p l (goes_with g place pc) c
 related_goes p l g c place pc is = record {
-  count = is.count;
+  register_count = is.register_count;
   words = is.words;
   registers = is.registers;
   frame = is.frame;
@@ -120,6 +121,7 @@ module _ (p : Part) (code rest to : List Line) (l : Layout) (t : Text) (base : �
           after = c;
           reached = record { fixed = here.text_is_fixed; steps = stay _ };
           related = related_goes p l g c (Before rest) g.state.hart.pc here.related;
+          others = others_same p l c;
         })) e
 
   instruction : (address n : ℕ) (i : Instr) → AreLast code (Does address n i ∷ rest) → has_code i ≡ true → InRange i → Accesses p g i
@@ -137,7 +139,7 @@ module _ (p : Part) (code rest to : List Line) (l : Layout) (t : Text) (base : �
       on (Does address n (Fence imm rd rs1)) last _ (computing_lines_run Assembly p code rest address n (Fence imm rd rs1) l t _ g c refl range (own (Does address n (Fence imm rd rs1)) last)) e
   instruction address n (Load kind rd rs1 imm) last has range asked e =
       on (Does address n (Load kind rd rs1 imm)) last _
-      (load_lines_run Assembly p code rest address n kind rd rs1 imm asked.2 l t _ g c range asked.0 asked.1 asked.3 (own (Does address n (Load kind rd rs1 imm)) last))
+      (load_lines_run Assembly p code rest address n kind rd rs1 imm l t _ g c range asked.0 asked.1 asked.2 (own (Does address n (Load kind rd rs1 imm)) last))
       (of_done _ _ _ to asked.0.tested e)
   instruction address n (Store width rs1 rs2 imm) last has range asked e =
       on (Does address n (Store width rs1 rs2 imm)) last _
@@ -159,7 +161,7 @@ module _ (p : Part) (code rest to : List Line) (l : Layout) (t : Text) (base : �
 
   -- a line that goes out
   left_by : (address : ℕ) (line : Line) → AreLast code (line ∷ rest) → placed code rest line ≡ leave_line address (distance_out code rest)
-      → (k : Machine) × Reaches t (record { rip = base + start code (line ∷ rest); core = c }) k × IsAlike p l base code (goes_with g Slow address) k
+      → Follows t p l base code (record { rip = base + start code (line ∷ rest); core = c }) (goes_with g Slow address)
   left_by address line last is =
       let from = base + start code (line ∷ rest) in
       let out = distance_out code rest in
@@ -167,12 +169,12 @@ module _ (p : Part) (code rest to : List Line) (l : Layout) (t : Text) (base : �
       ap (λ is. jumped (end_of from is) out) (sym is) ∙ ap (λ a. jumped a out) (ends line last) ∙ end_reached base code rest few low in
       let before : IsBefore (leave_line address out) t from p l g c = subst (λ is. IsBefore is t from p l g c) is (own line last) in
       let it = leaves p l t from address out g c before (ap is_canonical out_is ∙ low_canonical (base + size_of_all code) low) in
-      (_, it.reached, record { related = related_goes p l g it.after Slow address it.related; is_at = (out_is, it.edx) })
+      record { after = _; reached = it.reached; alike = record { related = related_goes p l g it.after Slow address it.related; is_at = (out_is, it.edx) }; others = it.others }
 
   -- a line that isn't a jump and leads to a slow step
   slow_instruction : (address n : ℕ) (i : Instr) → AreLast code (Does address n i ∷ rest) → has_code i ≡ true → Accesses p g i → target_of (Does address n i) ≡ None
       → (line_step Assembly p code (Does address n i ∷ rest) g).place ≡ Slow
-      → (k : Machine) × Reaches t (record { rip = base + start code (Does address n i ∷ rest); core = c }) k × IsAlike p l base code (line_step Assembly p code (Does address n i ∷ rest) g) k
+      → Follows t p l base code (record { rip = base + start code (Does address n i ∷ rest); core = c }) (line_step Assembly p code (Does address n i ∷ rest) g)
   slow_instruction address n Ecall last has asked none e = left_by address (Does address n Ecall) last refl
   slow_instruction address n Ebreak last has asked none e = left_by address (Does address n Ebreak) last refl
   slow_instruction address n (Load kind rd rs1 imm) last has asked none e = absurd (not_slow _ _ _ rest asked.0.tested refl e)
@@ -202,17 +204,22 @@ module _ (p : Part) (code rest to : List Line) (l : Layout) (t : Text) (base : �
 
     head : (short : Bool) → Reaches t (record { rip = from; core = c })
         (record { rip = if short then jumped (end_of from (head_line address out)) out else end_of from (head_line address out); core = tests.after })
-        → (k : Machine) × Reaches t (record { rip = from; core = c }) k × IsAlike p l base code (if short then goes_with g Slow address else goes g (Before rest)) k
-    head true reached = (_, reached, record { related = related_goes p l g tests.after Slow address tests.related; is_at = (out_is, tests.edx) })
-    head false reached = (_, reached, record { related = related_goes p l g tests.after (Before rest) g.state.hart.pc tests.related; is_at = ends (Head address) last })
+        → Follows t p l base code (record { rip = from; core = c }) (if short then goes_with g Slow address else goes g (Before rest))
+    head true reached = record { after = _; reached = reached; alike = record { related = related_goes p l g tests.after Slow address tests.related; is_at = (out_is, tests.edx) }; others = tests.others }
+    head false reached = record {
+      after = _;
+      reached = reached;
+      alike = record { related = related_goes p l g tests.after (Before rest) g.state.hart.pc tests.related; is_at = ends (Head address) last };
+      others = tests.others;
+    }
 
 -- ==== As the turn goes.
 
 -- where a step of a line leads
-led : (line : Line) (place : ControlPoint) → IsCovered line place → ((to : List Line) × (place ≡ Before to)) ⊎ ((place ≡ Slow) × (target_of line ≡ None))
+led : (line : Line) (comes : ControlPoint) → IsCovered line comes → ((to : List Line) × (comes ≡ Before to)) ⊎ ((comes ≡ Slow) × (target_of line ≡ None))
 led line (Before to) covered = inl (to, refl)
 led line Slow covered = inr (refl, covered)
-led line place covered = absurd covered
+led line _ covered = absurd covered
 
 module _ (p : Part) (code rest : List Line) (l : Layout) (t : Text) (base : ℕ) (g : Going) (m : Machine) (here : IsBefore (code_of code code) t base p l g m.core) (few : size_of_all code < 2 ^ 31) where
   abbrev start_of : Line → Machine
@@ -220,13 +227,13 @@ module _ (p : Part) (code rest : List Line) (l : Layout) (t : Text) (base : ℕ)
 
   -- what leads to lines leads on
   leads_on : (line : Line) (to : List Line) (k : Going) → k.place ≡ Before to → LeadsTo t (base + start code (line ∷ rest)) (base + start code to) p l m.core k
-      → (n : Machine) × Reaches t (start_of line) n × IsAlike p l base code k n
+      → Follows t p l base code (start_of line) k
   leads_on line to k e leads =
       let n : Machine = record { rip = base + start code to; core = leads.after } in
-      (n, leads.reached, record { related = leads.related; is_at = subst (λ place. IsAtPlace base code place k.state.hart.pc n) (sym e) refl })
+      record { after = n; reached = leads.reached; alike = record { related = leads.related; is_at = subst (λ place. IsAtPlace base code place k.state.hart.pc n) (sym e) refl }; others = leads.others }
 
   line_runs : (line : Line) → AreLast code (line ∷ rest) → IsReady p g line → IsCovered line (line_step Assembly p code (line ∷ rest) g).place
-      → (n : Machine) × Reaches t (start_of line) n × IsAlike p l base code (line_step Assembly p code (line ∷ rest) g) n
+      → Follows t p l base code (start_of line) (line_step Assembly p code (line ∷ rest) g)
   line_runs (Function sandbox at) last ready covered = leads_on (Function sandbox at) rest _ refl (nothing p code rest rest l t base g m.core here few (Function sandbox at) last refl refl)
   line_runs (End at) last ready covered = leads_on (End at) rest _ refl (nothing p code rest rest l t base g m.core here few (End at) last refl refl)
   line_runs (Entry at) last ready covered = leads_on (Entry at) rest _ refl (nothing p code rest rest l t base g m.core here few (Entry at) last refl refl)
@@ -242,4 +249,4 @@ pub placed_lines_run : PlacedLinesRun
 placed_lines_run p code rest line l t base g m here few last place is_at ready covered =
     let rip : m.rip ≡ base + start code (line ∷ rest) = subst (λ q. IsAtPlace base code q g.state.hart.pc m) place is_at in
     let leads = line_runs p code rest l t base g m here few line last ready covered in
-    (leads.0, subst (λ a. Reaches t (record { rip = a; core = m.core }) leads.0) (sym rip) leads.1, leads.2)
+    record { after = leads.after; reached = subst (λ a. Reaches t (record { rip = a; core = m.core }) leads.after) (sym rip) leads.reached; alike = leads.alike; others = leads.others }

@@ -1,14 +1,13 @@
 -- The code of stores to the data.
-use Rattle.std.proofs.Common.{◌≡◌, ℕ, zero, suc, ◌+◌, ◌-◌, ◌*◌, ◌/◌, ◌%◌, ◌^◌, ◌<◌, ◌≤◌, ◌⊎◌, true, Some, None, Option, List, [], ◌∷◌, ◌++◌, refl, sym, ap, ◌∙◌, subst, arith, inl, inr}
-use Rattle.std.specs.Prelude.{Ok, is_some}
-use Rattle.std.specs.Option.{option_map}
+use Rattle.std.proofs.Common.{◌≡◌, ℕ, zero, suc, ◌+◌, ◌-◌, ◌*◌, ◌/◌, ◌%◌, ◌^◌, ◌<◌, ◌≤◌, ◌⊎◌, true, Some, [], ◌∷◌, ◌++◌, refl, sym, ap, ◌∙◌, subst, arith, inl, inr}
+use Rattle.std.specs.Prelude.{Ok}
 use Rattle.std.specs.Int.{bytes_low_first}
-use Rattle.std.proofs.lemmas.Bool.{cases_lt, false≢true}
+use Rattle.std.proofs.lemmas.Bool.{cases_lt}
 use Rattle.rv_word.specs.declared.instr.StoreWidth.{StoreWidth}
 use Rattle.rv_word.specs.declared.instr.StoreWidth.TheVariants.{Sb, Sh, Sw}
 use Rattle.rv_word.specs.Spelling.{offset_by}
 unfoldable use Rattle.rv_word.specs.Spelling.{InRange}
-use Rattle.rv_mem.specs.Bytes.{Bytes, address_after, addresses, byte_at, bytes_at, number_of, stored}
+use Rattle.rv_mem.specs.Bytes.{Bytes, address_after, addresses, byte_at, bytes_at, stored}
 use Rattle.rv_mem.proofs.Facts.{addresses_are_these, others_stay, written_is_there}
 use Rattle.rv_step.specs.Step.{store_size, word}
 use Rattle.sfi_safe_runs.proofs.Accessing.{store_sized}
@@ -23,19 +22,15 @@ use Rattle.x86_step.specs.Running.{are_straight, exec}
 use Rattle.x86_step.proofs.Facts.{spelled_run}
 use Rattle.x86_step.proofs.Running.{exec_append}
 use Rattle.sfi_native.specs.declared.layout.Layout.{Layout}
-use Rattle.sfi_native.specs.Layout.{IsLayout, IsRelated, value}
+use Rattle.sfi_native.specs.Layout.{IsLayout, IsRelated, OthersStay, value}
 use Rattle.sfi_native.specs.Laws.{StoreLinesRun}
 use Rattle.sfi_native.specs.Code.{count, data_address, fetch, store_line, store_to}
-use Rattle.sfi_native.proofs.Accessing.{number_is, place_is, within}
-use Rattle.sfi_native.proofs.Kept.{kept_register}
+use Rattle.sfi_native.proofs.Accessing.{number_is, place_is, some_number, within}
+use Rattle.sfi_native.proofs.Kept.{kept_join, kept_register, others_join, others_kept}
 use Rattle.sfi_native.proofs.Counting.{counts}
 use Rattle.sfi_native.proofs.Fetching.{fetched, related_kept}
 use Rattle.sfi_native.proofs.Lines.{none_comes}
 use Rattle.sfi_native.proofs.Memory.{may_write_each, number_elsewhere, store_there, written_elsewhere, written_here}
-
-some_number : (q : Option (List ℕ)) → is_some q ≡ true → (n : ℕ) × (option_map number_of q ≡ Some n)
-some_number None e = absurd (false≢true e)
-some_number (Some bs) e = (number_of bs, refl)
 
 -- ==== The memory of the machine after a store.
 
@@ -96,7 +91,7 @@ module _ (p : Part) (l : Layout) (layout : IsLayout p.data_size l) (g : Going) (
 
   pub related_stored : IsRelated p l turned (with_memory c (written c.memory (store_size width) place v))
   related_stored = record {
-    count = is.count;
+    register_count = is.register_count;
     words = is.words;
     registers = λ r small. number_elsewhere c.memory (store_size width) place v 4 (l.frame + 4 * r) (elim layout.apart [
       | inl above ↦ inl (omega (arith, above, small))
@@ -109,6 +104,16 @@ module _ (p : Part) (l : Layout) (layout : IsLayout p.data_size l) (g : Going) (
     bytes = same;
     bytes_are_written = is.bytes_are_written;
     origin_is = is.origin_is;
+  }
+
+  pub data_stored : OthersStay p l c (with_memory c (written c.memory (store_size width) place v))
+  data_stored = record {
+    others = λ k more other. refl;
+    elsewhere = λ a by_frame by_data. written_elsewhere c.memory (store_size width) place v a (elim by_data [
+      | inl before ↦ inl (omega (arith, before))
+      | inr after ↦ inr (omega (arith, after, high))
+    ]);
+    writable = refl;
   }
 
   pub may_be_written : may_write c.writable (store_size width) place ≡ true
@@ -141,15 +146,15 @@ store_lines_run target p code rest own size width rs1 rs2 imm l t at g c range i
     let c2 = with_register c1 1 b in
     let is1 = related_kept p l here.layout g c c1 here.related (kept_register c 0 a (omega arith)) in
     let is2 = related_kept p l here.layout g c1 c2 is1 (kept_register c1 1 b (omega arith)) in
-    let w = within p l here.layout g c here.related in_data.room in_data.some n sized.some sized.most rs1 imm range.2 in_data.tested in
+    let w = within p l here.layout g c here.related in_data.room n sized.some in_data.fits rs1 imm range.2 in_data.tested in
     let place = l.data_start + (offset_by a imm - p.data_base) in
     let old = some_number (bytes_at g.state.memory (addresses (offset_by a imm) n)) there in
-    let held : number_at c.memory n place ≡ Some old.0 = number_is p l here.layout g c here.related in_data.room in_data.some n sized.some sized.most rs1 imm range.2 in_data.tested ∙ old.1 in
+    let held : number_at c.memory n place ≡ Some old.0 = number_is p l here.layout g c here.related in_data.room n sized.some in_data.fits rs1 imm range.2 in_data.tested ∙ old.1 in
     let inside : p.data_base + p.data_size ≤ 2 ^ 32 = omega (arith, in_data.room.above) in
     let c3 = with_memory c2 (written c.memory n place b) in
     let is3 = related_stored p l here.layout g c2 is2 width (offset_by a imm) b w.0 w.1 inside in
     let put : stores c2 n (address c2 to) b ≡ Ok c3 =
-    ap (λ q. stores c2 n q b) (place_is p l here.layout g c here.related in_data.room in_data.some n sized.some sized.most rs1 imm range.2 in_data.tested)
+    ap (λ q. stores c2 n q b) (place_is p l here.layout g c here.related in_data.room n sized.some in_data.fits rs1 imm range.2 in_data.tested)
     ∙ store_there c2 n place old.0 b (omega (arith, w.1, here.layout.data_ends)) held (may_be_written p l here.layout g c2 is2 width (offset_by a imm) b w.0 w.1 inside) in
     let still = none_comes p l here.layout _ c3 is3 (Before rest) (address_after own size) in
     let last = counts p l _ c3 still in
@@ -161,4 +166,6 @@ store_lines_run target p code rest own size width rs1 rs2 imm l t at g c range i
       after = last.core;
       reached = spelled_run t at (store_line width rs1 rs2 (word imm)) c last.core here.text_is_fixed (store_straight width to) here.stands runs;
       related = last.related;
+      others = others_join p l c c2 last.core (others_kept p l c c2 (kept_join c c1 c2 (kept_register c 0 a (omega arith)) (kept_register c1 1 b (omega arith))))
+          (others_join p l c2 c3 last.core (data_stored p l here.layout g c2 is2 width (offset_by a imm) b w.0 w.1 inside) last.stay);
     })

@@ -1,12 +1,12 @@
 -- What holds of the code of lines.
-use Rattle.std.specs.Prelude.{◌⊎◌, Some, None, ◌≤◌, ℤ, if◌then◌else◌, ◌≡◌, ℕ, ◌+◌, ◌^◌, ◌<◌, true, List, ◌∷◌, length}
+use Rattle.std.specs.Prelude.{None, ◌≤◌, ℤ, if◌then◌else◌, ◌≡◌, ℕ, ◌+◌, ◌^◌, ◌<◌, true, List, ◌∷◌, length}
 use Rattle.rv_word.specs.declared.instr.Cond.{Cond}
 use Rattle.rv_word.specs.declared.instr.Instr.{Instr}
 use Rattle.rv_word.specs.declared.instr.Instr.TheVariants.{Branch, Jal, Load, Store}
 use Rattle.rv_word.specs.declared.instr.StoreWidth.{StoreWidth}
 use Rattle.rv_word.specs.declared.instr.LoadKind.{LoadKind}
 use Rattle.rv_word.specs.Spelling.{InRange, offset_by}
-use Rattle.rv_mem.specs.Bytes.{IsMemory, IsThere, address_after, loaded}
+use Rattle.rv_mem.specs.Bytes.{IsMemory, IsThere, address_after}
 use Rattle.rv_step.specs.Step.{is_taken, load_size, store_size, word}
 use Rattle.sfi_image.specs.Parts.{HasGuardRoom}
 use Rattle.sfi_image.specs.Spelling.{Part}
@@ -17,23 +17,17 @@ use Rattle.x86_instr.specs.declared.instr.Instr.{Instr as Native}
 use Rattle.x86_step.specs.Step.{Reaches, is_canonical, jumped}
 use Rattle.x86_step.specs.Running.{HasAt, spellings}
 use Rattle.sfi_native.specs.declared.layout.Layout.{Layout}
-use Rattle.sfi_native.specs.Layout.{IsLayout, IsRelated, frame_size, value}
+use Rattle.sfi_native.specs.Layout.{DoNotMeet, IsLayout, IsRelated, OthersStay, frame_size, value}
 use Rattle.sfi_native.specs.Code.{branch_line, computing_line, does_compute, jal_line, load_line, store_line}
 use Rattle.sfi_native.specs.Lines.{target_of}
 use Rattle.sfi_native.specs.Places.{AreLast, IsAt, code_of, has_code, placed, size_of_all, start}
 
--- Each turn, its registers of 32 bits, has a processor with its state, at each layout: what follows asks for nothing
--- that can't be.
-abbrev pub EachTurnIsHeld : Type 0
-EachTurnIsHeld =
-    (p : Part) (l : Layout) (g : Going) → IsLayout p.data_size l → length g.state.hart.registers ≡ 32
-    → ((r : ℕ) → value p g r < 2 ^ 32) → g.left < 2 ^ 32 → (c : Core) × IsRelated p l g c
-
--- From a state of the processor at an address, code leads to another address, and to the state of that turn.
-pub record LeadsTo (t : Text) (at to : ℕ) (p : Part) (l : Layout) (c : Core) (g : Going) : Type 0 where
+-- From a state of the processor at an address, code leads to another address, and to the state of the next turn.
+pub record LeadsTo (t : Text) (at to : ℕ) (p : Part) (l : Layout) (c : Core) (next : Going) : Type 0 where
   pub after : Core
   pub reached : Reaches t (record { rip = at; core = c }) (record { rip = to; core = after })
-  pub related : IsRelated p l g after
+  pub related : IsRelated p l next after
+  pub others : OthersStay p l c after
 
 -- where a line's bytes end
 abbrev pub end_of : ℕ → List Native → ℕ
@@ -51,23 +45,19 @@ pub record IsBefore (is : List Native) (t : Text) (at : ℕ) (p : Part) (l : Lay
   pub stands : HasAt t at (spellings is)
   pub related : IsRelated p l g c
 
--- m bytes from a on and n bytes from b on don't meet
-abbrev pub AreApart : ℕ → ℕ → ℕ → ℕ → Type 0
-AreApart a m b n = (a + m ≤ b) ⊎ (b + n ≤ a)
-
--- That can be: before each code, wherever it stands below 2^47, apart from frame and data.
+-- For each code, apart from frame and data, there are a text and a processor that meet `IsBefore`.
 abbrev pub EachCodeCanBeRun : Type 0
 EachCodeCanBeRun =
     (is : List Native) (at : ℕ) (p : Part) (l : Layout) (g : Going) → IsLayout p.data_size l
     → length g.state.hart.registers ≡ 32 → ((r : ℕ) → value p g r < 2 ^ 32) → g.left < 2 ^ 32
-    → end_of at is < 2 ^ 47 → AreApart at (length (spellings is)) l.frame frame_size
-    → AreApart at (length (spellings is)) l.data_start p.data_size
+    → end_of at is < 2 ^ 47 → DoNotMeet at (length (spellings is)) l.frame frame_size
+    → DoNotMeet at (length (spellings is)) l.data_start p.data_size
     → (t : Text) × (c : Core) × IsBefore is t at p l g c
 
 -- An access of n bytes lies in the data, around which guard zones have room.
 pub record IsInData (p : Part) (at n : ℕ) : Type 0 where
   pub room : HasGuardRoom p.data_base p.data_size
-  pub some : 4 ≤ p.data_size
+  pub fits : n ≤ p.data_size
   pub tested : is_tested p at n ≡ true
 
 -- Wherever the bytes of a computing line stand, they do what the line does, by which its step is counted.
@@ -98,15 +88,15 @@ JalLinesRun =
     InRange (Jal rd offset) → IsBefore line t at p l g c → is_canonical (jumped (end_of at line) distance) ≡ true
     → LeadsTo t at (jumped (end_of at line) distance) p l c (line_step target p code (Does address size (Jal rd offset) ∷ rest) g)
 
--- a load from the data, where it reads v
+-- a load from the data, of which each byte is there
 abbrev pub LoadLinesRun : Type 0
 LoadLinesRun =
-    (target : Target) (p : Part) (code rest : List Line) (address size : ℕ) (kind : LoadKind) (rd rs1 : ℕ) (imm : ℤ) (v : ℕ)
+    (target : Target) (p : Part) (code rest : List Line) (address size : ℕ) (kind : LoadKind) (rd rs1 : ℕ) (imm : ℤ)
     (l : Layout) (t : Text) (at : ℕ) (g : Going) (c : Core)
     → let line = load_line kind rd rs1 (word imm) in
     let from = offset_by (value p g rs1) imm in
     InRange (Load kind rd rs1 imm) → IsInData p from (load_size kind) → IsMemory g.state.memory
-    → loaded g.state.memory from (load_size kind) ≡ Some v → IsBefore line t at p l g c
+    → IsThere g.state.memory from (load_size kind) → IsBefore line t at p l g c
     → LeadsTo t at (end_of at line) p l c (line_step target p code (Does address size (Load kind rd rs1 imm) ∷ rest) g)
 
 -- a store to the data, of which each byte is there
@@ -133,8 +123,7 @@ LinesStand =
 abbrev pub Accesses : Part → Going → Instr → Type 0
 Accesses p g (Load kind rd rs1 imm) =
     let from = offset_by (value p g rs1) imm in
-    IsInData p from (load_size kind) × IsMemory g.state.memory
-    × (v : ℕ) × (loaded g.state.memory from (load_size kind) ≡ Some v)
+    IsInData p from (load_size kind) × IsMemory g.state.memory × IsThere g.state.memory from (load_size kind)
 Accesses p g (Store width rs1 rs2 imm) =
     let to = offset_by (value p g rs1) imm in
     IsInData p to (store_size width) × IsThere g.state.memory to (store_size width)
@@ -157,6 +146,13 @@ pub record IsAlike (p : Part) (l : Layout) (base : ℕ) (code : List Line) (g : 
   pub related : IsRelated p l g m.core
   pub is_at : IsAt base code g m
 
+-- From there the processor leads to where the next turn is.
+pub record Follows (t : Text) (p : Part) (l : Layout) (base : ℕ) (code : List Line) (m : Machine) (next : Going) : Type 0 where
+  pub after : Machine
+  pub reached : Reaches t m after
+  pub alike : IsAlike p l base code next after
+  pub others : OthersStay p l m.core after.core
+
 -- Where all lines' code stands, a line's leads on as its step does.
 abbrev pub PlacedLinesRun : Type 0
 PlacedLinesRun =
@@ -164,4 +160,4 @@ PlacedLinesRun =
     → let next = line_step Assembly p code (line ∷ rest) g in
     IsBefore (code_of code code) t base p l g m.core → size_of_all code < 2 ^ 31 → AreLast code (line ∷ rest)
     → g.place ≡ Before (line ∷ rest) → IsAt base code g m → IsReady p g line → IsCovered line next.place
-    → (k : Machine) × Reaches t m k × IsAlike p l base code next k
+    → Follows t p l base code m next

@@ -11,11 +11,15 @@ use Rattle.sfi_native.specs.declared.layout.Layout.{Layout}
 abbrev pub frame_size : ℕ
 frame_size = 128
 
--- Frame and data lie apart, and end at the last address of 64 bits at the latest.
+-- m bytes from a on and n bytes from b on have no address in common
+abbrev pub DoNotMeet : ℕ → ℕ → ℕ → ℕ → Type 0
+DoNotMeet a m b n = (a + m ≤ b) ⊎ (b + n ≤ a)
+
+-- Frame and data don't meet, and end at the last address of 64 bits at the latest.
 pub record IsLayout (data_size : ℕ) (l : Layout) : Type 0 where
   pub frame_ends : l.frame + frame_size ≤ 2 ^ 64
   pub data_ends : l.data_start + data_size ≤ 2 ^ 64
-  pub apart : (l.frame + frame_size ≤ l.data_start) ⊎ (l.data_start + data_size ≤ l.frame)
+  pub apart : DoNotMeet l.frame frame_size l.data_start data_size
 
 -- the host's address of the sandbox's address 0, of which r15 holds 64 bits
 abbrev pub origin : ℕ → Layout → ℕ
@@ -28,7 +32,7 @@ value p g r = register (fixed p g.state.hart) r
 -- The processor has the turn's state: rsp (4) leads to the frame, r14 (14) has the steps left, r15 (15) the origin of
 -- the data. Where the turn is, rip says, which isn't part of it.
 pub record IsRelated (p : Part) (l : Layout) (g : Going) (c : Core) : Type 0 where
-  pub count : length g.state.hart.registers ≡ 32
+  pub register_count : length g.state.hart.registers ≡ 32
   pub words : (r : ℕ) → value p g r < 2 ^ 32
   pub registers : (r : ℕ) → r < 32 → number_at c.memory 4 (l.frame + 4 * r) ≡ Some (value p g r)
   pub frame : c.registers 4 ≡ l.frame
@@ -38,3 +42,14 @@ pub record IsRelated (p : Part) (l : Layout) (g : Going) (c : Core) : Type 0 whe
   pub bytes : (k : ℕ) → k < p.data_size → c.memory (l.data_start + k) ≡ byte_at g.state.memory (p.data_base + k)
   pub bytes_are_written : (k : ℕ) → k < p.data_size → c.writable (l.data_start + k) ≡ true
   pub origin_is : c.registers 15 ≡ origin p.data_base l
+
+-- the address is none of n from a on
+abbrev pub IsOutside : ℕ → ℕ → ℕ → Type 0
+IsOutside at a n = (at < a) ⊎ (a + n ≤ at)
+
+-- From one state of the processor to the other, eax, ecx, edx (0 to 2), r14 (14) and flags may change, and memory in
+-- frame and data; all else stays.
+pub record OthersStay (p : Part) (l : Layout) (c d : Core) : Type 0 where
+  pub others : (k : ℕ) → 2 < k → (k ≡ 14 → ⊥) → d.registers k ≡ c.registers k
+  pub elsewhere : (a : ℕ) → IsOutside a l.frame frame_size → IsOutside a l.data_start p.data_size → d.memory a ≡ c.memory a
+  pub writable : d.writable ≡ c.writable

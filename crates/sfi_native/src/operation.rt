@@ -230,7 +230,7 @@ fn with_number(op: AluOp, imm: u32) -> Instr
     }
 }
 
-/// The shift of eax by a number modulo 32.
+/// The shift of eax by a number's low byte, of which the processor takes five bits.
 fn shift_by(op: ShiftOp, imm: u32) -> Instr
     ensures { result ≡ ShiftImm op Dword (InRegister Rax) (imm % 256) }
 {
