@@ -4,21 +4,22 @@ use Rattle.std.specs.BTreeMap.{BTreeMap, get}
 use Rattle.std.specs.Ordering.{nat_cmp}
 use Rattle.std.specs.Option.{option_map}
 use Rattle.rv_word.specs.declared.instr.Instr.TheVariants.{Branch, Jal}
+use Rattle.rv_word.specs.Spelling.{offset_by}
 use Rattle.sfi_translate.specs.Lines.{Line, Does}
 use Rattle.sfi_translate.specs.Machine.{label}
 use Rattle.x86_step.specs.Running.{spellings}
 use Rattle.sfi_native.specs.Code.{branch_line, jal_line}
 use Rattle.sfi_native.specs.Lines.{AreMeasured, line_of, target_of}
 use Rattle.sfi_native.specs.declared.line.Line.{Line as Held}
-use Rattle.sfi_native.specs.Places.{AreLast, code_of, distance, distance_out, distances, line_code, placed, size_of, size_of_all, start, start_or_end}
+use Rattle.sfi_native.specs.Places.{AreLast, code_of, distance, distance_out, distances, jump_of, line_code, placed, size_of, size_of_all, start, start_or_end}
 use Rattle.sfi_native.proofs.Lists.{two_parts}
 use Rattle.sfi_native.proofs.Places.{code_size, label_last, last_below, one_more}
 use Rattle.rv_mem.specs.Bytes.{address_after}
 
 -- a line has one label at most
 line_same : (d : ℕ → ℕ) (n exit : ℕ) (line : Line) → ((to : ℕ) → target_of line ≡ Some to → n ≡ d to) → line_code (λ to. n) exit line ≡ line_code d exit line
-line_same d n exit (Does at size (Branch cond rs1 rs2 offset)) is = ap (λ x. branch_line cond rs1 rs2 x) (is _ refl)
-line_same d n exit (Does at size (Jal rd offset)) is = ap (λ x. jal_line rd (address_after at size) x) (is _ refl)
+line_same d n exit (Does at size (Branch cond rs1 rs2 offset)) is = ap (λ x. branch_line cond rs1 rs2 (jump_of (λ to. x) exit at (offset_by at offset))) (is _ refl)
+line_same d n exit (Does at size (Jal rd offset)) is = ap (λ x. jal_line rd (address_after at size) (jump_of (λ to. x) exit at (offset_by at offset))) (is _ refl)
 line_same d n exit (Does at size i) is = refl
 line_same d n exit line is = refl
 

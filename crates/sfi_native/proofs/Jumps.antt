@@ -1,6 +1,7 @@
 -- The code of branches and jal, from its first instruction to where it leads.
-use Rattle.std.proofs.Common.{◌≡◌, ℕ, ◌+◌, ◌<◌, Bool, true, false, Some, List, [], ◌∷◌, ◌++◌, length, refl, ap, ◌∙◌, subst, arith, if◌then◌else◌, append-nil, length-append}
-use Rattle.std.specs.Prelude.{Ok}
+use Rattle.std.proofs.Common.{◌≡◌, ℕ, ◌%◌, ◌^◌, ◌<◌, Bool, true, false, Some, List, [], ◌∷◌, ◌++◌, length, refl, sym, inl, inr, ap, ◌∙◌, append_assoc, nat_lt, subst, arith, if◌then◌else◌}
+use Rattle.std.specs.Prelude.{Ok, not}
+use Rattle.std.proofs.lemmas.Bool.{cases_Bool, false≢true, lt-ltb}
 unfoldable use Rattle.rv_word.specs.Spelling.{InRange}
 use Rattle.rv_word.specs.Spelling.{offset_by}
 use Rattle.rv_mem.specs.Bytes.{Bytes, address_after}
@@ -10,51 +11,29 @@ use Rattle.sfi_image.specs.Spelling.{Part}
 use Rattle.sfi_translate.specs.Machine.{ControlPoint, Going, fixed, jumps, one_less}
 use Rattle.x86_instr.specs.declared.operand.Register.TheVariants.{Rax, Rcx}
 use Rattle.x86_instr.specs.declared.instr.Width.TheVariants.{Dword}
+use Rattle.x86_instr.specs.declared.instr.Condition.{Condition}
 use Rattle.x86_instr.specs.declared.instr.Instr.{Instr as Native}
-use Rattle.x86_instr.specs.declared.instr.Instr.TheVariants.{Alu, Jcc, Jmp}
+use Rattle.x86_instr.specs.declared.instr.Instr.TheVariants.{Alu, Jcc}
 use Rattle.x86_instr.specs.declared.instr.AluOp.TheVariants as alu
 use Rattle.x86_instr.specs.declared.operand.Operand.TheVariants.{Reg}
-use Rattle.x86_instr.specs.Spelling.{spelling}
 use Rattle.x86_step.specs.State.{Core, IsFixed, Text, with_flags, with_register}
-use Rattle.x86_step.specs.Step.{Reaches, difference, effect, is_canonical, is_met, jumped, low}
+use Rattle.x86_step.specs.Step.{Reaches, difference, is_met, low}
 unfoldable use Rattle.x86_step.specs.Step.{computes}
 use Rattle.x86_step.specs.Running.{HasAt, exec, spellings}
-use Rattle.x86_step.proofs.Facts.{fixed_stays, steps_join}
-use Rattle.x86_step.proofs.Running.{exec_append, has_back, has_front, spellings_append}
+use Rattle.x86_step.proofs.Running.{exec_append}
+use Rattle.sfi_native.specs.declared.jump.Jump.{Jump}
 use Rattle.sfi_native.specs.declared.layout.Layout.{Layout}
 use Rattle.sfi_native.specs.Layout.{IsLayout, IsRelated, OthersStay, value}
-use Rattle.sfi_native.specs.Laws.{BranchLinesRun, IsLow, JalLinesRun, end_of}
-use Rattle.sfi_native.specs.Code.{branch_line, compare_code, condition_of, count, fetch, jal_line, number_code}
-use Rattle.sfi_native.proofs.Arithmetic.{low_is, met_is}
-use Rattle.sfi_native.proofs.Kept.{kept_flags, kept_join, kept_register, others_join, others_kept}
+use Rattle.sfi_native.specs.Laws.{BranchLinesRun, IsJump, IsLow, JalLinesRun, end_of, is_slow, jump_place}
+use Rattle.sfi_native.specs.Code.{compare_code, count, fetch, has_test, jal_line, number_code, opposite, tested_jump, unless}
+use Rattle.sfi_native.proofs.Arithmetic.{low_is, unmet_is}
+use Rattle.sfi_native.proofs.Kept.{Kept, kept_flags, kept_join, kept_register, others_join, others_kept}
 use Rattle.sfi_native.proofs.Counting.{counts}
-use Rattle.sfi_native.proofs.Runs.{Runs, branch_effect, one_step, straight_runs}
+use Rattle.sfi_native.proofs.Runs.{Runs, back_fixed, back_stands, end_append, falls, runs_join, skipped, straight_runs, then_reaches}
+use Rattle.sfi_native.proofs.Lists.{tested_size}
+use Rattle.sfi_native.proofs.Tested.{jumps_by_test}
 use Rattle.sfi_native.proofs.Fetching.{fetched, related_kept}
 use Rattle.sfi_native.proofs.Lines.{none_comes, number_comes, then_count}
-
--- ==== A jump behind instructions.
-
-module _ (t : Text) (at : ℕ) (front : List Native) (jump : Native) (c d : Core) (fixed_text : IsFixed t c) (low : IsLow t)
-    (stands : HasAt t at (spellings (front ++ (jump ∷ [])))) (runs : Runs front c d) where
-  parts : HasAt t at (spellings front ++ spellings (jump ∷ []))
-  parts = subst (λ bytes. HasAt t at bytes) (spellings_append front (jump ∷ [])) stands
-
-  ends_at : end_of (end_of at front) (jump ∷ []) ≡ end_of at (front ++ (jump ∷ []))
-  ends_at = omega (arith, ap length (spellings_append front (jump ∷ [])), length-append (spellings front) (spellings (jump ∷ [])))
-
-  first : Reaches t (record { rip = at; core = c }) (record { rip = end_of at front; core = d })
-  first = runs t at fixed_text low (has_front t at (spellings front) (spellings (jump ∷ [])) parts)
-
-  own : HasAt t (end_of at front) (spelling jump)
-  own = subst (λ bytes. HasAt t (end_of at front) bytes) (append-nil (spelling jump)) (has_back t at (spellings front) (spellings (jump ∷ [])) parts)
-
-  own_end : end_of at front + length (spelling jump) ≡ end_of at (front ++ (jump ∷ []))
-  own_end = omega (arith, ends_at, ap length (append-nil (spelling jump)))
-
-  pub jumps_to : (to : ℕ) → ((after : ℕ) → after ≡ end_of at (front ++ (jump ∷ [])) → effect jump after d ≡ Ok (record { rip = to; core = d }))
-      → Reaches t (record { rip = at; core = c }) (record { rip = to; core = d })
-  jumps_to to does =
-      steps_join t _ _ _ first (one_step t (end_of at front) to jump d d (fixed_stays t _ _ first) own (does (end_of at front + length (spelling jump)) own_end))
 
 -- ==== A branch.
 
@@ -128,42 +107,97 @@ module _ (p : Part) (l : Layout) (layout : IsLayout p.data_size l) where
     by_branch true place at n to d related = related place to
     by_branch false place at n to d related = related place (address_after at n)
 
+    left_is : (d : Core) → ((place : ControlPoint) (pc : ℕ) → IsRelated p l (moved place pc) d) → one_less g.left < 2 ^ 31 → low Dword (d.registers 14) ≡ one_less g.left % 2 ^ 31
+    left_is d related few = omega (arith, (related g.place 0).left, few)
+
+-- few enough to be skipped
+jump_few : (j : Jump) → nat_lt (length (spellings (tested_jump j))) (2 ^ 31) ≡ true
+jump_few j = lt-ltb (length (spellings (tested_jump j))) (2 ^ 31) (elim (cases_Bool (has_test j)) [
+  | inl e ↦ omega (arith, tested_size j ∙ ap (λ t. if t then 20 else 5) e)
+  | inr e ↦ omega (arith, tested_size j ∙ ap (λ t. if t then 20 else 5) e)
+])
+
+-- a branch, by whether it is taken
+module _ (t : Text) (at : ℕ) (front : List Native) (condition : Condition) (j : Jump) (c d : Core) (fixed_text : IsFixed t c) (low_text : IsLow t) (runs : Runs front c d) (left : ℕ)
+    (same : low Dword (d.registers 14) ≡ left % 2 ^ 31) (stands : HasAt t at (spellings (front ++ unless condition (tested_jump j))))
+    (jump : IsJump (end_of at (front ++ unless condition (tested_jump j))) j) where
+  abbrev end : ℕ
+  end = end_of at (front ++ unless condition (tested_jump j))
+
+  pub record Branches (taken : Bool) : Type 0 where
+    pub after : Core
+    pub reached : Reaches t (record { rip = at; core = c }) (record { rip = if taken then jump_place end j left else end; core = after })
+    pub kept : Kept d after
+    pub edx : taken ≡ true → is_slow j left ≡ true → after.registers 2 ≡ j.to
+
+  abbrev skip : Native
+  skip = Jcc condition (length (spellings (tested_jump j)))
+
+  pub branches : (taken : Bool) → is_met condition d.flags ≡ Some (not taken) → Branches taken
+  branches false met =
+      record {
+        after = d;
+        reached = runs_join front (unless condition (tested_jump j)) c d d runs (skipped condition (tested_jump j) d (jump_few j) met) t at fixed_text low_text stands;
+        kept = record { registers = λ k more. refl; memory = refl; writable = refl };
+        edx = λ e. absurd (false≢true e);
+      }
+  branches true met =
+      let to_jump = runs_join front (skip ∷ []) c d d runs (falls condition (tested_jump j) d met) in
+      let whole : HasAt t at (spellings ((front ++ (skip ∷ [])) ++ tested_jump j)) = subst (λ is. HasAt t at (spellings is)) (sym (append_assoc front (skip ∷ []) (tested_jump j))) stands in
+      let from = end_of at (front ++ (skip ∷ [])) in
+      let end_is : end_of from (tested_jump j) ≡ end = end_append at (front ++ (skip ∷ [])) (tested_jump j) ∙ ap (end_of at) (append_assoc front (skip ∷ []) (tested_jump j)) in
+      let here = subst (λ a. IsJump a j) (sym end_is) jump in
+      let fixed_here = back_fixed t at (front ++ (skip ∷ [])) (tested_jump j) c d fixed_text low_text whole to_jump in
+      let jumps = jumps_by_test t from j left d fixed_here low_text same (back_stands t at (front ++ (skip ∷ [])) (tested_jump j) c d fixed_text low_text whole to_jump) here in
+      record {
+        after = jumps.after;
+        reached = then_reaches t at (front ++ (skip ∷ [])) (tested_jump j) c d fixed_text low_text whole to_jump (record { rip = jump_place end j left; core = jumps.after })
+            (subst (λ a. Reaches t (record { rip = from; core = d }) (record { rip = jump_place a j left; core = jumps.after })) end_is jumps.reached);
+        kept = jumps.kept;
+        edx = λ e. jumps.edx;
+      }
+
 pub branch_lines_run : BranchLinesRun
 unfolding InRange
-branch_lines_run target p code rest address size cond rs1 rs2 offset distance l t at g c range here canonical =
+branch_lines_run target p code rest address size cond rs1 rs2 offset j l t at g c range few jump here =
     let a = value p g rs1 in
     let b = value p g rs2 in
     let done = compares p l here.layout g c here.related rs1 rs2 range.0 range.1 in
-    let end = end_of at (branch_line cond rs1 rs2 distance) in
-    let met : is_met (condition_of cond) done.core.flags ≡ Some (is_taken cond a b) =
-    ap (is_met (condition_of cond)) done.flags ∙ met_is cond a b (here.related.words rs1) (here.related.words rs2) in
-    record {
-      after = done.core;
-      reached = jumps_to t at (compare_code rs1 rs2) (Jcc (condition_of cond) distance) c done.core here.text_is_fixed here.text_is_low here.stands
-          (straight_runs (compare_code rs1 rs2) c done.core refl done.runs)
-          (if is_taken cond a b then jumped end distance else end)
-          (λ after e. branch_effect (condition_of cond) distance after end done.core (is_taken cond a b) e met canonical);
-      related = by_branch p l here.layout g c here.related (is_taken cond a b) _ address size (offset_by address offset) done.core done.related;
-      others = done.others;
-    }
+    let met : is_met (opposite cond) done.core.flags ≡ Some (not (is_taken cond a b)) =
+    ap (is_met (opposite cond)) done.flags ∙ unmet_is cond a b (here.related.words rs1) (here.related.words rs2) in
+    let same = left_is p l here.layout g c here.related done.core done.related few in
+    let it = branches t at (compare_code rs1 rs2) (opposite cond) j c done.core here.text_is_fixed here.text_is_low (straight_runs (compare_code rs1 rs2) c done.core refl done.runs)
+    (one_less g.left) same here.stands jump (is_taken cond a b) met in (
+      record {
+        after = it.after;
+        reached = it.reached;
+        related = by_branch p l here.layout g c here.related (is_taken cond a b) _ address size (offset_by address offset) it.after
+            (λ place pc. related_kept p l here.layout _ done.core it.after (done.related place pc) it.kept);
+        others = others_join p l c done.core it.after done.others (others_kept p l done.core it.after it.kept);
+      },
+      it.edx,
+    )
 
 -- ==== A jal.
 
-pub jal_effect : (distance after end : ℕ) (d : Core) → after ≡ end → is_canonical (jumped end distance) ≡ true → effect (Jmp distance) after d ≡ Ok (record { rip = jumped end distance; core = d })
-unfolding computes
-jal_effect distance after end d is canonical = rw (is, canonical) refl
-
 pub jal_lines_run : JalLinesRun
 unfolding InRange
-jal_lines_run target p code rest address size rd offset distance l t at g c range here canonical =
+jal_lines_run target p code rest address size rd offset j l t at g c range few jump here =
     let v = address_after address size in
-    let end = end_of at (jal_line rd v distance) in
-    let front = number_comes p l here.layout g c here.related (jumps target code address (offset_by address offset) (one_less g.left)) (offset_by address offset) rd v range.0 (omega arith) in
-    let done = then_count p l c (number_code rd v) _ front in
-    record {
-      after = done.core;
-      reached = jumps_to t at (number_code rd v ++ count) (Jmp distance) c done.core here.text_is_fixed here.text_is_low here.stands done.runs
-          (jumped end distance) (λ after e. jal_effect distance after end done.core e canonical);
-      related = done.related;
-      others = done.others;
-    }
+    let front = number_code rd v ++ count in
+    let number = number_comes p l here.layout g c here.related (jumps target code address (offset_by address offset) (one_less g.left)) (offset_by address offset) rd v range.0 (omega arith) in
+    let done = then_count p l c (number_code rd v) _ number in
+    let from = end_of at front in
+    let end_is : end_of from (tested_jump j) ≡ end_of at (jal_line rd v j) = end_append at front (tested_jump j) in
+    let same : low Dword (done.core.registers 14) ≡ one_less g.left % 2 ^ 31 = omega (arith, done.related.left, few) in
+    let it = jumps_by_test t from j (one_less g.left) done.core (back_fixed t at front (tested_jump j) c done.core here.text_is_fixed here.text_is_low here.stands done.runs) here.text_is_low same
+    (back_stands t at front (tested_jump j) c done.core here.text_is_fixed here.text_is_low here.stands done.runs) (subst (λ a. IsJump a j) (sym end_is) jump) in (
+      record {
+        after = it.after;
+        reached = then_reaches t at front (tested_jump j) c done.core here.text_is_fixed here.text_is_low here.stands done.runs (record { rip = jump_place (end_of at (jal_line rd v j)) j (one_less g.left); core = it.after })
+            (subst (λ a. Reaches t (record { rip = from; core = done.core }) (record { rip = jump_place a j (one_less g.left); core = it.after })) end_is it.reached);
+        related = related_kept p l here.layout _ done.core it.after done.related it.kept;
+        others = others_join p l c done.core it.after done.others (others_kept p l done.core it.after it.kept);
+      },
+      it.edx,
+    )

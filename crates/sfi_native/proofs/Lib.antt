@@ -13,6 +13,7 @@ pub mod Held
 pub mod Frames
 pub mod Lines
 pub mod Lists
+pub mod Tested
 pub mod Jumps
 pub mod Accessing
 pub mod Loads

@@ -1,5 +1,5 @@
 -- Bytes of instructions behind others.
-use Rattle.std.proofs.Common.{◌≡◌, ℕ, ◌-◌, ◌^◌, List, [], ◌∷◌, ◌++◌, sym, ap, ◌∙◌, append_assoc, append-nil}
+use Rattle.std.proofs.Common.{◌≡◌, ℕ, ◌+◌, ◌-◌, ◌%◌, ◌^◌, Bool, true, false, length, refl, if◌then◌else◌, List, [], ◌∷◌, ◌++◌, sym, ap, ◌∙◌, append_assoc, append-nil}
 use Rattle.rv_word.specs.declared.instr.ImmOp.{ImmOp}
 use Rattle.rv_word.specs.declared.instr.RegOp.{RegOp}
 use Rattle.x86_instr.specs.declared.operand.Register.TheVariants.{Rax, Rcx, Rdx}
@@ -16,7 +16,8 @@ use Rattle.x86_instr.specs.declared.operand.Operand.TheVariants.{Reg}
 use Rattle.rv_word.specs.declared.instr.Cond.{Cond}
 use Rattle.rv_word.specs.declared.instr.LoadKind.{LoadKind}
 use Rattle.rv_word.specs.declared.instr.StoreWidth.{StoreWidth}
-use Rattle.sfi_native.specs.Code.{avoid_minus_one, avoid_zero, branch_line, compare_code, compare_divisor, compute, compute_imm, condition_of, count, data_address, divide_by_one, divide_signed, divide_unsigned, fetch, imm_code, jal_line, load_code, load_from, load_line, number_code, op_code, remainder, store_line, store_to, test_divisor, write}
+use Rattle.sfi_native.specs.declared.jump.Jump.{Jump}
+use Rattle.sfi_native.specs.Code.{avoid_minus_one, avoid_zero, branch_line, compare_code, compare_divisor, compute, compute_imm, count, data_address, divide_by_one, divide_signed, divide_unsigned, fetch, head_line, imm_code, has_test, jal_line, jump_size, load_code, load_from, load_line, number_code, op_code, opposite, remainder, store_line, store_to, test_code, test_divisor, tested_jump, write}
 
 pub no_part : (old : List ℕ) → old ≡ old ++ spellings []
 no_part old = sym (append-nil old)
@@ -45,14 +46,31 @@ pub compare_parts : (old : List ℕ) (rs1 rs2 : ℕ)
     → (((old ++ spellings (fetch Rax rs1)) ++ spellings (fetch Rcx rs2)) ++ spellings count) ++ spellings (Alu alu.Cmp Dword Rax (Reg Rcx) ∷ []) ≡ old ++ spellings (compare_code rs1 rs2)
 compare_parts old rs1 rs2 = four_parts old (fetch Rax rs1) (fetch Rcx rs2) count (Alu alu.Cmp Dword Rax (Reg Rcx) ∷ [])
 
-pub branch_parts : (old : List ℕ) (cond : Cond) (rs1 rs2 distance : ℕ)
-    → (old ++ spellings (compare_code rs1 rs2)) ++ spellings (Jcc (condition_of cond) distance ∷ []) ≡ old ++ spellings (branch_line cond rs1 rs2 distance)
-branch_parts old cond rs1 rs2 distance = two_parts old (compare_code rs1 rs2) (Jcc (condition_of cond) distance ∷ [])
+pub size_by : (tested : Bool) (j : Jump) → length (spellings (test_code tested j ++ (Jmp j.label ∷ []))) ≡ (if tested then 20 else 5)
+unfolding spelling rex
+size_by true j = refl
+size_by false j = refl
 
-pub jal_parts : (old : List ℕ) (rd next distance : ℕ)
-    → ((old ++ spellings (number_code rd next)) ++ spellings count) ++ spellings (Jmp distance ∷ []) ≡ old ++ spellings (jal_line rd next distance)
-jal_parts old rd next distance =
-    ap (λ x. x ++ spellings (Jmp distance ∷ [])) (two_parts old (number_code rd next) count) ∙ two_parts old (number_code rd next ++ count) (Jmp distance ∷ [])
+pub tested_size : (j : Jump) → length (spellings (tested_jump j)) ≡ (if has_test j then 20 else 5)
+tested_size j = size_by (has_test j) j
+
+pub tested_parts : (old : List ℕ) (j : Jump) → has_test j ≡ true
+    → (old ++ spellings (head_line j.to ((j.exit + jump_size) % 2 ^ 32))) ++ spellings (Jmp j.label ∷ []) ≡ old ++ spellings (tested_jump j)
+tested_parts old j is = rw is (two_parts old (head_line j.to ((j.exit + jump_size) % 2 ^ 32)) (Jmp j.label ∷ []))
+
+pub untested_parts : (old : List ℕ) (j : Jump) → has_test j ≡ false → old ++ spellings (Jmp j.label ∷ []) ≡ old ++ spellings (tested_jump j)
+untested_parts old j is = rw is refl
+
+pub branch_parts : (old : List ℕ) (cond : Cond) (rs1 rs2 n : ℕ) (j : Jump) → n ≡ length (spellings (tested_jump j))
+    → ((old ++ spellings (compare_code rs1 rs2)) ++ spellings (Jcc (opposite cond) n ∷ [])) ++ spellings (tested_jump j) ≡ old ++ spellings (branch_line cond rs1 rs2 j)
+branch_parts old cond rs1 rs2 n j is =
+    ap (λ k. ((old ++ spellings (compare_code rs1 rs2)) ++ spellings (Jcc (opposite cond) k ∷ [])) ++ spellings (tested_jump j)) is
+    ∙ three_parts old (compare_code rs1 rs2) (Jcc (opposite cond) (length (spellings (tested_jump j))) ∷ []) (tested_jump j)
+
+pub jal_parts : (old : List ℕ) (rd next : ℕ) (j : Jump)
+    → ((old ++ spellings (number_code rd next)) ++ spellings count) ++ spellings (tested_jump j) ≡ old ++ spellings (jal_line rd next j)
+jal_parts old rd next j =
+    ap (λ x. x ++ spellings (tested_jump j)) (two_parts old (number_code rd next) count) ∙ two_parts old (number_code rd next ++ count) (tested_jump j)
 
 pub load_parts : (old : List ℕ) (kind : LoadKind) (rd rs1 displacement : ℕ)
     → (((old ++ spellings (fetch Rax rs1)) ++ spellings (load_from kind (data_address displacement) ∷ [])) ++ spellings (write rd)) ++ spellings count ≡ old ++ spellings (load_line kind rd rs1 displacement)

@@ -1,28 +1,37 @@
 -- Lines among all lines of the code, from where each begins to where the next does.
-use Rattle.std.proofs.Common.{◌⊎◌, inl, inr, None, ◌≡◌, ℕ, ◌+◌, ◌^◌, ◌<◌, Bool, true, false, List, [], ◌∷◌, Option, Some, refl, sym, ap, ◌∙◌, subst, arith, if◌then◌else◌}
-use Rattle.std.proofs.lemmas.Bool.{false≢true}
+use Rattle.std.proofs.Common.{◌++◌, length, length-append, ◌%◌, ◌≤◌, ◌&&◌, ◌⊎◌, inl, inr, None, ◌≡◌, ℕ, ◌+◌, ◌^◌, ◌<◌, Bool, true, false, List, [], ◌∷◌, Option, Some, refl, sym, ap, ◌∙◌, subst, arith, if◌then◌else◌}
+use Rattle.std.proofs.lemmas.Bool.{cases_Bool, false≢true}
+use Rattle.rv_word.specs.declared.instr.Cond.{Cond}
 use Rattle.rv_word.specs.declared.instr.Instr.{Instr}
+use Rattle.rv_mem.specs.Bytes.{address_after}
+use Rattle.rv_step.specs.State.{past, with_pc}
 use Rattle.rv_word.specs.declared.instr.Instr.TheVariants.{Op, OpImm, Load, Store, Branch, Jal, Jalr, Lui, Auipc, Fence, Ecall, Ebreak}
 use Rattle.rv_word.specs.Spelling.{InRange, offset_by}
 use Rattle.rv_step.specs.Step.{is_taken}
 use Rattle.sfi_image.specs.Spelling.{Part}
 use Rattle.sfi_translate.specs.Lines.{Line, Function, End, Entry, Head, Does}
-use Rattle.sfi_translate.specs.Machine.{Assembly, Before, ControlPoint, Going, Lost, Slow, before_or, goes, goes_with, is_short, jumps, label, line_step, one_less}
+use Rattle.sfi_translate.specs.Machine.{Assembly, Before, ControlPoint, Going, Lost, fixed, Slow, before_or, goes, goes_with, is_short, jumps, label, line_step, one_less}
 use Rattle.x86_step.specs.State.{Core, Machine, Text}
-use Rattle.x86_step.specs.Step.{Reaches, is_canonical, jumped, stay}
+use Rattle.x86_instr.specs.declared.instr.Instr.{Instr as Native}
+use Rattle.x86_instr.specs.declared.instr.Instr.TheVariants.{Jcc}
+use Rattle.x86_instr.specs.declared.instr.Width.TheVariants.{Dword}
+use Rattle.x86_step.proofs.Running.{spellings_append}
+use Rattle.x86_step.specs.Step.{low, Reaches, is_canonical, jumped, stay}
 use Rattle.x86_step.specs.Running.{spellings}
+use Rattle.sfi_native.specs.declared.jump.Jump.{Jump}
 use Rattle.sfi_native.specs.declared.layout.Layout.{Layout}
 use Rattle.sfi_native.specs.Layout.{IsRelated, value}
-use Rattle.sfi_native.specs.Laws.{Accesses, Follows, IsBefore, IsCovered, IsReady, LeadsTo, PlacedLinesRun, end_of}
-use Rattle.sfi_native.specs.Lines.{target_of}
-use Rattle.sfi_native.specs.Places.{AreLast, IsAtPlace, code_of, distance_out, distances, has_code, placed, size_of_all, start, start_or_end}
-use Rattle.sfi_native.specs.Code.{head_line, leave_line}
+use Rattle.sfi_native.specs.Laws.{Accesses, Follows, IsBefore, IsCovered, IsJump, IsReady, is_slow, jump_place, LeadsTo, PlacedLinesRun, end_of}
+use Rattle.sfi_native.specs.Places.{AreLast, IsAtPlace, code_of, distance_out, distances, has_code, jump_of, placed, size_of_all, start, start_or_end}
+use Rattle.sfi_native.specs.Code.{branch_line, compare_code, count, has_test, head_line, jal_line, jump_size, leave_line, number_code, opposite, tested_jump, unless}
 use Rattle.sfi_native.proofs.Heads.{Tests, head_tests, leaves}
 use Rattle.sfi_native.proofs.Jumps.{branch_lines_run, jal_lines_run}
-use Rattle.sfi_native.proofs.Kept.{others_same}
+use Rattle.sfi_native.proofs.Kept.{others_kept, others_same}
+use Rattle.sfi_native.proofs.Fetching.{related_kept}
+use Rattle.sfi_native.proofs.Lists.{tested_size}
 use Rattle.sfi_native.proofs.Lines.{computing_lines_run}
 use Rattle.sfi_native.proofs.Loads.{load_lines_run}
-use Rattle.sfi_native.proofs.Places.{code_size, label_canonical, end_reached, label_reached, line_ends, line_stands}
+use Rattle.sfi_native.proofs.Places.{code_size, label_canonical, end_reached, label_reached, last_below, line_size, line_ends, line_stands}
 use Rattle.sfi_native.proofs.Runs.{bytes_end, low_canonical}
 use Rattle.sfi_native.proofs.Stores.{store_lines_run}
 
@@ -31,22 +40,17 @@ use Rattle.sfi_native.proofs.Stores.{store_lines_run}
 same_lines : (rest to : List Line) → Before rest ≡ Before to → to ≡ rest
 same_lines rest to e = cc
 
-of_some : (o : Option (List Line)) (to : List Line) → before_or Lost o ≡ Before to → o ≡ Some to
-of_some None to e = absurd (cc)
-of_some (Some rest) to e = ap Some (sym (same_lines rest to e))
-
-of_head : (short : Bool) (place : ControlPoint) (to : List Line) → (if short then Slow else place) ≡ Before to → place ≡ Before to
-of_head true place to e = absurd (cc)
-of_head false place to e = e
-
-of_either : (tested : Bool) (one other : ControlPoint) (to : List Line) → (one ≡ Before to → other ≡ Before to) → (if tested then one else other) ≡ Before to → other ≡ Before to
-of_either true one other to first e = first e
-of_either false one other to first e = e
-
--- a jump that goes on before lines goes on at a label
-jumps_label : (code : List Line) (at to left : ℕ) (rest : List Line) → jumps Assembly code at to left ≡ Before rest → label to code ≡ Some rest
-jumps_label code at to left rest e =
-    of_some (label to code) rest (of_either _ _ (before_or Lost (label to code)) rest (of_head (is_short Assembly left) (before_or Lost (label to code)) rest) e)
+-- where a processor is after a jump
+jump_at : (base : ℕ) (code : List Line) (pc : ℕ) (m : Machine) (end exit label : ℕ) (tested short : Bool) (o : Option (List Line)) (to : ℕ)
+    → jumped end label ≡ base + start_or_end code o → jumped end exit ≡ base + size_of_all code
+    → m.rip ≡ jumped end (if tested && short then exit else label) → (tested && short ≡ true → m.core.registers 2 ≡ to) → to ≡ pc
+    → IsCovered (if tested then (if short then Slow else before_or Lost o) else before_or Lost o)
+    → IsAtPlace base code (if tested then (if short then Slow else before_or Lost o) else before_or Lost o) pc m
+jump_at base code pc m end exit label true true o to near out rip edx pc_is covered = (rip ∙ out, edx refl ∙ pc_is)
+jump_at base code pc m end exit label true false (Some rest) to near out rip edx pc_is covered = rip ∙ near
+jump_at base code pc m end exit label false short (Some rest) to near out rip edx pc_is covered = rip ∙ near
+jump_at base code pc m end exit label true false None to near out rip edx pc_is covered = absurd covered
+jump_at base code pc m end exit label false short None to near out rip edx pc_is covered = absurd covered
 
 of_done : (done : Bool) (one other : Going) (to : List Line) → done ≡ true → (if done then one else other).place ≡ Before to → one.place ≡ Before to
 of_done true one other to is e = e
@@ -74,9 +78,36 @@ related_goes p l g c place pc is = record {
 
 -- ==== A line.
 
+abbrev is_jump_line : Instr → Bool
+is_jump_line (Branch cond rs1 rs2 offset) = true
+is_jump_line (Jal rd offset) = true
+is_jump_line i = false
+
+long_behind : (front back : List Native) → jump_size ≤ length (spellings back) → jump_size ≤ length (spellings (front ++ back))
+long_behind front back long = omega (arith, long, ap length (spellings_append front back), length-append (spellings front) (spellings back))
+
+tested_long : (j : Jump) → jump_size ≤ length (spellings (tested_jump j))
+tested_long j = elim (cases_Bool (has_test j)) [
+  | inl e ↦ omega (arith, tested_size j ∙ ap (λ t. if t then 20 else 5) e)
+  | inr e ↦ omega (arith, tested_size j ∙ ap (λ t. if t then 20 else 5) e)
+]
+
+branch_long : (cond : Cond) (rs1 rs2 : ℕ) (j : Jump) → jump_size ≤ length (spellings (branch_line cond rs1 rs2 j))
+branch_long cond rs1 rs2 j =
+    long_behind (compare_code rs1 rs2) (unless (opposite cond) (tested_jump j)) (long_behind (Jcc (opposite cond) (length (spellings (tested_jump j))) ∷ []) (tested_jump j) (tested_long j))
+
+jal_long : (rd next : ℕ) (j : Jump) → jump_size ≤ length (spellings (jal_line rd next j))
+jal_long rd next j = long_behind (number_code rd next ++ count) (tested_jump j) (tested_long j)
+
+-- the end is ahead, and the line before it
+out_ahead : (code rest : List Line) (line : Line) → AreLast code (line ∷ rest) → size_of_all code < 2 ^ 31 → jump_size ≤ length (spellings (placed code rest line))
+    → distance_out code rest + jump_size < 2 ^ 31
+out_ahead code rest line last few long =
+    omega (arith, few, long, line_size (distances code rest) (distance_out code rest) line, last_below code (line ∷ rest) last)
+
 module _ (p : Part) (code rest to : List Line) (l : Layout) (t : Text) (base : ℕ) (g : Going) (c : Core) (here : IsBefore (code_of code code) t base p l g c) (few : size_of_all code < 2 ^ 31) where
-  low : base + size_of_all code < 2 ^ 47
-  low = omega (arith, here.text_is_low, bytes_end t base (spellings (code_of code code)) here.stands, code_size code code)
+  low_end : base + size_of_all code < 2 ^ 47
+  low_end = omega (arith, here.text_is_low, bytes_end t base (spellings (code_of code code)) here.stands, code_size code code)
 
   module _ (line : Line) (last : AreLast code (line ∷ rest)) where
     abbrev place : ℕ
@@ -98,20 +129,41 @@ module _ (p : Part) (code rest to : List Line) (l : Layout) (t : Text) (base : �
     on : (k : Going) → LeadsTo t place (end_of place (placed code rest line)) p l c k → Before rest ≡ Before to → LeadsTo t place (base + start code to) p l c k
     on k leads e = subst (λ a. LeadsTo t place a p l c k) (ends ∙ ap (λ r. base + start code r) (sym (same_lines rest to e))) leads
 
-    -- to a label
-    to_label : (address left target : ℕ) → jumps Assembly code address target left ≡ Before to
-        → jumped (end_of place (placed code rest line)) (distances code rest target) ≡ base + start code to
-    to_label address left target e =
-        ap (λ a. jumped a (distances code rest target)) ends ∙ label_reached base code rest target few low
-        ∙ ap (λ o. base + start_or_end code o) (jumps_label code address target left to e)
+    abbrev line_end : ℕ
+    line_end = end_of place (placed code rest line)
 
-    canonical : (target : ℕ) → is_canonical (jumped (end_of place (placed code rest line)) (distances code rest target)) ≡ true
-    canonical target = ap (λ a. is_canonical (jumped a (distances code rest target))) ends ∙ label_canonical base code rest target few low
+    label_is : (target : ℕ) → jumped line_end (distances code rest target) ≡ base + start_or_end code (label target code)
+    label_is target = ap (λ a. jumped a (distances code rest target)) ends ∙ label_reached base code rest target few low_end
 
-    either : (taken : Bool) (address left target : ℕ) → (if taken then jumps Assembly code address target left else Before rest) ≡ Before to
-        → (if taken then jumped (end_of place (placed code rest line)) (distances code rest target) else end_of place (placed code rest line)) ≡ base + start code to
-    either true address left target e = to_label address left target e
-    either false address left target e = ends ∙ ap (λ r. base + start code r) (sym (same_lines rest to e))
+    exit_is : jumped line_end (distance_out code rest) ≡ base + size_of_all code
+    exit_is = ap (λ a. jumped a (distance_out code rest)) ends ∙ end_reached base code rest few low_end
+
+    -- a jump
+    is_jump : (address target : ℕ) → jump_size ≤ length (spellings (placed code rest line)) → IsJump line_end (jump_of (distances code rest) (distance_out code rest) address target)
+    is_jump address target long = record {
+      ahead = out_ahead code rest line last few long;
+      exit = ap is_canonical exit_is ∙ low_canonical (base + size_of_all code) low_end;
+      label = ap (λ a. is_canonical (jumped a (distances code rest target))) ends ∙ label_canonical base code rest target few low_end;
+    }
+
+    jump_arrives : (address target : ℕ) (pc left : ℕ) (after : Core)
+        → (is_slow (jump_of (distances code rest) (distance_out code rest) address target) left ≡ true → after.registers 2 ≡ target) → target ≡ pc
+        → IsCovered (jumps Assembly code address target left)
+        → IsAtPlace base code (jumps Assembly code address target left) pc (record { rip = jump_place line_end (jump_of (distances code rest) (distance_out code rest) address target) left; core = after })
+    jump_arrives address target pc left after edx pc_is covered =
+        let j = jump_of (distances code rest) (distance_out code rest) address target in
+        jump_at base code pc (record { rip = jump_place line_end j left; core = after }) line_end j.exit j.label (has_test j) (is_short Assembly left) (label target code) target
+        (label_is target) exit_is refl edx pc_is covered
+
+    -- a branch, taken or not
+    branch_arrives : (taken : Bool) (address n target : ℕ) (left : ℕ) (after : Core)
+        → (taken ≡ true → is_slow (jump_of (distances code rest) (distance_out code rest) address target) left ≡ true → after.registers 2 ≡ target)
+        → IsCovered (if taken then jumps Assembly code address target left else Before rest)
+        → IsAtPlace base code (if taken then jumps Assembly code address target left else Before rest)
+        (if taken then with_pc (with_pc (fixed p g.state.hart) address) target else past (with_pc (fixed p g.state.hart) address) n).pc
+        (record { rip = if taken then jump_place line_end (jump_of (distances code rest) (distance_out code rest) address target) left else line_end; core = after })
+    branch_arrives true address n target left after edx covered = jump_arrives address target target left after (edx refl) refl covered
+    branch_arrives false address n target left after edx covered = ends
 
     -- a line without code
     nothing : placed code rest line ≡ [] → Before rest ≡ Before to → LeadsTo t place (base + start code to) p l c (goes g (Before rest))
@@ -124,40 +176,63 @@ module _ (p : Part) (code rest to : List Line) (l : Layout) (t : Text) (base : �
           others = others_same p l c;
         })) e
 
-  instruction : (address n : ℕ) (i : Instr) → AreLast code (Does address n i ∷ rest) → has_code i ≡ true → InRange i → Accesses p g i
+  instruction : (address n : ℕ) (i : Instr) → AreLast code (Does address n i ∷ rest) → has_code i ≡ true → InRange i → Accesses p g i → is_jump_line i ≡ false
       → (line_step Assembly p code (Does address n i ∷ rest) g).place ≡ Before to
       → LeadsTo t (base + start code (Does address n i ∷ rest)) (base + start code to) p l c (line_step Assembly p code (Does address n i ∷ rest) g)
-  instruction address n (Op op rd rs1 rs2) last has range asked e =
+  instruction address n (Op op rd rs1 rs2) last has range asked moves e =
       on (Does address n (Op op rd rs1 rs2)) last _ (computing_lines_run Assembly p code rest address n (Op op rd rs1 rs2) l t _ g c refl range (own (Does address n (Op op rd rs1 rs2)) last)) e
-  instruction address n (OpImm op rd rs1 imm) last has range asked e =
+  instruction address n (OpImm op rd rs1 imm) last has range asked moves e =
       on (Does address n (OpImm op rd rs1 imm)) last _ (computing_lines_run Assembly p code rest address n (OpImm op rd rs1 imm) l t _ g c refl range (own (Does address n (OpImm op rd rs1 imm)) last)) e
-  instruction address n (Lui rd imm) last has range asked e =
+  instruction address n (Lui rd imm) last has range asked moves e =
       on (Does address n (Lui rd imm)) last _ (computing_lines_run Assembly p code rest address n (Lui rd imm) l t _ g c refl range (own (Does address n (Lui rd imm)) last)) e
-  instruction address n (Auipc rd imm) last has range asked e =
+  instruction address n (Auipc rd imm) last has range asked moves e =
       on (Does address n (Auipc rd imm)) last _ (computing_lines_run Assembly p code rest address n (Auipc rd imm) l t _ g c refl range (own (Does address n (Auipc rd imm)) last)) e
-  instruction address n (Fence imm rd rs1) last has range asked e =
+  instruction address n (Fence imm rd rs1) last has range asked moves e =
       on (Does address n (Fence imm rd rs1)) last _ (computing_lines_run Assembly p code rest address n (Fence imm rd rs1) l t _ g c refl range (own (Does address n (Fence imm rd rs1)) last)) e
-  instruction address n (Load kind rd rs1 imm) last has range asked e =
+  instruction address n (Load kind rd rs1 imm) last has range asked moves e =
       on (Does address n (Load kind rd rs1 imm)) last _
       (load_lines_run Assembly p code rest address n kind rd rs1 imm l t _ g c range asked.0 asked.1 asked.2 (own (Does address n (Load kind rd rs1 imm)) last))
       (of_done _ _ _ to asked.0.tested e)
-  instruction address n (Store width rs1 rs2 imm) last has range asked e =
+  instruction address n (Store width rs1 rs2 imm) last has range asked moves e =
       on (Does address n (Store width rs1 rs2 imm)) last _
       (store_lines_run Assembly p code rest address n width rs1 rs2 imm l t _ g c range asked.0 asked.1 (own (Does address n (Store width rs1 rs2 imm)) last))
       (of_done _ _ _ to asked.0.tested e)
-  instruction address n (Branch cond rs1 rs2 offset) last has range asked e =
+  instruction address n (Branch cond rs1 rs2 offset) last has range asked moves e = absurd (false≢true (sym moves))
+  instruction address n (Jal rd offset) last has range asked moves e = absurd (false≢true (sym moves))
+  instruction address n Ecall last has range asked moves e = absurd (cc)
+  instruction address n Ebreak last has range asked moves e = absurd (cc)
+  instruction address n i last has range asked moves e = absurd (false≢true has)
+
+  -- a jump, to a label or out
+  jump_runs : (address n : ℕ) (i : Instr) → AreLast code (Does address n i ∷ rest) → InRange i → one_less g.left < 2 ^ 31 → is_jump_line i ≡ true
+      → IsCovered (line_step Assembly p code (Does address n i ∷ rest) g).place
+      → Follows t p l base code (record { rip = base + start code (Does address n i ∷ rest); core = c }) (line_step Assembly p code (Does address n i ∷ rest) g)
+  jump_runs address n (Branch cond rs1 rs2 offset) last range few_left is covered =
       let line = Does address n (Branch cond rs1 rs2 offset) in
       let target = offset_by address offset in
-      let leads = branch_lines_run Assembly p code rest address n cond rs1 rs2 offset (distances code rest target) l t _ g c range (own line last) (canonical line last target) in
-      subst (λ a. LeadsTo t (place line last) a p l c (line_step Assembly p code (line ∷ rest) g)) (either line last (is_taken cond (value p g rs1) (value p g rs2)) address (one_less g.left) target e) leads
-  instruction address n (Jal rd offset) last has range asked e =
+      let j = jump_of (distances code rest) (distance_out code rest) address target in
+      let leads = branch_lines_run Assembly p code rest address n cond rs1 rs2 offset j l t _ g c range few_left (is_jump line last address target (branch_long cond rs1 rs2 j)) (own line last) in
+      record {
+        after = record { rip = _; core = leads.0.after };
+        reached = leads.0.reached;
+        alike = record {
+          related = leads.0.related;
+          is_at = branch_arrives line last (is_taken cond (value p g rs1) (value p g rs2)) address n target (one_less g.left) leads.0.after leads.1 covered;
+        };
+        others = leads.0.others;
+      }
+  jump_runs address n (Jal rd offset) last range few_left is covered =
       let line = Does address n (Jal rd offset) in
       let target = offset_by address offset in
-      let leads = jal_lines_run Assembly p code rest address n rd offset (distances code rest target) l t _ g c range (own line last) (canonical line last target) in
-      subst (λ a. LeadsTo t (place line last) a p l c (line_step Assembly p code (line ∷ rest) g)) (to_label line last address (one_less g.left) target e) leads
-  instruction address n Ecall last has range asked e = absurd (cc)
-  instruction address n Ebreak last has range asked e = absurd (cc)
-  instruction address n i last has range asked e = absurd (false≢true has)
+      let j = jump_of (distances code rest) (distance_out code rest) address target in
+      let leads = jal_lines_run Assembly p code rest address n rd offset j l t _ g c range few_left (is_jump line last address target (jal_long rd (address_after address n) j)) (own line last) in
+      record {
+        after = record { rip = _; core = leads.0.after };
+        reached = leads.0.reached;
+        alike = record { related = leads.0.related; is_at = jump_arrives line last address target target (one_less g.left) leads.0.after leads.1 refl covered };
+        others = leads.0.others;
+      }
+  jump_runs address n i last range few_left is covered = absurd (false≢true is)
 
   -- a line that goes out
   left_by : (address : ℕ) (line : Line) → AreLast code (line ∷ rest) → placed code rest line ≡ leave_line address (distance_out code rest)
@@ -166,13 +241,13 @@ module _ (p : Part) (code rest to : List Line) (l : Layout) (t : Text) (base : �
       let from = base + start code (line ∷ rest) in
       let out = distance_out code rest in
       let out_is : jumped (end_of from (leave_line address out)) out ≡ base + size_of_all code =
-      ap (λ is. jumped (end_of from is) out) (sym is) ∙ ap (λ a. jumped a out) (ends line last) ∙ end_reached base code rest few low in
+      ap (λ is. jumped (end_of from is) out) (sym is) ∙ ap (λ a. jumped a out) (ends line last) ∙ end_reached base code rest few low_end in
       let before : IsBefore (leave_line address out) t from p l g c = subst (λ is. IsBefore is t from p l g c) is (own line last) in
-      let it = leaves p l t from address out g c before (ap is_canonical out_is ∙ low_canonical (base + size_of_all code) low) in
+      let it = leaves p l t from address out g c before (ap is_canonical out_is ∙ low_canonical (base + size_of_all code) low_end) in
       record { after = _; reached = it.reached; alike = record { related = related_goes p l g it.after Slow address it.related; is_at = (out_is, it.edx) }; others = it.others }
 
   -- a line that isn't a jump and leads to a slow step
-  slow_instruction : (address n : ℕ) (i : Instr) → AreLast code (Does address n i ∷ rest) → has_code i ≡ true → Accesses p g i → target_of (Does address n i) ≡ None
+  slow_instruction : (address n : ℕ) (i : Instr) → AreLast code (Does address n i ∷ rest) → has_code i ≡ true → Accesses p g i → is_jump_line i ≡ false
       → (line_step Assembly p code (Does address n i ∷ rest) g).place ≡ Slow
       → Follows t p l base code (record { rip = base + start code (Does address n i ∷ rest); core = c }) (line_step Assembly p code (Does address n i ∷ rest) g)
   slow_instruction address n Ecall last has asked none e = left_by address (Does address n Ecall) last refl
@@ -180,8 +255,8 @@ module _ (p : Part) (code rest to : List Line) (l : Layout) (t : Text) (base : �
   slow_instruction address n (Load kind rd rs1 imm) last has asked none e = absurd (not_slow _ _ _ rest asked.0.tested refl e)
   slow_instruction address n (Store width rs1 rs2 imm) last has asked none e = absurd (not_slow _ _ _ rest asked.0.tested refl e)
   slow_instruction address n (Jalr rd rs1 imm) last has asked none e = absurd (false≢true has)
-  slow_instruction address n (Branch cond rs1 rs2 offset) last has asked none e = absurd (cc)
-  slow_instruction address n (Jal rd offset) last has asked none e = absurd (cc)
+  slow_instruction address n (Branch cond rs1 rs2 offset) last has asked none e = absurd (false≢true (sym none))
+  slow_instruction address n (Jal rd offset) last has asked none e = absurd (false≢true (sym none))
   slow_instruction address n (Op op rd rs1 rs2) last has asked none e = absurd (cc)
   slow_instruction address n (OpImm op rd rs1 imm) last has asked none e = absurd (cc)
   slow_instruction address n (Lui rd imm) last has asked none e = absurd (cc)
@@ -197,29 +272,36 @@ module _ (p : Part) (code rest to : List Line) (l : Layout) (t : Text) (base : �
     out = distance_out code rest
 
     out_is : jumped (end_of from (head_line address out)) out ≡ base + size_of_all code
-    out_is = ap (λ a. jumped a out) (ends (Head address) last) ∙ end_reached base code rest few low
+    out_is = ap (λ a. jumped a out) (ends (Head address) last) ∙ end_reached base code rest few low_end
 
-    tests : Tests p l t from address out g c
-    tests = head_tests p l t from address out g c (own (Head address) last) left (ap is_canonical out_is ∙ low_canonical (base + size_of_all code) low)
+    same : low Dword (c.registers 14) ≡ g.left % 2 ^ 31
+    same = omega (arith, here.related.left, left)
+
+    tests : Tests t from address out g.left c
+    tests = head_tests t from address out g.left c here.text_is_fixed here.text_is_low (own (Head address) last).stands same (ap is_canonical out_is ∙ low_canonical (base + size_of_all code) low_end)
+
+    -- what it keeps
+    tested : IsRelated p l g tests.after
+    tested = related_kept p l here.layout g c tests.after here.related tests.kept
 
     head : (short : Bool) → Reaches t (record { rip = from; core = c })
         (record { rip = if short then jumped (end_of from (head_line address out)) out else end_of from (head_line address out); core = tests.after })
         → Follows t p l base code (record { rip = from; core = c }) (if short then goes_with g Slow address else goes g (Before rest))
-    head true reached = record { after = _; reached = reached; alike = record { related = related_goes p l g tests.after Slow address tests.related; is_at = (out_is, tests.edx) }; others = tests.others }
+    head true reached = record { after = _; reached = reached; alike = record { related = related_goes p l g tests.after Slow address tested; is_at = (out_is, tests.edx) }; others = others_kept p l c tests.after tests.kept }
     head false reached = record {
       after = _;
       reached = reached;
-      alike = record { related = related_goes p l g tests.after (Before rest) g.state.hart.pc tests.related; is_at = ends (Head address) last };
-      others = tests.others;
+      alike = record { related = related_goes p l g tests.after (Before rest) g.state.hart.pc tested; is_at = ends (Head address) last };
+      others = others_kept p l c tests.after tests.kept;
     }
 
 -- ==== As the turn goes.
 
 -- where a step of a line leads
-led : (line : Line) (comes : ControlPoint) → IsCovered line comes → ((to : List Line) × (comes ≡ Before to)) ⊎ ((comes ≡ Slow) × (target_of line ≡ None))
-led line (Before to) covered = inl (to, refl)
-led line Slow covered = inr (refl, covered)
-led line _ covered = absurd covered
+led : (comes : ControlPoint) → IsCovered comes → ((to : List Line) × (comes ≡ Before to)) ⊎ (comes ≡ Slow)
+led (Before to) covered = inl (to, refl)
+led Slow covered = inr refl
+led _ covered = absurd covered
 
 module _ (p : Part) (code rest : List Line) (l : Layout) (t : Text) (base : ℕ) (g : Going) (m : Machine) (here : IsBefore (code_of code code) t base p l g m.core) (few : size_of_all code < 2 ^ 31) where
   abbrev start_of : Line → Machine
@@ -232,18 +314,20 @@ module _ (p : Part) (code rest : List Line) (l : Layout) (t : Text) (base : ℕ)
       let n : Machine = record { rip = base + start code to; core = leads.after } in
       record { after = n; reached = leads.reached; alike = record { related = leads.related; is_at = subst (λ place. IsAtPlace base code place k.state.hart.pc n) (sym e) refl }; others = leads.others }
 
-  line_runs : (line : Line) → AreLast code (line ∷ rest) → IsReady p g line → IsCovered line (line_step Assembly p code (line ∷ rest) g).place
+  line_runs : (line : Line) → AreLast code (line ∷ rest) → IsReady p g line → IsCovered (line_step Assembly p code (line ∷ rest) g).place
       → Follows t p l base code (start_of line) (line_step Assembly p code (line ∷ rest) g)
   line_runs (Function sandbox at) last ready covered = leads_on (Function sandbox at) rest _ refl (nothing p code rest rest l t base g m.core here few (Function sandbox at) last refl refl)
   line_runs (End at) last ready covered = leads_on (End at) rest _ refl (nothing p code rest rest l t base g m.core here few (End at) last refl refl)
   line_runs (Entry at) last ready covered = leads_on (Entry at) rest _ refl (nothing p code rest rest l t base g m.core here few (Entry at) last refl refl)
   line_runs (Head at) last ready covered =
       head p code rest rest l t base g m.core here few at last ready (is_short Assembly g.left) (tests p code rest rest l t base g m.core here few at last ready).reached
-  line_runs (Does at n i) last ready covered =
-      elim (led (Does at n i) (line_step Assembly p code (Does at n i ∷ rest) g).place covered) [
-        | inl to ↦ leads_on (Does at n i) to.0 _ to.1 (instruction p code rest to.0 l t base g m.core here few at n i last ready.0 ready.1 ready.2 to.1)
-        | inr slow ↦ slow_instruction p code rest rest l t base g m.core here few at n i last ready.0 ready.2 slow.1 slow.0
-      ]
+  line_runs (Does at n i) last ready covered = elim (cases_Bool (is_jump_line i)) [
+    | inl jump ↦ jump_runs p code rest rest l t base g m.core here few at n i last ready.1 ready.3 jump covered
+    | inr none ↦ elim (led (line_step Assembly p code (Does at n i ∷ rest) g).place covered) [
+      | inl to ↦ leads_on (Does at n i) to.0 _ to.1 (instruction p code rest to.0 l t base g m.core here few at n i last ready.0 ready.1 ready.2 none to.1)
+      | inr slow ↦ slow_instruction p code rest rest l t base g m.core here few at n i last ready.0 ready.2 none slow
+    ]
+  ]
 
 pub placed_lines_run : PlacedLinesRun
 placed_lines_run p code rest line l t base g m here few last place is_at ready covered =

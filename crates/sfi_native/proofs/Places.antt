@@ -3,12 +3,14 @@ use Rattle.std.proofs.Common.{◌≡◌, ℕ, ◌+◌, ◌^◌, ◌<◌, ◌≤�
 use Rattle.std.specs.Prelude.{◌==◌}
 use Rattle.std.proofs.lemmas.Bool.{cases_lt, le-ltb, lt-ltb}
 use Rattle.rv_word.specs.declared.instr.Instr.TheVariants.{Branch, Jal, Ecall, Ebreak}
+use Rattle.rv_word.specs.Spelling.{offset_by}
 use Rattle.rv_mem.specs.Bytes.{address_after}
 use Rattle.sfi_translate.specs.Lines.{Line, Function, End, Entry, Head, Does}
 use Rattle.sfi_translate.specs.Machine.{label, most}
 use Rattle.x86_instr.specs.declared.instr.Instr.{Instr as Native}
 use Rattle.x86_instr.specs.declared.instr.Instr.TheVariants.{AluImm, Jcc, Jmp, MovImm}
 use Rattle.x86_instr.specs.declared.instr.AluOp.TheVariants as alu
+use Rattle.x86_instr.specs.declared.instr.Condition.{Condition}
 use Rattle.x86_instr.specs.declared.instr.Condition.TheVariants.{Below}
 use Rattle.x86_instr.specs.declared.instr.Width.TheVariants.{Dword}
 use Rattle.x86_instr.specs.declared.operand.Operand.TheVariants.{Reg}
@@ -18,24 +20,43 @@ use Rattle.x86_step.specs.State.{Text}
 use Rattle.x86_step.specs.Step.{is_canonical, jumped}
 use Rattle.x86_step.specs.Running.{HasAt, spellings}
 use Rattle.x86_step.proofs.Running.{has_back, has_front, spellings_append}
+use Rattle.sfi_native.specs.declared.jump.Jump.{Jump}
+use Rattle.sfi_native.proofs.Lists.{tested_size}
 use Rattle.sfi_native.proofs.Runs.{low_canonical}
-use Rattle.sfi_native.specs.Code.{compare_code, condition_of, count, number_code}
-use Rattle.sfi_native.specs.Places.{AreLast, code_of, distance, distance_out, distances, line_code, placed, size_of, size_of_all, start, start_or_end}
+use Rattle.sfi_native.specs.Code.{compare_code, count, has_test, number_code, opposite, tested_jump, unless}
+use Rattle.sfi_native.specs.Places.{AreLast, code_of, distance, distance_out, distances, jump_of, line_code, placed, size_of, size_of_all, start, start_or_end}
 
 -- ==== Sizes.
 
-last_size : (front : List Native) (a b : Native) → length (spellings (a ∷ [])) ≡ length (spellings (b ∷ [])) → length (spellings (front ++ (a ∷ []))) ≡ length (spellings (front ++ (b ∷ [])))
-last_size front a b same =
-    omega (arith, same, ap length (spellings_append front (a ∷ [])), ap length (spellings_append front (b ∷ [])), length-append (spellings front) (spellings (a ∷ [])), length-append (spellings front) (spellings (b ∷ [])))
+behind_size : (front a b : List Native) → length (spellings a) ≡ length (spellings b) → length (spellings (front ++ a)) ≡ length (spellings (front ++ b))
+behind_size front a b same =
+    omega (arith, same, ap length (spellings_append front a), ap length (spellings_append front b), length-append (spellings front) (spellings a), length-append (spellings front) (spellings b))
+
+-- distances don't matter
+jump_same : (j k : Jump) → has_test j ≡ has_test k → length (spellings (tested_jump j)) ≡ length (spellings (tested_jump k))
+jump_same j k is = tested_size j ∙ ap (λ t. if t then 20 else 5) is ∙ sym (tested_size k)
+
+unless_same : (condition : Condition) (a b : List Native) → length (spellings a) ≡ length (spellings b) → length (spellings (unless condition a)) ≡ length (spellings (unless condition b))
+unfolding spelling
+unless_same condition a b same = omega (arith, same, length-append (spelling (Jcc condition (length (spellings a)))) (spellings a), length-append (spelling (Jcc condition (length (spellings b)))) (spellings b))
 
 pub line_size : (d : ℕ → ℕ) (out : ℕ) (line : Line) → length (spellings (line_code d out line)) ≡ size_of line
 unfolding spelling
-line_size d out (Does at n (Branch cond rs1 rs2 offset)) = last_size (compare_code rs1 rs2) (Jcc (condition_of cond) _) (Jcc (condition_of cond) 0) refl
-line_size d out (Does at n (Jal rd offset)) = last_size (number_code rd (address_after at n) ++ count) (Jmp _) (Jmp 0) refl
-line_size d out (Does at n Ecall) = last_size (MovImm Rdx at ∷ []) (Jmp out) (Jmp 0) refl
-line_size d out (Does at n Ebreak) = last_size (MovImm Rdx at ∷ []) (Jmp out) (Jmp 0) refl
+line_size d out (Does at n (Branch cond rs1 rs2 offset)) =
+    let to = offset_by at offset in
+    let j = jump_of d out at to in
+    let k = jump_of (λ to. 0) 0 at to in
+    behind_size (compare_code rs1 rs2) (unless (opposite cond) (tested_jump j)) (unless (opposite cond) (tested_jump k))
+    (unless_same (opposite cond) (tested_jump j) (tested_jump k) (jump_same j k refl))
+line_size d out (Does at n (Jal rd offset)) =
+    let to = offset_by at offset in
+    let j = jump_of d out at to in
+    let k = jump_of (λ to. 0) 0 at to in
+    behind_size (number_code rd (address_after at n) ++ count) (tested_jump j) (tested_jump k) (jump_same j k refl)
+line_size d out (Does at n Ecall) = behind_size (MovImm Rdx at ∷ []) (Jmp out ∷ []) (Jmp 0 ∷ []) refl
+line_size d out (Does at n Ebreak) = behind_size (MovImm Rdx at ∷ []) (Jmp out ∷ []) (Jmp 0 ∷ []) refl
 line_size d out (Does at n i) = refl
-line_size d out (Head at) = last_size (MovImm Rdx at ∷ AluImm alu.Cmp Dword (Reg R14) most ∷ []) (Jcc Below out) (Jcc Below 0) refl
+line_size d out (Head at) = behind_size (MovImm Rdx at ∷ AluImm alu.Cmp Dword (Reg R14) most ∷ []) (Jcc Below out ∷ []) (Jcc Below 0 ∷ []) refl
 line_size d out line = refl
 
 pub sizes_append : (front rest : List Line) → size_of_all (front ++ rest) ≡ size_of_all front + size_of_all rest

@@ -1,5 +1,5 @@
 -- The instructions of x86-64 that a line becomes. eax, ecx and edx are free between lines.
-use Rattle.std.specs.Prelude.{ℕ, ◌+◌, ◌-◌, ◌*◌, ◌%◌, ◌^◌, ◌==◌, ◌||◌, Bool, true, false, List, [], ◌∷◌, ◌++◌, length, if◌then◌else◌}
+use Rattle.std.specs.Prelude.{ℕ, ◌+◌, ◌-◌, ◌*◌, ◌/◌, ◌%◌, ◌^◌, ◌==◌, ◌||◌, nat_le, not, Bool, true, false, List, [], ◌∷◌, ◌++◌, length, if◌then◌else◌}
 use Rattle.rv_word.specs.declared.instr.RegOp.{RegOp}
 use Rattle.rv_word.specs.declared.instr.RegOp.TheVariants.{Add, Sub, Sll, Slt, Sltu, Xor, Srl, Sra, Or, And, Mul, Mulh, Mulhsu, Mulhu, Div, Divu, Rem, Remu}
 use Rattle.rv_word.specs.declared.instr.ImmOp.{ImmOp}
@@ -13,6 +13,7 @@ use Rattle.rv_word.specs.declared.instr.Cond.TheVariants.{Beq, Bne, Blt, Bge, Bl
 use Rattle.rv_word.specs.declared.instr.Instr.{Instr}
 use Rattle.rv_word.specs.declared.instr.Instr.TheVariants.{Op, OpImm, Lui, Auipc, Fence}
 use Rattle.rv_step.specs.Step.{word}
+use Rattle.sfi_translate.specs.Lines.{head_bytes}
 use Rattle.sfi_translate.specs.Machine.{most}
 use Rattle.x86_instr.specs.declared.operand.Register.{Register}
 use Rattle.x86_instr.specs.declared.operand.Register.TheVariants.{Rax, Rcx, Rdx, Rsp, R14, R15}
@@ -31,6 +32,7 @@ use Rattle.x86_instr.specs.declared.instr.Condition.TheVariants.{AboveOrEqual, B
 use Rattle.x86_instr.specs.declared.instr.Instr.{Instr as Native}
 use Rattle.x86_instr.specs.declared.instr.Instr.TheVariants.{Mov, MovStore, MovStoreByte, MovStoreWord, MovImm, MovExtended, Movsxd, Alu, AluImm, Test, Unary, ShiftImm, ShiftCl, Imul, Divide, Cdq, Setcc, Jcc, Jmp}
 use Rattle.x86_step.specs.Running.{spellings}
+use Rattle.sfi_native.specs.declared.jump.Jump.{Jump}
 
 -- x0 and x24 to x27 have one value for lines, so that none writes them
 abbrev pub is_fixed : ℕ → Bool
@@ -161,26 +163,54 @@ count = AluImm alu.Sub Dword (Reg R14) 1 ∷ []
 abbrev pub computing_line : ℕ → Instr → List Native
 computing_line at i = computation at i ++ count
 
--- ==== Jumps. Their step is counted before, as that changes flags; the distance is from the line's end.
+-- ==== Slow steps: edx has the address of the line.
 
-abbrev pub condition_of : Cond → Condition
-condition_of Beq = Equal
-condition_of Bne = NotEqual
-condition_of Blt = Less
-condition_of Bge = GreaterOrEqual
-condition_of Bltu = Below
-condition_of Bgeu = AboveOrEqual
+-- the line of a head, which goes over the distance where too few steps are left
+abbrev pub head_line : ℕ → ℕ → List Native
+head_line at distance = MovImm Rdx at ∷ AluImm alu.Cmp Dword (Reg R14) most ∷ Jcc Below distance ∷ []
+
+-- the line of an ecall or an ebreak, over the distance
+abbrev pub leave_line : ℕ → ℕ → List Native
+leave_line at distance = MovImm Rdx at ∷ Jmp distance ∷ []
+
+-- ==== Jumps. Their step is counted before, as that changes flags; distances are from the line's end.
+
+-- it goes backwards, or past a head
+abbrev pub has_test : Jump → Bool
+has_test j = nat_le j.to j.from || not ((j.from / head_bytes) == (j.to / head_bytes))
+
+-- the bytes of a jmp
+abbrev pub jump_size : ℕ
+jump_size = 5
+
+-- a head's test, before the jump
+abbrev pub test_code : Bool → Jump → List Native
+test_code true j = head_line j.to ((j.exit + jump_size) % 2 ^ 32)
+test_code false j = []
+
+-- a jump, with its test
+abbrev pub tested_jump : Jump → List Native
+tested_jump j = test_code (has_test j) j ++ (Jmp j.label ∷ [])
+
+-- where the branch isn't taken
+abbrev pub opposite : Cond → Condition
+opposite Beq = NotEqual
+opposite Bne = Equal
+opposite Blt = GreaterOrEqual
+opposite Bge = Less
+opposite Bltu = AboveOrEqual
+opposite Bgeu = Below
 
 abbrev pub compare_code : ℕ → ℕ → List Native
 compare_code rs1 rs2 = fetch Rax rs1 ++ (fetch Rcx rs2 ++ (count ++ (Alu alu.Cmp Dword Rax (Reg Rcx) ∷ [])))
 
 -- the line of a branch
-abbrev pub branch_line : Cond → ℕ → ℕ → ℕ → List Native
-branch_line cond rs1 rs2 distance = compare_code rs1 rs2 ++ (Jcc (condition_of cond) distance ∷ [])
+abbrev pub branch_line : Cond → ℕ → ℕ → Jump → List Native
+branch_line cond rs1 rs2 j = compare_code rs1 rs2 ++ unless (opposite cond) (tested_jump j)
 
 -- the line of a jal, behind which the address `next` comes
-abbrev pub jal_line : ℕ → ℕ → ℕ → List Native
-jal_line rd next distance = (number_code rd next ++ count) ++ (Jmp distance ∷ [])
+abbrev pub jal_line : ℕ → ℕ → Jump → List Native
+jal_line rd next j = (number_code rd next ++ count) ++ tested_jump j
 
 -- ==== Accesses: eax has the value of rs1, ecx that of rs2, r15 the origin of the data.
 
@@ -210,13 +240,3 @@ store_to Sw a = MovStore Dword a Rcx
 abbrev pub store_line : StoreWidth → ℕ → ℕ → ℕ → List Native
 store_line width rs1 rs2 displacement =
     fetch Rax rs1 ++ (fetch Rcx rs2 ++ ((store_to width (data_address displacement) ∷ []) ++ count))
-
--- ==== Slow steps: edx has the address of the line.
-
--- the line of a head, which goes over the distance where too few steps are left
-abbrev pub head_line : ℕ → ℕ → List Native
-head_line at distance = MovImm Rdx at ∷ AluImm alu.Cmp Dword (Reg R14) most ∷ Jcc Below distance ∷ []
-
--- the line of an ecall or an ebreak, over the distance
-abbrev pub leave_line : ℕ → ℕ → List Native
-leave_line at distance = MovImm Rdx at ∷ Jmp distance ∷ []

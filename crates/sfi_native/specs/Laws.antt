@@ -1,5 +1,5 @@
 -- What holds of the code of lines.
-use Rattle.std.specs.Prelude.{None, ◌≤◌, ℤ, if◌then◌else◌, ◌≡◌, ℕ, ◌+◌, ◌^◌, ◌<◌, true, List, ◌∷◌, length}
+use Rattle.std.specs.Prelude.{◌&&◌, Bool, ◌≤◌, ℤ, if◌then◌else◌, ◌≡◌, ℕ, ◌+◌, ◌^◌, ◌<◌, true, List, ◌∷◌, length}
 use Rattle.rv_word.specs.declared.instr.Cond.{Cond}
 use Rattle.rv_word.specs.declared.instr.Instr.{Instr}
 use Rattle.rv_word.specs.declared.instr.Instr.TheVariants.{Branch, Jal, Load, Store}
@@ -11,15 +11,15 @@ use Rattle.rv_step.specs.Step.{is_taken, load_size, store_size, word}
 use Rattle.sfi_image.specs.Parts.{HasGuardRoom}
 use Rattle.sfi_image.specs.Spelling.{Part}
 use Rattle.sfi_translate.specs.Lines.{Line, Head, Does}
-use Rattle.sfi_translate.specs.Machine.{Target, Assembly, ControlPoint, Before, Slow, Going, is_tested, line_step}
+use Rattle.sfi_translate.specs.Machine.{Target, Assembly, ControlPoint, Before, Slow, Going, is_short, is_tested, line_step, one_less}
 use Rattle.x86_step.specs.State.{Core, IsFixed, Machine, Text}
 use Rattle.x86_instr.specs.declared.instr.Instr.{Instr as Native}
 use Rattle.x86_step.specs.Step.{Reaches, is_canonical, jumped}
 use Rattle.x86_step.specs.Running.{HasAt, spellings}
+use Rattle.sfi_native.specs.declared.jump.Jump.{Jump}
 use Rattle.sfi_native.specs.declared.layout.Layout.{Layout}
 use Rattle.sfi_native.specs.Layout.{DoNotMeet, IsLayout, IsRelated, OthersStay, frame_size, value}
-use Rattle.sfi_native.specs.Code.{branch_line, computing_line, does_compute, jal_line, load_line, store_line}
-use Rattle.sfi_native.specs.Lines.{target_of}
+use Rattle.sfi_native.specs.Code.{branch_line, computing_line, does_compute, has_test, jal_line, jump_size, load_line, store_line}
 use Rattle.sfi_native.specs.Places.{AreLast, IsAt, code_of, has_code, placed, size_of_all, start}
 
 -- From a state of the processor at an address, code leads to another address, and to the state of the next turn.
@@ -68,25 +68,43 @@ ComputingLinesRun =
     → does_compute i ≡ true → InRange i → IsBefore (computing_line address i) t at p l g c
     → LeadsTo t at (end_of at (computing_line address i)) p l c (line_step target p code (Does address size i ∷ rest) g)
 
--- A branch goes over its distance where it is taken, if that leads to a canonical address, and else to its end.
+-- A tested jump goes out where too few steps are left.
+abbrev pub is_slow : Jump → ℕ → Bool
+is_slow j left = has_test j && is_short Assembly left
+
+-- From that end of its line a jump goes out or to its label.
+abbrev pub jump_place : ℕ → Jump → ℕ → ℕ
+jump_place end j left = jumped end (if is_slow j left then j.exit else j.label)
+
+-- Where it may go is canonical, and the way out leads ahead.
+pub record IsJump (end : ℕ) (j : Jump) : Type 0 where
+  pub ahead : j.exit + jump_size < 2 ^ 31
+  pub exit : is_canonical (jumped end j.exit) ≡ true
+  pub label : is_canonical (jumped end j.label) ≡ true
+
+-- A branch that is taken jumps, with its target in edx where it goes out; one that isn't goes to its end.
 abbrev pub BranchLinesRun : Type 0
 BranchLinesRun =
-    (target : Target) (p : Part) (code rest : List Line) (address size : ℕ) (cond : Cond) (rs1 rs2 : ℕ) (offset : ℤ) (distance : ℕ)
+    (target : Target) (p : Part) (code rest : List Line) (address size : ℕ) (cond : Cond) (rs1 rs2 : ℕ) (offset : ℤ) (j : Jump)
     (l : Layout) (t : Text) (at : ℕ) (g : Going) (c : Core)
-    → let end = end_of at (branch_line cond rs1 rs2 distance) in
-    InRange (Branch cond rs1 rs2 offset) → IsBefore (branch_line cond rs1 rs2 distance) t at p l g c
-    → is_canonical (jumped end distance) ≡ true
-    → LeadsTo t at (if is_taken cond (value p g rs1) (value p g rs2) then jumped end distance else end) p l c
-    (line_step target p code (Does address size (Branch cond rs1 rs2 offset) ∷ rest) g)
+    → let end = end_of at (branch_line cond rs1 rs2 j) in
+    let left = one_less g.left in
+    let taken = is_taken cond (value p g rs1) (value p g rs2) in
+    InRange (Branch cond rs1 rs2 offset) → left < 2 ^ 31 → IsJump end j → IsBefore (branch_line cond rs1 rs2 j) t at p l g c
+    → (it : LeadsTo t at (if taken then jump_place end j left else end) p l c
+    (line_step target p code (Does address size (Branch cond rs1 rs2 offset) ∷ rest) g))
+    × (taken ≡ true → is_slow j left ≡ true → it.after.registers 2 ≡ j.to)
 
--- a jal over its distance
+-- a jal jumps so
 abbrev pub JalLinesRun : Type 0
 JalLinesRun =
-    (target : Target) (p : Part) (code rest : List Line) (address size rd : ℕ) (offset : ℤ) (distance : ℕ) (l : Layout) (t : Text)
+    (target : Target) (p : Part) (code rest : List Line) (address size rd : ℕ) (offset : ℤ) (j : Jump) (l : Layout) (t : Text)
     (at : ℕ) (g : Going) (c : Core)
-    → let line = jal_line rd (address_after address size) distance in
-    InRange (Jal rd offset) → IsBefore line t at p l g c → is_canonical (jumped (end_of at line) distance) ≡ true
-    → LeadsTo t at (jumped (end_of at line) distance) p l c (line_step target p code (Does address size (Jal rd offset) ∷ rest) g)
+    → let line = jal_line rd (address_after address size) j in
+    let left = one_less g.left in
+    InRange (Jal rd offset) → left < 2 ^ 31 → IsJump (end_of at line) j → IsBefore line t at p l g c
+    → (it : LeadsTo t at (jump_place (end_of at line) j left) p l c (line_step target p code (Does address size (Jal rd offset) ∷ rest) g))
+    × (is_slow j left ≡ true → it.after.registers 2 ≡ j.to)
 
 -- a load from the data, of which each byte is there
 abbrev pub LoadLinesRun : Type 0
@@ -129,17 +147,17 @@ Accesses p g (Store width rs1 rs2 imm) =
     IsInData p to (store_size width) × IsThere g.state.memory to (store_size width)
 Accesses p g i = Unit {0}
 
--- A head's code compares all 32 bits of the steps left, of which the machine counts 31.
+-- Tests compare all 32 bits of the steps left, of which the machine counts 31.
 abbrev pub IsReady : Part → Going → Line → Type 0
-IsReady p g (Does at n i) = (has_code i ≡ true) × InRange i × Accesses p g i
+IsReady p g (Does at n i) = (has_code i ≡ true) × InRange i × Accesses p g i × (one_less g.left < 2 ^ 31)
 IsReady p g (Head at) = g.left < 2 ^ 31
 IsReady p g line = Unit {0}
 
--- where lines lead so far: no jump does to a slow step
-abbrev pub IsCovered : Line → ControlPoint → Type 0
-IsCovered line (Before to) = Unit {0}
-IsCovered line Slow = target_of line ≡ None
-IsCovered line place = ⊥
+-- where lines lead so far
+abbrev pub IsCovered : ControlPoint → Type 0
+IsCovered (Before to) = Unit {0}
+IsCovered Slow = Unit {0}
+IsCovered place = ⊥
 
 -- The processor is where the turn is, and has its state.
 pub record IsAlike (p : Part) (l : Layout) (base : ℕ) (code : List Line) (g : Going) (m : Machine) : Type 0 where
@@ -159,5 +177,5 @@ PlacedLinesRun =
     (p : Part) (code rest : List Line) (line : Line) (l : Layout) (t : Text) (base : ℕ) (g : Going) (m : Machine)
     → let next = line_step Assembly p code (line ∷ rest) g in
     IsBefore (code_of code code) t base p l g m.core → size_of_all code < 2 ^ 31 → AreLast code (line ∷ rest)
-    → g.place ≡ Before (line ∷ rest) → IsAt base code g m → IsReady p g line → IsCovered line next.place
+    → g.place ≡ Before (line ∷ rest) → IsAt base code g m → IsReady p g line → IsCovered next.place
     → Follows t p l base code m next

@@ -10,13 +10,18 @@ use Rattle.sfi_translate.specs.Machine.{ControlPoint, Before, Slow, Going, label
 use Rattle.x86_instr.specs.declared.instr.Instr.{Instr as Native}
 use Rattle.x86_step.specs.State.{Machine}
 use Rattle.x86_step.specs.Running.{spellings}
+use Rattle.sfi_native.specs.declared.jump.Jump.{Jump}
 use Rattle.sfi_native.specs.Code.{branch_line, computing_line, head_line, jal_line, leave_line, load_line, store_line}
+
+-- a jump between two addresses
+abbrev pub jump_of : (ℕ → ℕ) → ℕ → ℕ → ℕ → Jump
+jump_of distance out at to = record { from = at; to = to; label = distance to; exit = out }
 
 -- The instruction of n bytes at that address: `distance` tells how far labels are from the line's end, `out` how far the
 -- end of all lines is. An indirect jump has no code yet.
 abbrev pub instruction_code : (ℕ → ℕ) → ℕ → ℕ → ℕ → Instr → List Native
-instruction_code distance out at n (Branch cond rs1 rs2 offset) = branch_line cond rs1 rs2 (distance (offset_by at offset))
-instruction_code distance out at n (Jal rd offset) = jal_line rd (address_after at n) (distance (offset_by at offset))
+instruction_code distance out at n (Branch cond rs1 rs2 offset) = branch_line cond rs1 rs2 (jump_of distance out at (offset_by at offset))
+instruction_code distance out at n (Jal rd offset) = jal_line rd (address_after at n) (jump_of distance out at (offset_by at offset))
 instruction_code distance out at n (Load kind rd rs1 imm) = load_line kind rd rs1 (word imm)
 instruction_code distance out at n (Store width rs1 rs2 imm) = store_line width rs1 rs2 (word imm)
 instruction_code distance out at n (Jalr rd rs1 imm) = []

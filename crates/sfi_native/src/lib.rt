@@ -5,7 +5,7 @@
 //! instructions a line becomes, `specs/Layout.antt` when a processor has the state of a turn. Laws say that
 //! the bytes of lines then do what these do: `Facts::computing_lines_run`, `branch_lines_run`, `jal_lines_run`,
 //! `load_lines_run`, `store_lines_run`; `lines_stand`, `placed_lines_run` of all that [`compile`] writes
-//! (`specs/Places.antt`), up to jumps that lead to a slow step.
+//! (`specs/Places.antt`).
 #![tactic(auto)]
 
 mod access;
@@ -14,7 +14,7 @@ mod computation;
 mod division;
 pub mod frame;
 mod head;
-mod jump;
+pub mod jump;
 pub mod layout;
 pub mod line;
 mod operation;
@@ -26,6 +26,6 @@ pub use compilation::compile;
 pub use computation::push_computing_line;
 pub use frame::frame_of;
 pub use head::{push_head_line, push_leave_line};
-pub use jump::{push_branch_line, push_jal_line};
+pub use jump::{Jump, push_branch_line, push_jal_line};
 pub use layout::Layout;
 pub use line::{Line, push_line};

@@ -7,7 +7,7 @@ ghost use Rattle.x86_step.specs.Running.{spellings};
 use crate::access::{push_load_line, push_store_line};
 use crate::computation::push_computing_line;
 use crate::head::{push_head_line, push_leave_line};
-use crate::jump::{push_branch_line, push_jal_line};
+use crate::jump::{Jump, push_branch_line, push_jal_line};
 use rv_word::Instr;
 use std::alloc::AllocError;
 
@@ -40,8 +40,31 @@ fn put_instruction(
     ensures bytes { OnOk result (out.new.items ≡ out.old.items ++ spellings (instruction_code (λ to. label) exit at size instr)) }
 {
     match instr {
-        Instr::Branch { cond, rs1, rs2, .. } => push_branch_line(out, cond, rs1, rs2, label)?,
-        Instr::Jal { rd, .. } => push_jal_line(out, rd, at.wrapping_add(size), label)?,
+        Instr::Branch {
+            cond,
+            rs1,
+            rs2,
+            offset,
+        } => {
+            let to = at.wrapping_add_signed(offset);
+            let jump = Jump {
+                from: at,
+                to,
+                label,
+                exit,
+            };
+            push_branch_line(out, cond, rs1, rs2, jump)?
+        }
+        Instr::Jal { rd, offset } => {
+            let to = at.wrapping_add_signed(offset);
+            let jump = Jump {
+                from: at,
+                to,
+                label,
+                exit,
+            };
+            push_jal_line(out, rd, at.wrapping_add(size), jump)?
+        }
         Instr::Load { kind, rd, rs1, imm } => {
             push_load_line(out, kind, rd, rs1, imm.cast_unsigned())?
         }

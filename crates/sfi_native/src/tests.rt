@@ -1,6 +1,6 @@
 //! Lines of code, as the GNU assembler spells their instructions.
 use crate::{
-    Line, compile, push_branch_line, push_computing_line, push_head_line, push_jal_line,
+    Jump, Line, compile, push_branch_line, push_computing_line, push_head_line, push_jal_line,
     push_leave_line, push_line, push_load_line, push_store_line,
 };
 use rv_word::{Cond, ImmOp, Instr, LoadKind, Reg, RegOp, StoreWidth};
@@ -51,13 +51,14 @@ fn lines_are_spelled(rt: HostRuntime) -> Result<(), Fail> {
     Ok(())
 }
 
-const JUMPS: [u8; 63] = [
+const JUMPS: [u8; 68] = [
     139, 68, 36, 20, // mov eax, [rsp+20]
     139, 76, 36, 24, // mov ecx, [rsp+24]
     65, 131, 238, 1, // sub r14d, 1
     59, 193, // {load} cmp eax, ecx
-    15, 131, 0, 1, 0, 0, // jae .+262
-    184, 4, 0, 0, 1, // mov eax, 0x1000004
+    15, 130, 5, 0, 0, 0, // {disp32} jb 1f
+    233, 0, 1, 0, 0, // {disp32} jmp .+261
+    184, 4, 0, 0, 1, // 1: mov eax, 0x1000004
     137, 68, 36, 4, // mov [rsp+4], eax
     65, 131, 238, 1, // sub r14d, 1
     233, 240, 255, 255, 255, // jmp .-11
@@ -71,14 +72,24 @@ const JUMPS: [u8; 63] = [
 #[test]
 fn jumps_are_spelled(rt: HostRuntime) -> Result<(), Fail> {
     let mut out = Vec::new(rt.alloc());
+    let ahead = Jump {
+        from: 0x0100_0000,
+        to: 0x0100_0040,
+        label: 256,
+        exit: 4096,
+    };
     push_branch_line(
         &mut out,
         Cond::Bgeu,
         Reg::numbered(5),
         Reg::numbered(6),
-        256,
+        ahead,
     )?;
-    push_jal_line(&mut out, Reg::numbered(1), 0x0100_0004, 0xffff_fff0)?;
+    let near = Jump {
+        label: 0xffff_fff0,
+        ..ahead
+    };
+    push_jal_line(&mut out, Reg::numbered(1), 0x0100_0004, near)?;
     push_head_line(&mut out, 0x0100_0080, 4096)?;
     push_leave_line(&mut out, 0x0100_0084, 4096)?;
     assert!(rt; out.as_slice() == JUMPS.as_slice());
@@ -246,21 +257,25 @@ fn each_kind_of_line_is_spelled(rt: HostRuntime) -> Result<(), Fail> {
     Ok(())
 }
 
-const COMPILED: [u8; 62] = [
+const COMPILED: [u8; 82] = [
     186, 0, 0, 0, 1, // mov edx, 0x1000000
     65, 131, 254, 65, // cmp r14d, 65
-    15, 130, 47, 0, 0, 0, // {disp32} jb 9f
+    15, 130, 67, 0, 0, 0, // {disp32} jb 9f
     139, 68, 36, 20, // 1: mov eax, [rsp+20]
     139, 76, 36, 24, // mov ecx, [rsp+24]
     65, 131, 238, 1, // sub r14d, 1
     59, 193, // {load} cmp eax, ecx
-    15, 131, 9, 0, 0, 0, // {disp32} jae 2f
-    184, 0, 176, 173, 222, // mov eax, 0xdeadb000
+    15, 130, 5, 0, 0, 0, // {disp32} jb 3f
+    233, 9, 0, 0, 0, // {disp32} jmp 2f
+    184, 0, 176, 173, 222, // 3: mov eax, 0xdeadb000
     65, 131, 238, 1, // sub r14d, 1
     184, 12, 0, 0, 1, // 2: mov eax, 0x100000c
     137, 68, 36, 4, // mov [rsp+4], eax
     65, 131, 238, 1, // sub r14d, 1
-    233, 209, 255, 255, 255, // {disp32} jmp 1b; 9:
+    186, 0, 0, 0, 1, // mov edx, 0x1000000
+    65, 131, 254, 65, // cmp r14d, 65
+    15, 130, 5, 0, 0, 0, // {disp32} jb 9f
+    233, 189, 255, 255, 255, // {disp32} jmp 1b; 9:
 ];
 
 #[test]
