@@ -1,11 +1,12 @@
 -- What holds of the code of lines: laws, for proofs in the crates above.
-use Rattle.sfi_native.specs.Laws.{BranchLinesRun, ComputingLinesRun, EachCodeCanBeRun, JalLinesRun, LinesStand, LoadLinesRun, PlacedLinesRun, StoreLinesRun}
+use Rattle.sfi_native.specs.Laws.{BranchLinesRun, ComputingLinesRun, EachCodeCanBeRun, JalLinesRun, LinesStand, LoadLinesRun, PlacedLinesRun, PlacedStepsRun, StoreLinesRun}
 use Rattle.sfi_native.proofs.Held as held
 use Rattle.sfi_native.proofs.Jumps as jumps
 use Rattle.sfi_native.proofs.Lines as lines
 use Rattle.sfi_native.proofs.Loads as loads
 use Rattle.sfi_native.proofs.Placed as placed
 use Rattle.sfi_native.proofs.Places as places
+use Rattle.sfi_native.proofs.Steps as steps
 use Rattle.sfi_native.proofs.Stores as stores
 
 pub each_code_can_be_run : EachCodeCanBeRun
@@ -31,3 +32,6 @@ lines_stand t base code rest line stands last = places.line_stands t code base s
 
 pub placed_lines_run : PlacedLinesRun
 placed_lines_run = placed.placed_lines_run
+
+pub placed_steps_run : PlacedStepsRun
+placed_steps_run = steps.placed_steps_run

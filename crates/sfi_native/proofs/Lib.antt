@@ -20,5 +20,6 @@ pub mod Loads
 pub mod Stores
 pub mod Heads
 pub mod Placed
+pub mod Steps
 pub mod Compiled
 pub mod Facts

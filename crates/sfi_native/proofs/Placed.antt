@@ -1,5 +1,5 @@
 -- Lines among all lines of the code, from where each begins to where the next does.
-use Rattle.std.proofs.Common.{◌++◌, length, length-append, ◌%◌, ◌≤◌, ◌&&◌, ◌⊎◌, inl, inr, None, ◌≡◌, ℕ, ◌+◌, ◌^◌, ◌<◌, Bool, true, false, List, [], ◌∷◌, Option, Some, refl, sym, ap, ◌∙◌, subst, arith, if◌then◌else◌}
+use Rattle.std.proofs.Common.{append_assoc, ◌++◌, length, length-append, ◌%◌, ◌≤◌, ◌&&◌, ◌⊎◌, inl, inr, None, ◌≡◌, ℕ, ◌+◌, ◌^◌, ◌<◌, Bool, true, false, List, [], ◌∷◌, Option, Some, refl, sym, ap, ◌∙◌, subst, arith, if◌then◌else◌}
 use Rattle.std.proofs.lemmas.Bool.{cases_Bool, false≢true}
 use Rattle.rv_word.specs.declared.instr.Cond.{Cond}
 use Rattle.rv_word.specs.declared.instr.Instr.{Instr}
@@ -31,7 +31,7 @@ use Rattle.sfi_native.proofs.Fetching.{related_kept}
 use Rattle.sfi_native.proofs.Lists.{tested_size}
 use Rattle.sfi_native.proofs.Lines.{computing_lines_run}
 use Rattle.sfi_native.proofs.Loads.{load_lines_run}
-use Rattle.sfi_native.proofs.Places.{code_size, label_canonical, end_reached, label_reached, last_below, line_size, line_ends, line_stands}
+use Rattle.sfi_native.proofs.Places.{code_size, label_canonical, end_reached, label_last, label_reached, last_below, line_size, line_ends, line_stands}
 use Rattle.sfi_native.proofs.Runs.{bytes_end, low_canonical}
 use Rattle.sfi_native.proofs.Stores.{store_lines_run}
 
@@ -42,15 +42,16 @@ same_lines rest to e = cc
 
 -- where a processor is after a jump
 jump_at : (base : ℕ) (code : List Line) (pc : ℕ) (m : Machine) (end exit label : ℕ) (tested short : Bool) (o : Option (List Line)) (to : ℕ)
+    → ((rest : List Line) → o ≡ Some rest → AreLast code rest)
     → jumped end label ≡ base + start_or_end code o → jumped end exit ≡ base + size_of_all code
     → m.rip ≡ jumped end (if tested && short then exit else label) → (tested && short ≡ true → m.core.registers 2 ≡ to) → to ≡ pc
     → IsCovered (if tested then (if short then Slow else before_or Lost o) else before_or Lost o)
     → IsAtPlace base code (if tested then (if short then Slow else before_or Lost o) else before_or Lost o) pc m
-jump_at base code pc m end exit label true true o to near out rip edx pc_is covered = (rip ∙ out, edx refl ∙ pc_is)
-jump_at base code pc m end exit label true false (Some rest) to near out rip edx pc_is covered = rip ∙ near
-jump_at base code pc m end exit label false short (Some rest) to near out rip edx pc_is covered = rip ∙ near
-jump_at base code pc m end exit label true false None to near out rip edx pc_is covered = absurd covered
-jump_at base code pc m end exit label false short None to near out rip edx pc_is covered = absurd covered
+jump_at base code pc m end exit label true true o to last near out rip edx pc_is covered = (rip ∙ out, edx refl ∙ pc_is)
+jump_at base code pc m end exit label true false (Some rest) to last near out rip edx pc_is covered = (rip ∙ near, last rest refl)
+jump_at base code pc m end exit label false short (Some rest) to last near out rip edx pc_is covered = (rip ∙ near, last rest refl)
+jump_at base code pc m end exit label true false None to last near out rip edx pc_is covered = absurd covered
+jump_at base code pc m end exit label false short None to last near out rip edx pc_is covered = absurd covered
 
 of_done : (done : Bool) (one other : Going) (to : List Line) → done ≡ true → (if done then one else other).place ≡ Before to → one.place ≡ Before to
 of_done true one other to is e = e
@@ -75,6 +76,10 @@ related_goes p l g c place pc is = record {
   bytes_are_written = is.bytes_are_written;
   origin_is = is.origin_is;
 }
+
+-- the lines behind
+tail_last : (code rest : List Line) (line : Line) → AreLast code (line ∷ rest) → AreLast code rest
+tail_last code rest line last = record { front = last.front ++ (line ∷ []); is = last.is ∙ sym (append_assoc last.front (line ∷ []) rest) }
 
 -- ==== A line.
 
@@ -126,8 +131,9 @@ module _ (p : Part) (code rest to : List Line) (l : Layout) (t : Text) (base : �
     ends = line_ends t code base here.stands line rest last
 
     -- to the next line
-    on : (k : Going) → LeadsTo t place (end_of place (placed code rest line)) p l c k → Before rest ≡ Before to → LeadsTo t place (base + start code to) p l c k
-    on k leads e = subst (λ a. LeadsTo t place a p l c k) (ends ∙ ap (λ r. base + start code r) (sym (same_lines rest to e))) leads
+    on : (k : Going) → LeadsTo t place (end_of place (placed code rest line)) p l c k → Before rest ≡ Before to → LeadsTo t place (base + start code to) p l c k × AreLast code to
+    on k leads e =
+        (subst (λ a. LeadsTo t place a p l c k) (ends ∙ ap (λ r. base + start code r) (sym (same_lines rest to e))) leads, subst (λ r. AreLast code r) (sym (same_lines rest to e)) (tail_last code rest line last))
 
     abbrev line_end : ℕ
     line_end = end_of place (placed code rest line)
@@ -153,7 +159,7 @@ module _ (p : Part) (code rest to : List Line) (l : Layout) (t : Text) (base : �
     jump_arrives address target pc left after edx pc_is covered =
         let j = jump_of (distances code rest) (distance_out code rest) address target in
         jump_at base code pc (record { rip = jump_place line_end j left; core = after }) line_end j.exit j.label (has_test j) (is_short Assembly left) (label target code) target
-        (label_is target) exit_is refl edx pc_is covered
+        (λ lines e. label_last target code lines e) (label_is target) exit_is refl edx pc_is covered
 
     -- a branch, taken or not
     branch_arrives : (taken : Bool) (address n target : ℕ) (left : ℕ) (after : Core)
@@ -163,10 +169,10 @@ module _ (p : Part) (code rest to : List Line) (l : Layout) (t : Text) (base : �
         (if taken then with_pc (with_pc (fixed p g.state.hart) address) target else past (with_pc (fixed p g.state.hart) address) n).pc
         (record { rip = if taken then jump_place line_end (jump_of (distances code rest) (distance_out code rest) address target) left else line_end; core = after })
     branch_arrives true address n target left after edx covered = jump_arrives address target target left after (edx refl) refl covered
-    branch_arrives false address n target left after edx covered = ends
+    branch_arrives false address n target left after edx covered = (ends, tail_last code rest line last)
 
     -- a line without code
-    nothing : placed code rest line ≡ [] → Before rest ≡ Before to → LeadsTo t place (base + start code to) p l c (goes g (Before rest))
+    nothing : placed code rest line ≡ [] → Before rest ≡ Before to → LeadsTo t place (base + start code to) p l c (goes g (Before rest)) × AreLast code to
     nothing none e =
         let z : end_of place (placed code rest line) ≡ place = ap (end_of place) none ∙ omega arith in
         on (goes g (Before rest)) (subst (λ a. LeadsTo t place a p l c (goes g (Before rest))) (sym z) (record {
@@ -178,7 +184,7 @@ module _ (p : Part) (code rest to : List Line) (l : Layout) (t : Text) (base : �
 
   instruction : (address n : ℕ) (i : Instr) → AreLast code (Does address n i ∷ rest) → has_code i ≡ true → InRange i → Accesses p g i → is_jump_line i ≡ false
       → (line_step Assembly p code (Does address n i ∷ rest) g).place ≡ Before to
-      → LeadsTo t (base + start code (Does address n i ∷ rest)) (base + start code to) p l c (line_step Assembly p code (Does address n i ∷ rest) g)
+      → LeadsTo t (base + start code (Does address n i ∷ rest)) (base + start code to) p l c (line_step Assembly p code (Does address n i ∷ rest) g) × AreLast code to
   instruction address n (Op op rd rs1 rs2) last has range asked moves e =
       on (Does address n (Op op rd rs1 rs2)) last _ (computing_lines_run Assembly p code rest address n (Op op rd rs1 rs2) l t _ g c refl range (own (Does address n (Op op rd rs1 rs2)) last)) e
   instruction address n (OpImm op rd rs1 imm) last has range asked moves e =
@@ -291,7 +297,7 @@ module _ (p : Part) (code rest to : List Line) (l : Layout) (t : Text) (base : �
     head false reached = record {
       after = _;
       reached = reached;
-      alike = record { related = related_goes p l g tests.after (Before rest) g.state.hart.pc tested; is_at = ends (Head address) last };
+      alike = record { related = related_goes p l g tests.after (Before rest) g.state.hart.pc tested; is_at = (ends (Head address) last, tail_last code rest (Head address) last) };
       others = others_kept p l c tests.after tests.kept;
     }
 
@@ -308,21 +314,21 @@ module _ (p : Part) (code rest : List Line) (l : Layout) (t : Text) (base : ℕ)
   start_of line = record { rip = base + start code (line ∷ rest); core = m.core }
 
   -- what leads to lines leads on
-  leads_on : (line : Line) (to : List Line) (k : Going) → k.place ≡ Before to → LeadsTo t (base + start code (line ∷ rest)) (base + start code to) p l m.core k
+  leads_on : (line : Line) (to : List Line) (k : Going) → k.place ≡ Before to → LeadsTo t (base + start code (line ∷ rest)) (base + start code to) p l m.core k × AreLast code to
       → Follows t p l base code (start_of line) k
   leads_on line to k e leads =
-      let n : Machine = record { rip = base + start code to; core = leads.after } in
-      record { after = n; reached = leads.reached; alike = record { related = leads.related; is_at = subst (λ place. IsAtPlace base code place k.state.hart.pc n) (sym e) refl }; others = leads.others }
+      let n : Machine = record { rip = base + start code to; core = leads.0.after } in
+      record { after = n; reached = leads.0.reached; alike = record { related = leads.0.related; is_at = subst (λ place. IsAtPlace base code place k.state.hart.pc n) (sym e) (refl, leads.1) }; others = leads.0.others }
 
-  line_runs : (line : Line) → AreLast code (line ∷ rest) → IsReady p g line → IsCovered (line_step Assembly p code (line ∷ rest) g).place
+  line_runs : (line : Line) → AreLast code (line ∷ rest) → 0 < g.left → g.left < 2 ^ 31 → IsReady p g line → IsCovered (line_step Assembly p code (line ∷ rest) g).place
       → Follows t p l base code (start_of line) (line_step Assembly p code (line ∷ rest) g)
-  line_runs (Function sandbox at) last ready covered = leads_on (Function sandbox at) rest _ refl (nothing p code rest rest l t base g m.core here few (Function sandbox at) last refl refl)
-  line_runs (End at) last ready covered = leads_on (End at) rest _ refl (nothing p code rest rest l t base g m.core here few (End at) last refl refl)
-  line_runs (Entry at) last ready covered = leads_on (Entry at) rest _ refl (nothing p code rest rest l t base g m.core here few (Entry at) last refl refl)
-  line_runs (Head at) last ready covered =
-      head p code rest rest l t base g m.core here few at last ready (is_short Assembly g.left) (tests p code rest rest l t base g m.core here few at last ready).reached
-  line_runs (Does at n i) last ready covered = elim (cases_Bool (is_jump_line i)) [
-    | inl jump ↦ jump_runs p code rest rest l t base g m.core here few at n i last ready.1 ready.3 jump covered
+  line_runs (Function sandbox at) last some below ready covered = leads_on (Function sandbox at) rest _ refl (nothing p code rest rest l t base g m.core here few (Function sandbox at) last refl refl)
+  line_runs (End at) last some below ready covered = leads_on (End at) rest _ refl (nothing p code rest rest l t base g m.core here few (End at) last refl refl)
+  line_runs (Entry at) last some below ready covered = leads_on (Entry at) rest _ refl (nothing p code rest rest l t base g m.core here few (Entry at) last refl refl)
+  line_runs (Head at) last some below ready covered =
+      head p code rest rest l t base g m.core here few at last below (is_short Assembly g.left) (tests p code rest rest l t base g m.core here few at last below).reached
+  line_runs (Does at n i) last some below ready covered = elim (cases_Bool (is_jump_line i)) [
+    | inl jump ↦ jump_runs p code rest rest l t base g m.core here few at n i last ready.1 (omega (arith, some, below)) jump covered
     | inr none ↦ elim (led (line_step Assembly p code (Does at n i ∷ rest) g).place covered) [
       | inl to ↦ leads_on (Does at n i) to.0 _ to.1 (instruction p code rest to.0 l t base g m.core here few at n i last ready.0 ready.1 ready.2 none to.1)
       | inr slow ↦ slow_instruction p code rest rest l t base g m.core here few at n i last ready.0 ready.2 none slow
@@ -330,7 +336,12 @@ module _ (p : Part) (code rest : List Line) (l : Layout) (t : Text) (base : ℕ)
   ]
 
 pub placed_lines_run : PlacedLinesRun
-placed_lines_run p code rest line l t base g m here few last place is_at ready covered =
-    let rip : m.rip ≡ base + start code (line ∷ rest) = subst (λ q. IsAtPlace base code q g.state.hart.pc m) place is_at in
-    let leads = line_runs p code rest l t base g m here few line last ready covered in
-    record { after = leads.after; reached = subst (λ a. Reaches t (record { rip = a; core = m.core }) leads.after) (sym rip) leads.reached; alike = leads.alike; others = leads.others }
+placed_lines_run p code rest line l t base g m here few place is_at some below ready covered =
+    let at : (m.rip ≡ base + start code (line ∷ rest)) × AreLast code (line ∷ rest) = subst (λ q. IsAtPlace base code q g.state.hart.pc m) place is_at in
+    let leads = line_runs p code rest l t base g m here few line at.1 some below ready covered in
+    record {
+      after = leads.after;
+      reached = subst (λ a. Reaches t (record { rip = a; core = m.core }) leads.after) (sym at.0) leads.reached;
+      alike = leads.alike;
+      others = leads.others;
+    }

@@ -1,5 +1,5 @@
 -- What holds of the code of lines.
-use Rattle.std.specs.Prelude.{◌&&◌, Bool, ◌≤◌, ℤ, if◌then◌else◌, ◌≡◌, ℕ, ◌+◌, ◌^◌, ◌<◌, true, List, ◌∷◌, length}
+use Rattle.std.specs.Prelude.{zero, suc, ◌&&◌, Bool, ◌≤◌, ℤ, if◌then◌else◌, ◌≡◌, ℕ, ◌+◌, ◌^◌, ◌<◌, true, List, ◌∷◌, length}
 use Rattle.rv_word.specs.declared.instr.Cond.{Cond}
 use Rattle.rv_word.specs.declared.instr.Instr.{Instr}
 use Rattle.rv_word.specs.declared.instr.Instr.TheVariants.{Branch, Jal, Load, Store}
@@ -10,8 +10,8 @@ use Rattle.rv_mem.specs.Bytes.{IsMemory, IsThere, address_after}
 use Rattle.rv_step.specs.Step.{is_taken, load_size, store_size, word}
 use Rattle.sfi_image.specs.Parts.{HasGuardRoom}
 use Rattle.sfi_image.specs.Spelling.{Part}
-use Rattle.sfi_translate.specs.Lines.{Line, Head, Does}
-use Rattle.sfi_translate.specs.Machine.{Target, Assembly, ControlPoint, Before, Slow, Going, is_short, is_tested, line_step, one_less}
+use Rattle.sfi_translate.specs.Lines.{Line, Does}
+use Rattle.sfi_translate.specs.Machine.{Target, Assembly, ControlPoint, Before, Slow, Going, IsTranslatedStep, is_short, is_tested, line_step, one_less}
 use Rattle.x86_step.specs.State.{Core, IsFixed, Machine, Text}
 use Rattle.x86_instr.specs.declared.instr.Instr.{Instr as Native}
 use Rattle.x86_step.specs.Step.{Reaches, is_canonical, jumped}
@@ -147,10 +147,9 @@ Accesses p g (Store width rs1 rs2 imm) =
     IsInData p to (store_size width) × IsThere g.state.memory to (store_size width)
 Accesses p g i = Unit {0}
 
--- Tests compare all 32 bits of the steps left, of which the machine counts 31.
+-- it has code, and an access is in the data
 abbrev pub IsReady : Part → Going → Line → Type 0
-IsReady p g (Does at n i) = (has_code i ≡ true) × InRange i × Accesses p g i × (one_less g.left < 2 ^ 31)
-IsReady p g (Head at) = g.left < 2 ^ 31
+IsReady p g (Does at n i) = (has_code i ≡ true) × InRange i × Accesses p g i
 IsReady p g line = Unit {0}
 
 -- where lines lead so far
@@ -171,11 +170,31 @@ pub record Follows (t : Text) (p : Part) (l : Layout) (base : ℕ) (code : List 
   pub alike : IsAlike p l base code next after
   pub others : OthersStay p l m.core after.core
 
--- Where all lines' code stands, a line's leads on as its step does.
+-- Where all lines' code stands, a line's leads on as its step does. Tests compare all 32 bits of the steps left, of which
+-- the machine counts 31.
 abbrev pub PlacedLinesRun : Type 0
 PlacedLinesRun =
     (p : Part) (code rest : List Line) (line : Line) (l : Layout) (t : Text) (base : ℕ) (g : Going) (m : Machine)
     → let next = line_step Assembly p code (line ∷ rest) g in
-    IsBefore (code_of code code) t base p l g m.core → size_of_all code < 2 ^ 31 → AreLast code (line ∷ rest)
-    → g.place ≡ Before (line ∷ rest) → IsAt base code g m → IsReady p g line → IsCovered next.place
+    IsBefore (code_of code code) t base p l g m.core → size_of_all code < 2 ^ 31
+    → g.place ≡ Before (line ∷ rest) → IsAt base code g m → 0 < g.left → g.left < 2 ^ 31 → IsReady p g line → IsCovered next.place
     → Follows t p l base code m next
+
+-- the line that the turn is before is ready
+abbrev pub IsReadyAt : Part → Going → ControlPoint → Type 0
+IsReadyAt p g (Before (line ∷ rest)) = IsReady p g line
+IsReadyAt p g place = ⊥
+
+-- so many steps of such lines, one after another
+abbrev pub ArePlacedSteps : Part → List Line → ℕ → Going → Going → Type 0
+ArePlacedSteps p code zero g k = k ≡ g
+ArePlacedSteps p code (suc n) g k =
+    (between : Going) × IsTranslatedStep Assembly p code g between × IsReadyAt p g g.place × IsCovered between.place
+    × ArePlacedSteps p code n between k
+
+-- The processor follows any number of them.
+abbrev pub PlacedStepsRun : Type 0
+PlacedStepsRun =
+    (n : ℕ) (p : Part) (code : List Line) (l : Layout) (t : Text) (base : ℕ) (g k : Going) (m : Machine)
+    → IsBefore (code_of code code) t base p l g m.core → size_of_all code < 2 ^ 31 → IsAt base code g m → g.left < 2 ^ 31
+    → ArePlacedSteps p code n g k → Follows t p l base code m k

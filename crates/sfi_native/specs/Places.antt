@@ -81,9 +81,9 @@ pub record AreLast (code rest : List Line) : Type 0 where
   pub front : List Line
   pub is : code ≡ front ++ rest
 
--- where a processor is: at the lines of the turn, or behind all, with the pc in edx (2) for a slow step
+-- where a processor is: at the lines of the turn, which are last ones of the code, or behind all, with the pc in edx (2) for a slow step
 abbrev pub IsAtPlace : ℕ → List Line → ControlPoint → ℕ → Machine → Type 0
-IsAtPlace base code (Before rest) pc m = m.rip ≡ base + start code rest
+IsAtPlace base code (Before rest) pc m = (m.rip ≡ base + start code rest) × AreLast code rest
 IsAtPlace base code Slow pc m = (m.rip ≡ base + size_of_all code) × (m.core.registers 2 ≡ pc)
 IsAtPlace base code place pc m = ⊥
 

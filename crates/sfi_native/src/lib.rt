@@ -4,7 +4,7 @@
 //! address of the sandbox's address 0; eax, ecx and edx are free between lines. `specs/Code.antt` says which
 //! instructions a line becomes, `specs/Layout.antt` when a processor has the state of a turn. Laws say that
 //! the bytes of lines then do what these do: `Facts::computing_lines_run`, `branch_lines_run`, `jal_lines_run`,
-//! `load_lines_run`, `store_lines_run`; `lines_stand`, `placed_lines_run` of all that [`compile`] writes
+//! `load_lines_run`, `store_lines_run`; `lines_stand`, `placed_lines_run`, `placed_steps_run` of all that [`compile`] writes
 //! (`specs/Places.antt`).
 #![tactic(auto)]
 

@@ -1,0 +1,74 @@
+-- Many steps of lines, one after another.
+use Rattle.std.proofs.Common.{◌≡◌, ℕ, zero, suc, ◌^◌, ◌<◌, Bool, true, false, List, [], ◌∷◌, refl, sym, subst, arith, if◌then◌else◌}
+use Rattle.rv_step.specs.State.{with_pc}
+use Rattle.sfi_image.specs.Spelling.{Part}
+use Rattle.sfi_translate.specs.Lines.{Line, Head, Does}
+use Rattle.sfi_translate.specs.Machine.{Assembly, Before, ControlPoint, Going, IsTranslatedStepAt, Lost, Loop, Slow, Stopped, fixed, is_done, is_short, line_step}
+use Rattle.x86_step.specs.State.{Machine, Text}
+use Rattle.x86_step.specs.Step.{stay}
+use Rattle.x86_step.proofs.Facts.{fixed_stays, steps_join}
+use Rattle.sfi_native.specs.declared.layout.Layout.{Layout}
+use Rattle.sfi_native.specs.Laws.{ArePlacedSteps, Follows, IsBefore, IsCovered, IsReadyAt, PlacedStepsRun}
+use Rattle.sfi_native.specs.Places.{IsAt, code_of, size_of_all}
+use Rattle.sfi_native.proofs.Kept.{others_join, others_same}
+use Rattle.sfi_native.proofs.Placed.{placed_lines_run}
+
+-- ==== The steps left.
+
+left_if : (t : Bool) (a b : Going) → a.left < 2 ^ 31 → b.left < 2 ^ 31 → (if t then a else b).left < 2 ^ 31
+left_if true a b fa fb = fa
+left_if false a b fa fb = fb
+
+left_below : (p : Part) (code rest : List Line) (g : Going) (line : Line) → 0 < g.left → g.left < 2 ^ 31 → (line_step Assembly p code (line ∷ rest) g).left < 2 ^ 31
+left_below p code rest g (Does at n i) some below = left_if (is_done p i (with_pc (fixed p g.state.hart) at)) _ _ (omega (arith, some, below)) below
+left_below p code rest g (Head at) some below = left_if (is_short Assembly g.left) _ _ below below
+left_below p code rest g line some below = below
+
+-- ==== Steps.
+
+module _ (p : Part) (code : List Line) (l : Layout) (t : Text) (base : ℕ) (few : size_of_all code < 2 ^ 31) where
+  abbrev Stands : Going → Machine → Type 0
+  Stands g m = IsBefore (code_of code code) t base p l g m.core
+
+  one : (g k : Going) (m : Machine) → Stands g m → IsAt base code g m → g.left < 2 ^ 31 → (place : ControlPoint) → g.place ≡ place
+      → IsTranslatedStepAt place Assembly p code g k → IsReadyAt p g place → IsCovered k.place → Follows t p l base code m k × (k.left < 2 ^ 31)
+  one g k m here at below (Before (line ∷ rest)) place step ready covered =
+      let some : 0 < g.left = omega (arith, step.0, below) in
+      let next = line_step Assembly p code (line ∷ rest) g in
+      let follows = placed_lines_run p code rest line l t base g m here few place at some below ready (subst (λ x. IsCovered x.place) step.1 covered) in
+      (subst (λ x. Follows t p l base code m x) (sym step.1) follows, subst (λ x. x.left < 2 ^ 31) (sym step.1) (left_below p code rest g line some below))
+  one g k m here at below (Before []) place step ready covered = absurd ready
+  one g k m here at below Slow place step ready covered = absurd ready
+  one g k m here at below Loop place step ready covered = absurd ready
+  one g k m here at below (Stopped o) place step ready covered = absurd ready
+  one g k m here at below Lost place step ready covered = absurd ready
+
+  stands_on : (g k : Going) (m : Machine) → Stands g m → (f : Follows t p l base code m k) → Stands k f.after
+  stands_on g k m here f = record {
+    layout = here.layout;
+    text_is_fixed = fixed_stays t m f.after f.reached;
+    text_is_low = here.text_is_low;
+    stands = here.stands;
+    related = f.alike.related;
+  }
+
+  many : (n : ℕ) (g k : Going) (m : Machine) → Stands g m → IsAt base code g m → g.left < 2 ^ 31 → ArePlacedSteps p code n g k → Follows t p l base code m k
+  many zero g k m here at below same = subst (λ x. Follows t p l base code m x) (sym same) (record {
+    after = m;
+    reached = record { fixed = here.text_is_fixed; steps = stay m };
+    alike = record { related = here.related; is_at = at };
+    others = others_same p l m.core;
+  })
+  many (suc n) g k m here at below (between, step, ready, covered, more) =
+      let first = one g between m here at below g.place refl step ready covered in
+      let f = first.0 in
+      let rest = many n between k f.after (stands_on g between m here f) f.alike.is_at first.1 more in
+      record {
+        after = rest.after;
+        reached = steps_join t m f.after rest.after f.reached rest.reached;
+        alike = rest.alike;
+        others = others_join p l m.core f.after.core rest.after.core f.others rest.others;
+      }
+
+pub placed_steps_run : PlacedStepsRun
+placed_steps_run n p code l t base g k m here few at below steps = many p code l t base few n g k m here at below steps
