@@ -40,11 +40,11 @@ label_far code rest bytes labels to left all end measured all_is end_is held =
 -- a line's bytes, by the numbers that it is written with
 pub line_placed : (code rest : List Line) (line : Line) (old : List ℕ) (size n all end : ℕ) → all ≡ size_of_all code → AreLast code (line ∷ rest) → length old ≡ start code (line ∷ rest)
     → size ≡ size_of line → end ≡ length old + size → (end ≡ start code rest → (to : ℕ) → target_of line ≡ Some to → n ≡ distances code rest to)
-    → old ++ spellings (line_code (λ to. n) (distance end all) line) ≡ old ++ spellings (placed code rest line)
+    → old ++ spellings (line_code (λ to. n) (distance end ((all + 5) % 2 ^ 32)) line) ≡ old ++ spellings (placed code rest line)
 line_placed code rest line old size n all end all_is last old_is size_is end_is far =
     let here : end ≡ start code rest = omega (arith, end_is, old_is, size_is, last_below code (line ∷ rest) last) in
-    let out : distance end all ≡ distance_out code rest = ap (λ x. distance x all) here ∙ ap (λ x. distance (start code rest) x) all_is in
-    ap (λ is. old ++ spellings is) (line_same (distances code rest) n (distance end all) line (far here) ∙ ap (λ x. line_code (distances code rest) x line) out)
+    let out : distance end ((all + 5) % 2 ^ 32) ≡ distance_out code rest = ap (λ x. distance x ((all + 5) % 2 ^ 32)) here ∙ ap (λ x. distance (start code rest) ((x + 5) % 2 ^ 32)) all_is ∙ omega arith in
+    ap (λ is. old ++ spellings is) (line_same (distances code rest) n (distance end ((all + 5) % 2 ^ 32)) line (far here) ∙ ap (λ x. line_code (distances code rest) x line) out)
 
 -- A line behind those before it.
 pub next_placed : (code rest : List Line) (line : Line) (out more all_bytes : List ℕ) → AreLast code (line ∷ rest) → out ++ spellings (code_of code (line ∷ rest)) ≡ all_bytes

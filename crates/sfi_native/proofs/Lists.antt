@@ -16,8 +16,10 @@ use Rattle.x86_instr.specs.declared.operand.Operand.TheVariants.{Reg}
 use Rattle.rv_word.specs.declared.instr.Cond.{Cond}
 use Rattle.rv_word.specs.declared.instr.LoadKind.{LoadKind}
 use Rattle.rv_word.specs.declared.instr.StoreWidth.{StoreWidth}
+use Rattle.sfi_translate.specs.Lines.{Line}
+use Rattle.sfi_native.specs.Places.{code_of, whole_code}
 use Rattle.sfi_native.specs.declared.jump.Jump.{Jump}
-use Rattle.sfi_native.specs.Code.{avoid_minus_one, avoid_zero, branch_line, compare_code, compare_divisor, compute, compute_imm, count, data_address, divide_by_one, divide_signed, divide_unsigned, fetch, head_line, imm_code, has_test, jal_line, jump_size, load_code, load_from, load_line, number_code, op_code, opposite, remainder, store_line, store_to, test_code, test_divisor, tested_jump, write}
+use Rattle.sfi_native.specs.Code.{avoid_minus_one, avoid_zero, branch_line, compare_code, compare_divisor, compute, compute_imm, count, data_address, divide_by_one, divide_signed, divide_unsigned, end_code, fetch, head_line, imm_code, has_test, jal_line, jump_size, load_code, load_from, load_line, number_code, op_code, opposite, remainder, store_line, store_to, test_code, test_divisor, tested_jump, write}
 
 pub no_part : (old : List ℕ) → old ≡ old ++ spellings []
 no_part old = sym (append-nil old)
@@ -71,6 +73,9 @@ pub jal_parts : (old : List ℕ) (rd next : ℕ) (j : Jump)
     → ((old ++ spellings (number_code rd next)) ++ spellings count) ++ spellings (tested_jump j) ≡ old ++ spellings (jal_line rd next j)
 jal_parts old rd next j =
     ap (λ x. x ++ spellings (tested_jump j)) (two_parts old (number_code rd next) count) ∙ two_parts old (number_code rd next ++ count) (tested_jump j)
+
+pub whole_parts : (code : List Line) (end : ℕ) → spellings (code_of code code) ++ spellings (end_code end) ≡ spellings (whole_code end code)
+whole_parts code end = sym (spellings_append (code_of code code) (end_code end))
 
 pub load_parts : (old : List ℕ) (kind : LoadKind) (rd rs1 displacement : ℕ)
     → (((old ++ spellings (fetch Rax rs1)) ++ spellings (load_from kind (data_address displacement) ∷ [])) ++ spellings (write rd)) ++ spellings count ≡ old ++ spellings (load_line kind rd rs1 displacement)

@@ -10,29 +10,31 @@ use Rattle.rv_word.specs.Spelling.{InRange, offset_by}
 use Rattle.rv_step.specs.Step.{is_taken}
 use Rattle.sfi_image.specs.Spelling.{Part}
 use Rattle.sfi_translate.specs.Lines.{Line, Function, End, Entry, Head, Does}
-use Rattle.sfi_translate.specs.Machine.{Assembly, Before, ControlPoint, Going, Lost, fixed, Slow, before_or, goes, goes_with, is_short, jumps, label, line_step, one_less}
-use Rattle.x86_step.specs.State.{Core, Machine, Text}
+use Rattle.sfi_translate.specs.Machine.{Assembly, Before, ControlPoint, Going, Loop, Lost, fixed, Slow, before_or, goes, goes_with, is_short, jumps, label, line_step, one_less}
+use Rattle.x86_step.specs.State.{Core, Machine, Text, with_register}
 use Rattle.x86_instr.specs.declared.instr.Instr.{Instr as Native}
 use Rattle.x86_instr.specs.declared.instr.Instr.TheVariants.{Jcc}
 use Rattle.x86_instr.specs.declared.instr.Width.TheVariants.{Dword}
-use Rattle.x86_step.proofs.Running.{spellings_append}
+use Rattle.x86_step.proofs.Running.{has_back, has_front, spellings_append}
+unfoldable use Rattle.x86_instr.specs.Spelling.{rex, spelling}
+unfoldable use Rattle.x86_step.specs.Step.{computes}
 use Rattle.x86_step.specs.Step.{low, Reaches, is_canonical, jumped, stay}
-use Rattle.x86_step.specs.Running.{spellings}
+use Rattle.x86_step.specs.Running.{HasAt, spellings}
 use Rattle.sfi_native.specs.declared.jump.Jump.{Jump}
 use Rattle.sfi_native.specs.declared.layout.Layout.{Layout}
 use Rattle.sfi_native.specs.Layout.{IsRelated, value}
 use Rattle.sfi_native.specs.Laws.{Accesses, Follows, IsBefore, IsCovered, IsJump, IsReady, is_slow, jump_place, LeadsTo, PlacedLinesRun, end_of}
-use Rattle.sfi_native.specs.Places.{AreLast, IsAtPlace, code_of, distance_out, distances, has_code, jump_of, placed, size_of_all, start, start_or_end}
-use Rattle.sfi_native.specs.Code.{branch_line, compare_code, count, has_test, head_line, jal_line, jump_size, leave_line, number_code, opposite, tested_jump, unless}
+use Rattle.sfi_native.specs.Places.{AreLast, IsAtPlace, code_of, distance_out, distances, end_address, exit_of, has_code, jump_of, placed, size_of_all, start, start_or_end, whole_code}
+use Rattle.sfi_native.specs.Code.{branch_line, compare_code, count, end_code, end_size, has_test, head_line, jal_line, jump_size, leave_line, number_code, opposite, tested_jump, unless}
 use Rattle.sfi_native.proofs.Heads.{Tests, head_tests, leaves}
 use Rattle.sfi_native.proofs.Jumps.{branch_lines_run, jal_lines_run}
-use Rattle.sfi_native.proofs.Kept.{others_kept, others_same}
+use Rattle.sfi_native.proofs.Kept.{kept_register, others_kept, others_same}
 use Rattle.sfi_native.proofs.Fetching.{related_kept}
 use Rattle.sfi_native.proofs.Lists.{tested_size}
 use Rattle.sfi_native.proofs.Lines.{computing_lines_run}
 use Rattle.sfi_native.proofs.Loads.{load_lines_run}
-use Rattle.sfi_native.proofs.Places.{code_size, label_canonical, end_reached, label_last, label_reached, last_below, line_size, line_ends, line_stands}
-use Rattle.sfi_native.proofs.Runs.{bytes_end, low_canonical}
+use Rattle.sfi_native.proofs.Places.{code_size, label_canonical, exit_reached, label_last, label_reached, last_below, line_size, line_ends, line_stands}
+use Rattle.sfi_native.proofs.Runs.{bytes_end, low_canonical, straight_runs}
 use Rattle.sfi_native.proofs.Stores.{store_lines_run}
 
 -- ==== Where a step goes on.
@@ -43,7 +45,7 @@ same_lines rest to e = cc
 -- where a processor is after a jump
 jump_at : (base : ℕ) (code : List Line) (pc : ℕ) (m : Machine) (end exit label : ℕ) (tested short : Bool) (o : Option (List Line)) (to : ℕ)
     → ((rest : List Line) → o ≡ Some rest → AreLast code rest)
-    → jumped end label ≡ base + start_or_end code o → jumped end exit ≡ base + size_of_all code
+    → jumped end label ≡ base + start_or_end code o → jumped end exit ≡ base + exit_of code
     → m.rip ≡ jumped end (if tested && short then exit else label) → (tested && short ≡ true → m.core.registers 2 ≡ to) → to ≡ pc
     → IsCovered (if tested then (if short then Slow else before_or Lost o) else before_or Lost o)
     → IsAtPlace base code (if tested then (if short then Slow else before_or Lost o) else before_or Lost o) pc m
@@ -61,6 +63,31 @@ of_done false one other to is e = absurd (false≢true is)
 not_slow : (done : Bool) (one other : Going) (rest : List Line) → done ≡ true → one.place ≡ Before rest → (if done then one else other).place ≡ Slow → ⊥
 not_slow true one other rest is before e = let clash : Before rest ≡ Slow = sym before ∙ e in cc
 not_slow false one other rest is before e = absurd (false≢true is)
+
+abbrev is_jump_line : Instr → Bool
+is_jump_line (Branch cond rs1 rs2 offset) = true
+is_jump_line (Jal rd offset) = true
+is_jump_line i = false
+
+-- no line but a jump leads to the loop
+neither : (done : Bool) (one other : Going) (rest : List Line) → one.place ≡ Before rest → other.place ≡ Slow → (if done then one else other).place ≡ Loop → ⊥
+neither true one other rest a b e = let clash : Before rest ≡ Loop = sym a ∙ e in cc
+neither false one other rest a b e = let clash : Slow ≡ Loop = sym b ∙ e in cc
+
+no_loop : (p : Part) (code rest : List Line) (g : Going) (address n : ℕ) (i : Instr) → has_code i ≡ true → is_jump_line i ≡ false
+    → (line_step Assembly p code (Does address n i ∷ rest) g).place ≡ Loop → ⊥
+no_loop p code rest g address n (Load kind rd rs1 imm) has none e = neither _ _ _ rest refl refl e
+no_loop p code rest g address n (Store width rs1 rs2 imm) has none e = neither _ _ _ rest refl refl e
+no_loop p code rest g address n (Jalr rd rs1 imm) has none e = absurd (false≢true has)
+no_loop p code rest g address n (Branch cond rs1 rs2 offset) has none e = absurd (false≢true (sym none))
+no_loop p code rest g address n (Jal rd offset) has none e = absurd (false≢true (sym none))
+no_loop p code rest g address n Ecall has none e = absurd (cc)
+no_loop p code rest g address n Ebreak has none e = absurd (cc)
+no_loop p code rest g address n (Op op rd rs1 rs2) has none e = absurd (cc)
+no_loop p code rest g address n (OpImm op rd rs1 imm) has none e = absurd (cc)
+no_loop p code rest g address n (Lui rd imm) has none e = absurd (cc)
+no_loop p code rest g address n (Auipc rd imm) has none e = absurd (cc)
+no_loop p code rest g address n (Fence imm rd rs1) has none e = absurd (cc)
 
 -- where the turn is doesn't matter
 related_goes : (p : Part) (l : Layout) (g : Going) (c : Core) (place : ControlPoint) (pc : ℕ) → IsRelated p l g c → IsRelated p l (goes_with g place pc) c
@@ -83,10 +110,9 @@ tail_last code rest line last = record { front = last.front ++ (line ∷ []); is
 
 -- ==== A line.
 
-abbrev is_jump_line : Instr → Bool
-is_jump_line (Branch cond rs1 rs2 offset) = true
-is_jump_line (Jal rd offset) = true
-is_jump_line i = false
+end_length : (n : ℕ) → length (spellings (end_code n)) ≡ end_size
+unfolding spelling rex
+end_length n = refl
 
 long_behind : (front back : List Native) → jump_size ≤ length (spellings back) → jump_size ≤ length (spellings (front ++ back))
 long_behind front back long = omega (arith, long, ap length (spellings_append front back), length-append (spellings front) (spellings back))
@@ -105,14 +131,30 @@ jal_long : (rd next : ℕ) (j : Jump) → jump_size ≤ length (spellings (jal_l
 jal_long rd next j = long_behind (number_code rd next ++ count) (tested_jump j) (tested_long j)
 
 -- the end is ahead, and the line before it
-out_ahead : (code rest : List Line) (line : Line) → AreLast code (line ∷ rest) → size_of_all code < 2 ^ 31 → jump_size ≤ length (spellings (placed code rest line))
+out_ahead : (code rest : List Line) (line : Line) → AreLast code (line ∷ rest) → exit_of code < 2 ^ 31 → jump_size ≤ length (spellings (placed code rest line))
     → distance_out code rest + jump_size < 2 ^ 31
 out_ahead code rest line last few long =
     omega (arith, few, long, line_size (distances code rest) (distance_out code rest) line, last_below code (line ∷ rest) last)
 
-module _ (p : Part) (code rest to : List Line) (l : Layout) (t : Text) (base : ℕ) (g : Going) (c : Core) (here : IsBefore (code_of code code) t base p l g c) (few : size_of_all code < 2 ^ 31) where
-  low_end : base + size_of_all code < 2 ^ 47
-  low_end = omega (arith, here.text_is_low, bytes_end t base (spellings (code_of code code)) here.stands, code_size code code)
+module _ (p : Part) (code rest to : List Line) (l : Layout) (t : Text) (base : ℕ) (g : Going) (c : Core) (here : IsBefore (whole_code (end_address p) code) t base p l g c) (few : exit_of code < 2 ^ 31) where
+  whole_size : length (spellings (whole_code (end_address p) code)) ≡ exit_of code
+  whole_size =
+      omega (arith, end_length (end_address p), code_size code code, ap length (spellings_append (code_of code code) (end_code (end_address p))), length-append (spellings (code_of code code)) (spellings (end_code (end_address p))))
+
+  parts : HasAt t base (spellings (code_of code code) ++ spellings (end_code (end_address p)))
+  parts = subst (λ bytes. HasAt t base bytes) (spellings_append (code_of code code) (end_code (end_address p))) here.stands
+
+  lines_stand : HasAt t base (spellings (code_of code code))
+  lines_stand = has_front t base (spellings (code_of code code)) (spellings (end_code (end_address p))) parts
+
+  few_lines : size_of_all code < 2 ^ 31
+  few_lines = omega (arith, few)
+
+  low_end : base + exit_of code < 2 ^ 47
+  low_end = omega (arith, here.text_is_low, bytes_end t base (spellings (whole_code (end_address p) code)) here.stands, whole_size)
+
+  low_lines : base + size_of_all code < 2 ^ 47
+  low_lines = omega (arith, low_end)
 
   module _ (line : Line) (last : AreLast code (line ∷ rest)) where
     abbrev place : ℕ
@@ -123,12 +165,12 @@ module _ (p : Part) (code rest to : List Line) (l : Layout) (t : Text) (base : �
       layout = here.layout;
       text_is_fixed = here.text_is_fixed;
       text_is_low = here.text_is_low;
-      stands = line_stands t code base here.stands line rest last;
+      stands = line_stands t code base lines_stand line rest last;
       related = here.related;
     }
 
     ends : end_of place (placed code rest line) ≡ base + start code rest
-    ends = line_ends t code base here.stands line rest last
+    ends = line_ends t code base lines_stand line rest last
 
     -- to the next line
     on : (k : Going) → LeadsTo t place (end_of place (placed code rest line)) p l c k → Before rest ≡ Before to → LeadsTo t place (base + start code to) p l c k × AreLast code to
@@ -139,17 +181,17 @@ module _ (p : Part) (code rest to : List Line) (l : Layout) (t : Text) (base : �
     line_end = end_of place (placed code rest line)
 
     label_is : (target : ℕ) → jumped line_end (distances code rest target) ≡ base + start_or_end code (label target code)
-    label_is target = ap (λ a. jumped a (distances code rest target)) ends ∙ label_reached base code rest target few low_end
+    label_is target = ap (λ a. jumped a (distances code rest target)) ends ∙ label_reached base code rest target few_lines low_lines
 
-    exit_is : jumped line_end (distance_out code rest) ≡ base + size_of_all code
-    exit_is = ap (λ a. jumped a (distance_out code rest)) ends ∙ end_reached base code rest few low_end
+    exit_is : jumped line_end (distance_out code rest) ≡ base + exit_of code
+    exit_is = ap (λ a. jumped a (distance_out code rest)) ends ∙ exit_reached base code rest few low_end
 
     -- a jump
     is_jump : (address target : ℕ) → jump_size ≤ length (spellings (placed code rest line)) → IsJump line_end (jump_of (distances code rest) (distance_out code rest) address target)
     is_jump address target long = record {
       ahead = out_ahead code rest line last few long;
-      exit = ap is_canonical exit_is ∙ low_canonical (base + size_of_all code) low_end;
-      label = ap (λ a. is_canonical (jumped a (distances code rest target))) ends ∙ label_canonical base code rest target few low_end;
+      exit = ap is_canonical exit_is ∙ low_canonical (base + exit_of code) low_end;
+      label = ap (λ a. is_canonical (jumped a (distances code rest target))) ends ∙ label_canonical base code rest target few_lines low_lines;
     }
 
     jump_arrives : (address target : ℕ) (pc left : ℕ) (after : Core)
@@ -181,6 +223,25 @@ module _ (p : Part) (code rest to : List Line) (l : Layout) (t : Text) (base : �
           related = related_goes p l g c (Before rest) g.state.hart.pc here.related;
           others = others_same p l c;
         })) e
+
+  -- the end's code
+  end_runs : Follows t p l base code (record { rip = base + size_of_all code; core = c }) (goes_with g Loop (end_address p))
+  unfolding computes
+  end_runs =
+      let d = with_register c 2 (end_address p) in
+      let at = base + size_of_all code in
+      let from : base + length (spellings (code_of code code)) ≡ at = ap (λ n. base + n) (code_size code code) in
+      let own = subst (λ a. HasAt t a (spellings (end_code (end_address p)))) from (has_back t base (spellings (code_of code code)) (spellings (end_code (end_address p))) parts) in
+      let runs = straight_runs (end_code (end_address p)) c d refl refl t at here.text_is_fixed here.text_is_low own in
+      record {
+        after = record { rip = end_of at (end_code (end_address p)); core = d };
+        reached = runs;
+        alike = record {
+          related = related_goes p l g d Loop (end_address p) (related_kept p l here.layout g c d here.related (kept_register c 2 (end_address p) (omega arith)));
+          is_at = (ap (λ n. at + n) (end_length (end_address p)) ∙ omega arith, refl);
+        };
+        others = others_kept p l c d (kept_register c 2 (end_address p) (omega arith));
+      }
 
   instruction : (address n : ℕ) (i : Instr) → AreLast code (Does address n i ∷ rest) → has_code i ≡ true → InRange i → Accesses p g i → is_jump_line i ≡ false
       → (line_step Assembly p code (Does address n i ∷ rest) g).place ≡ Before to
@@ -246,10 +307,10 @@ module _ (p : Part) (code rest to : List Line) (l : Layout) (t : Text) (base : �
   left_by address line last is =
       let from = base + start code (line ∷ rest) in
       let out = distance_out code rest in
-      let out_is : jumped (end_of from (leave_line address out)) out ≡ base + size_of_all code =
-      ap (λ is. jumped (end_of from is) out) (sym is) ∙ ap (λ a. jumped a out) (ends line last) ∙ end_reached base code rest few low_end in
+      let out_is : jumped (end_of from (leave_line address out)) out ≡ base + exit_of code =
+      ap (λ is. jumped (end_of from is) out) (sym is) ∙ ap (λ a. jumped a out) (ends line last) ∙ exit_reached base code rest few low_end in
       let before : IsBefore (leave_line address out) t from p l g c = subst (λ is. IsBefore is t from p l g c) is (own line last) in
-      let it = leaves p l t from address out g c before (ap is_canonical out_is ∙ low_canonical (base + size_of_all code) low_end) in
+      let it = leaves p l t from address out g c before (ap is_canonical out_is ∙ low_canonical (base + exit_of code) low_end) in
       record { after = _; reached = it.reached; alike = record { related = related_goes p l g it.after Slow address it.related; is_at = (out_is, it.edx) }; others = it.others }
 
   -- a line that isn't a jump and leads to a slow step
@@ -277,14 +338,14 @@ module _ (p : Part) (code rest to : List Line) (l : Layout) (t : Text) (base : �
     abbrev out : ℕ
     out = distance_out code rest
 
-    out_is : jumped (end_of from (head_line address out)) out ≡ base + size_of_all code
-    out_is = ap (λ a. jumped a out) (ends (Head address) last) ∙ end_reached base code rest few low_end
+    out_is : jumped (end_of from (head_line address out)) out ≡ base + exit_of code
+    out_is = ap (λ a. jumped a out) (ends (Head address) last) ∙ exit_reached base code rest few low_end
 
     same : low Dword (c.registers 14) ≡ g.left % 2 ^ 31
     same = omega (arith, here.related.left, left)
 
     tests : Tests t from address out g.left c
-    tests = head_tests t from address out g.left c here.text_is_fixed here.text_is_low (own (Head address) last).stands same (ap is_canonical out_is ∙ low_canonical (base + size_of_all code) low_end)
+    tests = head_tests t from address out g.left c here.text_is_fixed here.text_is_low (own (Head address) last).stands same (ap is_canonical out_is ∙ low_canonical (base + exit_of code) low_end)
 
     -- what it keeps
     tested : IsRelated p l g tests.after
@@ -304,12 +365,13 @@ module _ (p : Part) (code rest to : List Line) (l : Layout) (t : Text) (base : �
 -- ==== As the turn goes.
 
 -- where a step of a line leads
-led : (comes : ControlPoint) → IsCovered comes → ((to : List Line) × (comes ≡ Before to)) ⊎ (comes ≡ Slow)
+led : (comes : ControlPoint) → IsCovered comes → ((to : List Line) × (comes ≡ Before to)) ⊎ ((comes ≡ Slow) ⊎ (comes ≡ Loop))
 led (Before to) covered = inl (to, refl)
-led Slow covered = inr refl
+led Slow covered = inr (inl refl)
+led Loop covered = inr (inr refl)
 led _ covered = absurd covered
 
-module _ (p : Part) (code rest : List Line) (l : Layout) (t : Text) (base : ℕ) (g : Going) (m : Machine) (here : IsBefore (code_of code code) t base p l g m.core) (few : size_of_all code < 2 ^ 31) where
+module _ (p : Part) (code rest : List Line) (l : Layout) (t : Text) (base : ℕ) (g : Going) (m : Machine) (here : IsBefore (whole_code (end_address p) code) t base p l g m.core) (few : exit_of code < 2 ^ 31) where
   abbrev start_of : Line → Machine
   start_of line = record { rip = base + start code (line ∷ rest); core = m.core }
 
@@ -331,12 +393,29 @@ module _ (p : Part) (code rest : List Line) (l : Layout) (t : Text) (base : ℕ)
     | inl jump ↦ jump_runs p code rest rest l t base g m.core here few at n i last ready.1 (omega (arith, some, below)) jump covered
     | inr none ↦ elim (led (line_step Assembly p code (Does at n i ∷ rest) g).place covered) [
       | inl to ↦ leads_on (Does at n i) to.0 _ to.1 (instruction p code rest to.0 l t base g m.core here few at n i last ready.0 ready.1 ready.2 none to.1)
-      | inr slow ↦ slow_instruction p code rest rest l t base g m.core here few at n i last ready.0 ready.2 none slow
+      | inr (inl slow) ↦ slow_instruction p code rest rest l t base g m.core here few at n i last ready.0 ready.2 none slow
+      | inr (inr loop) ↦ absurd (no_loop p code rest g at n i ready.0 none loop)
     ]
   ]
 
+-- the end's code, from its place
+ended : (p : Part) (code : List Line) (l : Layout) (t : Text) (base : ℕ) (g : Going) (m : Machine) → IsBefore (whole_code (end_address p) code) t base p l g m.core → exit_of code < 2 ^ 31
+    → m.rip ≡ base + start code [] → Follows t p l base code m (line_step Assembly p code [] g)
+ended p code l t base g m here few rip =
+    let leads = end_runs p code [] [] l t base g m.core here few in
+    let from : base + size_of_all code ≡ m.rip = omega (arith, rip) in
+    record {
+      after = leads.after;
+      reached = subst (λ a. Reaches t (record { rip = a; core = m.core }) leads.after) from leads.reached;
+      alike = leads.alike;
+      others = leads.others;
+    }
+
 pub placed_lines_run : PlacedLinesRun
-placed_lines_run p code rest line l t base g m here few place is_at some below ready covered =
+placed_lines_run p code [] l t base g m here few place is_at some below ready covered =
+    let at : (m.rip ≡ base + start code []) × AreLast code [] = subst (λ q. IsAtPlace base code q g.state.hart.pc m) place is_at in
+    ended p code l t base g m here few at.0
+placed_lines_run p code (line ∷ rest) l t base g m here few place is_at some below ready covered =
     let at : (m.rip ≡ base + start code (line ∷ rest)) × AreLast code (line ∷ rest) = subst (λ q. IsAtPlace base code q g.state.hart.pc m) place is_at in
     let leads = line_runs p code rest l t base g m here few line at.1 some below ready covered in
     record {

@@ -24,7 +24,7 @@ use Rattle.sfi_native.specs.declared.jump.Jump.{Jump}
 use Rattle.sfi_native.proofs.Lists.{tested_size}
 use Rattle.sfi_native.proofs.Runs.{low_canonical}
 use Rattle.sfi_native.specs.Code.{compare_code, count, has_test, number_code, opposite, tested_jump, unless}
-use Rattle.sfi_native.specs.Places.{AreLast, code_of, distance, distance_out, distances, jump_of, line_code, placed, size_of, size_of_all, start, start_or_end}
+use Rattle.sfi_native.specs.Places.{AreLast, code_of, distance, distance_out, distances, exit_of, jump_of, line_code, placed, size_of, size_of_all, start, start_or_end}
 
 -- ==== Sizes.
 
@@ -149,7 +149,7 @@ label_canonical base code rest to few low =
     let place = base + start_or_end code (label to code) in
     ap is_canonical (label_reached base code rest to few low) ∙ low_canonical place (omega (arith, low, place_below code (label to code)))
 
--- the same to the end
-pub end_reached : (base : ℕ) (code rest : List Line) → size_of_all code < 2 ^ 31 → base + size_of_all code < 2 ^ 47
-    → jumped (base + start code rest) (distance_out code rest) ≡ base + size_of_all code
-end_reached base code rest few low = far base (start code rest) (size_of_all code) (omega (arith, few)) few (omega (arith, low))
+-- the same out
+pub exit_reached : (base : ℕ) (code rest : List Line) → exit_of code < 2 ^ 31 → base + exit_of code < 2 ^ 47
+    → jumped (base + start code rest) (distance_out code rest) ≡ base + exit_of code
+exit_reached base code rest few low = far base (start code rest) (exit_of code) (omega (arith, few)) few (omega (arith, low))

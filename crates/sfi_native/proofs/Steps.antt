@@ -9,7 +9,7 @@ use Rattle.x86_step.specs.Step.{stay}
 use Rattle.x86_step.proofs.Facts.{fixed_stays, steps_join}
 use Rattle.sfi_native.specs.declared.layout.Layout.{Layout}
 use Rattle.sfi_native.specs.Laws.{ArePlacedSteps, Follows, IsBefore, IsCovered, IsReadyAt, PlacedStepsRun}
-use Rattle.sfi_native.specs.Places.{IsAt, code_of, size_of_all}
+use Rattle.sfi_native.specs.Places.{IsAt, end_address, exit_of, whole_code}
 use Rattle.sfi_native.proofs.Kept.{others_join, others_same}
 use Rattle.sfi_native.proofs.Placed.{placed_lines_run}
 
@@ -26,18 +26,21 @@ left_below p code rest g line some below = below
 
 -- ==== Steps.
 
-module _ (p : Part) (code : List Line) (l : Layout) (t : Text) (base : ℕ) (few : size_of_all code < 2 ^ 31) where
+module _ (p : Part) (code : List Line) (l : Layout) (t : Text) (base : ℕ) (few : exit_of code < 2 ^ 31) where
   abbrev Stands : Going → Machine → Type 0
-  Stands g m = IsBefore (code_of code code) t base p l g m.core
+  Stands g m = IsBefore (whole_code (end_address p) code) t base p l g m.core
 
   one : (g k : Going) (m : Machine) → Stands g m → IsAt base code g m → g.left < 2 ^ 31 → (place : ControlPoint) → g.place ≡ place
       → IsTranslatedStepAt place Assembly p code g k → IsReadyAt p g place → IsCovered k.place → Follows t p l base code m k × (k.left < 2 ^ 31)
   one g k m here at below (Before (line ∷ rest)) place step ready covered =
       let some : 0 < g.left = omega (arith, step.0, below) in
       let next = line_step Assembly p code (line ∷ rest) g in
-      let follows = placed_lines_run p code rest line l t base g m here few place at some below ready (subst (λ x. IsCovered x.place) step.1 covered) in
+      let follows = placed_lines_run p code (line ∷ rest) l t base g m here few place at some below ready (subst (λ x. IsCovered x.place) step.1 covered) in
       (subst (λ x. Follows t p l base code m x) (sym step.1) follows, subst (λ x. x.left < 2 ^ 31) (sym step.1) (left_below p code rest g line some below))
-  one g k m here at below (Before []) place step ready covered = absurd ready
+  one g k m here at below (Before []) place step ready covered =
+      let some : 0 < g.left = omega (arith, step.0, below) in
+      let follows = placed_lines_run p code [] l t base g m here few place at some below ready (subst (λ x. IsCovered x.place) step.1 covered) in
+      (subst (λ x. Follows t p l base code m x) (sym step.1) follows, subst (λ x. x.left < 2 ^ 31) (sym step.1) below)
   one g k m here at below Slow place step ready covered = absurd ready
   one g k m here at below Loop place step ready covered = absurd ready
   one g k m here at below (Stopped o) place step ready covered = absurd ready

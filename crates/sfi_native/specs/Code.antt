@@ -173,6 +173,14 @@ head_line at distance = MovImm Rdx at ∷ AluImm alu.Cmp Dword (Reg R14) most �
 abbrev pub leave_line : ℕ → ℕ → List Native
 leave_line at distance = MovImm Rdx at ∷ Jmp distance ∷ []
 
+-- behind the last line, at the end of the sandbox's code
+abbrev pub end_code : ℕ → List Native
+end_code at = MovImm Rdx at ∷ []
+
+-- its bytes
+abbrev pub end_size : ℕ
+end_size = 5
+
 -- ==== Jumps. Their step is counted before, as that changes flags; distances are from the line's end.
 
 -- it goes backwards, or past a head

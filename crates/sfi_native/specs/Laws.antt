@@ -1,5 +1,5 @@
 -- What holds of the code of lines.
-use Rattle.std.specs.Prelude.{zero, suc, ◌&&◌, Bool, ◌≤◌, ℤ, if◌then◌else◌, ◌≡◌, ℕ, ◌+◌, ◌^◌, ◌<◌, true, List, ◌∷◌, length}
+use Rattle.std.specs.Prelude.{[], zero, suc, ◌&&◌, Bool, ◌≤◌, ℤ, if◌then◌else◌, ◌≡◌, ℕ, ◌+◌, ◌^◌, ◌<◌, true, List, ◌∷◌, length}
 use Rattle.rv_word.specs.declared.instr.Cond.{Cond}
 use Rattle.rv_word.specs.declared.instr.Instr.{Instr}
 use Rattle.rv_word.specs.declared.instr.Instr.TheVariants.{Branch, Jal, Load, Store}
@@ -11,7 +11,7 @@ use Rattle.rv_step.specs.Step.{is_taken, load_size, store_size, word}
 use Rattle.sfi_image.specs.Parts.{HasGuardRoom}
 use Rattle.sfi_image.specs.Spelling.{Part}
 use Rattle.sfi_translate.specs.Lines.{Line, Does}
-use Rattle.sfi_translate.specs.Machine.{Target, Assembly, ControlPoint, Before, Slow, Going, IsTranslatedStep, is_short, is_tested, line_step, one_less}
+use Rattle.sfi_translate.specs.Machine.{Target, Assembly, ControlPoint, Before, Loop, Slow, Going, IsTranslatedStep, is_short, is_tested, line_step, one_less}
 use Rattle.x86_step.specs.State.{Core, IsFixed, Machine, Text}
 use Rattle.x86_instr.specs.declared.instr.Instr.{Instr as Native}
 use Rattle.x86_step.specs.Step.{Reaches, is_canonical, jumped}
@@ -20,7 +20,7 @@ use Rattle.sfi_native.specs.declared.jump.Jump.{Jump}
 use Rattle.sfi_native.specs.declared.layout.Layout.{Layout}
 use Rattle.sfi_native.specs.Layout.{DoNotMeet, IsLayout, IsRelated, OthersStay, frame_size, value}
 use Rattle.sfi_native.specs.Code.{branch_line, computing_line, does_compute, has_test, jal_line, jump_size, load_line, store_line}
-use Rattle.sfi_native.specs.Places.{AreLast, IsAt, code_of, has_code, placed, size_of_all, start}
+use Rattle.sfi_native.specs.Places.{AreLast, IsAt, code_of, end_address, exit_of, has_code, placed, start, whole_code}
 
 -- From a state of the processor at an address, code leads to another address, and to the state of the next turn.
 pub record LeadsTo (t : Text) (at to : ℕ) (p : Part) (l : Layout) (c : Core) (next : Going) : Type 0 where
@@ -156,6 +156,7 @@ IsReady p g line = Unit {0}
 abbrev pub IsCovered : ControlPoint → Type 0
 IsCovered (Before to) = Unit {0}
 IsCovered Slow = Unit {0}
+IsCovered Loop = Unit {0}
 IsCovered place = ⊥
 
 -- The processor is where the turn is, and has its state.
@@ -170,20 +171,21 @@ pub record Follows (t : Text) (p : Part) (l : Layout) (base : ℕ) (code : List 
   pub alike : IsAlike p l base code next after
   pub others : OthersStay p l m.core after.core
 
--- Where all lines' code stands, a line's leads on as its step does. Tests compare all 32 bits of the steps left, of which
--- the machine counts 31.
-abbrev pub PlacedLinesRun : Type 0
-PlacedLinesRun =
-    (p : Part) (code rest : List Line) (line : Line) (l : Layout) (t : Text) (base : ℕ) (g : Going) (m : Machine)
-    → let next = line_step Assembly p code (line ∷ rest) g in
-    IsBefore (code_of code code) t base p l g m.core → size_of_all code < 2 ^ 31
-    → g.place ≡ Before (line ∷ rest) → IsAt base code g m → 0 < g.left → g.left < 2 ^ 31 → IsReady p g line → IsCovered next.place
-    → Follows t p l base code m next
-
--- the line that the turn is before is ready
+-- the line that the turn is before is ready, if there is one
 abbrev pub IsReadyAt : Part → Going → ControlPoint → Type 0
 IsReadyAt p g (Before (line ∷ rest)) = IsReady p g line
+IsReadyAt p g (Before []) = Unit {0}
 IsReadyAt p g place = ⊥
+
+-- Where all code stands, that of a line, or of the end, leads on as its step does. Tests compare all 32 bits of the steps
+-- left, of which the machine counts 31.
+abbrev pub PlacedLinesRun : Type 0
+PlacedLinesRun =
+    (p : Part) (code rest : List Line) (l : Layout) (t : Text) (base : ℕ) (g : Going) (m : Machine)
+    → let next = line_step Assembly p code rest g in
+    IsBefore (whole_code (end_address p) code) t base p l g m.core → exit_of code < 2 ^ 31 → g.place ≡ Before rest
+    → IsAt base code g m → 0 < g.left → g.left < 2 ^ 31 → IsReadyAt p g (Before rest) → IsCovered next.place
+    → Follows t p l base code m next
 
 -- so many steps of such lines, one after another
 abbrev pub ArePlacedSteps : Part → List Line → ℕ → Going → Going → Type 0
@@ -196,5 +198,5 @@ ArePlacedSteps p code (suc n) g k =
 abbrev pub PlacedStepsRun : Type 0
 PlacedStepsRun =
     (n : ℕ) (p : Part) (code : List Line) (l : Layout) (t : Text) (base : ℕ) (g k : Going) (m : Machine)
-    → IsBefore (code_of code code) t base p l g m.core → size_of_all code < 2 ^ 31 → IsAt base code g m → g.left < 2 ^ 31
-    → ArePlacedSteps p code n g k → Follows t p l base code m k
+    → IsBefore (whole_code (end_address p) code) t base p l g m.core → exit_of code < 2 ^ 31 → IsAt base code g m
+    → g.left < 2 ^ 31 → ArePlacedSteps p code n g k → Follows t p l base code m k

@@ -5,20 +5,21 @@ use Rattle.rv_word.specs.declared.instr.Instr.TheVariants.{Load, Store, Branch, 
 use Rattle.rv_word.specs.Spelling.{offset_by}
 use Rattle.rv_mem.specs.Bytes.{address_after}
 use Rattle.rv_step.specs.Step.{word}
+use Rattle.sfi_image.specs.Spelling.{Part}
 use Rattle.sfi_translate.specs.Lines.{Line, Head, Does}
-use Rattle.sfi_translate.specs.Machine.{ControlPoint, Before, Slow, Going, label}
+use Rattle.sfi_translate.specs.Machine.{ControlPoint, Before, Loop, Slow, Going, label}
 use Rattle.x86_instr.specs.declared.instr.Instr.{Instr as Native}
 use Rattle.x86_step.specs.State.{Machine}
 use Rattle.x86_step.specs.Running.{spellings}
 use Rattle.sfi_native.specs.declared.jump.Jump.{Jump}
-use Rattle.sfi_native.specs.Code.{branch_line, computing_line, head_line, jal_line, leave_line, load_line, store_line}
+use Rattle.sfi_native.specs.Code.{branch_line, computing_line, end_code, end_size, head_line, jal_line, leave_line, load_line, store_line}
 
 -- a jump between two addresses
 abbrev pub jump_of : (ℕ → ℕ) → ℕ → ℕ → ℕ → Jump
 jump_of distance out at to = record { from = at; to = to; label = distance to; exit = out }
 
 -- The instruction of n bytes at that address: `distance` tells how far labels are from the line's end, `out` how far the
--- end of all lines is. An indirect jump has no code yet.
+-- way out is. An indirect jump has no code yet.
 abbrev pub instruction_code : (ℕ → ℕ) → ℕ → ℕ → ℕ → Instr → List Native
 instruction_code distance out at n (Branch cond rs1 rs2 offset) = branch_line cond rs1 rs2 (jump_of distance out at (offset_by at offset))
 instruction_code distance out at n (Jal rd offset) = jal_line rd (address_after at n) (jump_of distance out at (offset_by at offset))
@@ -63,9 +64,13 @@ distance from to = (to + (2 ^ 32 - from)) % 2 ^ 32
 abbrev pub distances : List Line → List Line → ℕ → ℕ
 distances code rest to = distance (start code rest) (start_or_end code (label to code))
 
--- to the end
+-- The way out is behind the end's code.
+abbrev pub exit_of : List Line → ℕ
+exit_of code = size_of_all code + end_size
+
+-- to it
 abbrev pub distance_out : List Line → List Line → ℕ
-distance_out code rest = distance (start code rest) (size_of_all code)
+distance_out code rest = distance (start code rest) (exit_of code)
 
 -- the line before the rest
 abbrev pub placed : List Line → List Line → Line → List Native
@@ -76,17 +81,26 @@ abbrev pub code_of : List Line → List Line → List Native
 code_of code [] = []
 code_of code (line ∷ rest) = placed code rest line ++ code_of code rest
 
+-- the code of all lines, and of that end
+abbrev pub whole_code : ℕ → List Line → List Native
+whole_code end code = code_of code code ++ end_code end
+
+-- the address behind a sandbox's code
+abbrev pub end_address : Part → ℕ
+end_address p = (p.code_base + length p.code) % 2 ^ 32
+
 -- these are the last lines of the code
 pub record AreLast (code rest : List Line) : Type 0 where
   pub front : List Line
   pub is : code ≡ front ++ rest
 
--- where a processor is: at the lines of the turn, which are last ones of the code, or behind all, with the pc in edx (2) for a slow step
+-- where a processor is: at the lines of the turn, which are last ones of the code, or out, with the pc in edx (2)
 abbrev pub IsAtPlace : ℕ → List Line → ControlPoint → ℕ → Machine → Type 0
 IsAtPlace base code (Before rest) pc m = (m.rip ≡ base + start code rest) × AreLast code rest
-IsAtPlace base code Slow pc m = (m.rip ≡ base + size_of_all code) × (m.core.registers 2 ≡ pc)
+IsAtPlace base code Slow pc m = (m.rip ≡ base + exit_of code) × (m.core.registers 2 ≡ pc)
+IsAtPlace base code Loop pc m = (m.rip ≡ base + exit_of code) × (m.core.registers 2 ≡ pc)
 IsAtPlace base code place pc m = ⊥
 
--- a processor is where the turn is, before a line or a slow step
+-- a processor is where the turn is, before a line or a step of the host
 abbrev pub IsAt : ℕ → List Line → Going → Machine → Type 0
 IsAt base code g m = IsAtPlace base code g.place g.state.hart.pc m

@@ -2,9 +2,10 @@
 ghost use Rattle.std.specs.Prelude.{◌≡◌, ℕ, ◌++◌, [], ◌∷◌, List, length, map, true, Some, IfOk, IfSome, ◌+◌, ◌^◌, ◌<◌};
 ghost use Rattle.sfi_translate.specs.Lines.{Line as CodeLine};
 ghost use Rattle.sfi_native.specs.Lines.{AreMeasured, line_of, target_of};
-ghost use Rattle.sfi_native.specs.Places.{AreLast, code_of, distance as distance_of, distances, placed, size_of_all, start};
+ghost use Rattle.sfi_native.specs.Places.{AreLast, code_of, distance as distance_of, distances, exit_of, placed, size_of_all, start, whole_code};
 ghost use Rattle.x86_step.specs.Running.{spellings};
 
+use crate::head::put_end;
 use crate::line::{Line, push_line};
 use rv_word::Instr;
 use std::alloc::{AllocError, Global};
@@ -114,7 +115,7 @@ fn place_line(
     let Some(label) = label_distance(labels, all, end, &line) else {
         return Ok(false);
     };
-    if !push_line(out, line, label, distance(end, all))? {
+    if !push_line(out, line, label, distance(end, all.wrapping_add(5)))? {
         return Ok(false);
     }
     Ok(true)
@@ -142,17 +143,17 @@ fn place(
     Ok(true)
 }
 
-/// The code of these lines, which are all of a sandbox's. It goes on at its end, with the pc in edx, where a slow step
-/// comes; behind the last line it does so too, without the pc. None where there is an indirect jump, a jump to no line,
-/// or 2^31 bytes or more.
-pub fn compile(alloc: Global, lines: &[Line]) -> Result<Option<Vec<u8>>, AllocError>
-    ensures bytes { IfOk result (λ code. IfSome code (λ v.
-        v.items ≡ spellings (code_of (map line_of lines.now) (map line_of lines.now)))) }
-    ensures few { IfOk result (λ code. IfSome code (λ v. size_of_all (map line_of lines.now) < 2 ^ 31)) }
+/// The code of these lines, which are all of a sandbox's, whose code ends at `end`. It goes on at its end, with the pc in
+/// edx, where a slow step comes, or behind the last line. None where there is an indirect jump, a jump to no line, or 2^31
+/// bytes or more.
+#[tactic(auto, using(crate::proofs::Lists::whole_parts))]
+pub fn compile(alloc: Global, lines: &[Line], end: u32) -> Result<Option<Vec<u8>>, AllocError>
+    ensures bytes { IfOk result (λ code. IfSome code (λ v. v.items ≡ spellings (whole_code end (map line_of lines.now)))) }
+    ensures few { IfOk result (λ code. IfSome code (λ v. exit_of (map line_of lines.now) < 2 ^ 31)) }
 {
     let mut draft = Vec::new(alloc);
     let mut labels = BTreeMap::new(alloc);
-    if !measure(&mut draft, &mut labels, lines)? {
+    if !measure(&mut draft, &mut labels, lines)? || draft.len() >= 0x7fff_fffb {
         return Ok(None);
     }
     let all = draft.len() as u32;
@@ -160,5 +161,6 @@ pub fn compile(alloc: Global, lines: &[Line]) -> Result<Option<Vec<u8>>, AllocEr
     if !place(&mut out, &mut draft, &labels, all, lines)? {
         return Ok(None);
     }
+    put_end(&mut out, end)?;
     Ok(Some(out))
 }

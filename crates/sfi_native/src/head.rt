@@ -1,6 +1,6 @@
 //! The bytes of lines that lead to a slow step.
 ghost use Rattle.std.specs.Prelude.{◌≡◌, ◌++◌, OnOk};
-ghost use Rattle.sfi_native.specs.Code.{head_line, leave_line};
+ghost use Rattle.sfi_native.specs.Code.{end_code, head_line, leave_line};
 ghost use Rattle.x86_step.specs.Running.{spellings};
 
 use crate::operation::put;
@@ -51,4 +51,17 @@ pub fn push_leave_line(out: &mut Vec<u8>, at: u32, distance: u32) -> Result<(), 
         },
     )?;
     put(out, Instr::Jmp { distance })
+}
+
+/// Writes what comes behind the last line, where the sandbox's code ends at that address.
+pub(crate) fn put_end(out: &mut Vec<u8>, at: u32) -> Result<(), AllocError>
+    ensures { OnOk result (out.new.items ≡ out.old.items ++ spellings (end_code at)) }
+{
+    put(
+        out,
+        Instr::MovImm {
+            dst: Register::Rdx,
+            imm: at,
+        },
+    )
 }

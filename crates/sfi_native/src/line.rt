@@ -82,7 +82,7 @@ fn put_instruction(
 }
 
 /// Writes a line behind what is there, if it has code; tells whether. Distances are in bytes, from the line's end, in
-/// two's complement: `label` to where it jumps, `exit` to the end of all lines.
+/// two's complement: `label` to where it jumps, `exit` to the way out.
 #[tactic(auto, using(crate::proofs::Lists::no_part))]
 pub fn push_line(out: &mut Vec<u8>, line: Line, label: u32, exit: u32) -> Result<bool, AllocError>
     ensures written { IfOk result (λ written. written ≡ is_written (line_of line)) }

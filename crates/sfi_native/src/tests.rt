@@ -257,10 +257,10 @@ fn each_kind_of_line_is_spelled(rt: HostRuntime) -> Result<(), Fail> {
     Ok(())
 }
 
-const COMPILED: [u8; 82] = [
+const COMPILED: [u8; 87] = [
     186, 0, 0, 0, 1, // mov edx, 0x1000000
     65, 131, 254, 65, // cmp r14d, 65
-    15, 130, 67, 0, 0, 0, // {disp32} jb 9f
+    15, 130, 72, 0, 0, 0, // {disp32} jb 9f
     139, 68, 36, 20, // 1: mov eax, [rsp+20]
     139, 76, 36, 24, // mov ecx, [rsp+24]
     65, 131, 238, 1, // sub r14d, 1
@@ -274,8 +274,9 @@ const COMPILED: [u8; 82] = [
     65, 131, 238, 1, // sub r14d, 1
     186, 0, 0, 0, 1, // mov edx, 0x1000000
     65, 131, 254, 65, // cmp r14d, 65
-    15, 130, 5, 0, 0, 0, // {disp32} jb 9f
-    233, 189, 255, 255, 255, // {disp32} jmp 1b; 9:
+    15, 130, 10, 0, 0, 0, // {disp32} jb 9f
+    233, 189, 255, 255, 255, // {disp32} jmp 1b
+    186, 12, 0, 0, 1, // mov edx, 0x100000c; 9:
 ];
 
 #[test]
@@ -314,17 +315,17 @@ fn code_is_compiled(rt: HostRuntime) -> Result<(), Fail> {
             instr: jal,
         },
     ];
-    let Some(code) = compile(rt.alloc(), lines.as_slice())? else {
+    let Some(code) = compile(rt.alloc(), lines.as_slice(), at + 12)? else {
         panic!(rt; "no code");
     };
     assert!(rt; code.as_slice() == COMPILED.as_slice());
     // no line has the branch's label; an indirect jump has no code
-    assert!(rt; compile(rt.alloc(), &lines[..4])?.is_none());
+    assert!(rt; compile(rt.alloc(), &lines[..4], at + 8)?.is_none());
     let jalr = Line::Does {
         at,
         size: 4,
         instr: jump_register(),
     };
-    assert!(rt; compile(rt.alloc(), [jalr].as_slice())?.is_none());
+    assert!(rt; compile(rt.alloc(), [jalr].as_slice(), at + 4)?.is_none());
     Ok(())
 }
