@@ -49,7 +49,7 @@ some_number (Some bs) e = (number_of bs, refl)
 -- ==== Where an access goes.
 
 -- an address at an offset, computed in 32 bits
-offset_is : (a : ℕ) (imm : ℤ) → offset_by a imm ≡ (a % 2 ^ 32 + word imm) % 2 ^ 32
+pub offset_is : (a : ℕ) (imm : ℤ) → offset_by a imm ≡ (a % 2 ^ 32 + word imm) % 2 ^ 32
 offset_is a (pos n) = omega (arith, ints)
 offset_is a (negsuc n) = grind (arith, ints)
 

@@ -1,6 +1,7 @@
 -- What holds of the code of lines: laws, for proofs in the crates above.
-use Rattle.sfi_native.specs.Laws.{BranchLinesRun, ComputingLinesRun, EachCodeCanBeRun, JalLinesRun, LinesStand, LoadLinesRun, PlacedLinesRun, PlacedStepsRun, StoreLinesRun}
+use Rattle.sfi_native.specs.Laws.{BranchLinesRun, ComputingLinesRun, EachCodeCanBeRun, JalLinesRun, JalrLinesRun, LinesStand, LoadLinesRun, PlacedLinesRun, PlacedStepsRun, StoreLinesRun}
 use Rattle.sfi_native.proofs.Held as held
+use Rattle.sfi_native.proofs.Indirect as indirect
 use Rattle.sfi_native.proofs.Jumps as jumps
 use Rattle.sfi_native.proofs.Lines as lines
 use Rattle.sfi_native.proofs.Loads as loads
@@ -20,6 +21,9 @@ branch_lines_run = jumps.branch_lines_run
 
 pub jal_lines_run : JalLinesRun
 jal_lines_run = jumps.jal_lines_run
+
+pub jalr_lines_run : JalrLinesRun
+jalr_lines_run = indirect.jalr_lines_run
 
 pub load_lines_run : LoadLinesRun
 load_lines_run = loads.load_lines_run

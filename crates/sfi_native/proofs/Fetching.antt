@@ -196,9 +196,9 @@ module _ (p : Part) (l : Layout) (layout : IsLayout p.data_size l) where
       writable = refl;
     }
 
-    pub wrote : (e : Core) × (exec (write rd) c ≡ Ok e) × IsRelated p l turned e × OthersStay p l c e
+    pub wrote : (e : Core) × (exec (write rd) c ≡ Ok e) × IsRelated p l turned e × OthersStay p l c e × (e.registers ≡ c.registers)
     unfolding computes
     wrote = elim (cases_Bool (is_fixed rd)) [
-      | inl held ↦ (c, rw held refl, unwritten g c place rd v k is w held, others_same p l c)
-      | inr free ↦ (stored_core, rw (free, store) refl, rewritten free, stay)
+      | inl held ↦ (c, rw held refl, unwritten g c place rd v k is w held, others_same p l c, refl)
+      | inr free ↦ (stored_core, rw (free, store) refl, rewritten free, stay, refl)
     ]

@@ -16,6 +16,7 @@ pub mod Lists
 pub mod Tested
 pub mod Jumps
 pub mod Accessing
+pub mod Indirect
 pub mod Loads
 pub mod Stores
 pub mod Heads

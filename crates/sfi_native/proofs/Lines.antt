@@ -51,7 +51,7 @@ then_count p l c is g come =
 
 module _ (p : Part) (l : Layout) (layout : IsLayout p.data_size l) (g : Going) (c : Core) (is : IsRelated p l g c) (place : ControlPoint) (pc : ℕ) where
   -- the hart after a value goes to rd
-  abbrev hart_with : ℕ → ℕ → Hart
+  abbrev pub hart_with : ℕ → ℕ → Hart
   hart_with rd v = fixed p (with_value (with_pc (fixed p g.state.hart) pc) rd v)
 
   abbrev turn_with : ℕ → ℕ → ℕ → Going

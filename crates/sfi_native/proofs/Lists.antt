@@ -7,7 +7,7 @@ use Rattle.x86_instr.specs.declared.instr.Instr.{Instr}
 unfoldable use Rattle.x86_instr.specs.Spelling.{rex, spelling}
 use Rattle.x86_step.specs.Running.{spellings}
 use Rattle.x86_step.proofs.Running.{spellings_append}
-use Rattle.x86_instr.specs.declared.instr.Instr.TheVariants.{Alu, Jcc, Jmp, Mov, MovImm, Unary}
+use Rattle.x86_instr.specs.declared.instr.Instr.TheVariants.{Alu, AluImm, Jcc, Jmp, Mov, MovImm, Unary}
 use Rattle.x86_instr.specs.declared.instr.AluOp.TheVariants as alu
 use Rattle.x86_instr.specs.declared.instr.UnaryOp.TheVariants.{Neg}
 use Rattle.x86_instr.specs.declared.instr.Condition.TheVariants.{Equal, NotEqual}
@@ -19,7 +19,7 @@ use Rattle.rv_word.specs.declared.instr.StoreWidth.{StoreWidth}
 use Rattle.sfi_translate.specs.Lines.{Line}
 use Rattle.sfi_native.specs.Places.{code_of, whole_code}
 use Rattle.sfi_native.specs.declared.jump.Jump.{Jump}
-use Rattle.sfi_native.specs.Code.{avoid_minus_one, avoid_zero, branch_line, compare_code, compare_divisor, compute, compute_imm, count, data_address, divide_by_one, divide_signed, divide_unsigned, end_code, fetch, head_line, imm_code, has_test, jal_line, jump_size, load_code, load_from, load_line, number_code, op_code, opposite, remainder, store_line, store_to, test_code, test_divisor, tested_jump, write}
+use Rattle.sfi_native.specs.Code.{avoid_minus_one, avoid_zero, branch_line, compare_code, compare_divisor, compute, compute_imm, count, data_address, divide_by_one, divide_signed, divide_unsigned, end_code, fetch, head_line, imm_code, has_test, jal_line, jalr_line, jump_size, load_code, load_from, load_line, number_code, op_code, opposite, remainder, store_line, store_to, test_code, target_code, test_divisor, tested_jump, write}
 
 pub no_part : (old : List ℕ) → old ≡ old ++ spellings []
 no_part old = sym (append-nil old)
@@ -73,6 +73,16 @@ pub jal_parts : (old : List ℕ) (rd next : ℕ) (j : Jump)
     → ((old ++ spellings (number_code rd next)) ++ spellings count) ++ spellings (tested_jump j) ≡ old ++ spellings (jal_line rd next j)
 jal_parts old rd next j =
     ap (λ x. x ++ spellings (tested_jump j)) (two_parts old (number_code rd next) count) ∙ two_parts old (number_code rd next ++ count) (tested_jump j)
+
+pub target_parts : (old : List ℕ) (rs1 displacement : ℕ)
+    → ((old ++ spellings (fetch Rdx rs1)) ++ spellings (AluImm alu.Add Dword (Reg Rdx) displacement ∷ [])) ++ spellings (AluImm alu.And Dword (Reg Rdx) (2 ^ 32 - 2) ∷ []) ≡ old ++ spellings (target_code rs1 displacement)
+target_parts old rs1 displacement = three_parts old (fetch Rdx rs1) (AluImm alu.Add Dword (Reg Rdx) displacement ∷ []) (AluImm alu.And Dword (Reg Rdx) (2 ^ 32 - 2) ∷ [])
+
+pub jalr_parts : (old : List ℕ) (rd rs1 displacement next distance : ℕ)
+    → (((old ++ spellings (target_code rs1 displacement)) ++ spellings (number_code rd next)) ++ spellings count) ++ spellings (Jmp distance ∷ []) ≡ old ++ spellings (jalr_line rd rs1 displacement next distance)
+jalr_parts old rd rs1 displacement next distance =
+    ap (λ x. x ++ spellings (Jmp distance ∷ [])) (three_parts old (target_code rs1 displacement) (number_code rd next) count)
+    ∙ two_parts old (target_code rs1 displacement ++ (number_code rd next ++ count)) (Jmp distance ∷ [])
 
 pub whole_parts : (code : List Line) (end : ℕ) → spellings (code_of code code) ++ spellings (end_code end) ≡ spellings (whole_code end code)
 whole_parts code end = sym (spellings_append (code_of code code) (end_code end))

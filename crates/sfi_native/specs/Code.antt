@@ -220,6 +220,15 @@ branch_line cond rs1 rs2 j = compare_code rs1 rs2 ++ unless (opposite cond) (tes
 abbrev pub jal_line : ℕ → ℕ → Jump → List Native
 jal_line rd next j = (number_code rd next ++ count) ++ tested_jump j
 
+-- the target of a jalr into edx
+abbrev pub target_code : ℕ → ℕ → List Native
+target_code rs1 displacement =
+    fetch Rdx rs1 ++ (AluImm alu.Add Dword (Reg Rdx) displacement ∷ AluImm alu.And Dword (Reg Rdx) (2 ^ 32 - 2) ∷ [])
+
+-- the line of a jalr, which goes out over the distance; behind it the address `next` comes
+abbrev pub jalr_line : ℕ → ℕ → ℕ → ℕ → ℕ → List Native
+jalr_line rd rs1 displacement next distance = (target_code rs1 displacement ++ (number_code rd next ++ count)) ++ (Jmp distance ∷ [])
+
 -- ==== Accesses: eax has the value of rs1, ecx that of rs2, r15 the origin of the data.
 
 abbrev pub data_address : ℕ → Address

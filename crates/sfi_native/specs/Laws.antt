@@ -2,11 +2,12 @@
 use Rattle.std.specs.Prelude.{[], zero, suc, ◌&&◌, Bool, ◌≤◌, ℤ, if◌then◌else◌, ◌≡◌, ℕ, ◌+◌, ◌^◌, ◌<◌, true, List, ◌∷◌, length}
 use Rattle.rv_word.specs.declared.instr.Cond.{Cond}
 use Rattle.rv_word.specs.declared.instr.Instr.{Instr}
-use Rattle.rv_word.specs.declared.instr.Instr.TheVariants.{Branch, Jal, Load, Store}
+use Rattle.rv_word.specs.declared.instr.Instr.TheVariants.{Branch, Jal, Jalr, Load, Store}
 use Rattle.rv_word.specs.declared.instr.StoreWidth.{StoreWidth}
 use Rattle.rv_word.specs.declared.instr.LoadKind.{LoadKind}
 use Rattle.rv_word.specs.Spelling.{InRange, offset_by}
 use Rattle.rv_mem.specs.Bytes.{IsMemory, IsThere, address_after}
+use Rattle.rv_step.specs.State.{even_of}
 use Rattle.rv_step.specs.Step.{is_taken, load_size, store_size, word}
 use Rattle.sfi_image.specs.Parts.{HasGuardRoom}
 use Rattle.sfi_image.specs.Spelling.{Part}
@@ -19,7 +20,7 @@ use Rattle.x86_step.specs.Running.{HasAt, spellings}
 use Rattle.sfi_native.specs.declared.jump.Jump.{Jump}
 use Rattle.sfi_native.specs.declared.layout.Layout.{Layout}
 use Rattle.sfi_native.specs.Layout.{DoNotMeet, IsLayout, IsRelated, OthersStay, frame_size, value}
-use Rattle.sfi_native.specs.Code.{branch_line, computing_line, does_compute, has_test, jal_line, jump_size, load_line, store_line}
+use Rattle.sfi_native.specs.Code.{branch_line, computing_line, does_compute, has_test, jal_line, jalr_line, jump_size, load_line, store_line}
 use Rattle.sfi_native.specs.Places.{AreLast, IsAt, code_of, end_address, exit_of, has_code, placed, start, whole_code}
 
 -- From a state of the processor at an address, code leads to another address, and to the state of the next turn.
@@ -105,6 +106,17 @@ JalLinesRun =
     InRange (Jal rd offset) → left < 2 ^ 31 → IsJump (end_of at line) j → IsBefore line t at p l g c
     → (it : LeadsTo t at (jump_place (end_of at line) j left) p l c (line_step target p code (Does address size (Jal rd offset) ∷ rest) g))
     × (is_slow j left ≡ true → it.after.registers 2 ≡ j.to)
+
+-- A jalr goes out over its distance, with its target in edx, whatever the turn does.
+abbrev pub JalrLinesRun : Type 0
+JalrLinesRun =
+    (target : Target) (p : Part) (code rest : List Line) (address size rd rs1 : ℕ) (imm : ℤ) (distance : ℕ) (l : Layout) (t : Text)
+    (at : ℕ) (g : Going) (c : Core)
+    → let line = jalr_line rd rs1 (word imm) (address_after address size) distance in
+    let to = jumped (end_of at line) distance in
+    InRange (Jalr rd rs1 imm) → is_canonical to ≡ true → IsBefore line t at p l g c
+    → (it : LeadsTo t at to p l c (line_step target p code (Does address size (Jalr rd rs1 imm) ∷ rest) g))
+    × (it.after.registers 2 ≡ even_of (offset_by (value p g rs1) imm))
 
 -- a load from the data, of which each byte is there
 abbrev pub LoadLinesRun : Type 0
