@@ -24,7 +24,7 @@ use Rattle.sfi_native.specs.declared.jump.Jump.{Jump}
 use Rattle.sfi_native.specs.declared.layout.Layout.{Layout}
 use Rattle.sfi_native.specs.Layout.{IsRelated, value}
 use Rattle.sfi_native.specs.Laws.{Accesses, Follows, IsBefore, IsCovered, IsJump, IsReady, is_slow, jump_place, LeadsTo, PlacedLinesRun, end_of}
-use Rattle.sfi_native.specs.Places.{AreLast, IsAtPlace, code_of, distance_out, distances, end_address, exit_of, has_code, jump_of, placed, size_of_all, start, start_or_end, whole_code}
+use Rattle.sfi_native.specs.Places.{AreLast, IsAtPlace, code_of, distance_out, distances, end_address, exit_of, is_direct, jump_of, placed, size_of_all, start, start_or_end, whole_code}
 use Rattle.sfi_native.specs.Code.{branch_line, compare_code, count, end_code, end_size, has_test, head_line, jal_line, jump_size, leave_line, number_code, opposite, tested_jump, unless}
 use Rattle.sfi_native.proofs.Heads.{Tests, head_tests, leaves}
 use Rattle.sfi_native.proofs.Jumps.{branch_lines_run, jal_lines_run}
@@ -74,7 +74,7 @@ neither : (done : Bool) (one other : Going) (rest : List Line) → one.place ≡
 neither true one other rest a b e = let clash : Before rest ≡ Loop = sym a ∙ e in cc
 neither false one other rest a b e = let clash : Slow ≡ Loop = sym b ∙ e in cc
 
-no_loop : (p : Part) (code rest : List Line) (g : Going) (address n : ℕ) (i : Instr) → has_code i ≡ true → is_jump_line i ≡ false
+no_loop : (p : Part) (code rest : List Line) (g : Going) (address n : ℕ) (i : Instr) → is_direct i ≡ true → is_jump_line i ≡ false
     → (line_step Assembly p code (Does address n i ∷ rest) g).place ≡ Loop → ⊥
 no_loop p code rest g address n (Load kind rd rs1 imm) has none e = neither _ _ _ rest refl refl e
 no_loop p code rest g address n (Store width rs1 rs2 imm) has none e = neither _ _ _ rest refl refl e
@@ -243,7 +243,7 @@ module _ (p : Part) (code rest to : List Line) (l : Layout) (t : Text) (base : �
         others = others_kept p l c d (kept_register c 2 (end_address p) (omega arith));
       }
 
-  instruction : (address n : ℕ) (i : Instr) → AreLast code (Does address n i ∷ rest) → has_code i ≡ true → InRange i → Accesses p g i → is_jump_line i ≡ false
+  instruction : (address n : ℕ) (i : Instr) → AreLast code (Does address n i ∷ rest) → is_direct i ≡ true → InRange i → Accesses p g i → is_jump_line i ≡ false
       → (line_step Assembly p code (Does address n i ∷ rest) g).place ≡ Before to
       → LeadsTo t (base + start code (Does address n i ∷ rest)) (base + start code to) p l c (line_step Assembly p code (Does address n i ∷ rest) g) × AreLast code to
   instruction address n (Op op rd rs1 rs2) last has range asked moves e =
@@ -314,7 +314,7 @@ module _ (p : Part) (code rest to : List Line) (l : Layout) (t : Text) (base : �
       record { after = _; reached = it.reached; alike = record { related = related_goes p l g it.after Slow address it.related; is_at = (out_is, it.edx) }; others = it.others }
 
   -- a line that isn't a jump and leads to a slow step
-  slow_instruction : (address n : ℕ) (i : Instr) → AreLast code (Does address n i ∷ rest) → has_code i ≡ true → Accesses p g i → is_jump_line i ≡ false
+  slow_instruction : (address n : ℕ) (i : Instr) → AreLast code (Does address n i ∷ rest) → is_direct i ≡ true → Accesses p g i → is_jump_line i ≡ false
       → (line_step Assembly p code (Does address n i ∷ rest) g).place ≡ Slow
       → Follows t p l base code (record { rip = base + start code (Does address n i ∷ rest); core = c }) (line_step Assembly p code (Does address n i ∷ rest) g)
   slow_instruction address n Ecall last has asked none e = left_by address (Does address n Ecall) last refl

@@ -2,9 +2,10 @@
 use Rattle.std.proofs.Common.{◌≡◌, ℕ, ◌+◌, ◌^◌, ◌<◌, ◌≤◌, Bool, true, false, List, [], ◌∷◌, ◌++◌, length, Option, Some, None, refl, sym, ap, ◌∙◌, subst, arith, inl, inr, if◌then◌else◌, length-append, nat_lt}
 use Rattle.std.specs.Prelude.{◌==◌}
 use Rattle.std.proofs.lemmas.Bool.{cases_lt, le-ltb, lt-ltb}
-use Rattle.rv_word.specs.declared.instr.Instr.TheVariants.{Branch, Jal, Ecall, Ebreak}
+use Rattle.rv_word.specs.declared.instr.Instr.TheVariants.{Branch, Jal, Jalr, Ecall, Ebreak}
 use Rattle.rv_word.specs.Spelling.{offset_by}
 use Rattle.rv_mem.specs.Bytes.{address_after}
+use Rattle.rv_step.specs.Step.{word}
 use Rattle.sfi_translate.specs.Lines.{Line, Function, End, Entry, Head, Does}
 use Rattle.sfi_translate.specs.Machine.{label, most}
 use Rattle.x86_instr.specs.declared.instr.Instr.{Instr as Native}
@@ -23,7 +24,7 @@ use Rattle.x86_step.proofs.Running.{has_back, has_front, spellings_append}
 use Rattle.sfi_native.specs.declared.jump.Jump.{Jump}
 use Rattle.sfi_native.proofs.Lists.{tested_size}
 use Rattle.sfi_native.proofs.Runs.{low_canonical}
-use Rattle.sfi_native.specs.Code.{compare_code, count, has_test, number_code, opposite, tested_jump, unless}
+use Rattle.sfi_native.specs.Code.{compare_code, count, has_test, number_code, opposite, target_code, tested_jump, unless}
 use Rattle.sfi_native.specs.Places.{AreLast, code_of, distance, distance_out, distances, exit_of, jump_of, line_code, placed, size_of, size_of_all, start, start_or_end}
 
 -- ==== Sizes.
@@ -53,6 +54,8 @@ line_size d out (Does at n (Jal rd offset)) =
     let j = jump_of d out at to in
     let k = jump_of (λ to. 0) 0 at to in
     behind_size (number_code rd (address_after at n) ++ count) (tested_jump j) (tested_jump k) (jump_same j k refl)
+line_size d out (Does at n (Jalr rd rs1 imm)) =
+    behind_size (target_code rs1 (word imm) ++ (number_code rd (address_after at n) ++ count)) (Jmp out ∷ []) (Jmp 0 ∷ []) refl
 line_size d out (Does at n Ecall) = behind_size (MovImm Rdx at ∷ []) (Jmp out ∷ []) (Jmp 0 ∷ []) refl
 line_size d out (Does at n Ebreak) = behind_size (MovImm Rdx at ∷ []) (Jmp out ∷ []) (Jmp 0 ∷ []) refl
 line_size d out (Does at n i) = refl

@@ -21,7 +21,7 @@ use Rattle.sfi_native.specs.declared.jump.Jump.{Jump}
 use Rattle.sfi_native.specs.declared.layout.Layout.{Layout}
 use Rattle.sfi_native.specs.Layout.{DoNotMeet, IsLayout, IsRelated, OthersStay, frame_size, value}
 use Rattle.sfi_native.specs.Code.{branch_line, computing_line, does_compute, has_test, jal_line, jalr_line, jump_size, load_line, store_line}
-use Rattle.sfi_native.specs.Places.{AreLast, IsAt, code_of, end_address, exit_of, has_code, placed, start, whole_code}
+use Rattle.sfi_native.specs.Places.{AreLast, IsAt, code_of, end_address, exit_of, is_direct, placed, start, whole_code}
 
 -- From a state of the processor at an address, code leads to another address, and to the state of the next turn.
 pub record LeadsTo (t : Text) (at to : ℕ) (p : Part) (l : Layout) (c : Core) (next : Going) : Type 0 where
@@ -159,9 +159,9 @@ Accesses p g (Store width rs1 rs2 imm) =
     IsInData p to (store_size width) × IsThere g.state.memory to (store_size width)
 Accesses p g i = Unit {0}
 
--- it has code, and an access is in the data
+-- it is no indirect jump, and an access is in the data
 abbrev pub IsReady : Part → Going → Line → Type 0
-IsReady p g (Does at n i) = (has_code i ≡ true) × InRange i × Accesses p g i
+IsReady p g (Does at n i) = (is_direct i ≡ true) × InRange i × Accesses p g i
 IsReady p g line = Unit {0}
 
 -- where lines lead so far

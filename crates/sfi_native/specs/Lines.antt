@@ -1,5 +1,5 @@
 -- Lines as the code has them.
-use Rattle.std.specs.Prelude.{◌≡◌, ℕ, ◌^◌, ◌<◌, Bool, true, List, length, Option, Some, None}
+use Rattle.std.specs.Prelude.{◌≡◌, ℕ, ◌^◌, ◌<◌, List, length, Option, Some, None}
 use Rattle.std.specs.Option.{option_map}
 use Rattle.std.specs.BTreeMap.{BTreeMap, get}
 use Rattle.std.specs.Ordering.{nat_cmp}
@@ -9,7 +9,7 @@ use Rattle.sfi_translate.specs.Lines.{Line, Function, End, Entry, Head, Does}
 use Rattle.sfi_translate.specs.Machine.{label}
 use Rattle.sfi_native.specs.declared.line.Line.{Line as Held}
 use Rattle.sfi_native.specs.declared.line.Line.TheVariants as held
-use Rattle.sfi_native.specs.Places.{has_code, size_of_all}
+use Rattle.sfi_native.specs.Places.{size_of_all}
 
 abbrev pub line_of : Held → Line
 line_of (held.Function sandbox at) = Function sandbox at
@@ -17,11 +17,6 @@ line_of (held.End at) = End at
 line_of (held.Entry at) = Entry at
 line_of (held.Head at) = Head at
 line_of (held.Does at size instr) = Does at size instr
-
--- its bytes can be written
-abbrev pub is_written : Line → Bool
-is_written (Does at n i) = has_code i
-is_written line = true
 
 -- the address that it jumps to over a distance, if it does
 abbrev pub target_of : Line → Option ℕ

@@ -12,27 +12,28 @@ use Rattle.x86_instr.specs.declared.instr.Instr.{Instr as Native}
 use Rattle.x86_step.specs.State.{Machine}
 use Rattle.x86_step.specs.Running.{spellings}
 use Rattle.sfi_native.specs.declared.jump.Jump.{Jump}
-use Rattle.sfi_native.specs.Code.{branch_line, computing_line, end_code, end_size, head_line, jal_line, leave_line, load_line, store_line}
+use Rattle.sfi_native.specs.Code.{branch_line, computing_line, end_code, end_size, head_line, jal_line, jalr_line, leave_line, load_line, store_line}
 
 -- a jump between two addresses
 abbrev pub jump_of : (ℕ → ℕ) → ℕ → ℕ → ℕ → Jump
 jump_of distance out at to = record { from = at; to = to; label = distance to; exit = out }
 
 -- The instruction of n bytes at that address: `distance` tells how far labels are from the line's end, `out` how far the
--- way out is. An indirect jump has no code yet.
+-- way out is.
 abbrev pub instruction_code : (ℕ → ℕ) → ℕ → ℕ → ℕ → Instr → List Native
 instruction_code distance out at n (Branch cond rs1 rs2 offset) = branch_line cond rs1 rs2 (jump_of distance out at (offset_by at offset))
 instruction_code distance out at n (Jal rd offset) = jal_line rd (address_after at n) (jump_of distance out at (offset_by at offset))
 instruction_code distance out at n (Load kind rd rs1 imm) = load_line kind rd rs1 (word imm)
 instruction_code distance out at n (Store width rs1 rs2 imm) = store_line width rs1 rs2 (word imm)
-instruction_code distance out at n (Jalr rd rs1 imm) = []
+instruction_code distance out at n (Jalr rd rs1 imm) = jalr_line rd rs1 (word imm) (address_after at n) out
 instruction_code distance out at n Ecall = leave_line at out
 instruction_code distance out at n Ebreak = leave_line at out
 instruction_code distance out at n i = computing_line at i
 
-abbrev pub has_code : Instr → Bool
-has_code (Jalr rd rs1 imm) = false
-has_code i = true
+-- An indirect jump goes out, even where the turn goes on at a label.
+abbrev pub is_direct : Instr → Bool
+is_direct (Jalr rd rs1 imm) = false
+is_direct i = true
 
 -- the code of a line
 abbrev pub line_code : (ℕ → ℕ) → ℕ → Line → List Native

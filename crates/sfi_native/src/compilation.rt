@@ -34,15 +34,13 @@ fn measure_line(
     ensures { IfOk result (λ ok. ok ≡ true → (rest : List CodeLine)
         → AreMeasured rest draft.old.items labels.old → AreMeasured (line_of line ∷ rest) draft.new.items labels.new) }
 {
-    if !push_line(draft, line, 0, 0)? {
-        return Ok(false);
-    }
+    push_line(draft, line, 0, 0)?;
     let size = draft.len();
     if size >= 0x8000_0000 {
         return Ok(false);
     }
-    if let Line::Does { at, .. } = line {
-        labels.insert(at, size as u32)?;
+    if let Line::Does { at, .. } = &line {
+        labels.insert(*at, size as u32)?;
     }
     Ok(true)
 }
@@ -106,18 +104,14 @@ fn place_line(
         → out.new.items ≡ out.old.items ++ spellings (placed code rest (line_of line))) }
 {
     draft.clear();
-    if !push_line(draft, line, 0, 0)? {
-        return Ok(false);
-    }
+    push_line(draft, line, 0, 0)?;
     let Some(end) = sum(out.len(), draft.len()) else {
         return Ok(false);
     };
     let Some(label) = label_distance(labels, all, end, &line) else {
         return Ok(false);
     };
-    if !push_line(out, line, label, distance(end, all.wrapping_add(5)))? {
-        return Ok(false);
-    }
+    push_line(out, line, label, distance(end, all.wrapping_add(5)))?;
     Ok(true)
 }
 
@@ -144,8 +138,8 @@ fn place(
 }
 
 /// The code of these lines, which are all of a sandbox's, whose code ends at `end`. It goes on at its end, with the pc in
-/// edx, where a slow step comes, or behind the last line. None where there is an indirect jump, a jump to no line, or 2^31
-/// bytes or more.
+/// edx, where a slow step or an indirect jump comes, or behind the last line. None where there is a jump to no line, or
+/// 2^31 bytes or more.
 #[tactic(auto, using(crate::proofs::Lists::whole_parts))]
 pub fn compile(alloc: Global, lines: &[Line], end: u32) -> Result<Option<Vec<u8>>, AllocError>
     ensures bytes { IfOk result (λ code. IfSome code (λ v. v.items ≡ spellings (whole_code end (map line_of lines.now)))) }

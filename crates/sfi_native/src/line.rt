@@ -1,13 +1,13 @@
 //! The bytes of a line.
-ghost use Rattle.std.specs.Prelude.{◌≡◌, ◌++◌, IfOk, OnOk};
-ghost use Rattle.sfi_native.specs.Lines.{is_written, line_of};
-ghost use Rattle.sfi_native.specs.Places.{has_code, instruction_code, line_code};
+ghost use Rattle.std.specs.Prelude.{◌≡◌, ◌++◌, OnOk};
+ghost use Rattle.sfi_native.specs.Lines.{line_of};
+ghost use Rattle.sfi_native.specs.Places.{instruction_code, line_code};
 ghost use Rattle.x86_step.specs.Running.{spellings};
 
 use crate::access::{push_load_line, push_store_line};
 use crate::computation::push_computing_line;
 use crate::head::{push_head_line, push_leave_line};
-use crate::jump::{Jump, push_branch_line, push_jal_line};
+use crate::jump::{Jump, push_branch_line, push_jal_line, push_jalr_line};
 use rv_word::Instr;
 use std::alloc::AllocError;
 
@@ -26,7 +26,7 @@ pub enum Line {
     Does { at: u32, size: u32, instr: Instr },
 }
 
-/// Writes a line of an instruction, if it has code; tells whether.
+/// Writes a line of an instruction.
 #[tactic(auto, using(crate::proofs::Lists::no_part))]
 fn put_instruction(
     out: &mut Vec<u8>,
@@ -35,9 +35,8 @@ fn put_instruction(
     instr: Instr,
     label: u32,
     exit: u32,
-) -> Result<bool, AllocError>
-    ensures written { IfOk result (λ written. written ≡ has_code instr) }
-    ensures bytes { OnOk result (out.new.items ≡ out.old.items ++ spellings (instruction_code (λ to. label) exit at size instr)) }
+) -> Result<(), AllocError>
+    ensures { OnOk result (out.new.items ≡ out.old.items ++ spellings (instruction_code (λ to. label) exit at size instr)) }
 {
     match instr {
         Instr::Branch {
@@ -53,7 +52,7 @@ fn put_instruction(
                 label,
                 exit,
             };
-            push_branch_line(out, cond, rs1, rs2, jump)?
+            push_branch_line(out, cond, rs1, rs2, jump)
         }
         Instr::Jal { rd, offset } => {
             let to = at.wrapping_add_signed(offset);
@@ -63,37 +62,45 @@ fn put_instruction(
                 label,
                 exit,
             };
-            push_jal_line(out, rd, at.wrapping_add(size), jump)?
+            push_jal_line(out, rd, at.wrapping_add(size), jump)
         }
         Instr::Load { kind, rd, rs1, imm } => {
-            push_load_line(out, kind, rd, rs1, imm.cast_unsigned())?
+            push_load_line(out, kind, rd, rs1, imm.cast_unsigned())
         }
         Instr::Store {
             width,
             rs1,
             rs2,
             imm,
-        } => push_store_line(out, width, rs1, rs2, imm.cast_unsigned())?,
-        Instr::Ecall => push_leave_line(out, at, exit)?,
-        Instr::Ebreak => push_leave_line(out, at, exit)?,
-        _ => return push_computing_line(out, at, instr),
+        } => push_store_line(out, width, rs1, rs2, imm.cast_unsigned()),
+        Instr::Ecall => push_leave_line(out, at, exit),
+        Instr::Ebreak => push_leave_line(out, at, exit),
+        Instr::Jalr { rd, rs1, imm } => {
+            push_jalr_line(
+                out,
+                rd,
+                rs1,
+                imm.cast_unsigned(),
+                at.wrapping_add(size),
+                exit,
+            )
+        }
+        _ => {
+            push_computing_line(out, at, instr)?;
+            Ok(())
+        }
     }
-    Ok(true)
 }
 
-/// Writes a line behind what is there, if it has code; tells whether. Distances are in bytes, from the line's end, in
+/// Writes a line behind what is there. Distances are in bytes, from the line's end, in
 /// two's complement: `label` to where it jumps, `exit` to the way out.
 #[tactic(auto, using(crate::proofs::Lists::no_part))]
-pub fn push_line(out: &mut Vec<u8>, line: Line, label: u32, exit: u32) -> Result<bool, AllocError>
-    ensures written { IfOk result (λ written. written ≡ is_written (line_of line)) }
-    ensures bytes { OnOk result (out.new.items ≡ out.old.items ++ spellings (line_code (λ to. label) exit (line_of line))) }
+pub fn push_line(out: &mut Vec<u8>, line: Line, label: u32, exit: u32) -> Result<(), AllocError>
+    ensures { OnOk result (out.new.items ≡ out.old.items ++ spellings (line_code (λ to. label) exit (line_of line))) }
 {
     match line {
-        Line::Function { .. } | Line::End { .. } | Line::Entry { .. } => Ok(true),
-        Line::Head { at } => {
-            push_head_line(out, at, exit)?;
-            Ok(true)
-        }
+        Line::Function { .. } | Line::End { .. } | Line::Entry { .. } => Ok(()),
+        Line::Head { at } => push_head_line(out, at, exit),
         Line::Does { at, size, instr } => put_instruction(out, at, size, instr, label, exit),
     }
 }

@@ -1,7 +1,7 @@
 //! Lines of code, as the GNU assembler spells their instructions.
 use crate::{
     Jump, Line, compile, push_branch_line, push_computing_line, push_head_line, push_jal_line,
-    push_leave_line, push_line, push_load_line, push_store_line,
+    push_jalr_line, push_leave_line, push_line, push_load_line, push_store_line,
 };
 use rv_word::{Cond, ImmOp, Instr, LoadKind, Reg, RegOp, StoreWidth};
 use std::test::Fail;
@@ -51,7 +51,7 @@ fn lines_are_spelled(rt: HostRuntime) -> Result<(), Fail> {
     Ok(())
 }
 
-const JUMPS: [u8; 68] = [
+const JUMPS: [u8; 96] = [
     139, 68, 36, 20, // mov eax, [rsp+20]
     139, 76, 36, 24, // mov ecx, [rsp+24]
     65, 131, 238, 1, // sub r14d, 1
@@ -66,6 +66,13 @@ const JUMPS: [u8; 68] = [
     65, 131, 254, 65, // cmp r14d, 65
     15, 130, 0, 16, 0, 0, // jb .+4102
     186, 132, 0, 0, 1, // mov edx, 0x1000084
+    233, 0, 16, 0, 0, // jmp .+4101
+    139, 84, 36, 20, // mov edx, [rsp+20]
+    131, 194, 4, // add edx, 4
+    131, 226, 254, // and edx, -2
+    184, 4, 0, 0, 1, // mov eax, 0x1000004
+    137, 68, 36, 4, // mov [rsp+4], eax
+    65, 131, 238, 1, // sub r14d, 1
     233, 0, 16, 0, 0, // jmp .+4101
 ];
 
@@ -92,6 +99,14 @@ fn jumps_are_spelled(rt: HostRuntime) -> Result<(), Fail> {
     push_jal_line(&mut out, Reg::numbered(1), 0x0100_0004, near)?;
     push_head_line(&mut out, 0x0100_0080, 4096)?;
     push_leave_line(&mut out, 0x0100_0084, 4096)?;
+    push_jalr_line(
+        &mut out,
+        Reg::numbered(1),
+        Reg::numbered(5),
+        4,
+        0x0100_0004,
+        4096,
+    )?;
     assert!(rt; out.as_slice() == JUMPS.as_slice());
     Ok(())
 }
@@ -195,9 +210,9 @@ fn divisions_are_spelled(rt: HostRuntime) -> Result<(), Fail> {
 
 fn jump_register() -> Instr {
     Instr::Jalr {
-        rd: Reg::numbered(0),
-        rs1: Reg::numbered(1),
-        imm: 0,
+        rd: Reg::numbered(1),
+        rs1: Reg::numbered(5),
+        imm: 4,
     }
 }
 
@@ -215,44 +230,40 @@ fn each_kind_of_line_is_spelled(rt: HostRuntime) -> Result<(), Fail> {
         offset: 64,
     };
     let (at, size) = (0x0100_0000, 4);
-    assert!(rt; push_line(&mut out, Line::Function { sandbox: 0, at }, 0, 0)?);
-    assert!(rt;
-        push_line(
-            &mut out,
-            Line::Does {
-                at,
-                size,
-                instr: branch
-            },
-            256,
-            0
-        )?
-    );
-    assert!(rt;
-        push_line(
-            &mut out,
-            Line::Does {
-                at,
-                size,
-                instr: jal
-            },
-            0xffff_fff0,
-            0
-        )?
-    );
-    assert!(rt; push_line(&mut out, Line::Head { at: at + 128 }, 0, 4096)?);
+    push_line(&mut out, Line::Function { sandbox: 0, at }, 0, 0)?;
+    push_line(
+        &mut out,
+        Line::Does {
+            at,
+            size,
+            instr: branch,
+        },
+        256,
+        0,
+    )?;
+    push_line(
+        &mut out,
+        Line::Does {
+            at,
+            size,
+            instr: jal,
+        },
+        0xffff_fff0,
+        0,
+    )?;
+    push_line(&mut out, Line::Head { at: at + 128 }, 0, 4096)?;
     let ecall = Line::Does {
         at: at + 132,
         size,
         instr: Instr::Ecall,
     };
-    assert!(rt; push_line(&mut out, ecall, 0, 4096)?);
+    push_line(&mut out, ecall, 0, 4096)?;
     let jalr = Line::Does {
         at,
         size,
         instr: jump_register(),
     };
-    assert!(rt; !push_line(&mut out, jalr, 0, 0)?);
+    push_line(&mut out, jalr, 0, 4096)?;
     assert!(rt; out.as_slice() == JUMPS.as_slice());
     Ok(())
 }
@@ -319,13 +330,7 @@ fn code_is_compiled(rt: HostRuntime) -> Result<(), Fail> {
         panic!(rt; "no code");
     };
     assert!(rt; code.as_slice() == COMPILED.as_slice());
-    // no line has the branch's label; an indirect jump has no code
+    // no line has the branch's label
     assert!(rt; compile(rt.alloc(), &lines[..4], at + 8)?.is_none());
-    let jalr = Line::Does {
-        at,
-        size: 4,
-        instr: jump_register(),
-    };
-    assert!(rt; compile(rt.alloc(), [jalr].as_slice(), at + 4)?.is_none());
     Ok(())
 }
