@@ -1,11 +1,11 @@
 //! Machine code of x86-64 for the lines of an accepted sandbox.
 //!
-//! Each of the sandbox's 32 registers has four bytes in a frame, r14 has the steps left, r15 the host's
-//! address of the sandbox's address 0; eax, ecx and edx are free between lines. `specs/Code.antt` says which
-//! instructions a line becomes, `specs/Layout.antt` when a processor has the state of a turn. Laws say that
-//! the bytes of lines then do what these do: `Facts::computing_lines_run`, `branch_lines_run`, `jal_lines_run`, `jalr_lines_run`,
-//! `load_lines_run`, `store_lines_run`; `lines_stand`, `placed_lines_run`, `placed_steps_run` of all that [`compile`] writes
-//! (`specs/Places.antt`).
+//! Each of the sandbox's 32 registers has four bytes in a frame, r14 has the steps left, r15 the host's address of the
+//! sandbox's address 0; eax, ecx and edx are free between lines. `specs/Code.antt` says which instructions a line becomes,
+//! `specs/Layout.antt` when a processor has the state of a turn. Laws say that the bytes of lines then do what these do:
+//! `Facts::computing_lines_run`, `branch_lines_run`, `jal_lines_run`, `jalr_lines_run`, `load_lines_run`,
+//! `store_lines_run`; `lines_stand`, `placed_lines_run`, `placed_steps_run` of all that [`compile`] writes
+//! (`specs/Places.antt`), up to accesses that fault and indirect jumps that stay in the code.
 #![tactic(auto)]
 
 mod access;

@@ -1,7 +1,8 @@
 //! The bytes of a line.
 ghost use Rattle.std.specs.Prelude.{◌≡◌, ◌++◌, OnOk};
+ghost use Rattle.rv_word.specs.Spelling.{offset_by};
 ghost use Rattle.sfi_native.specs.Lines.{line_of};
-ghost use Rattle.sfi_native.specs.Places.{instruction_code, line_code};
+ghost use Rattle.sfi_native.specs.Places.{instruction_code, jump_of, line_code};
 ghost use Rattle.x86_step.specs.Running.{spellings};
 
 use crate::access::{push_load_line, push_store_line};
@@ -26,6 +27,18 @@ pub enum Line {
     Does { at: u32, size: u32, instr: Instr },
 }
 
+/// The jump of a line to an address at an offset.
+fn jump(at: u32, offset: i32, label: u32, exit: u32) -> Jump
+    ensures { result ≡ jump_of (λ to. label) exit at (offset_by at offset) }
+{
+    Jump {
+        from: at,
+        to: at.wrapping_add_signed(offset),
+        label,
+        exit,
+    }
+}
+
 /// Writes a line of an instruction.
 #[tactic(auto, using(crate::proofs::Lists::no_part))]
 fn put_instruction(
@@ -44,25 +57,14 @@ fn put_instruction(
             rs1,
             rs2,
             offset,
-        } => {
-            let to = at.wrapping_add_signed(offset);
-            let jump = Jump {
-                from: at,
-                to,
-                label,
-                exit,
-            };
-            push_branch_line(out, cond, rs1, rs2, jump)
-        }
+        } => push_branch_line(out, cond, rs1, rs2, jump(at, offset, label, exit)),
         Instr::Jal { rd, offset } => {
-            let to = at.wrapping_add_signed(offset);
-            let jump = Jump {
-                from: at,
-                to,
-                label,
-                exit,
-            };
-            push_jal_line(out, rd, at.wrapping_add(size), jump)
+            push_jal_line(
+                out,
+                rd,
+                at.wrapping_add(size),
+                jump(at, offset, label, exit),
+            )
         }
         Instr::Load { kind, rd, rs1, imm } => {
             push_load_line(out, kind, rd, rs1, imm.cast_unsigned())
@@ -73,18 +75,15 @@ fn put_instruction(
             rs2,
             imm,
         } => push_store_line(out, width, rs1, rs2, imm.cast_unsigned()),
-        Instr::Ecall => push_leave_line(out, at, exit),
-        Instr::Ebreak => push_leave_line(out, at, exit),
-        Instr::Jalr { rd, rs1, imm } => {
-            push_jalr_line(
-                out,
-                rd,
-                rs1,
-                imm.cast_unsigned(),
-                at.wrapping_add(size),
-                exit,
-            )
-        }
+        Instr::Ecall | Instr::Ebreak => push_leave_line(out, at, exit),
+        Instr::Jalr { rd, rs1, imm } => push_jalr_line(
+            out,
+            rd,
+            rs1,
+            imm.cast_unsigned(),
+            at.wrapping_add(size),
+            exit,
+        ),
         _ => {
             push_computing_line(out, at, instr)?;
             Ok(())
@@ -92,8 +91,8 @@ fn put_instruction(
     }
 }
 
-/// Writes a line behind what is there. Distances are in bytes, from the line's end, in
-/// two's complement: `label` to where it jumps, `exit` to the way out.
+/// Writes a line behind what is there. Distances are in bytes, from the line's end, in two's complement: `label` to where
+/// it jumps, `exit` to the way out.
 #[tactic(auto, using(crate::proofs::Lists::no_part))]
 pub fn push_line(out: &mut Vec<u8>, line: Line, label: u32, exit: u32) -> Result<(), AllocError>
     ensures { OnOk result (out.new.items ≡ out.old.items ++ spellings (line_code (λ to. label) exit (line_of line))) }
