@@ -1,8 +1,9 @@
 /*
  * Slots: plug-ins, each from an image of its own, that come and go while their neighbours run. Each slot keeps two versions of
- * its plug-in: an update takes the place of the one that isn't current. A new version runs on trial: where it stops or uses up
- * its turns before it has reported, the one before it is started again. By sfi_device_are_apart no region or guard zone of an
- * update meets one of a version that another slot keeps. All of this lies in memory: after a reset no slot has a version.
+ * its plug-in: an update takes the place of the one that isn't current. A new version runs on trial: where it can't be placed,
+ * stops, or uses up its turns before it has reported, the one before it is started again. By sfi_device_are_apart no region or
+ * guard zone of an update meets one of a version that another slot keeps. All of this lies in memory: after a reset no slot has
+ * a version.
  */
 #ifndef SFI_DEVICE_SLOTS_H
 #define SFI_DEVICE_SLOTS_H
@@ -48,7 +49,7 @@ struct sfi_device_slots {
     void (*between_pieces)(void);
     /* The slot's sandbox is emptied: so is what the firmware keeps for it */
     void (*emptied)(uint32_t number);
-    /* A version on trial has stopped, or used up its turns; then the older one runs, if there is one */
+    /* A version on trial has stopped, used up its turns, or wasn't placed; then the older one runs, if there is one */
     void (*tells)(uint32_t number, enum sfi_device_news news);
 };
 
@@ -58,25 +59,30 @@ enum sfi_device_update {
     SFI_DEVICE_UPDATE_REFUSED,      /* the checker's status and the verdict say why */
     SFI_DEVICE_NOT_ONE_PLUGIN,      /* it has more than one sandbox */
     SFI_DEVICE_NOT_ITS_PLACE,       /* its code isn't where plug-ins' code is, or its data aren't the slot's */
-    SFI_DEVICE_NOT_APART            /* it meets a version that another slot keeps */
+    SFI_DEVICE_NOT_APART,           /* it meets a version that another slot keeps */
+    SFI_DEVICE_NOT_BEGUN,           /* the current version is on trial, or none was dropped for it: nothing was judged */
+    SFI_DEVICE_NOT_PLACED           /* sfi_device_is_code_in_place denies that its code was written: it is rolled back */
 };
 
 struct sfi_device_version *sfi_device_current(const struct sfi_device_slots *all, uint32_t number);
 /* The first slot that has no version; `count` where each has one. */
 uint32_t sfi_device_free_slot(const struct sfi_device_slots *all);
-/* Drops the version that an update takes the place of, and answers the memory for its image. Not while the current version is
-   on trial. */
+/* Drops the version that an update takes the place of, and answers the memory for its image. NULL, and nothing is dropped,
+   while the current version is on trial. */
 uint8_t *sfi_device_begin_update(const struct sfi_device_slots *all, uint32_t number);
-/* Judges and starts what lies there. `moves`: the image is for any place, and is moved to the slot's before it is started. */
+/* Judges and starts what lies there. `moves`: the image is for any place, and is moved to the slot's before it is started.
+   status and verdict are written unless it is NOT_BEGUN. */
 enum sfi_device_update sfi_device_end_update(const struct sfi_device_slots *all, uint32_t number, uint32_t length, bool moves,
                                              enum sfi_device_status *status, struct sfi_verdict *verdict);
 /* One turn for each plug-in that is ready. */
 void sfi_device_run_slots(const struct sfi_device_slots *all);
-/* The current version from its start, with new data. False where there is none. */
+/* The current version from its start, with new data. False where there is none, or sfi_device_is_code_in_place denies that its
+   code was written: then the sandbox is empty. */
 bool sfi_device_start_slot(const struct sfi_device_slots *all, uint32_t number);
 /* False where it isn't ready. */
 bool sfi_device_kill_slot(const struct sfi_device_slots *all, uint32_t number);
-/* Enters the current version, which has stopped and isn't on trial, as sfi_device_enter_again does. */
+/* Enters the current version, which has stopped and isn't on trial, as sfi_device_enter_again does, of which see the last
+   sentence. */
 bool sfi_device_call_slot(const struct sfi_device_slots *all, uint32_t number, uint32_t pc,
                           const uint32_t arguments[SFI_DEVICE_ARGUMENTS]);
 /* Drops its versions: another slot's plug-in may then have their place. False where it has none, or one on trial. */

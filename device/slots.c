@@ -39,7 +39,7 @@ static void place_code(const struct sfi_device_slots *all, const struct sfi_devi
         all->between_pieces();
         sfi_device_run_slots(all);
     }
-    __asm__ volatile("fence.i");
+    __asm__ volatile("fence.i" ::: "memory");
 }
 
 bool sfi_device_start_slot(const struct sfi_device_slots *all, uint32_t number) {
@@ -48,6 +48,8 @@ bool sfi_device_start_slot(const struct sfi_device_slots *all, uint32_t number) 
         return false;
     empty(all, number); /* has no turn until all of it is placed */
     place_code(all, part);
+    if (sfi_device_is_code_in_place && !sfi_device_is_code_in_place(part))
+        return false;
     memset((uint8_t *)part->data_base, 0, part->data_size);
     memcpy((uint8_t *)part->data_base, part->first, part->first_count);
     sfi_device_enter_start(all->slots[number].sandbox, part);
@@ -108,6 +110,8 @@ void sfi_device_run_slots(const struct sfi_device_slots *all) {
 
 uint8_t *sfi_device_begin_update(const struct sfi_device_slots *all, uint32_t number) {
     const struct sfi_device_slot *slot = &all->slots[number];
+    if (sfi_device_current(all, number)->trial_turns > 0)
+        return NULL;
     drop(all, number, next_of(slot));
     return slot->images[next_of(slot)];
 }
@@ -141,25 +145,36 @@ static bool move_to_slot(const struct sfi_device_slot *slot, uint8_t *image, uin
            sfi_device_tell(image, length, 0, part) == SFI_DEVICE_DONE;
 }
 
+/* Where it can't be placed the older version is started again. */
+static enum sfi_device_update start_version(const struct sfi_device_slots *all, uint32_t number, uint32_t version,
+                                            const struct sfi_device_part *part) {
+    struct sfi_device_slot *slot = &all->slots[number];
+    slot->versions[version] = (struct sfi_device_version){.number = ++slot->updates, .trial_turns = all->trial_turns};
+    slot->versions[version].part = *part;
+    slot->current = version;
+    if (sfi_device_start_slot(all, number))
+        return SFI_DEVICE_STARTED;
+    roll_back(all, number);
+    return SFI_DEVICE_NOT_PLACED;
+}
+
 enum sfi_device_update sfi_device_end_update(const struct sfi_device_slots *all, uint32_t number, uint32_t length, bool moves,
                                              enum sfi_device_status *status, struct sfi_verdict *verdict) {
-    struct sfi_device_slot *slot = &all->slots[number];
-    uint8_t *image = slot->images[next_of(slot)];
-    struct sfi_device_version next = {.trial_turns = all->trial_turns};
-    struct sfi_device_part further;
+    const struct sfi_device_slot *slot = &all->slots[number];
+    const uint32_t version = next_of(slot); /* no turn changes it: the current one isn't on trial */
+    uint8_t *image = slot->images[version];
+    struct sfi_device_part part, further;
+    if (sfi_device_current(all, number)->trial_turns > 0 || slot->versions[version].number != 0)
+        return SFI_DEVICE_NOT_BEGUN;
     *status = sfi_device_check(image, length, between_pieces, (void *)all, verdict);
     if (*status != SFI_DEVICE_DONE)
         return SFI_DEVICE_UPDATE_REFUSED;
-    if (sfi_device_tell(image, length, 0, &next.part) != SFI_DEVICE_DONE ||
+    if (sfi_device_tell(image, length, 0, &part) != SFI_DEVICE_DONE ||
         sfi_device_tell(image, length, 1, &further) != SFI_DEVICE_NO_SANDBOX)
         return SFI_DEVICE_NOT_ONE_PLUGIN;
-    if ((moves && !move_to_slot(slot, image, length, &next.part)) || !is_its_place(all, number, &next.part))
+    if ((moves && !move_to_slot(slot, image, length, &part)) || !is_its_place(all, number, &part))
         return SFI_DEVICE_NOT_ITS_PLACE;
-    if (!is_apart(all, number, &next.part))
+    if (!is_apart(all, number, &part))
         return SFI_DEVICE_NOT_APART;
-    next.number = ++slot->updates;
-    slot->current = next_of(slot);
-    *sfi_device_current(all, number) = next;
-    sfi_device_start_slot(all, number);
-    return SFI_DEVICE_STARTED;
+    return start_version(all, number, version, &part);
 }

@@ -115,10 +115,11 @@ static void answer(bool is_done, uint32_t number, const char *what) {
 
 static void await_update(uint32_t number, bool moves) {
     uint32_t length;
+    uint8_t *memory;
     if (number >= SLOTS || !take_number(&length) || !is_over() || length == 0 || length > IMAGE_MOST ||
-        sfi_device_current(&slots, number)->trial_turns > 0)
+        (memory = sfi_device_begin_update(&slots, number)) == NULL)
         return print("no\n");
-    update.memory = sfi_device_begin_update(&slots, number);
+    update.memory = memory;
     update.slot = number;
     update.length = length;
     update.arrived = 0;
@@ -136,7 +137,8 @@ static void begin_update(void) {
 static void judge_update(void) {
     static const char *const reasons[] = {
         [SFI_DEVICE_NOT_ONE_PLUGIN] = "not one plug-in", [SFI_DEVICE_NOT_ITS_PLACE] = "not the slot's place",
-        [SFI_DEVICE_NOT_APART] = "not apart from another slot"
+        [SFI_DEVICE_NOT_APART] = "not apart from another slot", [SFI_DEVICE_NOT_BEGUN] = "not begun",
+        [SFI_DEVICE_NOT_PLACED] = "not placed"
     };
     struct sfi_verdict verdict = {0};
     uint32_t number = update.slot;
