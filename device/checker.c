@@ -11,6 +11,8 @@ struct checker_memory sfi_device_checker_memory __attribute__((aligned(16)));
 static Z_sfi_instance_t module;
 struct reach sfi_device_image_reach;
 
+static struct reach judged; /* the image that was accepted last: nothing while one is judged */
+
 enum { PIECE = 4096 }; /* bytes of an image that are judged at a time */
 
 _Static_assert((int)MODULE_GATES == (int)SFI_DEVICE_GATES_MOST, "the gates of the module are those of a part");
@@ -89,13 +91,21 @@ static enum sfi_device_status judge_pieces(const uint8_t *image, uint32_t length
 
 enum sfi_device_status sfi_device_check(const uint8_t *image, uint32_t length, void (*between_pieces)(void *host),
                                         void *host, struct sfi_verdict *verdict) {
-    memset(sfi_device_checker_memory.data, 0, sizeof sfi_device_checker_memory - MODULE_STACK);
+    memset((uint8_t *)&sfi_device_checker_memory + MODULE_STACK, 0, sizeof sfi_device_checker_memory - MODULE_STACK);
+    judged = (struct reach){0, 0};
     sfi_device_image_reach = (struct reach){in_module(image), length};
     if (__builtin_setjmp(stopped) != 0)
         return SFI_DEVICE_CHECKER_STOPPED;
     Z_sfi_init_module();
     Z_sfi_instantiate(&module);
-    return judge_pieces(image, length, between_pieces, host, verdict);
+    enum sfi_device_status status = judge_pieces(image, length, between_pieces, host, verdict);
+    if (status == SFI_DEVICE_DONE)
+        judged = sfi_device_image_reach;
+    return status;
+}
+
+static bool is_judged(const uint8_t *image, uint32_t length) {
+    return length > 0 && in_module(image) == judged.first && length == judged.size;
 }
 
 /* What the module is told, in its own memory. */
@@ -113,6 +123,8 @@ bool sfi_device_are_apart(const struct sfi_device_part *one, const struct sfi_de
 }
 
 bool sfi_device_move(uint8_t *image, uint32_t length, uint32_t number, uint32_t code_base, uint32_t data_base) {
+    if (!is_judged(image, length))
+        return false;
     if (__builtin_setjmp(stopped) != 0)
         return false;
     return Z_sfiZ_sfi_c_move(&module, in_module(image), length, number, code_base, data_base) == SFI_FOUND;
@@ -129,6 +141,8 @@ static enum sfi_device_status tell_gates(const uint8_t *image, uint32_t length, 
 
 enum sfi_device_status sfi_device_tell(const uint8_t *image, uint32_t length, uint32_t number, struct sfi_device_part *part) {
     const struct module_part *told = &sfi_device_checker_memory.part;
+    if (!is_judged(image, length))
+        return SFI_DEVICE_NOT_ACCEPTED;
     if (__builtin_setjmp(stopped) != 0)
         return SFI_DEVICE_CHECKER_STOPPED;
     if (Z_sfiZ_sfi_c_part(&module, in_module(image), length, number, in_module(told)) != SFI_FOUND)

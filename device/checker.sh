@@ -65,5 +65,5 @@ linked=(-nostdlib -r -Wl,--gc-sections,-esfi_device_check,-usfi_device_tell,-usf
 "$riscv" "${machine[@]}" "${linked[@]}" -o checker.o judge.o sfi_wasm.o -lgcc
 "$riscv" "${machine[@]}" "${linked[@]}" -Wl,-usfi_device_move -o moving.o judge.o sfi_wasm.o -lgcc
 for made in checker.o moving.o; do # no other name of theirs can meet one of the firmware's
-    riscv64-unknown-elf-objcopy --wildcard --keep-global-symbol='sfi_device_*' "$made"
+    "$("$riscv" -print-prog-name=objcopy)" --wildcard --keep-global-symbol='sfi_device_*' "$made"
 done

@@ -127,13 +127,14 @@ struct sfi_device_firmware {
    the verdict has no findings, unless it was the last. DONE where the image is accepted, NOT_ACCEPTED, or CHECKER_STOPPED. */
 enum sfi_device_status sfi_device_check(const uint8_t *image, uint32_t length, void (*between_pieces)(void *host),
                                         void *host, struct sfi_verdict *verdict);
-/* These three come after it, and their image is the one that it judged last. */
-/* Tells the accepted image's sandbox of that number. DONE, NO_SANDBOX or CHECKER_STOPPED. */
+/* These three come after it. Its bytes stay as they were judged. */
+/* Tells the accepted image's sandbox of that number. DONE, NO_SANDBOX, NOT_ACCEPTED where that address and length aren't those
+   of the image that was judged last, and accepted, or CHECKER_STOPPED. */
 enum sfi_device_status sfi_device_tell(const uint8_t *image, uint32_t length, uint32_t number, struct sfi_device_part *part);
 /* No region and no guard zone of one of them meets one of the other. */
 bool sfi_device_are_apart(const struct sfi_device_part *one, const struct sfi_device_part *other);
 /* In moving.o alone: has the image's sandbox of that number lie at another place, in its bytes. False, and none of them is
-   changed, where it can't lie there. */
+   changed, where it can't lie there, or tell says NOT_ACCEPTED. */
 bool sfi_device_move(uint8_t *image, uint32_t length, uint32_t number, uint32_t code_base, uint32_t data_base);
 
 /* ---- Enter and leave */

@@ -8,6 +8,15 @@ try_small_stack() {
         "$(run --checker "$room/small/checker.o" <../smallest.hex; echo "status $?")"
 }
 
+# A host that goes on with an image that was refused: it is told of no sandbox.
+try_refused() {
+    cp "$room/attack0.hex" "$room/image.hex"
+    edit_host examples/device/image.c 's/^    fail(status == SFI_DEVICE_NOT_ACCEPTED.*/    return;/'
+    report "a host that goes on with what was refused" \
+        "device: $("$SFI" check <"$room/image.hex")"$'\ndevice: the checker stopped\nstatus 2' \
+        "$(cd "$edited" && OUT=$room/edited_out run <"$room/image.hex"; echo "status $?")"
+}
+
 at_most() { # what is tried, the most that it may be, a line that ends in the number
     local number=${3##*=}
     [[ $number =~ ^[0-9]+$ ]] && [ "$number" -le "$2" ]
@@ -45,6 +54,7 @@ try_checker() {
         judged "${attacks[number]}"
     done
     judge_layouts
+    try_refused
     compare "sixteen sandboxes, which the checker tells" "$room/sixteen.hex" '' steps
     by=()
     case $(riscv64-unknown-elf-gcc -dumpversion) in
