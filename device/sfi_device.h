@@ -116,7 +116,7 @@ struct sfi_device_firmware {
     void (*interrupt_after)(uint32_t ticks);    /* has the timer interrupt, once */
     /* Quiets an interrupt other than the timer's, of that cause without its highest bit, and says whether it is one of the
        firmware's: then the turn goes on, else the sandbox ends. It must not know one by which the processor tells of an
-       access that failed: going on then lets code of the third format out */
+       access that failed: going on then lets code of the third format out. NULL where it has none */
     bool (*answer_interrupt)(uint32_t cause);
 };
 
@@ -147,8 +147,8 @@ void sfi_device_enter_start(struct sfi_device_sandbox *sandbox, const struct sfi
    to a7, in ra its first gate of service 0, and in x2 room above the stack as its image asks for. Its data stay. False,
    and nothing is changed, where it is ready or empty, pc isn't such, or its code isn't in place any more. */
 bool sfi_device_enter_again(struct sfi_device_sandbox *sandbox, uint32_t pc, const uint32_t arguments[SFI_DEVICE_ARGUMENTS]);
-/* One turn of a sandbox that is ready: until the timer, a yield, an exit or a trap ends it. Called with interrupts off, on
-   any stack. */
+/* One turn of a sandbox: until the timer, a yield, an exit or a trap ends it. None of one that isn't ready. Called with
+   interrupts off, on any stack. */
 void sfi_device_turn(const struct sfi_device_firmware *firmware, struct sfi_device_sandbox *sandbox, uint32_t ticks);
 /* The bytes of a sandbox's data from an address on, or NULL where one of them isn't its own. */
 uint8_t *sfi_device_own_bytes(const struct sfi_device_sandbox *sandbox, uint32_t address, uint32_t length);

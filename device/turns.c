@@ -14,7 +14,7 @@ static bool goes_on(const struct sfi_device_firmware *firmware, struct sfi_devic
         return false;
     if (cause == CAUSE_ECALL)
         return sfi_device_answer_call(firmware, sandbox);
-    if (cause & CAUSE_INTERRUPT && firmware->answer_interrupt(cause & ~CAUSE_INTERRUPT))
+    if (cause & CAUSE_INTERRUPT && firmware->answer_interrupt && firmware->answer_interrupt(cause & ~CAUSE_INTERRUPT))
         return true;
     sfi_device_stop_by_trap(sandbox, cause);
     sandbox->steps -= cause == CAUSE_BREAKPOINT; /* QEMU counts it; a trap is no step */
@@ -23,6 +23,8 @@ static bool goes_on(const struct sfi_device_firmware *firmware, struct sfi_devic
 
 void sfi_device_turn(const struct sfi_device_firmware *firmware, struct sfi_device_sandbox *sandbox, uint32_t ticks) {
     uint32_t cause;
+    if (sandbox->state != SFI_DEVICE_READY)
+        return;
     firmware->interrupt_after(ticks);
     if (sfi_device_will_run)
         sfi_device_will_run(sandbox);

@@ -24,11 +24,11 @@ static void run_rounds(struct world *world) {
 
 static void enter_as_asked(struct world *world) {
     const struct arguments *asked = world->arguments;
-    struct plugin *plugin = &world->plugins[asked->entered];
+    struct plugin *plugins = world->plugins;
     if (asked->entered >= world->count ||
-        !sfi_device_enter_again(&plugin->sandbox, asked->entry_pc, asked->entry_arguments))
+        !sfi_device_enter_again(&plugins[asked->entered].sandbox, asked->entry_pc, asked->entry_arguments))
         refuse("--enter: there is no such sandbox, or it hasn't stopped, or no bundle or word begins there");
-    plugin->moved = 0;
+    plugins[asked->entered].moved = 0;
 }
 
 void run_world(struct world *world) {

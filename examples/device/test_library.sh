@@ -44,9 +44,18 @@ END_OF_FIRMWARE
         -I"$shared/../../crates/sfi_c/include" "$room/firmware.cpp"
 }
 
+# A host that gives turns to what has stopped, too: it makes no step more.
+try_turns() {
+    "$SFI" build <<<$'.sandbox 256\n.gate exit 0\n call exit' >"$room/image.hex"
+    edit_host examples/device/rounds.c 's/\.state == SFI_DEVICE_READY/.state != SFI_DEVICE_EMPTY/'
+    report "turns of a sandbox that has stopped" "$("$SFI" run --rounds 3 <"$room/image.hex")" \
+        "$(cd "$edited" && OUT=$room/edited_out run --rounds 3 --steps <"$room/image.hex")"
+}
+
 try_library() {
     try_names "S-mode"
     try_names "M-mode" -DMICROCONTROLLER -Imcu/chips/sifive_e
     try_cpp g++
     try_cpp riscv64-unknown-elf-g++ -march=rv32imc -mabi=ilp32 -ffreestanding
+    try_turns
 }
