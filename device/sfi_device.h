@@ -26,6 +26,8 @@ extern "C" {
 enum {
     SFI_DEVICE_GATES_MOST = 64,
     SFI_DEVICE_FORMAT_OF_WORDS = 3,
+    SFI_DEVICE_FORMAT_1 = 1,        /* of bundles */
+    SFI_DEVICE_FORMAT_2 = 2,
     SFI_DEVICE_GUARD_ZONE = 4096,   /* on each side of the data: every access there has to trap, and the sandbox ends by it */
     SFI_DEVICE_ARGUMENTS = 8        /* of an entry: a0 to a7 */
 };
@@ -35,8 +37,8 @@ enum sfi_device_status {
     SFI_DEVICE_NOT_ACCEPTED,        /* the verdict says why */
     SFI_DEVICE_CHECKER_STOPPED,     /* it couldn't go on: there is no verdict, and no image to run */
     SFI_DEVICE_NO_SANDBOX,          /* the image has none of that number */
-    SFI_DEVICE_NO_GUARDS,           /* code in words is held by guard zones that trap, and the port has none */
-    SFI_DEVICE_NO_ENTRY,            /* no entry of physical memory protection is left for the sandbox */
+    SFI_DEVICE_NO_GUARDS,           /* code in words, or of no format, is held by guard zones that trap, and the port has none */
+    SFI_DEVICE_NO_ENTRY,            /* no entry of physical memory protection is left for the sandbox, or there is none so high */
     SFI_DEVICE_NO_MEMORY,           /* no page is left for it */
     SFI_DEVICE_CODE_IS_HOST,        /* its code is where the host is */
     SFI_DEVICE_DATA_IS_HOST,        /* its data or guard zones are */

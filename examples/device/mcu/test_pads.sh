@@ -55,9 +55,19 @@ try_without_pmp() {
     report "$chip: no PMP: code in words" \
         $'device: sandbox 0: code in words is held by guard zones that trap, and here none does\nstatus 2' \
         "$(without_pmp; echo "status $?")"
+    try_no_format
     try_no_entries
     try_missing_pads
     try_words_on_pads
+}
+
+# A host that asks for guards before it knows an image.
+try_no_format() {
+    edit_host examples/device/mcu/place.c 's/close_guards(number, part)/close_guards(number, \&(struct sfi_device_part){0})/'
+    build "$room/pair.s" 1 >"$room/image.hex"
+    report "$chip: no PMP: guards of no format" \
+        "device: sandbox 0: code in words is held by guard zones that trap, and here none does" \
+        "$(cd "$edited/$own" && by=(--unchecked) && without_pmp)"
 }
 
 # A chip.h that says that the chip has no entries.
@@ -83,7 +93,7 @@ try_missing_pads() {
 
 # Code in words gets out on a host that doesn't refuse it.
 try_words_on_pads() {
-    edit_host device/ports/none.c 's/== SFI_DEVICE_FORMAT/> SFI_DEVICE_FORMAT/'
+    edit_host device/ports/none.c 's/!= SFI_DEVICE_FORMAT_2/< SFI_DEVICE_FORMAT_2/'
     { echo .format words && head -n 14 "$room/out.s" | tail -n +2 && printf '.sandbox 256\n ebreak\n'; } >"$room/far.s"
     beside "$room/far.s"
     report "$chip: no PMP: code in words that gets out" "written=$(printf %08x $((data_at + 0x2100))):5a" \
