@@ -162,7 +162,8 @@ bool sfi_device_are_same(const uint8_t *one, const uint8_t *other, uint32_t leng
 
 /* Closes the guard zones of the sandbox of that number, once sfi_device_write_protection is called. DONE, NO_GUARDS or NO_ENTRY. */
 struct sfi_device_fault sfi_device_close_guards(uint32_t number, const struct sfi_device_part *part);
-/* DONE, OTHER_RULES or ENTRY_DIFFERS. */
+/* Writes all SFI_DEVICE_PMP_ENTRIES entries: those that nobody asked for are turned off, where they aren't locked. Called with
+   interrupts off. DONE, OTHER_RULES or ENTRY_DIFFERS. */
 struct sfi_device_fault sfi_device_write_protection(void);
 /* An entry of physical memory protection, for a port of one's own; and the address that a power of two of bytes has there. */
 void sfi_device_protect(uint32_t entry, uint32_t address, uint8_t configuration);

@@ -1,6 +1,6 @@
 /*
  * The port for a processor with Sv32 pages, whose host runs in S-mode: one page table. M-mode makes it, in physical addresses,
- * before there is paging; then the firmware writes satp.
+ * before there is paging; then the firmware writes satp, and executes sfence.vma: entries of PMP were written, too.
  */
 #ifndef SFI_DEVICE_SV32_H
 #define SFI_DEVICE_SV32_H
@@ -23,17 +23,20 @@ struct sfi_device_sv32 {
     uint32_t small_count;
 };
 
-/* Maps a sandbox, with its code and first data. DONE, CODE_IS_HOST, DATA_IS_HOST, NO_ENTRY where no entry of PMP is left for
-   a data region below 4096 bytes, or NO_MEMORY where no page is. */
+/* Maps a sandbox, with its code and first data. DONE, CODE_IS_HOST, DATA_IS_HOST, NO_ENTRY where no entry of PMP or page of
+   the window is left for a data region below 4096 bytes, or NO_MEMORY where no page is. */
 struct sfi_device_fault sfi_device_sv32_map(struct sfi_device_sv32 *space, const struct sfi_device_part *part);
-/* A page of the host's own that can be executed there, as the host can write it; NULL where none is left. */
+/* A page of the host's own that can be executed there, as the host can write it; NULL where none is left, or the host's own
+   memory is mapped there. The address is no sandbox's. */
 uint8_t *sfi_device_sv32_page_of_code(struct sfi_device_sv32 *space, uint32_t address);
-/* Where the host has a mapped byte of code or data; NULL where no page is left. */
+/* Where the host has a byte of code or data; NULL where sfi_device_sv32_map has mapped none. */
 void *sfi_device_sv32_at(struct sfi_device_sv32 *space, uint32_t address);
-/* A device's page at another address. False where no page is left. */
+/* A device's page at another address, from host_from to host_to. False, and nothing is mapped, where that lies elsewhere or
+   is mapped already, or no page is left. */
 bool sfi_device_sv32_map_device(struct sfi_device_sv32 *space, uint32_t address, uint32_t device);
-/* The host's own memory, at its physical addresses, in multiples of 4 MiB. */
-void sfi_device_sv32_map_host(uint32_t from, uint32_t to);
+/* The host's own memory, at its physical addresses, in multiples of 4 MiB. False where they aren't such, don't lie from
+   host_from to host_to, or something is mapped there already. */
+bool sfi_device_sv32_map_host(const struct sfi_device_sv32 *space, uint32_t from, uint32_t to);
 /* Protects the window, and tells what satp takes. DONE, OTHER_RULES or ENTRY_DIFFERS. */
 struct sfi_device_fault sfi_device_sv32_finish(const struct sfi_device_sv32 *space, uint32_t *satp);
 

@@ -17,11 +17,14 @@ void sfi_device_pmp_write(const uint32_t addresses[], const uint8_t configuratio
 void sfi_device_pmp_read(uint32_t addresses[], uint8_t configurations[]);
 uint32_t sfi_device_pmp_rules(void);
 
-void sfi_device_protect(uint32_t entry, uint32_t address, uint8_t configuration) {
-    wanted.addresses[entry] = address >> 2;
+enum sfi_device_status sfi_device_protect(uint32_t entry, uint64_t address, uint8_t configuration) {
+    if (entry >= SFI_DEVICE_PMP_ENTRIES)
+        return SFI_DEVICE_NO_ENTRY;
+    wanted.addresses[entry] = (uint32_t)(address >> 2);
     wanted.configurations[entry] = configuration;
     if (count <= entry)
         count = entry + 1;
+    return SFI_DEVICE_DONE;
 }
 
 /* The address of an entry PMP_NAPOT has a 0 and then as many ones at the end as the size asks for. */
@@ -47,7 +50,8 @@ struct sfi_device_fault sfi_device_write_protection(void) {
    the data region is open, and the rest from the first address of the lower guard zone to the last of
    the upper one is closed. */
 struct sfi_device_fault sfi_device_close_guards(uint32_t number, const struct sfi_device_part *part) {
-    uint32_t entry = ENTRIES_EACH * number, data_end = part->data_base + part->data_size;
+    uint32_t entry = ENTRIES_EACH * number;
+    uint64_t data_end = (uint64_t)part->data_base + part->data_size; /* the upper guard zone may end at 2^32 */
     if (number >= SFI_DEVICE_PMP_ENTRIES / ENTRIES_EACH)
         return (struct sfi_device_fault){SFI_DEVICE_NO_ENTRY, 0, 0};
     sfi_device_protect(entry, sfi_device_power_of_two(part->data_base, part->data_size),

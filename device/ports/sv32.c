@@ -6,7 +6,9 @@
 
 enum {
     ENTRIES = PAGE / 4,
-    SMALL_MOST = SFI_DEVICE_PMP_ENTRIES - 2, /* how many data regions may be smaller than a page */
+    WINDOW_PAGES = SFI_DEVICE_SV32_WINDOW / PAGE,
+    /* how many data regions may be smaller than a page: each takes a page of the window and an entry of PMP */
+    SMALL_MOST = SFI_DEVICE_PMP_ENTRIES - 2 < WINDOW_PAGES ? SFI_DEVICE_PMP_ENTRIES - 2 : WINDOW_PAGES,
     PMP_WINDOW = SMALL_MOST,
     PMP_ALL = SMALL_MOST + 1
 };
@@ -30,9 +32,16 @@ static uint8_t *target_of(uint32_t entry) {
     return (uint8_t *)(entry >> 10 << 12);
 }
 
-/* NULL where there is no page left for it. */
+/* Of an upper entry: it is a megapage's, and no table's. */
+static bool is_leaf(uint32_t entry) {
+    return (entry & (PTE_R | PTE_W | PTE_X)) != 0;
+}
+
+/* NULL where there is no page left for it, or a megapage is there. */
 static uint32_t *entry_of(struct sfi_device_sv32 *space, uint32_t address) {
     uint32_t *upper = &root[address / MEGAPAGE];
+    if (is_leaf(*upper))
+        return NULL;
     if (*upper == 0) {
         uint8_t *table = new_page(space);
         if (table == NULL)
@@ -119,12 +128,16 @@ uint8_t *sfi_device_sv32_page_of_code(struct sfi_device_sv32 *space, uint32_t ad
 
 void *sfi_device_sv32_at(struct sfi_device_sv32 *space, uint32_t address) {
     uint32_t *entry = entry_of(space, address);
-    return entry == NULL ? NULL : target_of(*entry) + address % PAGE;
+    return entry == NULL || *entry == 0 ? NULL : target_of(*entry) + address % PAGE;
+}
+
+static bool is_of_host(const struct sfi_device_sv32 *space, uint64_t from, uint64_t to) {
+    return from >= space->host_from && to <= space->host_to;
 }
 
 bool sfi_device_sv32_map_device(struct sfi_device_sv32 *space, uint32_t address, uint32_t device) {
-    uint32_t *entry = entry_of(space, address);
-    if (entry == NULL)
+    uint32_t *entry = is_of_host(space, address, (uint64_t)address + PAGE) ? entry_of(space, address) : NULL;
+    if (entry == NULL || *entry != 0)
         return false;
     *entry = entry_to((void *)device, PTE_R | PTE_W | PTE_ACCESSED | PTE_DIRTY);
     return true;
@@ -132,9 +145,15 @@ bool sfi_device_sv32_map_device(struct sfi_device_sv32 *space, uint32_t address,
 
 /* The host's memory has no protection from the sandboxes but what the checker says of them: one
    address space, one privilege. */
-void sfi_device_sv32_map_host(uint32_t from, uint32_t to) {
-    for (uint32_t address = from; address < to; address += MEGAPAGE)
+bool sfi_device_sv32_map_host(const struct sfi_device_sv32 *space, uint32_t from, uint32_t to) {
+    if (from % MEGAPAGE != 0 || to % MEGAPAGE != 0 || !is_of_host(space, from, to))
+        return false;
+    for (uint32_t address = from; address < to; address += MEGAPAGE) {
+        if (root[address / MEGAPAGE] != 0)
+            return false;
         root[address / MEGAPAGE] = entry_to((void *)address, PTE_R | PTE_W | PTE_X | PTE_ACCESSED | PTE_DIRTY);
+    }
+    return true;
 }
 
 struct sfi_device_fault sfi_device_sv32_finish(const struct sfi_device_sv32 *space, uint32_t *satp) {

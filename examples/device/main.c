@@ -9,8 +9,8 @@ extern uint8_t window[]; /* aligned to its size; after it is the pool of pages, 
 extern uint8_t stack_top[]; /* the end of the host's own memory */
 
 static void map_host(void) {
-    sfi_device_sv32_map_host(RAM, UART);
-    if (!sfi_device_sv32_map_device(&space, UART, UART_DEVICE) || !sfi_device_sv32_map_device(&space, FINISHER, FINISHER_DEVICE))
+    if (!sfi_device_sv32_map_host(&space, RAM, UART) || !sfi_device_sv32_map_device(&space, UART, UART_DEVICE) ||
+        !sfi_device_sv32_map_device(&space, FINISHER, FINISHER_DEVICE))
         refuse("there is no room for the host");
 }
 
