@@ -4,8 +4,9 @@
  * theorem, and which of these calls keeps it.
  *
  * No call halts, waits or prints, or takes memory: each fault is an answer. Calls of one hart, one at a time; the checker's
- * may be interrupted by sfi_device_turn, in its between_pieces. All of it is plain C11 and assembly, and of C it asks for
- * memcpy and memset alone. Each of its global names begins with sfi_device_.
+ * may be interrupted by sfi_device_turn, in its between_pieces. All of it is GNU C11 (gcc or clang) and assembly, for a
+ * processor with the extension M, and of C it asks for memcpy and memset alone. Each of its global names begins with
+ * sfi_device_.
  *
  * The firmware has a header sfi_device_config.h: device/README.md says what is in it.
  */
@@ -25,9 +26,9 @@ extern "C" {
 /* docs/IMAGE.md and docs/GATES.md */
 enum {
     SFI_DEVICE_GATES_MOST = 64,
-    SFI_DEVICE_FORMAT_OF_WORDS = 3,
     SFI_DEVICE_FORMAT_1 = 1,        /* of bundles */
     SFI_DEVICE_FORMAT_2 = 2,
+    SFI_DEVICE_FORMAT_OF_WORDS = 3,
     SFI_DEVICE_GUARD_ZONE = 4096,   /* on each side of the data: every access there has to trap, and the sandbox ends by it */
     SFI_DEVICE_ARGUMENTS = 8        /* of an entry: a0 to a7 */
 };
@@ -147,7 +148,8 @@ void sfi_device_empty(struct sfi_device_sandbox *sandbox);
 void sfi_device_enter_start(struct sfi_device_sandbox *sandbox, const struct sfi_device_part *part);
 /* Makes a sandbox that has stopped ready at pc, the first address of one of its bundles, or words, with arguments in a0
    to a7, in ra its first gate of service 0, and in x2 room above the stack as its image asks for. Its data stay. False,
-   and nothing is changed, where it is ready or empty, pc isn't such, or its code isn't in place any more. */
+   and nothing is changed, where it is ready or empty, pc isn't such, or its code isn't in place any more. A call that went on
+   is over: before it, the firmware forgets what a service keeps of that. */
 bool sfi_device_enter_again(struct sfi_device_sandbox *sandbox, uint32_t pc, const uint32_t arguments[SFI_DEVICE_ARGUMENTS]);
 /* One turn of a sandbox: until the timer, a yield, an exit or a trap ends it. None of one that isn't ready. Called with
    interrupts off, on any stack. */
@@ -165,8 +167,10 @@ struct sfi_device_fault sfi_device_close_guards(uint32_t number, const struct sf
 /* Writes all SFI_DEVICE_PMP_ENTRIES entries: those that nobody asked for are turned off, where they aren't locked. Called with
    interrupts off. DONE, OTHER_RULES or ENTRY_DIFFERS. */
 struct sfi_device_fault sfi_device_write_protection(void);
-/* An entry of physical memory protection, for a port of one's own; and the address that a power of two of bytes has there. */
-void sfi_device_protect(uint32_t entry, uint32_t address, uint8_t configuration);
+/* An entry of physical memory protection, for the host or a port of one's own; sandbox N of sfi_device_close_guards has those
+   from 3 N to 3 N + 2. DONE, or NO_ENTRY where there is none of that number. And the address that a power of two of bytes
+   has there. */
+enum sfi_device_status sfi_device_protect(uint32_t entry, uint64_t address, uint8_t configuration);
 uint32_t sfi_device_power_of_two(uint32_t base, uint32_t size);
 
 /* ---- What is tried before a sandbox runs */
@@ -177,7 +181,7 @@ struct sfi_device_span {
 };
 /* Tries that a store to an end of the sandbox's data changes no byte of the spans, but itself, which the host has at
    host_address(address), or where that is NULL there. While the host may read all of it: with pmp.c before guard zones are
-   closed. DONE or IS_MIRRORED. */
+   closed. A mirror behind a data cache can't be seen so. DONE or IS_MIRRORED. */
 struct sfi_device_fault sfi_device_try_mirrors(const struct sfi_device_part *part, const struct sfi_device_span spans[],
                                                uint32_t count, uint32_t (*host_address)(uint32_t address));
 /* Tries that loads at both ends of each guard zone trap, and none at the ends of the data. When all is as sandboxes will

@@ -13,7 +13,7 @@ void run_host(void) {
     for (uint32_t number = 0; number < world.count; number++)
         place(number, &world.plugins[number].sandbox.part);
     refuse_fault(0, sfi_device_write_protection());
-    __asm__ volatile("fence.i"); /* whoever wrote the code into the flash need not have done it */
+    __asm__ volatile("fence.i" ::: "memory"); /* whoever wrote the code into the flash need not have done it */
     test_guards(&world);
     run_world(&world);
 }
