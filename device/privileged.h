@@ -107,8 +107,8 @@
 #define FRAME_AFTER             140
 #define FRAME_CALLED            144
 
-/* ---- The cause by which `sfi_device_enter` tells that a call without a trap ends the turn: a number that the manual
-   leaves to custom use */
-#define CAUSE_BOARD             24
+/* ---- The cause by which `sfi_device_enter` tells that a call without a trap ends the turn: a number that no processor has,
+   since the manual reserves those from 64 on */
+#define CAUSE_BOARD             (1 << 30)
 
 #endif
