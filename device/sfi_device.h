@@ -188,7 +188,8 @@ struct sfi_device_fault sfi_device_try_mirrors(const struct sfi_device_part *par
    find it, before an interrupt is on but the timer's. DONE, GUARD_IS_OPEN or DATA_IS_CLOSED. */
 struct sfi_device_fault sfi_device_try_guards(const struct sfi_device_firmware *firmware, const struct sfi_device_part *part);
 
-/* ---- What the firmware may define: weak names, which are called where they are there */
+/* ---- What the firmware may define: weak names, which are called where they are there. For the sake of a weak name a linker
+   takes nothing out of a static library: link the object itself, or name it by -u */
 
 /* Whether memory holds the code that was judged, where code may be. */
 __attribute__((weak)) bool sfi_device_is_code_in_place(const struct sfi_device_part *part);
