@@ -76,13 +76,12 @@ enum sfi_device_update sfi_device_end_update(const struct sfi_device_slots *all,
                                              enum sfi_device_status *status, struct sfi_verdict *verdict);
 /* One turn for each plug-in that is ready. */
 void sfi_device_run_slots(const struct sfi_device_slots *all);
-/* The current version from its start, with new data. False where there is none, or sfi_device_is_code_in_place denies that its
-   code was written: then the sandbox is empty. */
+/* The current version from its start, with new data. False, and nothing is changed, where there is none, or it is on trial.
+   False, and the sandbox is empty, where sfi_device_is_code_in_place denies that its code was written. */
 bool sfi_device_start_slot(const struct sfi_device_slots *all, uint32_t number);
 /* False where it isn't ready. */
 bool sfi_device_kill_slot(const struct sfi_device_slots *all, uint32_t number);
-/* Enters the current version, which has stopped and isn't on trial, as sfi_device_enter_again does, of which see the last
-   sentence. */
+/* Enters the current version, which has stopped and isn't on trial, as sfi_device_enter_again does. */
 bool sfi_device_call_slot(const struct sfi_device_slots *all, uint32_t number, uint32_t pc,
                           const uint32_t arguments[SFI_DEVICE_ARGUMENTS]);
 /* Drops its versions: another slot's plug-in may then have their place. False where it has none, or one on trial. */

@@ -42,7 +42,8 @@ static void place_code(const struct sfi_device_slots *all, const struct sfi_devi
     __asm__ volatile("fence.i" ::: "memory");
 }
 
-bool sfi_device_start_slot(const struct sfi_device_slots *all, uint32_t number) {
+/* The current version, on trial or not. */
+static bool start(const struct sfi_device_slots *all, uint32_t number) {
     const struct sfi_device_part *part = &sfi_device_current(all, number)->part;
     if (sfi_device_current(all, number)->number == 0)
         return false;
@@ -54,6 +55,10 @@ bool sfi_device_start_slot(const struct sfi_device_slots *all, uint32_t number) 
     memcpy((uint8_t *)part->data_base, part->first, part->first_count);
     sfi_device_enter_start(all->slots[number].sandbox, part);
     return true;
+}
+
+bool sfi_device_start_slot(const struct sfi_device_slots *all, uint32_t number) {
+    return sfi_device_current(all, number)->trial_turns == 0 && start(all, number);
 }
 
 bool sfi_device_kill_slot(const struct sfi_device_slots *all, uint32_t number) {
@@ -86,7 +91,7 @@ static void roll_back(const struct sfi_device_slots *all, uint32_t number) {
     all->tells(number, SFI_DEVICE_NO_REPORT);
     drop(all, number, slot->current);
     slot->current = next_of(slot);
-    if (sfi_device_start_slot(all, number))
+    if (start(all, number))
         all->tells(number, SFI_DEVICE_OLDER_VERSION);
 }
 
@@ -152,7 +157,7 @@ static enum sfi_device_update start_version(const struct sfi_device_slots *all, 
     slot->versions[version] = (struct sfi_device_version){.number = ++slot->updates, .trial_turns = all->trial_turns};
     slot->versions[version].part = *part;
     slot->current = version;
-    if (sfi_device_start_slot(all, number))
+    if (start(all, number))
         return SFI_DEVICE_STARTED;
     roll_back(all, number);
     return SFI_DEVICE_NOT_PLACED;

@@ -220,9 +220,7 @@ static void obey(void) {
     else if (takes("piece"))
         take_piece();
     else if (takes("start"))
-        answer(take_slot(&number) && is_over() && sfi_device_current(&slots, number)->trial_turns == 0 &&
-                   sfi_device_start_slot(&slots, number),
-               number, "started");
+        answer(take_slot(&number) && is_over() && sfi_device_start_slot(&slots, number), number, "started");
     else if (takes("kill"))
         answer(take_slot(&number) && is_over() && sfi_device_kill_slot(&slots, number), number, "killed");
     else if (takes("call"))
