@@ -72,6 +72,32 @@ static void *filled(size_t size) {
     return made;
 }
 
+/* ---- a heap, which sees that during a call its world's struct says that there is no world */
+
+#ifdef SUYGAPID_RUN_OWN_HEAP
+static const struct sfi_run_world *used;
+
+static void peek(void) {
+    if (used && (used->held || used->at))
+        fail("a call asks the heap while its world is held");
+}
+
+void *suygapid_run_malloc(size_t size) {
+    peek();
+    return malloc(size);
+}
+
+void *suygapid_run_realloc(void *block, size_t size) {
+    peek();
+    return realloc(block, size);
+}
+
+void suygapid_run_free(void *block) {
+    peek();
+    free(block);
+}
+#endif
+
 /* ---- the trace */
 
 static bool read_all(void *at, size_t size) {
@@ -215,6 +241,9 @@ static void play(struct record *record) {
     struct sfi_run_module *module = &modules[other % MODULES];
     struct sfi_verdict verdict;
     uint32_t number = FILL;
+#ifdef SUYGAPID_RUN_OWN_HEAP
+    used = record->kind == LOAD || record->kind >= INSTANCE ? world : NULL;
+#endif
     switch ((enum kind)record->kind) {
     case IMAGE:
         if (image_count == IMAGES)

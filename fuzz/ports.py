@@ -54,7 +54,7 @@ BARE = ["riscv64-unknown-elf-gcc", "-O2", "-march=rv32imac", "-mabi=ilp32", "--s
 ON_BARE = ("qemu-system-riscv32 -M virt -m 256M -bios none -nographic -monitor none -serial none "
            "-semihosting-config enable=on,target=native,arg={trace},arg={digests} -kernel {program}")
 PORTS = [
-    Port("gcc", ["gcc", "-O2"], HERE),
+    Port("gcc, own heap", ["gcc", "-O2", "-DSUYGAPID_RUN_OWN_HEAP"], HERE),
     Port("clang", ["clang", "-O2"], HERE),
     Port("gcc, no threads", ["gcc", "-O1", "-DSUYGAPID_RUN_NO_THREADS", "-fsanitize=undefined", "-fno-sanitize-recover=all"], HERE),
     Port("aarch64", ["aarch64-linux-gnu-gcc", "-O2", "-static"], f"qemu-aarch64 {HERE}"),

@@ -43,8 +43,15 @@ OWN = """
 static const _Alignas(16) uint8_t constants[] = {{
     {constants}}};
 """
-FRAME = re.compile(r"global\.get \$__stack_pointer\n +i64\.const (\d+)\n +i64\.sub$", re.MULTILINE)
+# Of a function that takes a frame: its size and the local variable for it, and whether the stack pointer moves; and how it moves back.
+FRAME = re.compile(r"global\.get \$__stack_pointer\n +i64\.const (\d+)\n +i64\.sub\n +local\.(?:set|tee) (\d+)$"
+                   r"(\n +global\.set \$__stack_pointer\b)?", re.MULTILINE)
+FRAME_END = r"\blocal\.get {1}\n +i64\.const {0}\n +i64\.add\n +global\.set \$__stack_pointer\b"
+GLOBAL_USED = re.compile(r"\bglobal\.[gs]et ")
+STACK_POINTER = "(global $__stack_pointer (mut i64) "
 CALLED = re.compile(r"^ +call ([^\s)]+)", re.MULTILINE)
+IMPORTED = re.compile(r'\(import "\w+" "\w+" \(func (\$\S+) ')
+EXPORTED = re.compile(r'\(export "\w+" \(func (\S+?)\)\)')
 LEFT_OUT = ("(memory ", "(export \"memory\"", "(data ", "(export \"__heap_base\"")
 CALL_OF_HEADER = re.compile(r"^(\w+) (sfi_run_\w+)\(([^)]*)\);", re.MULTILINE)
 HELD = re.compile(r"struct sfi_run_(world|module|console) \*(\w+)")
@@ -156,14 +163,20 @@ def check_constants(texts):
 # ---- the stack
 
 
-def functions(lines):
-    """Of each function its frame on the module's stack, and which it calls."""
-    found = {}
-    for text in "\n".join(lines).split("\n  (func ")[1:]:
-        frames = [int(it) for it in FRAME.findall(text)]
-        if len(frames) != text.count("global.get $__stack_pointer"):
-            one_file.fail(f"a function takes its frame in another way: {text.split()[0]}")
-        found[text.split()[0]] = max(frames, default=0), set(CALLED.findall(text))
+def frame_size(text):
+    """How much of the stack a function takes: at most one frame, of a constant size, which it gives back as a whole."""
+    frames = FRAME.findall(text)
+    uses = [1 + bool(moved) + len(re.findall(FRAME_END.format(size, local), text)) for size, local, moved in frames]
+    if len(frames) > 1 or sum(uses) != len(GLOBAL_USED.findall(text)):
+        one_file.fail(f"a function takes its frame in another way: {text.split()[0]}")
+    return int(frames[0][0]) if frames else 0
+
+
+def functions(text):
+    """Of each function its frame on the module's stack, and which it calls. What the module imports takes none of it."""
+    found = {it: (0, set()) for it in IMPORTED.findall(text)}
+    for one in text.split("\n  (func ")[1:]:
+        found[one.split()[0]] = frame_size(one), set(CALLED.findall(one))
     return found
 
 
@@ -171,8 +184,20 @@ def deepest(found, name, callers=()):
     """How much of the stack a function and those that it calls take at most."""
     if name in callers:
         one_file.fail(f"{name} calls itself, so that no stack is known to be deep enough")
-    frame, called = found.get(name, (0, ()))
+    if name not in found:
+        one_file.fail(f"no function has the name {name}, so that its frame isn't known")
+    frame, called = found[name]
     return frame + max((deepest(found, it, (*callers, name)) for it in called), default=0)
+
+
+def stack_size(lines):
+    """How much of the module's stack any call takes at most."""
+    changing = [it.strip() for it in lines if it.strip().startswith("(global ") and "(mut " in it]
+    if len(changing) != 1 or not changing[0].startswith(STACK_POINTER):
+        one_file.fail(f"the module's stack pointer isn't its only global that changes: {changing}")
+    text = "\n".join(lines)
+    found = functions(text)
+    return max(deepest(found, it) for it in EXPORTED.findall(text))
 
 
 # ---- the calls of the header
@@ -192,7 +217,8 @@ def call_of(result, name, parameters):
     held = [it[2] for it in map(HELD.fullmatch, given) if it]
     passed = ", ".join(["&call.module", *map(argument, given)])
     lines = [f"{result} {name}({parameters}) {{", "    struct call call;", "    begin(&call);"]
-    lines += [f"    struct held held_{it} = {{{it}->held, 0, at_of({it}->at)}};" for it in held]
+    for it in held:
+        lines += [f"    struct held held_{it} = {{{it}->held, 0, at_of({it}->at)}};", f"    {it}->held = 0, {it}->at = NULL;"]
     lines.append(f"    {'' if result == 'void' else f'{result} answer = ({result})'}Z_sfi_runZ_{name}({passed});")
     lines += [f"    {it}->held = held_{it}.held, {it}->at = place(held_{it}.at);" for it in held]
     return "\n".join([*lines, *([] if result == "void" else ["    return answer;"]), "}\n\n"])
@@ -235,9 +261,7 @@ def make(target=TARGET):
             file.write(opened.text())
         one_file.run("wat2wasm", "opened.wat", "-o", "opened.wasm", folder=room)
         declared, code = one_file.translated(room, "opened.wasm", "sfi_run")
-    found = functions(texts[0])
-    stack = max(deepest(found, f"${name}") for _, name, _ in calls)
-    own = OWN.format(stack=stack // 16 * 16 + 64, constants=numbers(constants(texts[0], PLACES[0])))
+    own = OWN.format(stack=stack_size(texts[0]) // 16 * 16 + 64, constants=numbers(constants(texts[0], PLACES[0])))
     front, reach, begin = (one_file.read(FOLDER, it) for it in PARTS)
     return one_file.write(target, [front, text, own, reach, one_file.quiet(declared + code), begin, *(call_of(*it) for it in calls)])
 

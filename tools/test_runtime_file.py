@@ -9,9 +9,14 @@ MODULE = r"""(module $it.wasm
     global.get $__stack_pointer
     i64.const 32
     i64.sub
+    local.tee 2
     global.set $__stack_pointer
     i64.const {first}
     call $inner
+    local.get 2
+    i64.const 32
+    i64.add
+    global.set $__stack_pointer
     local.get 0
     i32.load8_u offset={second} align=1)
   (func $inner (type 1) (param i64) (result i32)
@@ -74,16 +79,31 @@ class Parts(unittest.TestCase):
         runtime_file.check_constants(linked())
 
     def test_the_stack(self):
-        found = runtime_file.functions(lines(1 << 20))
-        self.assertEqual(runtime_file.deepest(found, "$outer"), 48)
-        with self.assertRaisesRegex(SystemExit, "its frame in another way: .outer"):
-            runtime_file.functions(lines(1 << 20, MODULE.replace("i64.const 32", "i64.const -32")))
-        with self.assertRaisesRegex(SystemExit, "calls itself"):
-            runtime_file.deepest(runtime_file.functions(lines(1 << 20, MODULE.replace("memory.copy", "call $outer"))), "$outer")
+        self.assertEqual(runtime_file.stack_size(lines(1 << 20)), 48)
+        self.assertEqual(runtime_file.stack_size(lines(1 << 20, MODULE.replace("memory.copy", "call $malloc"))), 48)
+
+    def refused(self, why, *changes):
+        for old, new in changes:
+            self.assertIn(old, MODULE)
+            with self.subTest(new), self.assertRaisesRegex(SystemExit, why):
+                runtime_file.stack_size(lines(1 << 20, MODULE.replace(old, new)))
+
+    def test_stacks_without_a_bound_are_refused(self):
+        taken, pointer = "i64.sub\n    local.tee 2", "(global $__stack_pointer (mut i64) (i64.const 65536))"
+        self.refused("calls itself", ("memory.copy", "call $outer"))
+        self.refused("no function has the name", ("call $inner", "call 2"), ("call $inner", "call $inner.1"), ("(func $outer))", "(func $alias))"),
+                     ("(func $inner ", "(func (;2;) "))
+        self.refused("stack pointer isn't its only global", (pointer, pointer.replace("$__stack_pointer", "(;0;)")),
+                     (pointer, f"{pointer}\n  (global $other (mut i64) (i64.const 0))"), (pointer, ""))
+        self.refused("its frame in another way: .outer", ("i64.const 32\n    i64.sub", "i64.const -32\n    i64.add"),
+                     (taken, "i64.sub\n    i64.const -32\n    i64.and\n    local.tee 2"),
+                     ("call $inner", "local.get 2\n    local.get 0\n    i64.sub\n    global.set $__stack_pointer"),
+                     ("i64.const 32\n    i64.add", "i64.const 48\n    i64.add"), ("local.get 2\n    i64.const 32", "local.get 3\n    i64.const 32"),
+                     ("call $inner", "global.get 0"))
 
     def test_a_call(self):
         made = runtime_file.call_of("bool", "sfi_run_read", "struct sfi_run_world *world, uint32_t at, size_t length, uint8_t *bytes")
-        self.assertIn("struct held held_world = {world->held, 0, at_of(world->at)};", made)
+        self.assertIn("struct held held_world = {world->held, 0, at_of(world->at)};\n    world->held = 0, world->at = NULL;\n", made)
         self.assertIn("Z_sfi_runZ_sfi_run_read(&call.module, at_of(&held_world), at, length, at_of(bytes));", made)
         self.assertIn("world->held = held_world.held, world->at = place(held_world.at);\n    return answer;", made)
         made = runtime_file.call_of("void", "sfi_run_go", "const uint32_t arguments[8]")
