@@ -32,8 +32,9 @@ OF_REACH = re.compile(r"(?:\bLOAD\(|\bSTORE\(|Z_envZ_)(\w+)")
 WHOLE_ACCESSES = {"memory.copy": "(param i64 i64 i64)", "memory.fill": "(param i64 i32 i64)"}
 PARAMETERS = {"load": "(param i64 i64) (result {0})", "atomic.load": "(param i64 i64) (result {0})", "store": "(param i64 {0} i64)",
               "atomic.rmw": "(param i64 {0} i64) (result {0})", "atomic.rmw.cmpxchg": "(param i64 {0} {0} i64) (result {0})"}
+ATOMICS = ("i64_atomic_load", "i64_atomic_rmw_sub", "i64_atomic_rmw_cmpxchg")  # of the counts of owners
 CONSTANT = re.compile(r"i64\.const (\d+)")
-DATA = re.compile(r"\(data \S+ \(i64\.const (\d+)\) \"(.*)\"\)")
+DATA = re.compile(r"\(data \$\.rodata\S* \(i64\.const (\d+)\) \"(.*)\"\)\)?")
 GLOBAL_END = re.compile(r"\(global \(;\d+;\) i64 \(i64\.const (\d+)\)\)")
 ESCAPED = re.compile(rb"\\([0-9a-f]{2}|[tnr\"'\\])")
 OWN = """
@@ -55,6 +56,10 @@ EXPORTED = re.compile(r'\(export "\w+" \(func (\S+?)\)\)')
 LEFT_OUT = ("(memory ", "(export \"memory\"", "(data ", "(export \"__heap_base\"")
 CALL_OF_HEADER = re.compile(r"^(\w+) (sfi_run_\w+)\(([^)]*)\);", re.MULTILINE)
 HELD = re.compile(r"struct sfi_run_(world|module|console) \*(\w+)")
+# What the module reads and writes as the host does: structs and numbers of one layout wherever addresses have 32 or 64 bits.
+SHARED = r"uint8_t|char|uint32_t|struct sfi_verdict|struct sfi_run_(?:event|region|registers)"
+POINTER = re.compile(rf"(?:const )?(?:{SHARED}) (?:\*(\w+)|(\w+)\[\w+\])")
+NUMBER = re.compile(r"(?:uint32_t|size_t) (\w+)")
 
 
 def missing():
@@ -130,6 +135,12 @@ class Opened:
             return address(offset_of(*(int(it[1]) for it in values))) + end
         return one
 
+    def check_atomics(self):
+        """Refuses a module whose counts of owners became plain loads and stores, as clang makes them where it has no atomics."""
+        lacking = [it for it in ATOMICS if it not in self.imports]
+        if lacking:
+            one_file.fail(f"the module has no {' or '.join(lacking)}, which counts of owners take")
+
     def text(self):
         imports = (f'(import "env" "{name}" (func ${name} {kind}))' for name, kind in sorted(self.imports.items()))
         return "\n".join(["(module", *imports, *self.lines[1:], ")"])
@@ -146,11 +157,14 @@ def constants(lines, place):
     """The bytes of the module's constants and then zeros, up to its heap."""
     end = max(int(it[1]) for it in map(GLOBAL_END.fullmatch, (line.strip() for line in lines)) if it)
     found = bytearray(end - place)
-    for line in lines:
-        data = DATA.match(line.strip())
-        if data:
-            data_bytes = bytes_of(data[2])
-            found[int(data[1]) - place:int(data[1]) - place + len(data_bytes)] = data_bytes
+    for line in (it.strip() for it in lines if it.strip().startswith("(data ")):
+        data = DATA.fullmatch(line)
+        if not data:
+            one_file.fail(f"the module has data that aren't constants at a known place: {line[:80]}")
+        first, data_bytes = int(data[1]) - place, bytes_of(data[2])
+        if first < 0 or first + len(data_bytes) > len(found):
+            one_file.fail(f"constants lie outside their room: {line[:80]}")
+        found[first:first + len(data_bytes)] = data_bytes
     return bytes(found)
 
 
@@ -205,10 +219,14 @@ def stack_size(lines):
 
 def argument(parameter):
     """How a parameter of sfi_run.h is passed to the module."""
-    name = re.sub(r"\[\w*\]", "", parameter).split()[-1].lstrip("*")
-    if HELD.fullmatch(parameter):
-        return f"at_of(&held_{name})"
-    return f"at_of({name})" if "*" in parameter or "[" in parameter else name
+    held, pointer, number = (it.fullmatch(parameter) for it in (HELD, POINTER, NUMBER))
+    if held:
+        return f"at_of(&held_{held[2]})"
+    if pointer:
+        return f"at_of({pointer[1] or pointer[2]})"
+    if not number:
+        one_file.fail(f"sfi_run.h has a parameter that the module may have another layout for: {parameter}")
+    return number[1]
 
 
 def call_of(result, name, parameters):
@@ -257,6 +275,7 @@ def make(target=TARGET):
         texts = linked(rtlib.KIT, room)
         check_constants(texts)
         opened = Opened(texts)
+        opened.check_atomics()
         with open(f"{room}/opened.wat", "w", encoding="latin-1") as file:
             file.write(opened.text())
         one_file.run("wat2wasm", "opened.wat", "-o", "opened.wasm", folder=room)

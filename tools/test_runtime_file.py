@@ -63,6 +63,12 @@ class Opened(unittest.TestCase):
             with self.subTest(old), self.assertRaisesRegex(SystemExit, "the two links differ"):
                 self.text(texts)
 
+    def test_lost_atomics_are_refused(self):
+        has = "i64.atomic.load i64.atomic.rmw.sub i64.atomic.rmw.cmpxchg".replace(" ", "\n    ")
+        runtime_file.Opened(linked(MODULE.replace("memory.copy", has))).check_atomics()
+        with self.assertRaisesRegex(SystemExit, "no i64_atomic_rmw_sub, which"):
+            runtime_file.Opened(linked(MODULE.replace("memory.copy", has.replace(".atomic.rmw.sub", ".store")))).check_atomics()
+
     def test_other_instructions_are_refused(self):
         for odd in ("memory.grow", "call_indirect (type 0)", "i64.atomic.rmw.xor", "i32.atomic.load", "i32.load8_x"):
             with self.subTest(odd), self.assertRaisesRegex(SystemExit, "has no function for"):
@@ -91,15 +97,29 @@ class Parts(unittest.TestCase):
     def test_stacks_without_a_bound_are_refused(self):
         taken, pointer = "i64.sub\n    local.tee 2", "(global $__stack_pointer (mut i64) (i64.const 65536))"
         self.refused("calls itself", ("memory.copy", "call $outer"))
-        self.refused("no function has the name", ("call $inner", "call 2"), ("call $inner", "call $inner.1"), ("(func $outer))", "(func $alias))"),
-                     ("(func $inner ", "(func (;2;) "))
+        self.refused("no function has the name", ("call $inner", "call 2"), ("call $inner", "call $inner.1"),
+                     ("(func $outer))", "(func $alias))"), ("(func $inner ", "(func (;2;) "))
         self.refused("stack pointer isn't its only global", (pointer, pointer.replace("$__stack_pointer", "(;0;)")),
                      (pointer, f"{pointer}\n  (global $other (mut i64) (i64.const 0))"), (pointer, ""))
         self.refused("its frame in another way: .outer", ("i64.const 32\n    i64.sub", "i64.const -32\n    i64.add"),
                      (taken, "i64.sub\n    i64.const -32\n    i64.and\n    local.tee 2"),
                      ("call $inner", "local.get 2\n    local.get 0\n    i64.sub\n    global.set $__stack_pointer"),
-                     ("i64.const 32\n    i64.add", "i64.const 48\n    i64.add"), ("local.get 2\n    i64.const 32", "local.get 3\n    i64.const 32"),
-                     ("call $inner", "global.get 0"))
+                     ("i64.const 32\n    i64.add", "i64.const 48\n    i64.add"),
+                     ("local.get 2\n    i64.const 32", "local.get 3\n    i64.const 32"), ("call $inner", "global.get 0"))
+
+    def test_other_data_are_refused(self):
+        data = "(data $.rodata (i64.const {first})"
+        named, outside = "data that aren't constants", "outside their room"
+        for why, new in ((named, "(data (i64.const {first})"), (named, "(data (;0;)"), (named, "(data $.data (i64.const {first})"),
+                         (outside, data.replace("first", "end")), (outside, data.replace("{first}", "8"))):
+            with self.subTest(new), self.assertRaisesRegex(SystemExit, why):
+                runtime_file.constants(lines(1 << 20, MODULE.replace(data, new)), 1 << 20)
+
+    def test_other_parameters_are_refused(self):
+        for odd in ("size_t *written", "const struct sfi_run_world *world", "struct sfi_run_world worlds[2]", "uint32_t **at",
+                    "struct sfi_part *part", "int64_t at"):
+            with self.subTest(odd), self.assertRaisesRegex(SystemExit, "another layout"):
+                runtime_file.call_of("bool", "sfi_run_odd", odd)
 
     def test_a_call(self):
         made = runtime_file.call_of("bool", "sfi_run_read", "struct sfi_run_world *world, uint32_t at, size_t length, uint8_t *bytes")

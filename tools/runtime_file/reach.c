@@ -78,12 +78,14 @@ STORE(i64_store32, uint32_t, uint64_t)
 
 OF_MODULE void Z_envZ_memory_copy(MODULE, uint64_t to, uint64_t from, uint64_t size) {
     (void)module;
-    memmove(place(to), place(from), (size_t)size);
+    if (size)
+        memmove(place(to), place(from), (size_t)size);
 }
 
 OF_MODULE void Z_envZ_memory_fill(MODULE, uint64_t to, uint32_t byte, uint64_t size) {
     (void)module;
-    memset(place(to), (int)byte, (size_t)size);
+    if (size)
+        memset(place(to), (int)byte, (size_t)size);
 }
 
 /* Counts of owners. One has 64 bits; where addresses have 32, so few owners fit into memory that its low half counts. */
@@ -138,12 +140,12 @@ OF_MODULE uint64_t Z_envZ_i64_atomic_rmw_cmpxchg(MODULE, uint64_t at, uint64_t e
 
 OF_MODULE uint64_t Z_envZ_malloc(MODULE, uint64_t size) {
     (void)module;
-    return size > SIZE_MAX ? 0 : at_of(suygapid_run_malloc((size_t)size));
+    return size > PTRDIFF_MAX ? 0 : at_of(suygapid_run_malloc((size_t)size));
 }
 
 OF_MODULE uint64_t Z_envZ_realloc(MODULE, uint64_t block, uint64_t size) {
     (void)module;
-    return size > SIZE_MAX ? 0 : at_of(suygapid_run_realloc(place(block), (size_t)size));
+    return size > PTRDIFF_MAX ? 0 : at_of(suygapid_run_realloc(place(block), (size_t)size));
 }
 
 OF_MODULE void Z_envZ_free(MODULE, uint64_t block) {
