@@ -6,7 +6,7 @@ import subprocess
 import sys
 
 RUNTIME = "/usr/include/wasm-rt.h"  # of Debian's package wabt
-WASM2C = "1.0.32"
+WABT = "1.0.32"
 SETTINGS = """
 /* ---- What the C below wants: the file wasm-rt.h of wabt, with its own settings */
 
@@ -48,11 +48,18 @@ def run(*words, folder):
     return done.stdout
 
 
+def check_version(*commands):
+    """Refuses other versions of wabt's commands than the one whose texts and names the tools know."""
+    for command in commands:
+        found = run(command, "--version", folder=None).strip()
+        if found != WABT:
+            fail(f"{command} has version {found}, not {WABT}")
+
+
 def translated(room, module, name):
     """The C that wasm2c makes of a module in the folder `room`: wasm-rt.h with the header, and the code. The functions have the
     prefix Z_NAME."""
-    if run("wasm2c", "--version", folder=room).strip() != WASM2C:
-        fail(f"wasm2c isn't version {WASM2C}, whose names it uses")
+    check_version("wasm2c")
     run("wasm2c", module, "-n", name, "-o", f"{name}_wasm.c", folder=room)
     header = SETTINGS + read(RUNTIME) + read(room, f"{name}_wasm.h").replace('#include "wasm-rt.h"\n', "")
     return header, OF_WINDOWS.sub("", read(room, f"{name}_wasm.c"), count=1).replace(f'#include "{name}_wasm.h"\n', "")

@@ -266,6 +266,7 @@ def is_fresh(target):
 def make(target=TARGET):
     """Makes the file, where it isn't fresh, and gives its path."""
     one_file.check_there(missing())
+    one_file.check_version("wasm2wat", "wat2wasm", "wasm2c")
     if is_fresh(target):
         return target
     rtlib = toolchain.rtlib()

@@ -1,5 +1,6 @@
 """Tests of tools/runtime_file.py on small modules, by the text of WebAssembly. fuzz/ports.py tries what it makes."""
 import unittest
+from unittest import mock
 
 import runtime_file
 
@@ -73,6 +74,15 @@ class Opened(unittest.TestCase):
         for odd in ("memory.grow", "call_indirect (type 0)", "i64.atomic.rmw.xor", "i32.atomic.load", "i32.load8_x"):
             with self.subTest(odd), self.assertRaisesRegex(SystemExit, "has no function for"):
                 self.text(linked(MODULE.replace("memory.copy", odd)))
+
+
+class Versions(unittest.TestCase):
+    @unittest.skipIf(runtime_file.missing(), "wabt isn't there")
+    def test_another_version_is_refused(self):
+        runtime_file.one_file.check_version("wasm2wat", "wat2wasm", "wasm2c")
+        with mock.patch.object(runtime_file.one_file, "WABT", "1.0.0"):
+            with self.assertRaisesRegex(SystemExit, "wat2wasm has version .*, not 1.0.0"):
+                runtime_file.one_file.check_version("wat2wasm")
 
 
 class Parts(unittest.TestCase):

@@ -17,7 +17,8 @@ struct held {
     uint64_t at;
 };
 
-/* A call has a stack of its own, as deep as any call of the module's needs. */
+/* A call has a stack of its own, as deep as any call of the module's needs. Its bytes are as they were: to the compiler the
+   empty instruction in `begin` may have written them. */
 struct call {
     Z_sfi_run_instance_t module;
     _Alignas(16) uint8_t stack[MODULE_STACK];
@@ -25,6 +26,7 @@ struct call {
 
 static void begin(struct call *call) {
     Z_sfi_run_instantiate(&call->module, NULL);
+    __asm__ volatile("" : : "r"(call->stack) : "memory");
     *Z_sfi_runZ___stack_pointer(&call->module) = at_of(call->stack + sizeof call->stack);
 }
 

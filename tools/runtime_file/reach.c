@@ -4,8 +4,11 @@
 #include <stdlib.h>
 #include <string.h>
 
-#if defined(__BYTE_ORDER__) && __BYTE_ORDER__ != __ORDER_LITTLE_ENDIAN__
+#if !defined(__BYTE_ORDER__) || __BYTE_ORDER__ != __ORDER_LITTLE_ENDIAN__
 #error "the machine has to be little-endian"
+#endif
+#if UINTPTR_MAX != SIZE_MAX || (UINTPTR_MAX != UINT32_MAX && UINTPTR_MAX != UINT64_MAX)
+#error "addresses and sizes have to have 32 or 64 bits"
 #endif
 
 #ifdef SUYGAPID_RUN_OWN_HEAP
