@@ -143,12 +143,12 @@ OF_MODULE uint64_t Z_envZ_i64_atomic_rmw_cmpxchg(MODULE, uint64_t at, uint64_t e
 
 OF_MODULE uint64_t Z_envZ_malloc(MODULE, uint64_t size) {
     (void)module;
-    return size > PTRDIFF_MAX ? 0 : at_of(suygapid_run_malloc((size_t)size));
+    return size > PTRDIFF_MAX ? 0 : (uintptr_t)suygapid_run_malloc((size_t)size);
 }
 
 OF_MODULE uint64_t Z_envZ_realloc(MODULE, uint64_t block, uint64_t size) {
     (void)module;
-    return size > PTRDIFF_MAX ? 0 : at_of(suygapid_run_realloc(place(block), (size_t)size));
+    return size > PTRDIFF_MAX ? 0 : (uintptr_t)suygapid_run_realloc(place(block), (size_t)size);
 }
 
 OF_MODULE void Z_envZ_free(MODULE, uint64_t block) {
