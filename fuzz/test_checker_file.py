@@ -62,6 +62,12 @@ class CheckerFile(testing.Folder):
             for program in programs:
                 self.assertEqual(self.said([program], data), wanted, data.hex()[:2000])
 
+    def test_its_names_are_its_own(self):
+        made = self.compiled(COMPILERS[0], "check.o", "-c")
+        listed = subprocess.run(["nm", "--extern-only", "--defined-only", made], stdout=subprocess.PIPE, text=True, check=True).stdout
+        names = [it.split()[2] for it in listed.splitlines()]
+        self.assertEqual([it for it in names if not it.startswith(("sfi_c_", "suygapid_check_", "Z_sfi"))], [])
+
     def test_its_calls_say_the_same(self):
         library = ctypes.CDLL(self.compiled(COMPILERS[0], "check.so", "-shared", "-fPIC"))
         library.sfi_c_apart.restype = ctypes.c_bool

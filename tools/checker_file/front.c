@@ -15,3 +15,11 @@
  *
  * The parts that come from wabt are under the Apache License, Version 2.0, as their head says.
  */
+
+/* Files of a program that are made in this way have names of their own for what they trap by. */
+#define wasm_rt_trap suygapid_check_trap
+#define wasm_rt_allocate_memory suygapid_check_allocate_memory
+#define wasm_rt_free_memory suygapid_check_free_memory
+#define wasm_rt_allocate_funcref_table suygapid_check_allocate_funcref_table
+#define wasm_rt_free_funcref_table suygapid_check_free_funcref_table
+#define wasm_rt_register_func_type suygapid_check_register_func_type
