@@ -11,9 +11,6 @@ use Rattle.sfi_safety.specs.Clean.{IsAccepted}
 use Rattle.std.proofs.Common.{◌≡◌, ◌+◌, ◌*◌, ◌^◌, ◌<◌, ◌≤◌, ◌++◌, length, refl, sym, ap, ◌∙◌, arith, append_assoc, length-append}
 use Rattle.std.proofs.lemmas.List.{append-nil}
 use Rattle.sfi_rules.specs.declared.finding.Finding.{Finding}
-use Rattle.sfi_image.specs.declared.bundle.BundlePlace.{BundlePlace}
-use Rattle.sfi_rules.specs.declared.owed.Owed.{Owed}
-use Rattle.sfi_scan.specs.Stretches.{AreFoundInStretch, findings_most}
 use Rattle.sfi_check.specs.declared.tally.Tally.{Tally}
 use Rattle.sfi_image.specs.Faults.{number_of as fault_number}
 use Rattle.sfi_check.specs.declared.for_c.SfiVerdict.{SfiVerdict}
@@ -91,16 +88,6 @@ counts_more t u v xs ys one two = λ room.
           ∙ ap (λ (l : List Finding). slice_get l 0) (append_assoc before xs ys);
       owed = b.owed ∙ a.owed;
     }
-
--- the first n bundles of a stretch are scanned, with `owed` owed before them: the tally counts
--- their findings, and the sink took them
-pub record IsCounted {F : Type 0} (takes : F → List Finding → F → Type 0) (b : BundlePlace)
-    (owed : Owed) (bytes : List ℕ) (n : ℕ) (next : Owed) (old new : Tally) (before after : F) : Type 0 where
-  pub found : List Finding
-  pub found_are : AreFoundInStretch b owed bytes n found next
-  pub few : length found ≤ findings_most * n
-  pub counts : Counts old new found
-  pub handed : takes before found after
 
 -- ==== The verdict for C, by the answer.
 

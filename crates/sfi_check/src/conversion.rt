@@ -13,11 +13,11 @@ ghost use Rattle.sfi_check.specs.private.{ChecksStack, Converts};
 
 use crate::accepted::Accepted;
 use crate::refusal::Refusal;
-use crate::verdict::check;
+use crate::verdict::{check, findings_as};
 use sfi_formats::Format;
 use sfi_image::{SandboxPart, write_image_as};
-use sfi_scan::{Finding, scan_part_as};
-use std::alloc::{AllocError, Global};
+use sfi_scan::Finding;
+use std::alloc::Global;
 use thiserror::Error;
 
 /// Why an image isn't converted.
@@ -68,24 +68,6 @@ impl From<Refusal> for ConvertFault {
             Refusal::Memory => ConvertFault::Memory,
         }
     }
-}
-
-/// The findings of the sandboxes, if they were those of an image of this format, by sandbox and
-/// then by address.
-fn findings_as(
-    alloc: Global,
-    format: Format,
-    parts: &[SandboxPart<'_>],
-) -> Result<Vec<Finding>, AllocError>
-    requires { IsRightLayout (views format parts.now) }
-    ensures { IfOk result (λ found. AreImageFindings (views format parts.now) found.items) }
-{
-    let mut found = Vec::new(alloc);
-    for (sandbox, part) in parts.iter().enumerate() {
-        let of_part = scan_part_as(alloc, format, sandbox as u32, part)?;
-        found.extend_from_slice(&of_part)?;
-    }
-    Ok(found)
 }
 
 /// Refuses sandboxes that break a rule of the second format.

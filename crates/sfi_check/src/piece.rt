@@ -5,12 +5,12 @@ ghost use Rattle.sfi_image.specs.Keeping.{StandsFor};
 ghost use Rattle.sfi_check.specs.Feeds.{IsSoFar};
 ghost use Rattle.sfi_check.specs.private.{IsTakenOff, Steps, verdict_of};
 
-use crate::sink::scan_counted;
+use crate::sink::Counted;
 use crate::stream_answer::StreamAnswer;
 use crate::tally::Tally;
 use sfi_formats::BUNDLE_BYTES;
 use sfi_image::{LayoutFault, LayoutReader, Want};
-use sfi_scan::{BundlePlace, FindingSink};
+use sfi_scan::{BundlePlace, FindingSink, scan_stretch};
 
 /// How one step ends.
 #[derive(Clone, Copy)]
@@ -67,7 +67,8 @@ fn feed_code<F: FindingSink, const BLOCKS: bool>(
     }
     let owed = tally.owed_at(place);
     tally.add_bundles(place.sandbox, (len / BUNDLE_BYTES) as u32);
-    tally.owed = scan_counted::<F, BLOCKS>(place, code, owed, tally, sink);
+    let mut counted = Counted { tally, sink };
+    tally.owed = scan_stretch::<Counted<F>, BLOCKS>(place, code, owed, &mut counted);
     FeedEnd::Took(len)
 }
 

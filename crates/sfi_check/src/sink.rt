@@ -1,10 +1,8 @@
 //! Sinks of findings: one that keeps none, and one that counts them.
-ghost use Rattle.std.specs.Prelude.{◌≡◌, ℕ};
-ghost use Rattle.sfi_scan.specs.Stretches.{IsStretch};
-ghost use Rattle.sfi_check.specs.private.{IsCounted};
+ghost use Rattle.std.specs.Prelude.{◌≡◌};
 
 use crate::tally::Tally;
-use sfi_scan::{BundleFindings, BundlePlace, FindingSink, Owed, scan_stretch};
+use sfi_scan::{BundleFindings, FindingSink};
 
 /// What keeps no findings.
 #[derive(Drop)]
@@ -22,9 +20,9 @@ impl FindingSink for Nowhere {
 
 /// What counts the findings that it takes, and hands them on.
 #[derive(Drop)]
-struct Counted<'a, F> {
-    tally: &'a mut Tally,
-    sink: &'a mut F,
+pub(crate) struct Counted<'a, F> {
+    pub(crate) tally: &'a mut Tally,
+    pub(crate) sink: &'a mut F,
 }
 
 impl<'a, F: FindingSink> FindingSink for Counted<'a, F> {
@@ -49,38 +47,4 @@ impl<'a, F: FindingSink> FindingSink for Counted<'a, F> {
       counts_more s.tally.now t.tally.now u.tally.now xs ys one.2 two.2,
       F.more s.sink.now t.sink.now u.sink.now xs ys one.3 two.3,
     ) };
-}
-
-impl<'a, F: FindingSink> Counted<'a, F> {
-    /// Scans a stretch of code whose first bundle lies at `place`, with `owed` owed before it.
-    /// Answers what is owed after it.
-    #[inline(always)]
-    fn scan<const BLOCKS: bool>(&mut self, place: &BundlePlace, code: &[u8], owed: Owed) -> Owed
-        requires { (n : ℕ) × IsStretch place.now code.now n }
-        ensures same_tally { self.new.tally.ghost_name ≡ self.old.tally.ghost_name }
-        ensures same_sink { self.new.sink.ghost_name ≡ self.old.sink.ghost_name }
-        ensures counted { (n : ℕ) → IsStretch place.now code.now n
-            → IsCounted F.takes place.now owed code.now n result self.old.tally.now
-            self.new.tally.now self.old.sink.now self.new.sink.now }
-    {
-        scan_stretch::<Self, BLOCKS>(place, code, owed, self)
-    }
-}
-
-/// Scans a stretch of code whose first bundle lies at `place`, with `owed` owed before it: counts
-/// the findings, and hands them to the sink. Answers what is owed after it.
-#[inline(always)]
-pub(crate) fn scan_counted<F: FindingSink, const BLOCKS: bool>(
-    place: &BundlePlace,
-    code: &[u8],
-    owed: Owed,
-    tally: &mut Tally,
-    sink: &mut F,
-) -> Owed
-    requires { (n : ℕ) × IsStretch place.now code.now n }
-    ensures { (n : ℕ) → IsStretch place.now code.now n
-        → IsCounted F.takes place.now owed code.now n result tally.old tally.new sink.old sink.new }
-{
-    let mut counted = Counted { tally, sink };
-    counted.scan::<BLOCKS>(place, code, owed)
 }

@@ -1,9 +1,11 @@
 //! The verdict on an image's bytes.
-ghost use Rattle.std.specs.Prelude.{◌≡◌, ◌≢◌, List, IfOk, IfErr, false, true};
+ghost use Rattle.std.specs.Prelude.{◌≡◌, ◌≢◌, List, IfOk, IfErr, true};
 ghost use Rattle.sfi_image.specs.declared.fault.LayoutFault.{LayoutFault};
-ghost use Rattle.sfi_image.specs.Spelling.{Part};
+ghost use Rattle.sfi_image.specs.Spelling.{Part, views};
+ghost use Rattle.sfi_image.specs.Parts.{IsRightLayout};
 ghost use Rattle.sfi_image.specs.Faults.{IsFault};
 ghost use Rattle.sfi_rules.specs.declared.finding.Finding.{Finding};
+ghost use Rattle.sfi_rules.specs.Findings.{AreImageFindings};
 ghost use Rattle.sfi_check.specs.OneVerdict.{IfLayoutFault, IfFindings};
 ghost use Rattle.sfi_check.specs.Verdict.{IsVerdictOn, AreHandedOver};
 ghost use Rattle.sfi_safe_runs.specs.Safety.{AllRunSafely};
@@ -15,8 +17,9 @@ use crate::feed::Feed;
 use crate::refusal::Refusal;
 use crate::sink::Nowhere;
 use crate::stream_answer::StreamAnswer;
-use sfi_image::{ImageFault, parse_image};
-use sfi_scan::{FindingList, FindingSink, IN_BLOCKS};
+use sfi_formats::Format;
+use sfi_image::{ImageFault, SandboxPart, parse_image};
+use sfi_scan::{Finding, FindingSink, IN_BLOCKS, scan_part_as};
 use std::alloc::{AllocError, Global};
 
 /// Accepts the bytes, or says why not, and hands their findings to the sink, by sandbox and then by
@@ -55,16 +58,22 @@ pub fn accept<'a>(alloc: Global, bytes: &'a [u8]) -> Result<Accepted<'a>, AllocE
     }
 }
 
-/// The refusal for the findings that are on the list.
-fn refusal_of(list: FindingList) -> Refusal
-    ensures layout { IfLayoutFault (λ k. ⊥) result }
-    ensures findings { IfFindings (λ found. (list.lacks_memory ≡ false)
-        × (found ≡ list.found.items)) result }
+/// The findings of the sandboxes, if they were those of an image of this format, by sandbox and
+/// then by address.
+pub(crate) fn findings_as(
+    alloc: Global,
+    format: Format,
+    parts: &[SandboxPart<'_>],
+) -> Result<Vec<Finding>, AllocError>
+    requires { IsRightLayout (views format parts.now) }
+    ensures { IfOk result (λ found. AreImageFindings (views format parts.now) found.items) }
 {
-    match list.into_result() {
-        Ok(found) => Refusal::Findings(found),
-        Err(_) => Refusal::Memory,
+    let mut found = Vec::new(alloc);
+    for (sandbox, part) in parts.iter().enumerate() {
+        let of_part = scan_part_as(alloc, format, sandbox as u32, part)?;
+        found.extend_from_slice(&of_part)?;
     }
+    Ok(found)
 }
 
 /// Accepts the bytes, or says why not.
@@ -87,12 +96,13 @@ pub fn check<'a>(alloc: Global, bytes: &'a [u8]) -> Result<Accepted<'a>, Refusal
     // What acceptance is worth: every run from every entry of every sandbox is safe.
     ensures safe { IfOk result (λ ps. AllRunSafely ps) }
 {
-    let mut list = FindingList::new(alloc);
-    if let StreamAnswer::Findings { .. } = check_into(bytes, &mut list) {
-        return Err(refusal_of(list));
-    }
-    match parse_image(alloc, bytes) {
-        Ok(image) => Ok(Accepted::new(image)),
-        Err(fault) => Err(Refusal::from(fault)),
+    let image = parse_image(alloc, bytes)?;
+    let Ok(found) = findings_as(alloc, image.format(), image.parts()) else {
+        return Err(Refusal::Memory);
+    };
+    if found.is_empty() {
+        Ok(Accepted::new(image))
+    } else {
+        Err(Refusal::Findings(found))
     }
 }

@@ -1,5 +1,5 @@
 -- The formats of images, and the registers that have a part in a sandbox's confinement.
-use Rattle.std.specs.Prelude.{◌==◌, ◌||◌, ℕ, Bool, ◌&&◌, List, true, false, codes}
+use Rattle.std.specs.Prelude.{◌==◌, ◌||◌, ℕ, Bool, ◌&&◌, not, List, true, false, codes}
 use Rattle.sfi_formats.specs.declared.format.Format.{Format}
 use Rattle.sfi_formats.specs.declared.format.Format.TheVariants.{Sfi1, Sfi2, Sfiw}
 
@@ -31,7 +31,7 @@ stack_pointer = 2
 
 -- ---- the typed registers of code in words
 
--- a data register, x2, x3, x4 or x29: it holds an address in the data region or near it
+-- a data register of each format, x2, x3, x4 or x29: it holds an address in the data region or near it
 abbrev pub is_data_register : ℕ → Bool
 is_data_register r = (r == 2) || (r == 3) || (r == 4) || (r == 29)
 
@@ -39,7 +39,7 @@ is_data_register r = (r == 2) || (r == 3) || (r == 4) || (r == 29)
 abbrev pub code_register : ℕ
 code_register = 30
 
--- the one that holds an offset in the data region
+-- the one that holds an offset in the data region, where a mask has two steps
 abbrev pub offset_register : ℕ
 offset_register = 31
 
@@ -49,7 +49,8 @@ offset_register = 31
 abbrev pub return_register : ℕ
 return_register = 1
 
--- one of the four that hold the bounds of the regions: nothing in a sandbox may write it
+-- one of the four that hold the bounds of the regions: nothing in a sandbox may write it, unless it
+-- is a data register
 abbrev pub is_reserved : ℕ → Bool
 is_reserved r = (r == code_base_register) || (r == code_mask_register) || (r == data_base_register)
     || (r == data_mask_register)
@@ -96,3 +97,20 @@ has_words Sfiw = true
 -- the register of that number is the format's stack pointer
 abbrev pub is_stack : Format → ℕ → Bool
 is_stack f r = has_stack f && (r == stack_pointer)
+
+-- Whether the mask of a data register, in code in words, has one step, `and d, a, x27`. It has two
+-- else: `and x31, d, x27`, which leaves an offset, and then `or d, x31, x26`.
+abbrev pub has_one_step : Format → Bool
+has_one_step Sfi1 = false
+has_one_step Sfi2 = false
+has_one_step Sfiw = false
+
+-- a data register of code in words of this format: where a mask has one step, x26 and x31 are such
+-- registers, too
+abbrev pub is_data_register_in : Format → ℕ → Bool
+is_data_register_in f r = is_data_register r
+    || (((r == data_base_register) || (r == offset_register)) && has_one_step f)
+
+-- nothing in a sandbox of code in words of this format may write the register
+abbrev pub is_reserved_in : Format → ℕ → Bool
+is_reserved_in f r = is_reserved r && not (is_data_register_in f r)

@@ -1,6 +1,6 @@
 //! The formats of images.
 ghost use Rattle.std.specs.Prelude.{◌≡◌, ◌↔◌, IsTrue, take};
-ghost use Rattle.sfi_formats.specs.Formats.{magic, code_most, unit, has_stack, has_words, is_stack};
+ghost use Rattle.sfi_formats.specs.Formats.{magic, code_most, unit, has_stack, has_words, is_stack, has_one_step};
 
 use crate::registers::STACK_POINTER;
 
@@ -69,6 +69,15 @@ impl Format {
         match self {
             Format::Sfi1 | Format::Sfi2 => false,
             Format::Sfiw => true,
+        }
+    }
+
+    /// Whether the mask of a data register, in code in words, has one step.
+    pub fn has_one_step(self) -> bool
+        ensures { result ≡ has_one_step self }
+    {
+        match self {
+            Format::Sfi1 | Format::Sfi2 | Format::Sfiw => false,
         }
     }
 

@@ -29,4 +29,4 @@ pub use Rattle.sfi_image.specs.declared.fault.LayoutFault.TheVariants.{Count, Sh
 pub use Rattle.sfi_image.specs.declared.fields.Fields.{Fields}
 pub use Rattle.sfi_image.specs.declared.part.Gate.{Gate}
 pub use Rattle.sfi_image.specs.declared.span.Span.{Span}
-pub use Rattle.sfi_image.specs.private.{IsReader, MayTake, TakesLength, next_code, is_first, first_or, count_below, next_part, next_init, next_gate}
+pub use Rattle.sfi_image.specs.private.{IsReader, MayTake, TakesLength, stage_after_code, is_first, first_or, count_below, stage_after_part, stage_after_init, stage_after_gates}

@@ -1,5 +1,5 @@
 -- Bytes have an image or a fault: a reader goes from prefix to prefix, to the image's end or to a fault.
-use Rattle.sfi_image.proofs.Prelude.{◌≡◌, ℕ, ◌+◌, ◌<◌, List, [], ◌∷◌, ◌++◌, length, take, drop, refl, sym, ap, subst, ◌∙◌, arith, append_assoc, zero, suc, inl, inr, ◌⊎◌, Some, None, Option, cases_lt, append-nil, take-append-drop, length-take, length-drop, Format, Sfi1, Sfi2, Sfiw, magic, LayoutFault, Magic, Count, Short, Trailing, Part, number, fields, gate, AreFieldWords, code_span, spans_of, IsFirstFault, field_tests, IsImage, IsFault, ImagePrefix, prefix_bytes, HasFaultWhateverFollows, Empty, AfterMagic, AfterCount, InGates, InCode, InInit, Whole, LayoutReader, StandsFor, Leads, count_below, next_gate, next_code, next_init}
+use Rattle.sfi_image.proofs.Prelude.{◌≡◌, ℕ, ◌+◌, ◌<◌, List, [], ◌∷◌, ◌++◌, length, take, drop, refl, sym, ap, subst, ◌∙◌, arith, append_assoc, zero, suc, inl, inr, ◌⊎◌, Some, None, Option, cases_lt, append-nil, take-append-drop, length-take, length-drop, Format, Sfi1, Sfi2, Sfiw, magic, LayoutFault, Magic, Count, Short, Trailing, Part, number, fields, gate, AreFieldWords, code_span, spans_of, IsFirstFault, field_tests, IsImage, IsFault, ImagePrefix, prefix_bytes, HasFaultWhateverFollows, Empty, AfterMagic, AfterCount, InGates, InCode, InInit, Whole, LayoutReader, StandsFor, Leads, count_below, stage_after_gates, stage_after_code, stage_after_init}
 use Rattle.sfi_image.specs.Laws.{SomeReading}
 use Rattle.sfi_image.specs.declared.fault.LayoutFault.TheVariants.{Gates}
 use Rattle.sfi_image.specs.declared.want.Stage.TheVariants as stage
@@ -52,7 +52,7 @@ after_fields n further r format count ps rest h lt f kind (Some k) failed =
     wrong (AfterCount format count ps) (fields f.item) f.rest rest k (fields_fault r (AfterCount format count ps) (fields f.item) f.item k h h.kept.0 refl f.fits (kind ∙ sym h.kept.1.of) failed) f.bytes_are
 after_fields n further r format count ps rest h lt f kind None passed =
     on n further (AfterCount format count ps) (fields f.item) f.rest rest
-    (record { next = next_gate 0 f.item.gate_count; count = r.count; begun = r.begun + 1; spans = r.spans ++ spans_of f.item; fields = f.item; gates = []; passed = 0; code_read = 0; init_read = 0 })
+    (record { next = stage_after_gates 0 f.item.gate_count; count = r.count; begun = r.begun + 1; spans = r.spans ++ spans_of f.item; fields = f.item; gates = []; passed = 0; code_read = 0; init_read = 0 })
     (fields_leads r _ (AfterCount format count ps) (fields f.item) f.item h h.kept.0 refl f.fits (kind ∙ sym h.kept.1.of) passed refl refl refl refl refl refl refl refl refl) f.bytes_are (omega (arith, f.len)) f.small lt
 
 step : (n : ℕ) → AreRead n → AreRead (suc n)
@@ -96,7 +96,7 @@ step n further r (InGates count ps f gs) rest h small lt =
           elim (decided_gates (code_span f) (gs ++ g.item ∷ [])) [
             | inl right ↦
                 let gates = r.gates ++ g.item.address ∷ [] in
-                on n further (InGates count ps f gs) (gate g.item) g.rest rest (record r { next = next_gate (length gates) r.fields.gate_count; gates = gates })
+                on n further (InGates count ps f gs) (gate g.item) g.rest rest (record r { next = stage_after_gates (length gates) r.fields.gate_count; gates = gates })
                 (gate_on r _ count ps f gs (gate g.item) g.item h refl g.fits right refl refl refl refl refl refl refl refl refl) g.bytes_are (omega (arith, g.len)) g.small lt
             | inr bad ↦ inr (Gates, gate_wrong count ps f gs rest g.rest g.item h.right g.bytes_are g.fits bad)
           ]
@@ -110,7 +110,7 @@ step n further r (InCode count ps f gs code) rest h small lt =
           let room = (code_next r (inr (InCode count ps f gs code, h)) h.kept.0).inside in
           let read = r.code_read + length s in
           on n further (InCode count ps f gs code) s (drop 16 rest) rest
-          (record r { next = next_code read r.fields.code_size r.fields.init_len r.begun r.count; passed = r.passed + count_below (r.fields.code_base + read) (drop r.passed r.gates); code_read = read })
+          (record r { next = stage_after_code read r.fields.code_size r.fields.init_len r.begun r.count; passed = r.passed + count_below (r.fields.code_base + read) (drop r.passed r.gates); code_read = read })
           (code_leads r _ (InCode count ps f gs code) s h h.kept.0 (record { some = omega arith; whole = omega arith; inside = omega arith }) refl refl refl refl refl refl refl refl refl)
           (sym (take-append-drop 16 rest)) (omega (arith, long, length-drop 16 rest)) (IsBytes-drop 16 rest small) lt
     ]
@@ -122,7 +122,7 @@ step n further r (InInit count ps f gs code init) rest h small lt =
           let len : length s ≡ 1 = omega (arith, some, length-take 1 rest) in
           let room = (init_next r (inr (InInit count ps f gs code init, h)) h.kept.0).less in
           let read = r.init_read + length s in
-          on n further (InInit count ps f gs code init) s (drop 1 rest) rest (record r { next = next_init read r.fields.init_len r.begun r.count; init_read = read })
+          on n further (InInit count ps f gs code init) s (drop 1 rest) rest (record r { next = stage_after_init read r.fields.init_len r.begun r.count; init_read = read })
           (init_leads r _ (InInit count ps f gs code init) s h h.kept.0 (omega arith) (omega arith) refl refl refl refl refl refl refl)
           (sym (take-append-drop 1 rest)) (omega (arith, some, length-drop 1 rest)) (IsBytes-drop 1 rest small) lt
     ]

@@ -1,5 +1,5 @@
 -- What a reader stands for after each step.
-use Rattle.sfi_image.proofs.Prelude.{◌≡◌, ℕ, suc, ◌+◌, ◌*◌, ◌%◌, ◌<◌, ◌≤◌, ◌==◌, false, ◌^◌, List, [], ◌∷◌, ◌++◌, length, map, drop, refl, sym, ap, ◌∙◌, subst, arith, inl, inr, None, eqb_tells, All, AllPairs, cases_Bool, ltb-true, ne_eqb, length-drop, length_push, drop-drop, Format, magic, Gate, Fields, Span, Part, number, AreFieldWords, code_span, spans, spans_of, AreGates, is_gate_of, AreOf, AreRight, IsFirstFault, field_tests, ImagePrefix, IsHead, IsOpened, IsRightPrefix, part_of, after_parts, after_init, after_code, after_gates, Follows, Empty, AfterMagic, AfterCount, LayoutReader, KeepsHead, KeepsFields, StandsFor, KeepsCode, IsReader, Leads, AreAhead, AreRest, is_one_of, next_part, next_init, next_code, next_gate, is_first, count_below}
+use Rattle.sfi_image.proofs.Prelude.{◌≡◌, ℕ, suc, ◌+◌, ◌*◌, ◌%◌, ◌<◌, ◌≤◌, ◌==◌, false, ◌^◌, List, [], ◌∷◌, ◌++◌, length, map, drop, refl, sym, ap, ◌∙◌, subst, arith, inl, inr, None, eqb_tells, All, AllPairs, cases_Bool, ltb-true, ne_eqb, length-drop, length_push, drop-drop, Format, magic, Gate, Fields, Span, Part, number, AreFieldWords, code_span, spans, spans_of, AreGates, is_gate_of, AreOf, AreRight, IsFirstFault, field_tests, ImagePrefix, IsHead, IsOpened, IsRightPrefix, part_of, after_parts, after_init, after_code, after_gates, Follows, Empty, AfterMagic, AfterCount, LayoutReader, KeepsHead, KeepsFields, StandsFor, KeepsCode, IsReader, Leads, AreAhead, AreRest, is_one_of, stage_after_part, stage_after_init, stage_after_code, stage_after_gates, is_first, count_below}
 use Rattle.std.proofs.Math.Bool.{or-false}
 use Rattle.std.proofs.Math.Dec.{ltb}
 use Rattle.std.proofs.lemmas.Bool.{ltb-false}
@@ -148,7 +148,7 @@ region before f words passed =
 
 -- ---- where whole sandboxes, first data bytes, code and gates lead
 
-pub parts_stand : (r : LayoutReader) (format : Format) (n : ℕ) (ps : List Part) → IsHead format n ps → length ps ≤ n → KeepsHead r format n ps → r.next ≡ next_part (length ps) n
+pub parts_stand : (r : LayoutReader) (format : Format) (n : ℕ) (ps : List Part) → IsHead format n ps → length ps ≤ n → KeepsHead r format n ps → r.next ≡ stage_after_part (length ps) n
     → StandsFor r (after_parts format n ps)
 parts_stand r format n ps h le k is =
     elim (eqb_tells (length ps) n) [
@@ -163,7 +163,7 @@ parts_stand r format n ps h le k is =
 
 pub init_stand : (r : LayoutReader) (n : ℕ) (ps : List Part) (f : Fields) (gs : List Gate) (code init : List ℕ) → IsOpened n ps f gs → length gs ≡ f.gate_count
     → length code ≡ f.code_size → length init ≤ f.init_len → KeepsFields r n ps f gs → r.init_read ≡ length init
-    → r.next ≡ next_init (length init) f.init_len (length ps + 1) n → StandsFor r (after_init n ps f gs code init)
+    → r.next ≡ stage_after_init (length init) f.init_len (length ps + 1) n → StandsFor r (after_init n ps f gs code init)
 init_stand r n ps f gs code init opened g c le k read is =
     elim (eqb_tells (length init) f.init_len) [
       | inl e ↦
@@ -184,7 +184,7 @@ init_stand r n ps f gs code init opened g c le k read is =
 
 pub code_stand : (r : LayoutReader) (n : ℕ) (ps : List Part) (f : Fields) (gs : List Gate) (code : List ℕ) → IsOpened n ps f gs → length gs ≡ f.gate_count
     → length code % 16 ≡ 0 → length code ≤ f.code_size → KeepsCode r n ps f gs code
-    → r.next ≡ next_code (length code) f.code_size f.init_len (length ps + 1) n → StandsFor r (after_code n ps f gs code)
+    → r.next ≡ stage_after_code (length code) f.code_size f.init_len (length ps + 1) n → StandsFor r (after_code n ps f gs code)
 code_stand r n ps f gs code opened g even le k is =
     elim (eqb_tells (length code) f.code_size) [
       | inl e ↦ rw (e.0) (init_stand r n ps f gs code [] opened g e.1 (omega arith) k.head k.init_read (rw (e.0) at is))
@@ -192,7 +192,7 @@ code_stand r n ps f gs code opened g even le k is =
     ]
 
 pub gates_stand : (r : LayoutReader) (n : ℕ) (ps : List Part) (f : Fields) (gs : List Gate) → IsOpened n ps f gs → length gs ≤ f.gate_count → KeepsFields r n ps f gs
-    → r.passed ≡ 0 → r.code_read ≡ 0 → r.init_read ≡ 0 → r.next ≡ next_gate (length gs) f.gate_count → StandsFor r (after_gates n ps f gs)
+    → r.passed ≡ 0 → r.code_read ≡ 0 → r.init_read ≡ 0 → r.next ≡ stage_after_gates (length gs) f.gate_count → StandsFor r (after_gates n ps f gs)
 gates_stand r n ps f gs opened le k passed code_read init_read is =
     elim (eqb_tells (length gs) f.gate_count) [
       | inl e ↦

@@ -3,7 +3,7 @@ use Rattle.std.proofs.Math.Seq.{take-append_seam}
 use Rattle.sfi_image.specs.declared.fault.LayoutFault.TheVariants as faults
 use Rattle.sfi_image.specs.declared.want.Stage.TheVariants as stage
 use Rattle.sfi_image.proofs.Standing.{leads, gates_stand, code_stand, init_stand, rest_from, region}
-use Rattle.sfi_image.proofs.Prelude.{◌≡◌, ◌↔◌, IsTrue, Bool, true, false, Option, slice_get, ℕ, ◌+◌, ◌-◌, ◌<◌, ◌≤◌, ◌⊎◌, List, [], ◌∷◌, ◌++◌, length, map, take, drop, refl, sym, ap, ◌∙◌, subst, arith, append_assoc, inl, inr, None, Some, All, flat_map, length-append, length_push, append-nil, map_push, length-map, All-push, Format, magic, Gate, Fields, Span, LayoutFault, Part, number, fields, gate, part, IsWord, AreFieldWords, AreGateWords, code_span, spans, spans_of, AreGates, IsFirstFault, field_tests, IsFault, IsPartFault, IsGateShort, IsGateWrong, AreContentsShort, ImagePrefix, AreBundlesWithin, prefix_bytes, head, IsHead, IsOpened, IsRightPrefix, after_init, after_code, after_gates, HasFaultWhateverFollows, Empty, AfterMagic, AfterCount, InGates, InCode, InInit, LayoutReader, StandsFor, Leads, next_init, next_code, next_gate, count_below, format_of, spelling, CutShort, Trails, WholeIsImage, Whole}
+use Rattle.sfi_image.proofs.Prelude.{◌≡◌, ◌↔◌, IsTrue, Bool, true, false, Option, slice_get, ℕ, ◌+◌, ◌-◌, ◌<◌, ◌≤◌, ◌⊎◌, List, [], ◌∷◌, ◌++◌, length, map, take, drop, refl, sym, ap, ◌∙◌, subst, arith, append_assoc, inl, inr, None, Some, All, flat_map, length-append, length_push, append-nil, map_push, length-map, All-push, Format, magic, Gate, Fields, Span, LayoutFault, Part, number, fields, gate, part, IsWord, AreFieldWords, AreGateWords, code_span, spans, spans_of, AreGates, IsFirstFault, field_tests, IsFault, IsPartFault, IsGateShort, IsGateWrong, AreContentsShort, ImagePrefix, AreBundlesWithin, prefix_bytes, head, IsHead, IsOpened, IsRightPrefix, after_init, after_code, after_gates, HasFaultWhateverFollows, Empty, AfterMagic, AfterCount, InGates, InCode, InInit, LayoutReader, StandsFor, Leads, stage_after_init, stage_after_code, stage_after_gates, count_below, format_of, spelling, CutShort, Trails, WholeIsImage, Whole}
 
 -- ==== Where each step leads, and which faults it meets.
 
@@ -15,7 +15,7 @@ none_words = λ k d h. absurd (omega arith)
 
 pub fields_leads : (old new : LayoutReader) (x : ImagePrefix) (s : List ℕ) (f : Fields) → StandsFor old x → old.next ≡ stage.Fields → s ≡ fields f → AreFieldWords f
     → f.format ≡ old.fields.format → IsFirstFault old.spans f field_tests None → new.count ≡ old.count → new.begun ≡ old.begun + 1 → new.spans ≡ old.spans ++ spans_of f → new.fields ≡ f → new.gates ≡ []
-    → new.passed ≡ 0 → new.code_read ≡ 0 → new.init_read ≡ 0 → new.next ≡ next_gate 0 f.gate_count → Leads x s new
+    → new.passed ≡ 0 → new.code_read ≡ 0 → new.init_read ≡ 0 → new.next ≡ stage_after_gates 0 f.gate_count → Leads x s new
 fields_leads old new (AfterCount format n ps) s f' h is e words kind passed count begun spans_are fields_are gates p c i to =
     let k = h.kept.1 in
     let of : f'.format ≡ format = kind ∙ k.of in
@@ -40,7 +40,7 @@ fields_leads old new _ s f' h is e words kind passed count begun spans_are field
 pub gate_on : (old new : LayoutReader) (n : ℕ) (ps : List Part) (f : Fields) (gs : List Gate) (s : List ℕ) (g : Gate) → StandsFor old (InGates n ps f gs) → s ≡ gate g → AreGateWords g
     → AreGates (code_span f) (gs ++ g ∷ [])
     → new.count ≡ old.count → new.begun ≡ old.begun → new.spans ≡ old.spans → new.fields ≡ old.fields → new.gates ≡ old.gates ++ g.address ∷ []
-    → new.passed ≡ old.passed → new.code_read ≡ old.code_read → new.init_read ≡ old.init_read → new.next ≡ next_gate (length new.gates) old.fields.gate_count → Leads (InGates n ps f gs) s new
+    → new.passed ≡ old.passed → new.code_read ≡ old.code_read → new.init_read ≡ old.init_read → new.next ≡ stage_after_gates (length new.gates) old.fields.gate_count → Leads (InGates n ps f gs) s new
 gate_on old new n ps f gs s g h e words right count begun spans_are fields_are gates p c i to =
     let k = h.kept.1 in
     let was = h.right.0 in
@@ -62,7 +62,7 @@ gate_on old new n ps f gs s g h e words right count begun spans_are fields_are g
       spans = spans_are ∙ k.spans;
       fields = fields_are ∙ k.fields;
       gates = addresses;
-    }) (p ∙ h.kept.2) (c ∙ h.kept.3) (i ∙ h.kept.4) (to ∙ ap (λ (j : ℕ). next_gate j old.fields.gate_count) same_len ∙ ap (λ (y : Fields). next_gate (length (gs ++ g ∷ [])) y.gate_count) k.fields))
+    }) (p ∙ h.kept.2) (c ∙ h.kept.3) (i ∙ h.kept.4) (to ∙ ap (λ (j : ℕ). stage_after_gates j old.fields.gate_count) same_len ∙ ap (λ (y : Fields). stage_after_gates (length (gs ++ g ∷ [])) y.gate_count) k.fields))
 
 -- which gate may come next, as its test tells it by the last address
 abbrev NextIsTold : Fields → Gate → Option ℕ → Bool → Type 0
@@ -79,7 +79,7 @@ told old n ps f gs g last r h is tells =
 pub gate_leads : (old new : LayoutReader) (x : ImagePrefix) (s : List ℕ) (g : Gate) (last : Option ℕ) → StandsFor old x → old.next ≡ stage.Gate → s ≡ gate g → AreGateWords g
     → last ≡ slice_get old.gates (length old.gates - 1) → NextIsTold old.fields g last true
     → new.count ≡ old.count → new.begun ≡ old.begun → new.spans ≡ old.spans → new.fields ≡ old.fields → new.gates ≡ old.gates ++ g.address ∷ []
-    → new.passed ≡ old.passed → new.code_read ≡ old.code_read → new.init_read ≡ old.init_read → new.next ≡ next_gate (length new.gates) old.fields.gate_count → Leads x s new
+    → new.passed ≡ old.passed → new.code_read ≡ old.code_read → new.init_read ≡ old.init_read → new.next ≡ stage_after_gates (length new.gates) old.fields.gate_count → Leads x s new
 gate_leads old new (InGates n ps f gs) s g last h is e words at tells = gate_on old new n ps f gs s g h e words ((told old n ps f gs g last true h at tells).0 refl)
 gate_leads old new _ s g last h is e words at tells = let k = h.kept.0 in absurd cc
 
@@ -87,7 +87,7 @@ pub code_leads : (old new : LayoutReader) (x : ImagePrefix) (s : List ℕ) → S
     → new.count ≡ old.count → new.begun ≡ old.begun → new.spans ≡ old.spans → new.fields ≡ old.fields → new.gates ≡ old.gates
     → new.passed ≡ old.passed + count_below (old.fields.code_base + (old.code_read + length s)) (drop old.passed old.gates)
     → new.code_read ≡ old.code_read + length s → new.init_read ≡ old.init_read
-    → new.next ≡ next_code (old.code_read + length s) old.fields.code_size old.fields.init_len old.begun old.count → Leads x s new
+    → new.next ≡ stage_after_code (old.code_read + length s) old.fields.code_size old.fields.init_len old.begun old.count → Leads x s new
 code_leads old new (InCode n ps f gs code) s h is len count begun spans_are fields_are gates p c i to =
     let k = h.kept.1 in
     let opened = h.right.0 in
@@ -101,7 +101,7 @@ code_leads old new (InCode n ps f gs code) s h is len count begun spans_are fiel
     let passed_is : new.passed ≡ old.passed + count_below (f.code_base + length (code ++ s)) (drop old.passed old.gates) =
     p ∙ ap (λ (a : ℕ). old.passed + count_below a (drop old.passed old.gates)) end in
     let read : new.code_read ≡ length (code ++ s) = c ∙ ap (λ (j : ℕ). j + length s) k.code_read ∙ sym more in
-    let where_to : new.next ≡ next_code (length (code ++ s)) f.code_size f.init_len (length ps + 1) n =
+    let where_to : new.next ≡ stage_after_code (length (code ++ s)) f.code_size f.init_len (length ps + 1) n =
     to ∙ rw (k.head.fields, k.head.begun, k.head.count, k.code_read, ← more) refl in
     leads (InCode n ps f gs code) s new (after_code n ps f gs (code ++ s)) h.right refl (code_stand new n ps f gs (code ++ s) opened h.right.1 (omega arith) (omega arith) (record {
       head = record {
@@ -121,13 +121,13 @@ code_leads old new _ s h is len count begun spans_are fields_are gates p c i to 
 pub init_leads : (old new : LayoutReader) (x : ImagePrefix) (s : List ℕ) → StandsFor old x → old.next ≡ stage.Init → 1 ≤ length s → length s + old.init_read ≤ old.fields.init_len
     → new.count ≡ old.count → new.begun ≡ old.begun → new.spans ≡ old.spans → new.fields ≡ old.fields → new.gates ≡ old.gates
     → new.init_read ≡ old.init_read + length s
-    → new.next ≡ next_init (old.init_read + length s) old.fields.init_len old.begun old.count → Leads x s new
+    → new.next ≡ stage_after_init (old.init_read + length s) old.fields.init_len old.begun old.count → Leads x s new
 init_leads old new (InInit n ps f gs code init) s h is some room count begun spans_are fields_are gates i to =
     let k = h.kept.1 in
     let read = h.kept.2 in
     let more : length (init ++ s) ≡ length init + length s = length-append init s in
     let room' : length s + length init ≤ f.init_len = rw (read, k.fields) at room in
-    let where_to : new.next ≡ next_init (length (init ++ s)) f.init_len (length ps + 1) n =
+    let where_to : new.next ≡ stage_after_init (length (init ++ s)) f.init_len (length ps + 1) n =
     to ∙ rw (k.fields, k.begun, k.count, read, ← more) refl in
     leads (InInit n ps f gs code init) s new (after_init n ps f gs code (init ++ s)) h.right refl (init_stand new n ps f gs code (init ++ s) h.right.0 h.right.1 h.right.2 (omega (arith, more)) (record {
       count = count ∙ k.count;

@@ -59,20 +59,20 @@ count_below end [] = 0
 count_below end (a ∷ more) = cond (nat_lt a end) (suc (count_below end more)) 0
 
 -- what comes next after `begun` sandboxes of `count`
-abbrev pub next_part : ℕ → ℕ → Stage
-next_part begun count = cond (begun == count) stage.End stage.Fields
+abbrev pub stage_after_part : ℕ → ℕ → Stage
+stage_after_part begun count = cond (begun == count) stage.End stage.Fields
 
 -- what comes next after `read` first data bytes of `len`
-abbrev pub next_init : ℕ → ℕ → ℕ → ℕ → Stage
-next_init read len begun count = cond (read == len) (next_part begun count) stage.Init
+abbrev pub stage_after_init : ℕ → ℕ → ℕ → ℕ → Stage
+stage_after_init read len begun count = cond (read == len) (stage_after_part begun count) stage.Init
 
 -- what comes next after `read` bytes of code of `size`
-abbrev pub next_code : ℕ → ℕ → ℕ → ℕ → ℕ → Stage
-next_code read size len begun count = cond (read == size) (next_init 0 len begun count) stage.Code
+abbrev pub stage_after_code : ℕ → ℕ → ℕ → ℕ → ℕ → Stage
+stage_after_code read size len begun count = cond (read == size) (stage_after_init 0 len begun count) stage.Code
 
 -- what comes next after `read` gates of `gate_count`
-abbrev pub next_gate : ℕ → ℕ → Stage
-next_gate read gate_count = cond (read == gate_count) stage.Code stage.Gate
+abbrev pub stage_after_gates : ℕ → ℕ → Stage
+stage_after_gates read gate_count = cond (read == gate_count) stage.Code stage.Gate
 
 -- `len` bytes may be taken, where this comes next for a sandbox with fields `f` of which `code`
 -- bytes of code and `init` first data bytes are read

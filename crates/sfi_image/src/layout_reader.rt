@@ -5,7 +5,7 @@ ghost use Rattle.sfi_image.specs.declared.fault.LayoutFault.{LayoutFault};
 ghost use Rattle.sfi_image.specs.Prefixes.{ImagePrefix, prefix_bytes, want_of, AreBundlesWithin, IsLengthOf, IsStretchLength, HasFaultWhateverFollows};
 ghost use Rattle.sfi_image.specs.Prefixes.ImagePrefix.{Empty};
 ghost use Rattle.sfi_image.specs.Keeping.{StandsFor, HasStopped, Leads, left};
-ghost use Rattle.sfi_image.specs.private.{IsReader, MayTake, Takes, as_want, count_below, first_or, is_first, next_part, next_init, next_code, next_gate};
+ghost use Rattle.sfi_image.specs.private.{IsReader, MayTake, Takes, as_want, count_below, first_or, is_first, stage_after_part, stage_after_init, stage_after_code, stage_after_gates};
 
 use crate::arrays::{GateArray, SpanArray};
 use crate::bundle::BundlePlace;
@@ -44,8 +44,8 @@ pub struct LayoutReader {
 }
 
 /// What comes after `begun` sandboxes of `count`.
-fn stage_after(begun: u32, count: u32) -> Stage
-    ensures { result ≡ next_part begun count }
+fn stage_after_part(begun: u32, count: u32) -> Stage
+    ensures { result ≡ stage_after_part begun count }
 {
     if begun == count {
         Stage::End
@@ -57,11 +57,11 @@ fn stage_after(begun: u32, count: u32) -> Stage
 /// What comes after `read` first data bytes of `len`. It is out of line, since few bundles are the
 /// last of their code region.
 #[inline(never)]
-fn next_init(read: u32, len: u32, begun: u32, count: u32) -> Stage
-    ensures { result ≡ next_init read len begun count }
+fn stage_after_init(read: u32, len: u32, begun: u32, count: u32) -> Stage
+    ensures { result ≡ stage_after_init read len begun count }
 {
     if read == len {
-        stage_after(begun, count)
+        stage_after_part(begun, count)
     } else {
         Stage::Init
     }
@@ -69,19 +69,19 @@ fn next_init(read: u32, len: u32, begun: u32, count: u32) -> Stage
 
 /// What comes after `read` bytes of a code region of `size`.
 #[inline]
-fn next_code(read: u32, size: u32, len: u32, begun: u32, count: u32) -> Stage
-    ensures { result ≡ next_code read size len begun count }
+fn stage_after_code(read: u32, size: u32, len: u32, begun: u32, count: u32) -> Stage
+    ensures { result ≡ stage_after_code read size len begun count }
 {
     if read == size {
-        next_init(0, len, begun, count)
+        stage_after_init(0, len, begun, count)
     } else {
         Stage::Code
     }
 }
 
 /// What comes after `read` gates of `gate_count`.
-fn next_gate(read: u32, gate_count: u32) -> Stage
-    ensures { result ≡ next_gate read gate_count }
+fn stage_after_gates(read: u32, gate_count: u32) -> Stage
+    ensures { result ≡ stage_after_gates read gate_count }
 {
     if read == gate_count {
         Stage::Code
@@ -350,7 +350,7 @@ impl LayoutReader {
         self.passed = 0;
         self.code_read = 0;
         self.init_read = 0;
-        self.next = next_gate(0, fields.gate_count);
+        self.next = stage_after_gates(0, fields.gate_count);
         self.fields = fields;
         None
     }
@@ -371,7 +371,7 @@ impl LayoutReader {
             return Some(LayoutFault::Gates);
         }
         self.gates.push(gate.address);
-        self.next = next_gate(self.gates.len() as u32, self.fields.gate_count);
+        self.next = stage_after_gates(self.gates.len() as u32, self.fields.gate_count);
         None
     }
 
@@ -388,7 +388,7 @@ impl LayoutReader {
         let end = address_after(self.fields.code_base, read);
         self.passed = passed_before(self.gates.as_slice(), self.passed, end);
         self.code_read = read;
-        self.next = next_code(
+        self.next = stage_after_code(
             read,
             self.fields.code_size,
             self.fields.init_len,
@@ -409,6 +409,6 @@ impl LayoutReader {
     {
         let read = self.init_read as usize + bytes.len();
         self.init_read = read as u32;
-        self.next = next_init(self.init_read, self.fields.init_len, self.begun, self.count);
+        self.next = stage_after_init(self.init_read, self.fields.init_len, self.begun, self.count);
     }
 }

@@ -75,32 +75,20 @@ fn four_quarters(a: u64, b: u64, c: u64, d: u64) -> u64
     a | b << 16 | c << 32 | d << 48
 }
 
-/// The masks of a block. Each kind of format has code of its own, so that it isn't asked for at
-/// each vector.
-#[inline(always)]
-fn masks_of_block<const STACK: bool>(block: &[u8; BLOCK_BYTES]) -> Masks
-    ensures { AreMasks STACK block.now result }
-{
-    let first = masks_of_quarter(STACK, &block[..32]);
-    let second = masks_of_quarter(STACK, &block[32..64]);
-    let third = masks_of_quarter(STACK, &block[64..96]);
-    let fourth = masks_of_quarter(STACK, &block[96..]);
-    Masks {
-        long: four_quarters(first.long, second.long, third.long, fourth.long),
-        free: four_quarters(first.free, second.free, third.free, fourth.free),
-        access: four_quarters(first.access, second.access, third.access, fourth.access),
-    }
-}
-
-/// The masks of the block's halfwords; `stack` says whether x2 is a stack pointer.
+/// The masks of the block's halfwords; `stack` says whether x2 is a stack pointer. A caller passes a
+/// constant, so that this isn't asked for at each vector.
 #[inline(always)]
 pub fn masks_of(stack: bool, block: &[u8; BLOCK_BYTES]) -> Masks
     ensures { AreMasks stack block.now result }
 {
-    if stack {
-        masks_of_block::<true>(block)
-    } else {
-        masks_of_block::<false>(block)
+    let first = masks_of_quarter(stack, &block[..32]);
+    let second = masks_of_quarter(stack, &block[32..64]);
+    let third = masks_of_quarter(stack, &block[64..96]);
+    let fourth = masks_of_quarter(stack, &block[96..]);
+    Masks {
+        long: four_quarters(first.long, second.long, third.long, fourth.long),
+        free: four_quarters(first.free, second.free, third.free, fourth.free),
+        access: four_quarters(first.access, second.access, third.access, fourth.access),
     }
 }
 

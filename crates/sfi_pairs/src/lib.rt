@@ -13,6 +13,8 @@ mod stub;
 mod uses;
 
 pub use pairs::{code_pair, data_pair};
-pub use registers::{is_data_register, is_reserved, is_withheld};
+pub use registers::{
+    is_data_register, is_data_register_in, is_reserved, is_reserved_in, is_withheld,
+};
 pub use stub::STUB;
 pub use uses::is_use;

@@ -114,9 +114,6 @@ module _ (f : Fields) (to : Place) where
   Writes old mid begin end at =
       (es : List Named) → All IsNamed es → end ≡ begin + length (entries es) → LiesAt old begin (entries es) → SomeWritten es old mid begin at
 
-  pub none_written : (bytes : List ℕ) (begin end : ℕ) → Writes bytes bytes begin end begin
-  none_written bytes begin end es named ends lies = record { done = []; more = es; es_are = refl; at_is = omega arith; replaced = λ before after offset are. are }
-
   around : (before : List ℕ) (xs : List Named) (e : Named) (ys : List Named) (after : List ℕ)
       → before ++ (entries (xs ++ e ∷ ys) ++ after) ≡ (before ++ entries xs) ++ (entry e ++ (entries ys ++ after))
   around before xs e ys after =

@@ -238,7 +238,7 @@ module _ (from to size : ℕ) (end : from + size ≤ 2 ^ 32) (end' : to + size �
   words_same b n k owed (x ∷ later) =
       let first : found_at (there b n) (to + k) (words.lowest (word_at (there b n) (to + k) owed x.instr x.size)) ≡ map f (found_at (here b n) (from + k) (words.lowest (word_at (here b n) (from + k) owed x.instr x.size))) =
       ap (found_at (there b n) (to + k)) (find_same b n k owed x.instr x.size all_rules) ∙ at_same b n k (words.lowest (word_at (here b n) (from + k) owed x.instr x.size)) in
-      let o = owed_next owed x.instr in
+      let o = owed_next b.format owed x.instr in
       let more = words_same b n (k + x.size) o later in
       let u : to + (k + x.size) ≡ to + k + x.size = omega arith in
       let v : from + (k + x.size) ≡ from + k + x.size = omega arith in

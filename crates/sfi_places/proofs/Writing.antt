@@ -106,12 +106,6 @@ module _ (from to : ℕ) where
       past : (k : ℕ) → k ≡ length done → (hs : List Gate) → hs ≡ done ++ more → drop k hs ≡ more
       past k e hs are = ap (drop k) are ∙ ap (λ (n : ℕ). drop n (done ++ more)) e ∙ drop-append_seam done more
 
-  pub none_moved : (gs : List Gate) → some_moved gs 0 ≡ gs
-  none_moved gs = refl
-
-  pub all_moved : (gs : List Gate) (i : ℕ) → length gs ≡ i → some_moved gs i ≡ map there gs
-  all_moved gs i len = seam gs i gs [] (sym (append-nil gs)) len ∙ append-nil (map there gs)
-
   -- one of the gates in the middle of bytes
   around : (before : List ℕ) (xs : List Gate) (g : Gate) (ys : List Gate) (after : List ℕ)
       → before ++ (flat_map gate (xs ++ g ∷ ys) ++ after) ≡ (before ++ flat_map gate xs) ++ (number g.address ++ (number g.service ++ (flat_map gate ys ++ after)))

@@ -114,12 +114,12 @@ two_in bytes i n s few = two_of bytes i n s (λ e. let w = spelled_within bytes 
 -- ---- a word
 
 found_as : (b : BundlePlace) (at : ℕ) (owed : Owed) (word : List ℕ) (found : List Finding) (next : Owed) (reading : List Piece) (rest : List ℕ) → IsLongestReading word reading → rest_of word reading ≡ rest
-    → found ≡ found_from b at owed reading ++ rest_finding b (at + (4 - length rest)) rest → next ≡ cond (is_empty rest) (owed_past owed reading) kind.Nothing → IsWordFound b at owed word found next
+    → found ≡ found_from b at owed reading ++ rest_finding b (at + (4 - length rest)) rest → next ≡ cond (is_empty rest) (owed_past b.format owed reading) kind.Nothing → IsWordFound b at owed word found next
 found_as b at owed word found next reading rest longest e found_is next_is = record {
   reading = reading;
   longest = longest;
   found_is = found_is ∙ ap (λ (r : List ℕ). found_from b at owed reading ++ rest_finding b (at + (4 - length r)) r) (sym e);
-  next_is = next_is ∙ ap (λ (r : List ℕ). cond (is_empty r) (owed_past owed reading) kind.Nothing) (sym e);
+  next_is = next_is ∙ ap (λ (r : List ℕ). cond (is_empty r) (owed_past b.format owed reading) kind.Nothing) (sym e);
 }
 
 module _ (b : BundlePlace) (at : ℕ) (owed : Owed) (word : List ℕ) (whole : length word ≡ 4) where
@@ -137,10 +137,10 @@ module _ (b : BundlePlace) (at : ℕ) (owed : Owed) (word : List ℕ) (whole : l
     first = found_at b at (lowest (record { bundle = b; address = at; owed = owed; instr = i; size = n }))
 
     -- an instruction of 32 bits
-    pub word_wide : n ≡ 4 → IsWordFound b at owed word first (owed_next owed i)
+    pub word_wide : n ≡ 4 → IsWordFound b at owed word first (owed_next b.format owed i)
     word_wide e =
         let none : length (drop n word) ≡ 0 = omega (arith, length-drop n word, e, whole) in
-        found_as b at owed word first (owed_next owed i) (record { instr = i; size = n } ∷ []) []
+        found_as b at owed word first (owed_next b.format owed i) (record { instr = i; size = n } ∷ []) []
         (longest_more word (record { instr = i; size = n }) [] s (longest_none (drop n word) (no_bytes_left (drop n word) none)))
         (empty_list (drop n word) none) (sym (append-nil (first ++ []) ∙ append-nil first)) refl
 
@@ -149,14 +149,14 @@ module _ (b : BundlePlace) (at : ℕ) (owed : Owed) (word : List ℕ) (whole : l
       left_two = omega (arith, length-drop n word, two, whole)
 
       abbrev pub second_at : Instr → ℕ → List Finding
-      second_at j m = found_at b (at + n) (lowest (record { bundle = b; address = at + n; owed = owed_next owed i; instr = j; size = m }))
+      second_at j m = found_at b (at + n) (lowest (record { bundle = b; address = at + n; owed = owed_next b.format owed i; instr = j; size = m }))
 
       -- two of 16
-      pub word_two : (j : Instr) (m : ℕ) → Spells (take m (drop n word)) j m → IsWordFound b at owed word (first ++ second_at j m) (owed_next (owed_next owed i) j)
+      pub word_two : (j : Instr) (m : ℕ) → Spells (take m (drop n word)) j m → IsWordFound b at owed word (first ++ second_at j m) (owed_next b.format (owed_next b.format owed i) j)
       word_two j m t =
           let f = two_in (drop n word) j m t (let l = left_two in omega arith) in
           let none : length (drop m (drop n word)) ≡ 0 = (let l = left_two in omega (arith, length-drop m (drop n word), f)) in
-          found_as b at owed word (first ++ second_at j m) (owed_next (owed_next owed i) j) (record { instr = i; size = n } ∷ record { instr = j; size = m } ∷ []) []
+          found_as b at owed word (first ++ second_at j m) (owed_next b.format (owed_next b.format owed i) j) (record { instr = i; size = n } ∷ record { instr = j; size = m } ∷ []) []
           (longest_more word (record { instr = i; size = n }) _ s (longest_more (drop n word) (record { instr = j; size = m }) [] t (longest_none _ (no_bytes_left (drop m (drop n word)) none))))
           (empty_list (drop m (drop n word)) none) (sym (append-nil (first ++ (second_at j m ++ [])) ∙ ap (λ (l : List Finding). first ++ l) (append-nil (second_at j m)))) refl
 
@@ -168,7 +168,7 @@ module _ (b : BundlePlace) (at : ℕ) (owed : Owed) (word : List ℕ) (whole : l
           (longest_more word (record { instr = i; size = n }) [] s (longest_none (drop n word) stuck)) refl
           (sym (ap (λ (f : List Finding). f ++ rest_finding b (at + (4 - length (drop n word))) (drop n word)) (append-nil first) ∙ ap (λ (f : List Finding). first ++ f) l.0)) (sym l.1)
         where
-          rest_is : (rest : List ℕ) → length rest ≡ 2 → length_of (from_le_bytes w16 rest) ≡ length_is → (rest_finding b (at + (4 - length rest)) rest ≡ broken b (at + 2) (rule_of_length length_is) ∷ []) × (cond (is_empty rest) (owed_past owed (record { instr = i; size = n } ∷ [])) kind.Nothing ≡ kind.Nothing)
+          rest_is : (rest : List ℕ) → length rest ≡ 2 → length_of (from_le_bytes w16 rest) ≡ length_is → (rest_finding b (at + (4 - length rest)) rest ≡ broken b (at + 2) (rule_of_length length_is) ∷ []) × (cond (is_empty rest) (owed_past b.format owed (record { instr = i; size = n } ∷ [])) kind.Nothing ≡ kind.Nothing)
           rest_is (low ∷ high ∷ []) f g = (ap (λ (k : Length). broken b (at + 2) (rule_of_length k) ∷ []) g, refl)
           rest_is rest f g = absurd (omega arith)
 
@@ -196,7 +196,7 @@ abbrev pub Adds : BundlePlace → ℕ → Owed → List ℕ → List Finding →
 Adds b at owed word old new next = (here : List Finding) × (new ≡ old ++ here) × (length here ≤ 2) × IsWordFound b at owed word here next
 
 module _ (b : BundlePlace) (at : ℕ) (owed : Owed) (word : List ℕ) (whole : length word ≡ 4) (old : List Finding) where
-  module _ (i : Instr) (n : ℕ) (s : Spells (take n word) i n) (mid : List Finding) (next : Owed) (mid_is : mid ≡ old ++ found_at b at (lowest (record { bundle = b; address = at; owed = owed; instr = i; size = n }))) (next_is : next ≡ owed_next owed i) where
+  module _ (i : Instr) (n : ℕ) (s : Spells (take n word) i n) (mid : List Finding) (next : Owed) (mid_is : mid ≡ old ++ found_at b at (lowest (record { bundle = b; address = at; owed = owed; instr = i; size = n }))) (next_is : next ≡ owed_next b.format owed i) where
     pub adds_wide : n ≡ 4 → Adds b at owed word old mid next
     adds_wide four =
         (first b at owed word whole i n s, mid_is, (let one = found_one b at (lowest (record { bundle = b; address = at; owed = owed; instr = i; size = n })) in omega arith), subst (λ (o : Owed). IsWordFound b at owed word (first b at owed word whole i n s) o) (sym next_is) (word_wide b at owed word whole i n s four))
@@ -209,18 +209,18 @@ module _ (b : BundlePlace) (at : ℕ) (owed : Owed) (word : List ℕ) (whole : l
       slice_is = tail_is 2 word ∙ sym rest_is
 
       pub adds_two : (j : Instr) (m : ℕ) (new : List Finding) (last : Owed) → Spells (take m (take (length word - 2) (drop 2 word))) j m
-          → new ≡ mid ++ found_at b (at + 2) (lowest (record { bundle = b; address = at + 2; owed = next; instr = j; size = m })) → last ≡ owed_next next j → Adds b at owed word old new last
+          → new ≡ mid ++ found_at b (at + 2) (lowest (record { bundle = b; address = at + 2; owed = next; instr = j; size = m })) → last ≡ owed_next b.format next j → Adds b at owed word old new last
       adds_two j m new last t new_is last_is =
           let t' = subst (λ (l : List ℕ). Spells (take m l) j m) slice_is t in
-          let second : found_at b (at + 2) (lowest (record { bundle = b; address = at + 2; owed = next; instr = j; size = m })) ≡ found_at b (at + n) (lowest (record { bundle = b; address = at + n; owed = owed_next owed i; instr = j; size = m }))
+          let second : found_at b (at + 2) (lowest (record { bundle = b; address = at + 2; owed = next; instr = j; size = m })) ≡ found_at b (at + n) (lowest (record { bundle = b; address = at + n; owed = owed_next b.format owed i; instr = j; size = m }))
           = ap (λ (k : ℕ). found_at b (at + k) (lowest (record { bundle = b; address = at + k; owed = next; instr = j; size = m }))) (sym two) ∙ ap (λ (o : Owed). found_at b (at + n) (lowest (record { bundle = b; address = at + n; owed = o; instr = j; size = m }))) next_is in
           let a = found_one b at (lowest (record { bundle = b; address = at; owed = owed; instr = i; size = n })) in
-          let c = found_one b (at + n) (lowest (record { bundle = b; address = at + n; owed = owed_next owed i; instr = j; size = m })) in
-          let here : List Finding = first b at owed word whole i n s ++ found_at b (at + n) (lowest (record { bundle = b; address = at + n; owed = owed_next owed i; instr = j; size = m })) in (
+          let c = found_one b (at + n) (lowest (record { bundle = b; address = at + n; owed = owed_next b.format owed i; instr = j; size = m })) in
+          let here : List Finding = first b at owed word whole i n s ++ found_at b (at + n) (lowest (record { bundle = b; address = at + n; owed = owed_next b.format owed i; instr = j; size = m })) in (
             here,
             new_is ∙ ap (λ (l : List Finding). l ++ found_at b (at + 2) (lowest (record { bundle = b; address = at + 2; owed = next; instr = j; size = m }))) mid_is ∙ append_assoc old _ _ ∙ ap (λ (l : List Finding). old ++ (first b at owed word whole i n s ++ l)) second,
-            omega (arith, a, c, length-append (first b at owed word whole i n s) (found_at b (at + n) (lowest (record { bundle = b; address = at + n; owed = owed_next owed i; instr = j; size = m })))),
-            subst (λ (o : Owed). IsWordFound b at owed word here o) (sym (last_is ∙ ap (λ (o : Owed). owed_next o j) next_is)) (word_two b at owed word whole i n s two j m t'),
+            omega (arith, a, c, length-append (first b at owed word whole i n s) (found_at b (at + n) (lowest (record { bundle = b; address = at + n; owed = owed_next b.format owed i; instr = j; size = m })))),
+            subst (λ (o : Owed). IsWordFound b at owed word here o) (sym (last_is ∙ ap (λ (o : Owed). owed_next b.format o j) next_is)) (word_two b at owed word whole i n s two j m t'),
           )
 
       adds_rest : (k : Length) (rule : Rule) (new : List Finding) → length_of (from_le_bytes w16 (drop n word)) ≡ k → rule_of_length k ≡ rule → IsStuck (drop n word) → new ≡ mid ++ found_at b (at + 2) (Some rule) → Adds b at owed word old new kind.Nothing

@@ -5,6 +5,8 @@ use Rattle.rv_word.proofs.Facts.{one_spelling}
 use Rattle.sfi_masks.specs.Masks.{half_at as block_half, word_at, may_write_in_words, may_be_on_in_words, is_free_by, IsFreeHalfBy, IsFreeWordBy}
 use Rattle.sfi_rules.specs.words.Rules.{may_access}
 use Rattle.sfi_scan.specs.private.Words.{bytes_at, IsQuietWord, IsMasking, IsPlacing, IsPair, IsStepOf, IsUseOf, IsUsedStep, IsCleanHalfAlone}
+use Rattle.sfi_formats.specs.declared.format.Format.{Format}
+use Rattle.sfi_formats.proofs.Formats.{data_registers}
 use Rattle.sfi_scan.proofs.WordLook.{quiet_word, found_wide, found_halves, masking, placing, placing_code, masked, placed, stepping, code_owed, owing, plain, used}
 
 -- ---- what the masks tell to be free is plain
@@ -16,12 +18,15 @@ unkept r may = sym (none_of (is_reserved r) (is_data_register r) (r == 30) (r ==
     none_of true q r s = refl
     none_of false q r s = refl
 
+on_base : (f : Format) (base : ℕ) → may_be_on_in_words base ≡ true → may_access f base ≡ true
+on_base f base h = ap (λ (t : Bool). t || (base == 26)) (data_registers f base) ∙ h
+
 free_plain : (b : BundlePlace) (at : ℕ) (o : Outline) → is_free_by may_write_in_words may_be_on_in_words o ≡ true → is_clean_alone b at o ≡ true
 free_plain b at (Computes rd) h = unkept rd h
 free_plain b at (Loads rd base) h =
     let both = and_parts (may_write_in_words rd) (may_be_on_in_words base) h in
-    and_from (not (is_reserved_or_typed rd)) (may_access base) (unkept rd both.0) both.1
-free_plain b at (Stores base) h = h
+    and_from (not (is_reserved_or_typed rd)) (may_access b.format base) (unkept rd both.0) (on_base b.format base both.1)
+free_plain b at (Stores base) h = on_base b.format base h
 free_plain b at Orders h = refl
 free_plain b at Stops h = refl
 free_plain b at o h = absurd cc

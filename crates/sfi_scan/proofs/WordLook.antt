@@ -7,6 +7,9 @@ use Rattle.sfi_scan.proofs.WordQuiet.{is_reserved_or_typed_one, unkept, IsSafe, 
 use Rattle.rv_word.specs.declared.instr.ImmOp.TheVariants.{Addi}
 use Rattle.sfi_rules.specs.declared.owed.Owed.TheVariants.{Mask, PlaceOnly}
 use Rattle.rv_word.proofs.Facts.{one_spelling}
+use Rattle.sfi_formats.specs.declared.format.Format.{Format}
+use Rattle.sfi_formats.specs.Formats.{is_data_register_in}
+use Rattle.sfi_formats.proofs.Formats.{two_steps, data_registers}
 use Rattle.sfi_rules.specs.words.Findings.{lowest, found_at}
 use Rattle.sfi_scan.specs.private.Words.{IsCleanHalfAlone}
 use Rattle.sfi_scan.proofs.Readings.{word_wide, word_two}
@@ -35,8 +38,8 @@ computing b at i rd e = absurd cc
 
 module _ (b : BundlePlace) (at : ℕ) where
   plain_safe : (i : Instr) → is_clean_alone b at (outline i) ≡ true → IsSafe b at i
-  plain_safe (Load kind rd rs1 imm) h = record { ecall = refl; access = not_from_true (may_access rs1) (and_parts (not (is_reserved_or_typed rd)) (may_access rs1) h).1; jump = refl; target = refl }
-  plain_safe (Store width rs1 rs2 imm) h = record { ecall = refl; access = not_from_true (may_access rs1) h; jump = refl; target = refl }
+  plain_safe (Load kind rd rs1 imm) h = record { ecall = refl; access = not_from_true (may_access b.format rs1) (and_parts (not (is_reserved_or_typed rd)) (may_access b.format rs1) h).1; jump = refl; target = refl }
+  plain_safe (Store width rs1 rs2 imm) h = record { ecall = refl; access = not_from_true (may_access b.format rs1) h; jump = refl; target = refl }
   plain_safe (Branch cond rs1 rs2 offset) h = record { ecall = refl; access = refl; jump = refl; target = not_from_true (is_word_start b.code_base b.code_size (offset_by at offset)) h }
   plain_safe (Jal rd offset) h =
       record { ecall = refl; access = refl; jump = refl; target = not_from_true (is_word_start b.code_base b.code_size (offset_by at offset)) (and_parts (not (is_reserved_or_typed rd)) (is_word_start b.code_base b.code_size (offset_by at offset)) h).1 }
@@ -50,22 +53,22 @@ module _ (b : BundlePlace) (at : ℕ) where
   plain_unkept (OpImm op rd rs1 imm) h = not-true (is_reserved_or_typed rd) h
   plain_unkept (Lui rd imm) h = not-true (is_reserved_or_typed rd) h
   plain_unkept (Auipc rd imm) h = not-true (is_reserved_or_typed rd) h
-  plain_unkept (Load kind rd rs1 imm) h = not-true (is_reserved_or_typed rd) (and_parts (not (is_reserved_or_typed rd)) (may_access rs1) h).0
+  plain_unkept (Load kind rd rs1 imm) h = not-true (is_reserved_or_typed rd) (and_parts (not (is_reserved_or_typed rd)) (may_access b.format rs1) h).0
   plain_unkept (Jal rd offset) h = not-true (is_reserved_or_typed rd) (and_parts (not (is_reserved_or_typed rd)) (is_word_start b.code_base b.code_size (offset_by at offset)) h).0
   plain_unkept (Jalr rd rs1 imm) h = not-true (is_reserved_or_typed rd) (and_parts (not (is_reserved_or_typed rd)) (is_zero imm && (rs1 == 30)) h).0
   plain_unkept i h = refl
 
   pub plain : (size : ℕ) (i : Instr) → IsBeforeEnd b at size → is_clean_alone b at (outline i) ≡ true → IsQuiet b at size Nothing i Nothing
-  plain size i before h = quiet_where b at size before Nothing Nothing Nothing i (plain_safe i h) (unkept i (plain_unkept i h)) refl
+  plain size i before h = quiet_where b at size before Nothing Nothing Nothing i (plain_safe i h) (unkept b.format i (plain_unkept i h)) refl
 
   -- it uses the register after its step
-  left_used : (d : ℕ) (i : Instr) → uses d i ≡ true → left (MaskOrUse d) i ≡ Some Nothing
-  left_used d (Load kind rd rs1 imm) u = rw u refl
-  left_used d (Store width rs1 rs2 imm) u = rw u refl
+  left_used : (d : ℕ) (i : Instr) → uses d i ≡ true → left b.format (MaskOrUse d) i ≡ Some Nothing
+  left_used d (Load kind rd rs1 imm) u = rw (two_steps b.format, u) refl
+  left_used d (Store width rs1 rs2 imm) u = rw (two_steps b.format, u) refl
   left_used d i u = absurd cc
 
   pub used : (size d : ℕ) (i : Instr) → IsBeforeEnd b at size → uses d i ≡ true → is_clean_alone b at (outline i) ≡ true → IsQuiet b at size (MaskOrUse d) i Nothing
-  used size d i before u h = quiet_where b at size before (MaskOrUse d) Nothing Nothing i (plain_safe i h) (unkept i (plain_unkept i h)) (left_used d i u)
+  used size d i before u h = quiet_where b at size before (MaskOrUse d) Nothing Nothing i (plain_safe i h) (unkept b.format i (plain_unkept i h)) (left_used d i u)
 
 -- ==== The words of pairs, and what owes something itself: each breaks no rule where what is owed is met.
 
@@ -80,39 +83,41 @@ placing d = Op Or d 31 26
 abbrev pub placing_code : Instr
 placing_code = Op Or 30 30 24
 
-masking_write : (a : ℕ) → IsWrite (masking a) Nothing
-masking_write a = record { reserved = refl; offset = refl; own_is = refl }
+masking_write : (f : Format) (a : ℕ) → IsWrite f (masking a) Nothing
+masking_write f a = record { reserved = refl; offset = rw (two_steps f) refl; own_is = rw (two_steps f) refl }
 
 same : (d : ℕ) → (d == d) ≡ true
 same d = eq-eqb d d refl
 
-placing_write : (d : ℕ) → is_data_register d ≡ true → IsWrite (placing d) Nothing
-placing_write d h = typed (placing d) d Nothing refl (or_left (is_data_register d) (d == 30) h) (rw (h, same d) refl)
+placing_write : (f : Format) (d : ℕ) → is_data_register d ≡ true → IsWrite f (placing d) Nothing
+placing_write f d h =
+    let has = data_registers f d ∙ h in
+    typed f (placing d) d Nothing refl (or_left (is_data_register_in f d) (d == 30) has) (rw (has, two_steps f, same d) refl)
 
 module _ (b : BundlePlace) (at size : ℕ) (before : IsBeforeEnd b at size) where
   pub masked : (a : ℕ) → IsQuiet b at size Nothing (masking a) Nothing
-  masked a = quiet_where b at size before Nothing Nothing Nothing (masking a) (computing b at (masking a) 31 refl).safe (masking_write a) refl
+  masked a = quiet_where b at size before Nothing Nothing Nothing (masking a) (computing b at (masking a) 31 refl).safe (masking_write b.format a) refl
 
   pub masked_owed : (d : ℕ) → IsQuiet b at size (Mask d) (masking d) (PlaceOnly d)
-  masked_owed d = quiet_where b at size before (Mask d) (PlaceOnly d) Nothing (masking d) (computing b at (masking d) 31 refl).safe (masking_write d) (rw (same d) refl)
+  masked_owed d = quiet_where b at size before (Mask d) (PlaceOnly d) Nothing (masking d) (computing b at (masking d) 31 refl).safe (masking_write b.format d) (rw (two_steps b.format, same d) refl)
 
   pub masked_or_used : (d : ℕ) → IsQuiet b at size (MaskOrUse d) (masking d) (PlaceOnly d)
-  masked_or_used d = quiet_where b at size before (MaskOrUse d) (PlaceOnly d) Nothing (masking d) (computing b at (masking d) 31 refl).safe (masking_write d) (rw (same d) refl)
+  masked_or_used d = quiet_where b at size before (MaskOrUse d) (PlaceOnly d) Nothing (masking d) (computing b at (masking d) 31 refl).safe (masking_write b.format d) (rw (two_steps b.format, same d) refl)
 
   pub placed : (d : ℕ) → is_data_register d ≡ true → IsQuiet b at size Nothing (placing d) Nothing
-  placed d h = quiet_where b at size before Nothing Nothing Nothing (placing d) (computing b at (placing d) d refl).safe (placing_write d h) refl
+  placed d h = quiet_where b at size before Nothing Nothing Nothing (placing d) (computing b at (placing d) d refl).safe (placing_write b.format d h) refl
 
   pub placed_owed : (d : ℕ) → is_data_register d ≡ true → IsQuiet b at size (PlaceOnly d) (placing d) Nothing
-  placed_owed d h = quiet_where b at size before (PlaceOnly d) Nothing Nothing (placing d) (computing b at (placing d) d refl).safe (placing_write d h) (rw (same d) refl)
+  placed_owed d h = quiet_where b at size before (PlaceOnly d) Nothing Nothing (placing d) (computing b at (placing d) d refl).safe (placing_write b.format d h) (rw (two_steps b.format, same d) refl)
 
   pub code_owed : IsQuiet b at size Code placing_code Nothing
   code_owed = quiet_where b at size before Code Nothing Nothing placing_code (computing b at placing_code 30 refl).safe (record { reserved = refl; offset = refl; own_is = refl }) refl
 
   -- what computes into a typed register, and owes what can be told
-  pub owing : (rd : ℕ) (i : Instr) (next : Owed) → outline i ≡ Computes rd → (is_data_register rd || (rd == 30)) ≡ true → owed_by i ≡ Some next → IsQuiet b at size Nothing i next
+  pub owing : (rd : ℕ) (i : Instr) (next : Owed) → outline i ≡ Computes rd → (is_data_register_in b.format rd || (rd == 30)) ≡ true → owed_by b.format i ≡ Some next → IsQuiet b at size Nothing i next
   owing rd i next e h own =
       let c = computing b at i rd e in
-      quiet_where b at size before Nothing Nothing next i c.safe (typed i rd next c.writes h own) refl
+      quiet_where b at size before Nothing Nothing next i c.safe (typed b.format i rd next c.writes h own) refl
 
   -- a step of a data register
   pub stepping : (d : ℕ) (i : Instr) → is_data_register d ≡ true → is_pointer_step d i ≡ true → IsQuiet b at size Nothing i (MaskOrUse d)
@@ -120,7 +125,8 @@ module _ (b : BundlePlace) (at size : ℕ) (before : IsBeforeEnd b at size) wher
       let both = and_parts (rd == d) (rs1 == d) s in
       let one : rd ≡ d = eqb-true rd d both.0 in
       let two : rs1 ≡ d = eqb-true rs1 d both.1 in
-      owing d (OpImm Addi rd rs1 imm) (MaskOrUse d) (ap Computes one) (or_left (is_data_register d) (d == 30) h) (rw (one, two, h, same d) refl)
+      let has = data_registers b.format d ∙ h in
+      owing d (OpImm Addi rd rs1 imm) (MaskOrUse d) (ap Computes one) (or_left (is_data_register_in b.format d) (d == 30) has) (rw (one, two, has, two_steps b.format, same d) refl)
   stepping d i h s = absurd cc
 
 -- ==== What the look at a word tells, and that a word of which it tells has no findings.
@@ -148,15 +154,15 @@ module _ (b : BundlePlace) (at : ℕ) (before : IsBeforeEnd b at 4) where
   plain_by word o outline that is false h = tt
   plain_by word o outline that is true h = plain_told word o (subst (λ (x : Option Outline). IfSome x (IsWordThat word)) is that) h
 
-  access_plain : (i : Instr) (a : Access) → access i ≡ Some a → is_reserved_or_typed a.written ≡ false → may_access a.base ≡ true → is_clean_alone b at (outline i) ≡ true
+  access_plain : (i : Instr) (a : Access) → access i ≡ Some a → is_reserved_or_typed a.written ≡ false → may_access b.format a.base ≡ true → is_clean_alone b at (outline i) ≡ true
   access_plain (Load kind rd rs1 imm) a e f g =
       let written : a.written ≡ rd = ap written_of (sym e) in
       let base : a.base ≡ rs1 = ap base_of (sym e) in
-      and_from (not (is_reserved_or_typed rd)) (may_access rs1) (not_from_false (is_reserved_or_typed rd) (subst (λ (r : ℕ). is_reserved_or_typed r ≡ false) written f)) (subst (λ (r : ℕ). may_access r ≡ true) base g)
-  access_plain (Store width rs1 rs2 imm) a e f g = let base : a.base ≡ rs1 = ap base_of (sym e) in subst (λ (r : ℕ). may_access r ≡ true) base g
+      and_from (not (is_reserved_or_typed rd)) (may_access b.format rs1) (not_from_false (is_reserved_or_typed rd) (subst (λ (r : ℕ). is_reserved_or_typed r ≡ false) written f)) (subst (λ (r : ℕ). may_access b.format r ≡ true) base g)
+  access_plain (Store width rs1 rs2 imm) a e f g = let base : a.base ≡ rs1 = ap base_of (sym e) in subst (λ (r : ℕ). may_access b.format r ≡ true) base g
   access_plain i a e f g = absurd cc
 
-  pub access_told : (word : ℕ) (a : Access) → IsAccessOf word a → is_reserved_or_typed a.written ≡ false → may_access a.base ≡ true → IsQuietThere b at Nothing word Nothing
+  pub access_told : (word : ℕ) (a : Access) → IsAccessOf word a → is_reserved_or_typed a.written ≡ false → may_access b.format a.base ≡ true → IsQuietThere b at Nothing word Nothing
   access_told word a that f g = record { instr = that.instr; spelled = that.spelled; quiet = plain b at 4 that.instr before (access_plain that.instr a that.accesses f g) }
 
   pub use_told : (word d : ℕ) (i : Instr) → IsWordOf word i → uses d i ≡ true → (o : Outline) → o ≡ outline i → (r : Bool) → OnTrue r (is_clean_alone b at o ≡ true) → OnTrue r (IsQuietThere b at (MaskOrUse d) word Nothing)
@@ -167,7 +173,7 @@ module _ (b : BundlePlace) (at : ℕ) (before : IsBeforeEnd b at 4) where
   free_told word rd that h = plain_told word (Computes rd) that (not_from_false (is_reserved_or_typed rd) h)
 
   -- a word that computes into a typed register, where what it owes can be told
-  pub owing_told : (word rd : ℕ) (i : Instr) → IsWordThat word (Computes rd) → IsWordOf word i → (is_data_register rd || (rd == 30)) ≡ true → (own : Option Owed) → own ≡ owed_by i → IfSome own (IsQuietThere b at Nothing word)
+  pub owing_told : (word rd : ℕ) (i : Instr) → IsWordThat word (Computes rd) → IsWordOf word i → (is_data_register_in b.format rd || (rd == 30)) ≡ true → (own : Option Owed) → own ≡ owed_by b.format i → IfSome own (IsQuietThere b at Nothing word)
   owing_told word rd i that is h None e = tt
   owing_told word rd i that is h (Some next) e =
       let same : i ≡ that.instr = one_spelling word i that.instr is that.spelled in
@@ -185,7 +191,7 @@ finding b at size owed i = found_at b at (lowest (record { bundle = b; address =
 pub found_wide : (b : BundlePlace) (at : ℕ) (owed : Owed) (word : List ℕ) (next : Owed) → length word ≡ 4 → IsQuietThere b at owed (word_at word 0) next → IsWordFound b at owed word [] next
 found_wide b at owed word next whole q =
     let spelled : Spells (take 4 word) q.instr 4 = inr (record { size = refl; all = omega (arith, length-take 4 word, whole); spelled = q.spelled }) in
-    let found : IsWordFound b at owed word (finding b at 4 owed q.instr) (owed_next owed q.instr) = word_wide b at owed word whole q.instr 4 spelled refl in
+    let found : IsWordFound b at owed word (finding b at 4 owed q.instr) (owed_next b.format owed q.instr) = word_wide b at owed word whole q.instr 4 spelled refl in
     subst (λ (l : List Finding). IsWordFound b at owed word l next) (ap (found_at b at) q.quiet.none)
     (subst (λ (o : Owed). IsWordFound b at owed word (finding b at 4 owed q.instr) o) (sym q.quiet.next_is) found)
 
@@ -195,12 +201,12 @@ found_halves b at word whole before x y =
     let two : IsQuiet b (at + 2) 2 Nothing y.instr Nothing = plain b (at + 2) 2 y.instr (omega (arith, before)) y.plain in
     let s : Spells (take 2 word) x.instr 2 = inl (record { size = refl; all = omega (arith, length-take 2 word, whole); spelled = x.spelled }) in
     let t : Spells (take 2 (drop 2 word)) y.instr 2 = inl (record { size = refl; all = omega (arith, length-take 2 (drop 2 word), length-drop 2 word, whole); spelled = y.spelled }) in
-    let second : finding b (at + 2) 2 (owed_next Nothing x.instr) y.instr ≡ [] = ap (λ (o : Owed). finding b (at + 2) 2 o y.instr) (sym one.next_is) ∙ ap (found_at b (at + 2)) two.none in
-    let none : (finding b at 2 Nothing x.instr ++ finding b (at + 2) 2 (owed_next Nothing x.instr) y.instr) ≡ [] = ap₂ (λ (l m : List Finding). l ++ m) (ap (found_at b at) one.none) second in
-    let after : Nothing ≡ owed_next (owed_next Nothing x.instr) y.instr = two.next_is ∙ ap (λ (o : Owed). owed_next o y.instr) one.next_is in
-    let found : IsWordFound b at Nothing word (finding b at 2 Nothing x.instr ++ finding b (at + 2) 2 (owed_next Nothing x.instr) y.instr) (owed_next (owed_next Nothing x.instr) y.instr) = word_two b at Nothing word whole x.instr 2 s refl y.instr 2 t in
+    let second : finding b (at + 2) 2 (owed_next b.format Nothing x.instr) y.instr ≡ [] = ap (λ (o : Owed). finding b (at + 2) 2 o y.instr) (sym one.next_is) ∙ ap (found_at b (at + 2)) two.none in
+    let none : (finding b at 2 Nothing x.instr ++ finding b (at + 2) 2 (owed_next b.format Nothing x.instr) y.instr) ≡ [] = ap₂ (λ (l m : List Finding). l ++ m) (ap (found_at b at) one.none) second in
+    let after : Nothing ≡ owed_next b.format (owed_next b.format Nothing x.instr) y.instr = two.next_is ∙ ap (λ (o : Owed). owed_next b.format o y.instr) one.next_is in
+    let found : IsWordFound b at Nothing word (finding b at 2 Nothing x.instr ++ finding b (at + 2) 2 (owed_next b.format Nothing x.instr) y.instr) (owed_next b.format (owed_next b.format Nothing x.instr) y.instr) = word_two b at Nothing word whole x.instr 2 s refl y.instr 2 t in
     subst (λ (l : List Finding). IsWordFound b at Nothing word l Nothing) none
-    (subst (λ (o : Owed). IsWordFound b at Nothing word (finding b at 2 Nothing x.instr ++ finding b (at + 2) 2 (owed_next Nothing x.instr) y.instr) o) (sym after) found)
+    (subst (λ (o : Owed). IsWordFound b at Nothing word (finding b at 2 Nothing x.instr ++ finding b (at + 2) 2 (owed_next b.format Nothing x.instr) y.instr) o) (sym after) found)
 
 pub wide_told : (b : BundlePlace) (at : ℕ) (owed : Owed) (word : List ℕ) (w : ℕ) (r : Option Owed) → length word ≡ 4 → w ≡ word_at word 0 → IfSome r (IsQuietThere b at owed w) → IfSome r (IsWordFound b at owed word [])
 wide_told b at owed word w None whole e h = tt

@@ -3,18 +3,24 @@ use Rattle.sfi_scan.proofs.Prelude.{◌≡◌, ℕ, Bool, true, false, ◌&&◌,
 use Rattle.std.proofs.lemmas.Bool.{and_left, or_from}
 use Rattle.rv_word.specs.Outlines.{is_register}
 use Rattle.sfi_pairs.specs.Pairs.{is_masking}
-use Rattle.sfi_rules.specs.Rules.{breaks_reserved, is_reserved_one, ends_region}
-use Rattle.sfi_rules.specs.words.Rules.{owed_of, breaks_offset, joined, is_of_data, is_of_code, breaks_ecall, breaks_access, breaks_jump, breaks_target}
+use Rattle.sfi_rules.specs.Rules.{ends_region}
+use Rattle.sfi_rules.specs.words.Rules.{owed_of, breaks_reserved, is_reserved_one, breaks_offset, joined, is_of_data, is_of_code, breaks_ecall, breaks_access, breaks_jump, breaks_target}
 use Rattle.sfi_rules.specs.words.Findings.{is_at_gate, is_data_one}
 use Rattle.sfi_rules.proofs.Facts.{none_of}
+use Rattle.sfi_formats.specs.declared.format.Format.{Format}
+use Rattle.sfi_formats.specs.Formats.{has_one_step, is_data_register_in, is_reserved_in}
+use Rattle.sfi_formats.proofs.Formats.{data_registers}
 
 -- ==== What an instruction writes: a register that is free, or a typed one and what it then owes.
 
 -- the instruction breaks neither V4 nor V12, and `own` must come after it
-pub record IsWrite (i : Instr) (own : Owed) : Type 0 where
-  pub reserved : breaks_reserved i ≡ false
-  pub offset : breaks_offset i ≡ false
-  pub own_is : owed_by i ≡ Some own
+pub record IsWrite (f : Format) (i : Instr) (own : Owed) : Type 0 where
+  pub reserved : breaks_reserved f i ≡ false
+  pub offset : breaks_offset f i ≡ false
+  pub own_is : owed_by f i ≡ Some own
+
+not_reserved : (f : Format) (r : ℕ) → is_reserved r ≡ false → is_reserved_in f r ≡ false
+not_reserved f r h = and_left (is_reserved r) (not (is_data_register_in f r)) h
 
 -- ---- a register that isn't kept
 
@@ -35,25 +41,33 @@ abbrev pub is_reserved_or_typed_one : Option ℕ → Bool
 is_reserved_or_typed_one None = false
 is_reserved_or_typed_one (Some r) = is_reserved_or_typed r
 
-owes_none : (r : ℕ) (i : Instr) → IsFree r → owed_of (Some r) i ≡ Some Nothing
-owes_none r i f = rw (f.not_data, f.code) refl
+owes_none : (f : Format) (r : ℕ) (i : Instr) → IsFree r → owed_of f (Some r) i ≡ Some Nothing
+owes_none f r i free = rw (data_registers f r ∙ free.not_data, free.code) refl
+
+breaks_offset_of : Format → Instr → Option ℕ → Bool
+breaks_offset_of f i d = is_register 31 d && not (has_one_step f || is_masking 27 31 i)
+
+no_offset : (f : Format) (i : Instr) (r : ℕ) → destination i ≡ Some r → (r == 31) ≡ false → breaks_offset f i ≡ false
+unfolding breaks_offset_of
+no_offset f i r e other = ap (breaks_offset_of f i) e ∙ and_left (r == 31) (not (has_one_step f || is_masking 27 31 i)) other
 
 -- an instruction that writes none that is kept owes nothing
-pub unkept : (i : Instr) → is_reserved_or_typed_one (destination i) ≡ false → IsWrite i Nothing
-unkept i h = by (destination i) refl h
+pub unkept : (f : Format) (i : Instr) → is_reserved_or_typed_one (destination i) ≡ false → IsWrite f i Nothing
+unfolding breaks_offset_of
+unkept f i h = by (destination i) refl h
   where
-    by : (d : Option ℕ) → destination i ≡ d → is_reserved_or_typed_one d ≡ false → IsWrite i Nothing
+    by : (d : Option ℕ) → destination i ≡ d → is_reserved_or_typed_one d ≡ false → IsWrite f i Nothing
     by None e h = record {
-      reserved = ap is_reserved_one e;
-      offset = ap (λ (d : Option ℕ). is_register 31 d && not (is_masking 27 31 i)) e;
-      own_is = ap (λ (d : Option ℕ). owed_of d i) e;
+      reserved = ap (is_reserved_one f) e;
+      offset = ap (breaks_offset_of f i) e;
+      own_is = ap (λ (d : Option ℕ). owed_of f d i) e;
     }
     by (Some r) e h =
-        let f = free r h in
+        let c = free r h in
         record {
-          reserved = ap is_reserved_one e ∙ f.reserved;
-          offset = ap (λ (d : Option ℕ). is_register 31 d && not (is_masking 27 31 i)) e ∙ and_left (r == 31) (not (is_masking 27 31 i)) f.offset;
-          own_is = ap (λ (d : Option ℕ). owed_of d i) e ∙ owes_none r i f;
+          reserved = ap (is_reserved_one f) e ∙ not_reserved f r c.reserved;
+          offset = no_offset f i r e c.offset;
+          own_is = ap (λ (d : Option ℕ). owed_of f d i) e ∙ owes_none f r i c;
         }
 
 -- ---- a typed one
@@ -74,19 +88,19 @@ data_typed r h = by (r == 2) (r == 3) (r == 4) refl refl refl h
     by false false true e f g h = at_number r 4 g (record { reserved = refl; offset = refl })
     by false false false e f g h = at_number r 29 h (record { reserved = refl; offset = refl })
 
-is_typed : (r : ℕ) → (is_data_register r || (r == 30)) ≡ true → IsTyped r
-is_typed r h = by (is_data_register r) refl h
+is_typed : (f : Format) (r : ℕ) → (is_data_register_in f r || (r == 30)) ≡ true → IsTyped r
+is_typed f r h = by (is_data_register_in f r) refl h
   where
-    by : (a : Bool) → is_data_register r ≡ a → (a || (r == 30)) ≡ true → IsTyped r
-    by true e h = data_typed r e
+    by : (a : Bool) → is_data_register_in f r ≡ a → (a || (r == 30)) ≡ true → IsTyped r
+    by true e h = data_typed r (sym (data_registers f r) ∙ e)
     by false e h = at_number r 30 h (record { reserved = refl; offset = refl })
 
-pub typed : (i : Instr) (r : ℕ) (own : Owed) → destination i ≡ Some r → (is_data_register r || (r == 30)) ≡ true → owed_by i ≡ Some own → IsWrite i own
-typed i r own e h owes =
-    let t = is_typed r h in
+pub typed : (f : Format) (i : Instr) (r : ℕ) (own : Owed) → destination i ≡ Some r → (is_data_register_in f r || (r == 30)) ≡ true → owed_by f i ≡ Some own → IsWrite f i own
+typed f i r own e h owes =
+    let t = is_typed f r h in
     record {
-      reserved = ap is_reserved_one e ∙ t.reserved;
-      offset = ap (λ (d : Option ℕ). is_register 31 d && not (is_masking 27 31 i)) e ∙ and_left (r == 31) (not (is_masking 27 31 i)) t.offset;
+      reserved = ap (is_reserved_one f) e ∙ not_reserved f r t.reserved;
+      offset = no_offset f i r e t.offset;
       own_is = owes;
     }
 
@@ -95,7 +109,7 @@ typed i r own e h owes =
 -- the instruction breaks none of V3, V5, V6 and V7 at the address
 pub record IsSafe (b : BundlePlace) (at : ℕ) (i : Instr) : Type 0 where
   pub ecall : breaks_ecall (is_at_gate b at) i ≡ false
-  pub access : breaks_access i ≡ false
+  pub access : breaks_access b.format i ≡ false
   pub jump : breaks_jump i ≡ false
   pub target : breaks_target b.code_base b.code_size at i ≡ false
 
@@ -109,10 +123,10 @@ module _ (b : BundlePlace) (at size : ℕ) (before : IsBeforeEnd b at size) wher
 
   -- an instruction that meets what was owed, of which `rest` is left, and after which `own` must
   -- come, is quiet
-  pub quiet_where : (o rest own : Owed) (i : Instr) → IsSafe b at i → IsWrite i own → left o i ≡ Some rest → IsQuiet b at size o i (joined (Some rest) (Some own))
+  pub quiet_where : (o rest own : Owed) (i : Instr) → IsSafe b at i → IsWrite b.format i own → left b.format o i ≡ Some rest → IsQuiet b at size o i (joined (Some rest) (Some own))
   quiet_where o rest own i safe write e =
-      let there : is_some (left o i) ≡ true = ap is_some e in
-      let owes : is_some (owed_by i) ≡ true = ap is_some write.own_is in
+      let there : is_some (left b.format o i) ≡ true = ap is_some e in
+      let owes : is_some (owed_by b.format i) ≡ true = ap is_some write.own_is in
       record {
         none = none_of (record { bundle = b; address = at; owed = o; instr = i; size = size })
             (record {
@@ -122,8 +136,8 @@ module _ (b : BundlePlace) (at size : ℕ) (before : IsBeforeEnd b at size) wher
               v6 = safe.jump;
               v7 = safe.target;
               v8 = and_left (at + size == b.code_base + b.code_size) (not (ends_region i)) before_end;
-              v10 = met (is_of_data o) (is_data_one (destination i)) (left o i) (owed_by i) there owes;
-              v11 = met (is_of_code o) (is_register 30 (destination i)) (left o i) (owed_by i) there owes;
+              v10 = met (is_of_data o) (is_data_one b.format (destination i)) (left b.format o i) (owed_by b.format i) there owes;
+              v11 = met (is_of_code o) (is_register 30 (destination i)) (left b.format o i) (owed_by b.format i) there owes;
               v12 = write.offset;
             });
         next_is = sym (ap₂ joined e write.own_is);

@@ -82,29 +82,9 @@ fn scan_doubtful_bundles<F: FindingSink>(
     }
 }
 
-/// Scans the block's bundles from number `from` on.
-#[inline(always)]
-fn scan_block<F: FindingSink>(
-    place: &BundlePlace,
-    block: &[u8; BLOCK_BYTES],
-    from: usize,
-    sink: &mut F,
-    findings: &mut BundleFindings,
-)
-    requires within { IsWithinBlock place.now }
-    requires unlisted { place.now.listed ≡ false }
-    requires inside { from < 8 }
-    ensures { IsBlockScanned F.takes place.now block.now from sink.old sink.new }
-{
-    let clean = clean_bundles(place, block);
-    if clean != u8::MAX {
-        scan_doubtful_bundles(place, block, from, clean, sink, findings);
-    }
-}
-
 /// Whether none of the eight bundles from `place` on is its region's last.
 #[inline(always)]
-fn is_before_last(place: &BundlePlace) -> bool
+fn is_within_block(place: &BundlePlace) -> bool
     requires { IsWithin place.now }
     ensures { OnTrue result (IsWithinBlock place.now) }
 {
@@ -147,7 +127,7 @@ pub(crate) fn block_start<const BLOCKS: bool>(
     if first.listed {
         return None;
     }
-    if !is_before_last(&first) {
+    if !is_within_block(&first) {
         return None;
     }
     Some(start)
@@ -171,7 +151,10 @@ fn scan_next_bundles<F: FindingSink, const BLOCKS: bool>(
         let first = place_after(place, start);
         let block = bytes_from::<BLOCK_BYTES>(code, start);
         let from = (at - start) / BUNDLE_BYTES;
-        scan_block(&first, block, from, sink, findings);
+        let clean = clean_bundles(&first, block);
+        if clean != u8::MAX {
+            scan_doubtful_bundles(&first, block, from, clean, sink, findings);
+        }
         return start + BLOCK_BYTES;
     }
     let bundle = bytes_from::<BUNDLE_BYTES>(code, at);

@@ -23,7 +23,7 @@ use Rattle.sfi_rules.specs.declared.owed.Owed.TheVariants.{Nothing}
 
 -- ==== The first look at a word of code in words.
 
--- the register is reserved or typed
+-- the register is reserved or typed, which it then is in each format of words
 abbrev pub is_reserved_or_typed : ℕ → Bool
 is_reserved_or_typed r = is_reserved r || is_data_register r || (r == code_register) || (r == offset_register)
 
@@ -31,8 +31,8 @@ is_reserved_or_typed r = is_reserved r || is_data_register r || (r == code_regis
 -- to V7 and V10 to V12, and leaves nothing owed
 abbrev pub is_clean_alone : BundlePlace → ℕ → Outline → Bool
 is_clean_alone b at (Computes rd) = not (is_reserved_or_typed rd)
-is_clean_alone b at (Loads rd base) = not (is_reserved_or_typed rd) && may_access base
-is_clean_alone b at (Stores base) = may_access base
+is_clean_alone b at (Loads rd base) = not (is_reserved_or_typed rd) && may_access b.format base
+is_clean_alone b at (Stores base) = may_access b.format base
 is_clean_alone b at (Branches offset) = is_word_start b.code_base b.code_size (offset_by at offset)
 is_clean_alone b at (Jumps rd offset) =
     not (is_reserved_or_typed rd) && is_word_start b.code_base b.code_size (offset_by at offset)
@@ -51,7 +51,7 @@ pub record IsQuiet (b : BundlePlace) (at size : ℕ) (owed : Owed) (instr : Inst
     : Type 0 where
   pub none :
       lowest (record { bundle = b; address = at; owed = owed; instr = instr; size = size }) ≡ None
-  pub next_is : next ≡ owed_next owed instr
+  pub next_is : next ≡ owed_next b.format owed instr
 
 -- the word spells an instruction that breaks no rule at the address, with `owed` before it and
 -- `next` after it

@@ -10,7 +10,7 @@ ghost use Rattle.rv_word.specs.declared.instr.Instr.TheVariants.{Op};
 ghost use Rattle.rv_word.specs.declared.instr.RegOp.TheVariants.{And, Or};
 ghost use Rattle.rv_word.specs.declared.outline.Outline.TheVariants.{Computes};
 ghost use Rattle.sfi_image.specs.declared.bundle.BundlePlace.{BundlePlace};
-ghost use Rattle.sfi_formats.specs.Formats.{is_data_register};
+ghost use Rattle.sfi_formats.specs.Formats.{is_data_register, is_data_register_in};
 ghost use Rattle.sfi_rules.specs.Readings.{IsWithin};
 ghost use Rattle.sfi_rules.specs.declared.owed.Owed.TheVariants.{Nothing, MaskOrUse};
 ghost use Rattle.sfi_rules.specs.words.Findings.{IsWordFound};
@@ -26,12 +26,14 @@ use rv_word::{
     Outline, Reg, RegOp, access32, computes32, decode32, op_word, outline_of, outline32,
 };
 use sfi_formats::{
-    CODE_BASE_REGISTER, CODE_REGISTER, DATA_BASE_REGISTER, DATA_MASK_REGISTER, OFFSET_REGISTER,
+    CODE_BASE_REGISTER, CODE_REGISTER, DATA_BASE_REGISTER, DATA_MASK_REGISTER, Format,
+    OFFSET_REGISTER,
 };
-use sfi_pairs::{is_data_register, is_reserved, is_use};
+use sfi_pairs::{is_data_register, is_data_register_in, is_reserved, is_use};
 use sfi_rules::{BundlePlace, Owed};
 
-/// Whether the register is reserved or typed: a write of it has rules of its own.
+/// Whether the register is reserved or typed, which it then is in each format of words: a write of it has
+/// rules of its own.
 #[inline(always)]
 fn is_reserved_or_typed(reg: Reg) -> bool
     ensures { result ≡ is_reserved_or_typed reg }
@@ -66,8 +68,9 @@ fn is_clean_alone(place: &BundlePlace, address: u32, outline: Outline) -> bool
 {
     match outline {
         Outline::Computes { rd } => !is_reserved_or_typed(rd),
-        Outline::Loads { rd, base } => !is_reserved_or_typed(rd) && is_access_base(base),
-        Outline::Stores { base } => is_access_base(base),
+        Outline::Loads { rd, base } => !is_reserved_or_typed(rd)
+            && is_access_base(place.format, base),
+        Outline::Stores { base } => is_access_base(place.format, base),
         Outline::Branches { offset } => is_word_start(place, offset_by(address, offset)),
         Outline::Jumps { rd, offset } => {
             !is_reserved_or_typed(rd) && is_word_start(place, offset_by(address, offset))
@@ -115,14 +118,14 @@ fn is_data_placing_word(d: Reg, word: u32) -> bool
 }
 
 /// What is owed after a word that computes into a data register or x30.
-fn after_typed(word: u32) -> Option<Owed>
+fn after_typed(format: Format, word: u32) -> Option<Owed>
     requires computes { IsWordThat word (Computes (bits word 11 7)) }
-    requires typed { (is_data_register (bits word 11 7) || (bits word 11 7 == 30)) ≡ true }
-    ensures { (b : BundlePlace) (at : ℕ) → IsBeforeEnd b at 4 →
+    requires typed { (is_data_register_in format (bits word 11 7) || (bits word 11 7 == 30)) ≡ true }
+    ensures { (b : BundlePlace) (at : ℕ) → b.format ≡ format → IsBeforeEnd b at 4 →
         IfSome result (IsQuietThere b at Nothing word) }
 {
     match decode32(word) {
-        Some(instr) => owed_by(&instr),
+        Some(instr) => owed_by(format, &instr),
         None => None,
     }
 }
@@ -130,9 +133,9 @@ fn after_typed(word: u32) -> Option<Owed>
 /// What is owed after a word that computes into a reserved or typed register; none where it isn't
 /// seen to break no rule.
 #[inline(never)]
-fn after_kept(word: u32) -> Option<Owed>
+fn after_kept(format: Format, word: u32) -> Option<Owed>
     requires { IsWordThat word (Computes (bits word 11 7)) }
-    ensures { (b : BundlePlace) (at : ℕ) → IsBeforeEnd b at 4 →
+    ensures { (b : BundlePlace) (at : ℕ) → b.format ≡ format → IsBeforeEnd b at 4 →
         IfSome result (IsQuietThere b at Nothing word) }
 {
     let rd = rd_of(word);
@@ -142,8 +145,8 @@ fn after_kept(word: u32) -> Option<Owed>
     if is_data_placing_word(rd, word) {
         return Some(Owed::Nothing);
     }
-    if is_data_register(rd) || rd.number() == CODE_REGISTER {
-        return after_typed(word);
+    if is_data_register_in(format, rd) || rd.number() == CODE_REGISTER {
+        return after_typed(format, word);
     }
     None
 }
@@ -206,7 +209,7 @@ fn after_other(place: &BundlePlace, address: u32, word: u32) -> Option<Owed>
             if is_reserved_or_typed(access.written) {
                 return None;
             }
-            if !is_access_base(access.base) {
+            if !is_access_base(place.format, access.base) {
                 return None;
             }
             Some(Owed::Nothing)
@@ -224,7 +227,7 @@ fn after_nothing(place: &BundlePlace, address: u32, word: u32) -> Option<Owed>
 {
     if computes32(word) {
         if is_reserved_or_typed(rd_of(word)) {
-            return after_kept(word);
+            return after_kept(place.format, word);
         }
         return Some(Owed::Nothing);
     }

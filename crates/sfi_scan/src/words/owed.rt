@@ -1,15 +1,15 @@
 //! What the next instructions owe: the state of a scan.
 ghost use Rattle.std.specs.Prelude.{◌≡◌};
 ghost use Rattle.rv_word.specs.Outlines.{destination};
-ghost use Rattle.sfi_rules.specs.words.Rules.{left, owed_by_data, owed_by_code, owed_by, owed_next, is_of_data, is_of_code};
+ghost use Rattle.sfi_rules.specs.words.Rules.{left, owed_by_mask, owed_by_data, owed_by_code, owed_by, owed_next, is_of_data, is_of_code};
 ghost use Rattle.sfi_rules.specs.words.Findings.{fails_data, fails_code, is_data_one};
 
 use crate::before::is_masking;
 use crate::rules::is_jump;
 use crate::words::rules::{is_code_placing, is_data_masking, is_data_placing, is_pointer_step};
 use rv_word::Instr;
-use sfi_formats::{CODE_MASK_REGISTER, CODE_REGISTER};
-use sfi_pairs::{is_data_register, is_use};
+use sfi_formats::{CODE_MASK_REGISTER, CODE_REGISTER, Format};
+use sfi_pairs::{is_data_register_in, is_use};
 use sfi_rules::Owed;
 
 /// Whether what is owed follows a write of a data register.
@@ -29,17 +29,28 @@ fn is_owed_by_code(owed: Owed) -> bool
     matches!(owed, Owed::Code)
 }
 
+/// What is owed after the first step of the mask of data register `d`.
+fn owed_by_mask(format: Format, d: u8) -> Owed
+    ensures { result ≡ owed_by_mask format d }
+{
+    if format.has_one_step() {
+        Owed::Nothing
+    } else {
+        Owed::PlaceOnly(d)
+    }
+}
+
 /// What is still owed after the instruction; none where it isn't an instruction that was owed.
-fn owed_still(owed: Owed, instr: &Instr) -> Option<Owed>
-    ensures { result ≡ left owed instr.now }
+fn owed_still(format: Format, owed: Owed, instr: &Instr) -> Option<Owed>
+    ensures { result ≡ left format owed instr.now }
 {
     match owed {
         Owed::Nothing => Some(Owed::Nothing),
-        Owed::Mask(d) => is_data_masking(d, instr).then_some(Owed::PlaceOnly(d)),
-        Owed::PlaceOnly(d) => is_data_placing(d, instr).then_some(Owed::Nothing),
+        Owed::Mask(d) => is_data_masking(format, d, instr).then_some(owed_by_mask(format, d)),
+        Owed::PlaceOnly(d) => is_data_placing(format, d, instr).then_some(Owed::Nothing),
         Owed::MaskOrUse(d) => {
-            if is_data_masking(d, instr) {
-                Some(Owed::PlaceOnly(d))
+            if is_data_masking(format, d, instr) {
+                Some(owed_by_mask(format, d))
             } else {
                 is_use(d, instr).then_some(Owed::Nothing)
             }
@@ -49,10 +60,10 @@ fn owed_still(owed: Owed, instr: &Instr) -> Option<Owed>
 }
 
 /// What must come after this write of data register `d`; none where nothing can make it right.
-fn owed_by_data(d: u8, instr: &Instr) -> Option<Owed>
-    ensures { result ≡ owed_by_data d instr.now }
+fn owed_by_data(format: Format, d: u8, instr: &Instr) -> Option<Owed>
+    ensures { result ≡ owed_by_data format d instr.now }
 {
-    if is_data_placing(d, instr) {
+    if is_data_placing(format, d, instr) {
         Some(Owed::Nothing)
     } else if is_jump(instr) {
         None
@@ -77,14 +88,14 @@ fn owed_by_code(instr: &Instr) -> Option<Owed>
 }
 
 /// What must come after the instruction, by what it writes; none where nothing can make it right.
-pub(crate) fn owed_by(instr: &Instr) -> Option<Owed>
-    ensures { result ≡ owed_by instr.now }
+pub(crate) fn owed_by(format: Format, instr: &Instr) -> Option<Owed>
+    ensures { result ≡ owed_by format instr.now }
 {
     match instr.writes() {
         None => Some(Owed::Nothing),
         Some(rd) => {
-            if is_data_register(rd) {
-                owed_by_data(rd.number(), instr)
+            if is_data_register_in(format, rd) {
+                owed_by_data(format, rd.number(), instr)
             } else if rd.number() == CODE_REGISTER {
                 owed_by_code(instr)
             } else {
@@ -95,11 +106,11 @@ pub(crate) fn owed_by(instr: &Instr) -> Option<Owed>
 }
 
 /// What is owed after the instruction, whether it meets what was owed before it or not.
-pub(crate) fn owed_next(owed: Owed, instr: &Instr) -> Owed
-    ensures { result ≡ owed_next owed instr.now }
+pub(crate) fn owed_next(format: Format, owed: Owed, instr: &Instr) -> Owed
+    ensures { result ≡ owed_next format owed instr.now }
 {
-    match owed_still(owed, instr) {
-        None | Some(Owed::Nothing) => match owed_by(instr) {
+    match owed_still(format, owed, instr) {
+        None | Some(Owed::Nothing) => match owed_by(format, instr) {
             None => Owed::Nothing,
             Some(own) => own,
         },
@@ -108,27 +119,27 @@ pub(crate) fn owed_next(owed: Owed, instr: &Instr) -> Owed
 }
 
 /// Whether the instruction breaks V10.
-pub(crate) fn fails_data(owed: Owed, instr: &Instr) -> bool
-    ensures { result ≡ fails_data owed instr.now }
+pub(crate) fn fails_data(format: Format, owed: Owed, instr: &Instr) -> bool
+    ensures { result ≡ fails_data format owed instr.now }
 {
-    (is_owed_by_data(owed) && owed_still(owed, instr).is_none())
-        || (writes_data(instr) && owed_by(instr).is_none())
+    (is_owed_by_data(owed) && owed_still(format, owed, instr).is_none())
+        || (writes_data(format, instr) && owed_by(format, instr).is_none())
 }
 
 /// Whether the instruction breaks V11.
-pub(crate) fn fails_code(owed: Owed, instr: &Instr) -> bool
-    ensures { result ≡ fails_code owed instr.now }
+pub(crate) fn fails_code(format: Format, owed: Owed, instr: &Instr) -> bool
+    ensures { result ≡ fails_code format owed instr.now }
 {
-    (is_owed_by_code(owed) && owed_still(owed, instr).is_none())
-        || (instr.writes_register(CODE_REGISTER) && owed_by(instr).is_none())
+    (is_owed_by_code(owed) && owed_still(format, owed, instr).is_none())
+        || (instr.writes_register(CODE_REGISTER) && owed_by(format, instr).is_none())
 }
 
 /// Whether the instruction writes a data register.
-fn writes_data(instr: &Instr) -> bool
-    ensures { result ≡ is_data_one (destination instr.now) }
+fn writes_data(format: Format, instr: &Instr) -> bool
+    ensures { result ≡ is_data_one format (destination instr.now) }
 {
     match instr.writes() {
-        Some(rd) => is_data_register(rd),
+        Some(rd) => is_data_register_in(format, rd),
         None => false,
     }
 }

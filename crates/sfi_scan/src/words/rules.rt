@@ -2,18 +2,19 @@
 ghost use Rattle.std.specs.Prelude.{◌≡◌};
 ghost use Rattle.sfi_pairs.specs.Pairs.{is_placing};
 ghost use Rattle.sfi_rules.specs.Readings.{IsWithin};
-ghost use Rattle.sfi_rules.specs.words.Rules.{places, masks, is_pointer_step, breaks_ecall, may_access, breaks_access, breaks_jump, is_word_start, breaks_target, breaks_offset};
+ghost use Rattle.sfi_rules.specs.words.Rules.{places, masks, is_pointer_step, breaks_ecall, breaks_reserved, may_access, breaks_access, breaks_jump, is_word_start, breaks_target, breaks_offset};
 ghost use Rattle.sfi_scan.specs.private.Scanning.{IsInside};
 ghost use Rattle.sfi_rules.specs.words.Findings.{breaks_last, is_at_gate, lowest};
 
 use crate::before::{is_masking, is_placing};
-use crate::rules::{breaks_reserved, ends_region, offset_by};
+use crate::rules::{ends_region, offset_by};
 use crate::words::owed::{fails_code, fails_data};
 use rv_word::{ImmOp, Instr, Reg, RegOp};
 use sfi_formats::{
-    CODE_BASE_REGISTER, CODE_REGISTER, DATA_BASE_REGISTER, DATA_MASK_REGISTER, OFFSET_REGISTER,
+    CODE_BASE_REGISTER, CODE_REGISTER, DATA_BASE_REGISTER, DATA_MASK_REGISTER, Format,
+    OFFSET_REGISTER,
 };
-use sfi_pairs::is_data_register;
+use sfi_pairs::{is_data_register_in, is_reserved_in};
 use sfi_rules::{BundlePlace, Owed, Rule};
 
 /// Whether the instruction is `or x30, x30, x24`.
@@ -23,10 +24,14 @@ pub(crate) fn is_code_placing(instr: &Instr) -> bool
     is_placing(CODE_BASE_REGISTER, CODE_REGISTER, instr)
 }
 
-/// Whether the instruction is `or d, x31, x26`, which puts an address of the data into `d`.
-pub(crate) fn is_data_placing(d: u8, instr: &Instr) -> bool
-    ensures { result ≡ places d instr.now }
+/// Whether the instruction is the last step of the mask of data register `d`: `or d, x31, x26`, which
+/// puts an address of the data into it, or `and d, a, x27` where a mask has one step.
+pub(crate) fn is_data_placing(format: Format, d: u8, instr: &Instr) -> bool
+    ensures { result ≡ places format d instr.now }
 {
+    if format.has_one_step() {
+        return is_masking(DATA_MASK_REGISTER, d, instr);
+    }
     match *instr {
         Instr::Op {
             op: RegOp::Or,
@@ -42,10 +47,14 @@ pub(crate) fn is_data_placing(d: u8, instr: &Instr) -> bool
     }
 }
 
-/// Whether the instruction is `and x31, d, x27`, which masks `d` to an offset in the data.
-pub(crate) fn is_data_masking(d: u8, instr: &Instr) -> bool
-    ensures { result ≡ masks d instr.now }
+/// Whether the instruction is the first step of the mask of data register `d`: `and x31, d, x27`, which
+/// masks it to an offset in the data, or `and d, a, x27` where a mask has one step.
+pub(crate) fn is_data_masking(format: Format, d: u8, instr: &Instr) -> bool
+    ensures { result ≡ masks format d instr.now }
 {
+    if format.has_one_step() {
+        return is_masking(DATA_MASK_REGISTER, d, instr);
+    }
     match *instr {
         Instr::Op {
             op: RegOp::And,
@@ -96,18 +105,28 @@ fn breaks_ecall_in_words(place: &BundlePlace, address: u32, instr: &Instr) -> bo
 }
 
 /// Whether an access may have this base register: a data register, or the data base.
-pub(crate) fn is_access_base(base: Reg) -> bool
-    ensures { result ≡ may_access base }
+pub(crate) fn is_access_base(format: Format, base: Reg) -> bool
+    ensures { result ≡ may_access format base }
 {
-    is_data_register(base) || base.number() == DATA_BASE_REGISTER
+    is_data_register_in(format, base) || base.number() == DATA_BASE_REGISTER
+}
+
+/// Whether the instruction breaks V4: it writes a reserved register.
+fn breaks_reserved_in_words(format: Format, instr: &Instr) -> bool
+    ensures { result ≡ breaks_reserved format instr.now }
+{
+    match instr.writes() {
+        Some(rd) => is_reserved_in(format, rd),
+        None => false,
+    }
 }
 
 /// Whether the instruction breaks V5: an access on another base register.
-fn breaks_access_in_words(instr: &Instr) -> bool
-    ensures { result ≡ breaks_access instr.now }
+fn breaks_access_in_words(format: Format, instr: &Instr) -> bool
+    ensures { result ≡ breaks_access format instr.now }
 {
     match *instr {
-        Instr::Load { rs1, .. } | Instr::Store { rs1, .. } => !is_access_base(rs1),
+        Instr::Load { rs1, .. } | Instr::Store { rs1, .. } => !is_access_base(format, rs1),
         _ => false,
     }
 }
@@ -144,12 +163,13 @@ fn breaks_target_in_words(place: &BundlePlace, address: u32, instr: &Instr) -> b
     }
 }
 
-/// Whether the instruction breaks V12: it writes x31, and isn't `and x31, a, x27`.
-fn breaks_offset(instr: &Instr) -> bool
-    ensures { result ≡ breaks_offset instr.now }
+/// Whether the instruction breaks V12: it writes x31, which holds an offset where a mask has two steps,
+/// and isn't `and x31, a, x27`.
+fn breaks_offset(format: Format, instr: &Instr) -> bool
+    ensures { result ≡ breaks_offset format instr.now }
 {
     instr.writes_register(OFFSET_REGISTER)
-        && !is_masking(DATA_MASK_REGISTER, OFFSET_REGISTER, instr)
+        && !(format.has_one_step() || is_masking(DATA_MASK_REGISTER, OFFSET_REGISTER, instr))
 }
 
 /// Whether the instruction breaks V8: it ends the code region, and control may run on past it.
@@ -185,11 +205,12 @@ pub(crate) fn lowest_rule_in_words(
       size = size;
     }) }
 {
+    let format = place.format;
     if breaks_ecall_in_words(place, address, instr) {
         Some(Rule::V3)
-    } else if breaks_reserved(instr) {
+    } else if breaks_reserved_in_words(format, instr) {
         Some(Rule::V4)
-    } else if breaks_access_in_words(instr) {
+    } else if breaks_access_in_words(format, instr) {
         Some(Rule::V5)
     } else if breaks_jump_in_words(instr) {
         Some(Rule::V6)
@@ -197,11 +218,11 @@ pub(crate) fn lowest_rule_in_words(
         Some(Rule::V7)
     } else if breaks_last(place, address, size, owed, instr) {
         Some(Rule::V8)
-    } else if fails_data(owed, instr) {
+    } else if fails_data(format, owed, instr) {
         Some(Rule::V10)
-    } else if fails_code(owed, instr) {
+    } else if fails_code(format, owed, instr) {
         Some(Rule::V11)
-    } else if breaks_offset(instr) {
+    } else if breaks_offset(format, instr) {
         Some(Rule::V12)
     } else {
         None

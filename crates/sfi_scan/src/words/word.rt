@@ -38,7 +38,7 @@ fn scan_instruction(
     requires within { IsWithin place.now }
     requires inside { IsInside place.now address size }
     requires room { length found.old < 8 }
-    ensures next { result ≡ owed_next owed instr.now }
+    ensures next { result ≡ owed_next place.now.format owed instr.now }
     ensures few { length found.new ≤ length found.old + 1 }
     ensures found { found.new ≡ found.old ++ found_at place.now address (lowest (record {
       bundle = place.now;
@@ -51,7 +51,7 @@ fn scan_instruction(
     if let Some(rule) = lowest_rule_in_words(place, address, size, owed, instr) {
         add_finding(place, address, rule, found);
     }
-    owed_next(owed, instr)
+    owed_next(place.format, owed, instr)
 }
 
 /// Adds the findings of the word at `address`, instruction by instruction, and answers what is owed

@@ -11,8 +11,8 @@ place_after-first-requires g c =
     let less = c.requires.4 in
     omega (arith, whole, end, run.addresses, at, less, c.min-start.ensures)
 
-pub is_before_last-requires : goal.is_before_last-requires
-is_before_last-requires g c =
+pub is_within_block-requires : goal.is_within_block-requires
+is_within_block-requires g c =
     let run = c.requires.2 in
     let code = c.args.code.now in
     let start = start_at c.requires.0 c.requires.1 c.args.at c.min-start.result (length code) run.whole c.requires.3 c.requires.4 c.if-code-lt-BLOCK_BYTES.false c.min-start.ensures in
@@ -45,6 +45,6 @@ returns-clause-block g c = λ k at.
       inside = start.inside;
       start_is = start.start_is;
       whole = start.whole;
-      within = subst IsWithinBlock first (OnTrue_at c.if-not-is_before_last.false c.is_before_last.ensures);
+      within = subst IsWithinBlock first (OnTrue_at c.if-not-is_within_block.false c.is_within_block.ensures);
       plain = subst (λ (x : BundlePlace). x.listed ≡ false) first c.if-first.false;
     }

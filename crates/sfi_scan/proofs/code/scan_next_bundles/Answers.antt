@@ -1,18 +1,25 @@
-use Rattle.sfi_scan.proofs.Prelude.{◌≡◌, ◌∙◌, ◌-◌, ◌*◌, ◌/◌, ℕ, List, take, drop, false, sym, subst, arith, ap, BundlePlace, IsWithin, IsWithinBlock, IsScanned, stretch_place}
+use Rattle.sfi_scan.proofs.Prelude.{[], true, is_in, ◌≡◌, ◌∙◌, ◌-◌, ◌*◌, ◌/◌, ℕ, List, take, drop, false, sym, subst, arith, ap, BundlePlace, IsWithin, IsWithinBlock, IsScanned, stretch_place}
 use Rattle.sfi_scan.specs.private.Scanning.{IsBlockScanned}
 use Rattle.sfi_scan.proofs.Fronts.{below_end, block_front, bundle_front, within_stretch}
-use Rattle.sfi_scan.proofs.Stretches.{scanned_same}
+use Rattle.sfi_scan.proofs.Marks.{all_set}
+use Rattle.sfi_scan.proofs.Stretches.{scanned_same, block_clean}
 use Rattle.sfi_scan.proofs.code.scan_next_bundles.Goals as goal
+use Rattle.sfi_scan.proofs.code.scan_next_bundles.Goals.{then-clean, else-clean}
 
-pub scan_block-requires-clause-within : goal.scan_block-requires-clause-within
-scan_block-requires-clause-within g c =
+pub clean_bundles-clean-requires : goal.clean_bundles-clean-requires
+clean_bundles-clean-requires g c =
     let s = c.in-Some.ensures.block c.requires.1 c.requires.3 in
     subst IsWithinBlock (sym (c.place_after-first.ensures s.first s.start_is)) s.within
 
-pub scan_block-requires-clause-unlisted : goal.scan_block-requires-clause-unlisted
-scan_block-requires-clause-unlisted g c =
+pub scan_doubtful_bundles-requires-clause-unlisted : goal.scan_doubtful_bundles-requires-clause-unlisted
+scan_doubtful_bundles-requires-clause-unlisted g c =
     let s = c.in-Some.ensures.block c.requires.1 c.requires.3 in
     subst (λ (b : BundlePlace). b.listed ≡ false) (sym (c.place_after-first.ensures s.first s.start_is)) s.plain
+
+pub scan_doubtful_bundles-requires-clause-within : goal.scan_doubtful_bundles-requires-clause-within
+scan_doubtful_bundles-requires-clause-within g c =
+    let s = c.in-Some.ensures.block c.requires.1 c.requires.3 in
+    subst IsWithinBlock (sym (c.place_after-first.ensures s.first s.start_is)) s.within
 
 pub returns-in-Some : goal.returns-in-Some
 returns-in-Some g c = λ k at.
@@ -25,10 +32,21 @@ returns-in-Some g c = λ k at.
     let start_is = s.start_is in
     let from : (c.args.at - start) / 16 ≡ s.before = omega (arith, is, start_is, at) in
     let bytes : c.bytes_from-block.result.now ≡ take 128 (drop (16 * s.first) code) = c.bytes_from-block.ensures ∙ ap (λ (a : ℕ). take 128 (drop a code)) start_is in
-    block_front (λ (c' : BundlePlace) (l : List ℕ) (n : ℕ). IsScanned takes c' l n c.args.sink.now c.scan_block.new.sink) (λ c' xs ys n. scanned_same takes c' xs ys n c.args.sink.now c.scan_block.new.sink) b code k start s
-    (subst (λ (n : ℕ). IsBlockScanned takes (stretch_place b s.first) (take 128 (drop (16 * s.first) code)) n c.args.sink.now c.scan_block.new.sink) from
-    (subst (λ (l : List ℕ). IsBlockScanned takes (stretch_place b s.first) l ((c.args.at - start) / 16) c.args.sink.now c.scan_block.new.sink) bytes
-    (subst (λ (x : BundlePlace). IsBlockScanned takes x c.bytes_from-block.result.now ((c.args.at - start) / 16) c.args.sink.now c.scan_block.new.sink) (c.place_after-first.ensures s.first s.start_is) c.scan_block.ensures)))
+    let place = c.place_after-first.result in
+    let plain = subst (λ (x : BundlePlace). x.listed ≡ false) (sym (c.place_after-first.ensures s.first s.start_is)) s.plain in
+    let scanned : IsBlockScanned takes place c.bytes_from-block.result.now ((c.args.at - start) / 16) c.args.sink.now c.if-clean.sink = elim c.if-clean.branch [
+      | then-clean w ↦ subst (λ (t : g.row.F.Denot). IsBlockScanned takes place c.bytes_from-block.result.now ((c.args.at - start) / 16) c.args.sink.now t) (sym w.sink-is) w.scan_doubtful_bundles.ensures
+      | else-clean w ↦ subst (λ (t : g.row.F.Denot). IsBlockScanned takes place c.bytes_from-block.result.now ((c.args.at - start) / 16) c.args.sink.now t) (sym w.sink-is) (record {
+        found = [];
+        found_are = block_clean place c.bytes_from-block.result.now ((c.args.at - start) / 16) plain (λ i less. c.clean_bundles-clean.ensures i less (subst (λ (m : ℕ). is_in m i ≡ true) (sym w.if-clean.false) (all_set i less)));
+        few = omega arith;
+        handed = g.met.F.FindingSink.none c.args.sink.now;
+      })
+    ] in
+    block_front (λ (c' : BundlePlace) (l : List ℕ) (n : ℕ). IsScanned takes c' l n c.args.sink.now c.if-clean.sink) (λ c' xs ys n. scanned_same takes c' xs ys n c.args.sink.now c.if-clean.sink) b code k start s
+    (subst (λ (n : ℕ). IsBlockScanned takes (stretch_place b s.first) (take 128 (drop (16 * s.first) code)) n c.args.sink.now c.if-clean.sink) from
+    (subst (λ (l : List ℕ). IsBlockScanned takes (stretch_place b s.first) l ((c.args.at - start) / 16) c.args.sink.now c.if-clean.sink) bytes
+    (subst (λ (x : BundlePlace). IsBlockScanned takes x c.bytes_from-block.result.now ((c.args.at - start) / 16) c.args.sink.now c.if-clean.sink) (c.place_after-first.ensures s.first s.start_is) scanned)))
 
 pub bytes_from-bundle-requires : goal.bytes_from-bundle-requires
 bytes_from-bundle-requires g c = (omega arith, (below_end c.args.place.now c.args.code.now c.requires.0 c.args.at c.requires.1 c.requires.2 c.requires.3 c.requires.4).1)

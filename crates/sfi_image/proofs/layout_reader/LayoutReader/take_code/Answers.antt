@@ -17,4 +17,4 @@ overflow_add-read c =
 
 pub returns-clause-takes : goal.returns-clause-takes
 returns-clause-takes c =
-    λ x h. code_leads c.args.self.now _ x c.args.code.now h c.requires.next c.requires.len refl refl refl refl refl (c.passed_before-self.ensures ∙ rw (c.address_after-end.ensures, c.as_slice.ensures) refl) refl refl c.next_code-self.ensures
+    λ x h. code_leads c.args.self.now _ x c.args.code.now h c.requires.next c.requires.len refl refl refl refl refl (c.passed_before-self.ensures ∙ rw (c.address_after-end.ensures, c.as_slice.ensures) refl) refl refl c.stage_after_code-self.ensures

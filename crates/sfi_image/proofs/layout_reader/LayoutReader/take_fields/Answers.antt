@@ -37,4 +37,4 @@ returns-clause-takes c =
     λ x h. fields_leads old _ x c.args.bytes.now c.fields_at.result.0 h c.requires.next
     (no_rest c.args.bytes.now (fields c.fields_at.result.0) _ c.fields_at.ensures.front (omega (arith, c.fields_at.ensures.len, c.requires.len))) c.fields_at.ensures.words c.fields_at.ensures.format
     (subst (λ (b : List Span). IsFirstFault b c.fields_at.result.0 field_tests None) c.as_slice.ensures c.in-Ok.ensures.passed) refl refl
-    (two_pushed old.spans c.push.new.self c.push-2.new.self _ _ _ c.push.ensures c.push-2.ensures (two_spans _ _ c.fields_at.result.0 c.in-Ok.ensures.code c.in-Ok.ensures.guarded)) refl c.clear.ensures refl refl refl c.next_gate-self.ensures
+    (two_pushed old.spans c.push.new.self c.push-2.new.self _ _ _ c.push.ensures c.push-2.ensures (two_spans _ _ c.fields_at.result.0 c.in-Ok.ensures.code c.in-Ok.ensures.guarded)) refl c.clear.ensures refl refl refl c.stage_after_gates-self.ensures

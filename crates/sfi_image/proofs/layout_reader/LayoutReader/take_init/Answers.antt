@@ -11,4 +11,4 @@ overflow_cast-self c =
 
 pub returns-clause-takes : goal.returns-clause-takes
 returns-clause-takes c =
-    λ x h. init_leads c.args.self.now _ x c.args.bytes.now h c.requires.next c.requires.len c.requires.room refl refl refl refl refl refl c.next_init-self.ensures
+    λ x h. init_leads c.args.self.now _ x c.args.bytes.now h c.requires.next c.requires.len c.requires.room refl refl refl refl refl refl c.stage_after_init-self.ensures

@@ -1,5 +1,5 @@
 use Rattle.sfi_check.proofs.Prelude.{take, views, AreImageFindings}
-use Rattle.sfi_check.proofs.conversion.findings_as.Given as goal
+use Rattle.sfi_check.proofs.verdict.findings_as.Given as goal
 
 -- the findings of the sandboxes so far
 abbrev pub invariant-loop-sandbox : goal.invariant-loop-sandbox

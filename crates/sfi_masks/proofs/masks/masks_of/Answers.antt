@@ -1,8 +1,8 @@
 use Rattle.sfi_masks.proofs.Block.{are_quarters, are_masks}
-use Rattle.sfi_masks.proofs.masks.masks_of_block.Goals as goal
+use Rattle.sfi_masks.proofs.masks.masks_of.Goals as goal
 
 pub returns : goal.returns
-returns g c =
+returns c =
     let a = c.masks_of_quarter-first in
     let b = c.masks_of_quarter-second in
     let d = c.masks_of_quarter-third in

@@ -1,6 +1,6 @@
 use Rattle.sfi_check.proofs.Prelude.{◌+◌, List, ◌++◌, take, refl, ap, ◌∙◌, subst, sym, Finding, SandboxPart, view, views, IsRightPart, AreFindings, AreImageFindings}
 use Rattle.sfi_check.proofs.Tallying.{right_at, one_more_found, in_the_end}
-use Rattle.sfi_check.proofs.conversion.findings_as.Goals as goal
+use Rattle.sfi_check.proofs.verdict.findings_as.Goals as goal
 
 pub loop-sandbox-init : goal.loop-sandbox-init
 loop-sandbox-init c = c.new-found.ensures.items
