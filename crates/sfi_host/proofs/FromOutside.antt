@@ -1,8 +1,9 @@
 -- What a host does to a sandbox: calls it back, stops it, sets its registers.
-use Rattle.sfi_host.proofs.Prelude.{◌≡◌, ◌≢◌, ◌↔◌, ◌⊎◌, ◌%◌, ℕ, Bool, true, false, is_some, List, Option, None, Some, IsSome, IsTrue, OnTrue, slice_get, refl, sym, ap, ◌∙◌, subst, ⊎_elim, cases_eq, same_Some, Bytes, Hart, Holds, IsChange, KeepsBytes, Part, Bounds, bounds_of, Slot, Seat, Sandboxes, slot_of, slots_of, state_in, IsSafeSeat, IsSafeWorld, LiesOutside, StaysOutsideData, Sandbox, seat_of, world_of, set, map-set, option_map, Program, seats_of, status_at, Ready, ◌==◌, ◌||◌, eqb-true, IsHart, AreApart, with_guards, HasCode, IsEntry, IsAtEntry, IsEnterable}
+use Rattle.sfi_host.proofs.Prelude.{◌≡◌, ◌≢◌, ◌↔◌, ◌%◌, ℕ, Bool, true, false, is_some, List, Option, None, Some, IsSome, IsTrue, OnTrue, slice_get, refl, sym, ap, ◌∙◌, subst, ⊎_elim, cases_eq, same_Some, Bytes, Hart, Holds, KeepsBytes, Part, Bounds, bounds_of, Slot, Seat, Sandboxes, slot_of, slots_of, state_in, IsSafeSeat, IsSafeWorld, LiesOutside, StaysOutsideData, Sandbox, seat_of, world_of, set, map-set, option_map, Program, seats_of, status_at, Ready, IsHart, AreApart, with_guards, HasCode, IsEntry, IsAtEntry, IsEnterable}
 use Rattle.sfi_host.specs.Changing.{called_back_hart, MayCallBackAt, PutBackIsChange, with_callback, with_callback_of, IsEntryHart, MaySetAt, with_hart, stopped_seat, with_stop_of, with_stop, hart_of, set_seat, with_hart_of}
 use Rattle.sfi_host.specs.Waiting.{IsAtCall}
-use Rattle.sfi_formats.specs.Formats.{unit, is_data_register}
+use Rattle.sfi_formats.specs.declared.format.Format.{Format}
+use Rattle.sfi_formats.specs.Formats.{unit, is_data_register_in}
 use Rattle.sfi_safe_runs.proofs.Entries.{even_unit, each_near}
 use Rattle.sfi_host.proofs.Entries.{pc_kept}
 use Rattle.sfi_host.proofs.Worlds.{map_get}
@@ -144,11 +145,11 @@ module _ (w : Sandboxes) (m : Bytes) (items : List Sandbox) (view : world_of m i
 -- ---- it is an entry
 
 -- the four data registers are all
-pub all_near : (at : Span) (registers : List ℕ) → LieNear at registers → (d : ℕ) → is_data_register d ≡ true → IsNear at slack (slice_index registers d)
-all_near at registers near = each_near at registers near.x2 near.x3 near.x4 near.x29
+pub all_near : (f : Format) (at : Span) (registers : List ℕ) → LieNear at registers → (d : ℕ) → is_data_register_in f d ≡ true → IsNear at slack (slice_index registers d)
+all_near f at registers near = each_near f at registers near.x2 near.x3 near.x4 near.x29
 
-pub typed_near : (code_at data_at : Span) (registers : List ℕ) → AreWordsTyped code_at data_at registers → LieNear data_at registers
-typed_near code_at data_at registers typed = record { x2 = typed.each_data 2 refl; x3 = typed.each_data 3 refl; x4 = typed.each_data 4 refl; x29 = typed.each_data 29 refl }
+pub typed_near : (f : Format) (code_at data_at : Span) (registers : List ℕ) → AreWordsTyped f code_at data_at registers → LieNear data_at registers
+typed_near f code_at data_at registers typed = record { x2 = typed.each_data 2 refl; x3 = typed.each_data 3 refl; x4 = typed.each_data 4 refl; x29 = typed.each_data 29 refl }
 
 module _ (m : Bytes) (s : Seat) (safe_before_set : IsSafeSeat m s) (h : Hart) (hart : IsHart h) where
   of_part : (p : Part) → IsEntryHart (bounds_of p) h → (b : Bounds) → b ≡ bounds_of p → s.bounds ≡ b → HasCode p m → IsEntry p (record { hart = h; memory = m })

@@ -3,7 +3,7 @@ use Rattle.sfi_host.proofs.Prelude.{◌≡◌, ◌≢◌, ℕ, ◌+◌, ◌^◌,
 use Rattle.sfi_host.specs.Hosts.{a0_register, a1_register}
 use Rattle.sfi_host.specs.Laws.{CallsAreTyped, AnswersAreReplies}
 use Rattle.sfi_host.specs.Worlds.{StoppedItself}
-use Rattle.sfi_formats.specs.Formats.{has_stack, has_words, is_data_register}
+use Rattle.sfi_formats.specs.Formats.{has_stack, has_words, has_one_step, is_data_register_in}
 use Rattle.sfi_safe_runs.specs.Runs.{IsTyped}
 use Rattle.sfi_image.specs.Parts.{IsWordStart}
 use Rattle.sfi_image.specs.Spelling.{IsNear, data_region}
@@ -88,10 +88,10 @@ module _ (m : Bytes) (s : Seat) (seat : IsSafeSeat m s) where
           let w = typed.words (ap (λ (b : Bounds). has_words b.format) same ∙ has) in
           record {
             each_data = λ d is.
-                let near = w.each_data d is in
+                let near = w.each_data d (ap (λ (b : Bounds). is_data_register_in b.format d) same ∙ is) in
                 record { low = subst (λ (b : Bounds). b.data.base ≤ slice_index registers d + 1020) same near.low; high = subst (λ (b : Bounds). slice_index registers d < b.data.base + b.data.size + 1020) same near.high };
             code = record { held = subst (λ (b : Bounds). Holds b.code (slice_index registers 30)) same w.code.held; aligned = w.code.aligned };
-            offset = subst (λ (b : Bounds). slice_index registers 31 < b.data.size) same w.offset;
+            offset = λ two. subst (λ (b : Bounds). slice_index registers 31 < b.data.size) same (w.offset (ap (λ (b : Bounds). has_one_step b.format) same ∙ two));
           };
     }
 
@@ -108,10 +108,10 @@ module _ (m : Bytes) (s : Seat) (seat : IsSafeSeat m s) where
           record {
             each_data = λ d is.
                 subst (λ (a : ℕ). IsNear (data_region p) 1020 a)
-                (sym (kept d (λ e. let z : is_data_register 10 ≡ true = subst (λ (r : ℕ). is_data_register r ≡ true) e is in cc) (λ e. let z : is_data_register 11 ≡ true = subst (λ (r : ℕ). is_data_register r ≡ true) e is in cc)))
+                (sym (kept d (λ e. let z : is_data_register_in p.format 10 ≡ true = subst (λ (r : ℕ). is_data_register_in p.format r ≡ true) e is in cc) (λ e. let z : is_data_register_in p.format 11 ≡ true = subst (λ (r : ℕ). is_data_register_in p.format r ≡ true) e is in cc)))
                 (w.each_data d is);
             code = subst (IsWordStart (code_region p)) (sym (kept 30 (λ e. cc) (λ e. cc))) w.code;
-            offset = subst (λ (a : ℕ). a < p.data_size) (sym (kept 31 (λ e. cc) (λ e. cc))) w.offset;
+            offset = λ two. subst (λ (a : ℕ). a < p.data_size) (sym (kept 31 (λ e. cc) (λ e. cc))) (w.offset two);
           };
     }
 

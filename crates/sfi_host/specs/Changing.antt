@@ -74,7 +74,7 @@ pub record IsEntryHart (b : Bounds) (h : Hart) : Type 0 where
   pub start : IsStart (unit b.format) b.code h.pc
   pub reserved : HasReserved (reserved_for (unit b.format) b.code b.data) h.registers
   pub stack : has_stack b.format ≡ true → Holds b.data (register h stack_pointer)
-  pub words : has_words b.format ≡ true → AreWordsTyped b.code b.data h.registers
+  pub words : has_words b.format ≡ true → AreWordsTyped b.format b.code b.data h.registers
 
 -- there is a sandbox `i`, and the hart is as at an entry of it
 pub record MaySetAt (slots : List Slot) (i : ℕ) (h : Hart) : Type 0 where

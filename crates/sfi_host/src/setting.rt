@@ -1,7 +1,7 @@
 //! Registers that are set from outside.
-ghost use Rattle.std.specs.Prelude.{◌≡◌, ◌≢◌, ◌%◌, ◌+◌, ◌<◌, ◌≤◌, ◌^◌, ◌↔◌, IfSome, IsTrue, None, true};
+ghost use Rattle.std.specs.Prelude.{◌≡◌, ◌≢◌, ◌%◌, ◌+◌, ◌<◌, ◌≤◌, ◌^◌, ◌↔◌, IfSome, IsTrue, None, true, false};
 ghost use Rattle.rv_step.specs.State.{IsHart, register};
-ghost use Rattle.sfi_formats.specs.Formats.{has_stack, has_words, stack_pointer, unit};
+ghost use Rattle.sfi_formats.specs.Formats.{has_stack, has_words, has_one_step, offset_register, stack_pointer, unit};
 ghost use Rattle.sfi_formats.specs.Limits.{slack};
 ghost use Rattle.sfi_image.specs.Spelling.{Holds, IsNear};
 ghost use Rattle.sfi_image.specs.Parts.{IsStart, HasReserved, reserved_for};
@@ -99,17 +99,25 @@ impl Sandbox {
             && cpu.reg(Reg::numbered(DATA_MASK_REGISTER)) == self.data.size - 1
     }
 
+    /// Whether x31 is below the data size, where it holds an offset.
+    fn holds_offset(&self, cpu: &Cpu) -> bool
+        ensures { IsTrue result ↔ (has_one_step self.now.format ≡ false
+            → register cpu.now offset_register < self.now.data.size) }
+    {
+        if self.format.has_one_step() {
+            return true;
+        }
+        cpu.reg(Reg::numbered(OFFSET_REGISTER)) < self.data.size
+    }
+
     /// Whether the typed registers of code in words hold what their types say.
     #[tactic(auto, using(crate::proofs::FromOutside::all_near, crate::proofs::FromOutside::typed_near))]
     fn holds_typed_words(&self, cpu: &Cpu) -> bool
         ensures { IsTrue result
-            ↔ AreWordsTyped (span_of self.now.code) (span_of self.now.data) cpu.now.registers }
+            ↔ AreWordsTyped self.now.format (span_of self.now.code) (span_of self.now.data) cpu.now.registers }
     {
         let code = cpu.reg(Reg::numbered(CODE_REGISTER));
-        lie_near(self.data, cpu)
-            && self.code.holds(code)
-            && code % 4 == 0
-            && cpu.reg(Reg::numbered(OFFSET_REGISTER)) < self.data.size
+        lie_near(self.data, cpu) && self.code.holds(code) && code % 4 == 0 && self.holds_offset(cpu)
     }
 
     /// Whether the stack pointer lies in the data, where the format has one.
@@ -126,7 +134,7 @@ impl Sandbox {
     /// Whether the typed registers hold what their types say, where code is in words.
     fn holds_words(&self, cpu: &Cpu) -> bool
         ensures { IsTrue result ↔ (has_words self.now.format ≡ true
-            → AreWordsTyped (span_of self.now.code) (span_of self.now.data) cpu.now.registers) }
+            → AreWordsTyped self.now.format (span_of self.now.code) (span_of self.now.data) cpu.now.registers) }
     {
         if !self.format.has_words() {
             return true;

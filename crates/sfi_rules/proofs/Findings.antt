@@ -1,10 +1,11 @@
 -- The findings of a part, the lowest rule broken at a place, and what is owed there.
-use Rattle.sfi_rules.proofs.Prelude.{◌≡◌, ℕ, Bool, true, false, ◌&&◌, ◌==◌, cond, refl, sym, ap, ◌∙◌, and_parts, eqb-true, Instr, Option, Some, None, Owed, ◌*◌, List, [], length, subst, Part, Finding, has_words, AreFindingsInBundles, AreFindingsOfFirst, AreFindings, MatchBool, Nothing, AreFoundOfFirst, AreFindingsInWords, ◌-◌, ◌<◌, ◌∷◌, arith, get_or, All, Rule, InstrInBundle, breaks, broken, lowest, all_rules, V1}
+use Rattle.sfi_rules.proofs.Prelude.{◌≡◌, ℕ, Bool, true, false, not, ◌&&◌, ◌==◌, cond, refl, sym, ap, ◌∙◌, and_parts, eqb-true, Instr, Option, Some, None, Owed, ◌*◌, List, [], length, subst, Part, Finding, has_words, AreFindingsInBundles, AreFindingsOfFirst, AreFindings, MatchBool, Nothing, AreFoundOfFirst, AreFindingsInWords, ◌-◌, ◌<◌, ◌∷◌, arith, get_or, All, Rule, InstrInBundle, breaks, broken, lowest, all_rules, V1}
 use Rattle.std.proofs.lemmas.Bool.{false≢true}
 use Rattle.rv_word.specs.declared.instr.Instr.TheVariants.{Op}
 use Rattle.rv_word.specs.declared.instr.RegOp.TheVariants.{And}
-use Rattle.sfi_formats.specs.Formats.{code_base_register, code_register}
-use Rattle.sfi_pairs.specs.Pairs.{is_placing, uses}
+use Rattle.sfi_formats.specs.declared.format.Format.{Format}
+use Rattle.sfi_formats.specs.Formats.{code_base_register, code_register, data_mask_register, offset_register, has_one_step}
+use Rattle.sfi_pairs.specs.Pairs.{is_masking, is_placing, uses}
 use Rattle.sfi_rules.specs.declared.owed.Owed.TheVariants.{Mask, PlaceOnly, MaskOrUse, Code}
 use Rattle.sfi_rules.specs.words.Rules.{is_and, masks, places, owed_by, or_nothing, joined, owed_next}
 use Rattle.sfi_rules.specs.Laws.{OwedIsOfTwo, owed_after_two}
@@ -29,36 +30,55 @@ last : (t : Bool) (own : Option Owed) → joined (cond t (Some Nothing) None) ow
 last true own = refl
 last false own = refl
 
--- the masking that was owed leaves the placing
-masked : (t : Bool) (d : ℕ) (own : Option Owed) → joined (cond t (Some (PlaceOnly d)) None) own ≡ cond t (PlaceOnly d) (or_nothing own)
-masked true d own = refl
-masked false d own = refl
+-- the first step of a mask that was owed leaves its last, where it has two
+masked : (t one : Bool) (d : ℕ) (own : Option Owed) → joined (cond t (Some (cond one Nothing (PlaceOnly d))) None) own ≡ cond (t && not one) (PlaceOnly d) (or_nothing own)
+masked true true d own = refl
+masked true false d own = refl
+masked false one d own = refl
 
-masked_or_used : (t u : Bool) (d : ℕ) (own : Option Owed) → joined (cond t (Some (PlaceOnly d)) (cond u (Some Nothing) None)) own ≡ cond t (PlaceOnly d) (or_nothing own)
-masked_or_used true u d own = refl
-masked_or_used false true d own = refl
-masked_or_used false false d own = refl
+masked_or_used : (t u one : Bool) (d : ℕ) (own : Option Owed) → joined (cond t (Some (cond one Nothing (PlaceOnly d))) (cond u (Some Nothing) None)) own ≡ cond (t && not one) (PlaceOnly d) (or_nothing own)
+masked_or_used true u true d own = refl
+masked_or_used true u false d own = refl
+masked_or_used false true one d own = refl
+masked_or_used false false one d own = refl
 
--- after an instruction that asked this, before which nothing was owed
-settled : (asked : Option Owed) (m : Instr) → owed_next (or_nothing asked) m ≡ owed_after_two asked m
-settled None m = refl
-settled (Some Nothing) m = refl
-settled (Some (Mask d)) m = masked (masks d m) d (owed_by m)
-settled (Some (PlaceOnly d)) m = last (places d m) (owed_by m)
-settled (Some (MaskOrUse d)) m = masked_or_used (masks d m) (uses d m) d (owed_by m)
-settled (Some Code) m = last (is_placing code_base_register code_register m) (owed_by m)
+module _ (f : Format) where
+  -- after an instruction that asked this, before which nothing was owed
+  settled : (asked : Option Owed) (m : Instr) → owed_next f (or_nothing asked) m ≡ owed_after_two f asked m
+  settled None m = refl
+  settled (Some Nothing) m = refl
+  settled (Some (Mask d)) m = masked (masks f d m) (has_one_step f) d (owed_by f m)
+  settled (Some (PlaceOnly d)) m = last (places f d m) (owed_by f m)
+  settled (Some (MaskOrUse d)) m = masked_or_used (masks f d m) (uses d m) (has_one_step f) d (owed_by f m)
+  settled (Some Code) m = last (is_placing code_base_register code_register m) (owed_by f m)
 
--- a masking asks nothing itself, and what it leaves doesn't outlast the next instruction
-after_masking : (t : Bool) (d : ℕ) (w m : Instr) → masks d w ≡ t → owed_next (cond t (PlaceOnly d) (or_nothing (owed_by w))) m ≡ owed_after_two (owed_by w) m
-after_masking true d w m e = last (places d m) (owed_by m) ∙ ap (λ (i : Instr). owed_after_two (owed_by i) m) (sym (and_is 31 d 27 w e))
-after_masking false d w m e = settled (owed_by w) m
+  -- the first of two steps is the masking
+  masking_is : (one : Bool) (d : ℕ) (w : Instr) → (cond one (is_masking data_mask_register d w) (is_and offset_register d data_mask_register w) && not one) ≡ true → w ≡ Op And 31 d 27
+  masking_is true d w e = absurd (false≢true (sym (and_false (is_masking data_mask_register d w)) ∙ e))
+    where
+      and_false : (b : Bool) → (b && false) ≡ false
+      and_false true = refl
+      and_false false = refl
+  masking_is false d w e = and_is 31 d 27 w (and_parts (is_and offset_register d data_mask_register w) true e).0
+
+  owes_none : (one : Bool) → has_one_step f ≡ one → (d : ℕ) → owed_by f (Op And 31 d 27) ≡ Some Nothing
+  owes_none true e d = rw e refl
+  owes_none false e d = rw e refl
+
+  -- a masking asks nothing itself, and what it leaves doesn't outlast the next instruction
+  after_masking : (t : Bool) (d : ℕ) (w m : Instr) → (masks f d w && not (has_one_step f)) ≡ t → owed_next f (cond t (PlaceOnly d) (or_nothing (owed_by f w))) m ≡ owed_after_two f (owed_by f w) m
+  after_masking true d w m e =
+      last (places f d m) (owed_by f m)
+      ∙ ap (λ (o : Option Owed). owed_after_two f o m) (sym (owes_none (has_one_step f) refl d))
+      ∙ ap (λ (i : Instr). owed_after_two f (owed_by f i) m) (sym (masking_is (has_one_step f) d w e))
+  after_masking false d w m e = settled (owed_by f w) m
 
 pub of_two : OwedIsOfTwo
-of_two Nothing w m = settled (owed_by w) m
-of_two (Mask d) w m = ap (λ (o : Owed). owed_next o m) (masked (masks d w) d (owed_by w)) ∙ after_masking (masks d w) d w m refl
-of_two (PlaceOnly d) w m = ap (λ (o : Owed). owed_next o m) (last (places d w) (owed_by w)) ∙ settled (owed_by w) m
-of_two (MaskOrUse d) w m = ap (λ (o : Owed). owed_next o m) (masked_or_used (masks d w) (uses d w) d (owed_by w)) ∙ after_masking (masks d w) d w m refl
-of_two Code w m = ap (λ (o : Owed). owed_next o m) (last (is_placing code_base_register code_register w) (owed_by w)) ∙ settled (owed_by w) m
+of_two f Nothing w m = settled f (owed_by f w) m
+of_two f (Mask d) w m = ap (λ (o : Owed). owed_next f o m) (masked (masks f d w) (has_one_step f) d (owed_by f w)) ∙ after_masking f (masks f d w && not (has_one_step f)) d w m refl
+of_two f (PlaceOnly d) w m = ap (λ (o : Owed). owed_next f o m) (last (places f d w) (owed_by f w)) ∙ settled f (owed_by f w) m
+of_two f (MaskOrUse d) w m = ap (λ (o : Owed). owed_next f o m) (masked_or_used (masks f d w) (uses d w) (has_one_step f) d (owed_by f w)) ∙ after_masking f (masks f d w && not (has_one_step f)) d w m refl
+of_two f Code w m = ap (λ (o : Owed). owed_next f o m) (last (is_placing code_base_register code_register w) (owed_by f w)) ∙ settled f (owed_by f w) m
 
 -- ==== The findings of a part whose code is in bundles, or in words. Crates above cite this, too.
 

@@ -1,8 +1,7 @@
 -- At a place of code in words: none of the rules is found just where each is kept.
 use Rattle.sfi_rules.proofs.Prelude.{◌≡◌, Bool, true, false, cond, Option, Some, None, refl, sym, ◌∙◌, Rule}
-use Rattle.sfi_rules.specs.Rules.{breaks_reserved}
 use Rattle.sfi_rules.specs.declared.rule.Rule.TheVariants.{V3, V4, V5, V6, V7, V8, V10, V11, V12}
-use Rattle.sfi_rules.specs.words.Rules.{breaks_ecall, breaks_access, breaks_jump, breaks_target, breaks_offset}
+use Rattle.sfi_rules.specs.words.Rules.{breaks_ecall, breaks_reserved, breaks_access, breaks_jump, breaks_target, breaks_offset}
 use Rattle.sfi_rules.specs.words.Findings.{InstrInWord, is_at_gate, breaks_last, fails_data, fails_code, lowest}
 
 pub record AreFalse (b3 b4 b5 b6 b7 b8 b10 b11 b12 : Bool) : Type 0 where
@@ -40,11 +39,11 @@ all_false b3 b4 b5 b6 b7 b8 b10 b11 b12 h = rw (h.v3, h.v4, h.v5, h.v6, h.v7, h.
 
 -- each rule, but V1 and V2, which are broken where no instruction stands, and V9, which is none of code in words
 abbrev pub AreKept : InstrInWord → Type 0
-AreKept x = AreFalse (breaks_ecall (is_at_gate x.bundle x.address) x.instr) (breaks_reserved x.instr) (breaks_access x.instr) (breaks_jump x.instr) (breaks_target x.bundle.code_base x.bundle.code_size x.address x.instr) (breaks_last x)
-    (fails_data x.owed x.instr) (fails_code x.owed x.instr) (breaks_offset x.instr)
+AreKept x = AreFalse (breaks_ecall (is_at_gate x.bundle x.address) x.instr) (breaks_reserved x.bundle.format x.instr) (breaks_access x.bundle.format x.instr) (breaks_jump x.instr) (breaks_target x.bundle.code_base x.bundle.code_size x.address x.instr) (breaks_last x)
+    (fails_data x.bundle.format x.owed x.instr) (fails_code x.bundle.format x.owed x.instr) (breaks_offset x.bundle.format x.instr)
 
-lowest_is : (x : InstrInWord) → lowest x ≡ first_true (breaks_ecall (is_at_gate x.bundle x.address) x.instr) (breaks_reserved x.instr) (breaks_access x.instr) (breaks_jump x.instr) (breaks_target x.bundle.code_base x.bundle.code_size x.address x.instr) (breaks_last x)
-    (fails_data x.owed x.instr) (fails_code x.owed x.instr) (breaks_offset x.instr)
+lowest_is : (x : InstrInWord) → lowest x ≡ first_true (breaks_ecall (is_at_gate x.bundle x.address) x.instr) (breaks_reserved x.bundle.format x.instr) (breaks_access x.bundle.format x.instr) (breaks_jump x.instr) (breaks_target x.bundle.code_base x.bundle.code_size x.address x.instr) (breaks_last x)
+    (fails_data x.bundle.format x.owed x.instr) (fails_code x.bundle.format x.owed x.instr) (breaks_offset x.bundle.format x.instr)
 unfolding first_true
 lowest_is x = refl
 

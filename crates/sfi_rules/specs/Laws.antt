@@ -1,9 +1,10 @@
 -- Laws of readings, rules and findings.
-use Rattle.std.specs.Prelude.{◌≡◌, ◌≢◌, ◌↔◌, ℕ, List, [], IsTrue, false, Option, Some, if◌then◌else◌}
+use Rattle.std.specs.Prelude.{◌≡◌, ◌≢◌, ◌↔◌, ℕ, List, [], IsTrue, false, Option, Some, if◌then◌else◌, ◌&&◌, not}
 use Rattle.std.specs.List.{All}
 use Rattle.rv_word.specs.declared.instr.Instr.{Instr}
 use Rattle.sfi_formats.specs.declared.format.Format.TheVariants.{Sfi1, Sfi2}
-use Rattle.sfi_formats.specs.Formats.{has_words}
+use Rattle.sfi_formats.specs.declared.format.Format.{Format}
+use Rattle.sfi_formats.specs.Formats.{has_words, has_one_step}
 use Rattle.sfi_image.specs.Spelling.{Part}
 use Rattle.sfi_image.specs.Numbers.{all_in_format}
 use Rattle.sfi_image.specs.Parts.{IsBundleStart}
@@ -64,16 +65,18 @@ CleanBreaksStackAlone = (ps : List Part) (found : List Finding)
 
 -- ---- of code in words
 
--- What is owed after two instructions, the first of which asked this: where it asked that a data
--- register be masked, and the second does that, the register's placing; else what the second asks,
+-- What is owed after two instructions, the first of which asked this: where it asked for the mask of a
+-- data register, and the second is the first step of two of it, the last one; else what the second asks,
 -- or nothing where no next instruction can make that right.
-abbrev pub owed_after_two : Option Owed → Instr → Owed
-owed_after_two (Some (kind.Mask d)) m = if masks d m then kind.PlaceOnly d else or_nothing (owed_by m)
-owed_after_two (Some (kind.MaskOrUse d)) m =
-    if masks d m then kind.PlaceOnly d else or_nothing (owed_by m)
-owed_after_two asked m = or_nothing (owed_by m)
+abbrev pub owed_after_two : Format → Option Owed → Instr → Owed
+owed_after_two f (Some (kind.Mask d)) m =
+    if masks f d m && not (has_one_step f) then kind.PlaceOnly d else or_nothing (owed_by f m)
+owed_after_two f (Some (kind.MaskOrUse d)) m =
+    if masks f d m && not (has_one_step f) then kind.PlaceOnly d else or_nothing (owed_by f m)
+owed_after_two f asked m = or_nothing (owed_by f m)
 
 -- what is owed after two instructions depends on these alone, whatever was owed before them
 abbrev pub OwedIsOfTwo : Type 0
 OwedIsOfTwo =
-    (o : Owed) (w m : Instr) → owed_next (owed_next o w) m ≡ owed_after_two (owed_by w) m
+    (f : Format) (o : Owed) (w m : Instr)
+    → owed_next f (owed_next f o w) m ≡ owed_after_two f (owed_by f w) m

@@ -1,5 +1,6 @@
 -- Where sandboxes are entered: what the formats ask, and that a right layout has it.
-use Rattle.sfi_formats.specs.Formats.{has_stack, is_data_register}
+use Rattle.sfi_formats.specs.Formats.{has_stack, is_data_register_in}
+use Rattle.sfi_formats.proofs.Formats.{data_registers}
 use Rattle.sfi_image.specs.Parts.{IsBundleStart, reserved_for, reserved_of}
 use Rattle.sfi_image.specs.Spelling.{data_region}
 use Rattle.sfi_safe_runs.specs.Runs.{StackInData, AreWordsTyped}
@@ -39,7 +40,7 @@ to_word p a has start = record { held = start.held; aligned = ap (λ (u : ℕ). 
 pub of_word : (p : Part) (a : ℕ) → has_words p.format ≡ true → IsWordStart (code_region p) a → IsUnitStart p a
 of_word p a has start = record { held = start.held; aligned = ap (λ (u : ℕ). a % u) (words p.format has) ∙ start.aligned }
 
-pub of_words_typed : (p : Part) (registers : List ℕ) → has_words p.format ≡ true → AreWordsTyped (code_region p) (data_region p) registers → IsTyped p registers
+pub of_words_typed : (p : Part) (registers : List ℕ) → has_words p.format ≡ true → AreWordsTyped p.format (code_region p) (data_region p) registers → IsTyped p registers
 of_words_typed p registers has typed = record { stack = λ stack. absurd (no_stack p.format has stack); words = λ _. typed }
 
 pub to_bundle : (p : Part) (a : ℕ) → has_words p.format ≡ false → IsUnitStart p a → IsBundleStart (code_region p) a
@@ -183,21 +184,21 @@ even_unit Sfi2 a even = omega arith
 even_unit Sfiw a even = omega arith
 
 -- a data register is one of four
-pub data_register : (d : ℕ) → is_data_register d ≡ true → (d ≡ 2) ⊎ ((d ≡ 3) ⊎ ((d ≡ 4) ⊎ (d ≡ 29)))
-data_register d is =
+pub data_register : (f : Format) (d : ℕ) → is_data_register_in f d ≡ true → (d ≡ 2) ⊎ ((d ≡ 3) ⊎ ((d ≡ 4) ⊎ (d ≡ 29)))
+data_register format d is =
     ⊎_elim
     (λ (e : ((d == 2) || (d == 3) || (d == 4)) ≡ true). ⊎_elim
     (λ (f : ((d == 2) || (d == 3)) ≡ true). ⊎_elim (λ (g : (d == 2) ≡ true). inl (eqb-true d 2 g)) (λ (g : (d == 3) ≡ true). inr (inl (eqb-true d 3 g))) (or_cases (d == 2) (d == 3) f))
     (λ (f : (d == 4) ≡ true). inr (inr (inl (eqb-true d 4 f))))
     (or_cases ((d == 2) || (d == 3)) (d == 4) e))
     (λ (e : (d == 29) ≡ true). inr (inr (inr (eqb-true d 29 e))))
-    (or_cases ((d == 2) || (d == 3) || (d == 4)) (d == 29) is)
+    (or_cases ((d == 2) || (d == 3) || (d == 4)) (d == 29) (sym (data_registers format d) ∙ is))
 
 -- where the four are near the data region, each data register is
-pub each_near : (data_at : Span) (registers : List ℕ)
+pub each_near : (f : Format) (data_at : Span) (registers : List ℕ)
     → IsNear data_at slack (slice_index registers 2) → IsNear data_at slack (slice_index registers 3) → IsNear data_at slack (slice_index registers 4) → IsNear data_at slack (slice_index registers 29)
-    → (d : ℕ) → is_data_register d ≡ true → IsNear data_at slack (slice_index registers d)
-each_near data_at registers second third fourth last d is = elim (data_register d is) [
+    → (d : ℕ) → is_data_register_in f d ≡ true → IsNear data_at slack (slice_index registers d)
+each_near f data_at registers second third fourth last d is = elim (data_register f d is) [
   | inl e ↦ at e second
   | inr others ↦ elim others [
     | inl e ↦ at e third
@@ -223,9 +224,9 @@ typed_when p at registers some start stack third fourth last code offset =
     record {
       stack = λ has. stack;
       words = λ has. record {
-        each_data = each_near (data_region p) registers (record { low = omega (arith, stack.0); high = omega (arith, stack.1) }) (base 3 (third has)) (base 4 (fourth has)) (base 29 (last has));
+        each_data = each_near p.format (data_region p) registers (record { low = omega (arith, stack.0); high = omega (arith, stack.1) }) (base 3 (third has)) (base 4 (fourth has)) (base 29 (last has));
         code = subst (IsWordStart (code_region p)) (sym (code has)) (to_word p at has start);
-        offset = omega arith;
+        offset = λ _. omega arith;
       };
     }
 

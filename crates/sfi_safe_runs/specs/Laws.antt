@@ -117,7 +117,7 @@ WordsAsk =
     (p : Part) → has_words p.format ≡ true
     → ((a : ℕ) → IsUnitStart p a ↔ IsWordStart (code_region p) a)
     × (reserved_of p ≡ reserved_for word_size (code_region p) (data_region p))
-    × ((registers : List ℕ) → IsTyped p registers ↔ AreWordsTyped (code_region p) (data_region p) registers)
+    × ((registers : List ℕ) → IsTyped p registers ↔ AreWordsTyped p.format (code_region p) (data_region p) registers)
 
 -- in the first format no register has a type: nothing is asked of x2, at an entry, after a reply or
 -- at a call

@@ -1,7 +1,8 @@
 -- Runs of a sandbox: its addresses, its typed registers, and what may happen to it.
-use Rattle.std.specs.Prelude.{◌≡◌, ◌+◌, ◌<◌, ℕ, List, length, take, drop, slice_get, slice_index, Some, None, ◌≤◌, true, [], ◌∷◌, Option}
+use Rattle.std.specs.Prelude.{◌≡◌, ◌+◌, ◌<◌, ℕ, List, length, take, drop, slice_get, slice_index, Some, None, ◌≤◌, true, false, [], ◌∷◌, Option}
 use Rattle.std.specs.List.{Contains}
-use Rattle.sfi_formats.specs.Formats.{code_base_register, code_mask_register, data_base_register, data_mask_register, stack_pointer, is_data_register, code_register, offset_register, unit, has_stack, has_words}
+use Rattle.sfi_formats.specs.Formats.{code_base_register, code_mask_register, data_base_register, data_mask_register, stack_pointer, is_data_register_in, code_register, offset_register, unit, has_stack, has_words, has_one_step}
+use Rattle.sfi_formats.specs.declared.format.Format.{Format}
 use Rattle.sfi_image.specs.declared.part.Gate.{Gate}
 use Rattle.sfi_image.specs.declared.span.Span.{Span}
 use Rattle.sfi_image.specs.Spelling.{Part, Holds, InGuards, IsNear, code_region, data_region}
@@ -50,11 +51,12 @@ StackInData p registers = has_stack p.format ≡ true → InData p (slice_index 
 
 -- ---- of code in words
 
--- each of the six typed registers of code in words holds what its type says, in a sandbox with these regions
-pub record AreWordsTyped (code_at data_at : Span) (registers : List ℕ) : Type 0 where
-  pub each_data : (d : ℕ) → is_data_register d ≡ true → IsNear data_at slack (slice_index registers d)
+-- each typed register of code in words of this format holds what its type says, in a sandbox with these
+-- regions
+pub record AreWordsTyped (f : Format) (code_at data_at : Span) (registers : List ℕ) : Type 0 where
+  pub each_data : (d : ℕ) → is_data_register_in f d ≡ true → IsNear data_at slack (slice_index registers d)
   pub code : IsWordStart code_at (slice_index registers code_register)
-  pub offset : slice_index registers offset_register < data_at.size
+  pub offset : has_one_step f ≡ false → slice_index registers offset_register < data_at.size
 
 -- ---- of any format
 
@@ -62,7 +64,7 @@ pub record AreWordsTyped (code_at data_at : Span) (registers : List ℕ) : Type 
 -- a stack pointer, and in words six registers are typed. The first format has none, so nothing is asked.
 pub record IsTyped (p : Part) (registers : List ℕ) : Type 0 where
   pub stack : StackInData p registers
-  pub words : has_words p.format ≡ true → AreWordsTyped (code_region p) (data_region p) registers
+  pub words : has_words p.format ≡ true → AreWordsTyped p.format (code_region p) (data_region p) registers
 
 -- ==== How a host keeps a sandbox and answers its calls: the plain way, and others.
 

@@ -1,5 +1,5 @@
 -- Runs with direct gates are as runs of the image's own code, in a memory in which the springboards' bytes are the image's: each turn is one there.
-use Rattle.sfi_safety.proofs.Prelude.{◌≡◌, ℕ, zero, suc, ◌+◌, ◌-◌, ◌%◌, ◌^◌, ◌<◌, ◌≤◌, ◌⊎◌, List, [], ◌∷◌, length, refl, sym, ap, ◌∙◌, subst, inl, inr, ⊎_elim, cases_lt, arith, Option, Some, None, All, unit, Format, Sfi1, Sfi2, Sfiw, Instr, Ecall, Next, Call, Trap, Outcome, Accesses, address_after, Hart, State, Stepped, Stands, IsStep, unchanged, Part, Gate, IsRightPart, IsBundleStart, AreApart, code_region, guarded_region, InData, InGuard, InCode, IsGate, IsUnitStart, HasCode, IsTyped, Bytes, byte_at, Turn, Steps, Replies, Changes, IsTurn, KeepsBytes, after_step, after_turn, after_turns, IsSafeState, IsSafeStep}
+use Rattle.sfi_safety.proofs.Prelude.{◌≡◌, ℕ, zero, suc, ◌+◌, ◌-◌, ◌%◌, ◌^◌, ◌<◌, ◌≤◌, ◌⊎◌, List, [], ◌∷◌, length, refl, sym, ap, ◌∙◌, subst, inl, inr, ⊎_elim, cases_lt, arith, Option, Some, None, All, unit, Format, Sfi1, Sfi2, Sfiw, Instr, Ecall, Next, Call, Trap, Outcome, Accesses, address_after, Hart, State, Stepped, Stands, IsStep, unchanged, Part, Gate, IsRightPart, IsBundleStart, AreApart, code_region, guarded_region, InData, InGuard, InCode, IsGate, IsUnitStart, HasCode, IsTyped, Bytes, byte_at, Turn, Steps, Replies, Changes, after_step, after_turn, after_turns, IsSafeState}
 use Rattle.std.specs.Prelude.{IfSome, slice_get}
 use Rattle.rv_step.specs.Laws.{AgreeHere, IsSameStep}
 use Rattle.rv_comp.specs.declared.front.Front.TheVariants.{Read}
@@ -8,7 +8,7 @@ use Rattle.sfi_image.specs.declared.span.Span.{Span}
 use Rattle.sfi_image.proofs.Facts.{code_ends}
 use Rattle.sfi_safe_runs.specs.Safety.{IsTrap, TrapsIn, writable_region, IsSafeStateAs, IsSafeStepAs, IsSafeTurnAs, IsSafeRunAs, RunsSafelyAs}
 use Rattle.sfi_safe_runs.specs.Calling.{KeepsAllAs, IsCalling, CallsTypedAs}
-use Rattle.sfi_safe_runs.specs.Runs.{KeepsReserved, Zones, Empty, Padded, Calls, Direct, Setting, by_ecall, IsDirect, IsInBoard, HasEcall, HasCodeAs, HasGuards, KeepsGuards, KeepsBytesAs, StaysOutside, IsEntryAs, IsReplyAs, IsChangeAs, IsTurnAs, IsRunAs}
+use Rattle.sfi_safe_runs.specs.Runs.{KeepsReserved, Zones, Empty, Padded, Direct, Setting, by_ecall, IsDirect, IsInBoard, HasEcall, HasCodeAs, HasGuards, KeepsGuards, KeepsBytesAs, StaysOutside, IsEntryAs, IsReplyAs, IsChangeAs, IsTurnAs, IsRunAs}
 use Rattle.sfi_safe_runs.proofs.Entries.{bytes_over, there, elsewhere}
 use Rattle.sfi_safe_runs.proofs.Stepping.{stands_there, guarded, data_alone}
 use Rattle.sfi_safe_runs.proofs.SafeRuns.{no_change}

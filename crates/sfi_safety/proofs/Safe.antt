@@ -43,7 +43,7 @@ module _ (zones : Zones) (sandbox : ℕ) (p : Part) (clean : AreCleanBundles san
       let sixteen : s.hart.pc % 16 + n ≤ 16 = omega arith in
       subst (λ (u : ℕ). s.hart.pc % u + n ≤ u) (sym (bundles p.format clean.bundles)) sixteen
 
-  goes : (r : Stepped) → IsStep s r → r.outcome ≡ Next → (r.state.hart.pc ≡ address_after s.hart.pc n) ⊎ IsUnitStart p r.state.hart.pc
+  pub goes : (r : Stepped) → IsStep s r → r.outcome ≡ Next → (r.state.hart.pc ≡ address_after s.hart.pc n) ⊎ IsUnitStart p r.state.hart.pc
   goes r step done = by (subst (λ (o : Outcome). Leads sandbox p s.hart good.place.here.size o r.state.hart) done (step_leads zones sandbox p s clean good r step)).1
     where
       by : GoesTo p s.hart good.place.here.size r.state.hart.pc → (r.state.hart.pc ≡ address_after s.hart.pc n) ⊎ IsUnitStart p r.state.hart.pc
@@ -93,7 +93,7 @@ module _ (p : Part) (clean : IsCleanInWords p) (s : State) (i : Instr) (n : ℕ)
       (sized p (drop at.offset p.code) at.offset at.place.here base at.place.reading.0 at.place.none.0.width) in
       subst (λ (u : ℕ). s.hart.pc % u + n ≤ u) (sym (unit_is_word p.format clean.words)) four
 
-  word_goes : (r : Stepped) → IsStep s r → r.outcome ≡ Next → (r.state.hart.pc ≡ address_after s.hart.pc n) ⊎ IsUnitStart p r.state.hart.pc
+  pub word_goes : (r : Stepped) → IsStep s r → r.outcome ≡ Next → (r.state.hart.pc ≡ address_after s.hart.pc n) ⊎ IsUnitStart p r.state.hart.pc
   word_goes r step done = by (subst (λ (o : Outcome). WordLeads p good.place.place.here.instr good.place.place.here.size s.hart o r.state.hart) done (word_step_leads p s clean good r step))
     where
       by : WordLeads p good.place.place.here.instr good.place.place.here.size s.hart Next r.state.hart → (r.state.hart.pc ≡ address_after s.hart.pc n) ⊎ IsUnitStart p r.state.hart.pc

@@ -44,7 +44,7 @@ module _ (s : Sample) (is : IsSample s) (has : has_words s.format ≡ true) wher
       let reserved : HasReserved (reserved_of (sandbox s)) (at_word at).registers = record { code_base = refl; code_mask = sym mask; data_base = refl; data_mask = refl } in
       let base : IsNear (data_region (sandbox s)) 1020 0x01800000 = record { low = omega arith; high = omega arith } in
       let code : IsWordStart (code_region (sandbox s)) 0x010000fc = record { held = (omega arith, omega (arith, size)); aligned = refl } in
-      let typed : IsTyped (sandbox s) (at_word at).registers = of_words_typed (sandbox s) (at_word at).registers has (record { each_data = each_near (data_region (sandbox s)) (at_word at).registers base base base base; code = code; offset = omega arith }) in
+      let typed : IsTyped (sandbox s) (at_word at).registers = of_words_typed (sandbox s) (at_word at).registers has (record { each_data = each_near s.format (data_region (sandbox s)) (at_word at).registers base base base base; code = code; offset = λ _. omega arith }) in
       enters_with s is (at_word at) (is_hart at (omega arith) (omega (arith, few))) start reserved typed
 
   -- with that one finding, and a run from the word of that number that is not safe
@@ -58,16 +58,16 @@ module _ (s : Sample) (is : IsSample s) (has : has_words s.format ≡ true) wher
 
 -- a word has the findings of its reading and of the bytes that the reading leaves
 pub read_word : (b : BundlePlace) (at : ℕ) (owed next : Owed) (word : List ℕ) (reading : List Piece) (rest : List ℕ) (found : List Finding) → IsReading word reading → rest_of word reading ≡ rest → BeginsNothing rest
-    → found_from b at owed reading ++ rest_finding b (at + (4 - length rest)) rest ≡ found → cond (is_empty rest) (owed_past owed reading) Nothing ≡ next → IsWordFound b at owed word found next
+    → found_from b at owed reading ++ rest_finding b (at + (4 - length rest)) rest ≡ found → cond (is_empty rest) (owed_past b.format owed reading) Nothing ≡ next → IsWordFound b at owed word found next
 read_word b at owed next word reading rest found is left end e f = record {
   reading = reading;
   longest = longest_of word reading is (subst BeginsNothing (sym left) end);
   found_is = sym (subst (λ (rest : List ℕ). found_from b at owed reading ++ rest_finding b (at + (4 - length rest)) rest ≡ found) (sym left) e);
-  next_is = sym (subst (λ (rest : List ℕ). cond (is_empty rest) (owed_past owed reading) Nothing ≡ next) (sym left) f);
+  next_is = sym (subst (λ (rest : List ℕ). cond (is_empty rest) (owed_past b.format owed reading) Nothing ≡ next) (sym left) f);
 }
 
 -- the findings of a word that is one instruction
-pub one_word : (b : BundlePlace) (at : ℕ) (owed next : Owed) (i : Instr) (found : List Finding) → IsSpelled i → found_from b at owed (wide i ∷ []) ≡ found → owed_next owed i ≡ next → IsWordFound b at owed (to_le_bytes w32 (spelling i)) found next
+pub one_word : (b : BundlePlace) (at : ℕ) (owed next : Owed) (i : Instr) (found : List Finding) → IsSpelled i → found_from b at owed (wide i ∷ []) ≡ found → owed_next b.format owed i ≡ next → IsWordFound b at owed (to_le_bytes w32 (spelling i)) found next
 one_word b at owed next i found s e f = read_word b at owed next (to_le_bytes w32 (spelling i)) (wide i ∷ []) [] found (s, tt) refl (nothing_begins [] refl) (append-nil (found_from b at owed (wide i ∷ [])) ∙ e) f
 
 -- an ebreak has no finding where nothing is owed
@@ -144,8 +144,8 @@ module _ (a b c d : Instr) (sa : IsSpelled a) (sb : IsSpelled b) (sc : IsSpelled
   abbrev place : BundlePlace
   place = bundle_place 0 (sandbox (in_words (a ∷ b ∷ c ∷ d ∷ []))) 0
 
-  pub code_found : (n1 n2 n3 : Owed) (fa fb fc fd : List Finding) → found_from place 0x01000000 Nothing (wide a ∷ []) ≡ fa → owed_next Nothing a ≡ n1 → found_from place 0x01000004 n1 (wide b ∷ []) ≡ fb → owed_next n1 b ≡ n2
-      → found_from place 0x01000008 n2 (wide c ∷ []) ≡ fc → owed_next n2 c ≡ n3 → found_from place 0x0100000c n3 (wide d ∷ []) ≡ fd → owed_next n3 d ≡ Nothing
+  pub code_found : (n1 n2 n3 : Owed) (fa fb fc fd : List Finding) → found_from place 0x01000000 Nothing (wide a ∷ []) ≡ fa → owed_next Sfiw Nothing a ≡ n1 → found_from place 0x01000004 n1 (wide b ∷ []) ≡ fb → owed_next Sfiw n1 b ≡ n2
+      → found_from place 0x01000008 n2 (wide c ∷ []) ≡ fc → owed_next Sfiw n2 c ≡ n3 → found_from place 0x0100000c n3 (wide d ∷ []) ≡ fd → owed_next Sfiw n3 d ≡ Nothing
       → AreFindingsInWords 0 (sandbox (in_words (a ∷ b ∷ c ∷ d ∷ []))) (((fa ++ fb) ++ fc) ++ fd)
   code_found n1 n2 n3 fa fb fc fd ea oa eb ob ec oc ed od =
       first_found (spelling a) (spelling b) (spelling c) (spelling d) (((fa ++ fb) ++ fc) ++ fd)

@@ -76,7 +76,7 @@ pub record BreaksAloneInWord (rule : Rule) (address : ℕ) (p : Part) : Type 0 w
       filter (λ r. words.breaks (record {
         bundle = bundle_place 0 p number;
         address = address;
-        owed = owed_past owed earlier;
+        owed = owed_past p.format owed earlier;
         instr = here.instr;
         size = here.size;
       }) r) all_rules ≡ rule ∷ []

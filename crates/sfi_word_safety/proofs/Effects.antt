@@ -1,5 +1,5 @@
 -- What each instruction does, and what passes a test of the rules.
-use Rattle.sfi_word_safety.proofs.Prelude.{◌≡◌, ◌≢◌, ℕ, ◌<◌, true, false, ◌&&◌, ◌||◌, ◌==◌, refl, sym, ap, ◌∙◌, arith, ⊎_elim, Option, Some, None, ℤ, pos, negsuc, and_parts, or_cases, eqb-true, eq-eqb, false≢true, leb-true, ltb-true, destination, is_register, writes_register, Instr, Op, OpImm, Or, Addi, is_data_register, is_or, is_small, is_pointer_step, ◌+◌, ◌*◌, ◌%◌, ◌^◌, ◌≤◌, ◌⊎◌, List, length, Bool, cond, not, subst, inl, inr, slice_index, is_some, not-false, offset_by, Load, Store, Branch, Jal, Jalr, Lui, Auipc, Fence, Ecall, Ebreak, RegOp, LoadKind, Bytes, bytes_at, address_after, addresses, loaded, Hart, register, with_register, with_pc, past, even_of, effect, after_load, next, unchanged, word, result_of, load_size, store_size, is_taken, extended, Outcome, Next, Call, Trap, is_reserved, Part, is_gate_of, IsGate, breaks_reserved, ends_region, IsWordStart, HasReserved, is_word_start, breaks_ecall, breaks_jump, breaks_target}
+use Rattle.sfi_word_safety.proofs.Prelude.{◌≡◌, ◌≢◌, ℕ, ◌<◌, true, false, ◌&&◌, ◌||◌, ◌==◌, refl, sym, ap, ◌∙◌, arith, ⊎_elim, Option, Some, None, ℤ, pos, negsuc, and_parts, or_cases, eqb-true, eq-eqb, false≢true, leb-true, ltb-true, destination, is_register, writes_register, Instr, Op, OpImm, Or, Addi, is_data_register_in, is_or, is_small, is_pointer_step, ◌+◌, ◌*◌, ◌%◌, ◌^◌, ◌≤◌, ◌⊎◌, List, length, Bool, cond, not, Format, has_one_step, two_steps, is_reserved_in, subst, inl, inr, slice_index, is_some, not-false, offset_by, Load, Store, Branch, Jal, Jalr, Lui, Auipc, Fence, Ecall, Ebreak, RegOp, LoadKind, Bytes, bytes_at, address_after, addresses, loaded, Hart, register, with_register, with_pc, past, even_of, effect, after_load, next, unchanged, word, result_of, load_size, store_size, is_taken, extended, Outcome, Next, Call, Trap, Part, is_gate_of, IsGate, breaks_reserved, ends_region, IsWordStart, HasReserved, is_word_start, breaks_ecall, breaks_jump, breaks_target}
 use Rattle.sfi_safe_runs.proofs.Accessing.{IsWithin, kept, count_kept, written}
 use Rattle.std.specs.Prelude.{nat_le, nat_lt}
 use Rattle.rv_step.specs.declared.outcome.Cause.TheVariants as cause
@@ -25,18 +25,28 @@ pub record IsOther (d : ℕ) : Type 0 where
 other : (d k : ℕ) → (d == k) ≡ true → k < 32 → 0 < k → IsOther d
 other d k e below some = let same = eqb-true d k e in record { below = omega arith; some = λ none. omega arith }
 
-pub data_register : (d : ℕ) → is_data_register d ≡ true → IsOther d
-data_register d h =
+pub data_register : (f : Format) (d : ℕ) → is_data_register_in f d ≡ true → IsOther d
+data_register f d h =
     ⊎_elim
-    (λ (a : ((d == 2) || (d == 3) || (d == 4)) ≡ true). ⊎_elim
-    (λ (b : ((d == 2) || (d == 3)) ≡ true). ⊎_elim
-    (λ (c : (d == 2) ≡ true). other d 2 c (omega arith) (omega arith))
-    (λ (c : (d == 3) ≡ true). other d 3 c (omega arith) (omega arith))
-    (or_cases (d == 2) (d == 3) b))
-    (λ (b : (d == 4) ≡ true). other d 4 b (omega arith) (omega arith))
-    (or_cases ((d == 2) || (d == 3)) (d == 4) a))
-    (λ (a : (d == 29) ≡ true). other d 29 a (omega arith) (omega arith))
-    (or_cases ((d == 2) || (d == 3) || (d == 4)) (d == 29) h)
+    (λ (a : ((d == 2) || (d == 3) || (d == 4) || (d == 29)) ≡ true). one_of_four a)
+    (λ (a : (((d == 26) || (d == 31)) && has_one_step f) ≡ true). ⊎_elim
+    (λ (b : (d == 26) ≡ true). other d 26 b (omega arith) (omega arith))
+    (λ (b : (d == 31) ≡ true). other d 31 b (omega arith) (omega arith))
+    (or_cases (d == 26) (d == 31) (and_parts ((d == 26) || (d == 31)) (has_one_step f) a).0))
+    (or_cases ((d == 2) || (d == 3) || (d == 4) || (d == 29)) (((d == 26) || (d == 31)) && has_one_step f) h)
+  where
+    one_of_four : ((d == 2) || (d == 3) || (d == 4) || (d == 29)) ≡ true → IsOther d
+    one_of_four h =
+        ⊎_elim
+        (λ (a : ((d == 2) || (d == 3) || (d == 4)) ≡ true). ⊎_elim
+        (λ (b : ((d == 2) || (d == 3)) ≡ true). ⊎_elim
+        (λ (c : (d == 2) ≡ true). other d 2 c (omega arith) (omega arith))
+        (λ (c : (d == 3) ≡ true). other d 3 c (omega arith) (omega arith))
+        (or_cases (d == 2) (d == 3) b))
+        (λ (b : (d == 4) ≡ true). other d 4 b (omega arith) (omega arith))
+        (or_cases ((d == 2) || (d == 3)) (d == 4) a))
+        (λ (a : (d == 29) ≡ true). other d 29 a (omega arith) (omega arith))
+        (or_cases ((d == 2) || (d == 3) || (d == 4)) (d == 29) h)
 
 register_is : (r : ℕ) (o : Option ℕ) → is_register r o ≡ true → o ≡ Some r
 register_is r (Some d) h = ap Some (eqb-true d r h)
@@ -114,19 +124,19 @@ pub count_stays : (i : Instr) (h h' : Hart) → Writes i h h' → length h'.regi
 count_stays i h h' (inl e) = ap length e
 count_stays i h h' (inr (rd, value, at, e)) = ap length e ∙ count_kept rd value h
 
-not_reserved : (i : Instr) (r : ℕ) → breaks_reserved i ≡ false → is_reserved r ≡ true → destination i ≢ Some r
-not_reserved i r free is e = by (destination i) e free
+not_reserved : (f : Format) (i : Instr) (r : ℕ) → breaks_reserved f i ≡ false → is_reserved_in f r ≡ true → destination i ≢ Some r
+not_reserved f i r free is e = by (destination i) e free
   where
-    by : (o : Option ℕ) → o ≡ Some r → Rattle.sfi_rules.specs.Rules.is_reserved_one o ≡ false → ⊥
-    by None e f = cc
-    by (Some d) e f = let same : d ≡ r = cc in false≢true (sym f ∙ ap is_reserved same ∙ is)
+    by : (o : Option ℕ) → o ≡ Some r → Rattle.sfi_rules.specs.words.Rules.is_reserved_one f o ≡ false → ⊥
+    by None e g = cc
+    by (Some d) e g = let same : d ≡ r = cc in false≢true (sym g ∙ ap (is_reserved_in f) same ∙ is)
 
-pub reserved_stay : (p : Part) (i : Instr) (h h' : Hart) → Writes i h h' → breaks_reserved i ≡ false → HasReserved (reserved_of p) h.registers → HasReserved (reserved_of p) h'.registers
+pub reserved_stay : (p : Part) (i : Instr) (h h' : Hart) → Writes i h h' → breaks_reserved p.format i ≡ false → HasReserved (reserved_of p) h.registers → HasReserved (reserved_of p) h'.registers
 reserved_stay p i h h' w free has = record {
-  code_base = others_stay i h h' 24 w (not_reserved i 24 free refl) ∙ has.code_base;
-  code_mask = others_stay i h h' 25 w (not_reserved i 25 free refl) ∙ has.code_mask;
-  data_base = others_stay i h h' 26 w (not_reserved i 26 free refl) ∙ has.data_base;
-  data_mask = others_stay i h h' 27 w (not_reserved i 27 free refl) ∙ has.data_mask;
+  code_base = others_stay i h h' 24 w (not_reserved p.format i 24 free refl) ∙ has.code_base;
+  code_mask = others_stay i h h' 25 w (not_reserved p.format i 25 free refl) ∙ has.code_mask;
+  data_base = others_stay i h h' 26 w (not_reserved p.format i 26 free (rw (two_steps p.format) refl)) ∙ has.data_base;
+  data_mask = others_stay i h h' 27 w (not_reserved p.format i 27 free refl) ∙ has.data_mask;
 }
 
 -- an operation leaves its result

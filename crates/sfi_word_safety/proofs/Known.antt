@@ -1,5 +1,5 @@
 -- What is known of the typed registers before an instruction, and what it makes of that.
-use Rattle.sfi_word_safety.proofs.Prelude.{◌≡◌, ℕ, ◌+◌, ◌<◌, ◌≤◌, ◌⊎◌, List, ◌∷◌, length, true, false, not, ◌&&◌, ◌||◌, ◌==◌, refl, sym, ap, ◌∙◌, subst, inl, inr, ⊎_elim, arith, Option, Some, None, ℤ, slice_index, bit_and, bit_or, and_parts, or_cases, eqb-true, eq-eqb, not-false, false≢true, cases_Bool, offset_by, InRange, IsImm12, destination, is_register, writes_register, Instr, Op, OpImm, Load, Store, Branch, Jal, Jalr, Ecall, Addi, And, Or, Add, Bytes, address_after, Accesses, Hart, register, effect, word, result_of, load_size, store_size, is_masking, is_placing, Part, Piece, is_jump, InData, InGuard, is_data_register, IsWordStart, IsNear, HasReserved, AreWordsTyped, places, masks, begins_placing, begins_masking, begins_using, begins_code, is_pointer_step, uses, is_small, may_access, breaks_access, may_write_data, breaks_data_of, breaks_data, may_write_code, breaks_code, breaks_offset, IsRightPart, has_words, ◌-◌, IsKnown, IsCodeKnown, AreKnown}
+use Rattle.sfi_word_safety.proofs.Prelude.{◌≡◌, ℕ, ◌+◌, ◌<◌, ◌≤◌, ◌⊎◌, List, ◌∷◌, length, true, false, not, ◌&&◌, ◌||◌, ◌==◌, refl, sym, ap, ◌∙◌, subst, inl, inr, ⊎_elim, arith, Option, Some, None, ℤ, slice_index, bit_and, bit_or, and_parts, or_cases, eqb-true, eq-eqb, not-false, false≢true, cases_Bool, offset_by, InRange, IsImm12, destination, is_register, writes_register, Instr, Op, OpImm, Load, Store, Branch, Jal, Jalr, Ecall, Addi, And, Or, Add, Bytes, address_after, Accesses, Hart, register, effect, word, result_of, load_size, store_size, is_masking, is_placing, Part, Piece, is_jump, InData, InGuard, is_data_register_in, IsWordStart, IsNear, HasReserved, AreWordsTyped, places, masks, begins_placing, begins_masking, begins_using, begins_code, is_pointer_step, uses, is_small, may_access, breaks_access, may_write_data, breaks_data_of, breaks_data, may_write_code, breaks_code, breaks_offset, IsRightPart, has_words, ◌-◌, IsKnown, IsCodeKnown, AreKnown, Format, has_one_step, two_steps, is_or}
 use Rattle.sfi_formats.specs.Formats.{code_most}
 use Rattle.sfi_safe_runs.proofs.Accessing.{imm12_within, near_access, stepped, used, first_address, load_sized, store_sized, load_range, store_range, masked_code}
 use Rattle.sfi_safe_runs.proofs.Entries.{words as word_unit}
@@ -9,12 +9,19 @@ use Rattle.sfi_word_safety.proofs.Effects.{data_register, writes_it, writes_othe
 use Rattle.sfi_image.specs.Parts.{reserved_of}
 use Rattle.sfi_image.specs.Spelling.{code_region, data_region}
 
+-- no format has masks of one step, so a mask ends by `or d, x31, x26`
+places_is : (f : Format) (d : ℕ) (i : Instr) → places f d i ≡ is_or d 31 26 i
+places_is f d i = rw (two_steps f) refl
+
+placing_left : (f : Format) (d : ℕ) (later : List Piece) → (has_one_step f || begins_placing f d later) ≡ true → begins_placing f d later ≡ true
+placing_left f d later h = rw (two_steps f) at h
+
 step_range : (d : ℕ) (imm : ℤ) → InRange (OpImm Addi d d imm) → IsImm12 imm
 unfolding InRange
 step_range d imm h = h.2
 
 -- what holds where any instruction may stand is known before any
-pub typed_known : (p : Part) (registers : List ℕ) (pieces : List Piece) → AreWordsTyped (code_region p) (data_region p) registers → AreKnown p registers pieces
+pub typed_known : (p : Part) (registers : List ℕ) (pieces : List Piece) → AreWordsTyped p.format (code_region p) (data_region p) registers → AreKnown p registers pieces
 typed_known p registers pieces typed = record {
   each_data = λ d is. inl (typed.each_data d is);
   code = inl typed.code;
@@ -25,16 +32,16 @@ typed_known p registers pieces typed = record {
 
 -- nothing is known of a register by what stands here
 record IsPlain (i : Instr) : Type 0 where
-  pub places : (d : ℕ) → places d i ≡ false
-  pub masks : (d : ℕ) → masks d i ≡ false
+  pub places : (f : Format) (d : ℕ) → places f d i ≡ false
+  pub masks : (f : Format) (d : ℕ) → masks f d i ≡ false
   pub uses : (d : ℕ) → uses d i ≡ false
   pub placing : (b t : ℕ) → is_placing b t i ≡ false
   pub masking : (m t : ℕ) → is_masking m t i ≡ false
 
 near_here : (p : Part) (d v : ℕ) (x : Piece) (later : List Piece) → IsPlain x.instr → IsKnown p d v (x ∷ later) → IsNear (data_region p) 1020 v
 near_here p d v x later plain (inl lies) = lies
-near_here p d v x later plain (inr (inl h)) = absurd (false≢true (sym (plain.places d) ∙ h))
-near_here p d v x later plain (inr (inr (inl h))) = absurd (false≢true (sym (plain.masks d) ∙ (and_parts (masks d x.instr) (begins_placing d later) h).0))
+near_here p d v x later plain (inr (inl h)) = absurd (false≢true (sym (plain.places p.format d) ∙ h))
+near_here p d v x later plain (inr (inr (inl h))) = absurd (false≢true (sym (plain.masks p.format d) ∙ (and_parts (masks p.format d x.instr) (has_one_step p.format || begins_placing p.format d later) h).0))
 near_here p d v x later plain (inr (inr (inr h))) = absurd (false≢true (sym (plain.uses d) ∙ h.1))
 
 start_here : (p : Part) (v : ℕ) (x : Piece) (later : List Piece) → IsPlain x.instr → IsCodeKnown p v (x ∷ later) → IsWordStart (code_region p) v
@@ -42,9 +49,9 @@ start_here p v x later plain (inl start) = start
 start_here p v x later plain (inr h) = absurd (false≢true (sym (plain.placing 24 30) ∙ h.0))
 
 flow_plain : (i : Instr) → is_flow i ≡ true → IsPlain i
-flow_plain (Branch condition rs1 rs2 offset) h = record { places = λ d. refl; masks = λ d. refl; uses = λ d. refl; placing = λ b t. refl; masking = λ m t. refl }
-flow_plain (Jal rd offset) h = record { places = λ d. refl; masks = λ d. refl; uses = λ d. refl; placing = λ b t. refl; masking = λ m t. refl }
-flow_plain (Jalr rd rs1 imm) h = record { places = λ d. refl; masks = λ d. refl; uses = λ d. refl; placing = λ b t. refl; masking = λ m t. refl }
+flow_plain (Branch condition rs1 rs2 offset) h = record { places = λ f d. rw (two_steps f) refl; masks = λ f d. rw (two_steps f) refl; uses = λ d. refl; placing = λ b t. refl; masking = λ m t. refl }
+flow_plain (Jal rd offset) h = record { places = λ f d. rw (two_steps f) refl; masks = λ f d. rw (two_steps f) refl; uses = λ d. refl; placing = λ b t. refl; masking = λ m t. refl }
+flow_plain (Jalr rd rs1 imm) h = record { places = λ f d. rw (two_steps f) refl; masks = λ f d. rw (two_steps f) refl; uses = λ d. refl; placing = λ b t. refl; masking = λ m t. refl }
 flow_plain _ h = absurd (false≢true h)
 
 flow_jumps : (i : Instr) → is_flow i ≡ true → (r : ℕ) → destination i ≡ Some r → is_jump i ≡ true
@@ -64,9 +71,9 @@ pub code_at_flow : (p : Part) (registers : List ℕ) (x : Piece) (later : List P
 code_at_flow p registers x later flow known = start_here p _ x later (flow_plain x.instr flow) known.code
 
 ecall_plain : IsPlain Ecall
-ecall_plain = record { places = λ d. refl; masks = λ d. refl; uses = λ d. refl; placing = λ b t. refl; masking = λ m t. refl }
+ecall_plain = record { places = λ f d. rw (two_steps f) refl; masks = λ f d. rw (two_steps f) refl; uses = λ d. refl; placing = λ b t. refl; masking = λ m t. refl }
 
-pub typed_at_ecall : (p : Part) (registers : List ℕ) (x : Piece) (later : List Piece) → Ecall ≡ x.instr → AreKnown p registers (x ∷ later) → AreWordsTyped (code_region p) (data_region p) registers
+pub typed_at_ecall : (p : Part) (registers : List ℕ) (x : Piece) (later : List Piece) → Ecall ≡ x.instr → AreKnown p registers (x ∷ later) → AreWordsTyped p.format (code_region p) (data_region p) registers
 typed_at_ecall p registers x later e known =
     let plain = subst (λ (i : Instr). IsPlain i) e ecall_plain in
     record {
@@ -79,35 +86,35 @@ typed_at_ecall p registers x later e known =
 
 module _ (p : Part) (words : has_words p.format ≡ true) (right : IsRightPart p) (h : Hart) (reserved : HasReserved (reserved_of p) h.registers) where
   -- the base of an access lies near, or twice as far and the offset is small
-  base_lies : (x : Piece) (later : List Piece) (base : ℕ) (imm : ℤ) → AreKnown p h.registers (x ∷ later) → ((d : ℕ) → places d x.instr ≡ false) → ((d : ℕ) → masks d x.instr ≡ false)
-      → ((d : ℕ) → uses d x.instr ≡ true → is_small imm ≡ true) → may_access base ≡ true
+  base_lies : (x : Piece) (later : List Piece) (base : ℕ) (imm : ℤ) → AreKnown p h.registers (x ∷ later) → ((d : ℕ) → places p.format d x.instr ≡ false) → ((d : ℕ) → masks p.format d x.instr ≡ false)
+      → ((d : ℕ) → uses d x.instr ≡ true → is_small imm ≡ true) → may_access p.format base ≡ true
       → IsNear (data_region p) 1020 (register h base) ⊎ (IsNear (data_region p) (1020 + 2048) (register h base) × (is_small imm ≡ true))
   base_lies x later base imm known none none' small may =
       ⊎_elim
-      (λ (is : is_data_register base ≡ true). by (known.each_data base is))
+      (λ (is : is_data_register_in p.format base ≡ true). by (known.each_data base is))
       (λ (is : (base == 26) ≡ true).
       let e : register h base ≡ p.data_base = ap (λ (r : ℕ). register h r) (eqb-true base 26 is) ∙ reserved.data_base in
       let some : 256 ≤ p.data_size = right.data_placed.at_least in
       inl (record { low = omega arith; high = omega arith }))
-      (or_cases (is_data_register base) (base == 26) may)
+      (or_cases (is_data_register_in p.format base) (base == 26) may)
     where
       by : IsKnown p base (register h base) (x ∷ later) → IsNear (data_region p) 1020 (register h base) ⊎ (IsNear (data_region p) (1020 + 2048) (register h base) × (is_small imm ≡ true))
       by (inl lies) = inl lies
       by (inr (inl e)) = absurd (false≢true (sym (none base) ∙ e))
-      by (inr (inr (inl e))) = absurd (false≢true (sym (none' base) ∙ (and_parts (masks base x.instr) (begins_placing base later) e).0))
+      by (inr (inr (inl e))) = absurd (false≢true (sym (none' base) ∙ (and_parts (masks p.format base x.instr) (has_one_step p.format || begins_placing p.format base later) e).0))
       by (inr (inr (inr (lies, used_here)))) = inr (lies, small base used_here)
 
   access_near : (v : ℕ) (imm : ℤ) (n a : ℕ) → IsImm12 imm → n ≤ 4 → IsNear (data_region p) 1020 v ⊎ (IsNear (data_region p) (1020 + 2048) v × (is_small imm ≡ true)) → Rattle.std.specs.List.Contains (Rattle.rv_mem.specs.Bytes.addresses (offset_by v imm) n) a → InData p a ⊎ InGuard p a
   access_near v imm n a range few (inl lies) has = near_access p right.guard_room v 1020 2048 imm n a lies (imm12_within imm range) (omega arith) few has
   access_near v imm n a range few (inr (lies, small)) has = near_access p right.guard_room v (1020 + 2048) 1020 imm n a lies (small_within imm small) (omega arith) few has
 
-  pub accesses_near : (i : Instr) (n : ℕ) (later : List Piece) → InRange i → breaks_access i ≡ false → AreKnown p h.registers (record { instr = i; size = n } ∷ later) → (a : ℕ) → Accesses i h a → InData p a ⊎ InGuard p a
+  pub accesses_near : (i : Instr) (n : ℕ) (later : List Piece) → InRange i → breaks_access p.format i ≡ false → AreKnown p h.registers (record { instr = i; size = n } ∷ later) → (a : ℕ) → Accesses i h a → InData p a ⊎ InGuard p a
   accesses_near (Load kind rd rs1 imm) n later range free known a has =
       access_near (register h rs1) imm (load_size kind) a (load_range kind rd rs1 imm range) (load_sized kind).most
-      (base_lies (record { instr = Load kind rd rs1 imm; size = n }) later rs1 imm known (λ d. refl) (λ d. refl) (λ d u. (and_parts (rs1 == d) (is_small imm) (and_parts ((rs1 == d) && is_small imm) (not (rd == 0)) u).0).1) (not-false _ free)) has
+      (base_lies (record { instr = Load kind rd rs1 imm; size = n }) later rs1 imm known (λ d. rw (two_steps p.format) refl) (λ d. rw (two_steps p.format) refl) (λ d u. (and_parts (rs1 == d) (is_small imm) (and_parts ((rs1 == d) && is_small imm) (not (rd == 0)) u).0).1) (not-false _ free)) has
   accesses_near (Store width rs1 rs2 imm) n later range free known a has =
       access_near (register h rs1) imm (store_size width) a (store_range width rs1 rs2 imm range) (store_sized width).most
-      (base_lies (record { instr = Store width rs1 rs2 imm; size = n }) later rs1 imm known (λ d. refl) (λ d. refl) (λ d u. (and_parts (rs1 == d) (is_small imm) u).1) (not-false _ free)) has
+      (base_lies (record { instr = Store width rs1 rs2 imm; size = n }) later rs1 imm known (λ d. rw (two_steps p.format) refl) (λ d. rw (two_steps p.format) refl) (λ d u. (and_parts (rs1 == d) (is_small imm) u).1) (not-false _ free)) has
   accesses_near other n later range free known a (k, below, is) = absurd (omega arith)
 
   -- a use that fell into the data leaves its base near them
@@ -139,41 +146,41 @@ module _ (p : Part) (words : has_words p.format ≡ true) (right : IsRightPart p
 
     data_stays : (d : ℕ) → IsKnown p d (register h d) (x ∷ later) → writes_register d x.instr ≡ false → ((a : ℕ) → Accesses x.instr h a → InData p a) → IsKnown p d (register after d) later
     data_stays d (inl lies) none inside = inl (subst (λ (a : ℕ). IsNear (data_region p) 1020 a) (sym (stays d none)) lies)
-    data_stays d (inr (inl e)) none inside = absurd (clash d (Op Or d 31 26) (or_is d 31 26 x.instr e) refl none)
-    data_stays d (inr (inr (inl e))) none inside = inr (inl (and_parts (masks d x.instr) (begins_placing d later) e).1)
+    data_stays d (inr (inl e)) none inside = absurd (clash d (Op Or d 31 26) (or_is d 31 26 x.instr (sym (places_is p.format d x.instr) ∙ e)) refl none)
+    data_stays d (inr (inr (inl e))) none inside = inr (inl (placing_left p.format d later (and_parts (masks p.format d x.instr) (has_one_step p.format || begins_placing p.format d later) e).1))
     data_stays d (inr (inr (inr (lies, used_here)))) none inside =
         inl (subst (λ (a : ℕ). IsNear (data_region p) 1020 a) (sym (stays d none)) (uses_back d x.instr used_here lies inside))
 
     step_near : (d : ℕ) (imm : ℤ) → x.instr ≡ OpImm Addi d d imm → IsKnown p d (register h d) (x ∷ later) → IsNear (data_region p) 1020 (register h d)
     step_near d imm e known = near_here p d (register h d) (record { instr = OpImm Addi d d imm; size = x.size }) later
-        (record { places = λ d. refl; masks = λ d. refl; uses = λ d. refl; placing = λ b t. refl; masking = λ m t. refl })
+        (record { places = λ f d. rw (two_steps f) refl; masks = λ f d. rw (two_steps f) refl; uses = λ d. refl; placing = λ b t. refl; masking = λ m t. refl })
         (subst (λ (i : Instr). IsKnown p d (register h d) (record { instr = i; size = x.size } ∷ later)) e known)
 
-    data_written : (d : ℕ) → is_data_register d ≡ true → writes_register d x.instr ≡ true → breaks_data x.instr later ≡ false → IsKnown p d (register after d) later
+    data_written : (d : ℕ) → is_data_register_in p.format d ≡ true → writes_register d x.instr ≡ true → breaks_data p.format x.instr later ≡ false → IsKnown p d (register after d) later
     data_written d is some free =
-        let o = data_register d is in
+        let o = data_register p.format d is in
         let within : d < length h.registers = omega (arith, o.below, count) in
-        let free' : (is_data_register d && not (may_write_data d x.instr later)) ≡ false = subst (λ (t : Option ℕ). breaks_data_of t x.instr later ≡ false) (writes_it d x.instr some) free in
-        let may : may_write_data d x.instr later ≡ true = not-false _ (rw is at free') in
+        let free' : (is_data_register_in p.format d && not (may_write_data p.format d x.instr later)) ≡ false = subst (λ (t : Option ℕ). breaks_data_of p.format t x.instr later ≡ false) (writes_it d x.instr some) free in
+        let may : may_write_data p.format d x.instr later ≡ true = not-false _ (rw is at free') in
         ⊎_elim
-        (λ (l : (places d x.instr || (not (is_jump x.instr) && begins_masking d later)) ≡ true). ⊎_elim
-        (λ (e : places d x.instr ≡ true).
-        let value : register after d ≡ bit_or (register h 31) (register h 26) = result_there x.instr Or d 31 26 x.size h m (or_is d 31 26 x.instr e) o.some within in
+        (λ (l : (places p.format d x.instr || (not (is_jump x.instr) && begins_masking p.format d later)) ≡ true). ⊎_elim
+        (λ (e : places p.format d x.instr ≡ true).
+        let value : register after d ≡ bit_or (register h 31) (register h 26) = result_there x.instr Or d 31 26 x.size h m (or_is d 31 26 x.instr (sym (places_is p.format d x.instr) ∙ e)) o.some within in
         let value' : register after d ≡ bit_or (register h 31) p.data_base = value ∙ ap (λ n. bit_or (register h 31) n) reserved.data_base in
-        let lies = at.placed p.data_base p.data_size 256 1048576 (register h 31) right.data_placed known.offset in
+        let lies = at.placed p.data_base p.data_size 256 1048576 (register h 31) right.data_placed (known.offset (two_steps p.format)) in
         let from : p.data_base ≤ bit_or (register h 31) p.data_base = lies.from in
         let below : bit_or (register h 31) p.data_base < p.data_base + p.data_size = lies.below in
         inl (record { low = omega arith; high = omega arith }))
-        (λ (e : (not (is_jump x.instr) && begins_masking d later) ≡ true). inr (inr (inl (and_parts (not (is_jump x.instr)) (begins_masking d later) e).1)))
-        (or_cases (places d x.instr) (not (is_jump x.instr) && begins_masking d later) l))
+        (λ (e : (not (is_jump x.instr) && begins_masking p.format d later) ≡ true). inr (inr (inl (and_parts (not (is_jump x.instr)) (begins_masking p.format d later) e).1)))
+        (or_cases (places p.format d x.instr) (not (is_jump x.instr) && begins_masking p.format d later) l))
         (λ (l : (is_pointer_step d x.instr && begins_using d later) ≡ true).
         let both = and_parts (is_pointer_step d x.instr) (begins_using d later) l in
         let step = step_is d x.instr both.0 in
         let value : register after d ≡ result_of Add (register h d) (word step.0) = step_there x.instr d d x.size step.0 h m step.1 o.some within in
         inr (inr (inr (subst (λ (a : ℕ). IsNear (data_region p) (1020 + 2048) a) (sym value) (stepped p right.guard_room (register h d) step.0 (step_near d step.0 step.1 (known.each_data d is)) (imm12_within step.0 (step_range d step.0 (subst (λ (i : Instr). InRange i) step.1 range)))), both.1))))
-        (or_cases (places d x.instr || (not (is_jump x.instr) && begins_masking d later)) (is_pointer_step d x.instr && begins_using d later) may)
+        (or_cases (places p.format d x.instr || (not (is_jump x.instr) && begins_masking p.format d later)) (is_pointer_step d x.instr && begins_using d later) may)
 
-    data_after : (d : ℕ) → is_data_register d ≡ true → breaks_data x.instr later ≡ false → ((a : ℕ) → Accesses x.instr h a → InData p a) → IsKnown p d (register after d) later
+    data_after : (d : ℕ) → is_data_register_in p.format d ≡ true → breaks_data p.format x.instr later ≡ false → ((a : ℕ) → Accesses x.instr h a → InData p a) → IsKnown p d (register after d) later
     data_after d is free inside =
         ⊎_elim
         (λ (some : writes_register d x.instr ≡ true). data_written d is some free)
@@ -214,32 +221,32 @@ module _ (p : Part) (words : has_words p.format ≡ true) (right : IsRightPart p
         (cases_Bool (writes_register 30 x.instr))
 
     -- the offset register
-    offset_after : breaks_offset x.instr ≡ false → register after 31 < p.data_size
-    offset_after free =
+    offset_after : has_one_step p.format ≡ false → breaks_offset p.format x.instr ≡ false → register after 31 < p.data_size
+    offset_after two free =
         ⊎_elim
         (λ (some : writes_register 31 x.instr ≡ true).
-        let may : is_masking 27 31 x.instr ≡ true = not-false _ (rw some at free) in
+        let may : is_masking 27 31 x.instr ≡ true = not-false _ (rw (some, two) at free) in
         let within : 31 < length h.registers = omega (arith, count) in
         let mask = masking_is 27 31 x.instr may in
         let value : register after 31 ≡ bit_and (register h mask.0) (register h 27) = result_there x.instr And 31 mask.0 27 x.size h m mask.1 (λ z. omega arith) within in
         let below = at.offset_below p.data_base p.data_size 256 1048576 (register h mask.0) right.data_placed in
         subst (λ (a : ℕ). a < p.data_size) (sym (value ∙ ap (λ n. bit_and (register h mask.0) n) reserved.data_mask)) below)
-        (λ (none : writes_register 31 x.instr ≡ false). subst (λ (a : ℕ). a < p.data_size) (sym (stays 31 none)) known.offset)
+        (λ (none : writes_register 31 x.instr ≡ false). subst (λ (a : ℕ). a < p.data_size) (sym (stays 31 none)) (known.offset two))
         (cases_Bool (writes_register 31 x.instr))
 
     -- what is known before what stands after it
-    pub known_after : breaks_data x.instr later ≡ false → breaks_code x.instr later ≡ false → breaks_offset x.instr ≡ false → ((a : ℕ) → Accesses x.instr h a → InData p a) → AreKnown p after.registers later
+    pub known_after : breaks_data p.format x.instr later ≡ false → breaks_code x.instr later ≡ false → breaks_offset p.format x.instr ≡ false → ((a : ℕ) → Accesses x.instr h a → InData p a) → AreKnown p after.registers later
     known_after v10 v11 v12 inside = record {
       each_data = λ d is. data_after d is v10 inside;
       code = code_after v11;
-      offset = offset_after v12;
+      offset = λ two. offset_after two v12;
     }
 
     -- a jump or branch leaves all of them as they were, and they hold what is theirs
     flow_other : (r : ℕ) → is_flow x.instr ≡ true → (destination x.instr ≡ Some r → ⊥) → register after r ≡ register h r
     flow_other r flow none = others_stay x.instr h after r (writes x.instr x.size h m) none
 
-    pub typed_after : is_flow x.instr ≡ true → breaks_data x.instr later ≡ false → breaks_code x.instr later ≡ false → breaks_offset x.instr ≡ false → AreWordsTyped (code_region p) (data_region p) after.registers
+    pub typed_after : is_flow x.instr ≡ true → breaks_data p.format x.instr later ≡ false → breaks_code x.instr later ≡ false → breaks_offset p.format x.instr ≡ false → AreWordsTyped p.format (code_region p) (data_region p) after.registers
     typed_after flow v10 v11 v12 =
         let plain = flow_plain x.instr flow in
         record {
@@ -248,23 +255,23 @@ module _ (p : Part) (words : has_words p.format ≡ true) (right : IsRightPart p
               (sym (flow_other d flow (λ e. not_data d is e)))
               (near_here p d (register h d) x later plain (known.each_data d is));
           code = subst (λ (a : ℕ). IsWordStart (code_region p) a) (sym (flow_other 30 flow not_code)) (start_here p (register h 30) x later plain known.code);
-          offset = subst (λ (a : ℕ). a < p.data_size) (sym (flow_other 31 flow not_offset)) known.offset;
+          offset = λ two. subst (λ (a : ℕ). a < p.data_size) (sym (flow_other 31 flow (not_offset two))) (known.offset two);
         }
       where
         plain : IsPlain x.instr
         plain = flow_plain x.instr flow
 
-        none_may : (d : ℕ) → destination x.instr ≡ Some d → may_write_data d x.instr later ≡ false
+        none_may : (d : ℕ) → destination x.instr ≡ Some d → may_write_data p.format d x.instr later ≡ false
         none_may d e =
-            let a = plain.places d in
+            let a = plain.places p.format d in
             let b = flow_no_step x.instr flow d in
             let c = flow_jumps x.instr flow d e in
             rw (a, b, c) refl
 
-        not_data : (d : ℕ) → is_data_register d ≡ true → destination x.instr ≡ Some d → ⊥
+        not_data : (d : ℕ) → is_data_register_in p.format d ≡ true → destination x.instr ≡ Some d → ⊥
         not_data d is e =
-            let free : (is_data_register d && not (may_write_data d x.instr later)) ≡ false = subst (λ (t : Option ℕ). breaks_data_of t x.instr later ≡ false) e v10 in
-            let may : may_write_data d x.instr later ≡ true = not-false _ (rw is at free) in
+            let free : (is_data_register_in p.format d && not (may_write_data p.format d x.instr later)) ≡ false = subst (λ (t : Option ℕ). breaks_data_of p.format t x.instr later ≡ false) e v10 in
+            let may : may_write_data p.format d x.instr later ≡ true = not-false _ (rw is at free) in
             false≢true (sym (none_may d e) ∙ may)
 
         writes_one : (r : ℕ) → destination x.instr ≡ Some r → writes_register r x.instr ≡ true
@@ -278,8 +285,8 @@ module _ (p : Part) (words : has_words p.format ≡ true) (right : IsRightPart p
             let b = plain.masking 25 30 in
             false≢true (rw (a, b) at may)
 
-        not_offset : destination x.instr ≡ Some 31 → ⊥
-        not_offset e =
+        not_offset : has_one_step p.format ≡ false → destination x.instr ≡ Some 31 → ⊥
+        not_offset two e =
             let some = writes_one 31 e in
-            let may : is_masking 27 31 x.instr ≡ true = not-false _ (rw some at v12) in
+            let may : is_masking 27 31 x.instr ≡ true = not-false _ (rw (some, two) at v12) in
             false≢true (sym (plain.masking 27 31) ∙ may)

@@ -54,7 +54,7 @@ word_of p n k below inside =
 
 module _ (sandbox : ℕ) (p : Part) (right : IsRightPart p) (base : p.code_base % 16 ≡ 0) where
   place : (n : ℕ) → IsPlaceIn p (bundle_place sandbox p n)
-  place n = record { base = refl; size = refl }
+  place n = record { base = refl; size = refl; format = refl }
 
   words_tell : (n k : ℕ) (o next : Owed) (before found : List Finding) → k ≤ 4 → 16 * n + 16 ≤ length p.code → AreFoundInWords (bundle_place sandbox p n) o (bundle_bytes p n) k found next → Tells p (16 * n) o before
       → Tells p (16 * n + 4 * k) next (before ++ found)

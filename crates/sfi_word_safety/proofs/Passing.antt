@@ -1,7 +1,7 @@
 -- What a scan in one pass keeps: the sandbox is clean where the rest of its code is, and what is owed comes.
-use Rattle.sfi_word_safety.proofs.Prelude.{◌≡◌, ◌↔◌, ℕ, ◌+◌, ◌≤◌, List, [], ◌∷◌, length, take, drop, Bool, true, false, not, ◌&&◌, Option, Some, refl, sym, ap, ◌∙◌, subst, arith, add-zero, length-drop, drop-drop, Instr, Spells, Part, Piece, IsReading, rest_of, is_empty, breaks_reserved, ends_region, is_gate_of, Owed, Nothing, Mask, PlaceOnly, MaskOrUse, Code, fails_data, fails_code}
+use Rattle.sfi_word_safety.proofs.Prelude.{◌≡◌, ◌↔◌, ℕ, ◌+◌, ◌≤◌, List, [], ◌∷◌, length, take, drop, Bool, true, false, not, ◌&&◌, Option, Some, refl, sym, ap, ◌∙◌, subst, arith, add-zero, length-drop, drop-drop, Instr, Spells, Part, Piece, IsReading, rest_of, is_empty, ends_region, is_gate_of, Owed, Nothing, Mask, PlaceOnly, MaskOrUse, Code, fails_data, fails_code, Format}
 use Rattle.std.proofs.lemmas.Bool.{and_parts, and_from, not-true, not-false}
-use Rattle.sfi_rules.specs.words.Rules.{breaks_width, breaks_ecall, breaks_access, breaks_jump, breaks_target, breaks_end, breaks_data, breaks_code, breaks_offset}
+use Rattle.sfi_rules.specs.words.Rules.{breaks_width, breaks_ecall, breaks_reserved, breaks_access, breaks_jump, breaks_target, breaks_end, breaks_data, breaks_code, breaks_offset}
 use Rattle.sfi_word_safety.specs.Code.{BreaksNone, BreakNone, AreWordsClean}
 use Rattle.sfi_rules.proofs.OneList.{IsStuck, spelled_within, front_one}
 use Rattle.sfi_word_safety.proofs.Owing.{meets, meets_if, owed_after, is_nothing, keeps, after_is}
@@ -66,18 +66,18 @@ at_last p at past = record {
 
 pub record IsCleanWith (p : Part) (at : ℕ) (owed : Owed) (ended : Bool) : Type 0 where
   pub rest : IsCleanFrom p at
-  pub met : meets owed rest.pieces ≡ true
+  pub met : meets p.format owed rest.pieces ≡ true
   pub end : (is_empty rest.pieces && not ended) ≡ false
 
 -- none of the rules that don't look ahead is broken by the piece at this address
 pub record BreaksNoneHere (p : Part) (at : ℕ) (x : Piece) : Type 0 where
   pub width : breaks_width at x.size ≡ false
   pub ecall : breaks_ecall (is_gate_of p.gates at) x.instr ≡ false
-  pub reserved : breaks_reserved x.instr ≡ false
-  pub access : breaks_access x.instr ≡ false
+  pub reserved : breaks_reserved p.format x.instr ≡ false
+  pub access : breaks_access p.format x.instr ≡ false
   pub jump : breaks_jump x.instr ≡ false
   pub target : breaks_target p.code_base (length p.code) at x.instr ≡ false
-  pub offset_write : breaks_offset x.instr ≡ false
+  pub offset_write : breaks_offset p.format x.instr ≡ false
 
 abbrev pub IsSameWith : Part → ℕ → Owed → Bool → Type 0
 IsSameWith p at owed ended = AreWordsClean p ↔ IsCleanWith p at owed ended
@@ -92,12 +92,12 @@ with_first p = (
   λ c. (at_first p).1 c.rest,
 )
 
-nothing_meets : (o : Owed) (later : List Piece) → is_nothing o ≡ true → meets o later ≡ true
-nothing_meets Nothing later h = refl
-nothing_meets (Mask d) later h = absurd cc
-nothing_meets (PlaceOnly d) later h = absurd cc
-nothing_meets (MaskOrUse d) later h = absurd cc
-nothing_meets Code later h = absurd cc
+nothing_meets : (f : Format) (o : Owed) (later : List Piece) → is_nothing o ≡ true → meets f o later ≡ true
+nothing_meets f Nothing later h = refl
+nothing_meets f (Mask d) later h = absurd cc
+nothing_meets f (PlaceOnly d) later h = absurd cc
+nothing_meets f (MaskOrUse d) later h = absurd cc
+nothing_meets f Code later h = absurd cc
 
 no_bytes : (p : Part) (at : ℕ) → length p.code ≤ at → IsStuck (drop at p.code)
 no_bytes p at past i n s =
@@ -109,10 +109,10 @@ pub with_last : (p : Part) (at : ℕ) (o : Owed) (e : Bool) → length p.code �
 with_last p at o e past h =
     let both = and_parts (is_nothing o) e h in
     let r = at_last p at past in
-    record { rest = r; met = nothing_meets o r.pieces both.0; end = rw both.1 (no_end (is_empty r.pieces)) }
+    record { rest = r; met = nothing_meets p.format o r.pieces both.0; end = rw both.1 (no_end (is_empty r.pieces)) }
 
-keeps_from : (i : Instr) (later : List Piece) → breaks_data i later ≡ false → breaks_code i later ≡ false → keeps i later ≡ true
-keeps_from i later d c = rw (d, c) refl
+keeps_from : (f : Format) (i : Instr) (later : List Piece) → breaks_data f i later ≡ false → breaks_code i later ≡ false → keeps f i later ≡ true
+keeps_from f i later d c = rw (d, c) refl
 
 module _ (p : Part) (at : ℕ) (i : Instr) (n : ℕ) (s : Spells (take n (drop at p.code)) i n) (o : Owed) (e : Bool) where
   abbrev x : Piece
@@ -125,7 +125,7 @@ module _ (p : Part) (at : ℕ) (i : Instr) (n : ℕ) (s : Spells (take n (drop a
     pub whole : rest_of (drop (at + n) p.code) later ≡ []
     pub none : BreaksNone p (p.code_base + at) (record { instr = i; size = n }) later
     pub later_none : BreakNone p (p.code_base + (at + n)) later
-    pub met : meets o (record { instr = i; size = n } ∷ later) ≡ true
+    pub met : meets p.format o (record { instr = i; size = n } ∷ later) ≡ true
 
   parts : IsCleanWith p at o e → Parts
   parts c =
@@ -139,23 +139,23 @@ module _ (p : Part) (at : ℕ) (i : Instr) (n : ℕ) (s : Spells (take n (drop a
         whole = subst (λ (l : List ℕ). rest_of l b.rest ≡ []) moved b.whole;
         none = none.0;
         later_none = subst (λ (a : ℕ). BreakNone p a b.rest) sum none.1;
-        met = subst (λ (l : List Piece). meets o l ≡ true) b.is c.met;
+        met = subst (λ (l : List Piece). meets p.format o l ≡ true) b.is c.met;
       }
 
-  come : (q : Parts) → meets_if (owed_after o i) q.later ≡ true
-  come q = sym (after_is o x q.later) ∙ and_from (meets o (x ∷ q.later)) (keeps i q.later) q.met (keeps_from i q.later q.none.data_write q.none.code_write)
+  come : (q : Parts) → meets_if p.format (owed_after p.format o i) q.later ≡ true
+  come q = sym (after_is p.format o x q.later) ∙ and_from (meets p.format o (x ∷ q.later)) (keeps p.format i q.later) q.met (keeps_from p.format i q.later q.none.data_write q.none.code_write)
 
   -- what a clean sandbox keeps here
   pub record IsKeptHere : Type 0 where
     pub here : BreaksNoneHere p (p.code_base + at) (record { instr = i; size = n })
-    pub data_met : fails_data o i ≡ false
-    pub code_met : fails_code o i ≡ false
+    pub data_met : fails_data p.format o i ≡ false
+    pub code_met : fails_code p.format o i ≡ false
     pub end : length p.code ≤ at + n → ends_region i ≡ true
 
   pub kept_here : IsSameWith p at o e → AreWordsClean p → IsKeptHere
   kept_here same c =
       let q = parts (same.0 c) in
-      let two = none_failing o (record { instr = i; size = n }) q.later q.met (keeps_from i q.later q.none.data_write q.none.code_write) in
+      let two = none_failing p.format o (record { instr = i; size = n }) q.later q.met (keeps_from p.format i q.later q.none.data_write q.none.code_write) in
       record {
         here = record { width = q.none.width; ecall = q.none.ecall; reserved = q.none.reserved; access = q.none.access; jump = q.none.jump; target = q.none.target; offset_write = q.none.offset_write };
         data_met = two.0;
@@ -166,13 +166,13 @@ module _ (p : Part) (at : ℕ) (i : Instr) (n : ℕ) (s : Spells (take n (drop a
             not-false (ends_region i) kept;
       }
 
-  pub goes : (next : Owed) → owed_after o i ≡ Some next → BreaksNoneHere p (p.code_base + at) (record { instr = i; size = n }) → IsSameWith p at o e → IsSameWith p (at + n) next (ends_region i)
+  pub goes : (next : Owed) → owed_after p.format o i ≡ Some next → BreaksNoneHere p (p.code_base + at) (record { instr = i; size = n }) → IsSameWith p at o e → IsSameWith p (at + n) next (ends_region i)
   goes next after here same = (
     λ c.
         let q = parts (same.0 c) in
         record {
           rest = record { pieces = q.later; reading = q.reading; whole = q.whole; none = q.later_none };
-          met = sym (ap (λ (t : Option Owed). meets_if t q.later) after) ∙ come q;
+          met = sym (ap (λ (t : Option Owed). meets_if p.format t q.later) after) ∙ come q;
           end = q.none.end;
         },
     λ c. same.1 (joined c),
@@ -183,9 +183,9 @@ module _ (p : Part) (at : ℕ) (i : Instr) (n : ℕ) (s : Spells (take n (drop a
           let later = c.rest.pieces in
           let moved : drop n (drop at p.code) ≡ drop (at + n) p.code = drop-drop n at p.code in
           let sum : p.code_base + at + n ≡ p.code_base + (at + n) = omega arith in
-          let come' : meets_if (owed_after o i) later ≡ true = ap (λ (t : Option Owed). meets_if t later) after ∙ c.met in
-          let two = and_parts (meets o (x ∷ later)) (keeps i later) (after_is o x later ∙ come') in
-          let kept = and_parts (not (breaks_data i later)) (not (breaks_code i later)) two.1 in
+          let come' : meets_if p.format (owed_after p.format o i) later ≡ true = ap (λ (t : Option Owed). meets_if p.format t later) after ∙ c.met in
+          let two = and_parts (meets p.format o (x ∷ later)) (keeps p.format i later) (after_is p.format o x later ∙ come') in
+          let kept = and_parts (not (breaks_data p.format i later)) (not (breaks_code i later)) two.1 in
           record {
             rest = record {
               pieces = record { instr = i; size = n } ∷ later;

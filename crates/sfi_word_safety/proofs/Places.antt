@@ -62,7 +62,7 @@ module _ (p : Part) (clean : IsCleanInWords p) where
       place_from k aligned below c.reading 0 c.is_reading c.whole (subst (λ (at : ℕ). BreakNone p at c.reading) (sym (add-zero p.code_base)) c.none) (omega arith) (omega arith)
 
   -- with the typed registers set
-  pub at_start : (h : Hart) → IsWordStart (code_region p) h.pc → AreWordsTyped (code_region p) (data_region p) h.registers → IsAtPlaceInWords p h
+  pub at_start : (h : Hart) → IsWordStart (code_region p) h.pc → AreWordsTyped p.format (code_region p) (data_region p) h.registers → IsAtPlaceInWords p h
   at_start h start typed =
       let base = base_aligned in
       let from : p.code_base ≤ h.pc = start.held.0 in

@@ -19,14 +19,14 @@ pub use Rattle.rv_step.specs.State.{Hart, State, register, with_register, with_p
 pub use Rattle.rv_step.specs.declared.outcome.Outcome.{Outcome}
 pub use Rattle.rv_step.specs.declared.outcome.Outcome.TheVariants.{Next, Call, Trap}
 pub use Rattle.sfi_pairs.specs.Pairs.{is_masking, is_placing, is_small, uses}
-pub use Rattle.sfi_formats.specs.Formats.{is_reserved, is_data_register, has_words}
+pub use Rattle.sfi_formats.specs.Formats.{is_reserved, is_reserved_in, is_data_register_in, has_words, has_one_step}
 pub use Rattle.sfi_image.specs.Spelling.{Part, IsNear}
 pub use Rattle.sfi_image.specs.Parts.{is_gate_of, IsRightPart, HasReserved, IsWordStart}
 pub use Rattle.sfi_rules.specs.Readings.{Piece, IsReading, rest_of, is_jump}
-pub use Rattle.sfi_rules.specs.Rules.{is_empty, breaks_reserved, ends_region}
+pub use Rattle.sfi_rules.specs.Rules.{is_empty, ends_region}
 pub use Rattle.sfi_safe_runs.specs.Runs.{InData, InGuard, IsGate, HasCode, IsReply, IsChange, IsTurn, Turn, Steps, Replies, Changes, after_step, after_turn, AreWordsTyped}
 pub use Rattle.sfi_safe_runs.specs.Safety.{IsSafeState, IsSafeStep}
-pub use Rattle.sfi_rules.specs.words.Rules.{is_or, places, masks, begins_placing, begins_masking, is_pointer_step, begins_using, begins_code, breaks_width, breaks_ecall, may_access, breaks_access, breaks_jump, is_word_start, breaks_target, may_write_data, breaks_data_of, breaks_data, may_write_code, breaks_code, breaks_offset, left, owed_by_data, owed_by_code, owed_of, owed_by, owed_next}
+pub use Rattle.sfi_rules.specs.words.Rules.{is_or, places, masks, begins_placing, begins_masking, is_pointer_step, begins_using, begins_code, breaks_width, breaks_ecall, breaks_reserved, may_access, breaks_access, breaks_jump, is_word_start, breaks_target, may_write_data, breaks_data_of, breaks_data, may_write_code, breaks_code, breaks_offset, left, owed_by_data, owed_by_code, owed_of, owed_by, owed_next}
 pub use Rattle.sfi_word_safety.specs.Code.{BreakNone, IsCleanInWords, AreWordsClean, IsKnown, IsCodeKnown, AreKnown, IsPlace, IsAtPlaceInWords, IsGoodInWords, IsGoodInWordsIf}
 pub use Rattle.sfi_word_safety.specs.Laws.{EntryIsGoodInWords, TurnKeepsInWords, CleanWordsRunSafely}
 pub use Rattle.sfi_rules.specs.declared.owed.Owed.{Owed}
@@ -34,3 +34,5 @@ pub use Rattle.sfi_rules.specs.declared.rule.Rule.{Rule}
 pub use Rattle.sfi_rules.specs.declared.finding.Finding.{Finding}
 pub use Rattle.sfi_rules.specs.declared.owed.Owed.TheVariants.{Nothing, Mask, PlaceOnly, MaskOrUse, Code}
 pub use Rattle.sfi_rules.specs.words.Findings.{fails_data, fails_code}
+pub use Rattle.sfi_formats.specs.declared.format.Format.{Format}
+pub use Rattle.sfi_formats.proofs.Formats.{two_steps}

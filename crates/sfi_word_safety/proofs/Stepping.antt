@@ -63,7 +63,7 @@ module _ (p : Part) (s : State) (clean : IsCleanInWords p) (good : IsGoodInWords
     place_after done (inr (start, flow)) =
         let none = good.place.place.none.0 in
         at_start p clean r.state.hart start
-        (subst (λ (x : Stepped). AreWordsTyped (code_region p) (data_region p) x.state.hart.registers) (sym step_is)
+        (subst (λ (x : Stepped). AreWordsTyped p.format (code_region p) (data_region p) x.state.hart.registers) (sym step_is)
         (typed_after p clean.words clean.right s.hart good.kept.reserved good.place.place.here good.place.place.later s.memory good.kept.count (spelled_in_range stands_here.bytes i n stands_here.spelled) good.place.known flow none.data_write none.code_write none.offset_write))
 
     by_outcome : (o : Outcome) → r.outcome ≡ o → Leads p good.place.place.here.instr good.place.place.here.size s.hart o r.state.hart → IsGoodInWordsIf p (after_step o r.state)

@@ -1,12 +1,12 @@
 -- What the findings so far tell of a sandbox: it is clean where the rest is, if there are none.
-use Rattle.sfi_word_safety.proofs.Prelude.{append_assoc, ◌≡◌, ◌≢◌, ◌↔◌, ℕ, suc, ◌+◌, ◌-◌, ◌%◌, ◌<◌, ◌≤◌, List, [], ◌∷◌, ◌++◌, length, take, drop, Bool, true, false, cond, not, ◌&&◌, ◌==◌, ◌⊎◌, Option, Some, None, refl, sym, ap, ◌∙◌, subst, inl, inr, arith, ⊎_elim, and_from, not-false, eq-eqb, eqb-true, Instr, Spells, Part, is_gate_of, is_empty, ends_region, BreakNone, AreWordsClean, breaks_width, breaks_ecall, Finding, Owed, Rule, owed_next}
+use Rattle.sfi_word_safety.proofs.Prelude.{append_assoc, ◌≡◌, ◌≢◌, ◌↔◌, ℕ, suc, ◌+◌, ◌-◌, ◌%◌, ◌<◌, ◌≤◌, List, [], ◌∷◌, ◌++◌, length, take, drop, Bool, true, false, cond, not, ◌&&◌, ◌==◌, ◌⊎◌, Option, Some, None, refl, sym, ap, ◌∙◌, subst, inl, inr, arith, ⊎_elim, and_from, not-false, eq-eqb, eqb-true, Instr, Spells, Part, is_gate_of, is_empty, ends_region, BreakNone, AreWordsClean, breaks_width, breaks_ecall, breaks_reserved, breaks_access, breaks_offset, fails_data, fails_code, Finding, Owed, Rule, owed_next, Format}
 use Rattle.std.proofs.lemmas.List.{length-drop, length-take, drop-drop, drop-take, take-take, append-nil}
 use Rattle.sfi_image.specs.declared.bundle.BundlePlace.{BundlePlace}
 use Rattle.sfi_rules.specs.Readings.{Piece, IsReading, IsLongestReading, rest_of}
 use Rattle.sfi_rules.specs.declared.owed.Owed.TheVariants as kind
 use Rattle.sfi_rules.specs.words.Findings.{InstrInWord, is_at_gate, lowest, found_at, found_from, owed_past, IsWordFound}
 use Rattle.sfi_rules.specs.Rules.{rest_finding}
-use Rattle.sfi_word_safety.proofs.Owing.{is_nothing}
+use Rattle.sfi_word_safety.proofs.Owing.{is_nothing, owed_after}
 use Rattle.sfi_word_safety.proofs.Judging.{after_is_next, ends_owing}
 use Rattle.sfi_rules.proofs.Facts.{AreKept, kept_of, none_of}
 use Rattle.sfi_word_safety.proofs.Passing.{BreaksNoneHere, IsKeptHere, IsCleanWith, IsSameWith, with_first, with_last, kept_here, goes}
@@ -56,6 +56,7 @@ none_found b at o e = ap (found_at b at) e
 pub record IsPlaceIn (p : Part) (b : BundlePlace) : Type 0 where
   pub base : b.code_base ≡ p.code_base
   pub size : b.code_size ≡ length p.code
+  pub format : b.format ≡ p.format
 
 module _ (p : Part) (b : BundlePlace) (in_part : IsPlaceIn p b) (at : ℕ) (i : Instr) (n : ℕ) (s : Spells (take n (drop at p.code)) i n) (o : Owed) (found : List Finding)
     (width : breaks_width (p.code_base + at) n ≡ false) (gate : is_at_gate b (p.code_base + at) ≡ is_gate_of p.gates (p.code_base + at)) (t : Tells p at o found) where
@@ -80,24 +81,24 @@ module _ (p : Part) (b : BundlePlace) (in_part : IsPlaceIn p b) (at : ℕ) (i : 
   here_of k = record {
     width = width;
     ecall = subst (λ (g : Bool). breaks_ecall g i ≡ false) gate k.v3;
-    reserved = k.v4;
-    access = k.v5;
+    reserved = subst (λ (f : Format). breaks_reserved f i ≡ false) in_part.format k.v4;
+    access = subst (λ (f : Format). breaks_access f i ≡ false) in_part.format k.v5;
     jump = k.v6;
     target = rw (in_part.base, in_part.size) at k.v7;
-    offset_write = k.v12;
+    offset_write = subst (λ (f : Format). breaks_offset f i ≡ false) in_part.format k.v12;
   }
 
   kept_by : IsKeptHere p at i n s o t.ended → AreKept this
   kept_by k = record {
     v3 = subst (λ (g : Bool). breaks_ecall g i ≡ false) (sym gate) k.here.ecall;
-    v4 = k.here.reserved;
-    v5 = k.here.access;
+    v4 = subst (λ (f : Format). breaks_reserved f i ≡ false) (sym in_part.format) k.here.reserved;
+    v5 = subst (λ (f : Format). breaks_access f i ≡ false) (sym in_part.format) k.here.access;
     v6 = k.here.jump;
     v7 = rw (in_part.base, in_part.size) k.here.target;
     v8 = last_kept (p.code_base + at + n == b.code_base + b.code_size) (λ e. k.end (past_there e));
-    v10 = k.data_met;
-    v11 = k.code_met;
-    v12 = k.here.offset_write;
+    v10 = subst (λ (f : Format). fails_data f o i ≡ false) (sym in_part.format) k.data_met;
+    v11 = subst (λ (f : Format). fails_code f o i ≡ false) (sym in_part.format) k.code_met;
+    v12 = subst (λ (f : Format). breaks_offset f i ≡ false) (sym in_part.format) k.here.offset_write;
   }
     where
       last_kept : (is : Bool) → (is ≡ true → ends_region i ≡ true) → (is && not (ends_region i)) ≡ false
@@ -107,18 +108,19 @@ module _ (p : Part) (b : BundlePlace) (in_part : IsPlaceIn p b) (at : ℕ) (i : 
   ends_there : AreKept this → length p.code ≤ at + n → ends_region i ≡ true
   ends_there k past = not-false (ends_region i) (rw (last_there past) at k.v8)
 
-  pub tells_next : Tells p (at + n) (owed_next o i) (found ++ found_at b (p.code_base + at) (lowest this))
+  pub tells_next : Tells p (at + n) (owed_next b.format o i) (found ++ found_at b (p.code_base + at) (lowest this))
   tells_next = record {
     ended = ends_region i;
     end = λ past e.
         let two = no_more found _ e in
         let k = kept_of this (found_none b (p.code_base + at) (lowest this) two.1) in
         let ends = ends_there k past in
-        and_from _ _ (ends_owing o i ends) ends;
+        and_from _ _ (ends_owing b.format o i ends) ends;
     none = λ e.
         let two = no_more found _ e in
         let k = kept_of this (found_none b (p.code_base + at) (lowest this) two.1) in
-        goes p at i n s o t.ended (owed_next o i) (after_is_next o i k.v10 k.v11) (here_of k) (t.none two.0);
+        let after = ap (λ (f : Format). owed_after f o i) (sym in_part.format) ∙ after_is_next b.format o i k.v10 k.v11 in
+        goes p at i n s o t.ended (owed_next b.format o i) after (here_of k) (t.none two.0);
     some = λ ne clean. ne (none_here found t clean refl);
   }
     where
@@ -202,7 +204,7 @@ longest_later bytes x later h = record {
 
 module _ (p : Part) (b : BundlePlace) (in_part : IsPlaceIn p b) (begin end : ℕ) (gate : IsGateOf p b begin end) where
   walk : (pieces : List Piece) (at m : ℕ) (w : List ℕ) (o : Owed) (found : List Finding) → w ≡ Code p at m → IsLeft p at m → begin ≤ at → at + m ≤ end → IsLongestReading w pieces → Tells p at o found
-      → (k : ℕ) → Tells p (at + m) (cond (is_empty (rest_of w pieces)) (owed_past o pieces) kind.Nothing) (found ++ (found_from b (p.code_base + at) o pieces ++ rest_finding b k (rest_of w pieces)))
+      → (k : ℕ) → Tells p (at + m) (cond (is_empty (rest_of w pieces)) (owed_past b.format o pieces) kind.Nothing) (found ++ (found_from b (p.code_base + at) o pieces ++ rest_finding b k (rest_of w pieces)))
   walk [] at m w o found e left from below longest t k = by w refl
     where
       by : (v : List ℕ) → w ≡ v → Tells p (at + m) (cond (is_empty v) o kind.Nothing) (found ++ rest_finding b k v)
@@ -230,14 +232,14 @@ module _ (p : Part) (b : BundlePlace) (in_part : IsPlaceIn p b) (begin end : ℕ
       = ap (drop x.size) e ∙ ap (λ (q : ℕ). drop x.size (take q (drop at p.code))) (sym sum) ∙ drop-take x.size rest (drop at p.code) ∙ ap (take rest) (drop-drop x.size at p.code) in
       let there : at + x.size + rest ≡ at + m = omega (arith, sum) in
       let t' = tells_next p b in_part at x.instr x.size here o found (width_kept x.size left fits size) (gate at from (omega (arith, within.0, fits, below))) t in
-      let next = walk later (at + x.size) rest (drop x.size w) (owed_next o x.instr) _ dropped (left_after x.size left fits size there) (omega (arith, from)) (omega (arith, there, below)) (longest_later w x later longest) t' k in
+      let next = walk later (at + x.size) rest (drop x.size w) (owed_next b.format o x.instr) _ dropped (left_after x.size left fits size there) (omega (arith, from)) (omega (arith, there, below)) (longest_later w x later longest) t' k in
       let first : List Finding = found_at b (p.code_base + at) (lowest (record { bundle = b; address = p.code_base + at; owed = o; instr = x.instr; size = x.size })) in
-      let more : List Finding = found_from b (p.code_base + (at + x.size)) (owed_next o x.instr) later in
-      let more' : List Finding = found_from b (p.code_base + at + x.size) (owed_next o x.instr) later in
+      let more : List Finding = found_from b (p.code_base + (at + x.size)) (owed_next b.format o x.instr) later in
+      let more' : List Finding = found_from b (p.code_base + at + x.size) (owed_next b.format o x.instr) later in
       let last : List Finding = rest_finding b k (rest_of (drop x.size w) later) in
-      let is : Owed = cond (is_empty (rest_of (drop x.size w) later)) (owed_past (owed_next o x.instr) later) kind.Nothing in
+      let is : Owed = cond (is_empty (rest_of (drop x.size w) later)) (owed_past b.format (owed_next b.format o x.instr) later) kind.Nothing in
       subst (λ (l : List Finding). Tells p (at + m) is l)
-      (regroup found first more last more' (ap (λ (a : ℕ). found_from b a (owed_next o x.instr) later) (assoc p.code_base at x.size)))
+      (regroup found first more last more' (ap (λ (a : ℕ). found_from b a (owed_next b.format o x.instr) later) (assoc p.code_base at x.size)))
       (subst (λ (q : ℕ). Tells p q is ((found ++ first) ++ (more ++ last))) there next)
     where
       assoc : (a b c : ℕ) → a + (b + c) ≡ a + b + c

@@ -1,11 +1,10 @@
 -- Accepted code in words, and the places where its runs stand.
 use Rattle.std.specs.Prelude.{◌≡◌, ◌+◌, ℕ, List, [], ◌∷◌, true, false, length, ◌%◌, ◌<◌, ◌⊎◌, Option, IfSome, drop, slice_index, bit_and}
-use Rattle.sfi_formats.specs.Formats.{has_words, is_data_register, code_register, offset_register}
+use Rattle.sfi_formats.specs.Formats.{has_words, is_data_register_in, code_register, offset_register, has_one_step}
 use Rattle.sfi_image.specs.Spelling.{Part, AreApart, code_region, data_region, guarded_region, IsNear}
 use Rattle.sfi_image.specs.Parts.{is_gate_of, IsRightPart, reserved_of, IsWordStart}
 use Rattle.sfi_rules.specs.Readings.{Piece, IsReading, rest_of}
-use Rattle.sfi_rules.specs.Rules.{breaks_reserved}
-use Rattle.sfi_rules.specs.words.Rules.{breaks_width, breaks_ecall, breaks_access, breaks_jump, breaks_target, breaks_end, breaks_data, breaks_code, breaks_offset, begins_placing, begins_masking, begins_using, begins_code}
+use Rattle.sfi_rules.specs.words.Rules.{breaks_width, breaks_ecall, breaks_reserved, breaks_access, breaks_jump, breaks_target, breaks_end, breaks_data, breaks_code, breaks_offset, begins_placing, begins_masking, begins_using, begins_code}
 use Rattle.rv_step.specs.State.{Hart, State}
 use Rattle.sfi_formats.specs.Limits.{slack}
 use Rattle.sfi_safe_runs.specs.Calling.{KeepsAll}
@@ -16,14 +15,14 @@ use Rattle.sfi_safe_runs.specs.Calling.{KeepsAll}
 pub record BreaksNone (p : Part) (at : ℕ) (x : Piece) (later : List Piece) : Type 0 where
   pub width : breaks_width at x.size ≡ false
   pub ecall : breaks_ecall (is_gate_of p.gates at) x.instr ≡ false
-  pub reserved : breaks_reserved x.instr ≡ false
-  pub access : breaks_access x.instr ≡ false
+  pub reserved : breaks_reserved p.format x.instr ≡ false
+  pub access : breaks_access p.format x.instr ≡ false
   pub jump : breaks_jump x.instr ≡ false
   pub target : breaks_target p.code_base (length p.code) at x.instr ≡ false
   pub end : breaks_end x.instr later ≡ false
-  pub data_write : breaks_data x.instr later ≡ false
+  pub data_write : breaks_data p.format x.instr later ≡ false
   pub code_write : breaks_code x.instr later ≡ false
-  pub offset_write : breaks_offset x.instr ≡ false
+  pub offset_write : breaks_offset p.format x.instr ≡ false
 
 -- no rule is broken by any of these pieces, the first of which is at this address
 abbrev pub BreakNone : Part → ℕ → List Piece → Type 0
@@ -47,14 +46,13 @@ pub record IsCleanInWords (p : Part) : Type 0 where
 
 -- ==== Where a run stands: a place of the code's reading, and what the typed registers hold there.
 
--- What is known of a data register before these pieces. It lies near the data; or it is placed by
--- the first piece, or masked and placed by the first two; or it lies a step further, and the first
--- piece uses it.
+-- What is known of a data register before these pieces. It lies near the data; or the first piece ends
+-- its mask, or they begin with its mask; or it lies a step further, and the first piece uses it.
 abbrev pub IsKnown : Part → ℕ → ℕ → List Piece → Type 0
 IsKnown p d value pieces =
     IsNear (data_region p) slack value
-    ⊎ ((begins_placing d pieces ≡ true)
-    ⊎ ((begins_masking d pieces ≡ true)
+    ⊎ ((begins_placing p.format d pieces ≡ true)
+    ⊎ ((begins_masking p.format d pieces ≡ true)
     ⊎ (IsNear (data_region p) (slack + 2048) value × (begins_using d pieces ≡ true))))
 
 -- What is known of the code register before these pieces: it is a word's start; or it is masked,
@@ -66,9 +64,9 @@ IsCodeKnown p value pieces =
 
 -- what is known of the typed registers before these pieces
 pub record AreKnown (p : Part) (registers : List ℕ) (pieces : List Piece) : Type 0 where
-  pub each_data : (d : ℕ) → is_data_register d ≡ true → IsKnown p d (slice_index registers d) pieces
+  pub each_data : (d : ℕ) → is_data_register_in p.format d ≡ true → IsKnown p d (slice_index registers d) pieces
   pub code : IsCodeKnown p (slice_index registers code_register) pieces
-  pub offset : slice_index registers offset_register < p.data_size
+  pub offset : has_one_step p.format ≡ false → slice_index registers offset_register < p.data_size
 
 -- from this offset on the rest of the code is read whole, and breaks no rule
 pub record IsPlace (p : Part) (offset : ℕ) : Type 0 where

@@ -7,17 +7,18 @@ use Rattle.std.specs.List.{find}
 use Rattle.rv_word.specs.declared.instr.Instr.{Instr}
 use Rattle.rv_word.specs.Outlines.{destination, writes_register}
 use Rattle.sfi_formats.specs.Limits.{bundle_size, word_size}
-use Rattle.sfi_formats.specs.Formats.{is_data_register, code_register}
+use Rattle.sfi_formats.specs.Formats.{is_data_register_in, code_register}
+use Rattle.sfi_formats.specs.declared.format.Format.{Format}
 use Rattle.sfi_image.specs.Spelling.{Part}
 use Rattle.sfi_image.specs.declared.bundle.BundlePlace.{BundlePlace}
 use Rattle.sfi_rules.specs.declared.finding.Finding.{Finding}
 use Rattle.sfi_rules.specs.declared.rule.Rule.{Rule}
 use Rattle.sfi_rules.specs.declared.rule.Rule.TheVariants.{V3, V4, V5, V6, V7, V8, V10, V11, V12}
-use Rattle.sfi_rules.specs.Rules.{broken, all_rules, rest_finding, breaks_reserved, ends_region, is_empty}
+use Rattle.sfi_rules.specs.Rules.{broken, all_rules, rest_finding, ends_region, is_empty}
 use Rattle.sfi_rules.specs.Readings.{bundle_place, bundle_bytes, Piece, IsLongestReading, rest_of}
 use Rattle.sfi_rules.specs.declared.owed.Owed.{Owed}
 use Rattle.sfi_rules.specs.declared.owed.Owed.TheVariants.{Nothing}
-use Rattle.sfi_rules.specs.words.Rules.{breaks_ecall, breaks_access, breaks_jump, breaks_target, breaks_offset, left, owed_by, owed_next, is_of_data, is_of_code}
+use Rattle.sfi_rules.specs.words.Rules.{breaks_ecall, breaks_reserved, breaks_access, breaks_jump, breaks_target, breaks_offset, left, owed_by, owed_next, is_of_data, is_of_code}
 
 -- ---- at an instruction
 
@@ -30,9 +31,9 @@ pub record InstrInWord : Type 0 where
   pub size : ℕ  -- its length in bytes
 
 -- there is a number, and it is a data register's
-abbrev pub is_data_one : Option ℕ → Bool
-is_data_one None = false
-is_data_one (Some d) = is_data_register d
+abbrev pub is_data_one : Format → Option ℕ → Bool
+is_data_one f None = false
+is_data_one f (Some d) = is_data_register_in f d
 
 -- the address is that of the gate that is listed for the bundle
 abbrev pub is_at_gate : BundlePlace → ℕ → Bool
@@ -45,28 +46,28 @@ breaks_last x =
 
 -- V10: it doesn't meet what is owed of a data register, or writes one in a way that no next
 -- instruction can make right
-abbrev pub fails_data : Owed → Instr → Bool
-fails_data o i = (is_of_data o && not (is_some (left o i)))
-    || (is_data_one (destination i) && not (is_some (owed_by i)))
+abbrev pub fails_data : Format → Owed → Instr → Bool
+fails_data f o i = (is_of_data o && not (is_some (left f o i)))
+    || (is_data_one f (destination i) && not (is_some (owed_by f i)))
 
 -- V11: it doesn't meet what is owed of x30, or writes x30 in a way that no next instruction can
 -- make right
-abbrev pub fails_code : Owed → Instr → Bool
-fails_code o i = (is_of_code o && not (is_some (left o i)))
-    || (writes_register code_register i && not (is_some (owed_by i)))
+abbrev pub fails_code : Format → Owed → Instr → Bool
+fails_code f o i = (is_of_code o && not (is_some (left f o i)))
+    || (writes_register code_register i && not (is_some (owed_by f i)))
 
 -- the rule is broken at the place (V1 and V2 where no instruction is read, so never at a place; V9
 -- is none of code in words)
 abbrev pub breaks : InstrInWord → Rule → Bool
 breaks x V3 = breaks_ecall (is_at_gate x.bundle x.address) x.instr
-breaks x V4 = breaks_reserved x.instr
-breaks x V5 = breaks_access x.instr
+breaks x V4 = breaks_reserved x.bundle.format x.instr
+breaks x V5 = breaks_access x.bundle.format x.instr
 breaks x V6 = breaks_jump x.instr
 breaks x V7 = breaks_target x.bundle.code_base x.bundle.code_size x.address x.instr
 breaks x V8 = breaks_last x
-breaks x V10 = fails_data x.owed x.instr
-breaks x V11 = fails_code x.owed x.instr
-breaks x V12 = breaks_offset x.instr
+breaks x V10 = fails_data x.bundle.format x.owed x.instr
+breaks x V11 = fails_code x.bundle.format x.owed x.instr
+breaks x V12 = breaks_offset x.bundle.format x.instr
 breaks x _ = false
 
 -- the lowest rule that is broken at the place
@@ -86,12 +87,12 @@ found_from b at owed [] = []
 found_from b at owed (x ∷ later) =
     found_at b at
     (lowest (record { bundle = b; address = at; owed = owed; instr = x.instr; size = x.size }))
-    ++ found_from b (at + x.size) (owed_next owed x.instr) later
+    ++ found_from b (at + x.size) (owed_next b.format owed x.instr) later
 
 -- what is owed after these pieces
-abbrev pub owed_past : Owed → List Piece → Owed
-owed_past owed [] = owed
-owed_past owed (x ∷ later) = owed_past (owed_next owed x.instr) later
+abbrev pub owed_past : Format → Owed → List Piece → Owed
+owed_past f owed [] = owed
+owed_past f owed (x ∷ later) = owed_past f (owed_next f owed x.instr) later
 
 -- The findings of the word at this address, with `owed` owed before it, and what is owed after it:
 -- nothing, where it isn't read whole.
@@ -101,7 +102,7 @@ pub record IsWordFound (b : BundlePlace) (at : ℕ) (owed : Owed) (word : List �
   pub longest : IsLongestReading word reading
   pub found_is : found ≡ found_from b at owed reading
       ++ rest_finding b (at + (word_size - length (rest_of word reading))) (rest_of word reading)
-  pub next_is : next ≡ cond (is_empty (rest_of word reading)) (owed_past owed reading) Nothing
+  pub next_is : next ≡ cond (is_empty (rest_of word reading)) (owed_past b.format owed reading) Nothing
 
 -- ---- of a bundle, and of a part
 
