@@ -142,6 +142,7 @@ words_filled given number p code words placed linked of =
     let aligned : size_of (slots_of p.bundles) % 4 ≡ 0 = ap (λ v. size_of v % 4) laid ∙ word_aligned of.laid.0 in
     let long = code_length given number p code made in
     record {
+      format = words;
       start = refl;
       bytes = made.bytes;
       fill = made.fill;

@@ -22,14 +22,14 @@ pub record IsQuiet (b : BundlePlace) (at : ℕ) (owed : Owed) (word : List ℕ) 
   pub is_reading : IsReading word reading
   pub whole : rest_of word reading ≡ []
   pub none : found_from b at owed reading ≡ []
-  pub left : next ≡ owed_past owed reading
+  pub left : next ≡ owed_past b.format owed reading
 
 quiet_found : (b : BundlePlace) (at : ℕ) (owed : Owed) (word : List ℕ) (next : Owed) → IsQuiet b at owed word next → IsWordFound b at owed word [] next
 quiet_found b at owed word next q = record {
   reading = q.reading;
   longest = whole_is_longest word q.reading q.is_reading q.whole;
   found_is = subst (λ (l : List ℕ). [] ≡ found_from b at owed q.reading ++ rest_finding b (at + (4 - length l)) l) (sym q.whole) (let e = q.none in rw e refl);
-  next_is = subst (λ (l : List ℕ). next ≡ cond (is_empty l) (owed_past owed q.reading) Nothing) (sym q.whole) q.left;
+  next_is = subst (λ (l : List ℕ). next ≡ cond (is_empty l) (owed_past b.format owed q.reading) Nothing) (sym q.whole) q.left;
 }
 
 -- ---- one after another

@@ -72,7 +72,7 @@ calm_no_ecall Ecall c gate = absurd (true≢false (sym c))
 calm_no_ecall _ c gate = refl
 
 -- where nothing is owed, or all of it is paid
-paid : (owed : Owed) (i : Instr) (to : Option ℕ) → left owed i ≡ Some kind.Nothing → (w : Owes i to) → Meets owed i w.own
+paid : (owed : Owed) (i : Instr) (to : Option ℕ) → left Sfiw owed i ≡ Some kind.Nothing → (w : Owes i to) → Meets owed i w.own
 paid owed i to l w = meets_by kind.Nothing w.own l w.owes refl
 
 -- only a load or a store is a use
@@ -94,15 +94,15 @@ nothing_before owed i n (inr u) = absurd (true≢false (sym (use_accesses u.0 i 
 -- ---- an access
 
 -- a use pays for it
-use_pays : (d : ℕ) (i : Instr) → masks d i ≡ false → uses d i ≡ true → left (kind.MaskOrUse d) i ≡ Some kind.Nothing
+use_pays : (d : ℕ) (i : Instr) → masks Sfiw d i ≡ false → uses d i ≡ true → left Sfiw (kind.MaskOrUse d) i ≡ Some kind.Nothing
 use_pays d i m u = rw (m, u) refl
 
 -- an access, for each register that it may be on
 record IsAccess (base size here : ℕ) (f : ℕ → Instr) (to : Option ℕ) : Type 0 where
-  lawful : (b : ℕ) → may_access b ≡ true → IsLawful base size here (f b)
+  lawful : (b : ℕ) → may_access Sfiw b ≡ true → IsLawful base size here (f b)
   no_ecall : (b : ℕ) (gate : Bool) → breaks_ecall gate (f b) ≡ false
   owes : (b : ℕ) → Owes (f b) to
-  masks_none : (b d : ℕ) → masks d (f b) ≡ false
+  masks_none : (b d : ℕ) → masks Sfiw d (f b) ≡ false
   is_on : (b d : ℕ) → uses d (f b) ≡ true → b ≡ d
 
 -- nothing is owed before an access on another register than a data register
@@ -116,9 +116,9 @@ access_right : (base size : ℕ) (at : Bases) (names : List PlacedName) (here : 
     → slots ≡ (if data_one || zero_one then [] else data_mask 29 a) ++ (confined ++ mask_after to) → AreRight base size at names here owed slots kind.Nothing
 access_right base size at names here owed rvc f to a true zero_one confined slots is typed z o alone e =
     let x = is here in
-    let pays : left owed (f a) ≡ Some kind.Nothing = elim o [
-      | inl none ↦ ap (λ o. left o (f a)) none
-      | inr u ↦ ap (λ p. left p (f a)) u.1 ∙ use_pays u.0 (f a) (x.masks_none a u.0) u.2.1
+    let pays : left Sfiw owed (f a) ≡ Some kind.Nothing = elim o [
+      | inl none ↦ ap (λ o. left Sfiw o (f a)) none
+      | inr u ↦ ap (λ p. left Sfiw p (f a)) u.1 ∙ use_pays u.0 (f a) (x.masks_none a u.0) u.2.1
     ] in
     let w = x.owes a in
     let one = right_alone base size at names here owed w.own rvc (f a) confined alone (record { no_ecall = x.no_ecall a; lawful = x.lawful a (rw typed refl); meets = paid owed (f a) to pays w }) in
@@ -127,7 +127,7 @@ access_right base size at names here owed rvc f to a true zero_one confined slot
 access_right base size at names here owed rvc f to a false true confined slots is typed z o alone e =
     let x = is here in
     let w = x.owes 26 in
-    let one = right_alone base size at names here owed w.own rvc (f 26) confined alone (record { no_ecall = x.no_ecall 26; lawful = x.lawful 26 refl; meets = paid owed (f 26) to (ap (λ o. left o (f 26)) (unowed_base base size here owed f to a (is here) typed o)) w }) in
+    let one = right_alone base size at names here owed w.own rvc (f 26) confined alone (record { no_ecall = x.no_ecall 26; lawful = x.lawful 26 refl; meets = paid owed (f 26) to (ap (λ o. left Sfiw o (f 26)) (unowed_base base size here owed f to a (is here) typed o)) w }) in
     subst (λ v. AreRight base size at names here owed v kind.Nothing) (sym e)
     (right_append base size at names here owed w.own kind.Nothing confined (mask_after to) one (after_right base size at names (here + size_of confined) w.own to w.is))
 access_right base size at names here owed rvc f to a false false confined slots is typed z o alone e =
@@ -185,7 +185,7 @@ calm_right : (base size : ℕ) (at : Bases) (names : List PlacedName) (here : �
 calm_right base size at names here owed rvc i confined slots c access n b o alone e =
     let w = owing_as_named i n b in
     let one = right_alone base size at names here owed w.own rvc i confined alone
-    (record { no_ecall = calm_no_ecall i c; lawful = calm_lawful base size here i c (free_one i n); meets = paid owed i (destination i) (ap (λ o. left o i) (nothing_before owed i access o)) w }) in
+    (record { no_ecall = calm_no_ecall i c; lawful = calm_lawful base size here i c (free_one i n); meets = paid owed i (destination i) (ap (λ o. left Sfiw o i) (nothing_before owed i access o)) w }) in
     subst (λ v. AreRight base size at names here owed v kind.Nothing) (sym e)
     (right_append base size at names here owed w.own kind.Nothing confined (mask_after (destination i)) one (after_right base size at names (here + size_of confined) w.own (destination i) w.is))
 
@@ -286,7 +286,7 @@ aimed_right base size here to _ count name body n b low start near = absurd body
 
 -- an instruction made of a name's address, before the mask of what it writes
 made_right : (base size : ℕ) (at : Bases) (names : List PlacedName) (here : ℕ) (x : BundleSlot) (f : ℕ → Instr) (o : Option ℕ) (rd : ℕ) → slot_size x ≡ 4 → resolved at names here x ≡ made_of f o → is_withheld Sfiw rd ≡ false
-    → ((a : ℕ) → (is_calm (f a) ≡ true) × (destination (f a) ≡ Some rd) × (places rd (f a) ≡ false) × (is_jump (f a) ≡ false)) → AreRight base size at names here kind.Nothing (x ∷ mask_after (Some rd)) kind.Nothing
+    → ((a : ℕ) → (is_calm (f a) ≡ true) × (destination (f a) ≡ Some rd) × (places Sfiw rd (f a) ≡ false) × (is_jump (f a) ≡ false)) → AreRight base size at names here kind.Nothing (x ∷ mask_after (Some rd)) kind.Nothing
 made_right base size at names here x f o rd four r h calmly = λ i q.
     let m = made f o i (sym r ∙ q) in
     let k = calmly m.0 in

@@ -1,5 +1,5 @@
 -- What an instruction of code in words writes, and what it leaves owed.
-use Rattle.sfi_link.proofs.Prelude.{◌≡◌, ◌⊎◌, ℕ, Option, Some, None, Bool, true, false, refl, sym, ap, ◌∙◌, subst, inl, inr, ◌==◌, ◌&&◌, ◌||◌, not, or_parts, and_left, and_right, eqb-true, ℤ, pos, negsuc, MatchBool, Instr, Op, Load, Store, Jal, Jalr}
+use Rattle.sfi_link.proofs.Prelude.{◌≡◌, ◌⊎◌, ℕ, Option, Some, None, Bool, true, false, refl, sym, ap, ◌∙◌, subst, inl, inr, ◌==◌, ◌&&◌, ◌||◌, not, or_parts, and_left, and_right, eqb-true, MatchBool, Instr, Op, Jal, Jalr}
 use Rattle.std.specs.Prelude.{cond}
 use Rattle.std.proofs.lemmas.Bool.{true≢false}
 use Rattle.rv_word.specs.declared.instr.RegOp.TheVariants.{Or}
@@ -7,14 +7,14 @@ use Rattle.rv_word.specs.Outlines.{destination, is_register}
 use Rattle.sfi_source.specs.declared.item.Body.TheVariants.{Plain}
 use Rattle.sfi_pairs.specs.Pairs.{is_masking}
 use Rattle.sfi_formats.specs.declared.format.Format.TheVariants.{Sfiw}
-use Rattle.sfi_formats.specs.Formats.{is_reserved, is_data_register}
+use Rattle.sfi_formats.specs.Formats.{is_reserved, is_data_register, is_data_register_in}
+use Rattle.sfi_formats.proofs.Formats.{data_registers}
 use Rattle.sfi_rewrite.specs.Expansion.{is_withheld, names_withheld}
 use Rattle.sfi_rewrite.specs.words.Expansion as words
 use Rattle.sfi_rules.specs.declared.owed.Owed.{Owed}
 use Rattle.sfi_rules.specs.declared.owed.Owed.TheVariants as kind
-use Rattle.sfi_rules.specs.Rules.{is_reserved_one}
 use Rattle.sfi_rules.specs.Readings.{is_jump}
-use Rattle.sfi_rules.specs.words.Rules.{places, is_pointer_step, breaks_offset, owed_by_code, owed_of, owed_by}
+use Rattle.sfi_rules.specs.words.Rules.{is_reserved_one, places, is_pointer_step, breaks_offset, owed_by_data, owed_by_code, owed_of, owed_by}
 use Rattle.sfi_rewrite.proofs.WordKept.{written_free}
 
 -- ---- registers
@@ -57,11 +57,11 @@ free_one i n = by (destination i) refl
     by (Some d) e = written_free i d e n
 
 -- a register that is free is no reserved one, and not x31
-pub unreserved : (to : Option ℕ) → IsFreeOne to → is_reserved_one to ≡ false
+pub unreserved : (to : Option ℕ) → IsFreeOne to → is_reserved_one Sfiw to ≡ false
 unreserved None f = refl
-unreserved (Some d) f = (free d f).reserved
+unreserved (Some d) f = and_left (is_reserved d) (not (is_data_register_in Sfiw d)) (free d f).reserved
 
-pub no_offset : (i : Instr) (to : Option ℕ) → destination i ≡ to → IsFreeOne to → breaks_offset i ≡ false
+pub no_offset : (i : Instr) (to : Option ℕ) → destination i ≡ to → IsFreeOne to → breaks_offset Sfiw i ≡ false
 no_offset i to e f = and_left _ (not (is_masking 27 31 i)) (ap (is_register 31) e ∙ by to f)
   where
     by : (to : Option ℕ) → IsFreeOne to → is_register 31 to ≡ false
@@ -69,7 +69,7 @@ no_offset i to e f = and_left _ (not (is_masking 27 31 i)) (ap (is_register 31) 
     by (Some d) f = (free d f).offset
 
 -- an instruction that names no withheld register makes no data register an address by x31
-pub no_place : (i : Instr) (d : ℕ) → names_withheld Sfiw i ≡ false → places d i ≡ false
+pub no_place : (i : Instr) (d : ℕ) → names_withheld Sfiw i ≡ false → places Sfiw d i ≡ false
 no_place (Op Or rd a b) d n =
     let z : (a == 31) ≡ false = (free a (or_parts (is_withheld Sfiw rd) (is_withheld Sfiw a) (or_parts (is_withheld Sfiw rd || is_withheld Sfiw a) (is_withheld Sfiw b) n).0).1).offset in
     and_left ((rd == d) && (a == 31)) (b == 26) (and_right (rd == d) (a == 31) z)
@@ -84,19 +84,19 @@ IsMaskOwed own (Some d) = MatchBool (is_data_register d) ((own ≡ kind.Mask d) 
 
 pub record Owes (i : Instr) (to : Option ℕ) : Type 0 where
   pub own : Owed
-  pub owes : owed_by i ≡ Some own
+  pub owes : owed_by Sfiw i ≡ Some own
   pub is : IsMaskOwed own to
 
 -- one that writes what is free, makes no data register an address, and isn't a jump that writes one
 abbrev pub IsGoodWrite : Instr → Option ℕ → Type 0
 IsGoodWrite i None = Unit {0}
-IsGoodWrite i (Some d) = (is_withheld Sfiw d ≡ false) × (places d i ≡ false) × (is_data_register d ≡ true → is_jump i ≡ false)
+IsGoodWrite i (Some d) = (is_withheld Sfiw d ≡ false) × (places Sfiw d i ≡ false) × (is_data_register d ≡ true → is_jump i ≡ false)
 
 pub owing : (i : Instr) (to : Option ℕ) → destination i ≡ to → IsGoodWrite i to → Owes i to
-owing i None e g = record { own = kind.Nothing; owes = ap (λ t. owed_of t i) e; is = refl }
+owing i None e g = record { own = kind.Nothing; owes = ap (λ t. owed_of Sfiw t i) e; is = refl }
 owing i (Some d) e g =
-    let by = chosen (is_data_register d) (d == 30) (places d i) (is_jump i) (is_pointer_step d i) (owed_by_code i) (free d g.0).code g.1 g.2 in
-    record { own = by.0; owes = ap (λ t. owed_of t i) e ∙ by.1; is = by.2 }
+    let by = chosen (is_data_register d) (d == 30) (places Sfiw d i) (is_jump i) (is_pointer_step d i) (owed_by_code i) (free d g.0).code g.1 g.2 in
+    record { own = by.0; owes = ap (λ t. owed_of Sfiw t i) e ∙ ap (λ t. cond t (owed_by_data Sfiw d i) (cond (d == 30) (owed_by_code i) (Some kind.Nothing))) (data_registers Sfiw d) ∙ by.1; is = by.2 }
   where
     chosen : (t x p j s : Bool) (c : Option Owed) → x ≡ false → p ≡ false → (t ≡ true → j ≡ false)
         → (own : Owed) × (cond t (cond p (Some kind.Nothing) (cond j None (cond s (Some (kind.MaskOrUse d)) (Some (kind.Mask d))))) (cond x c (Some kind.Nothing)) ≡ Some own)

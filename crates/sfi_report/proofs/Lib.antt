@@ -3,3 +3,4 @@ pub mod Lines
 pub mod Places
 pub mod Texts
 pub mod Facts
+pub mod Walks

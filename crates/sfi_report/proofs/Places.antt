@@ -190,9 +190,9 @@ found_rule Q test (x ∷ rules) each r e = by (test x) refl (found_rule Q test r
 pieces_stand : (b : BundlePlace) (at : ℕ) (owed : Owed) (rest : List ℕ) (reading : List Piece) → IsReading rest reading → All (StandsIn b.sandbox at rest) (words.found_from b at owed reading)
 pieces_stand b at owed rest [] h = λ k d g. absurd (omega arith)
 pieces_stand b at owed rest (x ∷ later) h =
-    All-append (StandsIn b.sandbox at rest) (words.found_at b at (words.lowest here)) (words.found_from b (at + x.size) (owed_next owed x.instr) later)
+    All-append (StandsIn b.sandbox at rest) (words.found_at b at (words.lowest here)) (words.found_from b (at + x.size) (owed_next b.format owed x.instr) later)
     (first (words.lowest here) refl)
-    (λ k d g. after_piece _ _ _ _ _ h.0 _ (pieces_stand b (at + x.size) (owed_next owed x.instr) (drop x.size rest) later h.1 k d g))
+    (λ k d g. after_piece _ _ _ _ _ h.0 _ (pieces_stand b (at + x.size) (owed_next b.format owed x.instr) (drop x.size rest) later h.1 k d g))
   where
     here : words.InstrInWord
     here = record { bundle = b; address = at; owed = owed; instr = x.instr; size = x.size }

@@ -2,7 +2,7 @@
 use Rattle.rv_word.specs.Spelling.{is_shift, InRange}
 use Rattle.rv_word.specs.declared.instr.Instr.TheVariants as instr
 use Rattle.sfi_text.specs.declared.cause.TextCause.TheVariants as cause
-use Rattle.sfi_text.proofs.Prelude.{ℕ, ◌<◌, ◌^◌, Bool, true, false, arith, rules, ℤ, pos, MatchBool, if◌then◌else◌, ints, Instr, IsBetween, IsImm12, Immediate, ShiftAmount, IsNumberOf, form_of, AllSuit, mnemonic_of, operands_of, full_fence, ◌≡◌, List, [], ◌∷◌, length, inl, inr, ◌≤◌, refl, sym, ◌∙◌, subst, nat_lt, Result, Ok, Err, OnOk, IfErr, IsTrue, ◌==◌, and_parts, or_cases, not-true, nat_tests, on_ok_weaker, OperandPart, Name, Comma, Open, Close, TextCause, Takes, IsBlank, IsStuck, IsLabel, OperandValues, Stands, Departs, part_cause, Reads, SameAt, Suits, slot, is_fresh, has_no_repeat, KeepsOthers}
+use Rattle.sfi_text.proofs.Prelude.{ℕ, ◌<◌, ◌^◌, Bool, true, false, arith, rules, ℤ, pos, MatchBool, if◌then◌else◌, ints, Instr, IsBetween, IsImm12, Immediate, ShiftAmount, IsNumberOf, operand_parts, AllSuit, mnemonic_of, operands_of, full_fence, ◌≡◌, List, [], ◌∷◌, length, inl, inr, ◌≤◌, refl, sym, ◌∙◌, subst, nat_lt, Result, Ok, Err, OnOk, IfErr, IsTrue, ◌==◌, and_parts, or_cases, not-true, nat_tests, on_ok_weaker, OperandPart, Name, Comma, Open, Close, TextCause, Takes, IsBlank, IsStuck, IsLabel, OperandValues, Stands, Departs, part_cause, Reads, SameAt, Suits, slot, is_fresh, has_no_repeat, KeepsOthers}
 
 -- ==== An instruction is in range where its operands fit its form.
 
@@ -29,7 +29,7 @@ below_fence n h = omega (arith, ints)
 fence_between : (n : ℕ) → n < 2 ^ 12 → IsBetween (pos 0) (pos 4095) (pos n)
 fence_between n h = (omega (arith, ints), omega (arith, ints))
 
-pub fits_in_range : (i : Instr) → AllSuit (operands_of i) (form_of (mnemonic_of i)) → InRange i
+pub fits_in_range : (i : Instr) → AllSuit (operands_of i) (operand_parts (mnemonic_of i)) → InRange i
 unfolding InRange
 fits_in_range (instr.OpImm op rd rs1 imm) h = (h.0, h.1.1.0, kind_immediate (is_shift op) imm h.1.1.1.1.0)
 fits_in_range (instr.Lui rd imm) h = (h.0, below_upper imm h.1.1.0)
@@ -37,7 +37,7 @@ fits_in_range (instr.Auipc rd imm) h = (h.0, below_upper imm h.1.1.0)
 fits_in_range (instr.Fence imm rd rs1) h = (below_fence imm h.0, h.1.1.0, h.1.1.1.1.0)
 fits_in_range _ h = search rules
 
-pub in_range_fits : (i : Instr) → InRange i → AllSuit (operands_of i) (form_of (mnemonic_of i))
+pub in_range_fits : (i : Instr) → InRange i → AllSuit (operands_of i) (operand_parts (mnemonic_of i))
 unfolding InRange
 in_range_fits (instr.OpImm op rd rs1 imm) h = (h.0, (tt, (h.1, (tt, (immediate_kinds (is_shift op) imm h.2, tt)))))
 in_range_fits (instr.Lui rd imm) h = (h.0, (tt, (upper_between imm h.1, tt)))

@@ -1,5 +1,5 @@
 -- A line states one thing, or nothing for one cause.
-use Rattle.sfi_text.proofs.Prelude.{◌≡◌, ℕ, List, [], ◌∷◌, ◌⊎◌, inl, inr, refl, sym, ap, ◌∙◌, subst, ℤ, Result, Ok, Err, IfOk, IfErr, MatchResult, flat_map, IfOk-weaker, Instr, TextCause, Mnemonic, OperandPart, Nop, Ret, DataWidth, Keyword, IsBlank, AreTokens, LeadsTo, name_of, form_of, OperandValues, Departs, mnemonic_of, operands_of, Spells, OperandsDepart, Reads, AgreesOn, FollowsName, directive_form, directive_states, pseudo_form, pseudo_states, branch_form, branch_states, jal_form, jal_states, data_kind, data_bytes, Writes, AreMore, IsRow, IsData, StatesAfter, InstrDeparts, RefusedWith, Stated, within, bytes, plain, stated, IsRightStatement}
+use Rattle.sfi_text.proofs.Prelude.{◌≡◌, ℕ, List, [], ◌∷◌, ◌⊎◌, inl, inr, refl, sym, ap, ◌∙◌, subst, ℤ, Result, Ok, Err, IfOk, IfErr, MatchResult, flat_map, IfOk-weaker, Instr, TextCause, Mnemonic, OperandPart, Nop, Ret, DataWidth, Keyword, IsBlank, AreTokens, LeadsTo, name_of, operand_parts, OperandValues, Departs, mnemonic_of, operands_of, Spells, OperandsDepart, Reads, AgreesOn, FollowsName, directive_form, directive_states, pseudo_form, pseudo_states, branch_form, branch_states, jal_form, jal_states, data_kind, data_bytes, Writes, AreMore, IsRow, IsData, StatesAfter, InstrDeparts, RefusedWith, Stated, within, bytes, plain, stated, IsRightStatement}
 use Rattle.sfi_text.specs.declared.keyword.Directive.{Directive}
 use Rattle.sfi_text.specs.declared.keyword.Pseudo.{Pseudo}
 use Rattle.sfi_text.specs.declared.statement.Statement.{Statement}
@@ -46,12 +46,12 @@ module _ (form : List OperandPart) (states : OperandValues → Stated) (text : L
 module _ (name : Mnemonic) (text : List ℕ) (s : Stated) where
   plain_states : ReadsPlain name text s → (tokens : List (List ℕ)) × AreTokens text tokens × IsPlain name tokens s
   plain_states (i, (same, inl reads), e) =
-      let t = tokens_of (operands_of i) (form_of (mnemonic_of i)) text reads in
+      let t = tokens_of (operands_of i) (operand_parts (mnemonic_of i)) text reads in
       (t.0, t.1, (i, (ap name_of (sym same), inl t.2), e))
   plain_states (i, (same, inr (fence, blank)), e) = ([], (text, refl, blank), (i, (ap name_of (sym same), inr (fence, refl)), e))
 
   plain_read : (tokens : List (List ℕ)) → AreTokens text tokens → IsPlain name tokens s → ReadsPlain name text s
-  plain_read tokens are (i, (named, inl form), e) = (i, (name_unique (mnemonic_of i) name (sym named), inl (from_tokens (operands_of i) (form_of (mnemonic_of i)) tokens text are form)), e)
+  plain_read tokens are (i, (named, inl form), e) = (i, (name_unique (mnemonic_of i) name (sym named), inl (from_tokens (operands_of i) (operand_parts (mnemonic_of i)) tokens text are form)), e)
   plain_read tokens (last, leads, blank) (i, (named, inr (fence, none)), e) =
       let ends : text ≡ last = subst (λ ts. LeadsTo text ts last) none leads in
       (i, (name_unique (mnemonic_of i) name (sym named), inr (fence, subst IsBlank (sym ends) blank)), e)
@@ -126,7 +126,7 @@ row_not form states text s e (o, reads, is) departs = departs_reads form text e 
 
 plain_not : (name : Mnemonic) (text : List ℕ) (s : Stated) (e : TextCause) → ReadsPlain name text s → OperandsDepart name text e → ⊥
 plain_not name text s e (i, (same, inl reads), is) refused =
-    departs_reads (form_of name) text e (operands_of i) refused.1 (subst (λ m. Reads (operands_of i) (form_of m) text) same reads)
+    departs_reads (operand_parts name) text e (operands_of i) refused.1 (subst (λ m. Reads (operands_of i) (operand_parts m) text) same reads)
 plain_not name text s e (i, (same, inr (fence, blank)), is) refused = refused.0 (sym same ∙ ap mnemonic_of fence, blank)
 
 -- and is refused for no cause then
@@ -139,7 +139,7 @@ reads_not (keyword.Directive name) text s e h r = row_not (directive_form name) 
 reads_not (keyword.Numbers width) text s e (b, h, is) r = list_not_refused width text b e h r
 
 plain_cause : (name : Mnemonic) (text : List ℕ) (e f : TextCause) → OperandsDepart name text e → OperandsDepart name text f → e ≡ f
-plain_cause name text e f h j = departs_one (form_of name) text e f h.1 j.1
+plain_cause name text e f h j = departs_one (operand_parts name) text e f h.1 j.1
 
 -- and for one cause else
 pub refused_one : (k : Keyword) (text : List ℕ) (e f : TextCause) → RefusedWith k text e → RefusedWith k text f → e ≡ f

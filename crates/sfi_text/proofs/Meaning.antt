@@ -1,5 +1,5 @@
 -- What a text means: one instruction in range at most, or one cause of a refusal.
-use Rattle.sfi_text.proofs.Prelude.{◌≡◌, ℕ, List, [], ◌∷◌, inl, inr, refl, sym, ap, ◌∙◌, subst, ℤ, pos, codes, IsNumber, Bool, true, false, Result, IfOk, IfOk-weaker, Instr, TextCause, Mnemonic, OperandPart, Rd, Rs1, Rs2, Number, Name, Mode, ImageFormat, SaysFormat, Takes, IsBlank, LeadsTo, AreTokens, name_of, form_of, OperandValues, Stands, HasForm, mode_name, Reads, SameAt, AgreesOn, FollowsName, FollowsToken, mnemonic_of, operands_of, Means, negsuc, InRange, Follows, OneMeaning, MeaningsAreInRange, ◌⊎◌, Ok, Err, IfErr, IsName, Refused, Differs, Departs, OperandsDepart, RefusedAt, OneCause, MeantIsNotRefused}
+use Rattle.sfi_text.proofs.Prelude.{◌≡◌, ℕ, List, [], ◌∷◌, inl, inr, refl, sym, ap, ◌∙◌, subst, ℤ, pos, codes, IsNumber, Bool, true, false, Result, IfOk, IfOk-weaker, Instr, TextCause, Mnemonic, OperandPart, Rd, Rs1, Rs2, Number, Name, Mode, ImageFormat, SaysFormat, Takes, IsBlank, LeadsTo, AreTokens, name_of, operand_parts, OperandValues, Stands, HasForm, mode_name, Reads, SameAt, AgreesOn, FollowsName, FollowsToken, mnemonic_of, operands_of, Means, negsuc, InRange, Follows, OneMeaning, MeaningsAreInRange, ◌⊎◌, Ok, Err, IfErr, IsName, Refused, Differs, Departs, OperandsDepart, RefusedAt, OneCause, MeantIsNotRefused}
 use Rattle.sfi_text.proofs.NameTables.{register_unique, name_unique, name_is_name}
 use Rattle.sfi_text.proofs.Numbers.{number_unique}
 use Rattle.sfi_text.proofs.Taking.{takes_unique, blank_takes_none, One, either_one, fixed_one, token_one, front_at, front_one}
@@ -72,7 +72,7 @@ from_tokens o (part ∷ form) (t ∷ tokens) text (rest, (after, takes, leads), 
 -- a text means an instruction by its first token and what follows it
 pub means : (text token rest : List ℕ) (i : Instr) → Takes text token rest → FollowsToken token rest i → Means text i
 means text token rest i takes (named, inl reads) =
-    let tokens = tokens_of (operands_of i) (form_of (mnemonic_of i)) rest reads in
+    let tokens = tokens_of (operands_of i) (operand_parts (mnemonic_of i)) rest reads in
     (token ∷ tokens.0, (tokens.1.0, (rest, takes, tokens.1.1), tokens.1.2), (sym named, inl tokens.2))
 means text token rest i takes (named, inr (fence, blank)) = (token ∷ [], (rest, (rest, takes, refl), blank), (sym named, inr (fence, refl)))
 
@@ -80,7 +80,7 @@ pub meant : (text token rest : List ℕ) (i : Instr) → Takes text token rest �
 meant text token rest i takes ([], leads, spells) = absurd spells
 meant text token rest i takes (t ∷ tokens, (last, (after, other, leads), blank), (named, inl form)) =
     let same = takes_unique other takes in
-    (sym named ∙ same.0, inl (subst (Reads (operands_of i) (form_of (mnemonic_of i))) same.1 (from_tokens (operands_of i) (form_of (mnemonic_of i)) tokens after (last, leads, blank) form)))
+    (sym named ∙ same.0, inl (subst (Reads (operands_of i) (operand_parts (mnemonic_of i))) same.1 (from_tokens (operands_of i) (operand_parts (mnemonic_of i)) tokens after (last, leads, blank) form)))
 meant text token rest i takes (t ∷ tokens, (last, (after, other, leads), blank), (named, inr (fence, none))) =
     let same = takes_unique other takes in
     let ends : LeadsTo after [] last = subst (λ ts. LeadsTo after ts last) none leads in
@@ -92,9 +92,9 @@ first_token text i ([], leads, spells) = absurd spells
 first_token text i (t ∷ tokens, (last, (after, other, leads), blank), spells) = (t, after, other)
 
 -- the operands that were read are those of the instruction that was made
-pub follows : (rest : List ℕ) (name : Mnemonic) (o : OperandValues) (i : Instr) → Reads o (form_of name) rest → mnemonic_of i ≡ name → AgreesOn (form_of name) (operands_of i) o → FollowsName rest name i
+pub follows : (rest : List ℕ) (name : Mnemonic) (o : OperandValues) (i : Instr) → Reads o (operand_parts name) rest → mnemonic_of i ≡ name → AgreesOn (operand_parts name) (operands_of i) o → FollowsName rest name i
 follows rest name o i reads same agrees =
-    (same, inl (subst (λ m. Reads (operands_of i) (form_of m) rest) (sym same) (reads_by (operands_of i) o (form_of name) rest agrees reads)))
+    (same, inl (subst (λ m. Reads (operands_of i) (operand_parts m) rest) (sym same) (reads_by (operands_of i) o (operand_parts name) rest agrees reads)))
 
 -- what has the name of a mnemonic has the token
 pub token_follows : (r : Result Instr TextCause) (token rest : List ℕ) (name : Mnemonic) → name_of name ≡ token → IfOk r (λ i. FollowsName rest name i) → IfOk r (λ i. FollowsToken token rest i)
@@ -125,23 +125,23 @@ made_own : (i : Instr) → made (mnemonic_of i) (operands_of i) ≡ i
 made_own (instr.Op op rd rs1 rs2) = refl
 made_own _ = refl
 
-made_agrees : (m : Mnemonic) (a b : OperandValues) → AgreesOn (form_of m) a b → made m a ≡ made m b
+made_agrees : (m : Mnemonic) (a b : OperandValues) → AgreesOn (operand_parts m) a b → made m a ≡ made m b
 made_agrees mnemonic.Ecall a b h = refl
 made_agrees mnemonic.Ebreak a b h = refl
 made_agrees _ a b h = cc
 
-same_instr : (i j : Instr) → mnemonic_of j ≡ mnemonic_of i → AgreesOn (form_of (mnemonic_of i)) (operands_of i) (operands_of j) → i ≡ j
+same_instr : (i j : Instr) → mnemonic_of j ≡ mnemonic_of i → AgreesOn (operand_parts (mnemonic_of i)) (operands_of i) (operands_of j) → i ≡ j
 same_instr i j same h =
     sym (made_own i) ∙ made_agrees (mnemonic_of i) (operands_of i) (operands_of j) h ∙ ap (λ m. made m (operands_of j)) (sym same) ∙ made_own j
 
 -- a fence with operands isn't one without
-no_bare : (o : OperandValues) (rest : List ℕ) (m : Mnemonic) → mnemonic.Fence ≡ m → IsBlank rest → Reads o (form_of m) rest → ⊥
+no_bare : (o : OperandValues) (rest : List ℕ) (m : Mnemonic) → mnemonic.Fence ≡ m → IsBlank rest → Reads o (operand_parts m) rest → ⊥
 no_bare o rest m fence blank reads =
-    let (t, r, takes, stands, more) = subst (λ x. Reads o (form_of x) rest) (sym fence) reads in
+    let (t, r, takes, stands, more) = subst (λ x. Reads o (operand_parts x) rest) (sym fence) reads in
     blank_takes_none rest t r blank takes
 
 pub follows_one : (rest : List ℕ) (i j : Instr) → mnemonic_of j ≡ mnemonic_of i → Follows rest i → Follows rest j → i ≡ j
-follows_one rest i j same (inl h) (inl k) = same_instr i j same (agree (operands_of i) (operands_of j) (form_of (mnemonic_of i)) rest h (subst (λ m. Reads (operands_of j) (form_of m) rest) same k))
+follows_one rest i j same (inl h) (inl k) = same_instr i j same (agree (operands_of i) (operands_of j) (operand_parts (mnemonic_of i)) rest h (subst (λ m. Reads (operands_of j) (operand_parts m) rest) same k))
 follows_one rest i j same (inl h) (inr (fence, blank)) = absurd (no_bare (operands_of i) rest (mnemonic_of i) (sym (ap mnemonic_of fence) ∙ same) blank h)
 follows_one rest i j same (inr (fence, blank)) (inl k) = absurd (no_bare (operands_of j) rest (mnemonic_of j) (sym (ap mnemonic_of fence) ∙ sym same) blank k)
 follows_one rest i j same (inr (fence, blank)) (inr (other, nothing)) = fence ∙ sym other
@@ -155,7 +155,7 @@ one_meaning text i j h k =
 
 -- what follows the name is in range
 pub follows_in_range : (rest : List ℕ) (i : Instr) → Follows rest i → InRange i
-follows_in_range rest i (inl h) = fits_in_range i (reads_fit (operands_of i) (form_of (mnemonic_of i)) rest h)
+follows_in_range rest i (inl h) = fits_in_range i (reads_fit (operands_of i) (operand_parts (mnemonic_of i)) rest h)
 follows_in_range rest i (inr (fence, blank)) = subst InRange (sym fence) full_fence_in_range
 
 pub in_range : MeaningsAreInRange
@@ -192,7 +192,7 @@ named m token e = subst IsName e (name_is_name m)
 
 mnemonic_one : (token rest : List ℕ) → One (λ e. (m : Mnemonic) × (name_of m ≡ token) × OperandsDepart m rest e)
 mnemonic_one token rest e f (m, is, (bare, d)) (n, same, (other, c)) =
-    departs_one (form_of m) rest e f d (subst (λ k. Departs (form_of k) rest f) (name_unique n m (same ∙ sym is)) c)
+    departs_one (operand_parts m) rest e f d (subst (λ k. Departs (operand_parts k) rest f) (name_unique n m (same ∙ sym is)) c)
 
 at_one : (token rest : List ℕ) → One (RefusedAt token rest)
 at_one token rest =
@@ -207,7 +207,7 @@ at_none : (token rest : List ℕ) (e : TextCause) (i : Instr) → RefusedAt toke
 at_none token rest e i (inl n) h = n.0 (named (mnemonic_of i) token h.0)
 at_none token rest e i (inr (inl k)) h = k.0.1 (mnemonic_of i) h.0
 at_none token rest e i (inr (inr (m, is, (bare, d)))) (has, inl reads) =
-    departs_reads (form_of m) rest e (operands_of i) d (subst (λ k. Reads (operands_of i) (form_of k) rest) (name_unique (mnemonic_of i) m (has ∙ sym is)) reads)
+    departs_reads (operand_parts m) rest e (operands_of i) d (subst (λ k. Reads (operands_of i) (operand_parts k) rest) (name_unique (mnemonic_of i) m (has ∙ sym is)) reads)
 at_none token rest e i (inr (inr (m, is, (bare, d)))) (has, inr (fence, blank)) =
     bare (name_unique m (mnemonic_of i) (is ∙ sym has) ∙ ap mnemonic_of fence, blank)
 

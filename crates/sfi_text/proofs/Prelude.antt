@@ -14,7 +14,7 @@ pub use Rattle.sfi_source.specs.Source.{IsDataSize, IsStraight, Sandbox, IsBody,
 pub use Rattle.sfi_source.specs.declared.item.Named.{Named}
 pub use Rattle.sfi_source.specs.declared.item.Named.TheVariants.{Unknown, Gate, Code, Data}
 pub use Rattle.sfi_text.specs.SoFar.{constant, data_bytes, fits_addi, add_lower, Does, IsFree, Labels, RefusesLabel, Fits, GoesOn, with_stated, HasNoRoom, MayCome, Begun, SoFar, nothing, begin, format_or_sfi1, last_sandbox, sandboxes, with_label, with_names, with_gate, with_export, with_import, listed, address_bodies, address_count, SharedNames, tables, has_tables, items_of, with_bodies, with_bytes, Stated, format, sandbox, within, gate, exported, imported, movable, compressed, bytes, plain, jump, address, StatedWithin, data_part}
-pub use Rattle.sfi_text.specs.Operands.{IsNumberOf, form_of, name_of, OperandValues, Stands, SaysFormat, mode_name, Departs, part_cause, Unformed, Missing, Differs, HasForm}
+pub use Rattle.sfi_text.specs.Operands.{IsNumberOf, operand_parts, name_of, OperandValues, Stands, SaysFormat, mode_name, Departs, part_cause, Unformed, Missing, Differs, HasForm}
 pub use Rattle.sfi_text.specs.Keywords.{keyword_name, directive_form, directive_states, pseudo_form, pseudo_states, branch_form, branch_states, jal_form, jal_states, data_kind, position_of_keyword, is_added, makes_gate}
 pub use Rattle.sfi_text.specs.Laws.{ConstantsAddUp, OneMeaning, MeaningsAreInRange, LeadsOnce, LeadingIsNotRefused, RefusedOnce, OneSource, OneText, OneFault, MeantHasNoFault, OneCause, MeantIsNotRefused, PrintedReadsBack, SomeMeaning, SomeSource}
 pub use Rattle.sfi_text.specs.Texts.{LabelsLead, RestLeads, BeginsWithName, BeginsWithLabel, HasNoLabel, IsTaken, LabelRefused, PassesLabels, LeadsAfter, PassesLimit, OperandsRefused, IsKnown, KnownRefused, RefusedAfter, RefusedFrom, StatementRefused, Leads, IsGateTwice, LineRefused, uncommented, lines, LinesLead, LeadsFromNothing, FirstRefused, most_bytes, first_line, LineFault, MeansSource, MeansText, IsFault}

@@ -1,5 +1,5 @@
 -- What a line states is in range.
-use Rattle.sfi_text.proofs.Prelude.{rules, ◌≡◌, ℕ, ◌^◌, ◌<◌, ◌≤◌, Bool, true, false, cond, List, [], ◌∷◌, length, inl, inr, refl, sym, ap, ◌∙◌, subst, arith, ℤ, pos, negsuc, unsigned_abs, ◌==◌, All, flat_map, ints, Instr, IsImm12, Mnemonic, OperandPart, Nop, Li, DataWidth, Keyword, IsDataSize, IsStraight, name_of, form_of, IsNumberOf, OperandValues, HasForm, AllSuit, mnemonic_of, operands_of, Spells, fits_addi, add_lower, constant, data_bytes, directive_form, directive_states, pseudo_form, pseudo_states, branch_form, branch_states, jal_form, jal_states, position_of_keyword, IsRow, After, Stated, within, plain, IsRightStatement, position_of_stated}
+use Rattle.sfi_text.proofs.Prelude.{rules, ◌≡◌, ℕ, ◌^◌, ◌<◌, ◌≤◌, Bool, true, false, cond, List, [], ◌∷◌, length, inl, inr, refl, sym, ap, ◌∙◌, subst, arith, ℤ, pos, negsuc, unsigned_abs, ◌==◌, All, flat_map, ints, Instr, IsImm12, Mnemonic, OperandPart, Nop, Li, DataWidth, Keyword, IsDataSize, IsStraight, name_of, operand_parts, IsNumberOf, OperandValues, HasForm, AllSuit, mnemonic_of, operands_of, Spells, fits_addi, add_lower, constant, data_bytes, directive_form, directive_states, pseudo_form, pseudo_states, branch_form, branch_states, jal_form, jal_states, position_of_keyword, IsRow, After, Stated, within, plain, IsRightStatement, position_of_stated}
 use Rattle.sfi_source.specs.Source.{upper, lower}
 use Rattle.sfi_text.specs.declared.keyword.DataWidth.TheVariants.{Word, Half, Byte}
 use Rattle.sfi_text.specs.declared.keyword.Directive.{Directive}
@@ -130,7 +130,7 @@ straight (instr.Jal rd offset) h = cc
 straight _ h = tt
 
 spells_in_range : (i : Instr) (name : List ℕ) (tokens : List (List ℕ)) → Spells i (name ∷ tokens) → InRange i
-spells_in_range i name tokens (named, inl form) = fits_in_range i (form_fits (operands_of i) (form_of (mnemonic_of i)) tokens form)
+spells_in_range i name tokens (named, inl form) = fits_in_range i (form_fits (operands_of i) (operand_parts (mnemonic_of i)) tokens form)
 spells_in_range i name tokens (named, inr (fence, none)) = subst InRange (sym fence) full_fence_in_range
 
 plain_right : (name : Mnemonic) → is_target name ≡ false → (tokens : List (List ℕ)) (s : Stated) → ((i : Instr) × Spells i (name_of name ∷ tokens) × (s ≡ within (plain (i ∷ [])))) → IsRightStatement s

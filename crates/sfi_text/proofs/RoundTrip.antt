@@ -1,5 +1,5 @@
 -- A printed instruction reads back, word by word.
-use Rattle.sfi_text.proofs.Prelude.{◌≡◌, ℕ, ◌≤◌, Bool, true, false, ◌||◌, List, [], ◌∷◌, ◌++◌, length, length-append, ◌⊎◌, inl, inr, ⊎_elim, refl, sym, ap, ◌∙◌, subst, arith, AllByRecursion, nat_tests, false≢true, is_space, IsBlank, is_mark, IsToken, Takes, token_len, ◌<◌, ◌^◌, suc, ℤ, pos, negsuc, codes, ints, Mnemonic, NumberKind, Upper, IsNumber, continues_name, name_of, IsNumberOf, number_text, nat_lt, ◌&&◌, flat_map, and_parts, Instr, InRange, OperandPart, Rd, Rs1, Rs2, Number, Name, Mode, ImageFormat, Comma, Open, Close, form_of, OperandValues, Stands, SaysFormat, mode_name, Reads, AllSuit, slot, mnemonic_of, operands_of, Means, format_name, part_text, operands_text, printed, PrintedReadsBack}
+use Rattle.sfi_text.proofs.Prelude.{◌≡◌, ℕ, ◌≤◌, Bool, true, false, ◌||◌, List, [], ◌∷◌, ◌++◌, length, length-append, ◌⊎◌, inl, inr, ⊎_elim, refl, sym, ap, ◌∙◌, subst, arith, AllByRecursion, nat_tests, false≢true, is_space, IsBlank, is_mark, IsToken, Takes, token_len, ◌<◌, ◌^◌, suc, ℤ, pos, negsuc, codes, ints, Mnemonic, NumberKind, Upper, IsNumber, continues_name, name_of, IsNumberOf, number_text, nat_lt, ◌&&◌, flat_map, and_parts, Instr, InRange, OperandPart, Rd, Rs1, Rs2, Number, Name, Mode, ImageFormat, Comma, Open, Close, operand_parts, OperandValues, Stands, SaysFormat, mode_name, Reads, AllSuit, slot, mnemonic_of, operands_of, Means, format_name, part_text, operands_text, printed, PrintedReadsBack}
 use Rattle.sfi_text.proofs.Lexing.{all_by, is_word, token_bytes, token_within, token_at_mark, numeral_passes}
 use Rattle.sfi_text.specs.Tokens.{x_name}
 use Rattle.sfi_text.specs.private.Reading.{IsInReach}
@@ -125,7 +125,7 @@ abbrev is_spaced : List OperandPart → Bool
 is_spaced [] = true
 is_spaced (part ∷ form) = (is_mark_part part || may_follow form) && is_spaced form
 
-form_is_spaced : (m : Mnemonic) → is_spaced (form_of m) ≡ true
+form_is_spaced : (m : Mnemonic) → is_spaced (operand_parts m) ≡ true
 form_is_spaced (mnemonic.Op op) = refl
 form_is_spaced _ = refl
 
@@ -201,8 +201,8 @@ pub reads_back : PrintedReadsBack
 reads_back i h =
     let name = mnemonic_of i in
     let o = operands_of i in
-    let takes : Takes (printed i) (name_of name) (operands_text o (form_of name)) = takes_word [] (name_of name) _ tt (name_token name) (after_name_ends o (form_of name)) in
-    means (printed i) (name_of name) (operands_text o (form_of name)) i takes (refl, inl (after_name_reads o (form_of name) (form_is_spaced name) (in_range_fits i h)))
+    let takes : Takes (printed i) (name_of name) (operands_text o (operand_parts name)) = takes_word [] (name_of name) _ tt (name_token name) (after_name_ends o (operand_parts name)) in
+    means (printed i) (name_of name) (operands_text o (operand_parts name)) i takes (refl, inl (after_name_reads o (operand_parts name) (form_is_spaced name) (in_range_fits i h)))
 
 -- a text that is printed means its instruction
 pub printed_means : (text : List ℕ) (i : Instr) → text ≡ printed i → InRange i → Means text i

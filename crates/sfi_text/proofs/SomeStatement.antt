@@ -1,5 +1,5 @@
 -- The text after a keyword states something, or is refused.
-use Rattle.sfi_text.proofs.Prelude.{◌≡◌, ◌≢◌, ℕ, zero, suc, ◌≤◌, true, List, [], ◌∷◌, length, ◌⊎◌, inl, inr, refl, sym, arith, rules, ℤ, pos, negsuc, IsTrue, codes, flat_map, ints, Instr, IsBetween, TextCause, Mnemonic, NumberKind, OperandPart, Rd, Rs1, Rs2, Number, Name, Mode, ImageFormat, Comma, Open, Close, Nop, DataWidth, Keyword, IsBlank, form_of, data_bytes, OperandValues, Departs, part_cause, mnemonic_of, operands, operands_of, full_fence, IsBareFence, OperandsDepart, Reads, SameAt, AgreesOn, AllSuit, FollowsName, slot, is_fresh, has_no_repeat, directive_form, directive_states, pseudo_form, pseudo_states, branch_form, branch_states, jal_form, jal_states, data_kind, StatesAfter, LeadsByMore, NumberDeparts, ListDeparts, InstrDeparts, RefusedWith, Stated, within, plain, bytes}
+use Rattle.sfi_text.proofs.Prelude.{◌≡◌, ◌≢◌, ℕ, zero, suc, ◌≤◌, true, List, [], ◌∷◌, length, ◌⊎◌, inl, inr, refl, sym, arith, rules, ℤ, pos, negsuc, IsTrue, codes, flat_map, ints, Instr, IsBetween, TextCause, Mnemonic, NumberKind, OperandPart, Rd, Rs1, Rs2, Number, Name, Mode, ImageFormat, Comma, Open, Close, Nop, DataWidth, Keyword, IsBlank, operand_parts, data_bytes, OperandValues, Departs, part_cause, mnemonic_of, operands, operands_of, full_fence, IsBareFence, OperandsDepart, Reads, SameAt, AgreesOn, AllSuit, FollowsName, slot, is_fresh, has_no_repeat, directive_form, directive_states, pseudo_form, pseudo_states, branch_form, branch_states, jal_form, jal_states, data_kind, StatesAfter, LeadsByMore, NumberDeparts, ListDeparts, InstrDeparts, RefusedWith, Stated, within, plain, bytes}
 use Rattle.sfi_text.specs.declared.keyword.Directive.{Directive}
 use Rattle.sfi_text.specs.declared.keyword.Pseudo.{Pseudo}
 use Rattle.sfi_text.specs.private.Lines.{ReadsNumber, ReadsList, MoreDepartsAfter, ReadsRow, ReadsInstr, ReadsAfter}
@@ -110,13 +110,13 @@ made_named : (name : Mnemonic) (o : OperandValues) → mnemonic_of (made name o)
 made_named (mnemonic.Op op) o = refl
 made_named _ o = refl
 
-made_fits : (name : Mnemonic) (o : OperandValues) → AllSuit o (form_of name) → AgreesOn (form_of name) (operands_of (made name o)) o
+made_fits : (name : Mnemonic) (o : OperandValues) → AllSuit o (operand_parts name) → AgreesOn (operand_parts name) (operands_of (made name o)) o
 made_fits mnemonic.Lui o h = (refl, (tt, (natural_is _ o.number h.1.1.0, tt)))
 made_fits mnemonic.Auipc o h = (refl, (tt, (natural_is _ o.number h.1.1.0, tt)))
 made_fits mnemonic.Fence o h = (natural_is _ o.number h.0, (tt, (refl, (tt, (refl, tt)))))
 made_fits _ o h = search rules
 
-no_repeat : (name : Mnemonic) → has_no_repeat (form_of name) ≡ true
+no_repeat : (name : Mnemonic) → has_no_repeat (operand_parts name) ≡ true
 no_repeat (mnemonic.Op op) = refl
 no_repeat _ = refl
 
@@ -136,9 +136,9 @@ pub follows_or_departs : (name : Mnemonic) (text : List ℕ) → ((i : Instr) ×
 follows_or_departs name text =
     elim (bare_or_not name text) [
       | inl bare ↦ inl (full_fence, (sym bare.0, inr (refl, bare.1)))
-      | inr other ↦ elim (read_or_depart (form_of name) text (no_repeat name)) [
+      | inr other ↦ elim (read_or_depart (operand_parts name) text (no_repeat name)) [
         | inr (e, departs) ↦ inr (e, (other, departs))
-        | inl (o, reads) ↦ inl (made name o, follows text name o (made name o) reads (made_named name o) (made_fits name o (reads_fit o (form_of name) text reads)))
+        | inl (o, reads) ↦ inl (made name o, follows text name o (made name o) reads (made_named name o) (made_fits name o (reads_fit o (operand_parts name) text reads)))
       ]
     ]
 

@@ -122,19 +122,19 @@ abbrev pub immediate_kind : ImmOp → NumberKind
 immediate_kind op = if is_shift op then ShiftAmount else Immediate
 
 -- the operands after the name, and the marks between them
-abbrev pub form_of : Mnemonic → List OperandPart
-form_of (mnemonic.Op op) = Rd ∷ Comma ∷ Rs1 ∷ Comma ∷ Rs2 ∷ []
-form_of (mnemonic.OpImm op) = Rd ∷ Comma ∷ Rs1 ∷ Comma ∷ Number (immediate_kind op) ∷ []
-form_of (mnemonic.Load kind) = Rd ∷ Comma ∷ Number Immediate ∷ Open ∷ Rs1 ∷ Close ∷ []
-form_of (mnemonic.Store width) = Rs2 ∷ Comma ∷ Number Immediate ∷ Open ∷ Rs1 ∷ Close ∷ []
-form_of (mnemonic.Branch cond) = Rs1 ∷ Comma ∷ Rs2 ∷ Comma ∷ Number BranchOffset ∷ []
-form_of mnemonic.Jal = Rd ∷ Comma ∷ Number JumpOffset ∷ []
-form_of mnemonic.Jalr = Rd ∷ Comma ∷ Number Immediate ∷ Open ∷ Rs1 ∷ Close ∷ []
-form_of mnemonic.Lui = Rd ∷ Comma ∷ Number Upper ∷ []
-form_of mnemonic.Auipc = Rd ∷ Comma ∷ Number Upper ∷ []
-form_of mnemonic.Fence = Number FenceFields ∷ Comma ∷ Rd ∷ Comma ∷ Rs1 ∷ []
-form_of mnemonic.Ecall = []
-form_of mnemonic.Ebreak = []
+abbrev pub operand_parts : Mnemonic → List OperandPart
+operand_parts (mnemonic.Op op) = Rd ∷ Comma ∷ Rs1 ∷ Comma ∷ Rs2 ∷ []
+operand_parts (mnemonic.OpImm op) = Rd ∷ Comma ∷ Rs1 ∷ Comma ∷ Number (immediate_kind op) ∷ []
+operand_parts (mnemonic.Load kind) = Rd ∷ Comma ∷ Number Immediate ∷ Open ∷ Rs1 ∷ Close ∷ []
+operand_parts (mnemonic.Store width) = Rs2 ∷ Comma ∷ Number Immediate ∷ Open ∷ Rs1 ∷ Close ∷ []
+operand_parts (mnemonic.Branch cond) = Rs1 ∷ Comma ∷ Rs2 ∷ Comma ∷ Number BranchOffset ∷ []
+operand_parts mnemonic.Jal = Rd ∷ Comma ∷ Number JumpOffset ∷ []
+operand_parts mnemonic.Jalr = Rd ∷ Comma ∷ Number Immediate ∷ Open ∷ Rs1 ∷ Close ∷ []
+operand_parts mnemonic.Lui = Rd ∷ Comma ∷ Number Upper ∷ []
+operand_parts mnemonic.Auipc = Rd ∷ Comma ∷ Number Upper ∷ []
+operand_parts mnemonic.Fence = Number FenceFields ∷ Comma ∷ Rd ∷ Comma ∷ Rs1 ∷ []
+operand_parts mnemonic.Ecall = []
+operand_parts mnemonic.Ebreak = []
 
 -- ==== The operands of a statement, and the tokens that give them.
 

@@ -9,7 +9,7 @@ use Rattle.sfi_text.specs.declared.mnemonic.Mnemonic.{Mnemonic}
 use Rattle.sfi_text.specs.declared.mnemonic.Mnemonic.TheVariants as mnemonic
 use Rattle.sfi_text.specs.Tokens.{Takes, IsBlank, AreTokens, x_name}
 use Rattle.sfi_source.specs.Names.{IsName}
-use Rattle.sfi_text.specs.Operands.{name_of, form_of, OperandValues, HasForm, Unformed, Missing, Departs, mode_name}
+use Rattle.sfi_text.specs.Operands.{name_of, operand_parts, OperandValues, HasForm, Unformed, Missing, Departs, mode_name}
 use Rattle.std.specs.List.{flat_map}
 use Rattle.std.specs.Fmt.{signed_decimal, digits}
 use Rattle.sfi_formats.specs.declared.format.Format.{Format}
@@ -64,7 +64,7 @@ abbrev pub Spells : Instr → List (List ℕ) → Type 0
 Spells i [] = ⊥
 Spells i (name ∷ tokens) =
     (name ≡ name_of (mnemonic_of i))
-    × (HasForm (operands_of i) (form_of (mnemonic_of i)) tokens
+    × (HasForm (operands_of i) (operand_parts (mnemonic_of i)) tokens
     ⊎ ((i ≡ full_fence) × (tokens ≡ [])))
 
 -- the text means the instruction
@@ -78,7 +78,7 @@ IsBareFence name rest = (name ≡ mnemonic.Fence) × IsBlank rest
 -- `rest` doesn't give the operands of the instruction `name`, which is no fence without operands:
 -- `e` is the cause of its first token that departs
 abbrev pub OperandsDepart : Mnemonic → List ℕ → TextCause → Type 0
-OperandsDepart name rest e = (IsBareFence name rest → ⊥) × Departs (form_of name) rest e
+OperandsDepart name rest e = (IsBareFence name rest → ⊥) × Departs (operand_parts name) rest e
 
 -- `token` is a name that no instruction has; it may be a pseudo-instruction's
 abbrev pub IsUnknown : List ℕ → Type 0
@@ -132,7 +132,7 @@ operands_text o (part ∷ form) = codes " " ++ flat_map (part_text o) (part ∷ 
 
 -- a statement's text: its name and its operands
 abbrev pub statement_text : Mnemonic → OperandValues → List ℕ
-statement_text name o = name_of name ++ operands_text o (form_of name)
+statement_text name o = name_of name ++ operands_text o (operand_parts name)
 
 -- the text of an instruction
 abbrev pub printed : Instr → List ℕ

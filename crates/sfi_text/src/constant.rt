@@ -61,7 +61,7 @@ fn lower_immediate(number: i64) -> i32
 
 /// The instructions of `li rd, number`: an addi where its 12 bits hold the number, otherwise a
 /// lui, and an addi after it unless it would add 0.
-pub fn constant<'a>(rd: Reg, number: i64) -> SandboxStatement<'a>
+pub(crate) fn constant<'a>(rd: Reg, number: i64) -> SandboxStatement<'a>
     requires { IsNumberOf NumberKind.Word number }
     ensures { stated_within result ≡ plain (constant rd number) }
 {
@@ -96,7 +96,7 @@ pub fn constant<'a>(rd: Reg, number: i64) -> SandboxStatement<'a>
 }
 
 /// Appends the bytes of a number, the lowest first.
-pub fn push_number_bytes(
+pub(crate) fn push_number_bytes(
     bytes: &mut Vec<u8>,
     width: DataWidth,
     number: i64,

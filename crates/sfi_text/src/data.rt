@@ -89,7 +89,7 @@ fn read_more(bytes: &mut Vec<u8>, width: DataWidth, text: &str) -> Result<(), Te
 
 /// The bytes of a list of numbers, which is all of the text: one number at least, with commas
 /// between.
-pub fn read_list(alloc: Global, width: DataWidth, text: &str) -> Result<Vec<u8>, TextCause>
+pub(crate) fn read_list(alloc: Global, width: DataWidth, text: &str) -> Result<Vec<u8>, TextCause>
     ensures ok { IfOk result (λ bytes. ReadsList width text.now bytes.items) }
     ensures cause { IfErr result (λ e.
         (e ≡ cause.Memory) ⊎ ListDeparts (data_kind width) text.now e) }

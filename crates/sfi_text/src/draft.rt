@@ -58,7 +58,7 @@ impl Model for Draft {
 
 impl Draft {
     /// A sandbox of this format with `data_size` bytes of data, and nothing else.
-    pub fn new(alloc: Global, format: Format, data_size: u32) -> Draft
+    pub(crate) fn new(alloc: Global, format: Format, data_size: u32) -> Draft
         ensures { result ≡ begin format data_size }
     {
         Draft {
@@ -79,21 +79,21 @@ impl Draft {
     }
 
     /// Whether its code part has ended.
-    pub fn is_in_data(&self) -> bool
+    pub(crate) fn is_in_data(&self) -> bool
         ensures { result ≡ self.now.in_data }
     {
         self.in_data
     }
 
     /// Whether it has a label or an instruction.
-    pub fn is_opened(&self) -> bool
+    pub(crate) fn is_opened(&self) -> bool
         ensures { result ≡ self.now.opened }
     {
         self.opened
     }
 
     /// Whether a label or a gate may have this name.
-    pub fn is_free(&self, name: &str) -> bool
+    pub(crate) fn is_free(&self, name: &str) -> bool
         ensures { IsTrue result ↔ IsFree name.now self.now }
     {
         match self.names.meaning(name) {
@@ -114,7 +114,7 @@ impl Draft {
     }
 
     /// Places a label here. No other label or gate has its name.
-    pub fn place_label(&mut self, alloc: Global, name: &str) -> Result<(), TextCause>
+    pub(crate) fn place_label(&mut self, alloc: Global, name: &str) -> Result<(), TextCause>
         ensures labelled { OnOk result (self.new ≡ with_label name.now self.old) }
         ensures memory { IfErr result (λ e. e ≡ cause.Memory) }
     {
@@ -250,7 +250,7 @@ impl Draft {
     }
 
     /// Adds what the line of this number states.
-    pub fn apply_statement(
+    pub(crate) fn apply_statement(
         &mut self,
         alloc: Global,
         line: u32,
@@ -296,7 +296,7 @@ impl Draft {
     }
 
     /// The sandbox as it stands, and what its table of names is to have.
-    pub fn finish(self) -> (SourcePart, SharedNames)
+    pub(crate) fn finish(self) -> (SourcePart, SharedNames)
         ensures sandbox { result.0 ≡ self.sandbox }
         ensures shared { result.1 ≡ self.shared }
     {

@@ -1,7 +1,7 @@
 //! What stands after the name of a statement: its operands and the marks between them.
 ghost use Rattle.std.specs.Prelude.{◌≡◌, ◌↔◌, IsTrue};
 ghost use Rattle.std.specs.Int.{IsPowerOfTwo};
-ghost use Rattle.sfi_text.specs.Operands.{form_of, IsNumberOf};
+ghost use Rattle.sfi_text.specs.Operands.{operand_parts, IsNumberOf};
 ghost use Rattle.sfi_source.specs.Source.{IsDataSize};
 
 use crate::mnemonic::Mnemonic;
@@ -58,8 +58,8 @@ pub enum OperandPart {
 
 impl Mnemonic {
     /// The operands that stand after the name, and the marks between them.
-    pub fn form(self) -> &'static [OperandPart]
-        ensures { result.now ≡ form_of self }
+    pub(crate) fn form(self) -> &'static [OperandPart]
+        ensures { result.now ≡ operand_parts self }
     {
         match self {
             Mnemonic::Op(_) => &[
@@ -139,25 +139,25 @@ fn is_power_of_two(number: u64) -> bool
 }
 
 /// Whether a data region may have `number` bytes.
-fn is_size(number: u64) -> bool
+fn is_data_size(number: u64) -> bool
     ensures { IsTrue result ↔ IsDataSize number }
 {
     REGION_LEAST as u64 <= number && number <= DATA_MOST as u64 && is_power_of_two(number)
 }
 
 /// Whether `number`, which may be negative, is a size of a data region.
-fn is_data_size(number: i64) -> bool
+fn is_signed_data_size(number: i64) -> bool
     ensures { IsTrue result ↔ IsNumberOf NumberKind.DataSize number }
 {
     match u64::try_from(number) {
-        Ok(size) => is_size(size),
+        Ok(size) => is_data_size(size),
         Err(_) => false,
     }
 }
 
 impl NumberKind {
     /// Whether the number is of this kind.
-    pub fn holds(self, number: i64) -> bool
+    pub(crate) fn holds(self, number: i64) -> bool
         ensures { IsTrue result ↔ IsNumberOf self number }
     {
         match self {
@@ -167,7 +167,7 @@ impl NumberKind {
             NumberKind::JumpOffset => (-1048576..=1048574).contains(&number) && number % 2 == 0,
             NumberKind::Upper => (0..=1048575).contains(&number),
             NumberKind::FenceFields => (0..=4095).contains(&number),
-            NumberKind::DataSize => is_data_size(number),
+            NumberKind::DataSize => is_signed_data_size(number),
             NumberKind::Service => (0..=SERVICE_MOST as i64).contains(&number),
             NumberKind::Word => (-2147483648..=4294967295).contains(&number),
             NumberKind::Half => (-32768..=65535).contains(&number),

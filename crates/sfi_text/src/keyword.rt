@@ -74,7 +74,7 @@ impl Directive {
     }
 
     /// The operands that stand after the name.
-    pub fn form(self) -> &'static [OperandPart]
+    pub(crate) fn form(self) -> &'static [OperandPart]
         ensures { result.now ≡ directive_form self }
     {
         match self {
@@ -111,7 +111,7 @@ impl Pseudo {
     }
 
     /// The operands that stand after the name, and the marks between them.
-    pub fn form(self) -> &'static [OperandPart]
+    pub(crate) fn form(self) -> &'static [OperandPart]
         ensures { result.now ≡ pseudo_form self }
     {
         match self {
@@ -147,7 +147,7 @@ impl DataWidth {
     }
 
     /// Which numbers may stand in the list.
-    pub fn kind(self) -> NumberKind
+    pub(crate) fn kind(self) -> NumberKind
         ensures { result ≡ data_kind self }
     {
         match self {
@@ -248,7 +248,7 @@ const PLACES: &[u8; 256] = &[
 /// The hash of a name: the seed, and then for each byte the factor times what was there before and
 /// the byte, modulo 256.
 #[tactic(auto, using(std::proofs::lemmas::List::Sums::fold_more), unfolding(crate::specs::private::Reading::hash))]
-pub fn hash(seed: usize, factor: usize, name: &str) -> usize
+pub(crate) fn hash(seed: usize, factor: usize, name: &str) -> usize
     requires seed { seed < 256 }
     requires factor { factor < 256 }
     ensures value { result ≡ hash seed factor name.now }
@@ -271,7 +271,7 @@ fn candidate(name: &str) -> Keyword
 
 impl Keyword {
     /// The name as source writes it, in lower case.
-    pub fn name(self) -> &'static str
+    pub(crate) fn name(self) -> &'static str
         ensures { result.now ≡ keyword_name self }
     {
         match self {
@@ -283,7 +283,7 @@ impl Keyword {
     }
 
     /// The keyword of this name; `None` for any other text.
-    pub fn from_name(name: &str) -> Option<Keyword>
+    pub(crate) fn from_name(name: &str) -> Option<Keyword>
         ensures some { IfSome result (λ k. keyword_name k ≡ name.now) }
         ensures none { IfNone result ((k : Keyword) → keyword_name k ≡ name.now → ⊥) }
     {
@@ -306,7 +306,7 @@ impl Keyword {
     }
 
     /// Where a statement of this name may come.
-    pub fn position(self) -> Position
+    pub(crate) fn position(self) -> Position
         ensures { result ≡ position_of_keyword self }
     {
         match self {
@@ -325,7 +325,7 @@ impl Keyword {
 
 impl Keyword {
     /// Whether the language of the first format lacks it.
-    pub fn is_added(self) -> bool
+    pub(crate) fn is_added(self) -> bool
         ensures { result ≡ is_added self }
     {
         matches!(
@@ -335,7 +335,7 @@ impl Keyword {
     }
 
     /// Whether the statement adds a gate, whose name stands after the keyword.
-    pub fn makes_gate(self) -> bool
+    pub(crate) fn makes_gate(self) -> bool
         ensures { result ≡ makes_gate self }
     {
         matches!(
@@ -347,7 +347,7 @@ impl Keyword {
 
 impl Mnemonic {
     /// The mnemonic of this name; `None` for any other text, a pseudo-instruction's name too.
-    pub fn from_name(name: &str) -> Option<Mnemonic>
+    pub(crate) fn from_name(name: &str) -> Option<Mnemonic>
         ensures some { IfSome result (λ m. name_of m ≡ name.now) }
         ensures none { IfNone result ((m : Mnemonic) → name_of m ≡ name.now → ⊥) }
     {

@@ -26,7 +26,7 @@ fn is_space(byte: u8) -> bool
 }
 
 /// A letter, `_` or `.` begins a name.
-pub fn begins_name(byte: u8) -> bool
+pub(crate) fn begins_name(byte: u8) -> bool
     ensures { result ≡ begins_name byte }
 {
     byte.is_ascii_alphabetic() || byte == b'_' || byte == b'.'
@@ -128,14 +128,14 @@ fn token_len(text: &[u8]) -> usize
 
 /// The text after its leading spaces.
 #[tactic(auto, using(crate::proofs::Taking::gap_boundary), unfolding(crate::specs::private::Reading::body_of))]
-pub fn body(text: &str) -> &str
+pub(crate) fn body(text: &str) -> &str
     ensures { result.now ≡ body_of text.now }
 {
     &text[gap_len(text.as_bytes())..]
 }
 
 /// The first token of a text.
-pub fn next_token(text: &str) -> NextToken<'_>
+pub(crate) fn next_token(text: &str) -> NextToken<'_>
     ensures { IsNext text.now result }
 {
     let body = body(text);

@@ -13,18 +13,18 @@ ghost use Rattle.sfi_text.specs.private.Lines.{stated, IsRightStatement};
 use crate::cause::TextCause;
 use crate::data::read_list;
 use crate::form::OperandPart;
+use crate::from_operands::{branch_to, jal_to};
 use crate::keyword::{Directive, Keyword, Pseudo};
 use crate::mnemonic::Mnemonic;
 use crate::parse::{after_name, name_cause};
 use crate::read::read_operands;
-use crate::rows::{branch_to, jal_to};
 use crate::statement::{SandboxStatement, Statement};
 use rv_word::Cond;
 use std::alloc::Global;
 
 /// The keyword with which a statement begins: `Word` for any other name, `Operands` for what is no
 /// name.
-pub fn read_keyword(token: &str) -> Result<Keyword, TextCause>
+pub(crate) fn read_keyword(token: &str) -> Result<Keyword, TextCause>
     requires { IsToken token.now }
     ensures ok { IfOk result (λ k. keyword_name k ≡ token.now) }
     ensures cause { IfErr result (λ e. NameRefused token.now e) }
@@ -142,7 +142,7 @@ fn read_after<'a>(
 /// what stands in the place of one, `Limit` for a name that is too long, `Word` for what
 /// forms no token, `Operands` for any other, for one beyond the last and for one that is missing.
 /// Only a list of data takes memory.
-pub fn read_statement<'a>(
+pub(crate) fn read_statement<'a>(
     alloc: Global,
     keyword: Keyword,
     rest: &'a str,

@@ -104,7 +104,7 @@ pub fn branch_name(cond: Cond) -> &'static str
 
 impl Mnemonic {
     /// The name as source writes it, in lower case.
-    pub fn name(self) -> &'static str
+    pub(crate) fn name(self) -> &'static str
         ensures { result.now ≡ name_of self }
     {
         match self {

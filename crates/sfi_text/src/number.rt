@@ -5,7 +5,7 @@ ghost use Rattle.sfi_text.specs.Tokens.{IsMagnitude, IsNumber};
 ghost use Rattle.sfi_text.specs.private.Reading.{IsInReach};
 
 /// What follows this prefix of a text.
-pub fn after_prefix<'a>(text: &'a str, prefix: &str) -> Option<&'a str>
+pub(crate) fn after_prefix<'a>(text: &'a str, prefix: &str) -> Option<&'a str>
     ensures { MatchOption result ((rest : List ℕ) → text.now ≡ prefix.now ++ rest → ⊥)
         (λ rest. text.now ≡ prefix.now ++ rest.now) }
 {
@@ -43,7 +43,7 @@ fn magnitude(text: &str) -> Option<u64>
 }
 
 /// The number that a token writes, if 32 bits can hold it, with or without a sign.
-pub fn parse_number(text: &str) -> Option<i64>
+pub(crate) fn parse_number(text: &str) -> Option<i64>
     ensures some { IfSome result (λ z. IsNumber text.now z × IsInReach z) }
     ensures none { IfNone result ((z : ℤ) → IsNumber text.now z → IsInReach z → ⊥) }
 {

@@ -1,6 +1,6 @@
 //! The operands of a statement, and the instruction that they make with its name.
 ghost use Rattle.std.specs.Prelude.{◌≡◌, pos};
-ghost use Rattle.sfi_text.specs.Operands.{form_of};
+ghost use Rattle.sfi_text.specs.Operands.{operand_parts};
 ghost use Rattle.sfi_text.specs.private.Reading.{AgreesOn, AllSuit};
 ghost use Rattle.sfi_text.specs.private.Reading.{values_of};
 ghost use Rattle.sfi_text.specs.Statement.{mnemonic_of, operands_of, operands};
@@ -25,7 +25,7 @@ pub struct Operands<'a> {
 }
 
 /// The register that reads as 0.
-pub fn x0() -> Reg
+pub(crate) fn x0() -> Reg
     ensures { result ≡ 0 }
 {
     Reg::numbered(0)
@@ -48,14 +48,14 @@ impl<'a> Operands<'a> {
     }
 
     /// No operands.
-    pub fn none() -> Self
+    pub(crate) fn none() -> Self
         ensures { values_of result ≡ operands 0 0 0 (pos 0) }
     {
         Operands::new(x0(), x0(), x0(), 0)
     }
 
     /// The instruction's operands.
-    pub fn from_instr(instr: &Instr) -> Self
+    pub(crate) fn from_instr(instr: &Instr) -> Self
         ensures { values_of result ≡ operands_of instr.now }
     {
         match *instr {
@@ -80,10 +80,10 @@ impl<'a> Operands<'a> {
     }
 
     /// The instruction of this name with these operands.
-    pub fn instr(self, name: Mnemonic) -> Instr
-        requires { AllSuit (values_of self) (form_of name) }
+    pub(crate) fn instr(self, name: Mnemonic) -> Instr
+        requires { AllSuit (values_of self) (operand_parts name) }
         ensures name { mnemonic_of result ≡ name }
-        ensures operands { AgreesOn (form_of name) (operands_of result) (values_of self.entry) }
+        ensures operands { AgreesOn (operand_parts name) (operands_of result) (values_of self.entry) }
     {
         let Operands {
             rd,

@@ -28,7 +28,7 @@ fn is_name_token(token: &str) -> bool
 }
 
 /// Why a token that begins a statement and is no keyword is refused.
-pub fn name_cause(token: &str) -> TextCause
+pub(crate) fn name_cause(token: &str) -> TextCause
     requires { IsToken token.now }
     ensures { (IsName token.now × (result ≡ cause.Word))
         ⊎ ((IsName token.now → ⊥) × (result ≡ cause.Operands)) }
@@ -55,7 +55,7 @@ fn is_bare_fence(name: Mnemonic, rest: &str) -> bool
 }
 
 /// The instruction of this name whose operands are the rest of the text.
-pub fn after_name(name: Mnemonic, rest: &str) -> Result<Instr, TextCause>
+pub(crate) fn after_name(name: Mnemonic, rest: &str) -> Result<Instr, TextCause>
     ensures ok { IfOk result (λ i. FollowsName rest.now name i) }
     ensures cause { IfErr result (λ e. OperandsDepart name rest.now e) }
 {

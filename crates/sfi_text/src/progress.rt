@@ -137,7 +137,7 @@ fn is_name_taken(draft: &Draft, text: &str) -> bool
 
 impl Progress {
     /// The source so far before the first line.
-    pub fn new(alloc: Global) -> Progress
+    pub(crate) fn new(alloc: Global) -> Progress
         ensures { result ≡ nothing }
     {
         Progress {
@@ -309,7 +309,7 @@ impl Progress {
     }
 
     /// Reads a line, which has no comment.
-    pub fn line(&mut self, alloc: Global, line: u32, text: &str) -> Result<(), TextCause>
+    pub(crate) fn line(&mut self, alloc: Global, line: u32, text: &str) -> Result<(), TextCause>
         ensures leads { OnOk result (Leads line self.old text.now self.new) }
         ensures cause { IfErr result (λ e. (e ≡ cause.Memory) ⊎ LineRefused self.old text.now e) }
     {
@@ -321,7 +321,7 @@ impl Progress {
     }
 
     /// What a text means whose lines were all read.
-    pub fn finish(self, text: &str) -> Result<SourceText, TextFault>
+    pub(crate) fn finish(self, text: &str) -> Result<SourceText, TextFault>
         requires { LeadsFromNothing text.now self }
         ensures meaning { IfOk result (λ l. MeansText text.now l.source l.shared.items) }
         ensures fault { IfErr result (λ f. (f ≡ memory) ⊎ IsFault text.now f) }

@@ -34,7 +34,7 @@ fn read_register(token: &str) -> Result<Reg, TextCause>
 }
 
 /// Whether the token is this mark.
-pub fn read_mark(token: &str, mark: &str) -> Result<(), TextCause>
+pub(crate) fn read_mark(token: &str, mark: &str) -> Result<(), TextCause>
     ensures ok { IfOk result (λ _. token.now ≡ mark.now) }
     ensures err { OnErr result (token.now ≡ mark.now → ⊥) }
     ensures cause { IfErr result (λ e. e ≡ cause.Operands) }
@@ -48,7 +48,7 @@ pub fn read_mark(token: &str, mark: &str) -> Result<(), TextCause>
 
 /// The number of this kind that the token writes.
 #[tactic(auto, using(crate::proofs::Numbers::kind_in_reach))]
-pub fn read_number(token: &str, kind: NumberKind) -> Result<i64, TextCause>
+pub(crate) fn read_number(token: &str, kind: NumberKind) -> Result<i64, TextCause>
     ensures ok { IfOk result (λ z. IsNumber token.now z × IsNumberOf kind z) }
     ensures err { OnErr result ((z : ℤ) → IsNumber token.now z → IsNumberOf kind z → ⊥) }
     ensures cause { IfErr result (λ e. e ≡ cause.Number) }
@@ -76,7 +76,7 @@ fn begins_label(token: &str) -> bool
 }
 
 /// Whether the token is a name that a label, a gate or a target may have, of any length.
-pub fn is_label(token: &str) -> bool
+pub(crate) fn is_label(token: &str) -> bool
     requires { IsToken token.now }
     ensures { IsTrue result ↔ IsLabel token.now }
 {
@@ -194,7 +194,10 @@ fn set_operands<'a>(
 }
 
 /// Reads the operands of this form, which are all of the text.
-pub fn read_operands<'a>(form: &[OperandPart], text: &'a str) -> Result<Operands<'a>, TextCause>
+pub(crate) fn read_operands<'a>(
+    form: &[OperandPart],
+    text: &'a str,
+) -> Result<Operands<'a>, TextCause>
     requires { IsTrue (has_no_repeat form.now) }
     ensures reads { IfOk result (λ o. Reads (values_of o) form.now text.now) }
     ensures cause { IfErr result (λ e. Departs form.now text.now e) }

@@ -66,7 +66,7 @@ fn register_at(place: usize) -> Reg
 }
 
 /// The register of this name.
-pub fn register(name: &str) -> Option<Reg>
+pub(crate) fn register(name: &str) -> Option<Reg>
     ensures some { IfSome result (λ r. IsRegister name.now r) }
     ensures none { IfNone result ((r : ℕ) → IsRegister name.now r → ⊥) }
 {

@@ -13,7 +13,7 @@ use Rattle.sfi_text.specs.declared.keyword.Keyword.TheVariants as keyword
 use Rattle.sfi_text.specs.declared.mnemonic.Mnemonic.{Mnemonic}
 use Rattle.sfi_text.specs.declared.mnemonic.Mnemonic.TheVariants.{Jal}
 use Rattle.sfi_text.specs.declared.operands.Operands.{Operands}
-use Rattle.sfi_text.specs.Operands.{OperandValues, Stands, IsNumberOf, form_of, name_of}
+use Rattle.sfi_text.specs.Operands.{OperandValues, Stands, IsNumberOf, operand_parts, name_of}
 use Rattle.sfi_formats.specs.Limits.{name_most}
 use Rattle.rv_word.specs.declared.instr.Instr.{Instr}
 use Rattle.sfi_text.specs.declared.form.OperandPart.{OperandPart}
@@ -173,7 +173,7 @@ has_no_repeat (part ∷ form) = (nat_lt 6 (slot part) || is_fresh part form) && 
 -- `rest`, after the name of `i`, gives its operands; after the name of a fence it may be blank
 abbrev pub Follows : List ℕ → Instr → Type 0
 Follows rest i =
-    Reads (operands_of i) (form_of (mnemonic_of i)) rest ⊎ ((i ≡ full_fence) × IsBlank rest)
+    Reads (operands_of i) (operand_parts (mnemonic_of i)) rest ⊎ ((i ≡ full_fence) × IsBlank rest)
 
 -- the instruction `i` has this name, and `rest` gives its operands
 abbrev pub FollowsName : List ℕ → Mnemonic → Instr → Type 0

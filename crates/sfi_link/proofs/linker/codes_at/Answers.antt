@@ -1,4 +1,4 @@
-use Rattle.sfi_link.proofs.Prelude.{length, ap, List, Placement, arith}
+use Rattle.sfi_link.proofs.Prelude.{arith}
 use Rattle.sfi_link.proofs.Linking.{codes_found}
 use Rattle.sfi_link.proofs.linker.codes_at.Goals as goal
 

@@ -1,4 +1,4 @@
-use Rattle.sfi_link.proofs.Prelude.{◌≡◌, ◌+◌, ◌<◌, ◌≤◌, ◌++◌, [], ◌∷◌, length, drop, get_or, ap, sym, arith, append_assoc, append-nil, ◌∙◌, map_push, length-map, Format, view, views, contents, part_with, parts_with, each_with, set_init}
+use Rattle.sfi_link.proofs.Prelude.{◌≡◌, ◌+◌, ◌<◌, ◌++◌, [], ◌∷◌, length, drop, ap, sym, arith, append_assoc, append-nil, ◌∙◌, map_push, length-map, Format, view, views, contents, part_with, parts_with, each_with, set_init}
 use Rattle.std.proofs.Math.ListN.{get_or-map}
 use Rattle.std.proofs.lemmas.List.{at_drop_more, drop_all}
 use Rattle.sfi_link.proofs.Linking.{codes_enough, code_at, init_next, each_with_none}

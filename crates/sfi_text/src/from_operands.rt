@@ -1,4 +1,4 @@
-//! What each statement with operands states.
+//! Statements made from their operands.
 ghost use Rattle.std.specs.Prelude.{◌≡◌, pos};
 ghost use Rattle.rv_word.specs.declared.instr.Instr.TheVariants as instr;
 ghost use Rattle.rv_word.specs.declared.instr.ImmOp.TheVariants.{Addi};
@@ -16,7 +16,7 @@ use rv_word::{Cond, ImmOp, Instr, Reg};
 
 impl Directive {
     /// What the directive states with these operands.
-    pub fn statement<'a>(self, o: &Operands<'a>) -> Statement<'a>
+    pub(crate) fn statement<'a>(self, o: &Operands<'a>) -> Statement<'a>
         requires { AllSuit (values_of o.now) (directive_form self) }
         ensures { stated result ≡ directive_states self (values_of o.now) }
     {
@@ -66,7 +66,7 @@ fn jump_to_address(rs1: Reg) -> Instr
 }
 
 /// A jal to a name.
-pub fn jal_to<'a>(rd: Reg, name: &'a str) -> Statement<'a>
+pub(crate) fn jal_to<'a>(rd: Reg, name: &'a str) -> Statement<'a>
     ensures { stated result ≡ within (jump (instr.Jal rd (pos 0)) name.now) }
 {
     let instr = Instr::Jal { rd, offset: 0 };
@@ -74,7 +74,7 @@ pub fn jal_to<'a>(rd: Reg, name: &'a str) -> Statement<'a>
 }
 
 /// A branch to a name.
-pub fn branch_to<'a>(cond: Cond, rs1: Reg, rs2: Reg, name: &'a str) -> Statement<'a>
+pub(crate) fn branch_to<'a>(cond: Cond, rs1: Reg, rs2: Reg, name: &'a str) -> Statement<'a>
     ensures { stated result ≡ within (jump (instr.Branch cond rs1 rs2 (pos 0)) name.now) }
 {
     let instr = Instr::Branch {
@@ -95,7 +95,7 @@ fn ra() -> Reg
 
 impl Pseudo {
     /// What the pseudo-instruction states with these operands.
-    pub fn statement<'a>(self, o: &Operands<'a>) -> Statement<'a>
+    pub(crate) fn statement<'a>(self, o: &Operands<'a>) -> Statement<'a>
         requires { AllSuit (values_of o.now) (pseudo_form self) }
         ensures { stated result ≡ pseudo_states self (values_of o.now) }
     {
