@@ -1,5 +1,5 @@
 -- What holds of every step: laws, for proofs in the crates above.
-use Rattle.x86_step.specs.Laws.{FixedStays, SpelledRun, SpelledSteps, StepsJoin}
+use Rattle.x86_step.specs.Laws.{FaultsResume, FixedStays, SpelledRun, SpelledSteps, StepsJoin}
 use Rattle.x86_step.proofs.Fixed as fixed
 use Rattle.x86_step.proofs.Running as running
 
@@ -11,6 +11,9 @@ steps_join = running.reaches_join
 
 pub spelled_steps : SpelledSteps
 spelled_steps = running.spelled_steps
+
+pub faults_resume : FaultsResume
+faults_resume = running.faults_resume
 
 pub spelled_run : SpelledRun
 spelled_run = running.spelled_run

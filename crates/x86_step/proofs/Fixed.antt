@@ -16,7 +16,7 @@ use Rattle.x86_step.specs.declared.machine.Stop.{Stop}
 use Rattle.x86_step.specs.declared.machine.Stop.TheVariants.{Fault, NoInstruction}
 use Rattle.x86_step.specs.Laws.{FixedStays}
 use Rattle.x86_step.specs.State.{Core, Machine, Text, may_write, with_flags, with_memory, with_register, written}
-use Rattle.x86_step.specs.Step.{◌>>=◌, Steps, stay, go, address, alu_finished, bytes_of, computes, divided, done, finished, goes_to, is_met, known, loaded, low, narrow_value, product, put, register, rsp_plus, step, stepped, stored, value}
+use Rattle.x86_step.specs.Step.{◌>>=◌, Steps, stay, go, resume, address, alu_finished, bytes_of, computes, divided, done, finished, goes_to, is_met, known, loaded, low, narrow_value, product, put, register, resumed, rsp_plus, step, stepped, stored, value}
 
 abbrev pub Keeps : Core → Result Core Stop → Type 0
 Keeps c r = IfOk r (λ d. d.writable ≡ c.writable)
@@ -113,6 +113,7 @@ step_keeps t m =
 steps_keep : (t : Text) (m k : Machine) → Steps t m k → k.core.writable ≡ m.core.writable
 steps_keep t m k (stay n) = refl
 steps_keep t m k (go a b z one more) = steps_keep t b z more ∙ subst (Leads a.core) one (step_keeps t a)
+steps_keep t m k (resume a z f faults has more) = steps_keep t (resumed f a.core) z more
 
 pub fixed_stays : FixedStays
 fixed_stays t m k reached = record {

@@ -8,10 +8,10 @@ use Rattle.x86_instr.specs.declared.instr.Instr.TheVariants.{Jcc, Jmp, JmpTo, Re
 use Rattle.x86_instr.specs.Spelling.{spelling}
 use Rattle.x86_instr.proofs.Facts.{spelling_decodes}
 use Rattle.x86_step.specs.declared.machine.Stop.{Stop}
-use Rattle.x86_step.specs.Laws.{SpelledRun, SpelledSteps, StepsJoin}
+use Rattle.x86_step.specs.Laws.{FaultsResume, SpelledRun, SpelledSteps, StepsJoin}
 use Rattle.x86_step.specs.Running.{HasAt, are_straight, exec, is_straight, spellings}
 use Rattle.x86_step.specs.State.{Core, Machine, Text}
-use Rattle.x86_step.specs.Step.{◌>>=◌, Steps, stay, go, computes, goes_to, step}
+use Rattle.x86_step.specs.Step.{◌>>=◌, Steps, stay, go, resume, computes, goes_to, resumed, step}
 
 -- ==== Where bytes stand.
 
@@ -43,11 +43,16 @@ spelled_steps t at i c has =
     let size : length bytes - length has.after ≡ length (spelling i) = omega (arith, length-append (spelling i) has.after) in
     rw (low, there, spelling_decodes i has.after, size) refl
 
+pub faults_resume : FaultsResume
+faults_resume t at i c f fixed has faults there =
+    record { fixed = fixed; steps = resume (record { rip = at; core = c }) (resumed f c) f (spelled_steps t at i c has ∙ faults) there (stay (resumed f c)) }
+
 -- ==== Several steps.
 
 pub steps_join : (t : Text) (m n k : Machine) → Steps t m n → Steps t n k → Steps t m k
 steps_join t m n k (stay a) more = more
 steps_join t m n k (go a b z one rest) more = go a b k one (steps_join t b z k rest more)
+steps_join t m n k (resume a z f faults has rest) more = resume a k f faults has (steps_join t (resumed f a.core) z k rest more)
 
 pub reaches_join : StepsJoin
 reaches_join t m n k first more = record { fixed = first.fixed; steps = steps_join t m n k first.steps more.steps }

@@ -1,9 +1,10 @@
 -- What holds of every step.
-use Rattle.std.specs.Prelude.{◌≡◌, ℕ, ◌+◌, true, List, length, Ok}
+use Rattle.std.specs.Prelude.{◌≡◌, ℕ, ◌+◌, true, List, length, Some, Ok, Err}
 use Rattle.x86_instr.specs.declared.instr.Instr.{Instr}
 use Rattle.x86_instr.specs.Spelling.{spelling}
-use Rattle.x86_step.specs.State.{Core, IsFixed, Machine, Text}
-use Rattle.x86_step.specs.Step.{Reaches, effect, step}
+use Rattle.x86_step.specs.declared.machine.Stop.TheVariants.{Fault}
+use Rattle.x86_step.specs.State.{Core, Fixup, IsFixed, Machine, Text}
+use Rattle.x86_step.specs.Step.{Reaches, effect, resumed, step}
 use Rattle.x86_step.specs.Running.{HasAt, are_straight, exec, spellings}
 
 -- code that is fixed stays so
@@ -19,6 +20,13 @@ abbrev pub SpelledSteps : Type 0
 SpelledSteps =
     (t : Text) (at : ℕ) (i : Instr) (c : Core) → HasAt t at (spelling i)
     → step t (record { rip = at; core = c }) ≡ effect i (at + length (spelling i)) c
+
+-- where that faults, it goes on by the fixup, if the host has one there
+abbrev pub FaultsResume : Type 0
+FaultsResume =
+    (t : Text) (at : ℕ) (i : Instr) (c : Core) (f : Fixup) → IsFixed t c → HasAt t at (spelling i)
+    → effect i (at + length (spelling i)) c ≡ Err Fault → t.fixups at ≡ Some f
+    → Reaches t (record { rip = at; core = c }) (resumed f c)
 
 -- the bytes that spell straight instructions run as these do, up to their end
 abbrev pub SpelledRun : Type 0

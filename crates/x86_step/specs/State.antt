@@ -1,7 +1,7 @@
 -- The state of a processor, as far as the instructions of `x86_instr` touch it. Intel 64 and IA-32 Architectures
 -- Software Developer's Manual, volume 1, 3.3.7 and 3.4. Not modelled: modes but 64-bit mode, addresses of 57 bits, single
--- steps and alignment checks (TF and AC are 0), CET (it is off), other writers of the memory, and pages mapped at two
--- addresses.
+-- steps and alignment checks (TF and AC are 0), CET (it is off), other writers of the memory, pages mapped at two addresses,
+-- and what interrupts and handlers of signals write, as on a stack of their own: they leave all that is spoken of as it was.
 use Rattle.std.specs.Prelude.{◌≡◌, ℕ, zero, suc, ◌+◌, ◌-◌, ◌*◌, ◌/◌, ◌%◌, ◌^◌, ◌<◌, ◌≤◌, ◌==◌, nat_lt, nat_le, ◌&&◌, Bool, true, false, List, length, Option, Some, None, if◌then◌else◌}
 use Rattle.x86_step.specs.declared.machine.Flags.{Flags}
 
@@ -17,10 +17,17 @@ pub record Machine : Type 0 where
   pub rip : ℕ
   pub core : Core
 
--- code: bytes from an address on
+-- What a host's handler makes of a fault: the address that comes next, and a number in rdx.
+pub record Fixup : Type 0 where
+  pub to : ℕ
+  pub rdx : ℕ
+
+-- Code: bytes from an address on. By the addresses of instructions that access memory and don't jump, the fixups that the
+-- host has for their faults.
 pub record Text : Type 0 where
   pub base : ℕ
   pub bytes : List ℕ
+  pub fixups : ℕ → Option Fixup
 
 -- Code stays what it is: no byte of it may be written. A host maps its pages executable and not writable, none of them the
 -- last below 2^64. No step changes that (`Laws`), so that it is asked once, before the first.

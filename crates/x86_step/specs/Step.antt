@@ -32,7 +32,7 @@ use Rattle.x86_step.specs.declared.machine.Flags.{Flags}
 use Rattle.x86_step.specs.declared.machine.Computed.{Computed}
 use Rattle.x86_step.specs.declared.machine.Stop.{Stop}
 use Rattle.x86_step.specs.declared.machine.Stop.TheVariants.{Fault, DivideError, UnknownFlag, NoInstruction}
-use Rattle.x86_step.specs.State.{Core, Machine, Text, IsFixed, with_register, with_flags, with_memory, number_at, may_write, written}
+use Rattle.x86_step.specs.State.{Core, Fixup, Machine, Text, IsFixed, with_register, with_flags, with_memory, number_at, may_write, written}
 
 -- what may stop, and then what comes next
 infixl 10 ◌>>=◌
@@ -332,9 +332,15 @@ stepped bytes m = done (decode bytes) (length bytes) m
 unfoldable pub step : Text → Machine → Result Machine Stop
 step t m = if nat_le t.base m.rip then stepped (drop (m.rip - t.base) t.bytes) m else Err NoInstruction
 
+-- A fault leaves all as it was before the instruction (volume 3A, 6.5), also where a part of what a store writes could be
+-- written, as is tested on processors; its fixup says where the host goes on.
+abbrev pub resumed : Fixup → Core → Machine
+resumed f c = record { rip = f.to; core = with_register c 2 f.rdx }
+
 pub data Steps (t : Text) : Machine → Machine → Type 0 where
   stay : (m : Machine) → Steps t m m
   go : (m n k : Machine) → step t m ≡ Ok n → Steps t n k → Steps t m k
+  resume : (m k : Machine) (f : Fixup) → step t m ≡ Err Fault → t.fixups m.rip ≡ Some f → Steps t (resumed f m.core) k → Steps t m k
 
 -- some steps of fixed code lead from one state to another
 pub record Reaches (t : Text) (m k : Machine) : Type 0 where
