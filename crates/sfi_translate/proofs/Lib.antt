@@ -9,4 +9,7 @@ pub mod Following
 pub mod OnLines
 pub mod Samples
 pub mod Reached
+pub mod Accesses
+pub mod Ready
+pub mod Turns
 pub mod Facts

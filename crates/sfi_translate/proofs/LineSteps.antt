@@ -35,7 +35,7 @@ passes : (at base size n : ℕ) → 0 < n → base ≤ address_after at 0 → ad
 passes at base size n some from below first few room = omega (arith, some, from, below, first, few, room)
 
 module _ (p : Part) (right : IsRightPart p) (apart : AreApart (code_region p) (guarded_region p)) (s : State) (kept : KeepsAll p s) where
-  tested_of : (at n : ℕ) → 0 < n → n ≤ 4 → ((a : ℕ) → Contains (addresses at n) a → InData p a) → is_tested p at n ≡ true
+  pub tested_of : (at n : ℕ) → 0 < n → n ≤ 4 → ((a : ℕ) → Contains (addresses at n) a → InData p a) → is_tested p at n ≡ true
   tested_of at n some few inside =
       let first = inside (address_after at 0) ((addresses_are_these at n (address_after at 0)).1 (0, some, refl)) in
       let below : n - 1 < n = omega (arith, some) in
@@ -115,7 +115,7 @@ address_in : (at base size n k : ℕ) → base + size + 4096 ≤ 2 ^ 32 → 256 
 address_in at base size n k room least few below tested = (omega (arith, room, least, few, below, tested), omega (arith, room, least, few, below, tested))
 
 module _ (p : Part) (right : IsRightPart p) (m : Bytes) (has : HasData p m) where
-  access_there : (at n : ℕ) → n ≤ 4 → is_tested p at n ≡ true → IsSome (bytes_at m (addresses at n))
+  pub access_there : (at n : ℕ) → n ≤ 4 → is_tested p at n ≡ true → IsSome (bytes_at m (addresses at n))
   access_there at n few tested =
       all_there m (address_after at) 0 n (λ k below.
       let e : k ≡ 0 + k = omega arith in

@@ -8,7 +8,7 @@ use Rattle.rv_comp.specs.declared.front.Front.TheVariants.{Read}
 use Rattle.rv_step.specs.declared.outcome.Outcome.{Outcome}
 use Rattle.rv_step.specs.declared.outcome.Outcome.TheVariants.{Next, Call, Trap}
 use Rattle.rv_step.specs.State.{Hart, State, IsState}
-use Rattle.rv_step.specs.Step.{Stepped, IsStep, effect}
+use Rattle.rv_step.specs.Step.{Stepped, IsStep, Stands, effect}
 use Rattle.rv_step.specs.Rows.{LeadsTo, LeadTo}
 use Rattle.rv_step.proofs.Facts.{step_keeps_state, stopped_stays, no_byte_goes}
 use Rattle.sfi_image.specs.Parts.{IsRightPart}
@@ -266,6 +266,14 @@ module _ (t : Target) (p : Part) (code : List Line) (follows : Follow p 0 p.code
 
   pub as_image : IsReached p s → (b : ℕ) (g : Going) → SoFar b g → IsAsImage p s left g
   as_image reached b g so = record { steps = so.steps; lead = so.lead; counted = so.counted; reached = reached_on p s g.state so.steps reached so.lead so.state so.has_data; stopped = λ o e. subst (λ (q : ControlPoint). IsEnough t p q g.state g.left b) e so.enough }
+
+  -- before a line of an instruction it stands at pc
+  pub before_line : (b : ℕ) (g : Going) → SoFar b g → (at n : ℕ) (i : Instr) (rest : List Line) → g.place ≡ Before (Does at n i ∷ rest) → (g.state.hart.pc ≡ at) × Stands g.state i n
+  before_line b g so at n i rest e =
+      let here : IsBefore t p (Does at n i ∷ rest) g.state g.left b = subst (λ (q : ControlPoint). IsEnough t p q g.state g.left b) e so.enough in
+      let line = here.follow.1 in
+      let pc : g.state.hart.pc ≡ here.at = let is = here.pc in omega (arith, is, line_below p here.at i n line right) in
+      (pc ∙ sym here.follow.0, stands p here.at i n line right g.state.hart g.state.memory pc (kept g.state so.good).code)
 
   -- where it goes on from a line, it goes on
   pub goes_on : ((u : State) → IsGood u → HasLine p u.hart.pc) → (b : ℕ) (g : Going) → SoFar b g → IsOver g ⊎ ((k : Going) × IsTranslatedStep t p code g k)

@@ -22,14 +22,6 @@ use Rattle.sfi_report.specs.Listing.{unit_bytes}
 use Rattle.sfi_safe_runs.specs.Runs.{Turn, Steps, Replies, Changes, IsTurn, IsUnitStart, IsReply, InCode, after_step, after_turn}
 use Rattle.sfi_safe_runs.specs.Safety.{IsSafeState, IsSafeTurn}
 use Rattle.sfi_safe_runs.specs.Calling.{KeepsAll}
-use Rattle.sfi_safe_runs.proofs.Entries.{of_bundle, of_word}
-use Rattle.sfi_safety.specs.Places.{AreCleanBundles, IsGood}
-use Rattle.sfi_safety.proofs.Effects.{GoesTo, Leads}
-use Rattle.sfi_safety.proofs.Stepping as bundles
-use Rattle.sfi_safe_runs.specs.Runs.{Empty}
-use Rattle.sfi_word_safety.specs.Code.{IsCleanInWords, IsGoodInWords}
-use Rattle.sfi_word_safety.proofs.Effects.{Leads as WordLeads}
-use Rattle.sfi_word_safety.proofs.Stepping as words
 use Rattle.sfi_translate.specs.Lines.{AreLinesOfFirst}
 use Rattle.sfi_translate.proofs.LinesStand.{IsLine, bytes_of, units, unit_length, fits, stands}
 use Rattle.sfi_translate.proofs.Following.{bytes_both, all_bytes, base_whole, unit_more, unit_some}
@@ -44,20 +36,6 @@ pub record HasLine (p : Part) (at : ℕ) : Type 0 where
 
 abbrev pub GoesOn : Part → State → ℕ → Stepped → Type 0
 GoesOn p s n r = (r.state.hart.pc ≡ address_after s.hart.pc n) ⊎ IsUnitStart p r.state.hart.pc
-
-pub bundles_go : (sandbox : ℕ) (p : Part) (clean : AreCleanBundles sandbox p) (s : State) (i : Instr) (n : ℕ) → IsGood sandbox p s → Stands s i n → (r : Stepped) → IsStep s r → r.outcome ≡ Next → GoesOn p s n r
-bundles_go sandbox p clean s i n good here r step done = by (subst (λ (o : Outcome). Leads sandbox p s.hart good.place.here.size o r.state.hart) done (bundles.step_leads Empty sandbox p s clean good r step)).1
-  where
-    by : GoesTo p s.hart good.place.here.size r.state.hart.pc → GoesOn p s n r
-    by (inl on) = inl (on ∙ ap (λ (k : ℕ). address_after s.hart.pc k) (sym (bundles.only sandbox p s clean good.place good.kept.code i n here).1))
-    by (inr start) = inr (of_bundle p r.state.hart.pc clean.bundles start)
-
-pub words_go : (p : Part) (clean : IsCleanInWords p) (s : State) (i : Instr) (n : ℕ) → IsGoodInWords p s → Stands s i n → (r : Stepped) → IsStep s r → r.outcome ≡ Next → GoesOn p s n r
-words_go p clean s i n good here r step done = by (subst (λ (o : Outcome). WordLeads p good.place.place.here.instr good.place.place.here.size s.hart o r.state.hart) done (words.step_leads p s clean good r step))
-  where
-    by : WordLeads p good.place.place.here.instr good.place.place.here.size s.hart Next r.state.hart → GoesOn p s n r
-    by (inl (on, flows)) = inl (on ∙ ap (λ (k : ℕ). address_after s.hart.pc k) (sym (words.only p s clean good i n here).1))
-    by (inr (start, flow)) = inr (of_word p r.state.hart.pc clean.words start)
 
 -- ---- units
 

@@ -13,6 +13,7 @@ use Rattle.sfi_safe_runs.specs.Calling.{after_turns}
 use Rattle.sfi_safe_runs.proofs.Entries.{insert_is, inserted_here, inserted_elsewhere}
 use Rattle.sfi_safe_runs.proofs.Facts.{has_entries}
 use Rattle.sfi_translate.specs.Laws.{HasData, HasReached, IsReached}
+use Rattle.sfi_translate.specs.Ready.{EntriesAreReached, ReachedGoOn}
 
 -- the memory with zeros at n addresses
 zeros : Bytes → ℕ → ℕ → Bytes
@@ -95,3 +96,13 @@ pub reached_on : (p : Part) (s g : State) (k : ℕ) → IsReached p s → LeadTo
 reached_on p s g k from lead state has =
     let to = run_leads p from.first k from.turns s g from.run from.after lead in
     record { first = from.first; entry = from.entry; turns = to.0; run = to.1; after = to.2; state = state; has_data = has }
+
+-- ---- from one turn to the next
+
+pub entries_are_reached : EntriesAreReached
+entries_are_reached p s entry has = record { first = s; entry = entry; turns = []; run = tt; after = refl; state = entry.state; has_data = has }
+
+pub reached_go_on : ReachedGoOn
+reached_go_on p s u turn from is next state has =
+    let more = run_further p from.turns turn s (Some from.first) from.run from.after is in
+    record { first = from.first; entry = from.entry; turns = from.turns ++ (turn ∷ []); run = more.0; after = more.1 ∙ next; state = state; has_data = has }
