@@ -53,10 +53,10 @@ pub offset_is : (a : ℕ) (imm : ℤ) → offset_by a imm ≡ (a % 2 ^ 32 + word
 offset_is a (pos n) = omega (arith, ints)
 offset_is a (negsuc n) = grind (arith, ints)
 
-negative_small : (k : ℕ) → IsImm12 (negsuc k) → k < 2048
+pub negative_small : (k : ℕ) → IsImm12 (negsuc k) → k < 2048
 negative_small k range = omega (arith, ints, range.0)
 
-positive_small : (k : ℕ) → IsImm12 (pos k) → k < 2048
+pub positive_small : (k : ℕ) → IsImm12 (pos k) → k < 2048
 positive_small k range = omega (arith, ints, range.1)
 
 -- An offset of 12 bits that leads into the data doesn't wrap: guard zones lie before and behind.
@@ -99,12 +99,12 @@ module _ (p : Part) (l : Layout) (layout : IsLayout p.data_size l) (g : Going) (
   below = omega (arith, offset_is (value p g rs1) imm)
 
   pub within : (p.data_base ≤ at) × (at - p.data_base + n ≤ p.data_size)
-  within = inside_at (value p g rs1) p.data_base p.data_size n l.data_start room.below room.above few some (is.words rs1) layout.data_ends at below close
+  within = inside_at (value p g rs1) p.data_base p.data_size n l.data_start room.below room.above few some (is.words rs1) (omega (arith, layout.data_ends)) at below close
 
   pub place_is : address (with_register c 0 (value p g rs1)) (data_address (word imm)) ≡ l.data_start + (at - p.data_base)
   place_is =
       ap (λ o. (o + value p g rs1 * 2 ^ 0 + sign_extended (word imm)) % 2 ^ 64) is.origin_is
-      ∙ in_host (value p g rs1) p.data_base p.data_size n l.data_start room.below room.above few some (is.words rs1) layout.data_ends imm range close
+      ∙ in_host (value p g rs1) p.data_base p.data_size n l.data_start room.below room.above few some (is.words rs1) (omega (arith, layout.data_ends)) imm range close
 
   -- what both have there
   pub number_is : number_at c.memory n (l.data_start + (at - p.data_base)) ≡ option_map number_of (bytes_at g.state.memory (addresses at n))

@@ -1,21 +1,27 @@
--- Registers of the frame in free registers of the processor, and back.
-use Rattle.std.proofs.Common.{◌≡◌, ℕ, ◌+◌, ◌*◌, ◌%◌, ◌^◌, ◌<◌, ◌≤◌, ◌==◌, ◌⊎◌, inl, inr, true, false, length, Some, refl, sym, ap, ◌∙◌, subst, arith, nat_lt}
+-- The sandbox's registers in free registers of the processor, and back.
+use Rattle.std.proofs.Common.{◌≡◌, ℕ, ◌+◌, ◌*◌, ◌%◌, ◌^◌, ◌<◌, ◌≤◌, ◌==◌, ◌⊎◌, inl, inr, true, false, length, List, [], ◌∷◌, Option, Some, None, if◌then◌else◌, refl, sym, ap, ◌∙◌, subst, arith, nat_lt}
 use Rattle.std.specs.Prelude.{Ok}
 use Rattle.std.proofs.lemmas.Bool.{cases_Bool, cases_eq, cases_lt, false≢true, lt-ltb}
 use Rattle.std.proofs.lemmas.List.{get_or-set_same, get_or-set_other, length-set}
 use Rattle.rv_step.specs.State.{Hart, register, with_pc, with_register as with_value}
 use Rattle.sfi_image.specs.Spelling.{Part}
-use Rattle.sfi_translate.specs.Machine.{ControlPoint, Going, fixed}
+use Rattle.sfi_translate.specs.Machine.{ControlPoint, Going, fixed, goes_with}
 use Rattle.x86_instr.specs.declared.operand.Register.{Register}
 use Rattle.x86_instr.specs.Spelling.{number}
-use Rattle.x86_step.specs.State.{Core, may_write, number_at, with_memory, with_register, written}
-use Rattle.x86_step.specs.Step.{address, loaded, stored}
+use Rattle.x86_instr.specs.declared.instr.Instr.{Instr as Native}
+use Rattle.x86_instr.specs.declared.instr.Instr.TheVariants.{Mov}
+use Rattle.x86_instr.specs.declared.instr.Width.TheVariants.{Dword}
+use Rattle.x86_step.specs.State.{Core, may_write, with_memory, with_register, written}
+use Rattle.x86_step.specs.Step.{address, loaded, low, stored}
 unfoldable use Rattle.x86_step.specs.Step.{computes}
 use Rattle.x86_step.specs.Running.{exec}
 use Rattle.sfi_native.specs.declared.layout.Layout.{Layout}
-use Rattle.sfi_native.specs.Layout.{IsLayout, IsRelated, OthersStay, value}
-use Rattle.sfi_native.specs.Code.{fetch, is_fixed, slot, write}
-use Rattle.sfi_native.proofs.Kept.{Kept, others_same}
+use Rattle.sfi_native.specs.Layout.{Holds, IsLayout, IsRelated, OthersStay, value}
+use Rattle.sfi_native.specs.Code.{fetch, operand_of, slot, store_eax, write}
+use Rattle.sfi_native.specs.Registers.{IsRightMap, assigned, is_fixed}
+use Rattle.sfi_native.proofs.Arithmetic.{low_is}
+use Rattle.sfi_native.proofs.Assigned.{Free, free as free_register, holds_kept, holds_on, same_register, updated_same}
+use Rattle.sfi_native.proofs.Kept.{Kept, others_same, updated_other}
 use Rattle.sfi_native.proofs.Fixed.{fixed_free, fixed_length, fixed_same}
 use Rattle.sfi_native.proofs.Memory.{load_there, may_write_each, number_elsewhere, number_written, store_there, written_elsewhere}
 
@@ -80,7 +86,7 @@ module _ (p : Part) (l : Layout) (layout : IsLayout p.data_size l) where
   related_kept g c d is k = record {
     register_count = is.register_count;
     words = is.words;
-    registers = λ r small. ap (λ m. number_at m 4 (l.frame + 4 * r)) k.memory ∙ is.registers r small;
+    registers = λ r small. holds_kept l layout.registers_are_right c d r (value p g r) k (is.registers r small);
     frame = k.registers 4 (omega arith) ∙ is.frame;
     frame_is_written = λ j small. ap (λ w. w (l.frame + j)) k.writable ∙ is.frame_is_written j small;
     few = is.few;
@@ -99,13 +105,24 @@ module _ (p : Part) (l : Layout) (layout : IsLayout p.data_size l) where
       let below : (l.frame + 0 + 4 * r) % 2 ^ 64 ≡ l.frame + 4 * r = omega (arith, slot_below r small) in
       rw (near, is.frame) below
 
-  -- a register's value in a free one
-  pub fetched : (g : Going) (c : Core) (dst : Register) (r : ℕ) → r < 32 → IsRelated p l g c → exec (fetch dst r) c ≡ Ok (with_register c (number dst) (value p g r))
+  -- a register that lies there
+  pub slot_loaded : (g : Going) (c : Core) (r : ℕ) → r < 32 → IsRelated p l g c → Holds l c r None (value p g r) → loaded c 4 (address c (slot r)) ≡ Ok (value p g r)
+  slot_loaded g c r small is has = ap (loaded c 4) (slot_is g c r small is) ∙ load_there c 4 (l.frame + 4 * r) (value p g r) (slot_below r small) has
+
+  pub fixed_loaded : (g : Going) (c : Core) (r : ℕ) → r < 32 → is_fixed r ≡ true → IsRelated p l g c → loaded c 4 (address c (slot r)) ≡ Ok (value p g r)
+  fixed_loaded g c r small held is =
+      slot_loaded g c r small is (subst (λ o. Holds l c r o (value p g r)) (layout.registers_are_right.in_frame r held) (is.registers r small))
+
+  fetched_from : (g : Going) (c : Core) (dst : Register) (r : ℕ) → r < 32 → IsRelated p l g c → (o : Option Register) → Holds l c r o (value p g r)
+      → exec (Mov Dword dst (operand_of o r) ∷ []) c ≡ Ok (with_register c (number dst) (value p g r))
   unfolding computes
-  fetched g c dst r small is =
-      let load : loaded c 4 (address c (slot r)) ≡ Ok (value p g r) =
-      ap (loaded c 4) (slot_is g c r small is) ∙ load_there c 4 (l.frame + 4 * r) (value p g r) (slot_below r small) (is.registers r small) in
-      rw load refl
+  fetched_from g c dst r small is None has = rw (slot_loaded g c r small is has) refl
+  fetched_from g c dst r small is (Some q) has =
+      ap (λ v. Ok (with_register c (number dst) v)) (ap (low Dword) has ∙ low_is (value p g r) (is.words r))
+
+  -- a register's value in a free one
+  pub fetched : (g : Going) (c : Core) (dst : Register) (r : ℕ) → r < 32 → IsRelated p l g c → exec (fetch l.registers dst r) c ≡ Ok (with_register c (number dst) (value p g r))
+  fetched g c dst r small is = fetched_from g c dst r small is (assigned l.registers r) (is.registers r small)
 
   -- a fixed register isn't written
   pub unwritten : (g : Going) (c : Core) (place : ControlPoint) (rd v : ℕ) (k : Hart) → IsRelated p l g c → IsWritten p g rd v k → is_fixed rd ≡ true
@@ -113,7 +130,7 @@ module _ (p : Part) (l : Layout) (layout : IsLayout p.data_size l) where
   unwritten g c place rd v k is w held = record {
     register_count = w.count;
     words = λ r. subst (λ x. x < 2 ^ 32) (sym (w.old r (inl held))) (is.words r);
-    registers = λ r small. is.registers r small ∙ ap Some (sym (w.old r (inl held)));
+    registers = λ r small. subst (λ x. Holds l c r (assigned l.registers r) x) (sym (w.old r (inl held))) (is.registers r small);
     frame = is.frame;
     frame_is_written = is.frame_is_written;
     few = is.few;
@@ -156,49 +173,136 @@ module _ (p : Part) (l : Layout) (layout : IsLayout p.data_size l) where
       | inr below ↦ inl (omega (arith, below, within))
     ]
 
-    in_frame : is_fixed rd ≡ false → (r : ℕ) → r < 32 → number_at (written c.memory 4 at v) 4 (l.frame + 4 * r) ≡ Some (value p turned r)
-    in_frame free r below = elim (cases_eq r rd) [
-      | inl same ↦ ap (λ x. number_at (written c.memory 4 at v) 4 (l.frame + 4 * x)) same ∙ number_written c.memory at v fits ∙ ap Some (sym (ap (value p turned) same ∙ w.new free))
-      | inr other ↦ number_elsewhere c.memory 4 at v 4 (l.frame + 4 * r) (beside r other) ∙ is.registers r below ∙ ap Some (sym (w.old r (inr other)))
+    -- the free registers stay
+    abbrev pub FreeStay : Core → Type 0
+    FreeStay e = (k : ℕ) → k < 3 → e.registers k ≡ c.registers k
+
+    abbrev Wrote : List Native → Type 0
+    Wrote is = (e : Core) × (exec is c ≡ Ok e) × IsRelated p l turned e × OthersStay p l c e × FreeStay e
+
+    -- where the value is in its place and the others are as before
+    related_to : (e : Core) → is_fixed rd ≡ false → Holds l e rd (assigned l.registers rd) v
+        → ((r : ℕ) → r < 32 → (r ≡ rd → ⊥) → Holds l c r (assigned l.registers r) (value p g r) → Holds l e r (assigned l.registers r) (value p g r))
+        → (r : ℕ) → r < 32 → Holds l e r (assigned l.registers r) (value p turned r)
+    related_to e free new old r below = elim (cases_eq r rd) [
+      | inl same ↦
+          subst (λ x. Holds l e x (assigned l.registers x) (value p turned x)) (sym same)
+          (subst (λ x. Holds l e rd (assigned l.registers rd) x) (sym (w.new free)) new)
+      | inr other ↦ subst (λ x. Holds l e r (assigned l.registers r) x) (sym (w.old r (inr other))) (old r below other (is.registers r below))
     ]
 
-    rewritten : is_fixed rd ≡ false → IsRelated p l turned stored_core
-    rewritten free = record {
-      register_count = w.count;
-      words = word_is;
-      registers = in_frame free;
-      frame = is.frame;
-      frame_is_written = is.frame_is_written;
-      few = is.few;
-      left = is.left;
-      bytes = λ j within. written_elsewhere c.memory 4 at v (l.data_start + j) (clear j within) ∙ is.bytes j within;
-      bytes_are_written = is.bytes_are_written;
-      origin_is = is.origin_is;
-    }
+    -- ---- in the frame
 
-    can : may_write c.writable 4 at ≡ true
-    can = may_write_each c.writable 4 at (λ j few.
-        let e : l.frame + (4 * rd + j) ≡ at + j = omega arith in
-        subst (λ a. c.writable a ≡ true) e (is.frame_is_written (4 * rd + j) (omega (arith, small, few))))
+    module _ (free : is_fixed rd ≡ false) (none : assigned l.registers rd ≡ None) where
+      was : Holds l c rd None (value p g rd)
+      was = subst (λ o. Holds l c rd o (value p g rd)) none (is.registers rd small)
 
-    store : stored c 4 (address c (slot rd)) (c.registers 0) ≡ Ok stored_core
-    store =
-        ap (λ a. stored c 4 a (c.registers 0)) (slot_is g c rd small is) ∙ ap (stored c 4 at) in_eax
-        ∙ store_there c 4 at (value p g rd) v (slot_below rd small) (is.registers rd small) can
+      rewritten : IsRelated p l turned stored_core
+      rewritten = record {
+        register_count = w.count;
+        words = word_is;
+        registers = related_to stored_core free (subst (λ o. Holds l stored_core rd o v) (sym none) (number_written c.memory at v fits))
+            (λ r below other has. holds_on l c stored_core r (value p g r) (assigned l.registers r)
+            (λ e. number_elsewhere c.memory 4 at v 4 (l.frame + 4 * r) (beside r other)) (λ q e. refl) has);
+        frame = is.frame;
+        frame_is_written = is.frame_is_written;
+        few = is.few;
+        left = is.left;
+        bytes = λ j within. written_elsewhere c.memory 4 at v (l.data_start + j) (clear j within) ∙ is.bytes j within;
+        bytes_are_written = is.bytes_are_written;
+        origin_is = is.origin_is;
+      }
 
-    stay : OthersStay p l c stored_core
-    stay = record {
-      others = λ j more other. refl;
-      elsewhere = λ a by_frame by_data. written_elsewhere c.memory 4 at v a (elim by_frame [
-        | inl below ↦ inl (omega (arith, below))
-        | inr above ↦ inr (omega (arith, above, small))
-      ]);
-      writable = refl;
-    }
+      can : may_write c.writable 4 at ≡ true
+      can = may_write_each c.writable 4 at (λ j few.
+          let e : l.frame + (4 * rd + j) ≡ at + j = omega arith in
+          subst (λ a. c.writable a ≡ true) e (is.frame_is_written (4 * rd + j) (omega (arith, small, few))))
 
-    pub wrote : (e : Core) × (exec (write rd) c ≡ Ok e) × IsRelated p l turned e × OthersStay p l c e × (e.registers ≡ c.registers)
-    unfolding computes
+      store : stored c 4 (address c (slot rd)) (c.registers 0) ≡ Ok stored_core
+      store =
+          ap (λ a. stored c 4 a (c.registers 0)) (slot_is g c rd small is) ∙ ap (stored c 4 at) in_eax
+          ∙ store_there c 4 at (value p g rd) v (slot_below rd small) was can
+
+      stay : OthersStay p l c stored_core
+      stay = record {
+        others = λ j more other apart. refl;
+        elsewhere = λ a by_frame by_data. written_elsewhere c.memory 4 at v a (elim by_frame [
+          | inl below ↦ inl (omega (arith, below))
+          | inr above ↦ inr (omega (arith, above, small))
+        ]);
+        writable = refl;
+      }
+
+      wrote_frame : Wrote (store_eax None rd ∷ [])
+      unfolding computes
+      wrote_frame = (stored_core, rw store refl, rewritten, stay, λ k low. refl)
+
+    -- ---- in a register of the processor
+
+    module _ (free : is_fixed rd ≡ false) (q : Register) (own : assigned l.registers rd ≡ Some q) where
+      abbrev moved_core : Core
+      moved_core = with_register c (number q) v
+
+      right : IsRightMap l.registers
+      right = layout.registers_are_right
+
+      numbered : Free (number q)
+      numbered = free_register l.registers right rd q own
+
+      moved : IsRelated p l turned moved_core
+      moved = record {
+        register_count = w.count;
+        words = word_is;
+        registers = related_to moved_core free (subst (λ o. Holds l moved_core rd o v) (sym own) (updated_same c.registers (number q) v))
+            (λ r below other has. holds_on l c moved_core r (value p g r) (assigned l.registers r) (λ e. refl)
+            (λ k e. updated_other c.registers (number q) v (number k) (λ same. other (right.apart r rd q (e ∙ ap Some (same_register k q same)) own))) has);
+        frame = updated_other c.registers (number q) v 4 (λ e. numbered.no_frame (sym e)) ∙ is.frame;
+        frame_is_written = is.frame_is_written;
+        few = is.few;
+        left = updated_other c.registers (number q) v 14 (λ e. omega (arith, e, numbered.below)) ∙ is.left;
+        bytes = is.bytes;
+        bytes_are_written = is.bytes_are_written;
+        origin_is = updated_other c.registers (number q) v 15 (λ e. omega (arith, e, numbered.below)) ∙ is.origin_is;
+      }
+
+      moved_stay : OthersStay p l c moved_core
+      moved_stay = record {
+        others = λ k more other apart. updated_other c.registers (number q) v k (λ e. apart (rd, q, own, sym e));
+        elsewhere = λ a by_frame by_data. refl;
+        writable = refl;
+      }
+
+      wrote_register : Wrote (store_eax (Some q) rd ∷ [])
+      unfolding computes
+      wrote_register = (
+        moved_core,
+        ap (λ x. Ok (with_register c (number q) x)) (ap (low Dword) in_eax ∙ low_is v fits),
+        moved,
+        moved_stay,
+        λ k low. updated_other c.registers (number q) v k (λ e. omega (arith, e, low, numbered.above)),
+      )
+
+    wrote_free : is_fixed rd ≡ false → (o : Option Register) → assigned l.registers rd ≡ o → Wrote (store_eax o rd ∷ [])
+    wrote_free free None e = wrote_frame free e
+    wrote_free free (Some q) e = wrote_register free q e
+
+    pub wrote : Wrote (write l.registers rd)
     wrote = elim (cases_Bool (is_fixed rd)) [
-      | inl held ↦ (c, rw held refl, unwritten g c place rd v k is w held, others_same p l c, refl)
-      | inr free ↦ (stored_core, rw (free, store) refl, rewritten free, stay, refl)
+      | inl held ↦ (c, rw held refl, unwritten g c place rd v k is w held, others_same p l c, λ k low. refl)
+      | inr free ↦ subst (λ t. Wrote (if t then [] else store_eax (assigned l.registers rd) rd ∷ [])) (sym free) (wrote_free free (assigned l.registers rd) refl)
     ]
+
+-- where the turn is doesn't matter
+pub related_goes : (p : Part) (l : Layout) (g : Going) (c : Core) (place : ControlPoint) (pc : ℕ) → IsRelated p l g c → IsRelated p l (goes_with g place pc) c
+related_goes p l g c place pc is = record {
+  register_count = is.register_count;
+  words = is.words;
+  registers = is.registers;
+  frame = is.frame;
+  frame_is_written = is.frame_is_written;
+  few = is.few;
+  left = is.left;
+  bytes = is.bytes;
+  bytes_are_written = is.bytes_are_written;
+  origin_is = is.origin_is;
+}

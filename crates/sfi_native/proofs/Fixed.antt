@@ -6,7 +6,7 @@ use Rattle.sfi_formats.specs.Formats.{unit}
 use Rattle.sfi_image.specs.Spelling.{Part}
 use Rattle.sfi_translate.specs.Machine.{fixed}
 use Rattle.x86_step.proofs.Bytes.{set_one}
-use Rattle.sfi_native.specs.Code.{is_fixed}
+use Rattle.sfi_native.specs.Registers.{is_fixed}
 
 -- the value of register r
 abbrev pub fixed_value : Part → ℕ → ℕ → ℕ

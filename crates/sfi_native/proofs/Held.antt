@@ -1,61 +1,69 @@
 -- A processor that has a turn's state.
-use Rattle.std.proofs.Common.{List, [], sym, append-nil, ◌≡◌, ℕ, ◌+◌, ◌-◌, ◌*◌, ◌/◌, ◌%◌, ◌^◌, ◌<◌, ◌≤◌, ◌==◌, ◌&&◌, ◌⊎◌, inl, inr, Bool, true, false, Option, Some, length, refl, ap, ◌∙◌, arith, if◌then◌else◌, nat_lt}
+use Rattle.std.proofs.Common.{List, [], sym, append-nil, ◌≡◌, ℕ, ◌+◌, ◌-◌, ◌*◌, ◌/◌, ◌%◌, ◌^◌, ◌<◌, ◌≤◌, ◌==◌, ◌&&◌, ◌⊎◌, inl, inr, Bool, true, false, Option, Some, None, length, refl, ap, ◌∙◌, arith, if◌then◌else◌, nat_lt}
 use Rattle.std.specs.Prelude.{nat_le, ◌||◌}
 use Rattle.std.proofs.lemmas.Bool.{cases_Bool, le-leb, lt-ltb, le-ltb, lt-leb}
 use Rattle.rv_mem.specs.Bytes.{byte_at}
 use Rattle.sfi_image.specs.Spelling.{Part}
 use Rattle.sfi_translate.specs.Machine.{Going}
-use Rattle.x86_step.specs.State.{Core, IsFixed, Text, number_at}
+use Rattle.x86_instr.specs.declared.operand.Register.{Register}
+use Rattle.x86_step.specs.State.{Core, Fixup, IsFixed, number_at}
 use Rattle.x86_step.specs.Step.{unknown}
 use Rattle.x86_step.specs.Running.{spellings}
 use Rattle.sfi_native.specs.declared.layout.Layout.{Layout}
 use Rattle.sfi_native.specs.Laws.{EachCodeCanBeRun}
-use Rattle.sfi_native.specs.Layout.{DoNotMeet, IsLayout, IsRelated, frame_size, origin, value}
+use Rattle.sfi_native.specs.Layout.{DoNotMeet, GuardsAreEmpty, Holds, IsLayout, IsRelated, frame_size, origin, value}
+use Rattle.sfi_native.specs.Registers.{IsRightMap, assigned}
+use Rattle.sfi_native.proofs.Assigned.{has_value, not_assigned, other_register, with_values}
 use Rattle.sfi_native.proofs.Memory.{number_of_bytes}
 
 module _ (p : Part) (l : Layout) (g : Going) (layout : IsLayout p.data_size l) where
-  abbrev in_frame : ℕ → Bool
+  abbrev pub in_frame : ℕ → Bool
   in_frame a = nat_le l.frame a && nat_lt a (l.frame + frame_size)
 
-  abbrev in_data : ℕ → Bool
+  abbrev pub in_data : ℕ → Bool
   in_data a = nat_le l.data_start a && nat_lt a (l.data_start + p.data_size)
 
   -- byte k of the frame
-  abbrev frame_byte : ℕ → ℕ
+  abbrev pub frame_byte : ℕ → ℕ
   frame_byte k = value p g (k / 4) / 256 ^ (k % 4) % 256
 
   abbrev bytes : ℕ → Option ℕ
-  bytes a = if in_frame a then Some (frame_byte (a - l.frame)) else byte_at g.state.memory (p.data_base + (a - l.data_start))
+  bytes a =
+      if in_frame a then Some (frame_byte (a - l.frame))
+      else if in_data a then byte_at g.state.memory (p.data_base + (a - l.data_start)) else None
+
+  abbrev base_registers : ℕ → ℕ
+  base_registers r = if r == 4 then l.frame else if r == 14 then g.left else origin p.data_base l
 
   abbrev registers : ℕ → ℕ
-  registers r = if r == 4 then l.frame else if r == 14 then g.left else origin p.data_base l
+  registers = with_values l.registers (value p g) 32 base_registers
 
   abbrev held : Core
   held = record { registers = registers; flags = unknown; memory = bytes; writable = λ a. in_frame a || in_data a }
 
-  frame_has : (k : ℕ) → k < frame_size → in_frame (l.frame + k) ≡ true
+  pub frame_has : (k : ℕ) → k < frame_size → in_frame (l.frame + k) ≡ true
   frame_has k small =
       let low : nat_le l.frame (l.frame + k) ≡ true = le-leb l.frame (l.frame + k) (omega arith) in
       let high : nat_lt (l.frame + k) (l.frame + frame_size) ≡ true = lt-ltb (l.frame + k) (l.frame + frame_size) (omega (arith, small)) in
       rw (low, high) refl
 
-  frame_lacks : (a : ℕ) → (a < l.frame) ⊎ (l.frame + frame_size ≤ a) → in_frame a ≡ false
+  pub frame_lacks : (a : ℕ) → (a < l.frame) ⊎ (l.frame + frame_size ≤ a) → in_frame a ≡ false
   frame_lacks a (inl below) = rw (lt-leb l.frame a below) refl
   frame_lacks a (inr above) = elim (cases_Bool (nat_le l.frame a)) [
     | inl e ↦ rw (e, le-ltb a (l.frame + frame_size) above) refl
     | inr e ↦ rw e refl
   ]
 
-  data_has : (k : ℕ) → k < p.data_size → in_data (l.data_start + k) ≡ true
+  pub data_has : (k : ℕ) → k < p.data_size → in_data (l.data_start + k) ≡ true
   data_has k small =
       let low : nat_le l.data_start (l.data_start + k) ≡ true = le-leb l.data_start (l.data_start + k) (omega arith) in
       let high : nat_lt (l.data_start + k) (l.data_start + p.data_size) ≡ true = lt-ltb (l.data_start + k) (l.data_start + p.data_size) (omega (arith, small)) in
       rw (low, high) refl
 
-  apart : (k : ℕ) → k < p.data_size → in_frame (l.data_start + k) ≡ false
+  pub apart : (k : ℕ) → k < p.data_size → in_frame (l.data_start + k) ≡ false
   apart k small = frame_lacks (l.data_start + k) (elim layout.apart [
-    | inl above ↦ inr (omega (arith, above))
-    | inr below ↦ inl (omega (arith, below, small))
+    | inl above ↦ inr (omega (arith, above, layout.data_begins))
+    | inr below ↦ inl (omega (arith, below, small, layout.data_begins))
   ])
 
   byte_is : (k a : ℕ) → k < frame_size → a ≡ l.frame + k → bytes a ≡ Some (frame_byte k)
@@ -74,39 +82,63 @@ module _ (p : Part) (l : Layout) (g : Going) (layout : IsLayout p.data_size l) w
   slot_holds : (r : ℕ) → r < 32 → value p g r < 2 ^ 32 → number_at bytes 4 (l.frame + 4 * r) ≡ Some (value p g r)
   slot_holds r small fits = number_of_bytes bytes (l.frame + 4 * r) (value p g r) fits (λ j few. slot_byte r j small few)
 
+  right : IsRightMap l.registers
+  right = layout.registers_are_right
+
+  holds : (r : ℕ) → r < 32 → value p g r < 2 ^ 32 → (o : Option Register) → assigned l.registers r ≡ o → Holds l held r o (value p g r)
+  holds r small fits None e = slot_holds r small fits
+  holds r small fits (Some q) e = has_value l.registers right (value p g) base_registers 32 r q small e
+
+  own_register : (k : ℕ) → (k < 3) ⊎ ((11 < k) ⊎ (k ≡ 4)) → registers k ≡ base_registers k
+  own_register k own = other_register l.registers right (value p g) base_registers 32 k (not_assigned l.registers right k own)
+
   data_is : (k : ℕ) → k < p.data_size → bytes (l.data_start + k) ≡ byte_at g.state.memory (p.data_base + k)
   data_is k small =
       let place : l.data_start + k - l.data_start ≡ k = omega arith in
-      rw (apart k small, place) refl
+      rw (apart k small, data_has k small, place) refl
 
   held_is : length g.state.hart.registers ≡ 32 → ((r : ℕ) → value p g r < 2 ^ 32) → g.left < 2 ^ 32 → IsRelated p l g held
   held_is count words few = record {
     register_count = count;
     words = words;
-    registers = λ r small. slot_holds r small (words r);
-    frame = refl;
+    registers = λ r small. holds r small (words r) (assigned l.registers r) refl;
+    frame = own_register 4 (inr (inr refl));
     frame_is_written = λ k small. rw (frame_has k small) refl;
     few = few;
-    left = refl;
+    left = own_register 14 (inr (inl (omega arith)));
     bytes = data_is;
     bytes_are_written = λ k small. rw (apart k small, data_has k small) refl;
-    origin_is = refl;
+    origin_is = own_register 15 (inr (inl (omega arith)));
   }
 
-  data_lacks : (a : ℕ) → (a < l.data_start) ⊎ (l.data_start + p.data_size ≤ a) → in_data a ≡ false
+  pub data_lacks : (a : ℕ) → (a < l.data_start) ⊎ (l.data_start + p.data_size ≤ a) → in_data a ≡ false
   data_lacks a (inl below) = rw (lt-leb l.data_start a below) refl
   data_lacks a (inr above) = elim (cases_Bool (nat_le l.data_start a)) [
     | inl e ↦ rw (e, le-ltb a (l.data_start + p.data_size) above) refl
     | inr e ↦ rw e refl
   ]
 
+  guards_lack : (a : ℕ) → in_data a ≡ false → l.data_start ≤ a + 4096 → a < l.data_start + p.data_size + 4096 → bytes a ≡ None
+  guards_lack a none from below =
+      let lacks : in_frame a ≡ false = frame_lacks a (elim layout.apart [
+        | inl above ↦ inr (omega (arith, above, from, layout.data_begins))
+        | inr under ↦ inl (omega (arith, under, below, layout.data_begins))
+      ]) in
+      rw (lacks, none) refl
+
+  held_guards : GuardsAreEmpty p.data_size l held
+  held_guards = record {
+    below = λ a from under. guards_lack a (data_lacks a (inl under)) from (omega (arith, under));
+    above = λ a from under. guards_lack a (data_lacks a (inr from)) (omega (arith, from)) under;
+  }
+
   beside : (at n b m a : ℕ) → DoNotMeet at n b m → at ≤ a → a < at + n → (a < b) ⊎ (b + m ≤ a)
   beside at n b m a (inl before) low high = inl (omega (arith, before, high))
   beside at n b m a (inr after) low high = inr (omega (arith, after, low))
 
-  fixed_is : (bytes : List ℕ) (at : ℕ) → at + length bytes < 2 ^ 64 → DoNotMeet at (length bytes) l.frame frame_size → DoNotMeet at (length bytes) l.data_start p.data_size
-      → IsFixed (record { base = at; bytes = bytes }) held
-  fixed_is bytes at ends frame data_apart = record {
+  fixed_is : (bytes : List ℕ) (fixups : ℕ → Option Fixup) (at : ℕ) → at + length bytes < 2 ^ 64 → DoNotMeet at (length bytes) l.frame frame_size → DoNotMeet at (length bytes) l.data_start p.data_size
+      → IsFixed (record { base = at; bytes = bytes; fixups = fixups }) held
+  fixed_is bytes fixups at ends frame data_apart = record {
     ends = ends;
     apart = λ a low high.
         let e1 : in_frame a ≡ false = frame_lacks a (beside at (length bytes) l.frame frame_size a frame low high) in
@@ -115,15 +147,14 @@ module _ (p : Part) (l : Layout) (g : Going) (layout : IsLayout p.data_size l) w
   }
 
 pub each_code_can_be_run : EachCodeCanBeRun
-each_code_can_be_run is at p l g layout count words few ends frame data_apart =
-    let text : Text = record { base = at; bytes = spellings is } in (
-      text,
-      held p l g layout,
-      record {
-        layout = layout;
-        text_is_fixed = fixed_is p l g layout (spellings is) at (omega (arith, ends)) frame data_apart;
-        text_is_low = ends;
-        stands = record { before = []; after = []; bytes_are = sym (append-nil (spellings is)); at_is = omega arith };
-        related = held_is p l g layout count words few;
-      },
-    )
+each_code_can_be_run is fixups at p l g layout count words few ends frame data_apart = (
+  held p l g layout,
+  record {
+    layout = layout;
+    text_is_fixed = fixed_is p l g layout (spellings is) fixups at (omega (arith, ends)) frame data_apart;
+    text_is_low = ends;
+    stands = record { before = []; after = []; bytes_are = sym (append-nil (spellings is)); at_is = omega arith };
+    related = held_is p l g layout count words few;
+    guards = held_guards p l g layout;
+  },
+)

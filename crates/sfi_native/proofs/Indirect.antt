@@ -1,5 +1,5 @@
 -- The code of a jalr, from its first instruction to where it goes out.
-use Rattle.std.proofs.Common.{◌≡◌, ℕ, ◌+◌, ◌-◌, ◌^◌, ◌<◌, [], ◌∷◌, ◌++◌, refl, ap, ◌∙◌, arith}
+use Rattle.std.proofs.Common.{◌≡◌, ℕ, ◌+◌, ◌-◌, ◌%◌, ◌^◌, ◌<◌, Bool, true, false, List, [], ◌∷◌, ◌++◌, refl, ap, ◌∙◌, subst, arith, not, if◌then◌else◌}
 use Rattle.std.specs.Prelude.{Ok, ℤ, bit_and}
 use Rattle.std.proofs.lemmas.Nat.Bits.{and_high}
 unfoldable use Rattle.rv_word.specs.Spelling.{InRange}
@@ -8,27 +8,35 @@ use Rattle.rv_mem.specs.Bytes.{address_after}
 use Rattle.rv_step.specs.State.{even_of}
 use Rattle.rv_step.specs.Step.{word}
 use Rattle.sfi_image.specs.Spelling.{Part}
-use Rattle.sfi_translate.specs.Machine.{Going, at_head, enters, one_less}
+use Rattle.sfi_translate.specs.Lines.{Line}
+use Rattle.sfi_translate.specs.Machine.{Assembly, Going, at_head, enters as enters_at, is_short, label, one_less}
 use Rattle.x86_instr.specs.declared.operand.Register.TheVariants.{Rax, Rdx}
 use Rattle.x86_instr.specs.declared.operand.Operand.TheVariants.{Reg}
 use Rattle.x86_instr.specs.declared.instr.AluOp.TheVariants as alu
 use Rattle.x86_instr.specs.declared.instr.Width.TheVariants.{Dword}
-use Rattle.x86_instr.specs.declared.instr.Instr.TheVariants.{AluImm, Jmp, MovImm}
-use Rattle.x86_step.specs.State.{Core, with_flags, with_register}
-use Rattle.x86_step.specs.Step.{jumped, logical, low, sum}
+use Rattle.x86_instr.specs.declared.instr.Instr.TheVariants.{AluImm, MovImm}
+use Rattle.x86_step.specs.State.{Core, IsFixed, Text, with_flags, with_register}
+use Rattle.x86_step.specs.Step.{Reaches, is_canonical, jumped, logical, low, sum}
 unfoldable use Rattle.x86_step.specs.Step.{computes}
-use Rattle.x86_step.specs.Running.{exec}
-use Rattle.x86_step.proofs.Running.{exec_append}
+use Rattle.x86_step.specs.Running.{HasAt, exec, spellings}
+use Rattle.x86_step.proofs.Facts.{fixed_stays, steps_join}
+use Rattle.x86_step.proofs.Running.{exec_append, has_back, has_front, spellings_append}
 use Rattle.sfi_native.specs.declared.layout.Layout.{Layout}
 use Rattle.sfi_native.specs.Layout.{IsLayout, IsRelated, value}
-use Rattle.sfi_native.specs.Laws.{JalrLinesRun, end_of}
-use Rattle.sfi_native.specs.Code.{count, fetch, jalr_line, number_code, target_code, write}
+use Rattle.sfi_native.specs.Laws.{IsLow, JalrLinesRun, end_of, jalr_place}
+use Rattle.sfi_native.specs.Code.{count, enter_code, enter_size, fetch, indirect_jump, jalr_line, number_code, start_code, start_size, steps_code, target_code, write}
+use Rattle.sfi_native.specs.Entries.{entry_of}
+use Rattle.sfi_native.specs.Places.{exit_of}
+use Rattle.sfi_native.specs.Table.{HasTable, LieInCode, is_unit_start}
 use Rattle.sfi_native.proofs.Accessing.{offset_is}
 use Rattle.sfi_native.proofs.Counting.{counts}
+use Rattle.sfi_native.proofs.Entering.{enters, has_steps, out_over, starts}
 use Rattle.sfi_native.proofs.Fetching.{fetched, hart_written, related_kept, wrote}
 use Rattle.sfi_native.proofs.Kept.{Kept, kept_join, kept_register, kept_result, others_join, others_kept}
 use Rattle.sfi_native.proofs.Lines.{hart_with, write_straight}
-use Rattle.sfi_native.proofs.Runs.{jal_effect, jumps_to, runs_join, straight_runs}
+use Rattle.sfi_native.proofs.Lists.{enter_bytes, start_bytes}
+use Rattle.sfi_native.proofs.Runs.{back_fixed, back_stands, end_append, runs_join, straight_runs, then_reaches}
+use Rattle.sfi_native.proofs.Table.{table_kept, table_stays}
 
 -- all bits but the lowest
 masked : (n : ℕ) → n < 2 ^ 32 → bit_and n (2 ^ 32 - 2) ≡ even_of n
@@ -39,10 +47,13 @@ target_is a imm small =
     let sum_is : low Dword (low Dword (low Dword a + word imm)) ≡ offset_by a imm = omega (arith, small, offset_is a imm) in
     ap (λ n. bit_and n (2 ^ 32 - 2)) sum_is ∙ masked (offset_by a imm) (omega (arith, offset_is a imm))
 
+target_fits : (a : ℕ) (imm : ℤ) → even_of (offset_by a imm) < 2 ^ 32
+target_fits a imm = omega (arith, offset_is a imm)
+
 module _ (p : Part) (l : Layout) (layout : IsLayout p.data_size l) (g : Going) (c : Core) (is : IsRelated p l g c) where
   pub record Targets (rs1 : ℕ) (imm : ℤ) : Type 0 where
     pub core : Core
-    pub runs : exec (target_code rs1 (word imm)) c ≡ Ok core
+    pub runs : exec (target_code l.registers rs1 (word imm)) c ≡ Ok core
     pub kept : Kept c core
     pub edx : core.registers 2 ≡ even_of (offset_by (value p g rs1) imm)
 
@@ -57,35 +68,129 @@ module _ (p : Part) (l : Layout) (layout : IsLayout p.data_size l) (g : Going) (
       let c3 = with_flags (with_register c2 2 n) (logical Dword n).flags in
       record {
         core = c3;
-        runs = exec_append (fetch Rdx rs1) (AluImm alu.Add Dword (Reg Rdx) (word imm) ∷ AluImm alu.And Dword (Reg Rdx) (2 ^ 32 - 2) ∷ []) c c1 (fetched p l layout g c Rdx rs1 small is) ∙ refl;
+        runs = exec_append (fetch l.registers Rdx rs1) (AluImm alu.Add Dword (Reg Rdx) (word imm) ∷ AluImm alu.And Dword (Reg Rdx) (2 ^ 32 - 2) ∷ []) c c1 (fetched p l layout g c Rdx rs1 small is) ∙ refl;
         kept = kept_join c c1 c3 (kept_register c 2 a (omega arith)) (kept_join c1 c2 c3 (kept_result c1 2 s.result s.flags (omega arith)) (kept_result c2 2 n (logical Dword n).flags (omega arith)));
         edx = target_is a imm (is.words rs1);
       }
 
+-- ==== From the target in edx on.
+
+module _ (p : Part) (l : Layout) (layout : IsLayout p.data_size l) (base : ℕ) (code : List Line) (lie : LieInCode p code) (t : Text) (low_text : IsLow t) (in_reach : base + exit_of l.registers code < 2 ^ 47) (k : Going) (few : k.left < 2 ^ 31) where
+  module _ (d : Core) (is : IsRelated p l k d) (has : HasTable p l base code d) (to : ℕ) (edx : d.registers 2 ≡ to) (fits : to < 2 ^ 32)
+      (at distance : ℕ) (ahead : distance + (start_size + enter_size) < 2 ^ 31) where
+    abbrev steps_end : ℕ
+    steps_end = end_of at (steps_code distance)
+
+    abbrev start_end : ℕ
+    start_end = end_of steps_end (start_code distance)
+
+    abbrev end : ℕ
+    end = end_of at (indirect_jump distance)
+
+    end_is : (end ≡ steps_end + (start_size + enter_size)) × (end ≡ start_end + enter_size)
+    end_is =
+        let one = end_append at (steps_code distance) (start_code distance ++ enter_code) in
+        let two = end_append steps_end (start_code distance) enter_code in
+        (omega (arith, one, two, start_bytes distance, enter_bytes), omega (arith, one, two, enter_bytes))
+
+    pub record Goes (place : ℕ) : Type 0 where
+      pub after : Core
+      pub reached : Reaches t (record { rip = at; core = d }) (record { rip = place; core = after })
+      pub kept : Kept d after
+      pub target : after.registers 2 ≡ to
+
+    module _ (fixed_text : IsFixed t d) (stands : HasAt t at (spellings (indirect_jump distance))) (canonical : is_canonical (jumped end distance) ≡ true) where
+      parts : HasAt t at (spellings (steps_code distance) ++ spellings (start_code distance ++ enter_code))
+      parts = subst (λ bytes. HasAt t at bytes) (spellings_append (steps_code distance) (start_code distance ++ enter_code)) stands
+
+      more : HasAt t steps_end (spellings (start_code distance) ++ spellings enter_code)
+      more = subst (λ bytes. HasAt t steps_end bytes) (spellings_append (start_code distance) enter_code) (has_back t at (spellings (steps_code distance)) (spellings (start_code distance ++ enter_code)) parts)
+
+      short_out : jumped steps_end ((distance + (start_size + enter_size)) % 2 ^ 32) ≡ jumped end distance
+      short_out = out_over steps_end end (start_size + enter_size) distance end_is.0 ahead
+
+      start_out : jumped start_end ((distance + enter_size) % 2 ^ 32) ≡ jumped end distance
+      start_out = out_over start_end end enter_size distance end_is.1 (omega (arith, ahead))
+
+      -- at a unit's start
+      from_start : (e : Core) → Reaches t (record { rip = at; core = d }) (record { rip = start_end; core = e }) → Kept d e → e.registers 2 ≡ to → is_unit_start p to ≡ true
+          → Goes (base + entry_of l.registers code (label to code))
+      from_start e reached kept same start =
+          let own = has_back t steps_end (spellings (start_code distance)) (spellings enter_code) more in
+          let it = enters p l base code lie t low_text in_reach e (table_kept p l layout base code d e kept has) to same start start_end (fixed_stays t _ _ reached) own in
+          record { after = it.after; reached = steps_join t _ _ _ reached it.reached; kept = kept_join d e it.after kept it.kept; target = it.target }
+
+      by_start : (start : Bool) → is_unit_start p to ≡ start → (e : Core)
+          → Reaches t (record { rip = at; core = d }) (record { rip = if not start then jumped start_end ((distance + enter_size) % 2 ^ 32) else start_end; core = e })
+          → Kept d e → e.registers 2 ≡ to → Goes (if start then base + entry_of l.registers code (label to code) else jumped end distance)
+      by_start true is_start e reached kept same = from_start e reached kept same is_start
+      by_start false is_start e reached kept same = record {
+        after = e;
+        reached = subst (λ a. Reaches t (record { rip = at; core = d }) (record { rip = a; core = e })) start_out reached;
+        kept = kept;
+        target = same;
+      }
+
+      -- with enough steps
+      from_steps : (e : Core) → Reaches t (record { rip = at; core = d }) (record { rip = steps_end; core = e }) → Kept d e → e.registers 2 ≡ to
+          → Goes (if is_unit_start p to then base + entry_of l.registers code (label to code) else jumped end distance)
+      from_steps e reached kept same =
+          let own = has_front t steps_end (spellings (start_code distance)) (spellings enter_code) more in
+          let it = starts p l layout code lie t low_text k e (related_kept p l layout k d e is kept) to same fits steps_end distance (fixed_stays t _ _ reached) own (ap is_canonical start_out ∙ canonical) in
+          by_start (is_unit_start p to) refl it.after (steps_join t _ _ _ reached it.reached) (kept_join d e it.after kept it.kept) it.target
+
+      by_steps : (short : Bool) → (e : Core)
+          → Reaches t (record { rip = at; core = d }) (record { rip = if short then jumped steps_end ((distance + (start_size + enter_size)) % 2 ^ 32) else steps_end; core = e })
+          → Kept d e → e.registers 2 ≡ to
+          → Goes (if short then jumped end distance else if is_unit_start p to then base + entry_of l.registers code (label to code) else jumped end distance)
+      by_steps true e reached kept same = record {
+        after = e;
+        reached = subst (λ a. Reaches t (record { rip = at; core = d }) (record { rip = a; core = e })) short_out reached;
+        kept = kept;
+        target = same;
+      }
+      by_steps false e reached kept same = from_steps e reached kept same
+
+      pub goes_on : Goes (jalr_place l.registers p code base end distance to k.left)
+      goes_on =
+          let own = has_front t at (spellings (steps_code distance)) (spellings (start_code distance ++ enter_code)) parts in
+          let it = has_steps p l layout code lie t low_text k d is to edx fits at distance fixed_text own few (ap is_canonical short_out ∙ canonical) in
+          by_steps (is_short Assembly k.left) it.after it.reached it.kept it.target
+
 pub jalr_lines_run : JalrLinesRun
 unfolding InRange computes
-jalr_lines_run target p code rest address size rd rs1 imm distance l t at g c range canonical here =
+jalr_lines_run target p code rest address size rd rs1 imm distance base l t at g c range few ahead canonical in_reach lie has here =
     let v = address_after address size in
     let to = even_of (offset_by (value p g rs1) imm) in
-    let place = at_head target (one_less g.left) (enters target p code address to) in
+    let left = one_less g.left in
+    let place = at_head target left (enters_at target p code address to) in
     let first = targets p l here.layout g c here.related rs1 imm range.1 in
     let k = first.core in
     let d = with_register k 0 v in
     let kept = kept_join c k d first.kept (kept_register k 0 v (omega arith)) in
     let is = related_kept p l here.layout g c d here.related kept in
     let w = wrote p l here.layout g d is place rd v (hart_with p l here.layout g c here.related place to rd v) range.0 (omega arith) (hart_written p g here.related.register_count to rd v range.0) refl in
-    let last = counts p l _ w.0 w.2 in
-    let target_runs = straight_runs (target_code rs1 (word imm)) c k refl first.runs in
-    let number_runs = runs_join (MovImm Rax v ∷ []) (write rd) k d w.0 (straight_runs (MovImm Rax v ∷ []) k d refl refl) (straight_runs (write rd) d w.0 (write_straight rd) w.1) in
-    let count_runs = runs_join (number_code rd v) count k w.0 last.core number_runs (straight_runs count w.0 last.core refl last.runs) in
-    let front = target_code rs1 (word imm) ++ (number_code rd v ++ count) in
-    let runs = runs_join (target_code rs1 (word imm)) (number_code rd v ++ count) c k last.core target_runs count_runs in
-    let end = end_of at (jalr_line rd rs1 (word imm) v distance) in (
+    let last = counts p l here.layout _ w.0 w.2 in
+    let target_runs = straight_runs (target_code l.registers rs1 (word imm)) c k refl first.runs in
+    let number_runs = runs_join (MovImm Rax v ∷ []) (write l.registers rd) k d w.0 (straight_runs (MovImm Rax v ∷ []) k d refl refl) (straight_runs (write l.registers rd) d w.0 (write_straight l.registers rd) w.1) in
+    let count_runs = runs_join (number_code l.registers rd v) count k w.0 last.core number_runs (straight_runs count w.0 last.core refl last.runs) in
+    let front = target_code l.registers rs1 (word imm) ++ (number_code l.registers rd v ++ count) in
+    let runs = runs_join (target_code l.registers rs1 (word imm)) (number_code l.registers rd v ++ count) c k last.core target_runs count_runs in
+    let edx : last.core.registers 2 ≡ to = last.others 2 (λ e. omega (arith, e)) ∙ w.4 2 (omega arith) ∙ first.edx in
+    let stay = others_join p l c d last.core (others_kept p l c d kept) (others_join p l d w.0 last.core w.3 last.stay) in
+    let from = end_of at front in
+    let end : end_of from (indirect_jump distance) ≡ end_of at (jalr_line l.registers rd rs1 (word imm) v distance) = end_append at front (indirect_jump distance) in
+    let it = goes_on p l here.layout base code lie t here.text_is_low in_reach _ few last.core last.related (table_stays p l here.layout base code c last.core stay has) to edx (target_fits (value p g rs1) imm) from distance ahead
+    (back_fixed t at front (indirect_jump distance) c last.core here.text_is_fixed here.text_is_low here.stands runs)
+    (back_stands t at front (indirect_jump distance) c last.core here.text_is_fixed here.text_is_low here.stands runs)
+    (ap (λ a. is_canonical (jumped a distance)) end ∙ canonical) in (
       record {
-        after = last.core;
-        reached = jumps_to t at front (Jmp distance) c last.core here.text_is_fixed here.text_is_low here.stands runs (jumped end distance) (λ after e. jal_effect distance after end last.core e canonical);
-        related = last.related;
-        others = others_join p l c d last.core (others_kept p l c d kept) (others_join p l d w.0 last.core w.3 last.stay);
+        after = it.after;
+        reached = then_reaches t at front (indirect_jump distance) c last.core here.text_is_fixed here.text_is_low here.stands runs
+            (record { rip = jalr_place l.registers p code base (end_of at (jalr_line l.registers rd rs1 (word imm) v distance)) distance to left; core = it.after })
+            (subst (λ a. Reaches t (record { rip = from; core = last.core }) (record { rip = jalr_place l.registers p code base a distance to left; core = it.after })) end it.reached);
+        related = related_kept p l here.layout _ last.core it.after last.related it.kept;
+        others = others_join p l c last.core it.after stay (others_kept p l last.core it.after it.kept);
       },
-      last.others 2 (λ e. omega (arith, e)) ∙ ap (λ r. r 2) w.4 ∙ first.edx,
+      it.target,
     )

@@ -66,7 +66,7 @@ module _ (p : Part) (l : Layout) (layout : IsLayout p.data_size l) where
     -- the flags are those of the comparison
     pub record Compares (rs1 rs2 : ℕ) : Type 0 where
       pub core : Core
-      pub runs : exec (compare_code rs1 rs2) c ≡ Ok core
+      pub runs : exec (compare_code l.registers rs1 rs2) c ≡ Ok core
       pub related : (place : ControlPoint) (pc : ℕ) → IsRelated p l (moved place pc) core
       pub others : OthersStay p l c core
       pub flags : core.flags ≡ (difference Dword (value p g rs1) (value p g rs2)).flags
@@ -81,14 +81,14 @@ module _ (p : Part) (l : Layout) (layout : IsLayout p.data_size l) where
         let is1 = related_kept p l layout g c c1 is (kept_register c 0 a (omega arith)) in
         let is2 = related_kept p l layout g c1 c2 is1 (kept_register c1 1 b (omega arith)) in
         let still = none_comes p l layout g c2 is2 g.place 0 in
-        let n = counts p l _ c2 still in
+        let n = counts p l layout _ c2 still in
         let in_eax : low Dword (n.core.registers 0) ≡ a = ap (low Dword) (n.others 0 (λ e. omega (arith, e))) ∙ low_is a (is.words rs1) in
         let in_ecx : low Dword (n.core.registers 1) ≡ b = ap (low Dword) (n.others 1 (λ e. omega (arith, e))) ∙ low_is b (is.words rs2) in
         let f = (difference Dword (low Dword (n.core.registers 0)) (low Dword (n.core.registers 1))).flags in
         record {
           core = with_flags n.core f;
-          runs = exec_append (fetch Rax rs1) (fetch Rcx rs2 ++ (count ++ (Alu alu.Cmp Dword Rax (Reg Rcx) ∷ []))) c c1 (fetched p l layout g c Rax rs1 f1 is)
-              ∙ exec_append (fetch Rcx rs2) (count ++ (Alu alu.Cmp Dword Rax (Reg Rcx) ∷ [])) c1 c2 (fetched p l layout g c1 Rcx rs2 f2 is1)
+          runs = exec_append (fetch l.registers Rax rs1) (fetch l.registers Rcx rs2 ++ (count ++ (Alu alu.Cmp Dword Rax (Reg Rcx) ∷ []))) c c1 (fetched p l layout g c Rax rs1 f1 is)
+              ∙ exec_append (fetch l.registers Rcx rs2) (count ++ (Alu alu.Cmp Dword Rax (Reg Rcx) ∷ [])) c1 c2 (fetched p l layout g c1 Rcx rs2 f2 is1)
               ∙ exec_append count (Alu alu.Cmp Dword Rax (Reg Rcx) ∷ []) c2 n.core n.runs ∙ refl;
           related = λ place pc. replaced (fixed p g.state.hart).registers g.state.memory (one_less g.left) 0 pc g.place place (with_flags n.core f)
               (related_kept p l layout _ n.core (with_flags n.core f) n.related (kept_flags n.core f));
@@ -166,7 +166,7 @@ branch_lines_run target p code rest address size cond rs1 rs2 offset j l t at g 
     let met : is_met (opposite cond) done.core.flags ≡ Some (not (is_taken cond a b)) =
     ap (is_met (opposite cond)) done.flags ∙ unmet_is cond a b (here.related.words rs1) (here.related.words rs2) in
     let same = left_is p l here.layout g c here.related done.core done.related few in
-    let it = branches t at (compare_code rs1 rs2) (opposite cond) j c done.core here.text_is_fixed here.text_is_low (straight_runs (compare_code rs1 rs2) c done.core refl done.runs)
+    let it = branches t at (compare_code l.registers rs1 rs2) (opposite cond) j c done.core here.text_is_fixed here.text_is_low (straight_runs (compare_code l.registers rs1 rs2) c done.core refl done.runs)
     (one_less g.left) same here.stands jump (is_taken cond a b) met in (
       record {
         after = it.after;
@@ -184,17 +184,17 @@ pub jal_lines_run : JalLinesRun
 unfolding InRange
 jal_lines_run target p code rest address size rd offset j l t at g c range few jump here =
     let v = address_after address size in
-    let front = number_code rd v ++ count in
+    let front = number_code l.registers rd v ++ count in
     let number = number_comes p l here.layout g c here.related (jumps target code address (offset_by address offset) (one_less g.left)) (offset_by address offset) rd v range.0 (omega arith) in
-    let done = then_count p l c (number_code rd v) _ number in
+    let done = then_count p l here.layout c (number_code l.registers rd v) _ number in
     let from = end_of at front in
-    let end_is : end_of from (tested_jump j) ≡ end_of at (jal_line rd v j) = end_append at front (tested_jump j) in
+    let end_is : end_of from (tested_jump j) ≡ end_of at (jal_line l.registers rd v j) = end_append at front (tested_jump j) in
     let same : low Dword (done.core.registers 14) ≡ one_less g.left % 2 ^ 31 = omega (arith, done.related.left, few) in
     let it = jumps_by_test t from j (one_less g.left) done.core (back_fixed t at front (tested_jump j) c done.core here.text_is_fixed here.text_is_low here.stands done.runs) here.text_is_low same
     (back_stands t at front (tested_jump j) c done.core here.text_is_fixed here.text_is_low here.stands done.runs) (subst (λ a. IsJump a j) (sym end_is) jump) in (
       record {
         after = it.after;
-        reached = then_reaches t at front (tested_jump j) c done.core here.text_is_fixed here.text_is_low here.stands done.runs (record { rip = jump_place (end_of at (jal_line rd v j)) j (one_less g.left); core = it.after })
+        reached = then_reaches t at front (tested_jump j) c done.core here.text_is_fixed here.text_is_low here.stands done.runs (record { rip = jump_place (end_of at (jal_line l.registers rd v j)) j (one_less g.left); core = it.after })
             (subst (λ a. Reaches t (record { rip = from; core = done.core }) (record { rip = jump_place a j (one_less g.left); core = it.after })) end_is it.reached);
         related = related_kept p l here.layout _ done.core it.after done.related it.kept;
         others = others_join p l c done.core it.after done.others (others_kept p l done.core it.after it.kept);

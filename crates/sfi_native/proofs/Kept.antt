@@ -1,12 +1,13 @@
 -- What code keeps that computes a value.
-use Rattle.std.proofs.Common.{◌≡◌, ℕ, ◌<◌, ◌≤◌, List, ◌++◌, refl, ap, ◌∙◌, arith}
+use Rattle.std.proofs.Common.{◌≡◌, ℕ, ◌+◌, ◌<◌, ◌≤◌, List, ◌++◌, refl, ap, ◌∙◌, arith, inl, inr}
 use Rattle.std.proofs.lemmas.Bool.{ne_eqb}
+use Rattle.sfi_formats.specs.Limits.{guard}
 use Rattle.sfi_image.specs.Spelling.{Part}
 use Rattle.x86_instr.specs.declared.instr.Instr.{Instr as Native}
 use Rattle.x86_step.specs.declared.machine.Flags.{Flags}
 use Rattle.x86_step.specs.State.{Core, updated, with_flags, with_register}
 use Rattle.sfi_native.specs.declared.layout.Layout.{Layout}
-use Rattle.sfi_native.specs.Layout.{OthersStay}
+use Rattle.sfi_native.specs.Layout.{GuardsAreEmpty, IsLayout, IsOutside, OthersStay, frame_size}
 use Rattle.sfi_native.proofs.Runs.{Runs, runs_join}
 
 -- eax, ecx, edx and the flags may differ
@@ -17,17 +18,29 @@ pub record Kept (c d : Core) : Type 0 where
 
 module _ (p : Part) (l : Layout) where
   pub others_kept : (c d : Core) → Kept c d → OthersStay p l c d
-  others_kept c d k = record { others = λ r more not_left. k.registers r more; elsewhere = λ a by_frame by_data. ap (λ m. m a) k.memory; writable = k.writable }
+  others_kept c d k = record { others = λ r more not_left apart. k.registers r more; elsewhere = λ a by_frame by_data. ap (λ m. m a) k.memory; writable = k.writable }
 
   pub others_join : (c d e : Core) → OthersStay p l c d → OthersStay p l d e → OthersStay p l c e
   others_join c d e a b = record {
-    others = λ k more not_left. b.others k more not_left ∙ a.others k more not_left;
+    others = λ k more not_left apart. b.others k more not_left apart ∙ a.others k more not_left apart;
     elsewhere = λ at by_frame by_data. b.elsewhere at by_frame by_data ∙ a.elsewhere at by_frame by_data;
     writable = b.writable ∙ a.writable;
   }
 
   pub others_same : (c : Core) → OthersStay p l c c
-  others_same c = record { others = λ k more not_left. refl; elsewhere = λ a by_frame by_data. refl; writable = refl }
+  others_same c = record { others = λ k more not_left apart. refl; elsewhere = λ a by_frame by_data. refl; writable = refl }
+
+  pub beside_frame : IsLayout p.data_size l → (a : ℕ) → l.data_start ≤ a + guard → a < l.data_start + p.data_size + guard → IsOutside a l.frame frame_size
+  beside_frame layout a from below = elim layout.apart [
+    | inl above ↦ inr (omega (arith, above, from, layout.data_begins))
+    | inr under ↦ inl (omega (arith, under, below, layout.data_begins))
+  ]
+
+  pub guards_kept : IsLayout p.data_size l → (c d : Core) → OthersStay p l c d → GuardsAreEmpty p.data_size l c → GuardsAreEmpty p.data_size l d
+  guards_kept layout c d stay empty = record {
+    below = λ a from under. stay.elsewhere a (beside_frame layout a from (omega (arith, under))) (inl under) ∙ empty.below a from under;
+    above = λ a from under. stay.elsewhere a (beside_frame layout a (omega (arith, from)) under) (inr from) ∙ empty.above a from under;
+  }
 
 pub kept_join : (c d e : Core) → Kept c d → Kept d e → Kept c e
 kept_join c d e a b = record {

@@ -69,7 +69,7 @@ module _ (p : Part) (l : Layout) (layout : IsLayout p.data_size l) (g : Going) (
   fits : v < 256 ^ load_size kind
   fits = loaded_fits g.state.memory at v kind memory reads
 
-  pub load_computed : Computed (fetch Rax rs1 ++ (load_from kind (data_address (word imm)) ∷ [])) c (extended kind v)
+  pub load_computed : Computed (fetch l.registers Rax rs1 ++ (load_from kind (data_address (word imm)) ∷ [])) c (extended kind v)
   load_computed =
       let load : loaded fetched_core (load_size kind) (address fetched_core (data_address (word imm))) ≡ Ok v =
       ap (loaded fetched_core (load_size kind)) (place_is p l layout g c is room (load_size kind) (load_sized kind).some few rs1 imm range tested)
@@ -81,7 +81,7 @@ module _ (p : Part) (l : Layout) (layout : IsLayout p.data_size l) (g : Going) (
         result = refl;
         kept = kept_register fetched_core 0 (extended kind v) (omega arith);
       } in
-      behind c fetched_core (fetch Rax rs1) (load_from kind (data_address (word imm)) ∷ []) (extended kind v) (straight_runs (fetch Rax rs1) c fetched_core refl (fetched p l layout g c Rax rs1 small is)) (kept_register c 0 (value p g rs1) (omega arith)) done
+      behind c fetched_core (fetch l.registers Rax rs1) (load_from kind (data_address (word imm)) ∷ []) (extended kind v) (straight_runs (fetch l.registers Rax rs1) c fetched_core refl (fetched p l layout g c Rax rs1 small is)) (kept_register c 0 (value p g rs1) (omega arith)) done
 
 pub load_lines_run : LoadLinesRun
 unfolding InRange
@@ -91,8 +91,8 @@ load_lines_run target p code rest address size kind rd rs1 imm l t at g c range 
     let reads : read g.state.memory (offset_by (value p g rs1) imm) (load_size kind) ≡ Some v = number.1 in
     let value_fits = extended_fits kind v (loaded_fits g.state.memory (offset_by (value p g rs1) imm) v kind memory reads) in
     let front = load_computed p l here.layout g c here.related in_data.room memory kind in_data.fits rs1 imm v range.1 range.2 in_data.tested reads in
-    let written = finish p l here.layout g c here.related (Before rest) (address_after address size) (fetch Rax rs1 ++ (load_from kind (data_address (word imm)) ∷ [])) rd (extended kind v) range.0 value_fits front in
-    let done = then_count p l c (load_code kind rd rs1 (word imm)) _ written in
+    let written = finish p l here.layout g c here.related (Before rest) (address_after address size) (fetch l.registers Rax rs1 ++ (load_from kind (data_address (word imm)) ∷ [])) rd (extended kind v) range.0 value_fits front in
+    let done = then_count p l here.layout c (load_code l.registers kind rd rs1 (word imm)) _ written in
     rw (in_data.tested, reads) (record {
       after = done.core;
       reached = done.runs t at here.text_is_fixed here.text_is_low here.stands;

@@ -1,17 +1,18 @@
 -- Lines among all lines of the code, from where each begins to where the next does.
-use Rattle.std.proofs.Common.{append_assoc, ◌++◌, length, length-append, ◌%◌, ◌≤◌, ◌&&◌, ◌⊎◌, inl, inr, None, ◌≡◌, ℕ, ◌+◌, ◌^◌, ◌<◌, Bool, true, false, List, [], ◌∷◌, Option, Some, refl, sym, ap, ◌∙◌, subst, arith, if◌then◌else◌}
-use Rattle.std.proofs.lemmas.Bool.{cases_Bool, false≢true}
+use Rattle.std.proofs.Common.{append_assoc, ◌++◌, length, length-append, ◌%◌, ◌≤◌, ◌&&◌, ◌⊎◌, inl, inr, None, ◌≡◌, ℕ, ◌+◌, ◌^◌, ◌<◌, Bool, true, false, List, [], ◌∷◌, Option, Some, refl, sym, ap, ◌∙◌, subst, arith, if◌then◌else◌, not, ◌==◌}
+use Rattle.std.proofs.lemmas.Bool.{and_parts, cases_Bool, false≢true, le-leb, lt-ltb}
 use Rattle.rv_word.specs.declared.instr.Cond.{Cond}
 use Rattle.rv_word.specs.declared.instr.Instr.{Instr}
 use Rattle.rv_mem.specs.Bytes.{address_after}
-use Rattle.rv_step.specs.State.{past, with_pc}
+use Rattle.rv_step.specs.State.{even_of, past, with_pc}
 use Rattle.rv_word.specs.declared.instr.Instr.TheVariants.{Op, OpImm, Load, Store, Branch, Jal, Jalr, Lui, Auipc, Fence, Ecall, Ebreak}
 use Rattle.rv_word.specs.Spelling.{InRange, offset_by}
-use Rattle.rv_step.specs.Step.{is_taken}
+use Rattle.rv_step.specs.Step.{is_taken, word}
+use Rattle.sfi_formats.specs.Formats.{unit}
 use Rattle.sfi_image.specs.Spelling.{Part}
 use Rattle.sfi_translate.specs.Lines.{Line, Function, End, Entry, Head, Does}
-use Rattle.sfi_translate.specs.Machine.{Assembly, Before, ControlPoint, Going, Loop, Lost, fixed, Slow, before_or, goes, goes_with, is_short, jumps, label, line_step, one_less}
-use Rattle.x86_step.specs.State.{Core, Machine, Text, with_register}
+use Rattle.sfi_translate.specs.Machine.{Assembly, Before, ControlPoint, Going, Loop, Lost, fixed, Slow, at_head, before_or, enters, goes, goes_with, is_short, jumps, label, line_step, one_less}
+use Rattle.x86_step.specs.State.{Core, Fixup, Machine, Text, with_register}
 use Rattle.x86_instr.specs.declared.instr.Instr.{Instr as Native}
 use Rattle.x86_instr.specs.declared.instr.Instr.TheVariants.{Jcc}
 use Rattle.x86_instr.specs.declared.instr.Width.TheVariants.{Dword}
@@ -20,17 +21,25 @@ unfoldable use Rattle.x86_instr.specs.Spelling.{rex, spelling}
 unfoldable use Rattle.x86_step.specs.Step.{computes}
 use Rattle.x86_step.specs.Step.{low, Reaches, is_canonical, jumped, stay}
 use Rattle.x86_step.specs.Running.{HasAt, spellings}
+use Rattle.sfi_native.specs.declared.registers.RegisterMap.{RegisterMap}
 use Rattle.sfi_native.specs.declared.jump.Jump.{Jump}
 use Rattle.sfi_native.specs.declared.layout.Layout.{Layout}
 use Rattle.sfi_native.specs.Layout.{IsRelated, value}
-use Rattle.sfi_native.specs.Laws.{Accesses, Follows, IsBefore, IsCovered, IsJump, IsReady, is_slow, jump_place, LeadsTo, PlacedLinesRun, end_of}
-use Rattle.sfi_native.specs.Places.{AreLast, IsAtPlace, code_of, distance_out, distances, end_address, exit_of, is_direct, jump_of, placed, size_of_all, start, start_or_end, whole_code}
-use Rattle.sfi_native.specs.Code.{branch_line, compare_code, count, end_code, end_size, has_test, head_line, jal_line, jump_size, leave_line, number_code, opposite, tested_jump, unless}
+use Rattle.sfi_native.specs.Entries.{entry_of}
+use Rattle.sfi_native.specs.Table.{HasTable, LieInCode, is_unit_start}
+use Rattle.sfi_native.specs.Laws.{Accesses, Faults, Follows, IsBefore, IsCovered, IsJump, IsReady, is_slow, jalr_place, jump_place, LeadsTo, PlacedLinesRun, end_of}
+use Rattle.sfi_native.specs.Faults.{HasFixups, access_in, front_of}
+use Rattle.sfi_native.specs.declared.faults.Access.{Access}
+use Rattle.sfi_native.proofs.Fixups.{access_found, access_offset, within_line}
+use Rattle.sfi_native.proofs.Guarding.{faulting_lines_run}
+use Rattle.sfi_native.specs.Places.{AreLast, IsAt, IsAtPlace, code_of, distance_out, distances, end_address, exit_of, jump_of, placed, size_of, size_of_all, start, start_or_end, whole_code}
+use Rattle.sfi_native.specs.Code.{branch_line, compare_code, count, end_code, end_size, enter_size, has_test, head_line, indirect_jump, jal_line, jalr_line, jump_size, leave_line, number_code, opposite, start_size, target_code, tested_jump, unless}
 use Rattle.sfi_native.proofs.Heads.{Tests, head_tests, leaves}
+use Rattle.sfi_native.proofs.Indirect.{jalr_lines_run}
 use Rattle.sfi_native.proofs.Jumps.{branch_lines_run, jal_lines_run}
 use Rattle.sfi_native.proofs.Kept.{kept_register, others_kept, others_same}
-use Rattle.sfi_native.proofs.Fetching.{related_kept}
-use Rattle.sfi_native.proofs.Lists.{tested_size}
+use Rattle.sfi_native.proofs.Fetching.{related_goes, related_kept}
+use Rattle.sfi_native.proofs.Lists.{indirect_size, tested_size}
 use Rattle.sfi_native.proofs.Lines.{computing_lines_run}
 use Rattle.sfi_native.proofs.Loads.{load_lines_run}
 use Rattle.sfi_native.proofs.Places.{code_size, label_canonical, exit_reached, label_last, label_reached, last_below, line_size, line_ends, line_stands}
@@ -43,21 +52,40 @@ same_lines : (rest to : List Line) → Before rest ≡ Before to → to ≡ rest
 same_lines rest to e = cc
 
 -- where a processor is after a jump
-jump_at : (base : ℕ) (code : List Line) (pc : ℕ) (m : Machine) (end exit label : ℕ) (tested short : Bool) (o : Option (List Line)) (to : ℕ)
+jump_at : (registers : RegisterMap) (base : ℕ) (code : List Line) (pc : ℕ) (m : Machine) (end exit label : ℕ) (tested short : Bool) (o : Option (List Line)) (to : ℕ)
     → ((rest : List Line) → o ≡ Some rest → AreLast code rest)
-    → jumped end label ≡ base + start_or_end code o → jumped end exit ≡ base + exit_of code
+    → jumped end label ≡ base + start_or_end registers code o → jumped end exit ≡ base + exit_of registers code
     → m.rip ≡ jumped end (if tested && short then exit else label) → (tested && short ≡ true → m.core.registers 2 ≡ to) → to ≡ pc
     → IsCovered (if tested then (if short then Slow else before_or Lost o) else before_or Lost o)
-    → IsAtPlace base code (if tested then (if short then Slow else before_or Lost o) else before_or Lost o) pc m
-jump_at base code pc m end exit label true true o to last near out rip edx pc_is covered = (rip ∙ out, edx refl ∙ pc_is)
-jump_at base code pc m end exit label true false (Some rest) to last near out rip edx pc_is covered = (rip ∙ near, last rest refl)
-jump_at base code pc m end exit label false short (Some rest) to last near out rip edx pc_is covered = (rip ∙ near, last rest refl)
-jump_at base code pc m end exit label true false None to last near out rip edx pc_is covered = absurd covered
-jump_at base code pc m end exit label false short None to last near out rip edx pc_is covered = absurd covered
+    → IsAtPlace registers base code (if tested then (if short then Slow else before_or Lost o) else before_or Lost o) pc m
+jump_at registers base code pc m end exit label true true o to last near out rip edx pc_is covered = (rip ∙ out, edx refl ∙ pc_is)
+jump_at registers base code pc m end exit label true false (Some rest) to last near out rip edx pc_is covered = (rip ∙ near, last rest refl)
+jump_at registers base code pc m end exit label false short (Some rest) to last near out rip edx pc_is covered = (rip ∙ near, last rest refl)
+jump_at registers base code pc m end exit label true false None to last near out rip edx pc_is covered = absurd covered
+jump_at registers base code pc m end exit label false short None to last near out rip edx pc_is covered = absurd covered
+
+-- where it is after a jump to an address in edx
+entered_at : (registers : RegisterMap) (base : ℕ) (code : List Line) (to : ℕ) (m : Machine) (end exit : ℕ) (short whole start : Bool) (o : Option (List Line))
+    → ((rest : List Line) → o ≡ Some rest → AreLast code rest) → jumped end exit ≡ base + exit_of registers code
+    → m.rip ≡ (if short then jumped end exit else if start then base + entry_of registers code o else jumped end exit) → m.core.registers 2 ≡ to
+    → (start ≡ true → whole ≡ true) → (whole ≡ true → start ≡ false → (rest : List Line) → o ≡ Some rest → ⊥)
+    → IsAtPlace registers base code (if short then Slow else (if not whole then Slow else before_or Slow o)) to m
+entered_at registers base code to m end exit true whole start o last out rip edx starts within = (rip ∙ out, edx)
+entered_at registers base code to m end exit false true true (Some rest) last out rip edx starts within = (rip, last rest refl)
+entered_at registers base code to m end exit false true true None last out rip edx starts within = (rip, edx)
+entered_at registers base code to m end exit false true false (Some rest) last out rip edx starts within = absurd (within refl refl rest refl)
+entered_at registers base code to m end exit false true false None last out rip edx starts within = (rip ∙ out, edx)
+entered_at registers base code to m end exit false false true o last out rip edx starts within = absurd (false≢true (starts refl))
+entered_at registers base code to m end exit false false false o last out rip edx starts within = (rip ∙ out, edx)
 
 of_done : (done : Bool) (one other : Going) (to : List Line) → done ≡ true → (if done then one else other).place ≡ Before to → one.place ≡ Before to
 of_done true one other to is e = e
 of_done false one other to is e = absurd (false≢true is)
+
+-- what isn't done leads to a slow step
+not_before : (done : Bool) (one other : Going) (to : List Line) → done ≡ false → other.place ≡ Slow → (if done then one else other).place ≡ Before to → ⊥
+not_before true one other to is slow e = false≢true (sym is)
+not_before false one other to is slow e = let clash : Slow ≡ Before to = sym slow ∙ e in cc
 
 -- what is done leads to lines
 not_slow : (done : Bool) (one other : Going) (rest : List Line) → done ≡ true → one.place ≡ Before rest → (if done then one else other).place ≡ Slow → ⊥
@@ -67,42 +95,32 @@ not_slow false one other rest is before e = absurd (false≢true is)
 abbrev is_jump_line : Instr → Bool
 is_jump_line (Branch cond rs1 rs2 offset) = true
 is_jump_line (Jal rd offset) = true
+is_jump_line (Jalr rd rs1 imm) = true
 is_jump_line i = false
+
+slow_result : (done : Bool) (one other : Going) → done ≡ false → (if done then one else other) ≡ other
+slow_result true one other is = absurd (false≢true (sym is))
+slow_result false one other is = refl
 
 -- no line but a jump leads to the loop
 neither : (done : Bool) (one other : Going) (rest : List Line) → one.place ≡ Before rest → other.place ≡ Slow → (if done then one else other).place ≡ Loop → ⊥
 neither true one other rest a b e = let clash : Before rest ≡ Loop = sym a ∙ e in cc
 neither false one other rest a b e = let clash : Slow ≡ Loop = sym b ∙ e in cc
 
-no_loop : (p : Part) (code rest : List Line) (g : Going) (address n : ℕ) (i : Instr) → is_direct i ≡ true → is_jump_line i ≡ false
+no_loop : (p : Part) (code rest : List Line) (g : Going) (address n : ℕ) (i : Instr) → is_jump_line i ≡ false
     → (line_step Assembly p code (Does address n i ∷ rest) g).place ≡ Loop → ⊥
-no_loop p code rest g address n (Load kind rd rs1 imm) has none e = neither _ _ _ rest refl refl e
-no_loop p code rest g address n (Store width rs1 rs2 imm) has none e = neither _ _ _ rest refl refl e
-no_loop p code rest g address n (Jalr rd rs1 imm) has none e = absurd (false≢true has)
-no_loop p code rest g address n (Branch cond rs1 rs2 offset) has none e = absurd (false≢true (sym none))
-no_loop p code rest g address n (Jal rd offset) has none e = absurd (false≢true (sym none))
-no_loop p code rest g address n Ecall has none e = absurd (cc)
-no_loop p code rest g address n Ebreak has none e = absurd (cc)
-no_loop p code rest g address n (Op op rd rs1 rs2) has none e = absurd (cc)
-no_loop p code rest g address n (OpImm op rd rs1 imm) has none e = absurd (cc)
-no_loop p code rest g address n (Lui rd imm) has none e = absurd (cc)
-no_loop p code rest g address n (Auipc rd imm) has none e = absurd (cc)
-no_loop p code rest g address n (Fence imm rd rs1) has none e = absurd (cc)
-
--- where the turn is doesn't matter
-related_goes : (p : Part) (l : Layout) (g : Going) (c : Core) (place : ControlPoint) (pc : ℕ) → IsRelated p l g c → IsRelated p l (goes_with g place pc) c
-related_goes p l g c place pc is = record {
-  register_count = is.register_count;
-  words = is.words;
-  registers = is.registers;
-  frame = is.frame;
-  frame_is_written = is.frame_is_written;
-  few = is.few;
-  left = is.left;
-  bytes = is.bytes;
-  bytes_are_written = is.bytes_are_written;
-  origin_is = is.origin_is;
-}
+no_loop p code rest g address n (Load kind rd rs1 imm) none e = neither _ _ _ rest refl refl e
+no_loop p code rest g address n (Store width rs1 rs2 imm) none e = neither _ _ _ rest refl refl e
+no_loop p code rest g address n (Jalr rd rs1 imm) none e = absurd (false≢true (sym none))
+no_loop p code rest g address n (Branch cond rs1 rs2 offset) none e = absurd (false≢true (sym none))
+no_loop p code rest g address n (Jal rd offset) none e = absurd (false≢true (sym none))
+no_loop p code rest g address n Ecall none e = absurd (cc)
+no_loop p code rest g address n Ebreak none e = absurd (cc)
+no_loop p code rest g address n (Op op rd rs1 rs2) none e = absurd (cc)
+no_loop p code rest g address n (OpImm op rd rs1 imm) none e = absurd (cc)
+no_loop p code rest g address n (Lui rd imm) none e = absurd (cc)
+no_loop p code rest g address n (Auipc rd imm) none e = absurd (cc)
+no_loop p code rest g address n (Fence imm rd rs1) none e = absurd (cc)
 
 -- the lines behind
 tail_last : (code rest : List Line) (line : Line) → AreLast code (line ∷ rest) → AreLast code rest
@@ -123,100 +141,115 @@ tested_long j = elim (cases_Bool (has_test j)) [
   | inr e ↦ omega (arith, tested_size j ∙ ap (λ t. if t then 20 else 5) e)
 ]
 
-branch_long : (cond : Cond) (rs1 rs2 : ℕ) (j : Jump) → jump_size ≤ length (spellings (branch_line cond rs1 rs2 j))
-branch_long cond rs1 rs2 j =
-    long_behind (compare_code rs1 rs2) (unless (opposite cond) (tested_jump j)) (long_behind (Jcc (opposite cond) (length (spellings (tested_jump j))) ∷ []) (tested_jump j) (tested_long j))
+branch_long : (registers : RegisterMap) (cond : Cond) (rs1 rs2 : ℕ) (j : Jump) → jump_size ≤ length (spellings (branch_line registers cond rs1 rs2 j))
+branch_long registers cond rs1 rs2 j =
+    long_behind (compare_code registers rs1 rs2) (unless (opposite cond) (tested_jump j)) (long_behind (Jcc (opposite cond) (length (spellings (tested_jump j))) ∷ []) (tested_jump j) (tested_long j))
 
-jal_long : (rd next : ℕ) (j : Jump) → jump_size ≤ length (spellings (jal_line rd next j))
-jal_long rd next j = long_behind (number_code rd next ++ count) (tested_jump j) (tested_long j)
+jalr_long : (registers : RegisterMap) (rd rs1 displacement next distance : ℕ) → start_size + enter_size ≤ length (spellings (jalr_line registers rd rs1 displacement next distance))
+jalr_long registers rd rs1 displacement next distance =
+    let front = target_code registers rs1 displacement ++ (number_code registers rd next ++ count) in
+    omega (arith, indirect_size distance, ap length (spellings_append front (indirect_jump distance)), length-append (spellings front) (spellings (indirect_jump distance)))
+
+jal_long : (registers : RegisterMap) (rd next : ℕ) (j : Jump) → jump_size ≤ length (spellings (jal_line registers rd next j))
+jal_long registers rd next j = long_behind (number_code registers rd next ++ count) (tested_jump j) (tested_long j)
 
 -- the end is ahead, and the line before it
-out_ahead : (code rest : List Line) (line : Line) → AreLast code (line ∷ rest) → exit_of code < 2 ^ 31 → jump_size ≤ length (spellings (placed code rest line))
-    → distance_out code rest + jump_size < 2 ^ 31
-out_ahead code rest line last few long =
-    omega (arith, few, long, line_size (distances code rest) (distance_out code rest) line, last_below code (line ∷ rest) last)
+out_ahead : (registers : RegisterMap) (code rest : List Line) (line : Line) (size : ℕ) → AreLast code (line ∷ rest) → exit_of registers code < 2 ^ 31 → size ≤ length (spellings (placed registers code rest line))
+    → distance_out registers code rest + size < 2 ^ 31
+out_ahead registers code rest line size last few long =
+    omega (arith, few, long, line_size registers (distances registers code rest) (distance_out registers code rest) line, last_below registers code (line ∷ rest) last)
 
-module _ (p : Part) (code rest to : List Line) (l : Layout) (t : Text) (base : ℕ) (g : Going) (c : Core) (here : IsBefore (whole_code (end_address p) code) t base p l g c) (few : exit_of code < 2 ^ 31) where
-  whole_size : length (spellings (whole_code (end_address p) code)) ≡ exit_of code
+module _ (p : Part) (code rest to : List Line) (l : Layout) (t : Text) (base : ℕ) (g : Going) (c : Core) (here : IsBefore (whole_code l.registers (end_address p) code) t base p l g c) (few : exit_of l.registers code < 2 ^ 31) (fixups : HasFixups l.registers t base code) (lie : LieInCode p code) (has : HasTable p l base code c) where
+  whole_size : length (spellings (whole_code l.registers (end_address p) code)) ≡ exit_of l.registers code
   whole_size =
-      omega (arith, end_length (end_address p), code_size code code, ap length (spellings_append (code_of code code) (end_code (end_address p))), length-append (spellings (code_of code code)) (spellings (end_code (end_address p))))
+      omega (arith, end_length (end_address p), code_size l.registers code code, ap length (spellings_append (code_of l.registers code code) (end_code (end_address p))), length-append (spellings (code_of l.registers code code)) (spellings (end_code (end_address p))))
 
-  parts : HasAt t base (spellings (code_of code code) ++ spellings (end_code (end_address p)))
-  parts = subst (λ bytes. HasAt t base bytes) (spellings_append (code_of code code) (end_code (end_address p))) here.stands
+  parts : HasAt t base (spellings (code_of l.registers code code) ++ spellings (end_code (end_address p)))
+  parts = subst (λ bytes. HasAt t base bytes) (spellings_append (code_of l.registers code code) (end_code (end_address p))) here.stands
 
-  lines_stand : HasAt t base (spellings (code_of code code))
-  lines_stand = has_front t base (spellings (code_of code code)) (spellings (end_code (end_address p))) parts
+  lines_stand : HasAt t base (spellings (code_of l.registers code code))
+  lines_stand = has_front t base (spellings (code_of l.registers code code)) (spellings (end_code (end_address p))) parts
 
-  few_lines : size_of_all code < 2 ^ 31
+  few_lines : size_of_all l.registers code < 2 ^ 31
   few_lines = omega (arith, few)
 
-  low_end : base + exit_of code < 2 ^ 47
-  low_end = omega (arith, here.text_is_low, bytes_end t base (spellings (whole_code (end_address p) code)) here.stands, whole_size)
+  low_end : base + exit_of l.registers code < 2 ^ 47
+  low_end = omega (arith, here.text_is_low, bytes_end t base (spellings (whole_code l.registers (end_address p) code)) here.stands, whole_size)
 
-  low_lines : base + size_of_all code < 2 ^ 47
+  low_lines : base + size_of_all l.registers code < 2 ^ 47
   low_lines = omega (arith, low_end)
 
   module _ (line : Line) (last : AreLast code (line ∷ rest)) where
     abbrev place : ℕ
-    place = base + start code (line ∷ rest)
+    place = base + start l.registers code (line ∷ rest)
 
-    own : IsBefore (placed code rest line) t place p l g c
+    own : IsBefore (placed l.registers code rest line) t place p l g c
     own = record {
       layout = here.layout;
       text_is_fixed = here.text_is_fixed;
       text_is_low = here.text_is_low;
-      stands = line_stands t code base lines_stand line rest last;
+      stands = line_stands l.registers t code base lines_stand line rest last;
       related = here.related;
+      guards = here.guards;
     }
 
-    ends : end_of place (placed code rest line) ≡ base + start code rest
-    ends = line_ends t code base lines_stand line rest last
+    ends : end_of place (placed l.registers code rest line) ≡ base + start l.registers code rest
+    ends = line_ends l.registers t code base lines_stand line rest last
 
     -- to the next line
-    on : (k : Going) → LeadsTo t place (end_of place (placed code rest line)) p l c k → Before rest ≡ Before to → LeadsTo t place (base + start code to) p l c k × AreLast code to
+    on : (k : Going) → LeadsTo t place (end_of place (placed l.registers code rest line)) p l c k → Before rest ≡ Before to → LeadsTo t place (base + start l.registers code to) p l c k × AreLast code to
     on k leads e =
-        (subst (λ a. LeadsTo t place a p l c k) (ends ∙ ap (λ r. base + start code r) (sym (same_lines rest to e))) leads, subst (λ r. AreLast code r) (sym (same_lines rest to e)) (tail_last code rest line last))
+        (subst (λ a. LeadsTo t place a p l c k) (ends ∙ ap (λ r. base + start l.registers code r) (sym (same_lines rest to e))) leads, subst (λ r. AreLast code r) (sym (same_lines rest to e)) (tail_last code rest line last))
 
     abbrev line_end : ℕ
-    line_end = end_of place (placed code rest line)
+    line_end = end_of place (placed l.registers code rest line)
 
-    label_is : (target : ℕ) → jumped line_end (distances code rest target) ≡ base + start_or_end code (label target code)
-    label_is target = ap (λ a. jumped a (distances code rest target)) ends ∙ label_reached base code rest target few_lines low_lines
+    label_is : (target : ℕ) → jumped line_end (distances l.registers code rest target) ≡ base + start_or_end l.registers code (label target code)
+    label_is target = ap (λ a. jumped a (distances l.registers code rest target)) ends ∙ label_reached l.registers base code rest target few_lines low_lines
 
-    exit_is : jumped line_end (distance_out code rest) ≡ base + exit_of code
-    exit_is = ap (λ a. jumped a (distance_out code rest)) ends ∙ exit_reached base code rest few low_end
+    exit_is : jumped line_end (distance_out l.registers code rest) ≡ base + exit_of l.registers code
+    exit_is = ap (λ a. jumped a (distance_out l.registers code rest)) ends ∙ exit_reached l.registers base code rest few low_end
 
     -- a jump
-    is_jump : (address target : ℕ) → jump_size ≤ length (spellings (placed code rest line)) → IsJump line_end (jump_of (distances code rest) (distance_out code rest) address target)
+    is_jump : (address target : ℕ) → jump_size ≤ length (spellings (placed l.registers code rest line)) → IsJump line_end (jump_of (distances l.registers code rest) (distance_out l.registers code rest) address target)
     is_jump address target long = record {
-      ahead = out_ahead code rest line last few long;
-      exit = ap is_canonical exit_is ∙ low_canonical (base + exit_of code) low_end;
-      label = ap (λ a. is_canonical (jumped a (distances code rest target))) ends ∙ label_canonical base code rest target few_lines low_lines;
+      ahead = out_ahead l.registers code rest line jump_size last few long;
+      exit = ap is_canonical exit_is ∙ low_canonical (base + exit_of l.registers code) low_end;
+      label = ap (λ a. is_canonical (jumped a (distances l.registers code rest target))) ends ∙ label_canonical l.registers base code rest target few_lines low_lines;
     }
 
     jump_arrives : (address target : ℕ) (pc left : ℕ) (after : Core)
-        → (is_slow (jump_of (distances code rest) (distance_out code rest) address target) left ≡ true → after.registers 2 ≡ target) → target ≡ pc
+        → (is_slow (jump_of (distances l.registers code rest) (distance_out l.registers code rest) address target) left ≡ true → after.registers 2 ≡ target) → target ≡ pc
         → IsCovered (jumps Assembly code address target left)
-        → IsAtPlace base code (jumps Assembly code address target left) pc (record { rip = jump_place line_end (jump_of (distances code rest) (distance_out code rest) address target) left; core = after })
+        → IsAtPlace l.registers base code (jumps Assembly code address target left) pc (record { rip = jump_place line_end (jump_of (distances l.registers code rest) (distance_out l.registers code rest) address target) left; core = after })
     jump_arrives address target pc left after edx pc_is covered =
-        let j = jump_of (distances code rest) (distance_out code rest) address target in
-        jump_at base code pc (record { rip = jump_place line_end j left; core = after }) line_end j.exit j.label (has_test j) (is_short Assembly left) (label target code) target
+        let j = jump_of (distances l.registers code rest) (distance_out l.registers code rest) address target in
+        jump_at l.registers base code pc (record { rip = jump_place line_end j left; core = after }) line_end j.exit j.label (has_test j) (is_short Assembly left) (label target code) target
         (λ lines e. label_last target code lines e) (label_is target) exit_is refl edx pc_is covered
 
     -- a branch, taken or not
     branch_arrives : (taken : Bool) (address n target : ℕ) (left : ℕ) (after : Core)
-        → (taken ≡ true → is_slow (jump_of (distances code rest) (distance_out code rest) address target) left ≡ true → after.registers 2 ≡ target)
+        → (taken ≡ true → is_slow (jump_of (distances l.registers code rest) (distance_out l.registers code rest) address target) left ≡ true → after.registers 2 ≡ target)
         → IsCovered (if taken then jumps Assembly code address target left else Before rest)
-        → IsAtPlace base code (if taken then jumps Assembly code address target left else Before rest)
+        → IsAtPlace l.registers base code (if taken then jumps Assembly code address target left else Before rest)
         (if taken then with_pc (with_pc (fixed p g.state.hart) address) target else past (with_pc (fixed p g.state.hart) address) n).pc
-        (record { rip = if taken then jump_place line_end (jump_of (distances code rest) (distance_out code rest) address target) left else line_end; core = after })
+        (record { rip = if taken then jump_place line_end (jump_of (distances l.registers code rest) (distance_out l.registers code rest) address target) left else line_end; core = after })
     branch_arrives true address n target left after edx covered = jump_arrives address target target left after (edx refl) refl covered
     branch_arrives false address n target left after edx covered = (ends, tail_last code rest line last)
 
+    -- a jalr, to its entry or out
+    jalr_arrives : (address to left : ℕ) (after : Core) → after.registers 2 ≡ to → LieInCode p code
+        → IsAtPlace l.registers base code (at_head Assembly left (enters Assembly p code address to)) to
+        (record { rip = jalr_place l.registers p code base line_end (distance_out l.registers code rest) to left; core = after })
+    jalr_arrives address to left after edx lie = entered_at l.registers base code to (record { rip = jalr_place l.registers p code base line_end (distance_out l.registers code rest) to left; core = after }) line_end (distance_out l.registers code rest) (is_short Assembly left) (to % unit p.format == 0) (is_unit_start p to) (label to code)
+        (λ lines e. label_last to code lines e) exit_is refl edx
+        (λ is. (and_parts _ _ (and_parts _ _ is).1).1)
+        (λ whole other lines e. let at = lie.labels to lines e in false≢true (sym other ∙ (rw (le-leb p.code_base to at.0, lt-ltb to (p.code_base + length p.code) at.1, whole) refl)))
+
     -- a line without code
-    nothing : placed code rest line ≡ [] → Before rest ≡ Before to → LeadsTo t place (base + start code to) p l c (goes g (Before rest)) × AreLast code to
+    nothing : placed l.registers code rest line ≡ [] → Before rest ≡ Before to → LeadsTo t place (base + start l.registers code to) p l c (goes g (Before rest)) × AreLast code to
     nothing none e =
-        let z : end_of place (placed code rest line) ≡ place = ap (end_of place) none ∙ omega arith in
+        let z : end_of place (placed l.registers code rest line) ≡ place = ap (end_of place) none ∙ omega arith in
         on (goes g (Before rest)) (subst (λ a. LeadsTo t place a p l c (goes g (Before rest))) (sym z) (record {
           after = c;
           reached = record { fixed = here.text_is_fixed; steps = stay _ };
@@ -225,13 +258,13 @@ module _ (p : Part) (code rest to : List Line) (l : Layout) (t : Text) (base : �
         })) e
 
   -- the end's code
-  end_runs : Follows t p l base code (record { rip = base + size_of_all code; core = c }) (goes_with g Loop (end_address p))
+  end_runs : Follows t p l base code (record { rip = base + size_of_all l.registers code; core = c }) (goes_with g Loop (end_address p))
   unfolding computes
   end_runs =
       let d = with_register c 2 (end_address p) in
-      let at = base + size_of_all code in
-      let from : base + length (spellings (code_of code code)) ≡ at = ap (λ n. base + n) (code_size code code) in
-      let own = subst (λ a. HasAt t a (spellings (end_code (end_address p)))) from (has_back t base (spellings (code_of code code)) (spellings (end_code (end_address p))) parts) in
+      let at = base + size_of_all l.registers code in
+      let from : base + length (spellings (code_of l.registers code code)) ≡ at = ap (λ n. base + n) (code_size l.registers code code) in
+      let own = subst (λ a. HasAt t a (spellings (end_code (end_address p)))) from (has_back t base (spellings (code_of l.registers code code)) (spellings (end_code (end_address p))) parts) in
       let runs = straight_runs (end_code (end_address p)) c d refl refl t at here.text_is_fixed here.text_is_low own in
       record {
         after = record { rip = end_of at (end_code (end_address p)); core = d };
@@ -243,42 +276,44 @@ module _ (p : Part) (code rest to : List Line) (l : Layout) (t : Text) (base : �
         others = others_kept p l c d (kept_register c 2 (end_address p) (omega arith));
       }
 
-  instruction : (address n : ℕ) (i : Instr) → AreLast code (Does address n i ∷ rest) → is_direct i ≡ true → InRange i → Accesses p g i → is_jump_line i ≡ false
+  instruction : (address n : ℕ) (i : Instr) → AreLast code (Does address n i ∷ rest) → InRange i → Accesses p g i → is_jump_line i ≡ false
       → (line_step Assembly p code (Does address n i ∷ rest) g).place ≡ Before to
-      → LeadsTo t (base + start code (Does address n i ∷ rest)) (base + start code to) p l c (line_step Assembly p code (Does address n i ∷ rest) g) × AreLast code to
-  instruction address n (Op op rd rs1 rs2) last has range asked moves e =
+      → LeadsTo t (base + start l.registers code (Does address n i ∷ rest)) (base + start l.registers code to) p l c (line_step Assembly p code (Does address n i ∷ rest) g) × AreLast code to
+  instruction address n (Op op rd rs1 rs2) last range asked moves e =
       on (Does address n (Op op rd rs1 rs2)) last _ (computing_lines_run Assembly p code rest address n (Op op rd rs1 rs2) l t _ g c refl range (own (Does address n (Op op rd rs1 rs2)) last)) e
-  instruction address n (OpImm op rd rs1 imm) last has range asked moves e =
+  instruction address n (OpImm op rd rs1 imm) last range asked moves e =
       on (Does address n (OpImm op rd rs1 imm)) last _ (computing_lines_run Assembly p code rest address n (OpImm op rd rs1 imm) l t _ g c refl range (own (Does address n (OpImm op rd rs1 imm)) last)) e
-  instruction address n (Lui rd imm) last has range asked moves e =
+  instruction address n (Lui rd imm) last range asked moves e =
       on (Does address n (Lui rd imm)) last _ (computing_lines_run Assembly p code rest address n (Lui rd imm) l t _ g c refl range (own (Does address n (Lui rd imm)) last)) e
-  instruction address n (Auipc rd imm) last has range asked moves e =
+  instruction address n (Auipc rd imm) last range asked moves e =
       on (Does address n (Auipc rd imm)) last _ (computing_lines_run Assembly p code rest address n (Auipc rd imm) l t _ g c refl range (own (Does address n (Auipc rd imm)) last)) e
-  instruction address n (Fence imm rd rs1) last has range asked moves e =
+  instruction address n (Fence imm rd rs1) last range asked moves e =
       on (Does address n (Fence imm rd rs1)) last _ (computing_lines_run Assembly p code rest address n (Fence imm rd rs1) l t _ g c refl range (own (Does address n (Fence imm rd rs1)) last)) e
-  instruction address n (Load kind rd rs1 imm) last has range asked moves e =
+  instruction address n (Load kind rd rs1 imm) last range (inl asked) moves e =
       on (Does address n (Load kind rd rs1 imm)) last _
       (load_lines_run Assembly p code rest address n kind rd rs1 imm l t _ g c range asked.0 asked.1 asked.2 (own (Does address n (Load kind rd rs1 imm)) last))
       (of_done _ _ _ to asked.0.tested e)
-  instruction address n (Store width rs1 rs2 imm) last has range asked moves e =
+  instruction address n (Load kind rd rs1 imm) last range (inr faults) moves e = absurd (not_before _ _ _ to faults.tested refl e)
+  instruction address n (Store width rs1 rs2 imm) last range (inl asked) moves e =
       on (Does address n (Store width rs1 rs2 imm)) last _
       (store_lines_run Assembly p code rest address n width rs1 rs2 imm l t _ g c range asked.0 asked.1 (own (Does address n (Store width rs1 rs2 imm)) last))
       (of_done _ _ _ to asked.0.tested e)
-  instruction address n (Branch cond rs1 rs2 offset) last has range asked moves e = absurd (false≢true (sym moves))
-  instruction address n (Jal rd offset) last has range asked moves e = absurd (false≢true (sym moves))
-  instruction address n Ecall last has range asked moves e = absurd (cc)
-  instruction address n Ebreak last has range asked moves e = absurd (cc)
-  instruction address n i last has range asked moves e = absurd (false≢true has)
+  instruction address n (Store width rs1 rs2 imm) last range (inr faults) moves e = absurd (not_before _ _ _ to faults.tested refl e)
+  instruction address n (Branch cond rs1 rs2 offset) last range asked moves e = absurd (false≢true (sym moves))
+  instruction address n (Jal rd offset) last range asked moves e = absurd (false≢true (sym moves))
+  instruction address n Ecall last range asked moves e = absurd (cc)
+  instruction address n Ebreak last range asked moves e = absurd (cc)
+  instruction address n (Jalr rd rs1 imm) last range asked moves e = absurd (false≢true (sym moves))
 
   -- a jump, to a label or out
   jump_runs : (address n : ℕ) (i : Instr) → AreLast code (Does address n i ∷ rest) → InRange i → one_less g.left < 2 ^ 31 → is_jump_line i ≡ true
       → IsCovered (line_step Assembly p code (Does address n i ∷ rest) g).place
-      → Follows t p l base code (record { rip = base + start code (Does address n i ∷ rest); core = c }) (line_step Assembly p code (Does address n i ∷ rest) g)
+      → Follows t p l base code (record { rip = base + start l.registers code (Does address n i ∷ rest); core = c }) (line_step Assembly p code (Does address n i ∷ rest) g)
   jump_runs address n (Branch cond rs1 rs2 offset) last range few_left is covered =
       let line = Does address n (Branch cond rs1 rs2 offset) in
       let target = offset_by address offset in
-      let j = jump_of (distances code rest) (distance_out code rest) address target in
-      let leads = branch_lines_run Assembly p code rest address n cond rs1 rs2 offset j l t _ g c range few_left (is_jump line last address target (branch_long cond rs1 rs2 j)) (own line last) in
+      let j = jump_of (distances l.registers code rest) (distance_out l.registers code rest) address target in
+      let leads = branch_lines_run Assembly p code rest address n cond rs1 rs2 offset j l t _ g c range few_left (is_jump line last address target (branch_long l.registers cond rs1 rs2 j)) (own line last) in
       record {
         after = record { rip = _; core = leads.0.after };
         reached = leads.0.reached;
@@ -291,61 +326,102 @@ module _ (p : Part) (code rest to : List Line) (l : Layout) (t : Text) (base : �
   jump_runs address n (Jal rd offset) last range few_left is covered =
       let line = Does address n (Jal rd offset) in
       let target = offset_by address offset in
-      let j = jump_of (distances code rest) (distance_out code rest) address target in
-      let leads = jal_lines_run Assembly p code rest address n rd offset j l t _ g c range few_left (is_jump line last address target (jal_long rd (address_after address n) j)) (own line last) in
+      let j = jump_of (distances l.registers code rest) (distance_out l.registers code rest) address target in
+      let leads = jal_lines_run Assembly p code rest address n rd offset j l t _ g c range few_left (is_jump line last address target (jal_long l.registers rd (address_after address n) j)) (own line last) in
       record {
         after = record { rip = _; core = leads.0.after };
         reached = leads.0.reached;
         alike = record { related = leads.0.related; is_at = jump_arrives line last address target target (one_less g.left) leads.0.after leads.1 refl covered };
         others = leads.0.others;
       }
+  jump_runs address n (Jalr rd rs1 imm) last range few_left is covered =
+      let line = Does address n (Jalr rd rs1 imm) in
+      let to = even_of (offset_by (value p g rs1) imm) in
+      let out = distance_out l.registers code rest in
+      let ahead = out_ahead l.registers code rest line (start_size + enter_size) last few (jalr_long l.registers rd rs1 (word imm) (address_after address n) out) in
+      let canonical : is_canonical (jumped (line_end line last) out) ≡ true = ap is_canonical (exit_is line last) ∙ low_canonical (base + exit_of l.registers code) low_end in
+      let leads = jalr_lines_run Assembly p code rest address n rd rs1 imm out base l t _ g c range few_left ahead canonical low_end lie has (own line last) in
+      record {
+        after = record { rip = _; core = leads.0.after };
+        reached = leads.0.reached;
+        alike = record { related = leads.0.related; is_at = jalr_arrives line last address to (one_less g.left) leads.0.after leads.1 lie };
+        others = leads.0.others;
+      }
   jump_runs address n i last range few_left is covered = absurd (false≢true is)
 
   -- a line that goes out
-  left_by : (address : ℕ) (line : Line) → AreLast code (line ∷ rest) → placed code rest line ≡ leave_line address (distance_out code rest)
-      → Follows t p l base code (record { rip = base + start code (line ∷ rest); core = c }) (goes_with g Slow address)
+  left_by : (address : ℕ) (line : Line) → AreLast code (line ∷ rest) → placed l.registers code rest line ≡ leave_line address (distance_out l.registers code rest)
+      → Follows t p l base code (record { rip = base + start l.registers code (line ∷ rest); core = c }) (goes_with g Slow address)
   left_by address line last is =
-      let from = base + start code (line ∷ rest) in
-      let out = distance_out code rest in
-      let out_is : jumped (end_of from (leave_line address out)) out ≡ base + exit_of code =
-      ap (λ is. jumped (end_of from is) out) (sym is) ∙ ap (λ a. jumped a out) (ends line last) ∙ exit_reached base code rest few low_end in
+      let from = base + start l.registers code (line ∷ rest) in
+      let out = distance_out l.registers code rest in
+      let out_is : jumped (end_of from (leave_line address out)) out ≡ base + exit_of l.registers code =
+      ap (λ is. jumped (end_of from is) out) (sym is) ∙ ap (λ a. jumped a out) (ends line last) ∙ exit_reached l.registers base code rest few low_end in
       let before : IsBefore (leave_line address out) t from p l g c = subst (λ is. IsBefore is t from p l g c) is (own line last) in
-      let it = leaves p l t from address out g c before (ap is_canonical out_is ∙ low_canonical (base + exit_of code) low_end) in
+      let it = leaves p l t from address out g c before (ap is_canonical out_is ∙ low_canonical (base + exit_of l.registers code) low_end) in
       record { after = _; reached = it.reached; alike = record { related = related_goes p l g it.after Slow address it.related; is_at = (out_is, it.edx) }; others = it.others }
 
+  -- an access that faults
+  by_fixup : (address n : ℕ) (i : Instr) (a : Access) → AreLast code (Does address n i ∷ rest) → InRange i → Faults p g i
+      → access_in l.registers (Does address n i) ≡ Some a → (line_step Assembly p code (Does address n i ∷ rest) g ≡ goes_with g Slow a.pc)
+      → Follows t p l base code (record { rip = base + start l.registers code (Does address n i ∷ rest); core = c }) (line_step Assembly p code (Does address n i ∷ rest) g)
+  by_fixup address n i a last range faults has goes =
+      let line = Does address n i in
+      let from = base + start l.registers code (line ∷ rest) in
+      let next = line_step Assembly p code (line ∷ rest) g in
+      let f : Fixup = record { to = base + exit_of l.registers code; rdx = a.pc } in
+      let inside : a.offset < size_of l.registers line = within_line l.registers line a has in
+      let at : base + (start l.registers code (line ∷ rest) + a.offset) ≡ end_of from (front_of l.registers i) = ap (λ x. base + (start l.registers code (line ∷ rest) + x)) (access_offset l.registers address n i a has) ∙ omega arith in
+      let there : t.fixups (end_of from (front_of l.registers i)) ≡ Some f =
+      ap t.fixups (sym at) ∙ fixups _ (omega arith) (omega (arith, inside, last_below l.registers code (line ∷ rest) last)) ∙ access_found l.registers base (exit_of l.registers code) code rest line a has last in
+      let it = faulting_lines_run Assembly p code rest address n i (distances l.registers code rest) (distance_out l.registers code rest) f l t from g c range faults (own line last) there in
+      record {
+        after = record { rip = base + exit_of l.registers code; core = it.0.after };
+        reached = it.0.reached;
+        alike = record {
+          related = it.0.related;
+          is_at = subst (λ k. IsAt l.registers base code k (record { rip = base + exit_of l.registers code; core = it.0.after })) (sym goes) (refl, it.1);
+        };
+        others = it.0.others;
+      }
+
   -- a line that isn't a jump and leads to a slow step
-  slow_instruction : (address n : ℕ) (i : Instr) → AreLast code (Does address n i ∷ rest) → is_direct i ≡ true → Accesses p g i → is_jump_line i ≡ false
+  slow_instruction : (address n : ℕ) (i : Instr) → AreLast code (Does address n i ∷ rest) → InRange i → Accesses p g i → is_jump_line i ≡ false
       → (line_step Assembly p code (Does address n i ∷ rest) g).place ≡ Slow
-      → Follows t p l base code (record { rip = base + start code (Does address n i ∷ rest); core = c }) (line_step Assembly p code (Does address n i ∷ rest) g)
-  slow_instruction address n Ecall last has asked none e = left_by address (Does address n Ecall) last refl
-  slow_instruction address n Ebreak last has asked none e = left_by address (Does address n Ebreak) last refl
-  slow_instruction address n (Load kind rd rs1 imm) last has asked none e = absurd (not_slow _ _ _ rest asked.0.tested refl e)
-  slow_instruction address n (Store width rs1 rs2 imm) last has asked none e = absurd (not_slow _ _ _ rest asked.0.tested refl e)
-  slow_instruction address n (Jalr rd rs1 imm) last has asked none e = absurd (false≢true has)
-  slow_instruction address n (Branch cond rs1 rs2 offset) last has asked none e = absurd (false≢true (sym none))
-  slow_instruction address n (Jal rd offset) last has asked none e = absurd (false≢true (sym none))
-  slow_instruction address n (Op op rd rs1 rs2) last has asked none e = absurd (cc)
-  slow_instruction address n (OpImm op rd rs1 imm) last has asked none e = absurd (cc)
-  slow_instruction address n (Lui rd imm) last has asked none e = absurd (cc)
-  slow_instruction address n (Auipc rd imm) last has asked none e = absurd (cc)
-  slow_instruction address n (Fence imm rd rs1) last has asked none e = absurd (cc)
+      → Follows t p l base code (record { rip = base + start l.registers code (Does address n i ∷ rest); core = c }) (line_step Assembly p code (Does address n i ∷ rest) g)
+  slow_instruction address n Ecall last range asked none e = left_by address (Does address n Ecall) last refl
+  slow_instruction address n Ebreak last range asked none e = left_by address (Does address n Ebreak) last refl
+  slow_instruction address n (Load kind rd rs1 imm) last range (inl asked) none e = absurd (not_slow _ _ _ rest asked.0.tested refl e)
+  slow_instruction address n (Load kind rd rs1 imm) last range (inr faults) none e =
+      by_fixup address n (Load kind rd rs1 imm) _ last range faults refl (slow_result _ _ _ faults.tested)
+  slow_instruction address n (Store width rs1 rs2 imm) last range (inl asked) none e = absurd (not_slow _ _ _ rest asked.0.tested refl e)
+  slow_instruction address n (Store width rs1 rs2 imm) last range (inr faults) none e =
+      by_fixup address n (Store width rs1 rs2 imm) _ last range faults refl (slow_result _ _ _ faults.tested)
+  slow_instruction address n (Jalr rd rs1 imm) last range asked none e = absurd (false≢true (sym none))
+  slow_instruction address n (Branch cond rs1 rs2 offset) last range asked none e = absurd (false≢true (sym none))
+  slow_instruction address n (Jal rd offset) last range asked none e = absurd (false≢true (sym none))
+  slow_instruction address n (Op op rd rs1 rs2) last range asked none e = absurd (cc)
+  slow_instruction address n (OpImm op rd rs1 imm) last range asked none e = absurd (cc)
+  slow_instruction address n (Lui rd imm) last range asked none e = absurd (cc)
+  slow_instruction address n (Auipc rd imm) last range asked none e = absurd (cc)
+  slow_instruction address n (Fence imm rd rs1) last range asked none e = absurd (cc)
 
   -- a head, by the outcome of its test
   module _ (address : ℕ) (last : AreLast code (Head address ∷ rest)) (left : g.left < 2 ^ 31) where
     abbrev from : ℕ
-    from = base + start code (Head address ∷ rest)
+    from = base + start l.registers code (Head address ∷ rest)
 
     abbrev out : ℕ
-    out = distance_out code rest
+    out = distance_out l.registers code rest
 
-    out_is : jumped (end_of from (head_line address out)) out ≡ base + exit_of code
-    out_is = ap (λ a. jumped a out) (ends (Head address) last) ∙ exit_reached base code rest few low_end
+    out_is : jumped (end_of from (head_line address out)) out ≡ base + exit_of l.registers code
+    out_is = ap (λ a. jumped a out) (ends (Head address) last) ∙ exit_reached l.registers base code rest few low_end
 
     same : low Dword (c.registers 14) ≡ g.left % 2 ^ 31
     same = omega (arith, here.related.left, left)
 
     tests : Tests t from address out g.left c
-    tests = head_tests t from address out g.left c here.text_is_fixed here.text_is_low (own (Head address) last).stands same (ap is_canonical out_is ∙ low_canonical (base + exit_of code) low_end)
+    tests = head_tests t from address out g.left c here.text_is_fixed here.text_is_low (own (Head address) last).stands same (ap is_canonical out_is ∙ low_canonical (base + exit_of l.registers code) low_end)
 
     -- what it keeps
     tested : IsRelated p l g tests.after
@@ -371,39 +447,39 @@ led Slow covered = inr (inl refl)
 led Loop covered = inr (inr refl)
 led _ covered = absurd covered
 
-module _ (p : Part) (code rest : List Line) (l : Layout) (t : Text) (base : ℕ) (g : Going) (m : Machine) (here : IsBefore (whole_code (end_address p) code) t base p l g m.core) (few : exit_of code < 2 ^ 31) where
+module _ (p : Part) (code rest : List Line) (l : Layout) (t : Text) (base : ℕ) (g : Going) (m : Machine) (here : IsBefore (whole_code l.registers (end_address p) code) t base p l g m.core) (few : exit_of l.registers code < 2 ^ 31) (fixups : HasFixups l.registers t base code) (lie : LieInCode p code) (has : HasTable p l base code m.core) where
   abbrev start_of : Line → Machine
-  start_of line = record { rip = base + start code (line ∷ rest); core = m.core }
+  start_of line = record { rip = base + start l.registers code (line ∷ rest); core = m.core }
 
   -- what leads to lines leads on
-  leads_on : (line : Line) (to : List Line) (k : Going) → k.place ≡ Before to → LeadsTo t (base + start code (line ∷ rest)) (base + start code to) p l m.core k × AreLast code to
+  leads_on : (line : Line) (to : List Line) (k : Going) → k.place ≡ Before to → LeadsTo t (base + start l.registers code (line ∷ rest)) (base + start l.registers code to) p l m.core k × AreLast code to
       → Follows t p l base code (start_of line) k
   leads_on line to k e leads =
-      let n : Machine = record { rip = base + start code to; core = leads.0.after } in
-      record { after = n; reached = leads.0.reached; alike = record { related = leads.0.related; is_at = subst (λ place. IsAtPlace base code place k.state.hart.pc n) (sym e) (refl, leads.1) }; others = leads.0.others }
+      let n : Machine = record { rip = base + start l.registers code to; core = leads.0.after } in
+      record { after = n; reached = leads.0.reached; alike = record { related = leads.0.related; is_at = subst (λ place. IsAtPlace l.registers base code place k.state.hart.pc n) (sym e) (refl, leads.1) }; others = leads.0.others }
 
   line_runs : (line : Line) → AreLast code (line ∷ rest) → 0 < g.left → g.left < 2 ^ 31 → IsReady p g line → IsCovered (line_step Assembly p code (line ∷ rest) g).place
       → Follows t p l base code (start_of line) (line_step Assembly p code (line ∷ rest) g)
-  line_runs (Function sandbox at) last some below ready covered = leads_on (Function sandbox at) rest _ refl (nothing p code rest rest l t base g m.core here few (Function sandbox at) last refl refl)
-  line_runs (End at) last some below ready covered = leads_on (End at) rest _ refl (nothing p code rest rest l t base g m.core here few (End at) last refl refl)
-  line_runs (Entry at) last some below ready covered = leads_on (Entry at) rest _ refl (nothing p code rest rest l t base g m.core here few (Entry at) last refl refl)
+  line_runs (Function sandbox at) last some below ready covered = leads_on (Function sandbox at) rest _ refl (nothing p code rest rest l t base g m.core here few fixups lie has (Function sandbox at) last refl refl)
+  line_runs (End at) last some below ready covered = leads_on (End at) rest _ refl (nothing p code rest rest l t base g m.core here few fixups lie has (End at) last refl refl)
+  line_runs (Entry at) last some below ready covered = leads_on (Entry at) rest _ refl (nothing p code rest rest l t base g m.core here few fixups lie has (Entry at) last refl refl)
   line_runs (Head at) last some below ready covered =
-      head p code rest rest l t base g m.core here few at last below (is_short Assembly g.left) (tests p code rest rest l t base g m.core here few at last below).reached
+      head p code rest rest l t base g m.core here few fixups lie has at last below (is_short Assembly g.left) (tests p code rest rest l t base g m.core here few fixups lie has at last below).reached
   line_runs (Does at n i) last some below ready covered = elim (cases_Bool (is_jump_line i)) [
-    | inl jump ↦ jump_runs p code rest rest l t base g m.core here few at n i last ready.1 (omega (arith, some, below)) jump covered
+    | inl jump ↦ jump_runs p code rest rest l t base g m.core here few fixups lie has at n i last ready.0 (omega (arith, some, below)) jump covered
     | inr none ↦ elim (led (line_step Assembly p code (Does at n i ∷ rest) g).place covered) [
-      | inl to ↦ leads_on (Does at n i) to.0 _ to.1 (instruction p code rest to.0 l t base g m.core here few at n i last ready.0 ready.1 ready.2 none to.1)
-      | inr (inl slow) ↦ slow_instruction p code rest rest l t base g m.core here few at n i last ready.0 ready.2 none slow
-      | inr (inr loop) ↦ absurd (no_loop p code rest g at n i ready.0 none loop)
+      | inl to ↦ leads_on (Does at n i) to.0 _ to.1 (instruction p code rest to.0 l t base g m.core here few fixups lie has at n i last ready.0 ready.1 none to.1)
+      | inr (inl slow) ↦ slow_instruction p code rest rest l t base g m.core here few fixups lie has at n i last ready.0 ready.1 none slow
+      | inr (inr loop) ↦ absurd (no_loop p code rest g at n i none loop)
     ]
   ]
 
 -- the end's code, from its place
-ended : (p : Part) (code : List Line) (l : Layout) (t : Text) (base : ℕ) (g : Going) (m : Machine) → IsBefore (whole_code (end_address p) code) t base p l g m.core → exit_of code < 2 ^ 31
-    → m.rip ≡ base + start code [] → Follows t p l base code m (line_step Assembly p code [] g)
-ended p code l t base g m here few rip =
-    let leads = end_runs p code [] [] l t base g m.core here few in
-    let from : base + size_of_all code ≡ m.rip = omega (arith, rip) in
+ended : (p : Part) (code : List Line) (l : Layout) (t : Text) (base : ℕ) (g : Going) (m : Machine) → IsBefore (whole_code l.registers (end_address p) code) t base p l g m.core → exit_of l.registers code < 2 ^ 31 → HasFixups l.registers t base code → LieInCode p code → HasTable p l base code m.core
+    → m.rip ≡ base + start l.registers code [] → Follows t p l base code m (line_step Assembly p code [] g)
+ended p code l t base g m here few fixups lie has rip =
+    let leads = end_runs p code [] [] l t base g m.core here few fixups lie has in
+    let from : base + size_of_all l.registers code ≡ m.rip = omega (arith, rip) in
     record {
       after = leads.after;
       reached = subst (λ a. Reaches t (record { rip = a; core = m.core }) leads.after) from leads.reached;
@@ -412,12 +488,12 @@ ended p code l t base g m here few rip =
     }
 
 pub placed_lines_run : PlacedLinesRun
-placed_lines_run p code [] l t base g m here few place is_at some below ready covered =
-    let at : (m.rip ≡ base + start code []) × AreLast code [] = subst (λ q. IsAtPlace base code q g.state.hart.pc m) place is_at in
-    ended p code l t base g m here few at.0
-placed_lines_run p code (line ∷ rest) l t base g m here few place is_at some below ready covered =
-    let at : (m.rip ≡ base + start code (line ∷ rest)) × AreLast code (line ∷ rest) = subst (λ q. IsAtPlace base code q g.state.hart.pc m) place is_at in
-    let leads = line_runs p code rest l t base g m here few line at.1 some below ready covered in
+placed_lines_run p code [] l t base g m here few fixups lie has place is_at some below ready covered =
+    let at : (m.rip ≡ base + start l.registers code []) × AreLast code [] = subst (λ q. IsAtPlace l.registers base code q g.state.hart.pc m) place is_at in
+    ended p code l t base g m here few fixups lie has at.0
+placed_lines_run p code (line ∷ rest) l t base g m here few fixups lie has place is_at some below ready covered =
+    let at : (m.rip ≡ base + start l.registers code (line ∷ rest)) × AreLast code (line ∷ rest) = subst (λ q. IsAtPlace l.registers base code q g.state.hart.pc m) place is_at in
+    let leads = line_runs p code rest l t base g m here few fixups lie has line at.1 some below ready covered in
     record {
       after = leads.after;
       reached = subst (λ a. Reaches t (record { rip = a; core = m.core }) leads.after) (sym at.0) leads.reached;

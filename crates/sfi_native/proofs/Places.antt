@@ -21,10 +21,11 @@ use Rattle.x86_step.specs.State.{Text}
 use Rattle.x86_step.specs.Step.{is_canonical, jumped}
 use Rattle.x86_step.specs.Running.{HasAt, spellings}
 use Rattle.x86_step.proofs.Running.{has_back, has_front, spellings_append}
+use Rattle.sfi_native.specs.declared.registers.RegisterMap.{RegisterMap}
 use Rattle.sfi_native.specs.declared.jump.Jump.{Jump}
-use Rattle.sfi_native.proofs.Lists.{tested_size}
+use Rattle.sfi_native.proofs.Lists.{indirect_size, tested_size}
 use Rattle.sfi_native.proofs.Runs.{low_canonical}
-use Rattle.sfi_native.specs.Code.{compare_code, count, has_test, number_code, opposite, target_code, tested_jump, unless}
+use Rattle.sfi_native.specs.Code.{compare_code, count, has_test, indirect_jump, number_code, opposite, target_code, tested_jump, unless}
 use Rattle.sfi_native.specs.Places.{AreLast, code_of, distance, distance_out, distances, exit_of, jump_of, line_code, placed, size_of, size_of_all, start, start_or_end}
 
 -- ==== Sizes.
@@ -41,70 +42,70 @@ unless_same : (condition : Condition) (a b : List Native) → length (spellings 
 unfolding spelling
 unless_same condition a b same = omega (arith, same, length-append (spelling (Jcc condition (length (spellings a)))) (spellings a), length-append (spelling (Jcc condition (length (spellings b)))) (spellings b))
 
-pub line_size : (d : ℕ → ℕ) (out : ℕ) (line : Line) → length (spellings (line_code d out line)) ≡ size_of line
+pub line_size : (registers : RegisterMap) (d : ℕ → ℕ) (out : ℕ) (line : Line) → length (spellings (line_code registers d out line)) ≡ size_of registers line
 unfolding spelling
-line_size d out (Does at n (Branch cond rs1 rs2 offset)) =
+line_size registers d out (Does at n (Branch cond rs1 rs2 offset)) =
     let to = offset_by at offset in
     let j = jump_of d out at to in
     let k = jump_of (λ to. 0) 0 at to in
-    behind_size (compare_code rs1 rs2) (unless (opposite cond) (tested_jump j)) (unless (opposite cond) (tested_jump k))
+    behind_size (compare_code registers rs1 rs2) (unless (opposite cond) (tested_jump j)) (unless (opposite cond) (tested_jump k))
     (unless_same (opposite cond) (tested_jump j) (tested_jump k) (jump_same j k refl))
-line_size d out (Does at n (Jal rd offset)) =
+line_size registers d out (Does at n (Jal rd offset)) =
     let to = offset_by at offset in
     let j = jump_of d out at to in
     let k = jump_of (λ to. 0) 0 at to in
-    behind_size (number_code rd (address_after at n) ++ count) (tested_jump j) (tested_jump k) (jump_same j k refl)
-line_size d out (Does at n (Jalr rd rs1 imm)) =
-    behind_size (target_code rs1 (word imm) ++ (number_code rd (address_after at n) ++ count)) (Jmp out ∷ []) (Jmp 0 ∷ []) refl
-line_size d out (Does at n Ecall) = behind_size (MovImm Rdx at ∷ []) (Jmp out ∷ []) (Jmp 0 ∷ []) refl
-line_size d out (Does at n Ebreak) = behind_size (MovImm Rdx at ∷ []) (Jmp out ∷ []) (Jmp 0 ∷ []) refl
-line_size d out (Does at n i) = refl
-line_size d out (Head at) = behind_size (MovImm Rdx at ∷ AluImm alu.Cmp Dword (Reg R14) most ∷ []) (Jcc Below out ∷ []) (Jcc Below 0 ∷ []) refl
-line_size d out line = refl
+    behind_size (number_code registers rd (address_after at n) ++ count) (tested_jump j) (tested_jump k) (jump_same j k refl)
+line_size registers d out (Does at n (Jalr rd rs1 imm)) =
+    behind_size (target_code registers rs1 (word imm) ++ (number_code registers rd (address_after at n) ++ count)) (indirect_jump out) (indirect_jump 0) (indirect_size out ∙ sym (indirect_size 0))
+line_size registers d out (Does at n Ecall) = behind_size (MovImm Rdx at ∷ []) (Jmp out ∷ []) (Jmp 0 ∷ []) refl
+line_size registers d out (Does at n Ebreak) = behind_size (MovImm Rdx at ∷ []) (Jmp out ∷ []) (Jmp 0 ∷ []) refl
+line_size registers d out (Does at n i) = refl
+line_size registers d out (Head at) = behind_size (MovImm Rdx at ∷ AluImm alu.Cmp Dword (Reg R14) most ∷ []) (Jcc Below out ∷ []) (Jcc Below 0 ∷ []) refl
+line_size registers d out line = refl
 
-pub sizes_append : (front rest : List Line) → size_of_all (front ++ rest) ≡ size_of_all front + size_of_all rest
-sizes_append [] rest = omega arith
-sizes_append (line ∷ front) rest = omega (arith, sizes_append front rest)
+pub sizes_append : (registers : RegisterMap) (front rest : List Line) → size_of_all registers (front ++ rest) ≡ size_of_all registers front + size_of_all registers rest
+sizes_append registers [] rest = omega arith
+sizes_append registers (line ∷ front) rest = omega (arith, sizes_append registers front rest)
 
-pub last_below : (code rest : List Line) → AreLast code rest → size_of_all rest ≤ size_of_all code
-last_below code rest last = omega (arith, ap size_of_all last.is, sizes_append last.front rest)
+pub last_below : (registers : RegisterMap) (code rest : List Line) → AreLast code rest → size_of_all registers rest ≤ size_of_all registers code
+last_below registers code rest last = omega (arith, ap (size_of_all registers) last.is, sizes_append registers last.front rest)
 
-pub code_size : (code lines : List Line) → length (spellings (code_of code lines)) ≡ size_of_all lines
-code_size code [] = refl
-code_size code (line ∷ rest) =
-    let own = placed code rest line in
-    omega (arith, ap length (spellings_append own (code_of code rest)), length-append (spellings own) (spellings (code_of code rest)), line_size (distances code rest) (distance_out code rest) line, code_size code rest)
+pub code_size : (registers : RegisterMap) (code lines : List Line) → length (spellings (code_of registers code lines)) ≡ size_of_all registers lines
+code_size registers code [] = refl
+code_size registers code (line ∷ rest) =
+    let own = placed registers code rest line in
+    omega (arith, ap length (spellings_append own (code_of registers code rest)), length-append (spellings own) (spellings (code_of registers code rest)), line_size registers (distances registers code rest) (distance_out registers code rest) line, code_size registers code rest)
 
 -- ==== Where bytes stand.
 
-module _ (t : Text) (code : List Line) where
-  stands_from : (at : ℕ) (front rest : List Line) → HasAt t at (spellings (code_of code (front ++ rest))) → HasAt t (at + size_of_all front) (spellings (code_of code rest))
+module _ (registers : RegisterMap) (t : Text) (code : List Line) where
+  stands_from : (at : ℕ) (front rest : List Line) → HasAt t at (spellings (code_of registers code (front ++ rest))) → HasAt t (at + size_of_all registers front) (spellings (code_of registers code rest))
   stands_from at [] rest has =
       let z : at ≡ at + 0 = omega arith in
-      subst (λ a. HasAt t a (spellings (code_of code rest))) z has
+      subst (λ a. HasAt t a (spellings (code_of registers code rest))) z has
   stands_from at (line ∷ front) rest has =
-      let own = placed code (front ++ rest) line in
-      let parts = subst (λ bytes. HasAt t at bytes) (spellings_append own (code_of code (front ++ rest))) has in
+      let own = placed registers code (front ++ rest) line in
+      let parts = subst (λ bytes. HasAt t at bytes) (spellings_append own (code_of registers code (front ++ rest))) has in
       let back = stands_from (at + length (spellings own)) front rest (has_back t at (spellings own) _ parts) in
-      let e : at + length (spellings own) + size_of_all front ≡ at + size_of_all (line ∷ front) = omega (arith, line_size (distances code (front ++ rest)) (distance_out code (front ++ rest)) line) in
-      subst (λ a. HasAt t a (spellings (code_of code rest))) e back
+      let e : at + length (spellings own) + size_of_all registers front ≡ at + size_of_all registers (line ∷ front) = omega (arith, line_size registers (distances registers code (front ++ rest)) (distance_out registers code (front ++ rest)) line) in
+      subst (λ a. HasAt t a (spellings (code_of registers code rest))) e back
 
-  module _ (base : ℕ) (has : HasAt t base (spellings (code_of code code))) (line : Line) (rest : List Line) (last : AreLast code (line ∷ rest)) where
-    front_is : start code (line ∷ rest) ≡ size_of_all last.front
-    front_is = omega (arith, ap size_of_all last.is, sizes_append last.front (line ∷ rest))
+  module _ (base : ℕ) (has : HasAt t base (spellings (code_of registers code code))) (line : Line) (rest : List Line) (last : AreLast code (line ∷ rest)) where
+    front_is : start registers code (line ∷ rest) ≡ size_of_all registers last.front
+    front_is = omega (arith, ap (size_of_all registers) last.is, sizes_append registers last.front (line ∷ rest))
 
     -- a line's bytes
-    pub line_stands : HasAt t (base + start code (line ∷ rest)) (spellings (placed code rest line))
+    pub line_stands : HasAt t (base + start registers code (line ∷ rest)) (spellings (placed registers code rest line))
     line_stands =
-        let own = placed code rest line in
-        let whole = subst (λ lines. HasAt t base (spellings (code_of code lines))) last.is has in
+        let own = placed registers code rest line in
+        let whole = subst (λ lines. HasAt t base (spellings (code_of registers code lines))) last.is has in
         let here = stands_from base last.front (line ∷ rest) whole in
-        let parts = subst (λ bytes. HasAt t (base + size_of_all last.front) bytes) (spellings_append own (code_of code rest)) here in
-        subst (λ n. HasAt t (base + n) (spellings own)) (sym front_is) (has_front t (base + size_of_all last.front) (spellings own) _ parts)
+        let parts = subst (λ bytes. HasAt t (base + size_of_all registers last.front) bytes) (spellings_append own (code_of registers code rest)) here in
+        subst (λ n. HasAt t (base + n) (spellings own)) (sym front_is) (has_front t (base + size_of_all registers last.front) (spellings own) _ parts)
 
     -- end where the next begin
-    pub line_ends : base + start code (line ∷ rest) + length (spellings (placed code rest line)) ≡ base + start code rest
-    line_ends = omega (arith, line_size (distances code rest) (distance_out code rest) line, last_below code (line ∷ rest) last)
+    pub line_ends : base + start registers code (line ∷ rest) + length (spellings (placed registers code rest line)) ≡ base + start registers code rest
+    line_ends = omega (arith, line_size registers (distances registers code rest) (distance_out registers code rest) line, last_below registers code (line ∷ rest) last)
 
 -- ==== Labels.
 
@@ -135,24 +136,24 @@ far base from to ff ft below = elim (cases_lt to from) [
       rw e (omega (arith, on, ff, ft, below))
 ]
 
-place_below : (code : List Line) (o : Option (List Line)) → start_or_end code o ≤ size_of_all code
-place_below code None = omega arith
-place_below code (Some rest) = omega arith
+place_below : (registers : RegisterMap) (code : List Line) (o : Option (List Line)) → start_or_end registers code o ≤ size_of_all registers code
+place_below registers code None = omega arith
+place_below registers code (Some rest) = omega arith
 
 -- a jump to a label
-pub label_reached : (base : ℕ) (code rest : List Line) (to : ℕ) → size_of_all code < 2 ^ 31 → base + size_of_all code < 2 ^ 47
-    → jumped (base + start code rest) (distances code rest to) ≡ base + start_or_end code (label to code)
-label_reached base code rest to few low =
-    let below = place_below code (label to code) in
-    far base (start code rest) (start_or_end code (label to code)) (omega (arith, few)) (omega (arith, few, below)) (omega (arith, low, below))
+pub label_reached : (registers : RegisterMap) (base : ℕ) (code rest : List Line) (to : ℕ) → size_of_all registers code < 2 ^ 31 → base + size_of_all registers code < 2 ^ 47
+    → jumped (base + start registers code rest) (distances registers code rest to) ≡ base + start_or_end registers code (label to code)
+label_reached registers base code rest to few low =
+    let below = place_below registers code (label to code) in
+    far base (start registers code rest) (start_or_end registers code (label to code)) (omega (arith, few)) (omega (arith, few, below)) (omega (arith, low, below))
 
-pub label_canonical : (base : ℕ) (code rest : List Line) (to : ℕ) → size_of_all code < 2 ^ 31 → base + size_of_all code < 2 ^ 47
-    → is_canonical (jumped (base + start code rest) (distances code rest to)) ≡ true
-label_canonical base code rest to few low =
-    let place = base + start_or_end code (label to code) in
-    ap is_canonical (label_reached base code rest to few low) ∙ low_canonical place (omega (arith, low, place_below code (label to code)))
+pub label_canonical : (registers : RegisterMap) (base : ℕ) (code rest : List Line) (to : ℕ) → size_of_all registers code < 2 ^ 31 → base + size_of_all registers code < 2 ^ 47
+    → is_canonical (jumped (base + start registers code rest) (distances registers code rest to)) ≡ true
+label_canonical registers base code rest to few low =
+    let place = base + start_or_end registers code (label to code) in
+    ap is_canonical (label_reached registers base code rest to few low) ∙ low_canonical place (omega (arith, low, place_below registers code (label to code)))
 
 -- the same out
-pub exit_reached : (base : ℕ) (code rest : List Line) → exit_of code < 2 ^ 31 → base + exit_of code < 2 ^ 47
-    → jumped (base + start code rest) (distance_out code rest) ≡ base + exit_of code
-exit_reached base code rest few low = far base (start code rest) (exit_of code) (omega (arith, few)) few (omega (arith, low))
+pub exit_reached : (registers : RegisterMap) (base : ℕ) (code rest : List Line) → exit_of registers code < 2 ^ 31 → base + exit_of registers code < 2 ^ 47
+    → jumped (base + start registers code rest) (distance_out registers code rest) ≡ base + exit_of registers code
+exit_reached registers base code rest few low = far base (start registers code rest) (exit_of registers code) (omega (arith, few)) few (omega (arith, low))

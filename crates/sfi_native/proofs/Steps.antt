@@ -9,9 +9,12 @@ use Rattle.x86_step.specs.Step.{stay}
 use Rattle.x86_step.proofs.Facts.{fixed_stays, steps_join}
 use Rattle.sfi_native.specs.declared.layout.Layout.{Layout}
 use Rattle.sfi_native.specs.Laws.{ArePlacedSteps, Follows, IsBefore, IsCovered, IsReadyAt, PlacedStepsRun}
+use Rattle.sfi_native.specs.Faults.{HasFixups}
+use Rattle.sfi_native.specs.Table.{HasTable, LieInCode}
 use Rattle.sfi_native.specs.Places.{IsAt, end_address, exit_of, whole_code}
-use Rattle.sfi_native.proofs.Kept.{others_join, others_same}
+use Rattle.sfi_native.proofs.Kept.{guards_kept, others_join, others_same}
 use Rattle.sfi_native.proofs.Placed.{placed_lines_run}
+use Rattle.sfi_native.proofs.Table.{table_stays}
 
 -- ==== The steps left.
 
@@ -26,46 +29,47 @@ left_below p code rest g line some below = below
 
 -- ==== Steps.
 
-module _ (p : Part) (code : List Line) (l : Layout) (t : Text) (base : ℕ) (few : exit_of code < 2 ^ 31) where
-  abbrev Stands : Going → Machine → Type 0
-  Stands g m = IsBefore (whole_code (end_address p) code) t base p l g m.core
+module _ (p : Part) (code : List Line) (l : Layout) (t : Text) (base : ℕ) (few : exit_of l.registers code < 2 ^ 31) (fixups : HasFixups l.registers t base code) (lie : LieInCode p code) where
+  abbrev pub Stands : Going → Machine → Type 0
+  Stands g m = IsBefore (whole_code l.registers (end_address p) code) t base p l g m.core
 
-  one : (g k : Going) (m : Machine) → Stands g m → IsAt base code g m → g.left < 2 ^ 31 → (place : ControlPoint) → g.place ≡ place
+  pub one : (g k : Going) (m : Machine) → Stands g m → HasTable p l base code m.core → IsAt l.registers base code g m → g.left < 2 ^ 31 → (place : ControlPoint) → g.place ≡ place
       → IsTranslatedStepAt place Assembly p code g k → IsReadyAt p g place → IsCovered k.place → Follows t p l base code m k × (k.left < 2 ^ 31)
-  one g k m here at below (Before (line ∷ rest)) place step ready covered =
+  one g k m here has at below (Before (line ∷ rest)) place step ready covered =
       let some : 0 < g.left = omega (arith, step.0, below) in
       let next = line_step Assembly p code (line ∷ rest) g in
-      let follows = placed_lines_run p code (line ∷ rest) l t base g m here few place at some below ready (subst (λ x. IsCovered x.place) step.1 covered) in
+      let follows = placed_lines_run p code (line ∷ rest) l t base g m here few fixups lie has place at some below ready (subst (λ x. IsCovered x.place) step.1 covered) in
       (subst (λ x. Follows t p l base code m x) (sym step.1) follows, subst (λ x. x.left < 2 ^ 31) (sym step.1) (left_below p code rest g line some below))
-  one g k m here at below (Before []) place step ready covered =
+  one g k m here has at below (Before []) place step ready covered =
       let some : 0 < g.left = omega (arith, step.0, below) in
-      let follows = placed_lines_run p code [] l t base g m here few place at some below ready (subst (λ x. IsCovered x.place) step.1 covered) in
+      let follows = placed_lines_run p code [] l t base g m here few fixups lie has place at some below ready (subst (λ x. IsCovered x.place) step.1 covered) in
       (subst (λ x. Follows t p l base code m x) (sym step.1) follows, subst (λ x. x.left < 2 ^ 31) (sym step.1) below)
-  one g k m here at below Slow place step ready covered = absurd ready
-  one g k m here at below Loop place step ready covered = absurd ready
-  one g k m here at below (Stopped o) place step ready covered = absurd ready
-  one g k m here at below Lost place step ready covered = absurd ready
+  one g k m here has at below Slow place step ready covered = absurd ready
+  one g k m here has at below Loop place step ready covered = absurd ready
+  one g k m here has at below (Stopped o) place step ready covered = absurd ready
+  one g k m here has at below Lost place step ready covered = absurd ready
 
-  stands_on : (g k : Going) (m : Machine) → Stands g m → (f : Follows t p l base code m k) → Stands k f.after
+  pub stands_on : (g k : Going) (m : Machine) → Stands g m → (f : Follows t p l base code m k) → Stands k f.after
   stands_on g k m here f = record {
     layout = here.layout;
     text_is_fixed = fixed_stays t m f.after f.reached;
     text_is_low = here.text_is_low;
     stands = here.stands;
     related = f.alike.related;
+    guards = guards_kept p l here.layout m.core f.after.core f.others here.guards;
   }
 
-  many : (n : ℕ) (g k : Going) (m : Machine) → Stands g m → IsAt base code g m → g.left < 2 ^ 31 → ArePlacedSteps p code n g k → Follows t p l base code m k
-  many zero g k m here at below same = subst (λ x. Follows t p l base code m x) (sym same) (record {
+  many : (n : ℕ) (g k : Going) (m : Machine) → Stands g m → HasTable p l base code m.core → IsAt l.registers base code g m → g.left < 2 ^ 31 → ArePlacedSteps p code n g k → Follows t p l base code m k
+  many zero g k m here has at below same = subst (λ x. Follows t p l base code m x) (sym same) (record {
     after = m;
     reached = record { fixed = here.text_is_fixed; steps = stay m };
     alike = record { related = here.related; is_at = at };
     others = others_same p l m.core;
   })
-  many (suc n) g k m here at below (between, step, ready, covered, more) =
-      let first = one g between m here at below g.place refl step ready covered in
+  many (suc n) g k m here has at below (between, step, ready, covered, more) =
+      let first = one g between m here has at below g.place refl step ready covered in
       let f = first.0 in
-      let rest = many n between k f.after (stands_on g between m here f) f.alike.is_at first.1 more in
+      let rest = many n between k f.after (stands_on g between m here f) (table_stays p l here.layout base code m.core f.after.core f.others has) f.alike.is_at first.1 more in
       record {
         after = rest.after;
         reached = steps_join t m f.after rest.after f.reached rest.reached;
@@ -74,4 +78,4 @@ module _ (p : Part) (code : List Line) (l : Layout) (t : Text) (base : ℕ) (few
       }
 
 pub placed_steps_run : PlacedStepsRun
-placed_steps_run n p code l t base g k m here few at below steps = many p code l t base few n g k m here at below steps
+placed_steps_run n p code l t base g k m here few fixups lie has at below steps = many p code l t base few fixups lie n g k m here has at below steps

@@ -24,6 +24,8 @@ use Rattle.x86_step.proofs.Running.{exec_append}
 use Rattle.sfi_native.specs.declared.layout.Layout.{Layout}
 use Rattle.sfi_native.specs.Layout.{IsLayout, IsRelated, OthersStay, value}
 use Rattle.sfi_native.specs.Laws.{StoreLinesRun}
+use Rattle.sfi_native.specs.Registers.{assigned}
+use Rattle.sfi_native.proofs.Assigned.{holds_on}
 use Rattle.sfi_native.specs.Code.{count, data_address, fetch, store_line, store_to}
 use Rattle.sfi_native.proofs.Accessing.{number_is, place_is, some_number, within}
 use Rattle.sfi_native.proofs.Kept.{kept_join, kept_register, others_join, others_kept}
@@ -93,10 +95,12 @@ module _ (p : Part) (l : Layout) (layout : IsLayout p.data_size l) (g : Going) (
   related_stored = record {
     register_count = is.register_count;
     words = is.words;
-    registers = λ r small. number_elsewhere c.memory (store_size width) place v 4 (l.frame + 4 * r) (elim layout.apart [
-      | inl above ↦ inl (omega (arith, above, small))
-      | inr below ↦ inr (omega (arith, below, high))
-    ]) ∙ is.registers r small;
+    registers = λ r small. holds_on l c (with_memory c (written c.memory (store_size width) place v)) r (value p g r) (assigned l.registers r)
+        (λ e. number_elsewhere c.memory (store_size width) place v 4 (l.frame + 4 * r) (elim layout.apart [
+          | inl above ↦ inl (omega (arith, above, small))
+          | inr below ↦ inr (omega (arith, below, high))
+        ]))
+        (λ q e. refl) (is.registers r small);
     frame = is.frame;
     frame_is_written = is.frame_is_written;
     few = is.few;
@@ -108,7 +112,7 @@ module _ (p : Part) (l : Layout) (layout : IsLayout p.data_size l) (g : Going) (
 
   pub data_stored : OthersStay p l c (with_memory c (written c.memory (store_size width) place v))
   data_stored = record {
-    others = λ k more other. refl;
+    others = λ k more other apart. refl;
     elsewhere = λ a by_frame by_data. written_elsewhere c.memory (store_size width) place v a (elim by_data [
       | inl before ↦ inl (omega (arith, before))
       | inr after ↦ inr (omega (arith, after, high))
@@ -157,14 +161,14 @@ store_lines_run target p code rest own size width rs1 rs2 imm l t at g c range i
     ap (λ q. stores c2 n q b) (place_is p l here.layout g c here.related in_data.room n sized.some in_data.fits rs1 imm range.2 in_data.tested)
     ∙ store_there c2 n place old.0 b (omega (arith, w.1, here.layout.data_ends)) held (may_be_written p l here.layout g c2 is2 width (offset_by a imm) b w.0 w.1 inside) in
     let still = none_comes p l here.layout _ c3 is3 (Before rest) (address_after own size) in
-    let last = counts p l _ c3 still in
-    let runs : exec (store_line width rs1 rs2 (word imm)) c ≡ Ok last.core =
-    exec_append (fetch Rax rs1) (fetch Rcx rs2 ++ ((store_to width to ∷ []) ++ count)) c c1 (fetched p l here.layout g c Rax rs1 range.0 here.related)
-    ∙ exec_append (fetch Rcx rs2) ((store_to width to ∷ []) ++ count) c1 c2 (fetched p l here.layout g c1 Rcx rs2 range.1 is1)
+    let last = counts p l here.layout _ c3 still in
+    let runs : exec (store_line l.registers width rs1 rs2 (word imm)) c ≡ Ok last.core =
+    exec_append (fetch l.registers Rax rs1) (fetch l.registers Rcx rs2 ++ ((store_to width to ∷ []) ++ count)) c c1 (fetched p l here.layout g c Rax rs1 range.0 here.related)
+    ∙ exec_append (fetch l.registers Rcx rs2) ((store_to width to ∷ []) ++ count) c1 c2 (fetched p l here.layout g c1 Rcx rs2 range.1 is1)
     ∙ exec_append (store_to width to ∷ []) count c2 c3 (puts width to c2 c3 put) ∙ last.runs in
     rw (in_data.tested, there) (record {
       after = last.core;
-      reached = spelled_run t at (store_line width rs1 rs2 (word imm)) c last.core here.text_is_fixed (store_straight width to) here.stands runs;
+      reached = spelled_run t at (store_line l.registers width rs1 rs2 (word imm)) c last.core here.text_is_fixed (store_straight width to) here.stands runs;
       related = last.related;
       others = others_join p l c c2 last.core (others_kept p l c c2 (kept_join c c1 c2 (kept_register c 0 a (omega arith)) (kept_register c1 1 b (omega arith))))
           (others_join p l c2 c3 last.core (data_stored p l here.layout g c2 is2 width (offset_by a imm) b w.0 w.1 inside) last.stay);

@@ -1,5 +1,5 @@
 -- The instructions of x86-64 that a line becomes. eax, ecx and edx are free between lines.
-use Rattle.std.specs.Prelude.{ℕ, ◌+◌, ◌-◌, ◌*◌, ◌/◌, ◌%◌, ◌^◌, ◌==◌, ◌||◌, nat_le, not, Bool, true, false, List, [], ◌∷◌, ◌++◌, length, if◌then◌else◌}
+use Rattle.std.specs.Prelude.{ℕ, ◌+◌, ◌-◌, ◌*◌, ◌/◌, ◌%◌, ◌^◌, ◌==◌, ◌||◌, nat_le, not, Bool, true, false, List, [], ◌∷◌, ◌++◌, length, Option, Some, None, if◌then◌else◌}
 use Rattle.rv_word.specs.declared.instr.RegOp.{RegOp}
 use Rattle.rv_word.specs.declared.instr.RegOp.TheVariants.{Add, Sub, Sll, Slt, Sltu, Xor, Srl, Sra, Or, And, Mul, Mulh, Mulhsu, Mulhu, Div, Divu, Rem, Remu}
 use Rattle.rv_word.specs.declared.instr.ImmOp.{ImmOp}
@@ -16,9 +16,10 @@ use Rattle.rv_step.specs.Step.{word}
 use Rattle.sfi_translate.specs.Lines.{head_bytes}
 use Rattle.sfi_translate.specs.Machine.{most}
 use Rattle.x86_instr.specs.declared.operand.Register.{Register}
-use Rattle.x86_instr.specs.declared.operand.Register.TheVariants.{Rax, Rcx, Rdx, Rsp, R14, R15}
+use Rattle.x86_instr.specs.declared.operand.Register.TheVariants.{Rax, Rcx, Rdx, Rsp, R12, R13, R14, R15}
 use Rattle.x86_instr.specs.declared.operand.Scale.TheVariants.{One}
 use Rattle.x86_instr.specs.declared.operand.Address.{Address}
+use Rattle.x86_instr.specs.declared.operand.Operand.{Operand}
 use Rattle.x86_instr.specs.declared.operand.Operand.TheVariants.{Reg, Mem}
 use Rattle.x86_instr.specs.declared.instr.Width.TheVariants.{Dword, Qword}
 use Rattle.x86_instr.specs.declared.instr.Narrow.TheVariants.{Byte, Word}
@@ -30,25 +31,33 @@ use Rattle.x86_instr.specs.declared.instr.DivideOp.TheVariants as divide
 use Rattle.x86_instr.specs.declared.instr.Condition.{Condition}
 use Rattle.x86_instr.specs.declared.instr.Condition.TheVariants.{AboveOrEqual, Below, Equal, GreaterOrEqual, Less, NotEqual}
 use Rattle.x86_instr.specs.declared.instr.Instr.{Instr as Native}
-use Rattle.x86_instr.specs.declared.instr.Instr.TheVariants.{Mov, MovStore, MovStoreByte, MovStoreWord, MovImm, MovExtended, Movsxd, Alu, AluImm, Test, Unary, ShiftImm, ShiftCl, Imul, Divide, Cdq, Setcc, Jcc, Jmp}
+use Rattle.x86_instr.specs.declared.instr.Instr.TheVariants.{Mov, MovStore, MovStoreByte, MovStoreWord, MovImm, MovExtended, Movsxd, Alu, AluImm, Test, Unary, ShiftImm, ShiftCl, Imul, Divide, Cdq, Setcc, Jcc, Jmp, JmpTo}
 use Rattle.x86_step.specs.Running.{spellings}
+use Rattle.sfi_native.specs.declared.registers.RegisterMap.{RegisterMap}
 use Rattle.sfi_native.specs.declared.jump.Jump.{Jump}
-
--- x0 and x24 to x27 have one value for lines, so that none writes them
-abbrev pub is_fixed : ℕ → Bool
-is_fixed r = (r == 0) || ((r == 24) || ((r == 25) || ((r == 26) || (r == 27))))
+use Rattle.sfi_native.specs.Registers.{assigned, is_fixed}
 
 -- register r in the frame
 abbrev pub slot : ℕ → Address
 slot r = record { base = Rsp; index = Rsp; scale = One; displacement = 4 * r }
 
+-- register r, by the register that it lies in, if it lies in one
+abbrev pub operand_of : Option Register → ℕ → Operand
+operand_of (Some q) r = Reg q
+operand_of None r = Mem (slot r)
+
 -- register r into that one
-abbrev pub fetch : Register → ℕ → List Native
-fetch dst r = Mov Dword dst (Mem (slot r)) ∷ []
+abbrev pub fetch : RegisterMap → Register → ℕ → List Native
+fetch registers dst r = Mov Dword dst (operand_of (assigned registers r) r) ∷ []
+
+-- eax there
+abbrev pub store_eax : Option Register → ℕ → Native
+store_eax (Some q) r = Mov Dword q (Reg Rax)
+store_eax None r = MovStore Dword (slot r) Rax
 
 -- eax into register r
-abbrev pub write : ℕ → List Native
-write r = if is_fixed r then [] else MovStore Dword (slot r) Rax ∷ []
+abbrev pub write : RegisterMap → ℕ → List Native
+write registers r = if is_fixed r then [] else store_eax (assigned registers r) r ∷ []
 
 -- ==== Computations: of eax and ecx, into eax; edx and the flags may change.
 
@@ -138,30 +147,30 @@ does_compute (Fence imm rd rs1) = true
 does_compute i = false
 
 -- a number into rd
-abbrev pub number_code : ℕ → ℕ → List Native
-number_code rd n = MovImm Rax n ∷ write rd
+abbrev pub number_code : RegisterMap → ℕ → ℕ → List Native
+number_code registers rd n = MovImm Rax n ∷ write registers rd
 
-abbrev pub op_code : RegOp → ℕ → ℕ → ℕ → List Native
-op_code op rd rs1 rs2 = fetch Rax rs1 ++ (fetch Rcx rs2 ++ (compute op ++ write rd))
+abbrev pub op_code : RegisterMap → RegOp → ℕ → ℕ → ℕ → List Native
+op_code registers op rd rs1 rs2 = fetch registers Rax rs1 ++ (fetch registers Rcx rs2 ++ (compute op ++ write registers rd))
 
-abbrev pub imm_code : ImmOp → ℕ → ℕ → ℕ → List Native
-imm_code op rd rs1 n = fetch Rax rs1 ++ (compute_imm op n ++ write rd)
+abbrev pub imm_code : RegisterMap → ImmOp → ℕ → ℕ → ℕ → List Native
+imm_code registers op rd rs1 n = fetch registers Rax rs1 ++ (compute_imm op n ++ write registers rd)
 
 -- what the instruction at that address computes
-unfoldable pub computation : ℕ → Instr → List Native
-computation at (Op op rd rs1 rs2) = op_code op rd rs1 rs2
-computation at (OpImm op rd rs1 imm) = imm_code op rd rs1 (word imm)
-computation at (Lui rd imm) = number_code rd ((imm * 4096) % 2 ^ 32)
-computation at (Auipc rd imm) = number_code rd ((at + imm * 4096) % 2 ^ 32)
-computation at i = []
+unfoldable pub computation : RegisterMap → ℕ → Instr → List Native
+computation registers at (Op op rd rs1 rs2) = op_code registers op rd rs1 rs2
+computation registers at (OpImm op rd rs1 imm) = imm_code registers op rd rs1 (word imm)
+computation registers at (Lui rd imm) = number_code registers rd ((imm * 4096) % 2 ^ 32)
+computation registers at (Auipc rd imm) = number_code registers rd ((at + imm * 4096) % 2 ^ 32)
+computation registers at i = []
 
 -- a step less is left
 abbrev pub count : List Native
 count = AluImm alu.Sub Dword (Reg R14) 1 ∷ []
 
 -- the line of an instruction that computes
-abbrev pub computing_line : ℕ → Instr → List Native
-computing_line at i = computation at i ++ count
+abbrev pub computing_line : RegisterMap → ℕ → Instr → List Native
+computing_line registers at i = computation registers at i ++ count
 
 -- ==== Slow steps: edx has the address of the line.
 
@@ -209,25 +218,59 @@ opposite Bge = Less
 opposite Bltu = AboveOrEqual
 opposite Bgeu = Below
 
-abbrev pub compare_code : ℕ → ℕ → List Native
-compare_code rs1 rs2 = fetch Rax rs1 ++ (fetch Rcx rs2 ++ (count ++ (Alu alu.Cmp Dword Rax (Reg Rcx) ∷ [])))
+abbrev pub compare_code : RegisterMap → ℕ → ℕ → List Native
+compare_code registers rs1 rs2 = fetch registers Rax rs1 ++ (fetch registers Rcx rs2 ++ (count ++ (Alu alu.Cmp Dword Rax (Reg Rcx) ∷ [])))
 
 -- the line of a branch
-abbrev pub branch_line : Cond → ℕ → ℕ → Jump → List Native
-branch_line cond rs1 rs2 j = compare_code rs1 rs2 ++ unless (opposite cond) (tested_jump j)
+abbrev pub branch_line : RegisterMap → Cond → ℕ → ℕ → Jump → List Native
+branch_line registers cond rs1 rs2 j = compare_code registers rs1 rs2 ++ unless (opposite cond) (tested_jump j)
 
 -- the line of a jal, behind which the address `next` comes
-abbrev pub jal_line : ℕ → ℕ → Jump → List Native
-jal_line rd next j = (number_code rd next ++ count) ++ tested_jump j
+abbrev pub jal_line : RegisterMap → ℕ → ℕ → Jump → List Native
+jal_line registers rd next j = (number_code registers rd next ++ count) ++ tested_jump j
 
 -- the target of a jalr into edx
-abbrev pub target_code : ℕ → ℕ → List Native
-target_code rs1 displacement =
-    fetch Rdx rs1 ++ (AluImm alu.Add Dword (Reg Rdx) displacement ∷ AluImm alu.And Dword (Reg Rdx) (2 ^ 32 - 2) ∷ [])
+abbrev pub target_code : RegisterMap → ℕ → ℕ → List Native
+target_code registers rs1 displacement =
+    fetch registers Rdx rs1 ++ (AluImm alu.Add Dword (Reg Rdx) displacement ∷ AluImm alu.And Dword (Reg Rdx) (2 ^ 32 - 2) ∷ [])
 
--- the line of a jalr, which goes out over the distance; behind it the address `next` comes
-abbrev pub jalr_line : ℕ → ℕ → ℕ → ℕ → ℕ → List Native
-jalr_line rd rs1 displacement next distance = (target_code rs1 displacement ++ (number_code rd next ++ count)) ++ (Jmp distance ∷ [])
+-- ==== Jumps to an address in edx: r12 has the origin of the table, r13 the code's address.
+
+-- where the table has the entry of the unit at that address
+abbrev pub table_entry : Address
+table_entry = record { base = R12; index = Rdx; scale = One; displacement = 0 }
+
+-- to that entry
+abbrev pub enter_code : List Native
+enter_code = Mov Dword Rax (Mem table_entry) ∷ Alu alu.Add Qword Rax (Reg R13) ∷ JmpTo (Reg Rax) ∷ []
+
+-- its bytes
+abbrev pub enter_size : ℕ
+enter_size = 9
+
+-- Out over the distance from the line's end, where no unit of the sandbox's code starts at that address: its mask (x25) and
+-- base (x24) make another address of it.
+abbrev pub start_code : ℕ → List Native
+start_code distance =
+    Mov Dword Rax (Reg Rdx) ∷ Alu alu.And Dword Rax (Mem (slot 25)) ∷ Alu alu.Or Dword Rax (Mem (slot 24))
+    ∷ Alu alu.Cmp Dword Rax (Reg Rdx) ∷ Jcc NotEqual ((distance + enter_size) % 2 ^ 32) ∷ []
+
+-- its bytes
+abbrev pub start_size : ℕ
+start_size = 18
+
+-- out, where too few steps are left
+abbrev pub steps_code : ℕ → List Native
+steps_code distance = AluImm alu.Cmp Dword (Reg R14) most ∷ Jcc Below ((distance + (start_size + enter_size)) % 2 ^ 32) ∷ []
+
+-- to the entry, unless it goes out
+abbrev pub indirect_jump : ℕ → List Native
+indirect_jump distance = steps_code distance ++ (start_code distance ++ enter_code)
+
+-- the line of a jalr, behind which the address `next` comes
+abbrev pub jalr_line : RegisterMap → ℕ → ℕ → ℕ → ℕ → ℕ → List Native
+jalr_line registers rd rs1 displacement next distance =
+    (target_code registers rs1 displacement ++ (number_code registers rd next ++ count)) ++ indirect_jump distance
 
 -- ==== Accesses: eax has the value of rs1, ecx that of rs2, r15 the origin of the data.
 
@@ -241,12 +284,12 @@ load_from Lw a = Mov Dword Rax (Mem a)
 load_from Lbu a = MovExtended Zero Byte Rax (Mem a)
 load_from Lhu a = MovExtended Zero Word Rax (Mem a)
 
-abbrev pub load_code : LoadKind → ℕ → ℕ → ℕ → List Native
-load_code kind rd rs1 displacement = fetch Rax rs1 ++ (load_from kind (data_address displacement) ∷ write rd)
+abbrev pub load_code : RegisterMap → LoadKind → ℕ → ℕ → ℕ → List Native
+load_code registers kind rd rs1 displacement = fetch registers Rax rs1 ++ (load_from kind (data_address displacement) ∷ write registers rd)
 
 -- the line of a load: its step is counted last, as it isn't done where the access faults
-abbrev pub load_line : LoadKind → ℕ → ℕ → ℕ → List Native
-load_line kind rd rs1 displacement = load_code kind rd rs1 displacement ++ count
+abbrev pub load_line : RegisterMap → LoadKind → ℕ → ℕ → ℕ → List Native
+load_line registers kind rd rs1 displacement = load_code registers kind rd rs1 displacement ++ count
 
 abbrev pub store_to : StoreWidth → Address → Native
 store_to Sb a = MovStoreByte a Rcx
@@ -254,6 +297,6 @@ store_to Sh a = MovStoreWord a Rcx
 store_to Sw a = MovStore Dword a Rcx
 
 -- the line of a store
-abbrev pub store_line : StoreWidth → ℕ → ℕ → ℕ → List Native
-store_line width rs1 rs2 displacement =
-    fetch Rax rs1 ++ (fetch Rcx rs2 ++ ((store_to width (data_address displacement) ∷ []) ++ count))
+abbrev pub store_line : RegisterMap → StoreWidth → ℕ → ℕ → ℕ → List Native
+store_line registers width rs1 rs2 displacement =
+    fetch registers Rax rs1 ++ (fetch registers Rcx rs2 ++ ((store_to width (data_address displacement) ∷ []) ++ count))

@@ -1,5 +1,5 @@
 -- What holds of the code of lines.
-use Rattle.std.specs.Prelude.{[], zero, suc, ◌&&◌, Bool, ◌≤◌, ℤ, if◌then◌else◌, ◌≡◌, ℕ, ◌+◌, ◌^◌, ◌<◌, true, List, ◌∷◌, length}
+use Rattle.std.specs.Prelude.{[], zero, suc, ◌&&◌, Bool, ◌≤◌, ℤ, pos, int_le, ◌+ℤ◌, if◌then◌else◌, ◌≡◌, ◌⊎◌, Option, Some, ℕ, ◌+◌, ◌*◌, ◌-◌, ◌^◌, ◌<◌, true, false, List, ◌∷◌, length}
 use Rattle.rv_word.specs.declared.instr.Cond.{Cond}
 use Rattle.rv_word.specs.declared.instr.Instr.{Instr}
 use Rattle.rv_word.specs.declared.instr.Instr.TheVariants.{Branch, Jal, Jalr, Load, Store}
@@ -9,19 +9,24 @@ use Rattle.rv_word.specs.Spelling.{InRange, offset_by}
 use Rattle.rv_mem.specs.Bytes.{IsMemory, IsThere, address_after}
 use Rattle.rv_step.specs.State.{even_of}
 use Rattle.rv_step.specs.Step.{is_taken, load_size, store_size, word}
+use Rattle.sfi_formats.specs.Limits.{guard}
 use Rattle.sfi_image.specs.Parts.{HasGuardRoom}
 use Rattle.sfi_image.specs.Spelling.{Part}
 use Rattle.sfi_translate.specs.Lines.{Line, Does}
-use Rattle.sfi_translate.specs.Machine.{Target, Assembly, ControlPoint, Before, Loop, Slow, Going, IsTranslatedStep, is_short, is_tested, line_step, one_less}
-use Rattle.x86_step.specs.State.{Core, IsFixed, Machine, Text}
+use Rattle.sfi_translate.specs.Machine.{Target, Assembly, ControlPoint, Before, Loop, Slow, Going, IsTranslatedStep, is_short, is_tested, label, line_step, one_less}
+use Rattle.x86_step.specs.State.{Core, Fixup, IsFixed, Machine, Text}
 use Rattle.x86_instr.specs.declared.instr.Instr.{Instr as Native}
 use Rattle.x86_step.specs.Step.{Reaches, is_canonical, jumped}
 use Rattle.x86_step.specs.Running.{HasAt, spellings}
+use Rattle.sfi_native.specs.declared.registers.RegisterMap.{RegisterMap}
 use Rattle.sfi_native.specs.declared.jump.Jump.{Jump}
 use Rattle.sfi_native.specs.declared.layout.Layout.{Layout}
-use Rattle.sfi_native.specs.Layout.{DoNotMeet, IsLayout, IsRelated, OthersStay, frame_size, value}
-use Rattle.sfi_native.specs.Code.{branch_line, computing_line, does_compute, has_test, jal_line, jalr_line, jump_size, load_line, store_line}
-use Rattle.sfi_native.specs.Places.{AreLast, IsAt, code_of, end_address, exit_of, is_direct, placed, start, whole_code}
+use Rattle.sfi_native.specs.Layout.{DoNotMeet, GuardsAreEmpty, IsLayout, IsRelated, OthersStay, frame_size, value}
+use Rattle.sfi_native.specs.Code.{branch_line, computing_line, does_compute, enter_size, has_test, jal_line, jalr_line, jump_size, load_line, start_size, store_line}
+use Rattle.sfi_native.specs.Faults.{HasFixups, front_of}
+use Rattle.sfi_native.specs.Places.{AreLast, IsAt, code_of, end_address, exit_of, instruction_code, placed, start, whole_code}
+use Rattle.sfi_native.specs.Entries.{AreEntries, entry_of}
+use Rattle.sfi_native.specs.Table.{HasTable, LieInCode, is_unit_start}
 
 -- From a state of the processor at an address, code leads to another address, and to the state of the next turn.
 pub record LeadsTo (t : Text) (at to : ℕ) (p : Part) (l : Layout) (c : Core) (next : Going) : Type 0 where
@@ -45,15 +50,27 @@ pub record IsBefore (is : List Native) (t : Text) (at : ℕ) (p : Part) (l : Lay
   pub text_is_low : IsLow t
   pub stands : HasAt t at (spellings is)
   pub related : IsRelated p l g c
+  pub guards : GuardsAreEmpty p.data_size l c
 
--- For each code, apart from frame and data, there are a text and a processor that meet `IsBefore`.
+-- For each code, apart from frame and data, there is a processor that is before it, in a text that is nothing else, with any
+-- fixups.
 abbrev pub EachCodeCanBeRun : Type 0
 EachCodeCanBeRun =
-    (is : List Native) (at : ℕ) (p : Part) (l : Layout) (g : Going) → IsLayout p.data_size l
+    (is : List Native) (fixups : ℕ → Option Fixup) (at : ℕ) (p : Part) (l : Layout) (g : Going) → IsLayout p.data_size l
     → length g.state.hart.registers ≡ 32 → ((r : ℕ) → value p g r < 2 ^ 32) → g.left < 2 ^ 32
     → end_of at is < 2 ^ 47 → DoNotMeet at (length (spellings is)) l.frame frame_size
     → DoNotMeet at (length (spellings is)) l.data_start p.data_size
-    → (t : Text) × (c : Core) × IsBefore is t at p l g c
+    → (c : Core) × IsBefore is (record { base = at; bytes = spellings is; fixups = fixups }) at p l g c
+
+-- A processor that is before code can have each table of entries, anywhere apart from frame, data and guard zones.
+abbrev pub EachTableCanBeHeld : Type 0
+EachTableCanBeHeld =
+    (p : Part) (l : Layout) (base : ℕ) (code : List Line) (table : List ℕ) (at : ℕ) (is : List Native) (t : Text) (from : ℕ)
+    (g : Going) (c : Core) → AreEntries l.registers p code table → exit_of l.registers code < 2 ^ 32 → at + length p.code ≤ 2 ^ 64
+    → DoNotMeet at (length p.code) l.frame frame_size
+    → DoNotMeet at (length p.code) (l.data_start - guard) (p.data_size + 2 * guard)
+    → IsBefore is t from p l g c
+    → (d : Core) × IsBefore is t from p l g d × (it : HasTable p l base code d) × (it.at ≡ at)
 
 -- An access of n bytes lies in the data, around which guard zones have room.
 pub record IsInData (p : Part) (at n : ℕ) : Type 0 where
@@ -61,13 +78,21 @@ pub record IsInData (p : Part) (at n : ℕ) : Type 0 where
   pub fits : n ≤ p.data_size
   pub tested : is_tested p at n ≡ true
 
+-- An access of n bytes at an offset from a register's value touches a guard zone and nothing beyond, and doesn't wrap.
+pub record TouchesGuards (p : Part) (value : ℕ) (offset : ℤ) (n : ℕ) : Type 0 where
+  pub room : HasGuardRoom p.data_base p.data_size
+  pub fits : n ≤ p.data_size
+  pub low : int_le (pos (p.data_base - guard)) (pos value +ℤ offset) ≡ true
+  pub high : int_le (pos value +ℤ offset +ℤ pos n) (pos (p.data_base + p.data_size + guard)) ≡ true
+  pub tested : is_tested p (offset_by value offset) n ≡ false
+
 -- Wherever the bytes of a computing line stand, they do what the line does, by which its step is counted.
 abbrev pub ComputingLinesRun : Type 0
 ComputingLinesRun =
     (target : Target) (p : Part) (code rest : List Line) (address size : ℕ) (i : Instr) (l : Layout) (t : Text) (at : ℕ)
     (g : Going) (c : Core)
-    → does_compute i ≡ true → InRange i → IsBefore (computing_line address i) t at p l g c
-    → LeadsTo t at (end_of at (computing_line address i)) p l c (line_step target p code (Does address size i ∷ rest) g)
+    → does_compute i ≡ true → InRange i → IsBefore (computing_line l.registers address i) t at p l g c
+    → LeadsTo t at (end_of at (computing_line l.registers address i)) p l c (line_step target p code (Does address size i ∷ rest) g)
 
 -- A tested jump goes out where too few steps are left.
 abbrev pub is_slow : Jump → ℕ → Bool
@@ -88,10 +113,10 @@ abbrev pub BranchLinesRun : Type 0
 BranchLinesRun =
     (target : Target) (p : Part) (code rest : List Line) (address size : ℕ) (cond : Cond) (rs1 rs2 : ℕ) (offset : ℤ) (j : Jump)
     (l : Layout) (t : Text) (at : ℕ) (g : Going) (c : Core)
-    → let end = end_of at (branch_line cond rs1 rs2 j) in
+    → let end = end_of at (branch_line l.registers cond rs1 rs2 j) in
     let left = one_less g.left in
     let taken = is_taken cond (value p g rs1) (value p g rs2) in
-    InRange (Branch cond rs1 rs2 offset) → left < 2 ^ 31 → IsJump end j → IsBefore (branch_line cond rs1 rs2 j) t at p l g c
+    InRange (Branch cond rs1 rs2 offset) → left < 2 ^ 31 → IsJump end j → IsBefore (branch_line l.registers cond rs1 rs2 j) t at p l g c
     → (it : LeadsTo t at (if taken then jump_place end j left else end) p l c
     (line_step target p code (Does address size (Branch cond rs1 rs2 offset) ∷ rest) g))
     × (taken ≡ true → is_slow j left ≡ true → it.after.registers 2 ≡ j.to)
@@ -101,29 +126,41 @@ abbrev pub JalLinesRun : Type 0
 JalLinesRun =
     (target : Target) (p : Part) (code rest : List Line) (address size rd : ℕ) (offset : ℤ) (j : Jump) (l : Layout) (t : Text)
     (at : ℕ) (g : Going) (c : Core)
-    → let line = jal_line rd (address_after address size) j in
+    → let line = jal_line l.registers rd (address_after address size) j in
     let left = one_less g.left in
     InRange (Jal rd offset) → left < 2 ^ 31 → IsJump (end_of at line) j → IsBefore line t at p l g c
     → (it : LeadsTo t at (jump_place (end_of at line) j left) p l c (line_step target p code (Does address size (Jal rd offset) ∷ rest) g))
     × (is_slow j left ≡ true → it.after.registers 2 ≡ j.to)
 
--- A jalr goes out over its distance, with its target in edx, whatever the turn does.
+-- From that end of its line a jalr goes to its target's entry, or out.
+abbrev pub jalr_place : RegisterMap → Part → List Line → ℕ → ℕ → ℕ → ℕ → ℕ → ℕ
+jalr_place registers p code base end distance to left =
+    if is_short Assembly left then jumped end distance
+    else if is_unit_start p to then base + entry_of registers code (label to code)
+    else jumped end distance
+
+-- a jalr jumps so, with its target in edx
 abbrev pub JalrLinesRun : Type 0
 JalrLinesRun =
-    (target : Target) (p : Part) (code rest : List Line) (address size rd rs1 : ℕ) (imm : ℤ) (distance : ℕ) (l : Layout) (t : Text)
-    (at : ℕ) (g : Going) (c : Core)
-    → let line = jalr_line rd rs1 (word imm) (address_after address size) distance in
-    let to = jumped (end_of at line) distance in
-    InRange (Jalr rd rs1 imm) → is_canonical to ≡ true → IsBefore line t at p l g c
-    → (it : LeadsTo t at to p l c (line_step target p code (Does address size (Jalr rd rs1 imm) ∷ rest) g))
-    × (it.after.registers 2 ≡ even_of (offset_by (value p g rs1) imm))
+    (target : Target) (p : Part) (code rest : List Line) (address size rd rs1 : ℕ) (imm : ℤ) (distance base : ℕ) (l : Layout)
+    (t : Text) (at : ℕ) (g : Going) (c : Core)
+    → let line = jalr_line l.registers rd rs1 (word imm) (address_after address size) distance in
+    let end = end_of at line in
+    let to = even_of (offset_by (value p g rs1) imm) in
+    let left = one_less g.left in
+    InRange (Jalr rd rs1 imm) → left < 2 ^ 31 → distance + (start_size + enter_size) < 2 ^ 31
+    → is_canonical (jumped end distance) ≡ true → base + exit_of l.registers code < 2 ^ 47 → LieInCode p code → HasTable p l base code c
+    → IsBefore line t at p l g c
+    → (it : LeadsTo t at (jalr_place l.registers p code base end distance to left) p l c
+    (line_step target p code (Does address size (Jalr rd rs1 imm) ∷ rest) g))
+    × (it.after.registers 2 ≡ to)
 
 -- a load from the data, of which each byte is there
 abbrev pub LoadLinesRun : Type 0
 LoadLinesRun =
     (target : Target) (p : Part) (code rest : List Line) (address size : ℕ) (kind : LoadKind) (rd rs1 : ℕ) (imm : ℤ)
     (l : Layout) (t : Text) (at : ℕ) (g : Going) (c : Core)
-    → let line = load_line kind rd rs1 (word imm) in
+    → let line = load_line l.registers kind rd rs1 (word imm) in
     let from = offset_by (value p g rs1) imm in
     InRange (Load kind rd rs1 imm) → IsInData p from (load_size kind) → IsMemory g.state.memory
     → IsThere g.state.memory from (load_size kind) → IsBefore line t at p l g c
@@ -134,34 +171,55 @@ abbrev pub StoreLinesRun : Type 0
 StoreLinesRun =
     (target : Target) (p : Part) (code rest : List Line) (address size : ℕ) (width : StoreWidth) (rs1 rs2 : ℕ) (imm : ℤ)
     (l : Layout) (t : Text) (at : ℕ) (g : Going) (c : Core)
-    → let line = store_line width rs1 rs2 (word imm) in
+    → let line = store_line l.registers width rs1 rs2 (word imm) in
     let to = offset_by (value p g rs1) imm in
     InRange (Store width rs1 rs2 imm) → IsInData p to (store_size width) → IsThere g.state.memory to (store_size width)
     → IsBefore line t at p l g c
     → LeadsTo t at (end_of at line) p l c (line_step target p code (Does address size (Store width rs1 rs2 imm) ∷ rest) g)
+
+-- the instruction is an access to a guard zone
+abbrev pub Faults : Part → Going → Instr → Type 0
+Faults p g (Load kind rd rs1 imm) = TouchesGuards p (value p g rs1) imm (load_size kind)
+Faults p g (Store width rs1 rs2 imm) = TouchesGuards p (value p g rs1) imm (store_size width)
+Faults p g i = ⊥
+
+-- Such a line goes on where its fixup says, and leaves its instruction to a slow step.
+abbrev pub FaultingLinesRun : Type 0
+FaultingLinesRun =
+    (target : Target) (p : Part) (code rest : List Line) (address size : ℕ) (i : Instr) (distance : ℕ → ℕ) (out : ℕ) (f : Fixup)
+    (l : Layout) (t : Text) (at : ℕ) (g : Going) (c : Core)
+    → InRange i → Faults p g i → IsBefore (instruction_code l.registers distance out address size i) t at p l g c
+    → t.fixups (end_of at (front_of l.registers i)) ≡ Some f
+    → (it : LeadsTo t at f.to p l c (line_step target p code (Does address size i ∷ rest) g)) × (it.after.registers 2 ≡ f.rdx)
 
 -- ==== Lines among all lines of the code.
 
 -- Where all lines' code stands, each line's stands where it starts.
 abbrev pub LinesStand : Type 0
 LinesStand =
-    (t : Text) (base : ℕ) (code rest : List Line) (line : Line)
-    → HasAt t base (spellings (code_of code code)) → AreLast code (line ∷ rest)
-    → HasAt t (base + start code (line ∷ rest)) (spellings (placed code rest line))
+    (registers : RegisterMap) (t : Text) (base : ℕ) (code rest : List Line) (line : Line)
+    → HasAt t base (spellings (code_of registers code code)) → AreLast code (line ∷ rest)
+    → HasAt t (base + start registers code (line ∷ rest)) (spellings (placed registers code rest line))
 
--- an access is one to the data, of which each byte is there
+-- a load is from the data, of which each byte is there
+abbrev pub Loads : Part → Going → ℕ → ℕ → Type 0
+Loads p g from n = IsInData p from n × IsMemory g.state.memory × IsThere g.state.memory from n
+
+-- so is a store
+abbrev pub Stores : Part → Going → ℕ → ℕ → Type 0
+Stores p g to n = IsInData p to n × IsThere g.state.memory to n
+
+-- an access is done or faults
 abbrev pub Accesses : Part → Going → Instr → Type 0
 Accesses p g (Load kind rd rs1 imm) =
-    let from = offset_by (value p g rs1) imm in
-    IsInData p from (load_size kind) × IsMemory g.state.memory × IsThere g.state.memory from (load_size kind)
+    Loads p g (offset_by (value p g rs1) imm) (load_size kind) ⊎ Faults p g (Load kind rd rs1 imm)
 Accesses p g (Store width rs1 rs2 imm) =
-    let to = offset_by (value p g rs1) imm in
-    IsInData p to (store_size width) × IsThere g.state.memory to (store_size width)
+    Stores p g (offset_by (value p g rs1) imm) (store_size width) ⊎ Faults p g (Store width rs1 rs2 imm)
 Accesses p g i = Unit {0}
 
--- it is no indirect jump, and an access is in the data
+-- an access is in the data or touches a guard zone
 abbrev pub IsReady : Part → Going → Line → Type 0
-IsReady p g (Does at n i) = (is_direct i ≡ true) × InRange i × Accesses p g i
+IsReady p g (Does at n i) = InRange i × Accesses p g i
 IsReady p g line = Unit {0}
 
 -- where lines lead so far
@@ -174,7 +232,7 @@ IsCovered place = ⊥
 -- The processor is where the turn is, and has its state.
 pub record IsAlike (p : Part) (l : Layout) (base : ℕ) (code : List Line) (g : Going) (m : Machine) : Type 0 where
   pub related : IsRelated p l g m.core
-  pub is_at : IsAt base code g m
+  pub is_at : IsAt l.registers base code g m
 
 -- From there the processor leads to where the next turn is.
 pub record Follows (t : Text) (p : Part) (l : Layout) (base : ℕ) (code : List Line) (m : Machine) (next : Going) : Type 0 where
@@ -195,8 +253,9 @@ abbrev pub PlacedLinesRun : Type 0
 PlacedLinesRun =
     (p : Part) (code rest : List Line) (l : Layout) (t : Text) (base : ℕ) (g : Going) (m : Machine)
     → let next = line_step Assembly p code rest g in
-    IsBefore (whole_code (end_address p) code) t base p l g m.core → exit_of code < 2 ^ 31 → g.place ≡ Before rest
-    → IsAt base code g m → 0 < g.left → g.left < 2 ^ 31 → IsReadyAt p g (Before rest) → IsCovered next.place
+    IsBefore (whole_code l.registers (end_address p) code) t base p l g m.core → exit_of l.registers code < 2 ^ 31 → HasFixups l.registers t base code
+    → LieInCode p code → HasTable p l base code m.core → g.place ≡ Before rest → IsAt l.registers base code g m → 0 < g.left
+    → g.left < 2 ^ 31 → IsReadyAt p g (Before rest) → IsCovered next.place
     → Follows t p l base code m next
 
 -- so many steps of such lines, one after another
@@ -210,5 +269,6 @@ ArePlacedSteps p code (suc n) g k =
 abbrev pub PlacedStepsRun : Type 0
 PlacedStepsRun =
     (n : ℕ) (p : Part) (code : List Line) (l : Layout) (t : Text) (base : ℕ) (g k : Going) (m : Machine)
-    → IsBefore (whole_code (end_address p) code) t base p l g m.core → exit_of code < 2 ^ 31 → IsAt base code g m
-    → g.left < 2 ^ 31 → ArePlacedSteps p code n g k → Follows t p l base code m k
+    → IsBefore (whole_code l.registers (end_address p) code) t base p l g m.core → exit_of l.registers code < 2 ^ 31 → HasFixups l.registers t base code
+    → LieInCode p code → HasTable p l base code m.core → IsAt l.registers base code g m → g.left < 2 ^ 31 → ArePlacedSteps p code n g k
+    → Follows t p l base code m k

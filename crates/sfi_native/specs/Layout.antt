@@ -1,11 +1,15 @@
 -- Where a sandbox's state lies in a processor, and when both have the same state.
-use Rattle.std.specs.Prelude.{◌≡◌, ℕ, ◌+◌, ◌-◌, ◌*◌, ◌%◌, ◌^◌, ◌<◌, ◌≤◌, ◌⊎◌, true, length, Some}
+use Rattle.std.specs.Prelude.{◌≡◌, ℕ, ◌+◌, ◌-◌, ◌*◌, ◌%◌, ◌^◌, ◌<◌, ◌≤◌, ◌⊎◌, true, length, Option, Some, None}
 use Rattle.rv_mem.specs.Bytes.{byte_at}
 use Rattle.rv_step.specs.State.{register}
+use Rattle.sfi_formats.specs.Limits.{guard}
 use Rattle.sfi_image.specs.Spelling.{Part}
 use Rattle.sfi_translate.specs.Machine.{Going, fixed}
 use Rattle.x86_step.specs.State.{Core, number_at}
+use Rattle.x86_instr.specs.declared.operand.Register.{Register}
+use Rattle.x86_instr.specs.Spelling.{number}
 use Rattle.sfi_native.specs.declared.layout.Layout.{Layout}
+use Rattle.sfi_native.specs.Registers.{IsAssigned, IsRightMap, assigned}
 
 -- the frame has four bytes for each of the 32 registers
 abbrev pub frame_size : ℕ
@@ -15,11 +19,20 @@ frame_size = 128
 abbrev pub DoNotMeet : ℕ → ℕ → ℕ → ℕ → Type 0
 DoNotMeet a m b n = (a + m ≤ b) ⊎ (b + n ≤ a)
 
--- Frame and data don't meet, and end at the last address of 64 bits at the latest.
+-- what a processor maps at once
+abbrev pub page_size : ℕ
+page_size = 4096
+
+-- The map of registers is right. A guard zone lies on each side of the data. A host can leave it unmapped, since the data are
+-- whole pages. These and the frame don't meet, and lie below 2^47, where a process has its memory.
 pub record IsLayout (data_size : ℕ) (l : Layout) : Type 0 where
-  pub frame_ends : l.frame + frame_size ≤ 2 ^ 64
-  pub data_ends : l.data_start + data_size ≤ 2 ^ 64
-  pub apart : DoNotMeet l.frame frame_size l.data_start data_size
+  pub registers_are_right : IsRightMap l.registers
+  pub frame_ends : l.frame + frame_size ≤ 2 ^ 47
+  pub data_begins : guard ≤ l.data_start
+  pub data_ends : l.data_start + data_size + guard ≤ 2 ^ 47
+  pub is_page : l.data_start % page_size ≡ 0
+  pub are_pages : data_size % page_size ≡ 0
+  pub apart : DoNotMeet l.frame frame_size (l.data_start - guard) (data_size + 2 * guard)
 
 -- the host's address of the sandbox's address 0, of which r15 holds 64 bits
 abbrev pub origin : ℕ → Layout → ℕ
@@ -29,12 +42,17 @@ origin data_base l = (l.data_start + (2 ^ 64 - data_base)) % 2 ^ 64
 abbrev pub value : Part → Going → ℕ → ℕ
 value p g r = register (fixed p g.state.hart) r
 
+-- the value lies in the register that register r lies in, or else in the frame
+abbrev pub Holds : Layout → Core → ℕ → Option Register → ℕ → Type 0
+Holds l c r (Some q) v = c.registers (number q) ≡ v
+Holds l c r None v = number_at c.memory 4 (l.frame + 4 * r) ≡ Some v
+
 -- The processor has the turn's state: rsp (4) leads to the frame, r14 (14) has the steps left, r15 (15) the origin of
 -- the data. Where the turn is, rip says, which isn't part of it.
 pub record IsRelated (p : Part) (l : Layout) (g : Going) (c : Core) : Type 0 where
   pub register_count : length g.state.hart.registers ≡ 32
   pub words : (r : ℕ) → value p g r < 2 ^ 32
-  pub registers : (r : ℕ) → r < 32 → number_at c.memory 4 (l.frame + 4 * r) ≡ Some (value p g r)
+  pub registers : (r : ℕ) → r < 32 → Holds l c r (assigned l.registers r) (value p g r)
   pub frame : c.registers 4 ≡ l.frame
   pub frame_is_written : (k : ℕ) → k < frame_size → c.writable (l.frame + k) ≡ true
   pub few : g.left < 2 ^ 32
@@ -43,13 +61,18 @@ pub record IsRelated (p : Part) (l : Layout) (g : Going) (c : Core) : Type 0 whe
   pub bytes_are_written : (k : ℕ) → k < p.data_size → c.writable (l.data_start + k) ≡ true
   pub origin_is : c.registers 15 ≡ origin p.data_base l
 
+-- No byte is in the guard zones, so that an access there faults.
+pub record GuardsAreEmpty (data_size : ℕ) (l : Layout) (c : Core) : Type 0 where
+  pub below : (a : ℕ) → l.data_start ≤ a + guard → a < l.data_start → c.memory a ≡ None
+  pub above : (a : ℕ) → l.data_start + data_size ≤ a → a < l.data_start + data_size + guard → c.memory a ≡ None
+
 -- the address is none of n from a on
 abbrev pub IsOutside : ℕ → ℕ → ℕ → Type 0
 IsOutside at a n = (at < a) ⊎ (a + n ≤ at)
 
--- From one state of the processor to the other, eax, ecx, edx (0 to 2), r14 (14) and flags may change, and memory in
--- frame and data; all else stays.
+-- From one state of the processor to the other, eax, ecx, edx (0 to 2), r14 (14), registers in which the sandbox's lie, and
+-- flags may change, and memory in frame and data; all else stays.
 pub record OthersStay (p : Part) (l : Layout) (c d : Core) : Type 0 where
-  pub others : (k : ℕ) → 2 < k → (k ≡ 14 → ⊥) → d.registers k ≡ c.registers k
+  pub others : (k : ℕ) → 2 < k → (k ≡ 14 → ⊥) → (IsAssigned l.registers k → ⊥) → d.registers k ≡ c.registers k
   pub elsewhere : (a : ℕ) → IsOutside a l.frame frame_size → IsOutside a l.data_start p.data_size → d.memory a ≡ c.memory a
   pub writable : d.writable ≡ c.writable

@@ -1,5 +1,15 @@
+pub mod Registers
 pub mod Layout
 pub mod Code
 pub mod Places
 pub mod Lines
+pub mod Entries
+pub mod Faults
+pub mod Table
 pub mod Laws
+pub mod Sizes
+pub mod Host
+pub mod Whole
+pub mod Checksum
+pub mod private
+pub mod File

@@ -8,6 +8,7 @@ ghost use Rattle.x86_step.specs.Running.{spellings};
 
 use crate::computation::put_count;
 use crate::operation::{put, put_fetch, put_write};
+use crate::registers::RegisterMap;
 use rv_word::{LoadKind, Reg, StoreWidth};
 use std::alloc::AllocError;
 use x86_instr::{Address, Extension, Instr, Narrow, Operand, Register, Scale, Width};
@@ -57,16 +58,17 @@ fn load_from(kind: LoadKind, place: Address) -> Instr
 #[tactic(auto, using(crate::proofs::Lists::load_parts))]
 pub fn push_load_line(
     out: &mut Vec<u8>,
+    registers: &RegisterMap,
     kind: LoadKind,
     rd: Reg,
     rs1: Reg,
     displacement: u32,
 ) -> Result<(), AllocError>
-    ensures { OnOk result (out.new.items ≡ out.old.items ++ spellings (load_line kind rd rs1 displacement)) }
+    ensures { OnOk result (out.new.items ≡ out.old.items ++ spellings (load_line registers.now kind rd rs1 displacement)) }
 {
-    put_fetch(out, Register::Rax, rs1)?;
+    put_fetch(out, registers, Register::Rax, rs1)?;
     put(out, load_from(kind, data_address(displacement)))?;
-    put_write(out, rd)?;
+    put_write(out, registers, rd)?;
     put_count(out)
 }
 
@@ -95,15 +97,16 @@ fn store_to(width: StoreWidth, place: Address) -> Instr
 #[tactic(auto, using(crate::proofs::Lists::store_parts))]
 pub fn push_store_line(
     out: &mut Vec<u8>,
+    registers: &RegisterMap,
     width: StoreWidth,
     rs1: Reg,
     rs2: Reg,
     displacement: u32,
 ) -> Result<(), AllocError>
-    ensures { OnOk result (out.new.items ≡ out.old.items ++ spellings (store_line width rs1 rs2 displacement)) }
+    ensures { OnOk result (out.new.items ≡ out.old.items ++ spellings (store_line registers.now width rs1 rs2 displacement)) }
 {
-    put_fetch(out, Register::Rax, rs1)?;
-    put_fetch(out, Register::Rcx, rs2)?;
+    put_fetch(out, registers, Register::Rax, rs1)?;
+    put_fetch(out, registers, Register::Rcx, rs2)?;
     put(out, store_to(width, data_address(displacement)))?;
     put_count(out)
 }

@@ -1,13 +1,22 @@
 //! The bytes of all lines of a code, in two passes: how many they have, and then with their distances.
-ghost use Rattle.std.specs.Prelude.{◌≡◌, ℕ, ◌++◌, [], ◌∷◌, List, length, map, true, Some, IfOk, IfSome, ◌+◌, ◌^◌, ◌<◌};
+ghost use Rattle.std.specs.Prelude.{◌≡◌, ℕ, ◌++◌, [], ◌∷◌, List, length, map, true, false, Some, IfOk, IfSome, IfNone, OnOk, ◌+◌, ◌^◌, ◌<◌, ◌≤◌};
 ghost use Rattle.sfi_translate.specs.Lines.{Line as CodeLine};
+ghost use Rattle.sfi_image.specs.Spelling.{view};
+ghost use Rattle.sfi_formats.specs.declared.format.Format.{Format};
+ghost use Rattle.sfi_native.specs.Entries.{AreEntries};
+ghost use Rattle.sfi_native.specs.Faults.{accesses_of};
 ghost use Rattle.sfi_native.specs.Lines.{AreMeasured, line_of, target_of};
-ghost use Rattle.sfi_native.specs.Places.{AreLast, code_of, distance as distance_of, distances, exit_of, placed, size_of_all, start, whole_code};
+ghost use Rattle.sfi_native.specs.Places.{AreLast, code_of, distance as distance_of, distances, end_address, exit_of, placed, size_of, size_of_all, start, whole_code};
 ghost use Rattle.x86_step.specs.Running.{spellings};
 
+use crate::entries::entries;
+use crate::faults::{Access, push_access};
 use crate::head::put_end;
 use crate::line::{Line, push_line};
+use crate::registers::RegisterMap;
 use rv_word::Instr;
+use sfi_formats::Format;
+use sfi_image::SandboxPart;
 use std::alloc::{AllocError, Global};
 use std::collections::BTreeMap;
 
@@ -25,16 +34,19 @@ fn target(line: &Line) -> Option<u32>
     }
 }
 
-/// Measures a line in front of those that are.
+/// Measures a line in front of those that are, unless all have 2^31 bytes or more.
 fn measure_line(
     draft: &mut Vec<u8>,
+    registers: &RegisterMap,
     labels: &mut BTreeMap<u32, u32>,
     line: Line,
 ) -> Result<bool, AllocError>
-    ensures { IfOk result (λ ok. ok ≡ true → (rest : List CodeLine)
-        → AreMeasured rest draft.old.items labels.old → AreMeasured (line_of line ∷ rest) draft.new.items labels.new) }
+    ensures few { IfOk result (λ ok. ok ≡ true → (rest : List CodeLine)
+        → AreMeasured registers.now rest draft.old.items labels.old → AreMeasured registers.now (line_of line ∷ rest) draft.new.items labels.new) }
+    ensures many { IfOk result (λ ok. ok ≡ false → (rest : List CodeLine)
+        → AreMeasured registers.now rest draft.old.items labels.old → 2 ^ 31 ≤ size_of_all registers.now (line_of line ∷ rest)) }
 {
-    push_line(draft, line, 0, 0)?;
+    push_line(draft, registers, line, 0, 0)?;
     let size = draft.len();
     if size >= 0x8000_0000 {
         return Ok(false);
@@ -45,19 +57,21 @@ fn measure_line(
     Ok(true)
 }
 
-/// Measures all lines, the last first.
+/// Measures all lines, the last first, unless they have 2^31 bytes or more.
 fn measure(
     draft: &mut Vec<u8>,
+    registers: &RegisterMap,
     labels: &mut BTreeMap<u32, u32>,
     lines: &[Line],
 ) -> Result<bool, AllocError>
-    requires { AreMeasured [] draft.old.items labels.old }
-    ensures { IfOk result (λ ok. ok ≡ true → AreMeasured (map line_of lines.now) draft.new.items labels.new) }
+    requires { AreMeasured registers.now [] draft.old.items labels.old }
+    ensures few { IfOk result (λ ok. ok ≡ true → AreMeasured registers.now (map line_of lines.now) draft.new.items labels.new) }
+    ensures many { IfOk result (λ ok. ok ≡ false → 2 ^ 31 ≤ size_of_all registers.now (map line_of lines.now)) }
 {
     let mut n = lines.len();
     while n > 0 {
         n -= 1;
-        if !measure_line(draft, labels, lines[n])? {
+        if !measure_line(draft, registers, labels, lines[n])? {
             return Ok(false);
         }
     }
@@ -71,90 +85,136 @@ fn distance(from: u32, to: u32) -> u32
     to.wrapping_sub(from)
 }
 
-/// The sum, if it has 32 bits.
-fn sum(a: usize, b: usize) -> Option<u32>
-    ensures { IfSome result (λ n. n ≡ a + b) }
-{
-    u32::try_from(a.checked_add(b)?).ok()
-}
-
-/// How far the label of a line that ends at `end` is, where all lines have `all` bytes; none where no line has it.
-fn label_distance(labels: &BTreeMap<u32, u32>, all: u32, end: u32, line: &Line) -> Option<u32>
-    ensures { IfSome result (λ d. (code rest : List CodeLine) (bytes : List ℕ) (to : ℕ) → AreMeasured code bytes labels.now
-        → all ≡ size_of_all code → end ≡ start code rest → target_of (line_of line.now) ≡ Some to → d ≡ distances code rest to) }
+/// How far the label of a line that ends at `end` is, where all lines have `all` bytes; where no line has it, the end.
+fn label_distance(labels: &BTreeMap<u32, u32>, all: u32, end: u32, line: &Line) -> u32
+    ensures { (registers : RegisterMap) (code rest : List CodeLine) (bytes : List ℕ) (to : ℕ) → AreMeasured registers code bytes labels.now
+        → all ≡ size_of_all registers code → end ≡ start registers code rest → target_of (line_of line.now) ≡ Some to
+        → result ≡ distances registers code rest to }
 {
     let Some(to) = target(line) else {
-        return Some(0);
+        return 0;
     };
-    let left = labels.get(&to)?;
-    Some(distance(end, all.wrapping_sub(*left)))
+    let Some(left) = labels.get(&to) else {
+        return distance(end, all);
+    };
+    distance(end, all.wrapping_sub(*left))
 }
 
 /// Writes a line behind those before it, where all lines have `all` bytes.
 fn place_line(
     out: &mut Vec<u8>,
+    registers: &RegisterMap,
     draft: &mut Vec<u8>,
     labels: &BTreeMap<u32, u32>,
     all: u32,
     line: Line,
-) -> Result<bool, AllocError>
-    ensures { IfOk result (λ ok. ok ≡ true → (code rest : List CodeLine) (bytes : List ℕ)
-        → AreMeasured code bytes labels.now → all ≡ size_of_all code → AreLast code (line_of line ∷ rest)
-        → length out.old.items ≡ start code (line_of line ∷ rest)
-        → out.new.items ≡ out.old.items ++ spellings (placed code rest (line_of line))) }
+) -> Result<(), AllocError>
+    requires fits { length out.old.items + size_of registers.now (line_of line) < 2 ^ 31 }
+    ensures { OnOk result ((code rest : List CodeLine) (bytes : List ℕ)
+        → AreMeasured registers.now code bytes labels.now → all ≡ size_of_all registers.now code → AreLast code (line_of line ∷ rest)
+        → length out.old.items ≡ start registers.now code (line_of line ∷ rest)
+        → out.new.items ≡ out.old.items ++ spellings (placed registers.now code rest (line_of line))) }
 {
     draft.clear();
-    push_line(draft, line, 0, 0)?;
-    let Some(end) = sum(out.len(), draft.len()) else {
-        return Ok(false);
-    };
-    let Some(label) = label_distance(labels, all, end, &line) else {
-        return Ok(false);
-    };
-    push_line(out, line, label, distance(end, all.wrapping_add(5)))?;
-    Ok(true)
+    push_line(draft, registers, line, 0, 0)?;
+    let end = (out.len() + draft.len()) as u32;
+    let label = label_distance(labels, all, end, &line);
+    push_line(
+        out,
+        registers,
+        line,
+        label,
+        distance(end, all.wrapping_add(5)),
+    )?;
+    Ok(())
 }
 
-/// Writes all lines, which have `all` bytes.
+/// Writes all lines, which have `all` bytes, and their accesses.
 fn place(
     out: &mut Vec<u8>,
+    registers: &RegisterMap,
+    accesses: &mut Vec<Access>,
     draft: &mut Vec<u8>,
     labels: &BTreeMap<u32, u32>,
     all: u32,
     lines: &[Line],
-) -> Result<bool, AllocError>
-    requires measured { (bytes : List ℕ) × AreMeasured (map line_of lines.now) bytes labels.now }
-    requires all { all ≡ size_of_all (map line_of lines.now) }
+) -> Result<(), AllocError>
+    requires measured { (bytes : List ℕ) × AreMeasured registers.now (map line_of lines.now) bytes labels.now }
+    requires all { all ≡ size_of_all registers.now (map line_of lines.now) }
     requires none { out.old.items ≡ [] }
-    ensures { IfOk result (λ ok. ok ≡ true
-        → out.new.items ≡ spellings (code_of (map line_of lines.now) (map line_of lines.now))) }
+    requires no_access { accesses.old.items ≡ [] }
+    ensures bytes { OnOk result
+        (out.new.items ≡ spellings (code_of registers.now (map line_of lines.now) (map line_of lines.now))) }
+    ensures accesses { OnOk result
+        (accesses.new.items ≡ accesses_of registers.now (map line_of lines.now) (map line_of lines.now)) }
 {
     for n in 0..lines.len() {
-        if !place_line(out, draft, labels, all, lines[n])? {
-            return Ok(false);
-        }
+        let line = lines[n];
+        push_access(accesses, registers, &line, out.len())?;
+        place_line(out, registers, draft, labels, all, line)?;
     }
-    Ok(true)
+    Ok(())
 }
 
-/// The code of these lines, which are all of a sandbox's, whose code ends at `end`. It goes on at its end, with the pc in
-/// edx, where a slow step or an indirect jump comes, or behind the last line. None where there is a jump to no line, or
-/// 2^31 bytes or more.
-#[tactic(auto, using(crate::proofs::Lists::whole_parts))]
-pub fn compile(alloc: Global, lines: &[Line], end: u32) -> Result<Option<Vec<u8>>, AllocError>
-    ensures bytes { IfOk result (λ code. IfSome code (λ v. v.items ≡ spellings (whole_code end (map line_of lines.now)))) }
-    ensures few { IfOk result (λ code. IfSome code (λ v. exit_of (map line_of lines.now) < 2 ^ 31)) }
+/// The address behind a sandbox's code.
+fn end_of(part: &SandboxPart<'_>) -> u32
+    ensures { (format : Format) → result ≡ end_address (view format part.now) }
+{
+    part.code_base
+        .wrapping_add((part.code.len() % 0x1_0000_0000) as u32)
+}
+
+/// The code of a sandbox.
+#[derive(Drop)]
+pub struct CompiledCode {
+    /// Its bytes, which may stand anywhere.
+    pub bytes: Vec<u8>,
+    /// For each unit of the sandbox's code, in order, the offset of its code.
+    pub entries: Vec<u32>,
+    /// Where the bytes may fault, the first one first.
+    pub accesses: Vec<Access>,
+}
+
+/// The code of a sandbox with these lines, by that map of its registers. It goes on at its end, with the pc in edx, where a slow step comes, or behind
+/// the last line, where a jump to no line goes, too. None where it has 2^31 bytes or more.
+pub fn compile(
+    alloc: Global,
+    format: Format,
+    part: &SandboxPart<'_>,
+    registers: &RegisterMap,
+    lines: &[Line],
+) -> Result<Option<CompiledCode>, AllocError>
+    ensures bytes { IfOk result (λ code. IfSome code (λ it. it.bytes.items
+        ≡ spellings (whole_code registers.now (end_address (view format part.now)) (map line_of lines.now)))) }
+    ensures few { IfOk result (λ code. IfSome code (λ it. exit_of registers.now (map line_of lines.now) < 2 ^ 31)) }
+    ensures many { IfOk result (λ code. IfNone code (2 ^ 31 ≤ exit_of registers.now (map line_of lines.now))) }
+    ensures entries { IfOk result (λ code. IfSome code (λ it.
+        AreEntries registers.now (view format part.now) (map line_of lines.now) it.entries.items)) }
+    ensures accesses { IfOk result (λ code. IfSome code (λ it.
+        it.accesses.items ≡ accesses_of registers.now (map line_of lines.now) (map line_of lines.now))) }
 {
     let mut draft = Vec::new(alloc);
     let mut labels = BTreeMap::new(alloc);
-    if !measure(&mut draft, &mut labels, lines)? || draft.len() >= 0x7fff_fffb {
+    if !measure(&mut draft, registers, &mut labels, lines)? || draft.len() >= 0x7fff_fffb {
         return Ok(None);
     }
     let all = draft.len() as u32;
-    let mut out = Vec::new(alloc);
-    if !place(&mut out, &mut draft, &labels, all, lines)? {
-        return Ok(None);
-    }
-    put_end(&mut out, end)?;
-    Ok(Some(out))
+    let mut bytes = Vec::new(alloc);
+    let mut accesses = Vec::new(alloc);
+    place(
+        &mut bytes,
+        registers,
+        &mut accesses,
+        &mut draft,
+        &labels,
+        all,
+        lines,
+    )?;
+    put_end(&mut bytes, end_of(part))?;
+    let entries = entries(alloc, format, part, &labels, all)?;
+    Ok(Some(CompiledCode {
+        bytes,
+        entries,
+        accesses,
+    }))
 }

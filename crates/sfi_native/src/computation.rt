@@ -4,14 +4,20 @@ ghost use Rattle.sfi_native.specs.Code.{computation, computing_line, count, does
 ghost use Rattle.x86_step.specs.Running.{spellings};
 
 use crate::operation::{put, put_compute, put_compute_imm, put_fetch, put_write};
+use crate::registers::RegisterMap;
 use rv_word::{ImmOp, Instr, Reg, RegOp};
 use std::alloc::AllocError;
 use x86_instr::{AluOp, Instr as Native, Operand, Register, Width};
 
 /// Writes a number into a register.
 #[tactic(auto, using(crate::proofs::Lists::two_parts))]
-pub(crate) fn put_number(out: &mut Vec<u8>, rd: Reg, number: u32) -> Result<(), AllocError>
-    ensures { OnOk result (out.new.items ≡ out.old.items ++ spellings (number_code rd number)) }
+pub(crate) fn put_number(
+    out: &mut Vec<u8>,
+    registers: &RegisterMap,
+    rd: Reg,
+    number: u32,
+) -> Result<(), AllocError>
+    ensures { OnOk result (out.new.items ≡ out.old.items ++ spellings (number_code registers.now rd number)) }
 {
     put(
         out,
@@ -20,39 +26,70 @@ pub(crate) fn put_number(out: &mut Vec<u8>, rd: Reg, number: u32) -> Result<(), 
             imm: number,
         },
     )?;
-    put_write(out, rd)
+    put_write(out, registers, rd)
 }
 
 #[tactic(auto, using(crate::proofs::Lists::op_parts))]
-fn put_op(out: &mut Vec<u8>, op: RegOp, rd: Reg, rs1: Reg, rs2: Reg) -> Result<(), AllocError>
-    ensures { OnOk result (out.new.items ≡ out.old.items ++ spellings (op_code op rd rs1 rs2)) }
+fn put_op(
+    out: &mut Vec<u8>,
+    registers: &RegisterMap,
+    op: RegOp,
+    rd: Reg,
+    rs1: Reg,
+    rs2: Reg,
+) -> Result<(), AllocError>
+    ensures { OnOk result (out.new.items ≡ out.old.items ++ spellings (op_code registers.now op rd rs1 rs2)) }
 {
-    put_fetch(out, Register::Rax, rs1)?;
-    put_fetch(out, Register::Rcx, rs2)?;
+    put_fetch(out, registers, Register::Rax, rs1)?;
+    put_fetch(out, registers, Register::Rcx, rs2)?;
     put_compute(out, op)?;
-    put_write(out, rd)
+    put_write(out, registers, rd)
 }
 
 #[tactic(auto, using(crate::proofs::Lists::imm_parts))]
-fn put_op_imm(out: &mut Vec<u8>, op: ImmOp, rd: Reg, rs1: Reg, imm: u32) -> Result<(), AllocError>
-    ensures { OnOk result (out.new.items ≡ out.old.items ++ spellings (imm_code op rd rs1 imm)) }
+fn put_op_imm(
+    out: &mut Vec<u8>,
+    registers: &RegisterMap,
+    op: ImmOp,
+    rd: Reg,
+    rs1: Reg,
+    imm: u32,
+) -> Result<(), AllocError>
+    ensures { OnOk result (out.new.items ≡ out.old.items ++ spellings (imm_code registers.now op rd rs1 imm)) }
 {
-    put_fetch(out, Register::Rax, rs1)?;
+    put_fetch(out, registers, Register::Rax, rs1)?;
     put_compute_imm(out, op, imm)?;
-    put_write(out, rd)
+    put_write(out, registers, rd)
 }
 
 /// Writes what an instruction at that address computes.
 #[tactic(auto, unfolding(crate::specs::Code::computation))]
-fn put_computation(out: &mut Vec<u8>, at: u32, instr: &Instr) -> Result<(), AllocError>
+fn put_computation(
+    out: &mut Vec<u8>,
+    registers: &RegisterMap,
+    at: u32,
+    instr: &Instr,
+) -> Result<(), AllocError>
     requires { does_compute instr.now ≡ true }
-    ensures { OnOk result (out.new.items ≡ out.old.items ++ spellings (computation at instr.now)) }
+    ensures { OnOk result (out.new.items ≡ out.old.items ++ spellings (computation registers.now at instr.now)) }
 {
     match *instr {
-        Instr::Op { op, rd, rs1, rs2 } => put_op(out, op, rd, rs1, rs2),
-        Instr::OpImm { op, rd, rs1, imm } => put_op_imm(out, op, rd, rs1, imm.cast_unsigned()),
-        Instr::Lui { rd, imm } => put_number(out, rd, imm.wrapping_mul(4096)),
-        Instr::Auipc { rd, imm } => put_number(out, rd, at.wrapping_add(imm.wrapping_mul(4096))),
+        Instr::Op { op, rd, rs1, rs2 } => put_op(out, registers, op, rd, rs1, rs2),
+        Instr::OpImm { op, rd, rs1, imm } => put_op_imm(
+            out,
+            registers,
+            op,
+            rd,
+            rs1,
+            imm.cast_unsigned(),
+        ),
+        Instr::Lui { rd, imm } => put_number(out, registers, rd, imm.wrapping_mul(4096)),
+        Instr::Auipc { rd, imm } => put_number(
+            out,
+            registers,
+            rd,
+            at.wrapping_add(imm.wrapping_mul(4096)),
+        ),
         _ => Ok(()),
     }
 }
@@ -101,14 +138,19 @@ fn computes(instr: &Instr) -> bool
 
 /// Writes the line of an instruction at that address behind what is there, if it computes; tells whether.
 #[tactic(auto, using(crate::proofs::Lists::two_parts))]
-pub fn push_computing_line(out: &mut Vec<u8>, at: u32, instr: Instr) -> Result<bool, AllocError>
+pub fn push_computing_line(
+    out: &mut Vec<u8>,
+    registers: &RegisterMap,
+    at: u32,
+    instr: Instr,
+) -> Result<bool, AllocError>
     ensures computes { IfOk result (λ written. written ≡ does_compute instr) }
-    ensures bytes { OnOk result (out.new.items ≡ (if does_compute instr then out.old.items ++ spellings (computing_line at instr) else out.old.items)) }
+    ensures bytes { OnOk result (out.new.items ≡ (if does_compute instr then out.old.items ++ spellings (computing_line registers.now at instr) else out.old.items)) }
 {
     if !computes(&instr) {
         return Ok(false);
     }
-    put_computation(out, at, &instr)?;
+    put_computation(out, registers, at, &instr)?;
     put_count(out)?;
     Ok(true)
 }

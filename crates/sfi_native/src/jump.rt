@@ -1,18 +1,15 @@
 //! The bytes of a branch or a jal.
 ghost use Rattle.std.specs.Prelude.{◌≡◌, ◌++◌, length, OnOk};
-ghost use Rattle.sfi_native.specs.Code.{branch_line, compare_code, has_test as has_head_test, jal_line, jalr_line, opposite as opposite_of, target_code, tested_jump};
-ghost use Rattle.x86_instr.specs.declared.instr.Instr.TheVariants.{AluImm};
-ghost use Rattle.x86_instr.specs.declared.instr.Width.TheVariants.{Dword};
-ghost use Rattle.x86_instr.specs.declared.operand.Operand.TheVariants.{Reg as InRegister};
-ghost use Rattle.x86_instr.specs.declared.operand.Register.TheVariants.{Rdx};
+ghost use Rattle.sfi_native.specs.Code.{branch_line, compare_code, has_test as has_head_test, jal_line, opposite as opposite_of, tested_jump};
 ghost use Rattle.x86_step.specs.Running.{spellings};
 
 use crate::computation::{put_count, put_number};
 use crate::head::push_head_line;
 use crate::operation::{put, put_fetch, with_ecx};
+use crate::registers::RegisterMap;
 use rv_word::{Cond, Reg};
 use std::alloc::AllocError;
-use x86_instr::{AluOp, Condition, Instr, Operand, Register, Width};
+use x86_instr::{AluOp, Condition, Instr, Register};
 
 /// A jump between two addresses of the sandbox. Distances are in bytes, from the line's end, in two's complement.
 #[derive(Clone, Copy)]
@@ -76,11 +73,16 @@ fn opposite(cond: Cond) -> Condition
 
 /// Writes the comparison of two registers.
 #[tactic(auto, using(crate::proofs::Lists::compare_parts))]
-fn put_compare(out: &mut Vec<u8>, rs1: Reg, rs2: Reg) -> Result<(), AllocError>
-    ensures { OnOk result (out.new.items ≡ out.old.items ++ spellings (compare_code rs1 rs2)) }
+fn put_compare(
+    out: &mut Vec<u8>,
+    registers: &RegisterMap,
+    rs1: Reg,
+    rs2: Reg,
+) -> Result<(), AllocError>
+    ensures { OnOk result (out.new.items ≡ out.old.items ++ spellings (compare_code registers.now rs1 rs2)) }
 {
-    put_fetch(out, Register::Rax, rs1)?;
-    put_fetch(out, Register::Rcx, rs2)?;
+    put_fetch(out, registers, Register::Rax, rs1)?;
+    put_fetch(out, registers, Register::Rcx, rs2)?;
     put_count(out)?;
     put(out, with_ecx(AluOp::Cmp))
 }
@@ -89,14 +91,15 @@ fn put_compare(out: &mut Vec<u8>, rs1: Reg, rs2: Reg) -> Result<(), AllocError>
 #[tactic(auto, using(crate::proofs::Lists::branch_parts))]
 pub fn push_branch_line(
     out: &mut Vec<u8>,
+    registers: &RegisterMap,
     cond: Cond,
     rs1: Reg,
     rs2: Reg,
     jump: Jump,
 ) -> Result<(), AllocError>
-    ensures { OnOk result (out.new.items ≡ out.old.items ++ spellings (branch_line cond rs1 rs2 jump)) }
+    ensures { OnOk result (out.new.items ≡ out.old.items ++ spellings (branch_line registers.now cond rs1 rs2 jump)) }
 {
-    put_compare(out, rs1, rs2)?;
+    put_compare(out, registers, rs1, rs2)?;
     put(
         out,
         Instr::Jcc {
@@ -109,51 +112,16 @@ pub fn push_branch_line(
 
 /// Writes the line of a jal behind what is there; `next` is the address of what follows it in the sandbox.
 #[tactic(auto, using(crate::proofs::Lists::jal_parts))]
-pub fn push_jal_line(out: &mut Vec<u8>, rd: Reg, next: u32, jump: Jump) -> Result<(), AllocError>
-    ensures { OnOk result (out.new.items ≡ out.old.items ++ spellings (jal_line rd next jump)) }
+pub fn push_jal_line(
+    out: &mut Vec<u8>,
+    registers: &RegisterMap,
+    rd: Reg,
+    next: u32,
+    jump: Jump,
+) -> Result<(), AllocError>
+    ensures { OnOk result (out.new.items ≡ out.old.items ++ spellings (jal_line registers.now rd next jump)) }
 {
-    put_number(out, rd, next)?;
+    put_number(out, registers, rd, next)?;
     put_count(out)?;
     put_jump(out, &jump)
-}
-
-/// An operation of edx and a number.
-fn with_edx(op: AluOp, imm: u32) -> Instr
-    ensures { result ≡ AluImm op Dword (InRegister Rdx) imm }
-{
-    Instr::AluImm {
-        op,
-        width: Width::Dword,
-        dst: Operand::Reg(Register::Rdx),
-        imm,
-    }
-}
-
-/// Writes the target of a jalr into edx.
-#[tactic(auto, using(crate::proofs::Lists::target_parts))]
-fn put_target(out: &mut Vec<u8>, rs1: Reg, displacement: u32) -> Result<(), AllocError>
-    ensures { OnOk result (out.new.items ≡ out.old.items ++ spellings (target_code rs1 displacement)) }
-{
-    put_fetch(out, Register::Rdx, rs1)?;
-    put(out, with_edx(AluOp::Add, displacement))?;
-    put(out, with_edx(AluOp::And, 0xffff_fffe))
-}
-
-/// Writes the line of a jalr behind what is there; `next` is the address of what follows it in the sandbox. The
-/// displacement and the distance are in two's complement, the distance in bytes, from the line's end.
-#[tactic(auto, using(crate::proofs::Lists::jalr_parts))]
-pub fn push_jalr_line(
-    out: &mut Vec<u8>,
-    rd: Reg,
-    rs1: Reg,
-    displacement: u32,
-    next: u32,
-    distance: u32,
-) -> Result<(), AllocError>
-    ensures { OnOk result (out.new.items ≡ out.old.items ++ spellings (jalr_line rd rs1 displacement next distance)) }
-{
-    put_target(out, rs1, displacement)?;
-    put_number(out, rd, next)?;
-    put_count(out)?;
-    put(out, Instr::Jmp { distance })
 }

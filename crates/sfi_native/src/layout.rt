@@ -1,10 +1,19 @@
-//! Where a sandbox's state lies in the host's memory.
+//! Where a sandbox's state lies.
 ghost use Rattle.std.specs.Prelude.{◌≡◌, IfSome, IfNone};
 ghost use Rattle.sfi_native.specs.Layout.{IsLayout};
 
-/// Where a sandbox's state lies in the host's memory.
+use crate::registers::RegisterMap;
+
+/// The bytes of a page, and of a guard zone.
+const PAGE: u64 = 4096;
+/// Where a process's memory ends.
+const END: u64 = 1 << 47;
+
+/// Where a sandbox's state lies: in registers of the processor, a frame, and the host's memory of its data.
 #[derive(Clone, Copy)]
 pub struct Layout {
+    /// Which registers lie in the processor's.
+    pub registers: RegisterMap,
     /// The address of the frame, 128 bytes.
     pub frame: u64,
     /// The address of the data's first byte.
@@ -12,21 +21,37 @@ pub struct Layout {
 }
 
 impl Layout {
-    /// The layout of that frame and data of so many bytes; none where they overlap, or one goes on beyond the last
-    /// address.
-    pub fn new(frame: u64, data_start: u64, data_size: u32) -> Option<Layout>
-        ensures some { IfSome result (λ l. (l ≡ record { frame = frame; data_start = data_start }) × IsLayout data_size l) }
-        ensures none { IfNone result (IsLayout data_size (record { frame = frame; data_start = data_start }) → ⊥) }
+    /// The layout of that map and frame and of data of so many bytes, with a guard zone of 4096 bytes on each side; none
+    /// where the map isn't right, the data aren't whole pages, the frame meets data or zones, or one goes on below address 0
+    /// or beyond 2^47.
+    pub fn new(
+        registers: RegisterMap,
+        frame: u64,
+        data_start: u64,
+        data_size: u32,
+    ) -> Option<Layout>
+        ensures some { IfSome result (λ l.
+            (l ≡ record { registers = registers; frame = frame; data_start = data_start }) × IsLayout data_size l) }
+        ensures none { IfNone result
+            (IsLayout data_size (record { registers = registers; frame = frame; data_start = data_start }) → ⊥) }
     {
-        let frame_last = frame.checked_add(127)?;
-        let size = u64::from(data_size);
-        if size > 0 {
-            data_start.checked_add(size - 1)?;
+        if !registers.is_right() {
+            return None;
         }
-        let before = frame_last < data_start;
-        let after = size <= frame && data_start <= frame - size;
-        if before || after {
-            Some(Layout { frame, data_start })
+        if data_start % PAGE != 0 || u64::from(data_size) % PAGE != 0 {
+            return None;
+        }
+        let zone_start = data_start.checked_sub(PAGE)?;
+        let size = u64::from(data_size) + 2 * PAGE;
+        if frame > END - 128 || zone_start > END - size {
+            return None;
+        }
+        if frame + 128 <= zone_start || zone_start + size <= frame {
+            Some(Layout {
+                registers,
+                frame,
+                data_start,
+            })
         } else {
             None
         }

@@ -1,31 +1,50 @@
 //! Machine code of x86-64 for the lines of an accepted sandbox.
 //!
-//! Each of the sandbox's 32 registers has four bytes in a frame, r14 has the steps left, r15 the host's address of the
-//! sandbox's address 0; eax, ecx and edx are free between lines. `specs/Code.antt` says which instructions a line becomes,
-//! `specs/Layout.antt` when a processor has the state of a turn. Laws say that the bytes of lines then do what these do:
-//! `Facts::computing_lines_run`, `branch_lines_run`, `jal_lines_run`, `jalr_lines_run`, `load_lines_run`,
-//! `store_lines_run`; `lines_stand`, `placed_lines_run`, `placed_steps_run` of all that [`compile`] writes
-//! (`specs/Places.antt`), up to accesses that fault and indirect jumps that stay in the code.
+//! Each of the sandbox's 32 registers lies in a register of the processor, as a map says (`specs/Registers.antt`), or has
+//! four bytes in a frame; r14 has the steps left, r15 the host's address of the sandbox's address 0, r13 that of the code,
+//! r12 that of a table of entries (`specs/Table.antt`); eax, ecx and edx are free between lines. `specs/Code.antt` says
+//! which instructions a line becomes, `specs/Layout.antt` when a processor has the state of a turn. Laws say that the bytes of lines then do what these do: `Facts::computing_lines_run`,
+//! `branch_lines_run`, `jal_lines_run`, `jalr_lines_run`, `load_lines_run`, `store_lines_run`, `faulting_lines_run`;
+//! `lines_stand`, `placed_lines_run`, `placed_steps_run` of all that [`compile`] writes (`specs/Places.antt`). An access to
+//! a guard zone faults: the host then goes out by the table of accesses that [`compile`] makes, too (`specs/Faults.antt`).
+//! `native_turns_end` speaks of that code and a host (`specs/Host.antt`), in a whole turn of an accepted sandbox
+//! (`specs/Whole.antt`).
 #![tactic(auto)]
 
 mod access;
+mod checksum;
 mod compilation;
 mod computation;
 mod division;
+mod entries;
+pub mod faults;
+mod file;
 pub mod frame;
 mod head;
 pub mod jump;
 pub mod layout;
 pub mod line;
+mod listing;
 mod operation;
+mod register_jump;
+#[cfg(test)]
+mod register_tests;
+pub mod registers;
 #[cfg(test)]
 mod tests;
+mod uses;
 
 pub use access::{push_load_line, push_store_line};
-pub use compilation::compile;
+pub use compilation::{CompiledCode, compile};
 pub use computation::push_computing_line;
+pub use faults::Access;
+pub use file::native_file;
 pub use frame::frame_of;
 pub use head::{push_head_line, push_leave_line};
-pub use jump::{Jump, push_branch_line, push_jal_line, push_jalr_line};
+pub use jump::{Jump, push_branch_line, push_jal_line};
 pub use layout::Layout;
 pub use line::{Line, push_line};
+pub use listing::lines_of;
+pub use register_jump::push_jalr_line;
+pub use registers::RegisterMap;
+pub use uses::map_of;

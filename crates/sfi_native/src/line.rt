@@ -8,7 +8,9 @@ ghost use Rattle.x86_step.specs.Running.{spellings};
 use crate::access::{push_load_line, push_store_line};
 use crate::computation::push_computing_line;
 use crate::head::{push_head_line, push_leave_line};
-use crate::jump::{Jump, push_branch_line, push_jal_line, push_jalr_line};
+use crate::jump::{Jump, push_branch_line, push_jal_line};
+use crate::register_jump::push_jalr_line;
+use crate::registers::RegisterMap;
 use rv_word::Instr;
 use std::alloc::AllocError;
 
@@ -43,13 +45,14 @@ fn jump(at: u32, offset: i32, label: u32, exit: u32) -> Jump
 #[tactic(auto, using(crate::proofs::Lists::no_part))]
 fn put_instruction(
     out: &mut Vec<u8>,
+    registers: &RegisterMap,
     at: u32,
     size: u32,
     instr: Instr,
     label: u32,
     exit: u32,
 ) -> Result<(), AllocError>
-    ensures { OnOk result (out.new.items ≡ out.old.items ++ spellings (instruction_code (λ to. label) exit at size instr)) }
+    ensures { OnOk result (out.new.items ≡ out.old.items ++ spellings (instruction_code registers.now (λ to. label) exit at size instr)) }
 {
     match instr {
         Instr::Branch {
@@ -57,27 +60,36 @@ fn put_instruction(
             rs1,
             rs2,
             offset,
-        } => push_branch_line(out, cond, rs1, rs2, jump(at, offset, label, exit)),
+        } => push_branch_line(
+            out,
+            registers,
+            cond,
+            rs1,
+            rs2,
+            jump(at, offset, label, exit),
+        ),
         Instr::Jal { rd, offset } => {
             push_jal_line(
                 out,
+                registers,
                 rd,
                 at.wrapping_add(size),
                 jump(at, offset, label, exit),
             )
         }
         Instr::Load { kind, rd, rs1, imm } => {
-            push_load_line(out, kind, rd, rs1, imm.cast_unsigned())
+            push_load_line(out, registers, kind, rd, rs1, imm.cast_unsigned())
         }
         Instr::Store {
             width,
             rs1,
             rs2,
             imm,
-        } => push_store_line(out, width, rs1, rs2, imm.cast_unsigned()),
+        } => push_store_line(out, registers, width, rs1, rs2, imm.cast_unsigned()),
         Instr::Ecall | Instr::Ebreak => push_leave_line(out, at, exit),
         Instr::Jalr { rd, rs1, imm } => push_jalr_line(
             out,
+            registers,
             rd,
             rs1,
             imm.cast_unsigned(),
@@ -85,7 +97,7 @@ fn put_instruction(
             exit,
         ),
         _ => {
-            push_computing_line(out, at, instr)?;
+            push_computing_line(out, registers, at, instr)?;
             Ok(())
         }
     }
@@ -94,12 +106,20 @@ fn put_instruction(
 /// Writes a line behind what is there. Distances are in bytes, from the line's end, in two's complement: `label` to where
 /// it jumps, `exit` to the way out.
 #[tactic(auto, using(crate::proofs::Lists::no_part))]
-pub fn push_line(out: &mut Vec<u8>, line: Line, label: u32, exit: u32) -> Result<(), AllocError>
-    ensures { OnOk result (out.new.items ≡ out.old.items ++ spellings (line_code (λ to. label) exit (line_of line))) }
+pub fn push_line(
+    out: &mut Vec<u8>,
+    registers: &RegisterMap,
+    line: Line,
+    label: u32,
+    exit: u32,
+) -> Result<(), AllocError>
+    ensures { OnOk result (out.new.items ≡ out.old.items ++ spellings (line_code registers.now (λ to. label) exit (line_of line))) }
 {
     match line {
         Line::Function { .. } | Line::End { .. } | Line::Entry { .. } => Ok(()),
         Line::Head { at } => push_head_line(out, at, exit),
-        Line::Does { at, size, instr } => put_instruction(out, at, size, instr, label, exit),
+        Line::Does { at, size, instr } => put_instruction(
+            out, registers, at, size, instr, label, exit,
+        ),
     }
 }

@@ -1,6 +1,7 @@
-//! The instructions of one operation on eax and ecx, and those that fetch and write registers of the frame.
+//! The instructions of one operation on eax and ecx, and those that fetch and write the sandbox's registers.
 ghost use Rattle.std.specs.Prelude.{◌≡◌, ◌++◌, ◌∷◌, [], ◌%◌, OnOk};
-ghost use Rattle.sfi_native.specs.Code.{compute, compute_imm, fetch, high_product, is_fixed as is_fixed_register, set_if, slot as slot_of, write};
+ghost use Rattle.sfi_native.specs.Code.{compute, compute_imm, fetch, high_product, operand_of, set_if, slot as slot_of, store_eax as store_eax_of, write};
+ghost use Rattle.sfi_native.specs.Registers.{assigned};
 ghost use Rattle.rv_word.specs.declared.instr.RegOp.TheVariants.{Mulh, Mulhsu};
 ghost use Rattle.x86_instr.specs.declared.instr.Instr.TheVariants.{Alu, AluImm, Movsxd, ShiftImm};
 ghost use Rattle.x86_instr.specs.declared.instr.Width.TheVariants.{Dword};
@@ -11,6 +12,7 @@ ghost use Rattle.x86_step.specs.Running.{spellings};
 use crate::division::{
     put_signed_quotient, put_signed_remainder, put_unsigned_quotient, put_unsigned_remainder,
 };
+use crate::registers::{RegisterMap, is_fixed};
 use rv_word::{ImmOp, Reg, RegOp};
 use std::alloc::AllocError;
 use x86_instr::{
@@ -26,16 +28,8 @@ pub(crate) fn put(out: &mut Vec<u8>, instr: Instr) -> Result<(), AllocError>
     encode(out, instr)
 }
 
-/// A register that has one value for lines, so that none writes it.
-fn is_fixed(r: Reg) -> bool
-    ensures { result ≡ is_fixed_register r }
-{
-    let n = r.number();
-    n == 0 || n == 24 || n == 25 || n == 26 || n == 27
-}
-
 /// A register's place in the frame.
-fn slot(r: Reg) -> Address
+pub(crate) fn slot(r: Reg) -> Address
     ensures { result ≡ slot_of r }
 {
     Address {
@@ -46,35 +40,65 @@ fn slot(r: Reg) -> Address
     }
 }
 
+/// The place of a register.
+fn operand(registers: &RegisterMap, r: Reg) -> Operand
+    ensures { result ≡ operand_of (assigned registers.now r) r }
+{
+    match registers.of(r) {
+        Some(q) => Operand::Reg(q),
+        None => Operand::Mem(slot(r)),
+    }
+}
+
 /// Fetches a register into a free one.
-pub(crate) fn put_fetch(out: &mut Vec<u8>, dst: Register, r: Reg) -> Result<(), AllocError>
-    ensures { OnOk result (out.new.items ≡ out.old.items ++ spellings (fetch dst r)) }
+pub(crate) fn put_fetch(
+    out: &mut Vec<u8>,
+    registers: &RegisterMap,
+    dst: Register,
+    r: Reg,
+) -> Result<(), AllocError>
+    ensures { OnOk result (out.new.items ≡ out.old.items ++ spellings (fetch registers.now dst r)) }
 {
     put(
         out,
         Instr::Mov {
             width: Width::Dword,
             dst,
-            src: Operand::Mem(slot(r)),
+            src: operand(registers, r),
         },
     )
 }
 
-/// Writes eax into a register.
-pub(crate) fn put_write(out: &mut Vec<u8>, r: Reg) -> Result<(), AllocError>
-    ensures { OnOk result (out.new.items ≡ out.old.items ++ spellings (write r)) }
+/// Eax into the place of a register.
+fn store_eax(registers: &RegisterMap, r: Reg) -> Instr
+    ensures { result ≡ store_eax_of (assigned registers.now r) r }
 {
-    if is_fixed(r) {
-        return Ok(());
-    }
-    put(
-        out,
-        Instr::MovStore {
+    match registers.of(r) {
+        Some(q) => Instr::Mov {
+            width: Width::Dword,
+            dst: q,
+            src: Operand::Reg(Register::Rax),
+        },
+        None => Instr::MovStore {
             width: Width::Dword,
             dst: slot(r),
             src: Register::Rax,
         },
-    )
+    }
+}
+
+/// Writes eax into a register.
+pub(crate) fn put_write(
+    out: &mut Vec<u8>,
+    registers: &RegisterMap,
+    r: Reg,
+) -> Result<(), AllocError>
+    ensures { OnOk result (out.new.items ≡ out.old.items ++ spellings (write registers.now r)) }
+{
+    if is_fixed(r.number()) {
+        return Ok(());
+    }
+    put(out, store_eax(registers, r))
 }
 
 /// Writes a comparison, and its outcome into eax.

@@ -1,9 +1,12 @@
 //! Lines of code, as the GNU assembler spells their instructions.
 use crate::{
-    Jump, Line, compile, push_branch_line, push_computing_line, push_head_line, push_jal_line,
-    push_jalr_line, push_leave_line, push_line, push_load_line, push_store_line,
+    Jump, Line, RegisterMap, compile, push_branch_line, push_computing_line, push_head_line,
+    push_jal_line, push_jalr_line, push_leave_line, push_line, push_load_line, push_store_line,
 };
 use rv_word::{Cond, ImmOp, Instr, LoadKind, Reg, RegOp, StoreWidth};
+use sfi_formats::Format;
+use sfi_image::SandboxPart;
+use std::alloc::Global;
 use std::test::Fail;
 
 // {load} add and {rex} setl choose among spellings of one instruction. x24 isn't written, and an ecall isn't computed.
@@ -33,25 +36,25 @@ fn lines_are_spelled(rt: HostRuntime) -> Result<(), Fail> {
         rs1: x5,
         rs2: x6,
     };
-    assert!(rt; push_computing_line(&mut out, 0, add)?);
+    assert!(rt; push_computing_line(&mut out, &RegisterMap::in_frame(), 0, add)?);
     let slti = Instr::OpImm {
         op: ImmOp::Slti,
         rd: Reg::numbered(31),
         rs1: x5,
         imm: -5,
     };
-    assert!(rt; push_computing_line(&mut out, 4, slti)?);
+    assert!(rt; push_computing_line(&mut out, &RegisterMap::in_frame(), 4, slti)?);
     let lui = Instr::Lui {
         rd: Reg::numbered(24),
         imm: 0xdeadb,
     };
-    assert!(rt; push_computing_line(&mut out, 8, lui)?);
-    assert!(rt; !push_computing_line(&mut out, 12, Instr::Ecall)?);
+    assert!(rt; push_computing_line(&mut out, &RegisterMap::in_frame(), 8, lui)?);
+    assert!(rt; !push_computing_line(&mut out, &RegisterMap::in_frame(), 12, Instr::Ecall)?);
     assert!(rt; out.as_slice() == BYTES.as_slice());
     Ok(())
 }
 
-const JUMPS: [u8; 96] = [
+const JUMPS: [u8; 128] = [
     139, 68, 36, 20, // mov eax, [rsp+20]
     139, 76, 36, 24, // mov ecx, [rsp+24]
     65, 131, 238, 1, // sub r14d, 1
@@ -73,7 +76,16 @@ const JUMPS: [u8; 96] = [
     184, 4, 0, 0, 1, // mov eax, 0x1000004
     137, 68, 36, 4, // mov [rsp+4], eax
     65, 131, 238, 1, // sub r14d, 1
-    233, 0, 16, 0, 0, // jmp .+4101
+    65, 131, 254, 65, // cmp r14d, 65
+    15, 130, 27, 16, 0, 0, // jb .+4129
+    139, 194, // {load} mov eax, edx
+    35, 68, 36, 100, // and eax, [rsp+100]
+    11, 68, 36, 96, // or eax, [rsp+96]
+    59, 194, // {load} cmp eax, edx
+    15, 133, 9, 16, 0, 0, // jne .+4111
+    65, 139, 4, 20, // mov eax, [r12+rdx]
+    73, 3, 197, // {load} add rax, r13
+    255, 224, // jmp rax
 ];
 
 #[test]
@@ -87,6 +99,7 @@ fn jumps_are_spelled(rt: HostRuntime) -> Result<(), Fail> {
     };
     push_branch_line(
         &mut out,
+        &RegisterMap::in_frame(),
         Cond::Bgeu,
         Reg::numbered(5),
         Reg::numbered(6),
@@ -96,11 +109,18 @@ fn jumps_are_spelled(rt: HostRuntime) -> Result<(), Fail> {
         label: 0xffff_fff0,
         ..ahead
     };
-    push_jal_line(&mut out, Reg::numbered(1), 0x0100_0004, near)?;
+    push_jal_line(
+        &mut out,
+        &RegisterMap::in_frame(),
+        Reg::numbered(1),
+        0x0100_0004,
+        near,
+    )?;
     push_head_line(&mut out, 0x0100_0080, 4096)?;
     push_leave_line(&mut out, 0x0100_0084, 4096)?;
     push_jalr_line(
         &mut out,
+        &RegisterMap::in_frame(),
         Reg::numbered(1),
         Reg::numbered(5),
         4,
@@ -127,6 +147,7 @@ fn accesses_are_spelled(rt: HostRuntime) -> Result<(), Fail> {
     let mut out = Vec::new(rt.alloc());
     push_load_line(
         &mut out,
+        &RegisterMap::in_frame(),
         LoadKind::Lb,
         Reg::numbered(10),
         Reg::numbered(2),
@@ -134,6 +155,7 @@ fn accesses_are_spelled(rt: HostRuntime) -> Result<(), Fail> {
     )?;
     push_store_line(
         &mut out,
+        &RegisterMap::in_frame(),
         StoreWidth::Sw,
         Reg::numbered(2),
         Reg::numbered(11),
@@ -202,7 +224,7 @@ fn divisions_are_spelled(rt: HostRuntime) -> Result<(), Fail> {
             rs1: Reg::numbered(5),
             rs2: Reg::numbered(6),
         };
-        assert!(rt; push_computing_line(&mut out, 0, division)?);
+        assert!(rt; push_computing_line(&mut out, &RegisterMap::in_frame(), 0, division)?);
     }
     assert!(rt; out.as_slice() == DIVISIONS.as_slice());
     Ok(())
@@ -230,9 +252,16 @@ fn each_kind_of_line_is_spelled(rt: HostRuntime) -> Result<(), Fail> {
         offset: 64,
     };
     let (at, size) = (0x0100_0000, 4);
-    push_line(&mut out, Line::Function { sandbox: 0, at }, 0, 0)?;
     push_line(
         &mut out,
+        &RegisterMap::in_frame(),
+        Line::Function { sandbox: 0, at },
+        0,
+        0,
+    )?;
+    push_line(
+        &mut out,
+        &RegisterMap::in_frame(),
         Line::Does {
             at,
             size,
@@ -243,6 +272,7 @@ fn each_kind_of_line_is_spelled(rt: HostRuntime) -> Result<(), Fail> {
     )?;
     push_line(
         &mut out,
+        &RegisterMap::in_frame(),
         Line::Does {
             at,
             size,
@@ -251,19 +281,25 @@ fn each_kind_of_line_is_spelled(rt: HostRuntime) -> Result<(), Fail> {
         0xffff_fff0,
         0,
     )?;
-    push_line(&mut out, Line::Head { at: at + 128 }, 0, 4096)?;
+    push_line(
+        &mut out,
+        &RegisterMap::in_frame(),
+        Line::Head { at: at + 128 },
+        0,
+        4096,
+    )?;
     let ecall = Line::Does {
         at: at + 132,
         size,
         instr: Instr::Ecall,
     };
-    push_line(&mut out, ecall, 0, 4096)?;
+    push_line(&mut out, &RegisterMap::in_frame(), ecall, 0, 4096)?;
     let jalr = Line::Does {
         at,
         size,
         instr: jump_register(),
     };
-    push_line(&mut out, jalr, 0, 4096)?;
+    push_line(&mut out, &RegisterMap::in_frame(), jalr, 0, 4096)?;
     assert!(rt; out.as_slice() == JUMPS.as_slice());
     Ok(())
 }
@@ -289,6 +325,22 @@ const COMPILED: [u8; 87] = [
     233, 189, 255, 255, 255, // {disp32} jmp 1b
     186, 12, 0, 0, 1, // mov edx, 0x100000c; 9:
 ];
+
+// 1, 3 and 2 above
+const ENTRIES: [u32; 3] = [15, 40, 49];
+
+/// A sandbox of that code, at 0x01000000.
+fn part_of(alloc: Global, code: &[u8]) -> SandboxPart<'_> {
+    SandboxPart {
+        code_base: 0x0100_0000,
+        data_base: 0x0200_0000,
+        data_size: 4096,
+        start: 0x0100_0000,
+        gates: Vec::new(alloc),
+        code,
+        init: &[],
+    }
+}
 
 #[test]
 fn code_is_compiled(rt: HostRuntime) -> Result<(), Fail> {
@@ -326,11 +378,71 @@ fn code_is_compiled(rt: HostRuntime) -> Result<(), Fail> {
             instr: jal,
         },
     ];
-    let Some(code) = compile(rt.alloc(), lines.as_slice(), at + 12)? else {
+    let part = part_of(rt.alloc(), &[0; 12]);
+    let Some(compiled) = compile(
+        rt.alloc(),
+        Format::Sfiw,
+        &part,
+        &RegisterMap::in_frame(),
+        lines.as_slice(),
+    )?
+    else {
         panic!(rt; "no code");
     };
-    assert!(rt; code.as_slice() == COMPILED.as_slice());
-    // no line has the branch's label
-    assert!(rt; compile(rt.alloc(), &lines[..4], at + 8)?.is_none());
+    assert!(rt; compiled.bytes.as_slice() == COMPILED.as_slice());
+    assert!(rt; compiled.entries.as_slice() == ENTRIES.as_slice());
+    assert!(rt; compiled.accesses.is_empty());
+    Ok(())
+}
+
+// mov eax, [rsp+8]; then the load, of 5 bytes; mov [rsp+20], eax; sub r14d, 1; mov eax, [rsp]; mov ecx, [rsp+24]; then the
+// store
+const LOAD_OFFSET: u32 = 4;
+
+const STORE_OFFSET: u32 = 4 + 5 + 4 + 4 + 3 + 4;
+
+#[test]
+fn accesses_are_told(rt: HostRuntime) -> Result<(), Fail> {
+    let at = 0x0100_0000;
+    let load = Instr::Load {
+        kind: LoadKind::Lw,
+        rd: Reg::numbered(5),
+        rs1: Reg::numbered(2),
+        imm: 8,
+    };
+    let store = Instr::Store {
+        width: StoreWidth::Sh,
+        rs1: Reg::numbered(0),
+        rs2: Reg::numbered(6),
+        imm: -4,
+    };
+    let lines = [
+        Line::Does {
+            at,
+            size: 4,
+            instr: load,
+        },
+        Line::Entry { at: at + 4 },
+        Line::Does {
+            at: at + 4,
+            size: 4,
+            instr: store,
+        },
+    ];
+    let part = part_of(rt.alloc(), &[0; 8]);
+    let Some(compiled) = compile(
+        rt.alloc(),
+        Format::Sfiw,
+        &part,
+        &RegisterMap::in_frame(),
+        lines.as_slice(),
+    )?
+    else {
+        panic!(rt; "no code");
+    };
+    let accesses = compiled.accesses.as_slice();
+    assert!(rt; accesses.len() == 2);
+    assert!(rt; accesses[0].offset == LOAD_OFFSET && accesses[0].pc == at);
+    assert!(rt; accesses[1].offset == STORE_OFFSET && accesses[1].pc == at + 4);
     Ok(())
 }

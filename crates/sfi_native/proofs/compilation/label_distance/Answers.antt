@@ -6,7 +6,8 @@ use Rattle.sfi_native.proofs.Compiled.{label_far}
 use Rattle.sfi_native.proofs.compilation.label_distance.Goals as goal
 
 pub returns : goal.returns
-returns c = λ code rest bytes to measured all_is end_is target_is.
+returns c = λ registers code rest bytes to measured all_is end_is target_is.
     let same : c.in-Some.to ≡ to = cc in
-    let held : get nat_cmp c.args.labels.now c.in-Some.to ≡ Some c.in_ok-left.left.now = sym c.in_ok-left.ensures.value in
-    c.distance.ensures ∙ label_far code rest bytes c.args.labels.now c.in-Some.to c.in_ok-left.left.now c.args.all c.args.end measured all_is end_is held ∙ ap (λ a. distances code rest a) same
+    let left = c.in-Some-get.left.now in
+    let held : get nat_cmp c.args.labels.now c.in-Some.to ≡ Some left = sym c.in-Some-get.ensures.value in
+    c.distance-2.ensures ∙ label_far registers code rest bytes c.args.labels.now c.in-Some.to left c.args.all c.args.end measured all_is end_is held ∙ ap (λ a. distances registers code rest a) same

@@ -1,0 +1,190 @@
+-- Registers of the processor in which the sandbox's lie.
+use Rattle.std.proofs.Common.{◌≡◌, ℕ, zero, suc, ◌+◌, ◌*◌, ◌<◌, ◌==◌, ◌⊎◌, if◌then◌else◌, inl, inr, true, Option, Some, None, refl, sym, ap, ◌∙◌, subst, arith}
+use Rattle.std.specs.Prelude.{get_or, replicate, length}
+use Rattle.std.proofs.lemmas.Bool.{cases_Bool, cases_eq, cases_lt, eq-eqb, false≢true}
+use Rattle.std.proofs.lemmas.List.{get_or-replicate, get_or_past, length-replicate}
+use Rattle.x86_instr.specs.declared.operand.Register.{Register}
+use Rattle.x86_instr.specs.declared.operand.Register.TheVariants.{Rax, Rcx, Rdx, Rbx, Rsp, Rbp, Rsi, Rdi, R8, R9, R10, R11, R12, R13, R14, R15}
+use Rattle.x86_instr.specs.Spelling.{number}
+use Rattle.x86_step.specs.State.{Core, number_at, updated}
+use Rattle.sfi_native.specs.declared.layout.Layout.{Layout}
+use Rattle.sfi_native.specs.declared.registers.RegisterMap.{RegisterMap}
+use Rattle.sfi_native.specs.Layout.{Holds}
+use Rattle.sfi_native.specs.Registers.{IsAssigned, IsRightMap, assigned, is_assignable, is_fixed}
+use Rattle.sfi_native.specs.private.{IsRightAt}
+use Rattle.sfi_native.proofs.Kept.{Kept, updated_other}
+
+-- ==== Numbers of registers.
+
+abbrev of_number : ℕ → Register
+of_number k =
+    if k == 0 then Rax else if k == 1 then Rcx else if k == 2 then Rdx else if k == 3 then Rbx
+    else if k == 4 then Rsp else if k == 5 then Rbp else if k == 6 then Rsi else if k == 7 then Rdi
+    else if k == 8 then R8 else if k == 9 then R9 else if k == 10 then R10 else if k == 11 then R11
+    else if k == 12 then R12 else if k == 13 then R13 else if k == 14 then R14 else R15
+
+numbered : (q : Register) → of_number (number q) ≡ q
+numbered Rax = refl
+numbered Rcx = refl
+numbered Rdx = refl
+numbered Rbx = refl
+numbered Rsp = refl
+numbered Rbp = refl
+numbered Rsi = refl
+numbered Rdi = refl
+numbered R8 = refl
+numbered R9 = refl
+numbered R10 = refl
+numbered R11 = refl
+numbered R12 = refl
+numbered R13 = refl
+numbered R14 = refl
+numbered R15 = refl
+
+-- no two registers have one number
+pub same_register : (q k : Register) → number q ≡ number k → q ≡ k
+same_register q k same = sym (numbered q) ∙ ap of_number same ∙ numbered k
+
+-- none of those that code takes for itself
+pub record Free (k : ℕ) : Type 0 where
+  pub above : 2 < k
+  pub below : k < 12
+  pub no_frame : k ≡ 4 → ⊥
+
+assignable_free : (q : Register) → is_assignable q ≡ true → Free (number q)
+assignable_free Rbx is = record { above = omega arith; below = omega arith; no_frame = λ e. omega (arith, e) }
+assignable_free Rbp is = record { above = omega arith; below = omega arith; no_frame = λ e. omega (arith, e) }
+assignable_free Rsi is = record { above = omega arith; below = omega arith; no_frame = λ e. omega (arith, e) }
+assignable_free Rdi is = record { above = omega arith; below = omega arith; no_frame = λ e. omega (arith, e) }
+assignable_free R8 is = record { above = omega arith; below = omega arith; no_frame = λ e. omega (arith, e) }
+assignable_free R9 is = record { above = omega arith; below = omega arith; no_frame = λ e. omega (arith, e) }
+assignable_free R10 is = record { above = omega arith; below = omega arith; no_frame = λ e. omega (arith, e) }
+assignable_free R11 is = record { above = omega arith; below = omega arith; no_frame = λ e. omega (arith, e) }
+assignable_free q is = absurd (false≢true is)
+
+-- ==== Values of the sandbox's registers in the processor's.
+
+pub updated_same : (f : ℕ → ℕ) (r v : ℕ) → updated f r v r ≡ v
+updated_same f r v = rw (eq-eqb r r refl) refl
+
+abbrev pub put_in : Option Register → ℕ → (ℕ → ℕ) → ℕ → ℕ
+put_in (Some q) v f = updated f (number q) v
+put_in None v f = f
+
+passes : (o : Option Register) (v : ℕ) (f : ℕ → ℕ) (k : ℕ) → ((q : Register) → o ≡ Some q → k ≡ number q → ⊥) → put_in o v f k ≡ f k
+passes None v f k apart = refl
+passes (Some q) v f k apart = updated_other f (number q) v k (apart q refl)
+
+-- the first n of the sandbox's registers, where they lie in the processor's
+abbrev pub with_values : RegisterMap → (ℕ → ℕ) → ℕ → (ℕ → ℕ) → ℕ → ℕ
+with_values registers values zero f = f
+with_values registers values (suc n) f = put_in (assigned registers n) (values n) (with_values registers values n f)
+
+module _ (registers : RegisterMap) (right : IsRightMap registers) where
+  pub free : (r : ℕ) (q : Register) → assigned registers r ≡ Some q → Free (number q)
+  free r q is = assignable_free q (right.assignable r q is)
+
+  -- what code takes for itself
+  pub not_assigned : (k : ℕ) → (k < 3) ⊎ ((11 < k) ⊎ (k ≡ 4)) → IsAssigned registers k → ⊥
+  not_assigned k (inl low) (r, q, is, same) = let f = free r q is in omega (arith, low, f.above, same)
+  not_assigned k (inr (inl high)) (r, q, is, same) = let f = free r q is in omega (arith, high, f.below, same)
+  not_assigned k (inr (inr frame)) (r, q, is, same) = let f = free r q is in f.no_frame (same ∙ frame)
+
+  module _ (values : ℕ → ℕ) (f : ℕ → ℕ) where
+    pub other_register : (n k : ℕ) → (IsAssigned registers k → ⊥) → with_values registers values n f k ≡ f k
+    other_register zero k none = refl
+    other_register (suc n) k none =
+        passes (assigned registers n) (values n) (with_values registers values n f) k (λ q is same. none (n, q, is, sym same)) ∙ other_register n k none
+
+    pub has_value : (n r : ℕ) (q : Register) → r < n → assigned registers r ≡ Some q → with_values registers values n f (number q) ≡ values r
+    has_value zero r q below is = absurd (omega (arith, below))
+    has_value (suc n) r q below is = elim (cases_eq r n) [
+      | inl same ↦
+          ap (λ o. put_in o (values n) (with_values registers values n f) (number q)) (ap (assigned registers) (sym same) ∙ is)
+          ∙ updated_same (with_values registers values n f) (number q) (values n) ∙ ap values (sym same)
+      | inr other ↦
+          passes (assigned registers n) (values n) (with_values registers values n f) (number q)
+          (λ k own same. other (right.apart r n q is (own ∙ ap Some (sym (same_register q k same)))))
+          ∙ has_value n r q (omega (arith, below, other)) is
+    ]
+
+-- ==== Where a value lies.
+
+-- it stays where both may be
+pub holds_on : (l : Layout) (c d : Core) (r v : ℕ) (o : Option Register)
+    → (o ≡ None → number_at d.memory 4 (l.frame + 4 * r) ≡ number_at c.memory 4 (l.frame + 4 * r))
+    → ((q : Register) → o ≡ Some q → d.registers (number q) ≡ c.registers (number q)) → Holds l c r o v → Holds l d r o v
+holds_on l c d r v None memory own has = memory refl ∙ has
+holds_on l c d r v (Some q) memory own has = own q refl ∙ has
+
+-- free registers may have anything
+pub holds_kept : (l : Layout) → IsRightMap l.registers → (c d : Core) (r v : ℕ) → Kept c d → Holds l c r (assigned l.registers r) v → Holds l d r (assigned l.registers r) v
+holds_kept l right c d r v k has =
+    holds_on l c d r v (assigned l.registers r) (λ e. ap (λ m. number_at m 4 (l.frame + 4 * r)) k.memory)
+    (λ q is. k.registers (number q) (free l.registers right r q is).above) has
+
+-- ==== The test of a map.
+
+abbrev nothing : Option Register
+nothing = None
+
+pub none_assigned : (r : ℕ) → get_or (replicate 32 nothing) r nothing ≡ nothing
+none_assigned r = elim (cases_lt r 32) [
+  | inl below ↦ get_or-replicate 32 r nothing nothing below
+  | inr past ↦ get_or_past (replicate 32 nothing) r nothing (omega (arith, past, length-replicate 32 nothing))
+]
+
+pub none_right : (registers : RegisterMap) → ((r : ℕ) → assigned registers r ≡ None) → IsRightMap registers
+none_right registers none = record {
+  in_frame = λ r held. none r;
+  assignable = λ r q own. let clash : None ≡ Some q = sym (none r) ∙ own in cc;
+  apart = λ r s q one other. let clash : None ≡ Some q = sym (none r) ∙ one in cc;
+}
+
+pub none_more : (registers : RegisterMap) (n : ℕ) (q : Register) → ((r : ℕ) → r < n → assigned registers r ≡ Some q → ⊥) → (assigned registers n ≡ Some q → ⊥)
+    → (r : ℕ) → r < n + 1 → assigned registers r ≡ Some q → ⊥
+none_more registers n q first last r below own = elim (cases_eq r n) [
+  | inl same ↦ last (ap (assigned registers) (sym same) ∙ own)
+  | inr other ↦ first r (omega (arith, below, other)) own
+]
+
+module _ (registers : RegisterMap) where
+  pub right_at : IsRightMap registers → (n : ℕ) → IsRightAt registers n
+  right_at right n q own = (
+    right.assignable n q own,
+    elim (cases_Bool (is_fixed n)) [
+      | inl held ↦ let clash : None ≡ Some q = sym (right.in_frame n held) ∙ own in cc
+      | inr free ↦ free
+    ],
+    λ r before other. omega (arith, before, right.apart r n q other own),
+  )
+
+  pub one_more_right : (n : ℕ) → ((r : ℕ) → r < n → IsRightAt registers r) → IsRightAt registers n → (r : ℕ) → r < n + 1 → IsRightAt registers r
+  one_more_right n first last r below = elim (cases_eq r n) [
+    | inl same ↦ subst (λ k. IsRightAt registers k) (sym same) last
+    | inr other ↦ first r (omega (arith, below, other))
+  ]
+
+  module _ (count : length registers.assigned ≡ 32) (each : (r : ℕ) → r < 32 → IsRightAt registers r) where
+    within : (r : ℕ) (q : Register) → assigned registers r ≡ Some q → r < 32
+    within r q own = elim (cases_lt r 32) [
+      | inl below ↦ below
+      | inr past ↦ let clash : None ≡ Some q = sym (get_or_past registers.assigned r None (omega (arith, past, count))) ∙ own in cc
+    ]
+
+    in_frame : (r : ℕ) → is_fixed r ≡ true → (o : Option Register) → assigned registers r ≡ o → o ≡ None
+    in_frame r held None own = refl
+    in_frame r held (Some q) own = absurd (false≢true (sym (each r (within r q own) q own).1 ∙ held))
+
+    pub right_from : IsRightMap registers
+    right_from = record {
+      in_frame = λ r held. in_frame r held (assigned registers r) refl;
+      assignable = λ r q own. (each r (within r q own) q own).0;
+      apart = λ r s q one other. elim (cases_lt r s) [
+        | inl before ↦ absurd ((each s (within s q other) q other).2 r before one)
+        | inr from ↦ elim (cases_lt s r) [
+          | inl after ↦ absurd ((each r (within r q one) q one).2 s after other)
+          | inr to ↦ omega (arith, from, to)
+        ]
+      ];
+    }

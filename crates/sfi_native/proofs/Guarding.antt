@@ -1,0 +1,188 @@
+-- The code of accesses that touch a guard zone.
+use Rattle.std.proofs.Common.{◌≡◌, ℕ, zero, suc, ◌+◌, ◌-◌, ◌*◌, ◌%◌, ◌^◌, ◌<◌, ◌≤◌, true, Option, Some, None, List, ◌∷◌, ◌++◌, refl, ap, ◌∙◌, sym, arith, inl, inr}
+use Rattle.std.specs.Prelude.{Err, ℤ, pos, negsuc, int_le, ◌+ℤ◌, nat_le}
+use Rattle.std.proofs.lemmas.Bool.{cases_Bool, cases_lt, leb-false, le-ltb, lt-ltb}
+use Rattle.std.proofs.lemmas.Int.{ints}
+use Rattle.rv_word.specs.declared.instr.Instr.TheVariants.{Load, Store}
+use Rattle.rv_word.specs.declared.instr.LoadKind.{LoadKind}
+use Rattle.rv_word.specs.declared.instr.LoadKind.TheVariants.{Lb, Lh, Lw, Lbu, Lhu}
+use Rattle.rv_word.specs.declared.instr.StoreWidth.{StoreWidth}
+use Rattle.rv_word.specs.declared.instr.StoreWidth.TheVariants.{Sb, Sh, Sw}
+use Rattle.rv_word.specs.Spelling.{IsImm12, offset_by}
+unfoldable use Rattle.rv_word.specs.Spelling.{InRange}
+use Rattle.rv_step.specs.Step.{load_size, store_size, word}
+use Rattle.sfi_image.specs.Spelling.{Part}
+use Rattle.sfi_safe_runs.proofs.Accessing.{load_sized, store_sized}
+use Rattle.sfi_translate.specs.Machine.{Going, Slow, goes_with}
+use Rattle.x86_instr.specs.declared.operand.Register.TheVariants.{Rax, Rcx}
+use Rattle.x86_instr.specs.declared.operand.Address.{Address}
+use Rattle.x86_instr.specs.declared.instr.Instr.{Instr as Native}
+use Rattle.x86_instr.specs.Spelling.{spelling}
+use Rattle.x86_step.specs.declared.machine.Stop.TheVariants.{Fault}
+use Rattle.x86_step.specs.State.{Core, Fixup, Text, joined, number_at, with_register}
+use Rattle.x86_step.specs.Step.{address, effect, loaded, resumed, sign_extended}
+unfoldable use Rattle.x86_step.specs.Step.{computes}
+use Rattle.x86_step.specs.Running.{spellings}
+use Rattle.x86_step.proofs.Facts.{faults_resume}
+use Rattle.x86_step.proofs.Running.{exec_append, has_front}
+use Rattle.sfi_native.specs.declared.layout.Layout.{Layout}
+use Rattle.sfi_native.specs.Layout.{GuardsAreEmpty, IsLayout, IsRelated, value}
+use Rattle.sfi_native.specs.Laws.{FaultingLinesRun, IsBefore, TouchesGuards, LeadsTo, end_of}
+use Rattle.sfi_native.specs.Code.{count, data_address, fetch, load_from, store_to, write}
+use Rattle.sfi_native.proofs.Accessing.{negative_small, positive_small}
+use Rattle.sfi_native.proofs.Fetching.{fetched, related_goes, related_kept}
+use Rattle.sfi_native.proofs.Kept.{Kept, kept_join, kept_register, others_kept}
+use Rattle.sfi_native.proofs.Runs.{Runs, back_fixed, back_stands, straight_runs, then_reaches}
+
+-- ==== Bytes that aren't there.
+
+joined_none : (o : Option ℕ) → joined o None ≡ None
+joined_none None = refl
+joined_none (Some b) = refl
+
+-- no number has a byte that is missing
+number_missing : (m : ℕ → Option ℕ) (n k at : ℕ) → k < n → m (at + k) ≡ None → number_at m n at ≡ None
+number_missing m zero k at small none = absurd (omega (arith, small))
+number_missing m (suc n) zero at small none =
+    let z : at + 0 ≡ at = omega arith in
+    let here : m at ≡ None = ap m (sym z) ∙ none in
+    rw here refl
+number_missing m (suc n) (suc k) at small none =
+    let next : at + suc k ≡ at + 1 + k = omega arith in
+    let rest : number_at m n (at + 1) ≡ None = number_missing m n k (at + 1) (omega (arith, small)) (ap m (sym next) ∙ none) in
+    rw rest (joined_none (m at))
+
+load_missing : (c : Core) (n at : ℕ) → number_at c.memory n at ≡ None → loaded c n at ≡ Err Fault
+load_missing c n at none = elim (cases_Bool (nat_le (at + n) (2 ^ 64))) [
+  | inl e ↦ rw (e, none) refl
+  | inr e ↦ rw e refl
+]
+
+-- ==== Where the access goes.
+
+-- An offset of 12 bits that leads to the data or a guard zone leads there in the host, too.
+module _ (a base size n start : ℕ) (low : 4096 ≤ base) (high : base + size + 4096 ≤ 2 ^ 32) (fits : a < 2 ^ 32) (some : 0 < n)
+    (begins : 4096 ≤ start) (ends : start + size + 4096 ≤ 2 ^ 47) where
+  pub record Reach (imm : ℤ) : Type 0 where
+    pub from : base ≤ offset_by a imm + 4096
+    pub below : offset_by a imm + n ≤ base + size + 4096
+    pub place : ((start + (2 ^ 64 - base)) % 2 ^ 64 + a * 2 ^ 0 + sign_extended (word imm)) % 2 ^ 64 ≡ start + offset_by a imm - base
+
+  in_host : (imm : ℤ) → IsImm12 imm → int_le (pos (base - 4096)) (pos a +ℤ imm) ≡ true
+      → int_le (pos a +ℤ imm +ℤ pos n) (pos (base + size + 4096)) ≡ true → Reach imm
+  in_host (pos k) range from below =
+      let small = positive_small k range in
+      let at_is : offset_by a (pos k) ≡ (a + k) % 2 ^ 32 = omega (arith, ints, fits, small) in
+      let f : base ≤ a + k + 4096 = omega (arith, ints, from) in
+      let b : a + k + n ≤ base + size + 4096 = omega (arith, ints, below) in
+      let whole : offset_by a (pos k) ≡ a + k = omega (arith, at_is, b, high, some) in
+      let d : word (pos k) ≡ k = omega (arith, ints, small) in
+      let near : sign_extended (word (pos k)) ≡ k = ap sign_extended d ∙ (rw (lt-ltb k (2 ^ 31) (omega (arith, small))) refl) in
+      record { from = omega (arith, whole, f); below = omega (arith, whole, b); place = omega (arith, near, whole, f, b, ends, begins, low, high) }
+  in_host (negsuc k) range from below =
+      let small = negative_small k range in
+      let at_is : offset_by a (negsuc k) ≡ (a + (2 ^ 32 - 1 - k)) % 2 ^ 32 = grind (arith, ints) in
+      let f : base + k + 1 ≤ a + 4096 = omega (arith, ints, from, low) in
+      let b : a + n ≤ base + size + 4096 + k + 1 = omega (arith, ints, below) in
+      let whole : offset_by a (negsuc k) + 1 + k ≡ a = omega (arith, at_is, f, low, small, fits) in
+      let d : word (negsuc k) ≡ 2 ^ 32 - 1 - k = omega (arith, ints, small) in
+      let far : sign_extended (word (negsuc k)) ≡ 2 ^ 64 - 1 - k = ap sign_extended d ∙ (rw (le-ltb (2 ^ 32 - 1 - k) (2 ^ 31) (omega (arith, small))) (omega (arith, small))) in
+      record { from = omega (arith, whole, f); below = omega (arith, whole, b); place = omega (arith, far, whole, f, b, ends, begins, low, high, small) }
+
+module _ (p : Part) (l : Layout) (layout : IsLayout p.data_size l) (g : Going) (c : Core) (is : IsRelated p l g c) (guards : GuardsAreEmpty p.data_size l c)
+    (n : ℕ) (some : 0 < n) (rs1 : ℕ) (imm : ℤ) (range : IsImm12 imm) (access : TouchesGuards p (value p g rs1) imm n) where
+  abbrev at : ℕ
+  at = offset_by (value p g rs1) imm
+
+  abbrev place : ℕ
+  place = l.data_start + at - p.data_base
+
+  reach : Reach (value p g rs1) p.data_base p.data_size n l.data_start access.room.below access.room.above (is.words rs1) some layout.data_begins layout.data_ends imm
+  reach = in_host (value p g rs1) p.data_base p.data_size n l.data_start access.room.below access.room.above (is.words rs1) some layout.data_begins layout.data_ends imm range access.low access.high
+
+  -- one of its bytes is in a guard zone
+  missing : number_at c.memory n place ≡ None
+  missing = elim (cases_lt at p.data_base) [
+    | inl before ↦
+        number_missing c.memory n 0 place some (guards.below (place + 0) (omega (arith, reach.from, before, layout.data_begins)) (omega (arith, reach.from, before, layout.data_begins)))
+    | inr behind ↦
+        let far : p.data_size - n < (at + (2 ^ 32 - p.data_base)) % 2 ^ 32 = leb-false _ _ access.tested in
+        let close : at + n ≤ p.data_base + p.data_size + 4096 = reach.below in
+        let over : p.data_base + p.data_size < at + n = omega (arith, far, behind, close, access.fits, access.room.above) in
+        number_missing c.memory n (n - 1) place (omega (arith, some))
+        (guards.above (place + (n - 1)) (omega (arith, over, behind, some)) (omega (arith, close, behind, some)))
+  ]
+
+  -- whatever the free registers but eax have
+  pub faults : (d : Core) → d.registers 0 ≡ value p g rs1 → Kept c d → loaded d n (address d (data_address (word imm))) ≡ Err Fault
+  faults d in_eax kept =
+      let origin_is = kept.registers 15 (omega arith) ∙ is.origin_is in
+      let there : address d (data_address (word imm)) ≡ place =
+      ap (λ o. (o + d.registers 0 * 2 ^ 0 + sign_extended (word imm)) % 2 ^ 64) origin_is
+      ∙ ap (λ a. ((l.data_start + (2 ^ 64 - p.data_base)) % 2 ^ 64 + a * 2 ^ 0 + sign_extended (word imm)) % 2 ^ 64) in_eax ∙ reach.place in
+      ap (loaded d n) there ∙ load_missing d n place (ap (λ m. number_at m n place) kept.memory ∙ missing)
+
+-- ==== The instruction.
+
+load_faults : (kind : LoadKind) (a : Address) (after : ℕ) (c : Core) → loaded c (load_size kind) (address c a) ≡ Err Fault → effect (load_from kind a) after c ≡ Err Fault
+unfolding computes
+load_faults Lb a after c is = rw is refl
+load_faults Lh a after c is = rw is refl
+load_faults Lw a after c is = rw is refl
+load_faults Lbu a after c is = rw is refl
+load_faults Lhu a after c is = rw is refl
+
+store_faults : (width : StoreWidth) (a : Address) (after : ℕ) (c : Core) → loaded c (store_size width) (address c a) ≡ Err Fault → effect (store_to width a) after c ≡ Err Fault
+unfolding computes
+store_faults Sb a after c is = rw is refl
+store_faults Sh a after c is = rw is refl
+store_faults Sw a after c is = rw is refl
+
+-- Behind code that only changes free registers, an instruction that faults goes on by its fixup.
+goes_on : (p : Part) (l : Layout) (t : Text) (at : ℕ) (front back : List Native) (access : Native) (f : Fixup) (g : Going) (address : ℕ) (c d : Core)
+    → IsBefore (front ++ (access ∷ back)) t at p l g c → Runs front c d → Kept c d → ((after : ℕ) → effect access after d ≡ Err Fault)
+    → t.fixups (end_of at front) ≡ Some f → (it : LeadsTo t at f.to p l c (goes_with g Slow address)) × (it.after.registers 2 ≡ f.rdx)
+goes_on p l t at front back access f g address c d here runs kept faults has =
+    let behind = access ∷ back in
+    let own = has_front t (end_of at front) (spelling access) (spellings back) (back_stands t at front behind c d here.text_is_fixed here.text_is_low here.stands runs) in
+    let fixed_here = back_fixed t at front behind c d here.text_is_fixed here.text_is_low here.stands runs in
+    let e = with_register d 2 f.rdx in
+    let all = kept_join c d e kept (kept_register d 2 f.rdx (omega arith)) in (
+      record {
+        after = e;
+        reached = then_reaches t at front behind c d here.text_is_fixed here.text_is_low here.stands runs (resumed f d)
+            (faults_resume t (end_of at front) access d f fixed_here own (faults _) has);
+        related = related_goes p l g e Slow address (related_kept p l here.layout g c e here.related all);
+        others = others_kept p l c e all;
+      },
+      refl,
+    )
+
+pub faulting_lines_run : FaultingLinesRun
+unfolding InRange
+faulting_lines_run target p code rest address size (Load kind rd rs1 imm) distance out f l t at g c range access here has =
+    let a = value p g rs1 in
+    let front = fetch l.registers Rax rs1 in
+    let d = with_register c 0 a in
+    let kept = kept_register c 0 a (omega arith) in
+    rw access.tested
+    (goes_on p l t at front (write l.registers rd ++ count) (load_from kind (data_address (word imm))) f g address c d here
+    (straight_runs front c d refl (fetched p l here.layout g c Rax rs1 range.1 here.related)) kept
+    (λ after. load_faults kind (data_address (word imm)) after d
+    (faults p l here.layout g c here.related here.guards (load_size kind) (load_sized kind).some rs1 imm range.2 access d refl kept)) has)
+faulting_lines_run target p code rest address size (Store width rs1 rs2 imm) distance out f l t at g c range access here has =
+    let a = value p g rs1 in
+    let b = value p g rs2 in
+    let front = fetch l.registers Rax rs1 ++ fetch l.registers Rcx rs2 in
+    let c1 = with_register c 0 a in
+    let d = with_register c1 1 b in
+    let first = kept_register c 0 a (omega arith) in
+    let kept = kept_join c c1 d first (kept_register c1 1 b (omega arith)) in
+    let fetches = exec_append (fetch l.registers Rax rs1) (fetch l.registers Rcx rs2) c c1 (fetched p l here.layout g c Rax rs1 range.0 here.related)
+    ∙ fetched p l here.layout g c1 Rcx rs2 range.1 (related_kept p l here.layout g c c1 here.related first) in
+    rw access.tested
+    (goes_on p l t at front count (store_to width (data_address (word imm))) f g address c d here
+    (straight_runs front c d refl fetches) kept
+    (λ after. store_faults width (data_address (word imm)) after d
+    (faults p l here.layout g c here.related here.guards (store_size width) (store_sized width).some rs1 imm range.2 access d refl kept)) has)
+faulting_lines_run target p code rest address size i distance out f l t at g c range access here has = absurd access

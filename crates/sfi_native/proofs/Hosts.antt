@@ -1,0 +1,151 @@
+-- What a host reads, and what stays where it works.
+use Rattle.std.proofs.Common.{◌≡◌, ℕ, ◌+◌, ◌-◌, ◌*◌, ◌<◌, ◌≤◌, ◌⊎◌, inl, inr, List, length, refl, sym, ap, ◌∙◌, subst, arith, ⊎_elim}
+use Rattle.rv_step.specs.State.{register}
+use Rattle.sfi_formats.specs.Formats.{unit}
+use Rattle.sfi_formats.specs.Limits.{guard}
+use Rattle.sfi_image.specs.Spelling.{Part}
+use Rattle.sfi_translate.specs.Lines.{Line}
+use Rattle.sfi_translate.specs.Machine.{Assembly, Before, ControlPoint, Going, IsTranslatedStepAt, Lost, Loop, Slow, Stopped}
+use Rattle.sfi_translate.specs.Laws.{IsOver}
+use Rattle.sfi_translate.proofs.LinesStand.{units}
+use Rattle.x86_step.specs.State.{Core, Machine, Text}
+use Rattle.sfi_native.specs.declared.layout.Layout.{Layout}
+use Rattle.sfi_native.specs.Registers.{assigned}
+use Rattle.sfi_native.specs.declared.registers.RegisterMap.{RegisterMap}
+use Rattle.sfi_native.proofs.Assigned.{not_assigned}
+use Rattle.sfi_native.specs.Layout.{Holds, IsLayout, IsOutside, OthersStay, frame_size}
+use Rattle.sfi_native.specs.Laws.{IsBefore}
+use Rattle.sfi_native.specs.Host.{Host, HostMoves, HostReads, IsHosts, IsInCode, Serves, Spares, arrives, makes}
+use Rattle.sfi_native.specs.Places.{IsAt, IsAtPlace, end_address, exit_of, whole_code}
+use Rattle.sfi_native.specs.Table.{HasTable}
+use Rattle.sfi_native.specs.Whole.{AreApart}
+use Rattle.sfi_native.proofs.Kept.{beside_frame}
+use Rattle.sfi_native.proofs.Table.{number_same, outside, unit_within}
+
+-- ==== What a host reads.
+
+out_with_pc : (registers : RegisterMap) (base : ℕ) (code : List Line) (place : ControlPoint) (pc : ℕ) (m : Machine) → IsHosts place → IsAtPlace registers base code place pc m → m.core.registers 2 ≡ pc
+out_with_pc registers base code Slow pc m is at = at.1
+out_with_pc registers base code Loop pc m is at = at.1
+out_with_pc registers base code place pc m is at = absurd is
+
+pub host_reads : HostReads
+host_reads p l base code g m is proper alike = record {
+  pc = out_with_pc l.registers base code g.place g.state.hart.pc m is alike.is_at;
+  registers = λ r small. subst (λ h. Holds l m.core r (assigned l.registers r) (register h r)) proper.fixed_is (alike.related.registers r small);
+  bytes = alike.related.bytes;
+}
+
+-- ==== A host's moves lead one way.
+
+same_step : (p : Part) (code : List Line) (g h k : Going) (place : ControlPoint) → IsTranslatedStepAt place Assembly p code g h → IsTranslatedStepAt place Assembly p code g k → h ≡ k
+same_step p code g h k (Before lines) one two = one.1 ∙ sym two.1
+same_step p code g h k Slow one two = one.1 ∙ sym two.1
+same_step p code g h k Loop one two = one.1 ∙ sym two.1
+same_step p code g h k (Stopped o) one two = absurd one
+same_step p code g h k Lost one two = absurd one
+
+-- where code is entered or the turn is over a host makes no move
+pub stays_there : (p : Part) (code : List Line) (g k : Going) (place : ControlPoint) → g.place ≡ place → IsHosts place → IsTranslatedStepAt place Assembly p code g k → IsInCode place ⊎ IsOver g → ⊥
+stays_there p code g k Slow e is step (inl inside) = inside
+stays_there p code g k Slow e is step (inr over) = ⊎_elim (λ one. let clash : Slow ≡ Stopped one.0 = sym e ∙ one.1 in cc) (λ one. let clash : Slow ≡ Loop = sym e ∙ one.0 in cc) over
+stays_there p code g k Loop e is step (inl inside) = inside
+stays_there p code g k Loop e is step (inr over) = ⊎_elim (λ one. let clash : Loop ≡ Stopped one.0 = sym e ∙ one.1 in cc) (λ one. let none = one.1 in let some = step.0 in omega (arith, none, some)) over
+stays_there p code g k place e is step handed = absurd is
+
+pub one_way : (p : Part) (code : List Line) (g h k : Going) → HostMoves p code g h → HostMoves p code g k → h ≡ k
+one_way p code g h k (arrives _ _) (arrives _ _) = refl
+one_way p code g h k (arrives _ handed) (makes _ b _ is step more) = absurd (stays_there p code g b g.place refl is step handed)
+one_way p code g h k (makes _ a _ is step more) (arrives _ handed) = absurd (stays_there p code g a g.place refl is step handed)
+one_way p code g h k (makes _ a _ is step more) (makes _ b _ too other others) =
+    one_way p code a h k more (subst (λ x. HostMoves p code x k) (same_step p code g b a g.place other step) others)
+
+-- ==== What stays.
+
+module _ (p : Part) (l : Layout) (own : ℕ → Type 0) where
+  pub spares_others : IsLayout p.data_size l → (c d : Core) → OthersStay p l c d → Spares p l own c d
+  spares_others layout c d stay = record {
+    table_origin = stay.others 12 (omega arith) (λ e. omega (arith, e)) (not_assigned l.registers layout.registers_are_right 12 (inr (inl (omega arith))));
+    code_address = stay.others 13 (omega arith) (λ e. omega (arith, e)) (not_assigned l.registers layout.registers_are_right 13 (inr (inl (omega arith))));
+    elsewhere = λ a not_own by_frame by_data. stay.elsewhere a by_frame by_data;
+    writable = λ a not_own. ap (λ w. w a) stay.writable;
+  }
+
+  pub spares_same : (c : Core) → Spares p l own c c
+  spares_same c = record { table_origin = refl; code_address = refl; elsewhere = λ a not_own by_frame by_data. refl; writable = λ a not_own. refl }
+
+  pub spares_join : (c d e : Core) → Spares p l own c d → Spares p l own d e → Spares p l own c e
+  spares_join c d e a b = record {
+    table_origin = b.table_origin ∙ a.table_origin;
+    code_address = b.code_address ∙ a.code_address;
+    elsewhere = λ at not_own by_frame by_data. b.elsewhere at not_own by_frame by_data ∙ a.elsewhere at not_own by_frame by_data;
+    writable = λ at not_own. b.writable at not_own ∙ a.writable at not_own;
+  }
+
+inside : (a from n : ℕ) → from ≤ a → a < from + n → IsOutside a from n → ⊥
+inside a from n low high (inl before) = omega (arith, low, before)
+inside a from n low high (inr behind) = omega (arith, high, behind)
+
+-- ==== A processor in which the host has entered code.
+
+module _ (p : Part) (code : List Line) (l : Layout) (t : Text) (base : ℕ) (host : Host) where
+  -- it stands before code, with its table, and with what the host relies on
+  pub record Ready (g : Going) (m : Machine) : Type 0 where
+    pub is_at : IsAt l.registers base code g m
+    pub stands : IsBefore (whole_code l.registers (end_address p) code) t base p l g m.core
+    pub table : HasTable p l base code m.core
+    pub apart : AreApart p l base code table.at host.own
+    pub relies : host.relies m.core
+
+  module _ (begins : t.base ≡ base) (size : length t.bytes ≡ exit_of l.registers code) where
+    pub ready_on : (g k : Going) (m n : Machine) → Ready g m → Serves p l base code host.own k m n → host.relies n.core → Ready k n
+    ready_on g k m n here it relies =
+        let layout = here.stands.layout in
+        let low = layout.data_begins in
+        let spares = it.spares in
+        let own = here.apart in
+        let has = here.table in
+        record {
+          is_at = it.is_at;
+          stands = record {
+            layout = layout;
+            text_is_fixed = record {
+              ends = here.stands.text_is_fixed.ends;
+              apart = λ a from below.
+                  spares.writable a (λ is. inside a base (exit_of l.registers code) (omega (arith, begins, from)) (omega (arith, begins, size, below)) (own.own_from_text a is))
+                  ∙ here.stands.text_is_fixed.apart a from below;
+            };
+            text_is_low = here.stands.text_is_low;
+            stands = here.stands.stands;
+            related = it.related;
+            guards = record {
+              below = λ a from under.
+                  spares.elsewhere a (λ is. inside a (l.data_start - guard) (p.data_size + 2 * guard) (omega (arith, from, low)) (omega (arith, under, low)) (own.own_from_zones a is))
+                  (beside_frame p l layout a from (omega (arith, under))) (inl under) ∙ here.stands.guards.below a from under;
+              above = λ a from under.
+                  spares.elsewhere a (λ is. inside a (l.data_start - guard) (p.data_size + 2 * guard) (omega (arith, from, low)) (omega (arith, under, low)) (own.own_from_zones a is))
+                  (beside_frame p l layout a (omega (arith, from)) under) (inr from) ∙ here.stands.guards.above a from under;
+            };
+          };
+          table = record {
+            table = has.table;
+            entries = has.entries;
+            at = has.at;
+            ends = has.ends;
+            frame_apart = has.frame_apart;
+            data_apart = has.data_apart;
+            holds = λ number below.
+                let within = unit_within (unit p.format) (length p.code) number (units p.format) (subst (λ n. number < n) has.entries.count below) in
+                number_same m.core.memory n.core.memory 4 (has.at + unit p.format * number) (λ j few.
+                let a = has.at + unit p.format * number + j in
+                let high : a < has.at + length p.code = omega (arith, within, few) in
+                spares.elsewhere a (λ is. inside a has.at (length p.code) (omega arith) high (own.own_from_table a is))
+                (outside has.at (length p.code) l.frame frame_size a has.frame_apart (omega arith) high)
+                (outside has.at (length p.code) l.data_start p.data_size a has.data_apart (omega arith) high))
+                ∙ has.holds number below;
+            origin_is = spares.table_origin ∙ has.origin_is;
+            code_is = spares.code_address ∙ has.code_is;
+          };
+          apart = own;
+          relies = relies;
+        }

@@ -1,0 +1,90 @@
+-- The table of entries, and lines that lie in the sandbox's code.
+use Rattle.std.proofs.Common.{◌≡◌, ℕ, zero, suc, ◌+◌, ◌*◌, ◌/◌, ◌<◌, ◌≤◌, ◌⊎◌, inl, inr, List, [], ◌∷◌, length, Option, Some, None, refl, sym, ◌∙◌, subst, arith}
+use Rattle.sfi_formats.specs.Formats.{unit}
+use Rattle.sfi_image.specs.Spelling.{Part}
+use Rattle.sfi_image.proofs.Facts.{code_ends}
+use Rattle.sfi_translate.specs.Lines.{Line, Function, End, Entry, Head, Does}
+use Rattle.sfi_translate.proofs.Facts.{units_are_whole}
+use Rattle.sfi_translate.proofs.Following.{Follow, code_follows, label_follows}
+use Rattle.sfi_translate.proofs.LinesStand.{fits, line_some, units}
+use Rattle.x86_step.specs.State.{Core, number_at}
+use Rattle.sfi_native.specs.declared.registers.RegisterMap.{RegisterMap}
+use Rattle.sfi_native.specs.declared.layout.Layout.{Layout}
+use Rattle.sfi_native.specs.Layout.{IsLayout, DoNotMeet, IsOutside, OthersStay, frame_size}
+use Rattle.sfi_native.specs.Entries.{entry_of}
+use Rattle.sfi_native.specs.Places.{exit_of}
+use Rattle.sfi_native.specs.Table.{HasTable, LinesLieInCode}
+use Rattle.sfi_native.proofs.Assigned.{not_assigned}
+use Rattle.sfi_native.proofs.Kept.{Kept, others_kept}
+
+-- ==== The table stays.
+
+-- a number whose bytes stay
+pub number_same : (m w : ℕ → Option ℕ) (n at : ℕ) → ((j : ℕ) → j < n → w (at + j) ≡ m (at + j)) → number_at w n at ≡ number_at m n at
+number_same m w zero at each = refl
+number_same m w (suc n) at each =
+    let z : at + 0 ≡ at = omega arith in
+    let here : w at ≡ m at = subst (λ a. w a ≡ m a) z (each 0 (omega arith)) in
+    let rest = number_same m w n (at + 1) (λ j below. let next : at + suc j ≡ at + 1 + j = omega arith in subst (λ a. w a ≡ m a) next (each (suc j) (omega (arith, below)))) in
+    rw (here, rest) refl
+
+-- four bytes of a unit, of 16 or 4
+pub unit_within : (u len number : ℕ) → (u ≡ 16) ⊎ (u ≡ 4) → number < len / u → u * number + 4 ≤ len
+unit_within u len number (inl e) below =
+    let less : number < len / 16 = subst (λ v. number < len / v) e below in
+    subst (λ v. v * number + 4 ≤ len) (sym e) (omega (arith, less))
+unit_within u len number (inr e) below =
+    let less : number < len / 4 = subst (λ v. number < len / v) e below in
+    subst (λ v. v * number + 4 ≤ len) (sym e) (omega (arith, less))
+
+pub outside : (at n b m a : ℕ) → DoNotMeet at n b m → at ≤ a → a < at + n → IsOutside a b m
+outside at n b m a (inl before) low high = inl (omega (arith, before, high))
+outside at n b m a (inr after) low high = inr (omega (arith, after, low))
+
+module _ (p : Part) (l : Layout) (layout : IsLayout p.data_size l) (base : ℕ) (code : List Line) (c d : Core) where
+  pub table_stays : OthersStay p l c d → HasTable p l base code c → HasTable p l base code d
+  table_stays stay has = record {
+    table = has.table;
+    entries = has.entries;
+    at = has.at;
+    ends = has.ends;
+    frame_apart = has.frame_apart;
+    data_apart = has.data_apart;
+    holds = λ number below.
+        let within = unit_within (unit p.format) (length p.code) number (units p.format) (subst (λ n. number < n) has.entries.count below) in
+        number_same c.memory d.memory 4 (has.at + unit p.format * number) (λ j few.
+        let a = has.at + unit p.format * number + j in
+        stay.elsewhere a (outside has.at (length p.code) l.frame frame_size a has.frame_apart (omega arith) (omega (arith, within, few)))
+        (outside has.at (length p.code) l.data_start p.data_size a has.data_apart (omega arith) (omega (arith, within, few))))
+        ∙ has.holds number below;
+    origin_is = stay.others 12 (omega arith) (λ e. omega (arith, e)) (not_assigned l.registers layout.registers_are_right 12 (inr (inl (omega arith)))) ∙ has.origin_is;
+    code_is = stay.others 13 (omega arith) (λ e. omega (arith, e)) (not_assigned l.registers layout.registers_are_right 13 (inr (inl (omega arith)))) ∙ has.code_is;
+  }
+
+  pub table_kept : Kept c d → HasTable p l base code c → HasTable p l base code d
+  table_kept k has = table_stays (others_kept p l c d k) has
+
+-- ==== Entries and labels.
+
+pub entry_below : (registers : RegisterMap) (code : List Line) (o : Option (List Line)) → entry_of registers code o ≤ exit_of registers code
+entry_below registers code None = omega arith
+entry_below registers code (Some rest) = omega arith
+
+followed : (p : Part) (at : ℕ) (rest : List Line) → Follow p 4 at rest → (p.code_base ≤ at) × (at < p.code_base + length p.code)
+followed p at [] f = absurd (omega (arith, f.0))
+followed p at (Function sandbox x ∷ rest) f = absurd (omega (arith, f.0))
+followed p at (End x ∷ rest) f = absurd (omega (arith, f.2))
+followed p at (Entry x ∷ rest) f = absurd (omega (arith, f.1))
+followed p at (Head x ∷ rest) f = absurd (omega (arith, f.2))
+followed p at (Does x n i ∷ rest) f =
+    let line = f.1 in
+    (omega (arith, line.at_is), omega (arith, line.at_is, line.within, fits p at i n line, line_some p at i n line))
+
+pub lines_lie_in_code : LinesLieInCode
+lines_lie_in_code sandbox p code clean lines =
+    let follow = code_follows sandbox p clean.right (λ number reading within longest. units_are_whole sandbox p number reading clean within longest) code lines in
+    record {
+      region = clean.right.code_placed;
+      ends = code_ends p clean.right;
+      labels = λ at rest is. followed p at rest (label_follows p at code rest 0 p.code_base follow is);
+    }

@@ -1,0 +1,53 @@
+-- A text's end is reached in one way.
+use Rattle.std.proofs.Common.{◌≡◌, ℕ, ◌+◌, ◌-◌, true, List, [], ◌∷◌, Some, length, drop, refl, sym, ap, ◌∙◌, subst, arith}
+use Rattle.std.specs.Prelude.{Ok, Err, nat_le}
+use Rattle.std.proofs.lemmas.Bool.{le-leb}
+use Rattle.x86_step.specs.declared.machine.Stop.{Stop}
+use Rattle.x86_step.specs.declared.machine.Stop.TheVariants.{Fault, NoInstruction}
+use Rattle.x86_step.specs.State.{Fixup, Machine, Text}
+use Rattle.x86_step.specs.Step.{Steps, go, resume, resumed, stay}
+unfoldable use Rattle.x86_step.specs.Step.{step}
+use Rattle.sfi_native.specs.Host.{OneWayOut}
+
+drop_all : (bytes : List ℕ) → drop (length bytes) bytes ≡ []
+drop_all [] = refl
+drop_all (b ∷ bytes) = drop_all bytes
+
+module _ (t : Text) where
+  abbrev out : ℕ
+  out = t.base + length t.bytes
+
+  -- no instruction is there
+  stops : (m : Machine) → m.rip ≡ out → step t m ≡ Err NoInstruction
+  unfolding step
+  stops m at =
+      let low : nat_le t.base m.rip ≡ true = le-leb t.base m.rip (omega (arith, at)) in
+      let all : drop (m.rip - t.base) t.bytes ≡ [] = ap (λ n. drop n t.bytes) (omega (arith, at)) ∙ drop_all t.bytes in
+      rw (low, all) refl
+
+  same_next : (m n k : Machine) → step t m ≡ Ok n → step t m ≡ Ok k → n ≡ k
+  same_next m n k one two = let e : Ok n ≡ Ok k = sym one ∙ two in cc
+
+  same_fixup : (m : Machine) (f h : Fixup) → t.fixups m.rip ≡ Some f → t.fixups m.rip ≡ Some h → f ≡ h
+  same_fixup m f h one two = let e : Some f ≡ Some h = sym one ∙ two in cc
+
+  not_both : (m n : Machine) (stop : Stop) → step t m ≡ Ok n → step t m ≡ Err stop → ⊥
+  not_both m n stop one two = let e : Ok n ≡ Err stop = sym one ∙ two in cc
+
+  no_fault : (m : Machine) → step t m ≡ Err NoInstruction → step t m ≡ Err Fault → ⊥
+  no_fault m one two = let e : Err NoInstruction ≡ Err Fault = sym one ∙ two in cc
+
+  one_way : (m n k : Machine) → Steps t m n → Steps t m k → n.rip ≡ out → k.rip ≡ out → n ≡ k
+  one_way m n k (stay _) (stay _) at there = refl
+  one_way m n k (stay _) (go _ a _ does more) at there = absurd (not_both m a NoInstruction does (stops m at))
+  one_way m n k (stay _) (resume _ _ f faults is more) at there = absurd (no_fault m (stops m at) faults)
+  one_way m n k (go _ a _ does more) (stay _) at there = absurd (not_both m a NoInstruction does (stops m there))
+  one_way m n k (resume _ _ f faults is more) (stay _) at there = absurd (no_fault m (stops m there) faults)
+  one_way m n k (go _ a _ does more) (go _ b _ too others) at there = one_way a n k more (subst (λ x. Steps t x k) (same_next m b a too does) others) at there
+  one_way m n k (go _ a _ does more) (resume _ _ f faults is others) at there = absurd (not_both m a Fault does faults)
+  one_way m n k (resume _ _ f faults is more) (go _ b _ too others) at there = absurd (not_both m b Fault too faults)
+  one_way m n k (resume _ _ f faults is more) (resume _ _ h too was others) at there =
+      one_way (resumed f m.core) n k more (subst (λ x. Steps t (resumed x m.core) k) (same_fixup m h f was is) others) at there
+
+pub one_way_out : OneWayOut
+one_way_out t m n k one two at there = one_way t m n k one.steps two.steps at there

@@ -1,0 +1,276 @@
+-- A turn of a sandbox without a finding as a whole, round by round.
+use Rattle.std.proofs.Common.{◌≡◌, ℕ, zero, suc, ◌+◌, ◌-◌, ◌*◌, ◌^◌, ◌<◌, ◌≤◌, ◌⊎◌, inl, inr, List, length, Some, None, refl, sym, ap, ◌∙◌, subst, arith, ⊎_elim}
+use Rattle.rv_step.specs.declared.outcome.Outcome.{Outcome}
+use Rattle.rv_step.specs.declared.outcome.Outcome.TheVariants.{Next}
+use Rattle.rv_step.specs.State.{Hart, State, register}
+use Rattle.sfi_formats.specs.Limits.{guard}
+use Rattle.sfi_image.specs.Spelling.{Part}
+use Rattle.sfi_translate.specs.Lines.{Line}
+use Rattle.sfi_translate.specs.Machine.{Assembly, AreTranslatedSteps, Before, ControlPoint, Going, Loop, Lost, Slow, Stopped}
+use Rattle.sfi_translate.specs.Laws.{IsOver, IsReached, IsTurnTo}
+use Rattle.sfi_translate.specs.Lines.{AreLines}
+use Rattle.sfi_safety.specs.Places.{IsCleanPart}
+use Rattle.sfi_native.specs.Entries.{AreEntries}
+use Rattle.sfi_translate.proofs.Facts.{each_turn_ends, reached_harts_are_fixed, translated_runs_as_image, turns_end}
+use Rattle.sfi_native.specs.Host.{EndsWithin, Host, HostMoves, IsHost, IsInCode, Serves, Spares, Works, answer_of}
+use Rattle.sfi_native.specs.Laws.{IsBefore}
+use Rattle.x86_instr.specs.declared.instr.Instr.{Instr as Native}
+use Rattle.x86_step.specs.State.{Core, Machine, Text, with_register}
+use Rattle.x86_step.specs.Running.{spellings}
+use Rattle.x86_step.specs.Step.{Reaches}
+use Rattle.sfi_native.specs.declared.layout.Layout.{Layout}
+use Rattle.sfi_native.specs.Faults.{HasFixups, accesses_of, fixup_by}
+use Rattle.sfi_native.specs.Layout.{DoNotMeet, IsLayout, frame_size}
+use Rattle.sfi_native.specs.Places.{IsAtPlace, end_address, exit_of, whole_code}
+use Rattle.sfi_native.specs.Table.{HasTable, LieInCode}
+use Rattle.sfi_native.specs.Whole.{AreApart, EachTurnCanBegin, EachTurnGoesOn, EndsAsImage, IsEntered, NativeTurnsEnd, begun, host_of}
+use Rattle.sfi_native.proofs.Kept.{kept_register}
+use Rattle.sfi_native.proofs.Fetching.{related_kept}
+use Rattle.sfi_native.proofs.Held.{each_code_can_be_run}
+use Rattle.sfi_native.proofs.Hosts.{Ready, one_way, ready_on, spares_join, spares_others, spares_same}
+use Rattle.sfi_native.proofs.Served.{all_made, handed_over, has_place, never_lost}
+use Rattle.sfi_native.proofs.Sizes.{each_code_fits, whole_size}
+use Rattle.sfi_native.proofs.Table.{lines_lie_in_code}
+use Rattle.sfi_native.proofs.Tabled.{each_table_can_be_held}
+use Rattle.sfi_native.proofs.Ways.{one_way_out}
+use Rattle.sfi_native.proofs.Turning.{CodePart, HostPart, Turns, code_part, few_left, host_part, proper}
+
+-- ==== Rounds.
+
+module _ (sandbox : ℕ) (p : Part) (code : List Line) (s : State) (left : ℕ) (l : Layout) (t : Text) (base : ℕ) (few : left < 2 ^ 31) (fits : exit_of l.registers code < 2 ^ 31) (fixups : HasFixups l.registers t base code) (lie : LieInCode p code)
+    (host : Host) (works : IsHost p l base code host) (begins : t.base ≡ base) (size : length t.bytes ≡ exit_of l.registers code) (entry : Machine) where
+  abbrev Ended : Outcome → Machine → Type 0
+  Ended o n = EndsAsImage p code l base host s left entry o n
+
+  -- an answer ends the turn where it is over, and enters code elsewhere
+  ended : (k : Going) (o : Outcome) → Some o ≡ answer_of k.place → IsInCode k.place ⊎ IsOver k → IsOver k
+  ended k o right (inr over) = over
+  ended k o right (inl inside) = absurd (by k.place right inside)
+    where
+      by : (place : ControlPoint) → Some o ≡ answer_of place → IsInCode place → ⊥
+      by (Before lines) right inside = cc
+      by Slow right inside = inside
+      by Loop right inside = inside
+      by (Stopped o) right inside = inside
+      by Lost right inside = inside
+
+  entered : (k : Going) → None ≡ answer_of k.place → IsInCode k.place ⊎ IsOver k → IsInCode k.place
+  entered k right (inl inside) = inside
+  entered k right (inr over) =
+      absurd (⊎_elim (λ one. let clash : None ≡ Some one.0 = right ∙ ap answer_of one.1 in cc) (λ one. let clash : None ≡ Some Next = right ∙ ap answer_of one.0 in cc) over)
+
+  before : (place : ControlPoint) → IsInCode place → (lines : List Line) × (place ≡ Before lines)
+  before (Before lines) is = (lines, refl)
+  before Slow is = absurd is
+  before Loop is = absurd is
+  before (Stopped o) is = absurd is
+  before Lost is = absurd is
+
+  -- code's part and the host's, from a state of the turn in which code has been entered
+  module _ (n moved : ℕ) (g last : Going) (m : Machine) (here : Ready p code l t base host g m) (inside : IsInCode g.place) (turn : Turns sandbox p code s left moved g) (steps : AreTranslatedSteps Assembly p code n g last) (over : IsOver last) where
+    lines : (lines : List Line) × (g.place ≡ Before lines)
+    lines = before g.place inside
+
+    code_does : CodePart sandbox p code s left l t base few fits fixups lie n m last
+    code_does = code_part sandbox p code s left l t base few fits fixups lie n moved g last m here.stands here.table here.is_at lines.0 lines.1 turn steps over
+
+    host_does : HostPart sandbox p code s left code_does.rest code_does.slow last
+    host_does = host_part sandbox p code s left code_does.rest code_does.moved code_does.slow last code_does.turn code_does.steps over
+
+    handed : IsInCode host_does.next.place ⊎ IsOver host_does.next
+    handed = handed_over p code code_does.slow host_does.next host_does.leads
+
+    done : Works p l base code host host_does.next code_does.out
+    done =
+        works.works code_does.slow host_does.next code_does.out code_does.is_slow (proper sandbox p code s left code_does.moved code_does.slow code_does.turn) (proper sandbox p code s left host_does.moved host_does.next host_does.turn) code_does.alike
+        (works.kept m.core code_does.out.core code_does.others here.relies) host_does.leads
+
+    -- from before code to behind the host's work
+    all : (k : Machine) → Serves p l base code host.own host_does.next code_does.out k → Serves p l base code host.own host_does.next m k
+    all k it = record {
+      related = it.related;
+      is_at = it.is_at;
+      spares = spares_join p l host.own m.core code_does.out.core k.core (spares_others p l host.own here.stands.layout m.core code_does.out.core code_does.others) it.spares;
+    }
+
+    is_out : code_does.out.rip ≡ t.base + length t.bytes
+    is_out =
+        let at = subst (λ q. IsAtPlace l.registers base code q code_does.slow.state.hart.pc code_does.out) code_does.is_slow code_does.alike.is_at in
+        let rip = at.0 in
+        omega (arith, rip, begins, size)
+
+    only : (k : Machine) → Reaches t m k → k.rip ≡ t.base + length t.bytes → k ≡ code_does.out
+    only k reached e = one_way_out t m k code_does.out reached code_does.reached e is_out
+
+    ends : Spares p l host.own entry.core m.core → (o : Outcome) (k : Machine) → host.does code_does.out (Some o) k → Ended o k
+    ends spares o k did =
+        let it = all k (done.serves (Some o) k did) in
+        record {
+          last = host_does.next;
+          is_over = ended host_does.next o (done.right (Some o) k did) handed;
+          as_image = translated_runs_as_image Assembly sandbox p code s left host_does.moved host_does.next host_does.turn;
+          answer = sym (done.right (Some o) k did);
+          serves = record { related = it.related; is_at = it.is_at; spares = spares_join p l host.own entry.core m.core k.core spares it.spares };
+          relies = done.relies (Some o) k did;
+        }
+
+    ready_again : (k : Machine) → host.does code_does.out None k → Ready p code l t base host host_does.next k
+    ready_again k did = ready_on p code l t base host begins size g host_does.next m k here (all k (done.serves None k did)) (done.relies None k did)
+
+  rounds : (room n moves : ℕ) (g last : Going) (m : Machine) → n ≤ room → Ready p code l t base host g m → Spares p l host.own entry.core m.core → IsInCode g.place → Turns sandbox p code s left moves g
+      → AreTranslatedSteps Assembly p code n g last → IsOver last → EndsWithin room t p l host Ended m
+  rounds zero n moved g last m fits_in here spares inside turn steps over =
+      let fewer = (code_does n moved g last m here inside turn steps over).fewer in
+      absurd (omega (arith, fewer, fits_in))
+  rounds (suc room) n moved g last m fits_in here spares inside turn steps over =
+      let c = code_does n moved g last m here inside turn steps over in
+      let h = host_does n moved g last m here inside turn steps over in
+      let work = done n moved g last m here inside turn steps over in
+      record {
+        out = c.out;
+        comes_out = c.reached;
+        is_out = is_out n moved g last m here inside turn steps over;
+        only = only n moved g last m here inside turn steps over;
+        others = c.others;
+        answers = work.answers;
+        ends = ends n moved g last m here inside turn steps over spares;
+        enters = λ k did.
+            let it = all n moved g last m here inside turn steps over k (work.serves None k did) in
+            let less = c.fewer in
+            let fewer = h.fewer in
+            rounds room h.rest h.moved h.next last k (omega (arith, less, fewer, fits_in)) (ready_again n moved g last m here inside turn steps over k did)
+            (spares_join p l host.own entry.core m.core k.core spares it.spares) (entered h.next (work.right None k did) (handed n moved g last m here inside turn steps over)) h.turn h.steps over;
+      }
+
+-- ==== The whole.
+
+pub native_turns_end : NativeTurnsEnd
+native_turns_end sandbox p code l t base host s left m works here =
+    let few = here.few in
+    let end = each_turn_ends Assembly sandbox p code s left here.clean here.lines here.reached (omega (arith, few)) in
+    let first : IsTurnTo Assembly sandbox p code s left 0 (begun s left) = record { clean = here.clean; lines = here.lines; reached = here.reached; fits = omega (arith, few); moved = refl } in
+    let begins = host_part sandbox p code s left end.0 0 (begun s left) end.1 first end.2.moved end.3 in
+    let same = one_way p code (begun s left) begins.next here.first begins.leads here.begins in
+    let fewer = begins.fewer in
+    let ready : Ready p code l t base host here.first m = record { is_at = here.is_at; stands = here.stands; table = here.table; apart = here.apart; relies = here.relies } in
+    record {
+      rounds = end.0;
+      few = turns_end Assembly sandbox p code s left end.0 end.1 end.2;
+      ends = rounds sandbox p code s left l t base few (each_code_fits l.registers sandbox p code here.clean.right here.lines) here.fixups (lines_lie_in_code sandbox p code here.clean here.lines)
+          host works here.text_begins here.text_size m end.0 begins.rest begins.moved here.first end.1 m (omega (arith, fewer)) ready (spares_same p l host.own m.core) here.in_code
+          (subst (IsTurnTo Assembly sandbox p code s left begins.moved) same begins.turn) (subst (λ x. AreTranslatedSteps Assembly p code begins.rest x end.1) same begins.steps) end.3;
+    }
+
+pub each_turn_goes_on : EachTurnGoesOn
+each_turn_goes_on sandbox p code l t base host s u left next_left first m n here reached few begins inside it relies =
+    let ready : Ready p code l t base host here.first m = record { is_at = here.is_at; stands = here.stands; table = here.table; apart = here.apart; relies = here.relies } in
+    let next = ready_on p code l t base host here.text_begins here.text_size here.first first m n ready it relies in
+    record {
+      clean = here.clean;
+      lines = here.lines;
+      reached = reached;
+      few = few;
+      first = first;
+      begins = begins;
+      in_code = inside;
+      is_at = next.is_at;
+      stands = next.stands;
+      text_begins = here.text_begins;
+      text_size = here.text_size;
+      fixups = here.fixups;
+      table = next.table;
+      apart = next.apart;
+      relies = relies;
+    }
+
+-- ==== It can begin.
+
+-- with the pc in edx, which is free
+with_pc_in_edx : (is : List Native) (t : Text) (at : ℕ) (p : Part) (l : Layout) (g : Going) (c : Core) (pc : ℕ) → IsBefore is t at p l g c → IsBefore is t at p l g (with_register c 2 pc)
+with_pc_in_edx is t at p l g c pc here = record {
+  layout = here.layout;
+  text_is_fixed = record { ends = here.text_is_fixed.ends; apart = here.text_is_fixed.apart };
+  text_is_low = here.text_is_low;
+  stands = here.stands;
+  related = related_kept p l here.layout g c (with_register c 2 pc) here.related (kept_register c 2 pc (omega arith));
+  guards = record { below = here.guards.below; above = here.guards.above };
+}
+
+-- which the table doesn't use
+table_with_pc : (p : Part) (l : Layout) (base : ℕ) (code : List Line) (c : Core) (pc : ℕ) (has : HasTable p l base code c) → (it : HasTable p l base code (with_register c 2 pc)) × (it.at ≡ has.at)
+table_with_pc p l base code c pc has = (
+  record {
+    table = has.table;
+    entries = has.entries;
+    at = has.at;
+    ends = has.ends;
+    frame_apart = has.frame_apart;
+    data_apart = has.data_apart;
+    holds = has.holds;
+    origin_is = has.origin_is;
+    code_is = has.code_is;
+  },
+  refl,
+)
+
+zones_and_data : (p : Part) (l : Layout) (from n : ℕ) → IsLayout p.data_size l → DoNotMeet from n (l.data_start - guard) (p.data_size + 2 * guard) → DoNotMeet from n l.data_start p.data_size
+zones_and_data p l from n layout (inl before) = inl (omega (arith, before))
+zones_and_data p l from n layout (inr after) = inr (omega (arith, after, layout.data_begins))
+
+module _ (sandbox : ℕ) (p : Part) (code : List Line) (l : Layout) (base : ℕ) (table : List ℕ) (table_at : ℕ) (host : Host) (s : State) (left : ℕ) where
+  -- a processor before that line
+  entered_there : IsCleanPart sandbox p → AreLines sandbox p code → AreEntries l.registers p code table → IsReached p s → left < 2 ^ 31 → IsLayout p.data_size l → base + exit_of l.registers code < 2 ^ 47 → table_at + length p.code ≤ 2 ^ 47
+      → AreApart p l base code table_at host.own → ((c : Core) → host.relies c) → (first : Going) → HostMoves p code (begun s left) first → IsInCode first.place → IsReached p first.state → first.left < 2 ^ 32
+      → (t : Text) × (m : Machine) × IsEntered sandbox p code l t base host s left m
+  entered_there clean are_lines entries reached few layout low table_low apart relies first begins inside comes first_few =
+      let is = whole_code l.registers (end_address p) code in
+      let size = whole_size l.registers (end_address p) code in
+      let fits = each_code_fits l.registers sandbox p code clean.right are_lines in
+      let same = reached_harts_are_fixed sandbox p first.state clean comes in
+      let fixups = fixup_by (accesses_of l.registers code code) base (exit_of l.registers code) in
+      let text : Text = record { base = base; bytes = spellings is; fixups = fixups } in
+      let it = each_code_can_be_run is fixups base p l first layout comes.state.hart.count
+      (subst (λ (h : Hart). (r : ℕ) → register h r < 2 ^ 32) (sym same) comes.state.hart.words) first_few (omega (arith, low, size))
+      (subst (λ n. DoNotMeet base n l.frame frame_size) (sym size) apart.text.from_frame) (subst (λ n. DoNotMeet base n l.data_start p.data_size) (sym size) (zones_and_data p l base (exit_of l.registers code) layout apart.text.from_zones)) in
+      let held = each_table_can_be_held p l base code table table_at is text base first it.0 entries (omega (arith, fits)) (omega (arith, table_low)) apart.table.from_frame apart.table.from_zones it.1 in
+      let made = all_made p code (begun s left) first begins (λ rest e. let clash : Loop ≡ Before rest = e in cc) (omega (arith, few)) in
+      let place = has_place l.registers base code first.place first.state.hart.pc made.last (never_lost p code (begun s left) first begins) in
+      let core = with_register held.0 2 first.state.hart.pc in
+      let tabled = table_with_pc p l base code held.0 first.state.hart.pc held.2 in (
+        text,
+        record { rip = place.rip; core = core },
+        record {
+          clean = clean;
+          lines = are_lines;
+          reached = reached;
+          few = few;
+          first = first;
+          begins = begins;
+          in_code = inside;
+          is_at = place.is_there core refl;
+          stands = with_pc_in_edx is text base p l first held.0 first.state.hart.pc held.1;
+          text_begins = refl;
+          text_size = size;
+          fixups = λ at from below. refl;
+          table = tabled.0;
+          apart = subst (λ at. AreApart p l base code at host.own) (sym (tabled.1 ∙ held.3)) apart;
+          relies = relies core;
+        },
+      )
+
+pub each_turn_can_begin : EachTurnCanBegin
+each_turn_can_begin sandbox p code l base table table_at does own s left clean lines entries reached few layout low table_low apart =
+    let end = each_turn_ends Assembly sandbox p code s left clean lines reached (omega (arith, few)) in
+    let first : IsTurnTo Assembly sandbox p code s left 0 (begun s left) = record { clean = clean; lines = lines; reached = reached; fits = omega (arith, few); moved = refl } in
+    let it = host_part sandbox p code s left end.0 0 (begun s left) end.1 first end.2.moved end.3 in
+    let below = few_left sandbox p code s left it.moved it.next few it.turn in
+    record {
+      first = it.next;
+      begins = it.leads;
+      leads = ⊎_elim
+          (λ (inside : IsInCode it.next.place).
+          inr (entered_there sandbox p code l base table table_at (host_of does own) s left clean lines entries reached few layout low table_low apart (λ c. tt) it.next it.leads inside
+          (translated_runs_as_image Assembly sandbox p code s left it.moved it.next it.turn).reached (omega (arith, below))))
+          (λ (over : IsOver it.next). inl over)
+          (handed_over p code (begun s left) it.next it.leads);
+    }

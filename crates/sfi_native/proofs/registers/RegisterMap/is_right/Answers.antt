@@ -1,0 +1,14 @@
+use Rattle.std.proofs.Common.{refl, arith, rules}
+use Rattle.sfi_native.proofs.Assigned.{one_more_right, right_from}
+use Rattle.sfi_native.proofs.registers.RegisterMap.is_right.Goals as goal
+
+pub loop-n-preserved : goal.loop-n-preserved
+loop-n-preserved c = record {
+  each = one_more_right c.args.self.now c.loop-n.n c.loop-n.invariant.each (c.is_right_at.ensures.0 c.if-not-is_right_at.false);
+}
+
+pub returns : goal.returns
+returns c = (
+  λ yes. right_from c.args.self.now (search rules) (λ r below. c.loop-n.invariant.each r (omega (arith, below, c.loop-n-test.false))),
+  λ right. refl,
+)

@@ -1,0 +1,137 @@
+-- What a host does where code has come out: it makes the turn's moves of `Slow` and `Loop`, and enters code again.
+use Rattle.std.specs.Prelude.{◌≡◌, ◌⊎◌, ℕ, zero, suc, ◌+◌, ◌<◌, List, length, Option, Some, None}
+use Rattle.rv_mem.specs.Bytes.{byte_at}
+use Rattle.rv_step.specs.declared.outcome.Outcome.{Outcome}
+use Rattle.rv_step.specs.declared.outcome.Outcome.TheVariants.{Next}
+use Rattle.rv_step.specs.State.{IsState, State, register}
+use Rattle.sfi_image.specs.Parts.{IsRightPart}
+use Rattle.sfi_image.specs.Spelling.{Part}
+use Rattle.sfi_translate.specs.Lines.{Line}
+use Rattle.sfi_translate.specs.Machine.{Assembly, Before, ControlPoint, Going, IsTranslatedStep, Loop, Slow, Stopped, fixed}
+use Rattle.sfi_translate.specs.Laws.{IsOver}
+use Rattle.x86_step.specs.State.{Core, Machine, Text}
+use Rattle.x86_step.specs.Step.{Reaches}
+use Rattle.sfi_native.specs.declared.layout.Layout.{Layout}
+use Rattle.sfi_native.specs.Registers.{assigned}
+use Rattle.sfi_native.specs.Layout.{Holds, IsLayout, IsOutside, IsRelated, OthersStay, frame_size}
+use Rattle.sfi_native.specs.Laws.{IsAlike}
+use Rattle.sfi_native.specs.Places.{IsAt}
+
+-- moves from these places are the host's, all others the code's
+abbrev pub IsHosts : ControlPoint → Type 0
+IsHosts Slow = Unit {0}
+IsHosts Loop = Unit {0}
+IsHosts place = ⊥
+
+-- ==== What it reads and writes.
+
+-- A host reads this state: pc from edx (2), registers from where they lie, and data.
+pub record Reads (p : Part) (l : Layout) (c : Core) (s : State) : Type 0 where
+  pub pc : c.registers 2 ≡ s.hart.pc
+  pub registers : (r : ℕ) → r < 32 → Holds l c r (assigned l.registers r) (register s.hart r)
+  pub bytes : (k : ℕ) → k < p.data_size → c.memory (l.data_start + k) ≡ byte_at s.memory (p.data_base + k)
+
+-- The state is one of a machine, in which x0 and x24 to x27 have the values that lines take them to have. All states that a
+-- run comes to are such.
+pub record IsProper (p : Part) (s : State) : Type 0 where
+  pub state : IsState s
+  pub fixed_is : fixed p s.hart ≡ s.hart
+
+-- So the state that a host reads there is the turn's.
+abbrev pub HostReads : Type 0
+HostReads =
+    (p : Part) (l : Layout) (base : ℕ) (code : List Line) (g : Going) (m : Machine)
+    → IsHosts g.place → IsProper p g.state → IsAlike p l base code g m → Reads p l m.core g.state
+
+-- ==== What it does.
+
+-- code is entered there
+abbrev pub IsInCode : ControlPoint → Type 0
+IsInCode (Before lines) = Unit {0}
+IsInCode place = ⊥
+
+-- A host's moves, slow steps and tests of the loop, lead from one state of the turn to where code is entered or the turn is over.
+pub data HostMoves (p : Part) (code : List Line) : Going → Going → Type 0 where
+  arrives : (g : Going) → IsInCode g.place ⊎ IsOver g → HostMoves p code g g
+  makes : (g h k : Going) → IsHosts g.place → IsTranslatedStep Assembly p code g h → HostMoves p code h k → HostMoves p code g k
+
+-- What a host does from one state of the processor to another, and its answer: none where it enters code, and where the turn is
+-- over an outcome, `Next` where no step is left. The addresses of its own memory, as its stack; and what it relies on where code
+-- comes out, of that memory and of registers.
+pub record Host : Type 1 where
+  pub does : Machine → Option Outcome → Machine → Type 0
+  pub own : ℕ → Type 0
+  pub relies : Core → Type 0
+
+-- the answer at that place
+abbrev pub answer_of : ControlPoint → Option Outcome
+answer_of (Stopped o) = Some o
+answer_of Loop = Some Next
+answer_of place = None
+
+-- Of memory a host changes frame, data and its own alone, and neither r12 (12) nor r13 (13).
+pub record Spares (p : Part) (l : Layout) (own : ℕ → Type 0) (c d : Core) : Type 0 where
+  pub table_origin : d.registers 12 ≡ c.registers 12
+  pub code_address : d.registers 13 ≡ c.registers 13
+  pub elsewhere : (a : ℕ) → (own a → ⊥) → IsOutside a l.frame frame_size → IsOutside a l.data_start p.data_size → d.memory a ≡ c.memory a
+  pub writable : (a : ℕ) → (own a → ⊥) → d.writable a ≡ c.writable a
+
+-- Registers, data and steps left are the turn's. The processor is where the turn goes on, before a line's code; where it is over,
+-- at the way out, with the pc in edx.
+pub record Serves (p : Part) (l : Layout) (base : ℕ) (code : List Line) (own : ℕ → Type 0) (k : Going) (m n : Machine) : Type 0 where
+  pub related : IsRelated p l k n.core
+  pub is_at : IsAt l.registers base code k n
+  pub spares : Spares p l own m.core n.core
+
+-- Where code has come out the host does something, and all that it may do answers and makes what the turn comes to.
+pub record Works (p : Part) (l : Layout) (base : ℕ) (code : List Line) (host : Host) (k : Going) (m : Machine) : Type 0 where
+  pub answers : (a : Option Outcome) × (n : Machine) × host.does m a n
+  pub right : (a : Option Outcome) (n : Machine) → host.does m a n → a ≡ answer_of k.place
+  pub serves : (a : Option Outcome) (n : Machine) → host.does m a n → Serves p l base code host.own k m n
+  pub relies : (a : Option Outcome) (n : Machine) → host.does m a n → host.relies n.core
+
+-- So a host works wherever code comes out for a slow step, between proper states, with what it relies on; code changes nothing of
+-- that.
+pub record IsHost (p : Part) (l : Layout) (base : ℕ) (code : List Line) (host : Host) : Type 0 where
+  pub kept : (c d : Core) → OthersStay p l c d → host.relies c → host.relies d
+  pub works : (g k : Going) (m : Machine) → g.place ≡ Slow → IsProper p g.state → IsProper p k.state → IsAlike p l base code g m
+      → host.relies m.core → HostMoves p code g k → Works p l base code host k m
+
+-- Wherever a host's moves lead, there is a state of the processor that serves.
+abbrev pub EachWorkCanBeDone : Type 1
+EachWorkCanBeDone =
+    (p : Part) (l : Layout) (base : ℕ) (code : List Line) (own : ℕ → Type 0) (g k : Going) (m : Machine)
+    → IsLayout p.data_size l → IsProper p k.state → IsHosts g.place → IsRelated p l g m.core → HostMoves p code g k
+    → (n : Machine) × Serves p l base code own k m n
+
+-- There is a host, whatever memory is its own: from states that the processor can't tell apart moves lead to such states.
+abbrev pub ThereIsAHost : Type 1
+ThereIsAHost =
+    (p : Part) (l : Layout) (base : ℕ) (code : List Line) (own : ℕ → Type 0) → IsRightPart p → IsLayout p.data_size l
+    → (host : Host) × (host.own ≡ own) × IsHost p l base code host
+
+-- ==== Code and host by turns.
+
+-- The processor has one way: where a text ends at the way out, its code comes out in one state.
+abbrev pub OneWayOut : Type 0
+OneWayOut =
+    (t : Text) (m n k : Machine) → let out = t.base + length t.bytes in
+    Reaches t m n → Reaches t m k → n.rip ≡ out → k.rip ≡ out → n ≡ k
+
+-- A round: code comes out at the end of its text, in one state; there the host does something; and whatever it does, its answer
+-- ends the turn as it has to, or it enters code anew.
+pub record Round (t : Text) (p : Part) (l : Layout) (host : Host) (Ended : Outcome → Machine → Type 0) (Entered : Machine → Type 0)
+    (m : Machine) : Type 0 where
+  pub out : Machine
+  pub comes_out : Reaches t m out
+  pub is_out : out.rip ≡ t.base + length t.bytes
+  pub only : (n : Machine) → Reaches t m n → n.rip ≡ t.base + length t.bytes → n ≡ out
+  pub others : OthersStay p l m.core out.core
+  pub answers : (a : Option Outcome) × (n : Machine) × host.does out a n
+  pub ends : (o : Outcome) (n : Machine) → host.does out (Some o) n → Ended o n
+  pub enters : (n : Machine) → host.does out None n → Entered n
+
+-- Fewer rounds than that, whatever the host does, end the turn as it has to.
+abbrev pub EndsWithin : ℕ → Text → Part → Layout → Host → (Outcome → Machine → Type 0) → Machine → Type 0
+EndsWithin zero t p l host Ended m = ⊥
+EndsWithin (suc rounds) t p l host Ended m = Round t p l host Ended (EndsWithin rounds t p l host Ended) m

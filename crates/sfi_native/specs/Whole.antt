@@ -1,0 +1,112 @@
+-- A turn of native code as a whole: code and host by turns come to its end, which is what the image's own steps come to.
+use Rattle.std.specs.Prelude.{◌≡◌, ◌⊎◌, ℕ, ◌+◌, ◌-◌, ◌*◌, ◌^◌, ◌<◌, ◌≤◌, List, length, Option, Some}
+use Rattle.rv_step.specs.declared.outcome.Outcome.{Outcome}
+use Rattle.rv_step.specs.State.{State}
+use Rattle.sfi_formats.specs.Limits.{guard}
+use Rattle.sfi_image.specs.Spelling.{Part}
+use Rattle.sfi_safety.specs.Places.{IsCleanPart}
+use Rattle.sfi_translate.specs.Lines.{Line, AreLines}
+use Rattle.sfi_translate.specs.Machine.{Going, Loop}
+use Rattle.sfi_translate.specs.Laws.{IsAsImage, IsOver, IsReached}
+use Rattle.x86_step.specs.State.{Machine, Text}
+use Rattle.sfi_native.specs.declared.layout.Layout.{Layout}
+use Rattle.sfi_native.specs.Entries.{AreEntries}
+use Rattle.sfi_native.specs.Faults.{HasFixups}
+use Rattle.sfi_native.specs.Host.{EndsWithin, Host, HostMoves, IsHost, IsInCode, Serves, answer_of}
+use Rattle.sfi_native.specs.Layout.{DoNotMeet, IsLayout, IsOutside, frame_size}
+use Rattle.sfi_native.specs.Laws.{IsBefore}
+use Rattle.sfi_native.specs.Places.{IsAt, end_address, exit_of, whole_code}
+use Rattle.sfi_native.specs.Table.{HasTable}
+
+-- the turn from that state begins in the host's loop
+abbrev pub begun : State → ℕ → Going
+begun s left = record { place = Loop; state = s; left = left }
+
+-- so many bytes from an address on lie apart from frame, data and guard zones
+pub record LieApart (p : Part) (l : Layout) (from n : ℕ) : Type 0 where
+  pub from_frame : DoNotMeet from n l.frame frame_size
+  pub from_zones : DoNotMeet from n (l.data_start - guard) (p.data_size + 2 * guard)
+
+-- So lie the text, the table and the host's own memory, and apart from one another.
+pub record AreApart (p : Part) (l : Layout) (base : ℕ) (code : List Line) (table_at : ℕ) (own : ℕ → Type 0) : Type 0 where
+  pub text : LieApart p l base (exit_of l.registers code)
+  pub table : LieApart p l table_at (length p.code)
+  pub table_from_text : DoNotMeet table_at (length p.code) base (exit_of l.registers code)
+  pub own_from_zones : (a : ℕ) → own a → IsOutside a (l.data_start - guard) (p.data_size + 2 * guard)
+  pub own_from_frame : (a : ℕ) → own a → IsOutside a l.frame frame_size
+  pub own_from_text : (a : ℕ) → own a → IsOutside a base (exit_of l.registers code)
+  pub own_from_table : (a : ℕ) → own a → IsOutside a table_at (length p.code)
+
+-- The code of a sandbox without a finding is a text, which ends at the way out, and has its table of entries and the host's fixups. A turn has begun, from a state that a run comes to and with so many steps left, fewer than 2^31; its host has made the
+-- first moves, and has entered code. (The host makes several turns of one with more: `TurnsAddUp`.)
+pub record IsEntered (sandbox : ℕ) (p : Part) (code : List Line) (l : Layout) (t : Text) (base : ℕ) (host : Host) (s : State)
+    (left : ℕ) (m : Machine) : Type 0 where
+  pub clean : IsCleanPart sandbox p
+  pub lines : AreLines sandbox p code
+  pub reached : IsReached p s
+  pub few : left < 2 ^ 31
+  pub first : Going
+  pub begins : HostMoves p code (begun s left) first
+  pub in_code : IsInCode first.place
+  pub is_at : IsAt l.registers base code first m
+  pub stands : IsBefore (whole_code l.registers (end_address p) code) t base p l first m.core
+  pub text_begins : t.base ≡ base
+  pub text_size : length t.bytes ≡ exit_of l.registers code
+  pub fixups : HasFixups l.registers t base code
+  pub table : HasTable p l base code m.core
+  pub apart : AreApart p l base code table.at host.own
+  pub relies : host.relies m.core
+
+-- The host has ended the turn by an outcome as the image does: the state is what the image's own steps make of the first one,
+-- up to where the next step has that outcome, or no step is left.
+pub record EndsAsImage (p : Part) (code : List Line) (l : Layout) (base : ℕ) (host : Host) (s : State) (left : ℕ) (m : Machine)
+    (o : Outcome) (n : Machine) : Type 0 where
+  pub last : Going
+  pub is_over : IsOver last
+  pub as_image : IsAsImage p s left last
+  pub answer : answer_of last.place ≡ Some o
+  pub serves : Serves p l base code host.own last m n
+  pub relies : host.relies n.core
+
+-- Whatever the host does, the turn ends so.
+pub record TurnEnds (p : Part) (code : List Line) (l : Layout) (t : Text) (base : ℕ) (host : Host) (s : State) (left : ℕ)
+    (m : Machine) : Type 0 where
+  pub rounds : ℕ
+  pub few : rounds ≤ 5 * (left + 1)
+  pub ends : EndsWithin rounds t p l host (EndsAsImage p code l base host s left m) m
+
+-- Each turn ends so.
+abbrev pub NativeTurnsEnd : Type 1
+NativeTurnsEnd =
+    (sandbox : ℕ) (p : Part) (code : List Line) (l : Layout) (t : Text) (base : ℕ) (host : Host) (s : State) (left : ℕ) (m : Machine)
+    → IsHost p l base code host → IsEntered sandbox p code l t base host s left m → TurnEnds p code l t base host s left m
+
+-- Where a host enters code again, in a state that a run comes to and with steps left, a turn is entered: so each turn's end may
+-- lead to a next turn (`IsAsImage`), also after a reply (`ReachedGoOn`).
+abbrev pub EachTurnGoesOn : Type 1
+EachTurnGoesOn =
+    (sandbox : ℕ) (p : Part) (code : List Line) (l : Layout) (t : Text) (base : ℕ) (host : Host) (s u : State) (left next_left : ℕ)
+    (first : Going) (m n : Machine)
+    → IsEntered sandbox p code l t base host s left m → IsReached p u → next_left < 2 ^ 31
+    → HostMoves p code (begun u next_left) first → IsInCode first.place → Serves p l base code host.own first m n
+    → host.relies n.core → IsEntered sandbox p code l t base host u next_left n
+
+-- a host that relies on nothing
+abbrev pub host_of : (Machine → Option Outcome → Machine → Type 0) → (ℕ → Type 0) → Host
+host_of does own = record { does = does; own = own; relies = λ c. Unit {0} }
+
+-- After a host's first moves the turn is over, or there is a processor in which it has entered code.
+pub record CanBegin (sandbox : ℕ) (p : Part) (code : List Line) (l : Layout) (base : ℕ) (host : Host) (s : State) (left : ℕ) : Type 0
+  where
+    pub first : Going
+    pub begins : HostMoves p code (begun s left) first
+    pub leads : IsOver first ⊎ ((t : Text) × (m : Machine) × IsEntered sandbox p code l t base host s left m)
+
+-- So it is wherever text, table, frame, data and the host's own memory lie apart.
+abbrev pub EachTurnCanBegin : Type 1
+EachTurnCanBegin =
+    (sandbox : ℕ) (p : Part) (code : List Line) (l : Layout) (base : ℕ) (table : List ℕ) (table_at : ℕ)
+    (does : Machine → Option Outcome → Machine → Type 0) (own : ℕ → Type 0) (s : State) (left : ℕ)
+    → IsCleanPart sandbox p → AreLines sandbox p code → AreEntries l.registers p code table → IsReached p s → left < 2 ^ 31
+    → IsLayout p.data_size l → base + exit_of l.registers code < 2 ^ 47 → table_at + length p.code ≤ 2 ^ 47
+    → AreApart p l base code table_at own → CanBegin sandbox p code l base (host_of does own) s left

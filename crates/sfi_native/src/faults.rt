@@ -1,0 +1,76 @@
+//! Where code accesses the data.
+ghost use Rattle.std.specs.Prelude.{◌≡◌, ◌≤◌, ◌<◌, ◌^◌, ◌++◌, [], length, IfSome, OnOk};
+ghost use Rattle.sfi_native.specs.Code.{fetch};
+ghost use Rattle.sfi_native.specs.Faults.{access_in, with_access};
+ghost use Rattle.sfi_native.specs.Lines.{line_of};
+ghost use Rattle.x86_instr.specs.declared.operand.Register.TheVariants.{Rax, Rcx};
+ghost use Rattle.x86_step.specs.Running.{spellings};
+
+use crate::line::Line;
+use crate::registers::RegisterMap;
+use rv_word::{Instr, Reg};
+use std::alloc::AllocError;
+
+/// An instruction of the code that accesses the data. Where it faults, the host goes out, with `pc` in edx.
+#[derive(Clone, Copy)]
+pub struct Access {
+    /// How many bytes of code are before it.
+    pub offset: u32,
+    /// The address of its line in the sandbox.
+    pub pc: u32,
+}
+
+/// How many bytes fetch a register into eax or ecx.
+#[tactic(auto, using(crate::proofs::Fixups::eax_zero, crate::proofs::Fixups::eax_some, crate::proofs::Fixups::ecx_zero, crate::proofs::Fixups::ecx_some, crate::proofs::Fixups::eax_low, crate::proofs::Fixups::eax_high, crate::proofs::Fixups::ecx_low, crate::proofs::Fixups::ecx_high))]
+fn fetch_size(registers: &RegisterMap, r: Reg) -> u32
+    ensures eax { result ≡ length (spellings (fetch registers.now Rax r)) }
+    ensures few { result ≤ 4 }
+    ensures ecx { result ≡ length (spellings (fetch registers.now Rcx r)) }
+{
+    match registers.of(r) {
+        Some(q) => if q.number() < 8 { 2 } else { 3 },
+        None => if r.number() == 0 { 3 } else { 4 },
+    }
+}
+
+/// The access of a line, if it has one, as far behind the line's start.
+fn access_of(registers: &RegisterMap, line: &Line) -> Option<Access>
+    ensures is { result ≡ access_in registers.now (line_of line.now) }
+    ensures few { IfSome result (λ a. a.offset ≤ 8) }
+{
+    let Line::Does { at, instr, .. } = *line else {
+        return None;
+    };
+    match instr {
+        Instr::Load { rs1, .. } => Some(Access {
+            offset: fetch_size(registers, rs1),
+            pc: at,
+        }),
+        Instr::Store { rs1, rs2, .. } => Some(Access {
+            offset: fetch_size(registers, rs1) + fetch_size(registers, rs2),
+            pc: at,
+        }),
+        _ => None,
+    }
+}
+
+/// Writes down the access of a line, if it has one, where so much code is before the line.
+pub(crate) fn push_access(
+    accesses: &mut Vec<Access>,
+    registers: &RegisterMap,
+    line: &Line,
+    before: usize,
+) -> Result<(), AllocError>
+    requires { before < 2 ^ 31 }
+    ensures { OnOk result
+        (accesses.new.items ≡ accesses.old.items ++ with_access before (access_in registers.now (line_of line.now)) []) }
+{
+    let Some(access) = access_of(registers, line) else {
+        return Ok(());
+    };
+    accesses.push(Access {
+        offset: before as u32 + access.offset,
+        pc: access.pc,
+    })?;
+    Ok(())
+}

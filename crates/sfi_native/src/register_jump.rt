@@ -1,0 +1,180 @@
+//! The bytes of a jalr.
+ghost use Rattle.std.specs.Prelude.{◌≡◌, ◌++◌, OnOk};
+ghost use Rattle.sfi_native.specs.Code.{enter_code, indirect_jump, jalr_line, start_code, steps_code, table_entry as table_entry_of, target_code};
+ghost use Rattle.x86_instr.specs.declared.instr.Instr.TheVariants.{Alu, AluImm};
+ghost use Rattle.x86_instr.specs.declared.instr.Width.TheVariants.{Dword};
+ghost use Rattle.x86_instr.specs.declared.operand.Operand.TheVariants.{Reg as InRegister};
+ghost use Rattle.x86_instr.specs.declared.operand.Register.TheVariants.{Rax, Rdx};
+ghost use Rattle.x86_step.specs.Running.{spellings};
+
+use crate::computation::{put_count, put_number};
+use crate::operation::{put, put_fetch, slot};
+use crate::registers::RegisterMap;
+use rv_word::Reg;
+use std::alloc::AllocError;
+use x86_instr::{Address, AluOp, Condition, Instr, Operand, Register, Scale, Width};
+
+/// An operation of edx and a number.
+fn with_edx(op: AluOp, imm: u32) -> Instr
+    ensures { result ≡ AluImm op Dword (InRegister Rdx) imm }
+{
+    Instr::AluImm {
+        op,
+        width: Width::Dword,
+        dst: Operand::Reg(Register::Rdx),
+        imm,
+    }
+}
+
+/// Writes the target of a jalr into edx.
+#[tactic(auto, using(crate::proofs::Lists::target_parts))]
+fn put_target(
+    out: &mut Vec<u8>,
+    registers: &RegisterMap,
+    rs1: Reg,
+    displacement: u32,
+) -> Result<(), AllocError>
+    ensures { OnOk result (out.new.items ≡ out.old.items ++ spellings (target_code registers.now rs1 displacement)) }
+{
+    put_fetch(out, registers, Register::Rdx, rs1)?;
+    put(out, with_edx(AluOp::Add, displacement))?;
+    put(out, with_edx(AluOp::And, 0xffff_fffe))
+}
+
+/// An operation of eax and an operand.
+fn with_eax(op: AluOp, src: Operand) -> Instr
+    ensures { result ≡ Alu op Dword Rax src }
+{
+    Instr::Alu {
+        op,
+        width: Width::Dword,
+        dst: Register::Rax,
+        src,
+    }
+}
+
+/// Writes a jump out where too few steps are left.
+#[tactic(auto, using(crate::proofs::Lists::two_parts))]
+fn put_steps(out: &mut Vec<u8>, distance: u32) -> Result<(), AllocError>
+    ensures { OnOk result (out.new.items ≡ out.old.items ++ spellings (steps_code distance)) }
+{
+    put(
+        out,
+        Instr::AluImm {
+            op: AluOp::Cmp,
+            width: Width::Dword,
+            dst: Operand::Reg(Register::R14),
+            imm: 65,
+        },
+    )?;
+    put(
+        out,
+        Instr::Jcc {
+            condition: Condition::Below,
+            distance: distance.wrapping_add(27),
+        },
+    )
+}
+
+/// Writes a jump out where no unit of the sandbox's code starts at the address in edx.
+#[tactic(auto, using(crate::proofs::Lists::start_parts))]
+fn put_start(out: &mut Vec<u8>, distance: u32) -> Result<(), AllocError>
+    ensures { OnOk result (out.new.items ≡ out.old.items ++ spellings (start_code distance)) }
+{
+    put(
+        out,
+        Instr::Mov {
+            width: Width::Dword,
+            dst: Register::Rax,
+            src: Operand::Reg(Register::Rdx),
+        },
+    )?;
+    put(
+        out,
+        with_eax(AluOp::And, Operand::Mem(slot(Reg::numbered(25)))),
+    )?;
+    put(
+        out,
+        with_eax(AluOp::Or, Operand::Mem(slot(Reg::numbered(24)))),
+    )?;
+    put(out, with_eax(AluOp::Cmp, Operand::Reg(Register::Rdx)))?;
+    put(
+        out,
+        Instr::Jcc {
+            condition: Condition::NotEqual,
+            distance: distance.wrapping_add(9),
+        },
+    )
+}
+
+/// Where the table has the entry of the unit at the address in edx.
+fn table_entry() -> Address
+    ensures { result ≡ table_entry_of }
+{
+    Address {
+        base: Register::R12,
+        index: Register::Rdx,
+        scale: Scale::One,
+        displacement: 0,
+    }
+}
+
+/// Writes a jump to that entry.
+#[tactic(auto, using(crate::proofs::Lists::three_parts))]
+fn put_enter(out: &mut Vec<u8>) -> Result<(), AllocError>
+    ensures { OnOk result (out.new.items ≡ out.old.items ++ spellings enter_code) }
+{
+    put(
+        out,
+        Instr::Mov {
+            width: Width::Dword,
+            dst: Register::Rax,
+            src: Operand::Mem(table_entry()),
+        },
+    )?;
+    put(
+        out,
+        Instr::Alu {
+            op: AluOp::Add,
+            width: Width::Qword,
+            dst: Register::Rax,
+            src: Operand::Reg(Register::R13),
+        },
+    )?;
+    put(
+        out,
+        Instr::JmpTo {
+            target: Operand::Reg(Register::Rax),
+        },
+    )
+}
+
+/// Writes a jump to the address in edx, or out.
+#[tactic(auto, using(crate::proofs::Lists::indirect_parts))]
+fn put_indirect_jump(out: &mut Vec<u8>, distance: u32) -> Result<(), AllocError>
+    ensures { OnOk result (out.new.items ≡ out.old.items ++ spellings (indirect_jump distance)) }
+{
+    put_steps(out, distance)?;
+    put_start(out, distance)?;
+    put_enter(out)
+}
+
+/// Writes the line of a jalr behind what is there; `next` is the address of what follows it in the sandbox. The
+/// displacement and the distance are in two's complement, the distance in bytes, from the line's end to the way out.
+#[tactic(auto, using(crate::proofs::Lists::jalr_parts))]
+pub fn push_jalr_line(
+    out: &mut Vec<u8>,
+    registers: &RegisterMap,
+    rd: Reg,
+    rs1: Reg,
+    displacement: u32,
+    next: u32,
+    distance: u32,
+) -> Result<(), AllocError>
+    ensures { OnOk result (out.new.items ≡ out.old.items ++ spellings (jalr_line registers.now rd rs1 displacement next distance)) }
+{
+    put_target(out, registers, rs1, displacement)?;
+    put_number(out, registers, rd, next)?;
+    put_count(out)?;
+    put_indirect_jump(out, distance)
+}
