@@ -1,0 +1,6 @@
+mod Harmless
+mod Sound
+mod Accepting
+mod Written
+mod Events
+pub mod Facts
