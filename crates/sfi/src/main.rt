@@ -2,6 +2,12 @@
 //! standard input and standard output.
 #![tactic(auto)]
 
+mod explaining;
+mod keeping;
+mod sentences;
+
+use crate::explaining::explained;
+use crate::keeping::{KeptInput, KeptOutput};
 use sfi_tool::{
     ExecFault, Input, Interruption, Job, JobFault, exec, job_of, read_image, run_tool, write_out,
 };
@@ -112,6 +118,54 @@ fn run_exec(rt: &HostRuntime, alloc: Global, words: &[String]) -> Option<u8> {
     }
 }
 
+/// How much is kept of a text: all that a source may have.
+const MOST_TEXT: usize = 1 << 20;
+
+/// How much is kept of an output: more than the line of a fault has.
+const MOST_LINE: usize = 100;
+
+/// Whether a command reads a source, whose fault is at one of its lines.
+fn reads_source(words: &[String]) -> bool {
+    match words.get(1) {
+        Some(word) => word.as_str() == "build" || word.as_str() == "map",
+        None => false,
+    }
+}
+
+/// Says what the fault is that a line names. Nothing is said where memory or standard error is refused.
+fn explain(rt: &HostRuntime, alloc: Global, line: &[u8], text: &[u8]) {
+    let Ok(fault) = str::from_utf8(line) else {
+        return;
+    };
+    let read = match str::from_utf8(text) {
+        Ok(read) => read,
+        Err(_) => "",
+    };
+    let found = explained(alloc, fault, read);
+    if let Ok(Some(said)) = found {
+        let _ = eprintln!(rt; "{said}");
+    }
+}
+
+/// Runs a command but `exec`. Standard error then says what the fault is that standard output names.
+fn run_explained(rt: &HostRuntime, alloc: Global, words: &[String]) -> u8 {
+    let mut reader = KeptInput {
+        reader: rt.reader(),
+        most: if reads_source(words) { MOST_TEXT } else { 0 },
+        bytes: Vec::new(alloc),
+    };
+    let mut writer = KeptOutput {
+        writer: io::writer(rt),
+        most: MOST_LINE,
+        bytes: Vec::new(alloc),
+    };
+    let status = run_tool(alloc, words, &mut reader, &mut writer);
+    if status == 2 {
+        explain(rt, alloc, writer.bytes.as_slice(), reader.bytes.as_slice());
+    }
+    status
+}
+
 /// Runs the command that the arguments name, and gives the exit status.
 fn status(rt: HostRuntime) -> u8 {
     let alloc = rt.alloc();
@@ -125,9 +179,7 @@ fn status(rt: HostRuntime) -> u8 {
     if let Some(status) = run_exec(&rt, alloc, words.as_slice()) {
         return status;
     }
-    let mut reader = rt.reader();
-    let mut writer = io::writer(&rt);
-    run_tool(alloc, words.as_slice(), &mut reader, &mut writer)
+    run_explained(&rt, alloc, words.as_slice())
 }
 
 /// Runs the command, and exits with its status.

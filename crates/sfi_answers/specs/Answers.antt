@@ -1,4 +1,4 @@
--- What is said of a command, and what `check`, `dis` and `translate` answer on an image's bytes.
+-- What is said of a command, and what `check`, `dis`, `translate` and `native` answer on an image's bytes.
 use Rattle.std.specs.Prelude.{◌⊎◌, ℕ, List, ◌≡◌, ◌<◌, ◌≤◌, Result, Ok, Err, IfErr, IfOk, IsErr, [], ◌∷◌, ◌++◌, length, codes, decimal, Bool, true, false}
 use Rattle.sfi_io.specs.Hexadecimal.{GivesImage, BeginsAsImage, IsHexFault, limit}
 use Rattle.sfi_io.specs.declared.hexadecimal.HexStop.{HexStop}
@@ -21,6 +21,7 @@ use Rattle.sfi_safety.specs.Clean.{IsAccepted}
 use Rattle.sfi_report.specs.Report.{IsReport}
 use Rattle.sfi_check.specs.declared.refusal.Refusal.{Refusal}
 use Rattle.sfi_check.specs.OneVerdict.{IfLayoutFault, IfFindings}
+use Rattle.sfi_native.specs.File.{IsNativeFile}
 use Rattle.sfi_translate.specs.Translation.{IsTranslation}
 use Rattle.sfi_answers.specs.declared.whole_program.TheConstants.{WHOLE_FRONT}
 
@@ -251,3 +252,20 @@ SaysTranslation whole bytes status text =
 -- `translate`, for a host or as a whole program
 abbrev pub translate : Bool → Meaning
 translate whole = on_verdict (SaysTranslation whole)
+
+-- ==== The command `native`, on an image's bytes.
+
+-- the image has no findings: status 0 and the file of its native code
+pub record SaysNativeFile (bytes : List ℕ) (status : ℕ) (file : List ℕ) : Type 0 where
+  pub parts : List Part
+  pub accepted : IsAccepted bytes parts
+  pub status_is : status ≡ 0
+  pub file_is : IsNativeFile bytes parts file
+
+-- the file, or the verdict on an image with findings
+abbrev pub SaysNative : List ℕ → ℕ → List ℕ → Type 0
+SaysNative bytes status text = SaysNativeFile bytes status text ⊎ SaysRefused false bytes status text
+
+-- `native`
+abbrev pub native : Meaning
+native = on_verdict SaysNative

@@ -1,10 +1,11 @@
-//! The answers of the commands that run no sandbox, `check`, `build`, `map`, `dis`, `convert`, `move`
-//! and `translate`: what each prints on the bytes or the text that it gets, and the status with
-//! which the program ends.
+//! The answers of the commands that run no sandbox, `check`, `build`, `map`, `dis`, `convert`, `move`,
+//! `translate` and `native`: what each prints on the bytes or the text that it gets, and the status
+//! with which the program ends.
 #![tactic(auto)]
 
 mod building;
 mod checking;
+mod compiling;
 mod converting;
 mod fault;
 mod fault_lines;
@@ -21,6 +22,7 @@ mod whole_program;
 
 pub use building::build_answer;
 pub use checking::{bytes_answer, check_answer, refusal_answer};
+pub use compiling::native_answer;
 pub use converting::conversion_answer;
 pub use fault::{InputFault, Stop, TOO_LARGE_LINE, stop_answer};
 pub use image::image_answer;

@@ -11,7 +11,7 @@ use Rattle.clap.specs.Simple.{App, Shape, new_app, new_rule, new_shape, on_top, 
 use Rattle.clap.specs.declared.builder.action.ArgAction.TheVariants.{Append, SetTrue}
 use Rattle.clap.specs.declared.builder.value_parser.ValueParser.TheVariants.{Signed, Unsigned}
 use Rattle.sfi_command.specs.declared.job.Job.{Job}
-use Rattle.sfi_command.specs.declared.job.Job.TheVariants.{Check, Dis, Build, Map, Run, Exec, Convert, Move, Translate}
+use Rattle.sfi_command.specs.declared.job.Job.TheVariants.{Check, Dis, Build, Map, Run, Exec, Convert, Move, Native, Translate}
 use Rattle.sfi_command.specs.declared.job.JobFault.{JobFault}
 use Rattle.sfi_command.specs.declared.job.JobFault.TheVariants.{Usage, Hex, Memory}
 
@@ -142,6 +142,10 @@ move_one = record (new_shape (codes "move")) {
 abbrev pub translate : Shape
 translate = record (new_shape (codes "translate")) { rules = flag_rule (codes "whole") ∷ [] }
 
+-- `native`
+abbrev pub native : Shape
+native = new_shape (codes "native")
+
 -- the program with these subcommands more, in their order
 abbrev pub with_all : App → List Shape → App
 with_all a [] = a
@@ -150,7 +154,7 @@ with_all a (s ∷ rest) = with_all (with_subcommand a s) rest
 -- the command line: the program with its subcommands
 abbrev pub sfi : App
 sfi = with_all (program_named (codes "sfi"))
-    (check ∷ dis ∷ build ∷ map_names ∷ run ∷ convert ∷ move_one ∷ translate ∷ exec ∷ [])
+    (check ∷ dis ∷ build ∷ map_names ∷ run ∷ convert ∷ move_one ∷ translate ∷ native ∷ exec ∷ [])
 
 -- ---- jobs
 
@@ -204,6 +208,7 @@ name_of (Exec image budget) = codes "exec"
 name_of (Convert raw) = codes "convert"
 name_of (Move raw sandbox place) = codes "move"
 name_of (Translate whole) = codes "translate"
+name_of Native = codes "native"
 
 -- what was found for the options of the job's command is as the job has it; a build and a map have the
 -- places that their uses of `--at` spell, and a check of an image's own bytes has no report
@@ -228,6 +233,7 @@ HasOptions found (Move raw sandbox place) =
     IsGiven (codes "raw") found raw × IsCount (codes "sandbox") 0 sandbox_most found sandbox
     × IsPlaceOf (first_of (codes "at") found) place
 HasOptions found (Translate whole) = IsGiven (codes "whole") found whole
+HasOptions found Native = Unit {0}
 
 -- the subcommand, with what was found for its options, asks for the job
 abbrev pub Names : Option (Text × List Row) → Job → Type 0

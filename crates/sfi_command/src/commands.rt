@@ -10,6 +10,7 @@ mod dis;
 mod exec;
 mod map;
 mod moving;
+mod native;
 mod run;
 mod translate;
 
@@ -24,7 +25,7 @@ pub const VERSION: &str = "0.1.0";
 /// The program as a row, which has no options of its own.
 pub(crate) const PROGRAM: CommandRow = CommandRow {
     name: "sfi",
-    about: "Build, map, check, list, convert, move, translate and run images of sandboxed RISC-V code (RV32IMC)",
+    about: "Build, map, check, list, convert, move, translate, compile and run images of sandboxed RISC-V code (RV32IMC)",
     options: &[],
     notes: "\
 Each command reads standard input and writes standard output, lines about
@@ -33,8 +34,8 @@ of a format, else as hexadecimal text: digits of either case, with white space
 between them. `sfi help COMMAND` says more of a command.
 
 Exit status:
-  0  done: the image is accepted, built, mapped, listed, run, converted, moved
-     or translated
+  0  done: the image is accepted, built, mapped, listed, run, converted, moved,
+     translated or compiled
   1  refused: the image breaks rules, and the verdict is printed
   2  the input or the text of --input has a fault, which one line names
   3  a usage error, or a help or version text
@@ -69,6 +70,7 @@ pub(crate) const COMMANDS: &[CommandRow] = &[
     convert::CONVERT,
     moving::MOVE,
     translate::TRANSLATE,
+    native::NATIVE,
     exec::EXEC,
 ];
 
@@ -85,6 +87,7 @@ pub(crate) fn job_named(alloc: Global, name: &str, found: &ArgMatches<'_>) -> Re
         "convert" => Ok(convert::asked_convert(found)),
         "move" => moving::asked_move(alloc, found),
         "translate" => Ok(translate::asked_translate(found)),
+        "native" => Ok(Job::Native),
         "exec" => exec::asked_exec(alloc, found),
         _ => Err(no_job(alloc)),
     }

@@ -76,6 +76,8 @@ pub enum Job {
         /// Whether it is a whole program, with the header and the console of `run` in it.
         whole: bool,
     },
+    /// The image as machine code.
+    Native,
 }
 
 impl Job {

@@ -6,7 +6,7 @@ use Rattle.std.proofs.Common.{[], ◌++◌, Option, Some, None, map, Vec, Global
 use Rattle.std.specs.FinMap.{empty}
 use Rattle.std.specs.Io.KnownBytes.{Appends, Keeps}
 use Rattle.rv_mem.specs.Bytes.{Bytes}
-use Rattle.sfi_answers.specs.Answers.{GivesImageThat, stop_of, IsAcceptedImage, IsLayoutFault, IsNoImage, Meaning, check, on_image, Answers, AnswersStatus, IsStop, SaysVerdict, SaysRefused, SaysTranslation}
+use Rattle.sfi_answers.specs.Answers.{GivesImageThat, stop_of, IsAcceptedImage, IsLayoutFault, IsNoImage, Meaning, check, on_image, Answers, AnswersStatus, IsStop, SaysVerdict, SaysNative, SaysRefused, SaysTranslation}
 use Rattle.sfi_answers.specs.FaultTexts.{IsFaultLine, stop_text}
 use Rattle.sfi_answers.specs.declared.fault.InputFault.TheVariants.{Hex, TooLarge}
 use Rattle.sfi_answers.specs.declared.fault.Stop.TheVariants as stop
@@ -44,7 +44,7 @@ use Rattle.sfi_formats.specs.declared.place.Place.{Place}
 use Rattle.sfi_answers.specs.Building.{SaysConversion}
 use Rattle.sfi_answers.specs.Moving.{SaysMoved}
 use Rattle.sfi_command.specs.declared.job.Job.{Job}
-use Rattle.sfi_command.specs.declared.job.Job.TheVariants.{Check, Dis, Build, Map, Run, Exec, Convert, Move, Translate}
+use Rattle.sfi_command.specs.declared.job.Job.TheVariants.{Check, Dis, Build, Map, Run, Exec, Convert, Move, Native, Translate}
 use Rattle.sfi_command.specs.Command.{is_raw}
 
 -- ==== From what the parts of `exec` ensure to what it does.
@@ -340,6 +340,10 @@ of_translation : (whole : Bool) (bytes : List ℕ) (status : ℕ) (text : List �
 of_translation whole bytes status text (inl translated) = omega (arith, translated.status_is)
 of_translation whole bytes status text (inr refused) = omega (arith, refused.status_is)
 
+of_native : (bytes : List ℕ) (status : ℕ) (text : List ℕ) → SaysNative bytes status text → status ≤ 1
+of_native bytes status text (inl written) = omega (arith, written.status_is)
+of_native bytes status text (inr refused) = omega (arith, refused.status_is)
+
 pub status_of_answer : (job : Job) (input : List ℕ) (status : ℕ) (text : List ℕ) → Says job input status text → status ≤ 1
 status_of_answer (Check true report) input status text says = of_verdict report input status text says
 status_of_answer (Check false report) input status text says = of_verdict report says.0 status text says.2
@@ -351,6 +355,7 @@ status_of_answer (Exec image budget) input status text says = absurd says
 status_of_answer (Convert raw) input status text says = of_conversion raw says.0 status text says.2
 status_of_answer (Move raw sandbox place) input status text says = of_move raw sandbox place says.0 status text says.2
 status_of_answer (Translate whole) input status text says = of_translation whole says.0 status text says.2
+status_of_answer Native input status text says = of_native says.0 status text says.2
 
 -- ---- a text above its limit
 

@@ -10,14 +10,14 @@ use Rattle.sfi_io.specs.Hexadecimal.{GivesImage, IsHexFault, SpellsBytes}
 use Rattle.sfi_io.specs.declared.hexadecimal.HexFault.{HexFault}
 use Rattle.sfi_io.specs.declared.hexadecimal.HexFault.TheVariants.{Odd, Digit}
 use Rattle.sfi_io.proofs.Facts.{texts_begin_as_none}
-use Rattle.sfi_answers.specs.Answers.{IsLayoutFault, IsNoImage, Meaning, check, dis, on_image, translate}
+use Rattle.sfi_answers.specs.Answers.{IsLayoutFault, IsNoImage, Meaning, check, dis, native, on_image, translate}
 use Rattle.sfi_answers.specs.Building.{IsNotConverted, IsNotMade, convert}
 use Rattle.sfi_answers.specs.Moving.{IsNotMoved, move}
 use Rattle.sfi_tool.specs.Running.{run}
 use Rattle.sfi_answers.specs.declared.fault.InputFault.TheVariants.{Hex, Utf8, TooLarge, NotOld, Words, NoSandbox, NoPlace, NoFile}
 use Rattle.sfi_answers.specs.declared.fault.Stop.{Stop}
 use Rattle.sfi_answers.specs.declared.fault.Stop.TheVariants as stop
-use Rattle.sfi_command.specs.declared.job.Job.TheVariants.{Check, Dis, Build, Map, Run, Exec, Convert, Move, Translate}
+use Rattle.sfi_command.specs.declared.job.Job.TheVariants.{Check, Dis, Build, Map, Run, Exec, Convert, Move, Native, Translate}
 use Rattle.sfi_tool.specs.Laws.{OneFault}
 use Rattle.sfi_tool.specs.Says.{IsNotHere}
 use Rattle.sfi_tool.proofs.Jobs.{keeps_limit, no_digits}
@@ -139,3 +139,4 @@ one_of_job (Exec image budget) = not_here
 one_of_job (Convert raw) = images (convert raw) conversions
 one_of_job (Move raw sandbox place) = images (move raw sandbox place) (moves sandbox place)
 one_of_job (Translate whole) = images (translate whole) layouts
+one_of_job Native = images native layouts

@@ -1,13 +1,13 @@
 -- What the job that was asked for answers on what was read, and what a run of the program writes.
 use Rattle.std.specs.Prelude.{ℕ, List, true, false, ◌⊎◌, ◌++◌, ◌<◌, ◌≤◌, Option, IfSome, codes, length}
 use Rattle.sfi_command.specs.declared.job.Job.{Job}
-use Rattle.sfi_command.specs.declared.job.Job.TheVariants.{Check, Dis, Build, Map, Run, Exec, Convert, Move, Translate}
+use Rattle.sfi_command.specs.declared.job.Job.TheVariants.{Check, Dis, Build, Map, Run, Exec, Convert, Move, Native, Translate}
 use Rattle.sfi_io.specs.Hexadecimal.{limit}
 use Rattle.sfi_report.specs.Listing.{line_end}
 use Rattle.sfi_answers.specs.declared.fault.InputFault.TheVariants.{TooLarge, NoFile}
 use Rattle.sfi_answers.specs.declared.fault.Stop.{Stop}
 use Rattle.sfi_answers.specs.declared.fault.Stop.TheVariants as stop
-use Rattle.sfi_answers.specs.Answers.{Meaning, on_image, check, dis, translate}
+use Rattle.sfi_answers.specs.Answers.{Meaning, on_image, check, dis, native, translate}
 use Rattle.sfi_answers.specs.FaultTexts.{IsFaultLine}
 use Rattle.sfi_answers.specs.Building.{build, map, convert}
 use Rattle.sfi_tool.specs.Running.{run}
@@ -43,6 +43,7 @@ meaning_of (Exec image budget) = not_here
 meaning_of (Convert raw) = on_image (convert raw)
 meaning_of (Move raw sandbox place) = on_image (move raw sandbox place)
 meaning_of (Translate whole) = on_image (translate whole)
+meaning_of Native = on_image native
 
 -- the job's answer, with status 0 or 1, on what was read
 abbrev pub Says : Job → List ℕ → ℕ → List ℕ → Type 0

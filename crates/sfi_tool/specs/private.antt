@@ -1,9 +1,11 @@
 -- Words that private contracts and proofs alone cite: no public statement rests on them.
-use Rattle.std.specs.Prelude.{◌≡◌, ◌≢◌, ◌⊎◌, ◌<◌, ◌≤◌, ◌-◌, ◌%◌, ◌^◌, ◌++◌, ℕ, List, [], Option, Some, None, IfSome, if◌then◌else◌, length, nat_le, slice_get, slice_set}
+use Rattle.std.specs.Prelude.{◌≡◌, ◌≢◌, ◌⊎◌, ◌<◌, ◌≤◌, ◌-◌, ◌%◌, ◌^◌, ◌++◌, ℕ, List, [], Option, Some, None, IfOk, IfSome, Result, if◌then◌else◌, length, nat_le, slice_get, slice_set}
 use Rattle.std.specs.Io.KnownBytes.{Consumes, IsAtEnd, Appends}
 use Rattle.std.specs.List.{range_with_len}
 use Rattle.sfi_command.specs.declared.job.Job.{Job}
 use Rattle.sfi_answers.specs.FaultTexts.{IsFaultLine}
+use Rattle.sfi_answers.specs.declared.verdict.Answer.{Answer as Answered}
+use Rattle.sfi_io.specs.declared.streams.ReadStop.{ReadStop}
 use Rattle.sfi_tool.specs.Says.{OnlyAppends, Says, meaning_of}
 use Rattle.sfi_host.specs.Consoles.{ConsoleState, console, most_handed}
 use Rattle.sfi_host.specs.Joint.{Machine, IsMachine, call_of, replied}
@@ -19,6 +21,13 @@ use Rattle.sfi_host.specs.declared.status.Status.{Status}
 use Rattle.sfi_host.specs.declared.status.Status.TheVariants.{Ready, Exited, Trapped, Stopped}
 use Rattle.sfi_tool.specs.Executing.{AreExecuted, IfKnown, IsBegun, Streams, streams, taken, turns_of}
 use Rattle.sfi_tool.specs.Running.{plan_of}
+
+-- the answer to the job, if there is one, is right of the input, where that is known
+pub record IsAnswered (job : Job) (input : Option (List ℕ)) (answered : Result Answered ReadStop) : Type 0 where
+  pub says : IfOk answered (λ a. a.status < 2
+      → IfSome input (λ bytes. Says job bytes a.status a.output.items))
+  pub line : IfOk answered (λ a. a.status ≡ 2
+      → IfSome input (λ bytes. IsFaultLine (meaning_of job) bytes a.output.items))
 
 -- the status of a job's run on what its reader told, and what its writer holds then
 pub record Runs (job : Job) (input old new : Option (List ℕ)) (status : ℕ) : Type 0 where

@@ -11,7 +11,7 @@ ghost use Rattle.sfi_answers.specs.Answers.{Answers};
 use crate::running::run_answer;
 use sfi_answers::{
     Answer, InputFault, Stop, build_answer, check_answer, conversion_answer, listing_answer,
-    map_answer, move_answer, stop_answer, translation_answer,
+    map_answer, move_answer, native_answer, stop_answer, translation_answer,
 };
 use sfi_command::Job;
 use sfi_io::{INPUT_LIMIT, image_bytes};
@@ -37,6 +37,7 @@ fn job_answer(alloc: Global, job: &Job, text: &[u8]) -> Result<Answer, Stop>
             place,
         } => move_answer(alloc, *raw, *sandbox, *place, &image_bytes(alloc, text)?),
         Job::Translate { whole } => translation_answer(alloc, *whole, &image_bytes(alloc, text)?),
+        Job::Native => native_answer(alloc, &image_bytes(alloc, text)?),
     }
 }
 

@@ -1,13 +1,12 @@
 //! A run of the program, over its reader and writer.
 
-ghost use Rattle.std.specs.Prelude.{◌≡◌, ◌<◌, ◌≤◌, ◌≢◌, IfOk, IfSome, Some, map, string_bytes, false, true};
+ghost use Rattle.std.specs.Prelude.{◌≡◌, ◌<◌, ◌≤◌, ◌≢◌, ℕ, List, Option, IfOk, Some, map, string_bytes, false, true};
 ghost use Rattle.std.specs.Io.KnownBytes.{Appends};
 ghost use Rattle.sfi_command.specs.Command.{Asks, AsksNothing, is_raw, number_of};
 ghost use Rattle.sfi_command.specs.declared.job.Job.{Job};
 ghost use Rattle.sfi_command.specs.declared.job.Job.TheVariants.{Check};
-ghost use Rattle.sfi_answers.specs.FaultTexts.{IsFaultLine};
-ghost use Rattle.sfi_tool.specs.Says.{WritesAnswer, WritesFault, OnlyAppends, Says, hex_line, meaning_of};
-ghost use Rattle.sfi_tool.specs.private.{Runs};
+ghost use Rattle.sfi_tool.specs.Says.{WritesAnswer, WritesFault, OnlyAppends, hex_line};
+ghost use Rattle.sfi_tool.specs.private.{IsAnswered, Runs};
 
 use crate::answering::answer_job;
 use sfi_answers::{Answer, TOO_LARGE_LINE, image_answer, raw_answer};
@@ -41,29 +40,14 @@ fn status_of_fault<W: Write>(writer: &mut W, fault: &JobFault) -> u8
     }
 }
 
-/// The verdict on the image that a reader gives: with `raw` as bytes, however they begin, and else as bytes
-/// or as a text, as the first bytes tell.
-fn streamed_answer<R: Read>(alloc: Global, raw: bool, reader: &mut R) -> Result<Answer, ReadStop>
-    ensures statuses { IfOk result (λ a. a.status ≤ 2) }
-    ensures says { IfOk result (λ a. a.status < 2 → IfSome (R.remaining reader.old)
-        (λ bytes. Says (Check raw false) bytes a.status a.output.items)) }
-    ensures line { IfOk result (λ a. a.status ≡ 2 → IfSome (R.remaining reader.old)
-        (λ bytes. IsFaultLine (meaning_of (Check raw false)) bytes a.output.items)) }
-{
-    if raw {
-        raw_answer(alloc, reader)
-    } else {
-        image_answer(alloc, reader)
-    }
-}
-
-/// Runs `check` without a report: of the input one piece is held at a time.
-fn run_check<R: Read, W: Write>(alloc: Global, raw: bool, reader: &mut R, writer: &mut W) -> u8
-    ensures runs { Runs (Check raw false) (R.remaining reader.old)
-        (W.contents writer.old) (W.contents writer.new) result }
+/// Writes the answer, if there is one, and gives the status.
+fn status_of_answer<W: Write>(writer: &mut W, answered: Result<Answer, ReadStop>) -> u8
+    requires { IfOk answered (λ a. a.status ≤ 2) }
+    ensures runs { (job : Job) (input : Option (List ℕ)) → IsAnswered job input answered
+        → Runs job input (W.contents writer.old) (W.contents writer.new) result }
     ensures memory { result ≡ 4 → writer.new ≡ writer.old }
 {
-    match streamed_answer(alloc, raw, reader) {
+    match answered {
         Ok(answer) => status_after_writing(writer, answer.status, &answer.output),
         Err(ReadStop::Memory) => 4,
         Err(ReadStop::Failed) => 5,
@@ -83,8 +67,8 @@ fn run_job_on_text<W: Write>(alloc: Global, job: &Job, text: &[u8], writer: &mut
     }
 }
 
-/// Runs a job. Its reader is read to its end or past the limit. Where it judges raw bytes, that reading
-/// stops at a fault of the layout is only tested.
+/// Runs a job. Its reader is read to its end or past the limit. Without a report `check` holds one piece of
+/// its input at a time; where it judges raw bytes, that reading stops at a fault of the layout is only tested.
 fn run_job<R: Read, W: Write>(alloc: Global, job: &Job, reader: &mut R, writer: &mut W) -> u8
     requires { is_raw job.now ≡ true → job.now ≡ Check true false }
     ensures runs { Runs job.now (R.remaining reader.old)
@@ -92,10 +76,10 @@ fn run_job<R: Read, W: Write>(alloc: Global, job: &Job, reader: &mut R, writer: 
     ensures memory { result ≡ 4 → writer.new ≡ writer.old }
 {
     if job.is_raw() {
-        return run_check(alloc, true, reader, writer);
+        return status_of_answer(writer, raw_answer(alloc, reader));
     }
     if let Job::Check { report: false, .. } = job {
-        return run_check(alloc, false, reader, writer);
+        return status_of_answer(writer, image_answer(alloc, reader));
     }
     match read_input(alloc, reader) {
         Ok(Input::Whole(text)) => run_job_on_text(alloc, job, &text, writer),

@@ -103,16 +103,16 @@ as sfi build --at 20500000:80000000; $ sfi build | sfi move --at 20500000:800000
 > interface 0; > export 20500010 f; > export 80000002 text; > export 20500000 say; > import 20500000 say; ..
 ";
 
-/// What is translated for a host and as a whole program, and what isn't.
-pub(super) const TRANSLATIONS: &str = "5 commands
+/// What is translated for a host and as a whole program, and what isn't, nor compiled.
+pub(super) const TRANSLATIONS: &str = "7 commands
 = two letters for a host; source; text front of hi; + 88 0290; + 1 4869; $ sfi translate
 > #include \"sfi_native.h\"; > SANDBOX(0,16,01000000,256,01800000,256,01000020,2,2); > GATE(01000000,1); > GATE(01000010,0)
 > DATA(0,72,105,0); > FUNCTION(0,01000000); ..; >; > EBREAK(010000fe,2); > LAST
 = two letters as a whole program; source; text front of hi; + 88 0290; + 1 4869; $ sfi translate --whole
 > #ifndef SFI_NATIVE_H; ..; >; > #else; > SANDBOX(0,16,01000000,256,01800000,256,01000020,2,2); ..; >; > EBREAK(010000fe,2); > LAST; > #endif
-= what breaks a rule; put 36 3370b5013360a0012320b000; $ sfi translate; $ sfi translate --whole
+= what breaks a rule; put 36 3370b5013360a0012320b000; $ sfi translate; $ sfi translate --whole; $ sfi native
 > refused findings=1 first=V5 sandbox=0 at=01000008
-= less a byte; cut 291; $ sfi translate; > layout fault 3 Short
+= less a byte; cut 291; $ sfi translate; $ sfi native; > layout fault 3 Short
 ";
 
 /// Listings, and faults.

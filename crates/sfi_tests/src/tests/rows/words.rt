@@ -1,7 +1,7 @@
 //! Words of a command line: those that ask for nothing or for help, and the places that `--at` gives.
 
 /// Words that ask for nothing.
-pub(super) const USAGE: &str = "69 commands
+pub(super) const USAGE: &str = "71 commands
 source
 = words that ask for nothing; $ sfi; $ sfi frob; $ sfi check image; $ sfi check --raw --raw; $ sfi check --raw=yes; $ sfi check --raw image
 $ sfi check --report=yes; $ sfi check --report --report; $ sfi check --report image; $ sfi check --rounds 1; $ sfi build --report; $ sfi build --raw=yes
@@ -9,7 +9,7 @@ $ sfi build source; $ sfi map --report; $ sfi map source; $ sfi dis image; $ sfi
 $ sfi run --report=yes; $ sfi run --report --report; $ sfi build --at; $ sfi check --at 20500000:80000000; $ sfi run --rounds; $ sfi run --rounds 0
 $ sfi run --rounds 10001; $ sfi run --rounds ten; $ sfi run --rounds=-1; $ sfi run --rounds 1 --rounds 1; $ sfi run --quantum 0
 $ sfi run --quantum 1000001; $ sfi run --quantum 0x10; $ sfi run --input; $ sfi run --rounds 0 --input 0; $ sfi check --version; $ sfi help frob
-$ sfi convert --report; $ sfi translate --report; $ sfi exec; $ sfi exec one two; $ sfi exec image --budget 0; $ sfi exec image --budget ten
+$ sfi convert --report; $ sfi translate --report; $ sfi native --raw; $ sfi native image; $ sfi exec; $ sfi exec one two; $ sfi exec image --budget 0; $ sfi exec image --budget ten
 $ sfi move; $ sfi move --raw; $ sfi move --sandbox 0; $ sfi move --at 1000000:1800000 --at 1000000:1800000; $ sfi move --at 1000000:1800000 --sandbox one
 $ sfi move --at 1000000:1800000 --sandbox=-1; $ sfi move --at 1000000:1800000 --sandbox 4294967296; $ sfi move --at 1000000:1800000 image
 $ sfi exec image --budget 18446744073709551616; $ sfi exec --budget 5; $ sfi exec image --raw; >.. error: 
@@ -35,7 +35,7 @@ source
 
 /// Each help says what its command does, how it is called, which options it has, which statuses,
 /// and an example. After `..` the first `>` ends a line.
-pub(super) const HELP: &str = "30 commands
+pub(super) const HELP: &str = "33 commands
 source; status 3
 = help; $ sfi --help; ..; >; >; > Usage: sfi <COMMAND>; ..; >..   check      Accept an image, or; >.. -V, --version; >text statuses; >.. build < 
 = help, said in other words; as sfi --help; $ sfi -h; $ sfi help
@@ -60,6 +60,8 @@ source; status 3
 = help of translate; $ sfi translate --help; ..; >.. as C; >; >; > Usage: sfi translate [OPTIONS]; ..; >.. --whole ; >text statuses
 >.. translate --whole < 
 = help of translate, said in other words; as sfi translate --help; $ sfi translate -h; $ sfi help translate
+= help of native; $ sfi native --help; ..; >.. machine code of x86-64; >; >; > Usage: sfi native; ..; >.. -h, --help; >text statuses; >.. native < 
+= help of native, said in other words; as sfi native --help; $ sfi native -h; $ sfi help native
 ";
 
 /// Programs at places of a chip, at high addresses up to the last one, and at the usual ones.

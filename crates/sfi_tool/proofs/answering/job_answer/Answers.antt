@@ -1,7 +1,7 @@
 use Rattle.sfi_tool.proofs.Prelude.{◌≡◌, ◌∙◌, ℕ, Bool, List, Result, ap, sym, subst}
 use Rattle.std.proofs.Common.{false}
 use Rattle.sfi_tool.specs.Says.{meaning_of}
-use Rattle.sfi_answers.specs.Answers.{check, translate, dis, Answers}
+use Rattle.sfi_answers.specs.Answers.{check, native, translate, dis, Answers}
 use Rattle.sfi_answers.specs.Building.{convert}
 use Rattle.sfi_answers.specs.Moving.{move}
 use Rattle.sfi_tool.specs.Running.{run}
@@ -65,6 +65,13 @@ returns-in_ok-image_bytes-in-Translate c =
     c.in_ok-image_bytes-in-Translate.ensures.bytes c.in_ok-image_bytes-in-Translate.ensures.only_bytes (λ u. let e = c.in_ok-image_bytes-in-Translate.ensures.only_stop u in absurd cc) c.deref-in-Translate.ensures.value
     c.translation_answer.ensures)
 
+pub returns-in_ok-image_bytes-in-Native : goal.returns-in_ok-image_bytes-in-Native
+returns-in_ok-image_bytes-in-Native c =
+    as_job _ _ _ c.native_answer.result c.in-Native.is
+    (on_bytes native c.args.text.now c.in_ok-image_bytes-in-Native.field-0.items c.deref-in-Native.result.now c.native_answer.result
+    c.in_ok-image_bytes-in-Native.ensures.bytes c.in_ok-image_bytes-in-Native.ensures.only_bytes (λ u. let e = c.in_ok-image_bytes-in-Native.ensures.only_stop u in absurd cc) c.deref-in-Native.ensures.value
+    c.native_answer.ensures)
+
 pub returns-in_err-image_bytes-in-Check : goal.returns-in_err-image_bytes-in-Check
 returns-in_err-image_bytes-in-Check c =
     as_job _ _ _ c.from_residual.result (text_check c.args.job.now c.in-Check.raw c.in-Check.report c.in-Check.is c.requires.reads_text)
@@ -100,3 +107,9 @@ returns-in_err-image_bytes-in-Translate c =
     as_job _ _ _ c.from_residual-in_err-image_bytes-in-Translate.result c.in-Translate.is
     (on_no_bytes (translate c.in-Translate.whole) c.args.text.now c.in_err-image_bytes-in-Translate.field-0.0 c.from_residual-in_err-image_bytes-in-Translate.result c.requires.within_limit c.in_err-image_bytes-in-Translate.ensures.stop c.in_err-image_bytes-in-Translate.ensures.only_bytes
     c.from_residual-in_err-image_bytes-in-Translate.ensures.1)
+
+pub returns-in_err-image_bytes-in-Native : goal.returns-in_err-image_bytes-in-Native
+returns-in_err-image_bytes-in-Native c =
+    as_job _ _ _ c.from_residual-in_err-image_bytes-in-Native.result c.in-Native.is
+    (on_no_bytes native c.args.text.now c.in_err-image_bytes-in-Native.field-0.0 c.from_residual-in_err-image_bytes-in-Native.result c.requires.within_limit c.in_err-image_bytes-in-Native.ensures.stop c.in_err-image_bytes-in-Native.ensures.only_bytes
+    c.from_residual-in_err-image_bytes-in-Native.ensures.1)
