@@ -33,7 +33,8 @@
  *   a call that is handed a module uses that, too.
  * - No call is made in a signal handler, nor in the forked child of a process that had threads. None is left by longjmp,
  *   by a C++ exception or by ending its thread: during a call, also one that only looks, the struct says that there is no
- *   world, and so the world of a call that is left is lost. What bounds the time of a turn is the number of its steps.
+ *   world, and so the world of a call that is left is lost. What bounds the time of a turn is the number of its steps
+ *   (sfi_run_limit.h: runs of short turns, which another thread ends, or a time).
  * - Each pointer is not NULL and is aligned, also where its length is 0. `length` bytes at it can be read, or `room` bytes
  *   written, and these are fewer than PTRDIFF_MAX. What the arguments of a call point to doesn't overlap. No value has to
  *   be in what a call is to write.

@@ -29,23 +29,45 @@ typedef bool sfi_run_handler(struct sfi_run_world *world, uint32_t sandbox, cons
 enum { SFI_RUN_GONE = 6 };
 
 /*
+ * What may cut a run short: `goes_on` is asked before each turn of it, and a turn has at most `steps` steps (as many as it can
+ * where that is 0). It may look at a clock, or at a word that another thread writes: sfi_run_limit.h has both, ready made.
+ */
+struct sfi_run_watch {
+    uint32_t steps;
+    bool (*goes_on)(void *context);
+    void *context;
+};
+
+/* What sfi_run_serve_watched returns, too: its watch cut the run. */
+enum { SFI_RUN_CUT = 7 };
+
+/*
  * Runs a sandbox for at most `steps` steps in all, and has each of its calls served. Writes to *event how it stands then, and
  * returns the event's kind, as sfi_run_event does, or SFI_RUN_GONE. Each reply is a step: a call for which none is left is
  * served in the next run. Steps of functions that `serve` calls count, too: where they use up all that are left, the run is
  * over.
+ *
+ * Where `watch` isn't NULL, it returns SFI_RUN_CUT as soon as that doesn't go on and the sandbox is ready or stands at a call.
+ * Nothing is lost: a run of the steps that are left does what one run would have done.
  */
-static inline uint32_t sfi_run_serve(struct sfi_run_world *world, uint32_t sandbox, uint64_t steps, sfi_run_handler *serve,
-                                     void *context, struct sfi_run_event *event) {
+static inline uint32_t sfi_run_serve_watched(struct sfi_run_world *world, uint32_t sandbox, uint64_t steps,
+                                             sfi_run_handler *serve, void *context, const struct sfi_run_watch *watch,
+                                             struct sfi_run_event *event) {
     struct sfi_run_registers after;
     uint64_t now = sfi_run_steps(world, sandbox);
     const uint64_t end = steps < UINT64_MAX - now ? now + steps : UINT64_MAX;
+    const uint32_t most = watch != NULL && watch->steps != 0 ? watch->steps : UINT32_MAX;
     while (now < end) {
-        const uint64_t left = end - now, turn = left < UINT32_MAX ? left : UINT32_MAX;
+        if (watch != NULL && !watch->goes_on(watch->context)) {
+            const uint32_t found = sfi_run_event(world, sandbox, event);
+            return found == SFI_RUN_READY || found == SFI_RUN_CALL ? (uint32_t)SFI_RUN_CUT : found;
+        }
+        const uint64_t left = end - now, turn = left < most ? left : most;
         const uint32_t kind = sfi_run_turn(world, sandbox, (uint32_t)turn, event);
         const uint64_t before = sfi_run_steps(world, sandbox);
         now = before;
         if (kind == SFI_RUN_READY)
-            continue; /* there were more steps than one turn takes, or none is left */
+            continue; /* there were more steps than this turn takes, or none is left */
         if (kind != SFI_RUN_CALL || now >= end)
             return kind;
         const uint32_t call = event->pc;
@@ -61,6 +83,12 @@ static inline uint32_t sfi_run_serve(struct sfi_run_world *world, uint32_t sandb
     return sfi_run_event(world, sandbox, event);
 }
 
+/* The same, and nothing cuts it. */
+static inline uint32_t sfi_run_serve(struct sfi_run_world *world, uint32_t sandbox, uint64_t steps, sfi_run_handler *serve,
+                                     void *context, struct sfi_run_event *event) {
+    return sfi_run_serve_watched(world, sandbox, steps, serve, context, NULL, event);
+}
+
 /* How the call of a function ended. */
 enum sfi_run_ended {
     SFI_RUN_RETURNED = 0,          /* it returned, or exited */
@@ -70,7 +98,8 @@ enum sfi_run_ended {
     SFI_RUN_ENDED_STEPS_USED = 4,
     SFI_RUN_ENDED_REFUSED = 5, /* `serve` answered false, gave no reply, or is NULL */
     SFI_RUN_ENDED_STOPPED = 6, /* `serve` stopped the sandbox */
-    SFI_RUN_ENDED_GONE = 7     /* SFI_RUN_GONE: `serve` did something else with the sandbox */
+    SFI_RUN_ENDED_GONE = 7,    /* SFI_RUN_GONE: `serve` did something else with the sandbox */
+    SFI_RUN_ENDED_CUT = 8      /* SFI_RUN_CUT: the watch ended it */
 };
 
 /* What sfi_run_function hands its own handler, and learns from it. */
@@ -104,6 +133,8 @@ static inline enum sfi_run_ended sfi_run_ended_by(uint32_t kind, bool is_refused
         return SFI_RUN_ENDED_TRAPPED;
     case SFI_RUN_STOPPED:
         return SFI_RUN_ENDED_STOPPED;
+    case SFI_RUN_CUT:
+        return SFI_RUN_ENDED_CUT;
     default:
         return SFI_RUN_ENDED_GONE;
     }
@@ -118,11 +149,14 @@ static inline enum sfi_run_ended sfi_run_ended_by(uint32_t kind, bool is_refused
  * However it ended, the call is over, and the next one can come. Where the sandbox stood at a call, it stands there again, and
  * waits for the reply; else it has stopped, if need be by sfi_run_stop. Its data are as the function left them. Of a call that is
  * gone nothing is put back: a sandbox that is still there is stopped then. One that wasn't entered (NO_FUNCTION, BUSY) stays as it
- * was. Who wants to go on after used steps calls sfi_run_enter and sfi_run_serve.
+ * was. Who wants to go on after used steps, or a cut, calls sfi_run_enter and sfi_run_serve.
+ *
+ * `watch` is that of sfi_run_serve_watched. A function that `serve` calls is another run, which wants the watch, too: else no more
+ * of the watch is asked before that is over.
  */
-static inline enum sfi_run_ended sfi_run_function(struct sfi_run_world *world, uint32_t sandbox, uint32_t pc,
-                                                  const uint32_t arguments[8], uint64_t steps, sfi_run_handler *serve,
-                                                  void *context, uint64_t *result) {
+static inline enum sfi_run_ended sfi_run_function_watched(struct sfi_run_world *world, uint32_t sandbox, uint32_t pc,
+                                                          const uint32_t arguments[8], uint64_t steps, sfi_run_handler *serve,
+                                                          void *context, const struct sfi_run_watch *watch, uint64_t *result) {
     struct sfi_run_serving own = {serve, context, 0, false};
     struct sfi_run_registers kept;
     struct sfi_run_region data = {0, 0}, found;
@@ -132,7 +166,7 @@ static inline enum sfi_run_ended sfi_run_function(struct sfi_run_world *world, u
         return sfi_run_event(world, sandbox, &event) == SFI_RUN_READY ? SFI_RUN_ENDED_BUSY : SFI_RUN_ENDED_NO_FUNCTION;
     const uint64_t before = sfi_run_steps(world, sandbox);
     sfi_run_data(world, sandbox, &data);
-    const uint32_t kind = sfi_run_serve(world, sandbox, steps, sfi_run_serve_function, &own, &event);
+    const uint32_t kind = sfi_run_serve_watched(world, sandbox, steps, sfi_run_serve_function, &own, watch, &event);
     const enum sfi_run_ended how = sfi_run_ended_by(kind, own.is_refused, sfi_run_steps(world, sandbox) - before < steps);
     if (how == SFI_RUN_RETURNED || how == SFI_RUN_ENDED_TRAPPED)
         *result = event.number | (uint64_t)(how == SFI_RUN_RETURNED ? own.high : event.a0) << 32;
@@ -141,6 +175,13 @@ static inline enum sfi_run_ended sfi_run_function(struct sfi_run_world *world, u
     else if (how != SFI_RUN_RETURNED && sfi_run_data(world, sandbox, &found) && found.base == data.base)
         sfi_run_stop(world, sandbox);
     return how;
+}
+
+/* The same, and nothing cuts it. */
+static inline enum sfi_run_ended sfi_run_function(struct sfi_run_world *world, uint32_t sandbox, uint32_t pc,
+                                                  const uint32_t arguments[8], uint64_t steps, sfi_run_handler *serve,
+                                                  void *context, uint64_t *result) {
+    return sfi_run_function_watched(world, sandbox, pc, arguments, steps, serve, context, NULL, result);
 }
 
 /* ---- signatures: what a function takes and gives, as the image claims */

@@ -1,13 +1,13 @@
 //! Modules for C: images that are checked and decoded once, and the worlds of one.
-ghost use Rattle.std.specs.Prelude.{◌≡◌, ◌≢◌, ◌↔◌, ◌⊎◌, ◌≤◌, ◌∷◌, List, Some, None, IsSome, length, false};
+ghost use Rattle.std.specs.Prelude.{◌≡◌, ◌≢◌, ◌↔◌, ◌⊎◌, ◌≤◌, List, Some, None, IsSome, false};
 ghost use Rattle.std.specs.Bool.{OnTrue, OnFalse};
 ghost use Rattle.std.specs.Option.{option_map};
 ghost use Rattle.sfi_image.specs.declared.fault.LayoutFault.{LayoutFault};
-ghost use Rattle.sfi_image.specs.Faults.{IsFault, number_of as layout_number};
+ghost use Rattle.sfi_image.specs.Faults.{IsFault};
 ghost use Rattle.sfi_image.specs.Spelling.{Part};
 ghost use Rattle.sfi_rules.specs.declared.finding.Finding.{Finding};
-ghost use Rattle.sfi_check.specs.Verdict.{HasFindings, bundle_count};
-ghost use Rattle.sfi_check.specs.ForC.{number_of, acceptance, refusal, no_image, IsAcceptance, IsRefusal, IsLayoutFault};
+ghost use Rattle.sfi_check.specs.Verdict.{HasFindings};
+ghost use Rattle.sfi_check.specs.ForC.{IsVerdictForC};
 ghost use Rattle.sfi_safety.specs.Clean.{IsAccepted};
 ghost use Rattle.sfi_host.specs.Worlds.{Sandboxes, IsSafeWorld};
 ghost use Rattle.sfi_host.specs.Sessions.{IsSoundWorld};
@@ -17,7 +17,7 @@ ghost use Rattle.sfi_run.specs.Held.{first_world, fault_number};
 use crate::held_module::HeldModule;
 use crate::holding::SfiRunWorld;
 use crate::worlds::{LoadFault, module_of, new_instance, sfi_run_free};
-use sfi_check::{SfiVerdict, Status, judge};
+use sfi_check::{SfiVerdict, judge};
 use sfi_host::Module;
 use std::alloc::Global;
 use std::mem::replace;
@@ -93,21 +93,8 @@ pub extern "C" fn sfi_run_module_new(
     ensures known { result ≤ fault_number LoadFault.Memory }
     ensures none { result ≢ 0 → from.new.inner.parts ≡ None }
 
-    // What each status of the verdict means, and which bytes get it, as of `sfi_run_load`.
-    ensures verdict_known { verdict.new.status ≤ 2 }
-    ensures verdict_accepted { verdict.new.status ≡ number_of Status.Accepted
-        → IsAcceptance image.now verdict.new }
-    ensures verdict_refused { verdict.new.status ≡ number_of Status.Refused
-        → (first : Finding) × (rest : List Finding) × IsRefusal image.now first rest verdict.new }
-    ensures verdict_layout { verdict.new.status ≡ number_of Status.NoImage
-        → IsLayoutFault image.now verdict.new }
-    ensures verdict_only_accepted { (ps : List Part) → IsAccepted image.now ps
-        → verdict.new ≡ acceptance (length ps) (bundle_count ps) }
-    ensures verdict_only_refused { (first : Finding) (rest : List Finding)
-        → HasFindings image.now (first ∷ rest)
-        → verdict.new ≡ refusal (length (first ∷ rest)) first }
-    ensures verdict_only_layout { (k : LayoutFault) → IsFault image.now k
-        → verdict.new ≡ no_image (layout_number k) }
+    // The verdict: what each of its statuses means, and which bytes get it.
+    ensures verdict { IsVerdictForC image.now verdict.new }
 {
     sfi_run_module_free(alloc, from);
     let answer = judge(image);

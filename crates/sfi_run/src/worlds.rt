@@ -1,12 +1,11 @@
 //! Worlds: loaded, freed, and how many sandboxes one has.
-ghost use Rattle.std.specs.Prelude.{◌≡◌, ◌↔◌, List, IfOk, IfErr, ◌≢◌, ◌⊎◌, ◌≤◌, ◌∷◌, length, Some, None, true};
+ghost use Rattle.std.specs.Prelude.{◌≡◌, ◌↔◌, List, IfOk, IfErr, ◌≢◌, ◌⊎◌, ◌≤◌, length, Some, None, true};
 ghost use Rattle.sfi_image.specs.declared.fault.LayoutFault.{LayoutFault};
-ghost use Rattle.sfi_image.specs.Faults.{IsFault, number_of as layout_number};
+ghost use Rattle.sfi_image.specs.Faults.{IsFault};
 ghost use Rattle.sfi_image.specs.Spelling.{Part};
 ghost use Rattle.sfi_rules.specs.declared.finding.Finding.{Finding};
-ghost use Rattle.sfi_check.specs.Verdict.{HasFindings, bundle_count};
-ghost use Rattle.sfi_check.specs.Verdict.{IsVerdictOn};
-ghost use Rattle.sfi_check.specs.ForC.{number_of, acceptance, refusal, no_image, IsAcceptance, IsRefusal, IsLayoutFault};
+ghost use Rattle.sfi_check.specs.Verdict.{HasFindings, IsVerdictOn};
+ghost use Rattle.sfi_check.specs.ForC.{IsVerdictForC};
 ghost use Rattle.sfi_safety.specs.Clean.{IsAccepted};
 ghost use Rattle.sfi_host.specs.Worlds.{Sandboxes, slots_of, IsSafeWorld};
 ghost use Rattle.sfi_host.specs.Sessions.{IsSoundWorld};
@@ -14,7 +13,7 @@ ghost use Rattle.sfi_run.specs.Held.{first_world, fault_number, Means};
 
 use crate::holding::SfiRunWorld;
 use rv_mem::Pages;
-use sfi_check::{SfiVerdict, Status, StreamAnswer, accept, judge};
+use sfi_check::{SfiVerdict, StreamAnswer, accept, judge};
 use sfi_host::{Module, World};
 use std::alloc::{AllocError, Global};
 
@@ -138,23 +137,8 @@ pub extern "C" fn sfi_run_load(
     ensures safe { (n : Sandboxes) → world.new.inner.world ≡ Some n → IsSafeWorld n }
     ensures sound { (n : Sandboxes) → world.new.inner.world ≡ Some n → IsSoundWorld n }
 
-    // What each status of the verdict means. Accepted means that every run of each sandbox is safe.
-    ensures verdict_known { verdict.new.status ≤ 2 }
-    ensures verdict_accepted { verdict.new.status ≡ number_of Status.Accepted
-        → IsAcceptance image.now verdict.new }
-    ensures verdict_refused { verdict.new.status ≡ number_of Status.Refused
-        → (first : Finding) × (rest : List Finding) × IsRefusal image.now first rest verdict.new }
-    ensures verdict_layout { verdict.new.status ≡ number_of Status.NoImage
-        → IsLayoutFault image.now verdict.new }
-
-    // Which bytes get it.
-    ensures verdict_only_accepted { (ps : List Part) → IsAccepted image.now ps
-        → verdict.new ≡ acceptance (length ps) (bundle_count ps) }
-    ensures verdict_only_refused { (first : Finding) (rest : List Finding)
-        → HasFindings image.now (first ∷ rest)
-        → verdict.new ≡ refusal (length (first ∷ rest)) first }
-    ensures verdict_only_layout { (k : LayoutFault) → IsFault image.now k
-        → verdict.new ≡ no_image (layout_number k) }
+    // The verdict: what each of its statuses means, and which bytes get it.
+    ensures verdict { IsVerdictForC image.now verdict.new }
 {
     sfi_run_free(alloc, world);
     let answer = judge(image);
