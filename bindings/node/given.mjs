@@ -1,4 +1,6 @@
 // What callers give: numbers of 32 bits, arguments, steps, options, and bytes.
+import { Limit } from "./limit.mjs";
+
 export const STEPS = 1_000_000; // of a call, unless others are given
 export const MOST = 0xffffffff; // of a word
 
@@ -25,11 +27,11 @@ export function counted(steps) {
 /** The options after the arguments of a call, which are taken off. */
 export function optionsOf(given) {
   const last = given.at(-1);
-  if (typeof last !== "object") return { steps: STEPS };
+  if (typeof last !== "object") return { steps: STEPS, limit: new Limit() };
   if (last === null || Array.isArray(last)) throw new TypeError("after the arguments comes an object with `steps` or `serve`");
-  const { steps = STEPS, serve } = given.pop();
+  const { steps = STEPS, serve, ...limits } = given.pop();
   if (serve !== undefined && typeof serve !== "function") throw new TypeError("`serve` is a function");
-  return { steps: counted(steps), serve };
+  return { steps: counted(steps), serve, limit: new Limit(limits) };
 }
 
 export function bytesOf(data) {

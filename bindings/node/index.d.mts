@@ -19,10 +19,10 @@ export declare class NoImage extends Error { readonly fault: number }
 export declare class NoName extends Error { readonly why: number }
 /** Why a call of a function is over without a result: it can't be entered there; its sandbox is in the midst of a run; it
  * trapped; its steps are used; a call of it got no reply; a handler stopped its sandbox; or reset, entered or removed it, or set
- * its registers. */
+ * its registers; its time is over; it is interrupted. */
 export declare const Ended: {
   readonly NO_FUNCTION: "NoFunction"; readonly BUSY: "Busy"; readonly TRAPPED: "Trapped"; readonly STEPS_USED: "StepsUsed";
-  readonly REFUSED: "Refused"; readonly STOPPED: "Stopped"; readonly GONE: "Gone";
+  readonly REFUSED: "Refused"; readonly STOPPED: "Stopped"; readonly GONE: "Gone"; readonly TIMED_OUT: "TimedOut"; readonly INTERRUPTED: "Interrupted";
 };
 export type Ended = (typeof Ended)[keyof typeof Ended];
 /** A call of a function that is over without a result. The `event` is how the sandbox stood when it ended, if it is there. */
@@ -82,8 +82,13 @@ export type Event = Ready | Call | Exited | Trapped | Stopped;
 export interface Registers { readonly pc: number; readonly x: readonly number[] }
 /** The addresses of a sandbox's data. */
 export interface Region { readonly base: number; readonly size: number }
-/** The most steps of a call in all, 1,000,000 if none are given, and what replies to its calls of gates of other services. */
-export interface CallOptions { steps?: number; serve?: (call: Call) => void }
+/** What ends a run before its steps are used, some ten milliseconds later: that so many milliseconds have passed since it began; and that
+ * the signal is aborted (by a handler, or where the loop over events awaits), or the array's first number isn't 0, as a worker sets it
+ * that shares its memory. The sandbox can go on then, in the next run. */
+export interface Limits { timeout?: number; interrupt?: AbortSignal | Int32Array }
+/** The most steps of a call in all, 1,000,000 if none are given, and what replies to its calls of gates of other services. Its limits
+ * are those of the calls that `serve` makes, too. */
+export interface CallOptions extends Limits { steps?: number; serve?: (call: Call) => void }
 
 /** A sandbox of a world. After it is removed, or the world is closed, every call of it throws RangeError. */
 export declare class Sandbox {
@@ -101,9 +106,9 @@ export declare class Sandbox {
   /** Runs it for at most `steps` steps in all: yields each call, which is to be replied to before the next event is asked
    * for, and last how it stands then. A call that comes when all steps are used counts as Ready here: it is the first event of
    * the next run. One that isn't replied to is the last event. Steps that the loop's body has the sandbox do count, too. */
-  events(steps: number): Generator<Event, void, void>;
+  events(steps: number, limits?: Limits): Generator<Event, void, void>;
   /** Such a loop, in which `serve` replies to each call: the last event. */
-  run(steps: number, serve?: (call: Call) => void): Event;
+  run(steps: number, serve?: (call: Call) => void, limits?: Limits): Event;
   /** Replies to the call at which it stands. Throws NotWaiting where it stands at no call. */
   reply(a0: number, a1: number): void;
   /** The other reply: it stops at the call, with that number. */
@@ -207,10 +212,10 @@ export type CallHandler = (call: Call) => number | boolean | readonly [number, n
 /** The handler, which gets the Call where its import has a signature, too. */
 export declare function byCall(handler: CallHandler): Handler;
 
-/** What a plug-in is loaded with: the sandbox's number, 0 if none is given; the most steps of a call; handlers by the names of imports;
+/** What a plug-in is loaded with: the sandbox's number, 0 if none is given; the most steps of a call, and its limits; handlers by the names of imports;
  * and signatures that the host states, of exports and imports: with them, also {}, no claim of the image holds, and names that they
  * don't have go by words. Where the plug-in is a stranger's, state them. */
-export interface PluginOptions {
+export interface PluginOptions extends Limits {
   number?: number; steps?: number; handlers?: Record<string, Handler>; signatures?: Record<string, Signature>;
 }
 

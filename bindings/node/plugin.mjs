@@ -81,6 +81,7 @@ function reply(call, answer) {
 
 export class Plugin {
   #steps;
+  #limits;
   #claims;
   #handlers = new Map(); // by the addresses of gates
 
@@ -89,24 +90,25 @@ export class Plugin {
   }
 
   /** In that world, which is closed where it can't be. `claims` tells what the table of a sandbox claims. */
-  static of(world, { number = 0, steps = STEPS, handlers = {}, signatures } = {}, claims = claimsOf) {
+  static of(world, { number = 0, steps = STEPS, handlers = {}, signatures, timeout, interrupt } = {}, claims = claimsOf) {
     try {
-      return new Plugin(world, number, { steps, handlers, signatures, claims });
+      return new Plugin(world, number, { steps, limits: { timeout, interrupt }, handlers, signatures, claims });
     } catch (error) {
       world.close();
       throw error;
     }
   }
 
-  constructor(world, number, { steps, handlers, signatures, claims }) {
+  constructor(world, number, { steps, limits, handlers, signatures, claims }) {
     this.world = world;
     this.sandbox = world.sandboxes[number];
     if (!this.sandbox) throw new RangeError(`there is no sandbox ${number}`);
     this.#steps = steps;
+    this.#limits = limits;
     const claimed = claims(this.sandbox);
     this.#claims = signatures === undefined ? claimed : inPlaceOf(claimed, signatures);
     for (const [name, handler] of Object.entries(handlers)) this.#handle(name, handler);
-    finishStart(this.sandbox, steps, this.#options().serve);
+    finishStart(this.sandbox, this.#options());
     this.exports = new Proxy(Object.freeze({}), { get: (_, name) => this.#function(name) });
   }
 
@@ -131,7 +133,7 @@ export class Plugin {
   /** Those of one run. */
   #options() {
     const allowance = new Allowance(counted(this.#steps));
-    return { steps: this.#steps, serve: (call) => this.#handlers.get(call.pc)?.(call, allowance) };
+    return { ...this.#limits, steps: this.#steps, serve: (call) => this.#handlers.get(call.pc)?.(call, allowance) };
   }
 
   #function(name) {

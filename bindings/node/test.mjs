@@ -5,6 +5,7 @@ import { execFileSync } from "node:child_process";
 import { Call, Cause, Console, Ended, Exited, Library, Meets, Module, NoImage, NoMemory, NoName, NotEntered, NotReturned, NotRunning, NotWaiting,
   OutsideData, Plugin, Ready, Refused, Stopped, Trapped, load } from "./index.mjs";
 import { callTests } from "./test_calls.mjs";
+import { limitTests } from "./test_limits.mjs";
 import { signatureTests } from "./test_signatures.mjs";
 import { valueTests } from "./test_values.mjs";
 
@@ -405,7 +406,7 @@ function matches(error, wanted) {
 }
 
 let [passed, failed] = [0, 0];
-for (const [name, test] of Object.entries({ ...tests, ...callTests(built), ...signatureTests, ...valueTests(built) })) {
+for (const [name, test] of Object.entries({ ...tests, ...callTests(built), ...limitTests(built), ...signatureTests, ...valueTests(built) })) {
   if (process.argv[2] && !name.includes(process.argv[2])) continue;
   try {
     await test();

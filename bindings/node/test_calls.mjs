@@ -4,7 +4,7 @@ import assert from "node:assert/strict";
 import { readFileSync } from "node:fs";
 import { Call, Ended, NotReturned, Plugin, Ready, load } from "./index.mjs";
 
-const SOURCE = readFileSync(new URL("../calls.s", import.meta.url), "utf8");
+export const SOURCE = readFileSync(new URL("../calls.s", import.meta.url), "utf8");
 const FUNCTIONS = ["get", "noted", "parse", "sum_by", "wide", "wild", "spin"];
 const STEPS = 10_000;
 

@@ -30,7 +30,7 @@ export class NoName extends Error {
 }
 
 export const Ended = Object.freeze({ NO_FUNCTION: "NoFunction", BUSY: "Busy", TRAPPED: "Trapped", STEPS_USED: "StepsUsed",
-  REFUSED: "Refused", STOPPED: "Stopped", GONE: "Gone" });
+  REFUSED: "Refused", STOPPED: "Stopped", GONE: "Gone", TIMED_OUT: "TimedOut", INTERRUPTED: "Interrupted" });
 const ENDED = {
   NoFunction: "no bundle or word of the sandbox's code begins there",
   Busy: "the sandbox is in the midst of a run, which `turn` and `events` go on with, and `stop` ends",
@@ -39,6 +39,8 @@ const ENDED = {
   Refused: "it calls a gate, and no handler replied",
   Stopped: "a handler stopped the sandbox",
   Gone: "a handler reset, entered or removed the sandbox, or set its registers",
+  TimedOut: "its time is over",
+  Interrupted: "it is interrupted",
 };
 
 /** What is said of a call that is over: why, and how the sandbox stood, if it is there. */

@@ -1,6 +1,7 @@
 // Worlds and their sandboxes, over the calls of sfi_run.h: index.d.mts says what each does.
-import { MOST, argument, bytesOf, counted, optionsOf, word } from "./given.mjs";
+import { argument, bytesOf, counted, optionsOf, word } from "./given.mjs";
 import { NoMemory, usualLibrary } from "./library.mjs";
+import { Limit, TURN } from "./limit.mjs";
 import { Call, Ended, Exited, Meets, NoImage, NoName, NotEntered, NotReturned, NotRunning, NotWaiting, OutsideData, Ready, Refusal,
   Refused, Stopped, Trapped, eventOf, hexadecimal } from "./told.mjs";
 
@@ -64,6 +65,7 @@ export class Held {
     this.free = freeing(library, "free", at);
     this.isOpen = true;
     this.moves = 0; // each reply, stop and entry has its number
+    this.limit = undefined; // that of the call whose handler runs
     this.seats = [];
     this.seat(image, keeps);
     dropped.register(this, this.free, this);
@@ -229,26 +231,27 @@ export class Sandbox {
     return this.#told("event");
   }
 
-  events(steps) {
-    return this.#events(counted(steps) + this.steps);
+  events(steps, limits) {
+    return this.#events(counted(steps) + this.steps, new Limit(limits));
   }
 
-  *#events(end) {
+  *#events(end, limit) {
     for (let now = this.steps; ; now = this.steps) {
-      let event = this.turn(Math.min(Math.max(0, end - now), MOST));
+      const { isOver } = limit;
+      let event = this.turn(isOver ? 0 : Math.min(Math.max(0, end - now), TURN));
       if (event instanceof Ready || event instanceof Call) {
         now = this.steps;
-        if (event instanceof Ready && now < end) continue; // there were more steps than one turn takes
-        if (now >= end) event = new Ready();
+        if (event instanceof Ready && now < end && !isOver) continue; // there were more steps than this turn takes
+        if (now >= end || isOver) event = new Ready();
       }
       yield event;
       if (!(event instanceof Call) || event.isWaiting) return;
     }
   }
 
-  run(steps, serve) {
+  run(steps, serve, limits) {
     let last;
-    for (const event of this.events(steps)) {
+    for (const event of this.events(steps, limits)) {
       last = event;
       if (event instanceof Call) serve?.(event);
     }
@@ -307,9 +310,9 @@ export class Sandbox {
   }
 
   #called(at, given) {
-    const { steps, serve } = optionsOf(given);
+    const options = optionsOf(given);
     const frame = this.#begin(word(typeof at === "string" ? this.export(at) : at), given);
-    return this.#finish(frame, steps, serve);
+    return this.#finish(frame, options);
   }
 
   /** The name and number that a call of the library finds at an index. */
@@ -339,32 +342,37 @@ export class Sandbox {
   }
 
   static {
-    finishStart = (sandbox, steps, serve) => {
+    finishStart = (sandbox, given) => {
       const frame = { what: `the start in sandbox ${sandbox.number}`, entered: sandbox.#seat.entered, after: "it has stopped" };
-      sandbox.#finish(frame, counted(steps), serve);
+      sandbox.#finish(frame, optionsOf([given]));
     };
-    callFunction = (sandbox, pc, words, { steps, serve }, prepare) => {
-      const most = counted(steps);
-      return sandbox.#finish(sandbox.#begin(word(pc), words), most, serve, prepare);
+    callFunction = (sandbox, pc, words, given, prepare) => {
+      const options = optionsOf([given]);
+      return sandbox.#finish(sandbox.#begin(word(pc), words), options, prepare);
     };
     resume = (sandbox, { pc, x }) => sandbox.#call("set_registers", passWords(sandbox.#open().library, [pc, ...x])) !== 0;
     entryAt = (sandbox, call, index) => sandbox.#entryAt(call, index);
   }
 
   /** The two words of what the frame answers. However it ends, it is over then. */
-  #finish(frame, steps, serve, prepare) {
+  #finish(frame, options, prepare) {
+    const held = this.#held;
+    const { limit } = options;
+    limit.around = held.limit;
+    held.limit = limit;
     try {
       prepare?.();
-      return this.#result(frame, steps, serve);
+      return this.#result(frame, options);
     } finally {
+      held.limit = limit.around;
       this.#end(frame);
     }
   }
 
-  #result(frame, steps, serve) {
+  #result(frame, { steps, serve, limit }) {
     let last;
     let high = 0;
-    for (const event of this.events(steps)) {
+    for (const event of this.#events(steps + this.steps, limit)) {
       last = event;
       if (!(event instanceof Call)) break;
       if (event.service === EXIT) {
@@ -376,7 +384,7 @@ export class Sandbox {
       }
     }
     if (last instanceof Exited) return [last.number, high];
-    if (last instanceof Ready) throw this.#failure(frame, Ended.STEPS_USED, last);
+    if (last instanceof Ready) throw this.#failure(frame, limit.cause ?? Ended.STEPS_USED, last);
     if (last instanceof Trapped) throw this.#failure(frame, Ended.TRAPPED, last);
     throw this.#failure(frame, last instanceof Stopped ? Ended.STOPPED : Ended.REFUSED, last);
   }

@@ -1,14 +1,18 @@
-//! Finds the static library libsfi_run.a: the one that `SFI_RUN_LIBRARY` names, or that of the repository or the
-//! installation that holds this crate, or that in `~/.local/lib` or `/usr/local/lib`.
+//! Finds the runtime: the static library libsfi_run.a that `SFI_RUN_LIBRARY` names, or else the file of C that a package of
+//! this crate holds, which it compiles, or else the library of the repository or the installation that holds this crate, or
+//! that in `~/.local/lib` or `/usr/local/lib`.
 use std::env;
 use std::path::{Path, PathBuf};
+use std::process::Command;
 
 const NAME: &str = "libsfi_run.a";
+const SOURCE: &str = "c/suygapid_run.c";
+
+fn named() -> Option<PathBuf> {
+    env::var_os("SFI_RUN_LIBRARY").map(PathBuf::from)
+}
 
 fn places() -> Vec<PathBuf> {
-    if let Some(named) = env::var_os("SFI_RUN_LIBRARY") {
-        return vec![PathBuf::from(named)];
-    }
     let top = Path::new(env!("CARGO_MANIFEST_DIR")).join("../..");
     let home = env::var_os("HOME").map(|it| PathBuf::from(it).join(".local/lib"));
     let folders = [top.join("crates/sfi_run/out/linked"), top.join("../../lib")];
@@ -20,9 +24,52 @@ fn places() -> Vec<PathBuf> {
         .collect()
 }
 
+/// A command of the compiler's, with its first words: what `NAME_TARGET` names, as for another processor, or `NAME`, or `usual`.
+fn command(name: &str, usual: &str) -> Command {
+    let of_target = format!("{name}_{}", env::var("TARGET").unwrap().replace('-', "_"));
+    let given = [of_target, name.to_string()];
+    for it in &given {
+        println!("cargo:rerun-if-env-changed={it}");
+    }
+    let found = given.iter().find_map(|it| env::var(it).ok());
+    let words = found.unwrap_or_else(|| usual.to_string());
+    let mut words = words.split_whitespace();
+    let mut command = Command::new(words.next().unwrap_or(usual));
+    command.args(words);
+    command
+}
+
+fn run(command: &mut Command) {
+    match command.status() {
+        Ok(status) if status.success() => {}
+        Ok(status) => panic!("{command:?} failed: {status}"),
+        Err(error) => panic!(
+            "{command:?} can't be run: {error}; a C compiler has to be there, or CC to name one"
+        ),
+    }
+}
+
+/// Compiles the file of C to a static library. It is an interpreter, which is optimized in any profile.
+fn compiled(source: &Path) -> PathBuf {
+    let folder = PathBuf::from(env::var_os("OUT_DIR").unwrap());
+    let (object, library) = (folder.join("suygapid_run.o"), folder.join(NAME));
+    run(command("CC", "cc")
+        .args(["-std=c11", "-O2", "-fPIC", "-c"])
+        .arg(source)
+        .arg("-o")
+        .arg(&object));
+    run(command("AR", "ar").arg("rcs").args([&library, &object]));
+    library
+}
+
 fn main() {
     println!("cargo:rerun-if-env-changed=SFI_RUN_LIBRARY");
-    let found = places().into_iter().find(|it| it.is_file());
+    let source = Path::new(env!("CARGO_MANIFEST_DIR")).join(SOURCE);
+    let found = match named() {
+        Some(library) => Some(library),
+        None if source.is_file() => Some(compiled(&source)),
+        None => places().into_iter().find(|it| it.is_file()),
+    };
     let Some(library) = found.and_then(|it| it.canonicalize().ok()) else {
         panic!(
             "{NAME} isn't found: SFI_RUN_LIBRARY has to name it, or ./install to have installed it"

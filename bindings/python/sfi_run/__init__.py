@@ -28,7 +28,7 @@ from collections.abc import Callable, Iterator, Sequence
 from types import TracebackType
 from typing import TYPE_CHECKING, Any
 
-from . import _functions, _library
+from . import _functions, _library, _limits, _views
 from ._library import arguments as _words, word as _word
 from .told import (Call, Cause, Ended, Event, Exited, Finding, Meets, NoImage, NotEntered, NotReturned, NotRunning, NotWaiting,
                    OutsideData, Ready, Refused, Registers, Region, Stopped, TooLong, Trapped, WrongArguments, WrongSignature)
@@ -68,11 +68,11 @@ def _make(make: Callable[..., int], image: bytes, made: Any) -> None:
 class _Seat:
     """What the objects of one sandbox share: its number, which is that of its world's list; its last reply, stop or entry; and
     its last entry, which is how it came to the pc and registers that it has: a reset, a removal, and registers that are set
-    are entries, too."""
-    __slots__ = ("entered", "gone_on", "number")
+    are entries, too. And how many steps it had done before, where it is restored."""
+    __slots__ = ("before", "entered", "gone_on", "number")
 
     def __init__(self, number: int) -> None:
-        self.number, self.gone_on, self.entered = number, 0, 0
+        self.number, self.gone_on, self.entered, self.before = number, 0, 0, 0
 
     def enter(self, move: int) -> None:
         self.gone_on = self.entered = move
@@ -102,6 +102,8 @@ class World:
         make(self._at)
         self._seats = [_Seat(number) for number in range(self._calls["count"](self._at))]
         self._moves = itertools.count(1)  # each reply, stop and entry has its number
+        self._limit: _limits.Limit | None = None  # that of the call whose handler runs
+        self._views: list[Any] = []  # those of sandboxes' data
         self._is_open = True
 
     def _made_here(self) -> None:
@@ -113,6 +115,7 @@ class World:
         """Frees the world. It has no sandboxes then."""
         self._made_here()
         with self._lock:
+            _views.release(self)
             self._calls["free"](self._at)
             for seat in self._seats:
                 seat.enter(next(self._moves))
@@ -206,6 +209,8 @@ class Sandbox:
         world = self._world
         world._made_here()
         with world._lock:
+            if world._views and name in _views.ENDING:
+                _views.release(world)
             return world._calls[name](world._at, self._place(), *arguments)
 
     def _changed(self, name: str, *arguments: Any) -> bool:
@@ -243,37 +248,52 @@ class Sandbox:
 
     def turn(self, steps: int) -> Event:
         """Runs it for at most `steps` steps, and no further than its next call: how it stands then. An instruction that is
-        done and a call that is replied to are a step each. One that stands at a call already, or has stopped, does none."""
-        return self._told("turn", _word(steps))
+        done and a call that is replied to are a step each. One that stands at a call already, or has stopped, does none.
+        KeyboardInterrupt, and what else a signal's handler raises, ends the turn; the next one goes on from there."""
+        return self._turned(steps, (), "turn")
 
     def until(self, stops: Sequence[int], steps: int) -> Event:
         """The same, but the turn ends, too, before an instruction at one of the addresses `stops`. Its first step is made in
         any case, so that it goes on from a stop."""
-        return self._told("until", (ctypes.c_uint32 * max(1, len(stops)))(*map(_word, stops)), len(stops), _word(steps))
+        return self._turned(steps, stops, "until", (ctypes.c_uint32 * max(1, len(stops)))(*map(_word, stops)), len(stops))
+
+    def _turned(self, steps: int, stops: Sequence[int], name: str, *arguments: Any) -> Event:
+        """A turn, as short ones, between which python sees signals."""
+        left = _word(steps)
+        with self._world._lock:
+            while True:
+                event = self._told(name, *arguments, min(left, _limits.STEPS))
+                left -= _limits.STEPS
+                if left <= 0 or not isinstance(event, Ready) or stops and self.pc in stops:
+                    return event
 
     @property
     def event(self) -> Event:
         """How it stands."""
         return self._told("event")
 
-    def events(self, steps: int) -> Iterator[Event]:
+    def events(self, steps: int, *, timeout: float | None = None, interrupt: _limits.Interrupt | None = None) -> Iterator[Event]:
         """Runs it for at most `steps` steps in all: yields each call, which is to be replied to before the next event is
         asked for, and last how it stands then. A call that comes when all steps are used counts as Ready here: it is the
         first event of the next run. One that isn't replied to is the last event. Steps that the loop's body has the sandbox do
-        count, too: where they use up all that are left, the run is over."""
+        count, too: where they use up all that are left, the run is over.
+
+        Once `timeout` seconds have passed from now on, or `interrupt` (a `threading.Event`) is set by whatever thread, the run is over,
+        too, after a millisecond or so: its last event is Ready where the sandbox can go on, as it does in the next run."""
         if steps < 0:
             raise ValueError(f"steps is {steps}, and has to be at least 0")
-        return self._events(self.steps + steps)
+        return self._events(self.steps + steps, _limits.Limit(timeout, interrupt))
 
-    def _events(self, end: int) -> Iterator[Event]:
+    def _events(self, end: int, limit: _limits.Limit) -> Iterator[Event]:
         now = self.steps
         while True:
-            event = self.turn(min(max(0, end - now), (1 << 32) - 1))
+            is_over = limit.is_over()
+            event = self.turn(0 if is_over else min(max(0, end - now), _limits.STEPS))
             if isinstance(event, (Ready, Call)):
                 now = self.steps
-                if isinstance(event, Ready) and now < end:
-                    continue  # there were more steps than one turn takes
-                if now >= end:
+                if isinstance(event, Ready) and now < end and not is_over:
+                    continue  # there were more steps than this turn takes
+                if now >= end or is_over:
                     event = Ready()
             yield event
             if not isinstance(event, Call) or self._seat.gone_on == event._turns:
@@ -305,6 +325,19 @@ class Sandbox:
         if not self._call("write", _word(at), data, len(data)):
             raise OutsideData(f"{len(data)} bytes at {at:08x}")
 
+    def view(self, at: int, count: int) -> memoryview:
+        """The same bytes as `read` gives, to be read and written where they lie, without a copy: until a sandbox of the world next
+        runs, or is reset or removed, or the world closed, which releases the view. Then, as for a bytearray that is resized,
+        BufferError tells that a slice of it is still there, or what was made of one. Only the library of a translated plug-in
+        has such bytes (docs/EMBEDDING.md, "As C"): NotImplementedError where another is loaded."""
+        data, begin = self.data, self._world._calls.native_data
+        if begin is None:
+            raise NotImplementedError("this library keeps data in pages, which `read` and `write` copy; a translated plug-in's has views")
+        if not (data.base <= at and 0 <= count <= data.base + data.size - at):
+            raise OutsideData(f"{count} bytes at {at:08x}")
+        with self._world._lock:
+            return _views.shown(self._world, begin(self._world._at, self._place()) + at - data.base, count)
+
     def stop(self) -> None:
         """Stops it, whether it is ready or stands at a call: no turn runs it, and it takes no reply. Its data, pc, registers and
         steps stay, and `enter` may enter it again. Raises NotRunning where it has stopped already."""
@@ -315,6 +348,7 @@ class Sandbox:
         """Takes it back to what it was when its world was made, whatever it did and wherever it stands: its data, pc and
         registers are those of then, it is ready, and has done 0 steps. No call that was told before is replied to any more."""
         self._entered("reset")
+        self._seat.before = 0
 
     def enter(self, pc: int, arguments: Sequence[int] = ()) -> None:
         """Makes it ready at pc, where it has stopped, with at most eight arguments in a0 to a7 and 0 in those that are
@@ -324,25 +358,30 @@ class Sandbox:
         if not self._entered("enter", _word(pc), _words(arguments)):
             raise NotEntered(f"sandbox {self.number} can't be entered at {pc:08x}")
 
-    def call(self, pc: int, *arguments: int, steps: int, serve: Callable[[Call], object] | None = None) -> int:
+    def call(self, pc: int, *arguments: int, steps: int, serve: Callable[[Call], object] | None = None,
+             timeout: float | None = None, interrupt: _limits.Interrupt | None = None) -> int:
         """Calls a function: enters it at pc, runs it for at most `steps` steps in all, and answers its result, with which it
         exits. `serve` replies to its calls of gates of other services, and may call functions, too: while one waits for its
         reply, the other runs on its stack, and then it waits again.
 
         Where it doesn't return, NotReturned tells the cause, and the call is over: the sandbox has stopped, with its data as
         they are, or stands again at the call at which it was called, and the next call of it is right. So it is where `serve`
-        raises an exception, which passes on. Before anything runs, arguments are refused as `enter` refuses them."""
-        return _functions.called(self, pc, arguments, steps, serve) & 0xFFFFFFFF
+        raises an exception, which passes on. Before anything runs, arguments are refused as `enter` refuses them.
 
-    def call64(self, pc: int, *arguments: int, steps: int, serve: Callable[[Call], object] | None = None) -> int:
+        `timeout` and `interrupt` end the call as they end `events`, and those that `serve` makes. So does KeyboardInterrupt, which
+        passes on."""
+        return _functions.called(self, pc, arguments, steps, serve, _limits.Limit(timeout, interrupt)) & 0xFFFFFFFF
+
+    def call64(self, pc: int, *arguments: int, steps: int, serve: Callable[[Call], object] | None = None,
+               timeout: float | None = None, interrupt: _limits.Interrupt | None = None) -> int:
         """The same of a function whose result has 64 bits, as a `long long`, or the bytes of a `double`. Of one whose result has
         32, the upper half is what it leaves in a1."""
-        return _functions.called(self, pc, arguments, steps, serve)
+        return _functions.called(self, pc, arguments, steps, serve, _limits.Limit(timeout, interrupt))
 
     @property
     def steps(self) -> int:
         """How many steps it has done."""
-        return self._call("steps")
+        return self._call("steps") + self._seat.before
 
     @property
     def registers(self) -> Registers:

@@ -6,7 +6,7 @@ import operator
 from collections.abc import Callable, Sequence
 from typing import TYPE_CHECKING
 
-from . import _library
+from . import _library, _limits
 from .told import Call, Ended, Event, Exited, NotReturned, Ready, Trapped
 
 if TYPE_CHECKING:
@@ -21,7 +21,7 @@ class Refusal(Exception):
 
 
 def called(sandbox: Sandbox, pc: int, given: Sequence[int], steps: int, serve: Callable[[Call], object] | None,
-           prepare: Callable[[], None] | None = None) -> int:
+           limit: _limits.Limit, prepare: Callable[[], None] | None = None) -> int:
     """What `Sandbox.call64` answers. `prepare` is called when the function is entered, and nothing of it has run."""
     at, arguments, steps = _library.word(operator.index(pc)), _library.arguments(given), operator.index(steps)
     if steps < 0:
@@ -31,17 +31,17 @@ def called(sandbox: Sandbox, pc: int, given: Sequence[int], steps: int, serve: C
     world = sandbox._world
     world._made_here()
     with world._lock:
-        run = Run(sandbox)
+        run = Run(sandbox, limit)
         run.enter(at, arguments)
         return run.finish(steps, serve, prepare)
 
 
 class Run:
     """A run of a sandbox until it exits, which is over when it has finished, however: that of its start, if it isn't entered."""
-    __slots__ = ("sandbox", "pc", "after", "entered", "found", "kept")
+    __slots__ = ("sandbox", "limit", "pc", "after", "entered", "found", "kept")
 
-    def __init__(self, sandbox: Sandbox) -> None:
-        self.sandbox, self.after = sandbox, "it has stopped"
+    def __init__(self, sandbox: Sandbox, limit: _limits.Limit) -> None:
+        self.sandbox, self.limit, self.after = sandbox, limit, "it has stopped"
         self.pc: int | None = None
         self.entered = sandbox._seat.entered
         self.found: tuple[int, int] | None = None  # its last move and entry when it stood at a call
@@ -62,6 +62,8 @@ class Run:
 
     def finish(self, steps: int, serve: Callable[[Call], object] | None, prepare: Callable[[], None] | None = None) -> int:
         """The result, of 64 bits, or raises why there is none."""
+        world, limit = self.sandbox._world, self.limit
+        limit.around, world._limit = world._limit, limit
         try:
             if prepare:
                 prepare()
@@ -69,13 +71,15 @@ class Run:
         except BaseException:
             self._end()
             raise
+        finally:
+            world._limit = limit.around
         if self.kept is not None:
             self._end()
         return result
 
     def _result(self, steps: int, serve: Callable[[Call], object] | None) -> int:
         sandbox, seat, high = self.sandbox, self.sandbox._seat, 0
-        for event in sandbox.events(steps):
+        for event in sandbox._events(sandbox.steps + steps, self.limit):
             if isinstance(event, Call):
                 if event.service == EXIT:
                     high = event.a1
@@ -87,7 +91,7 @@ class Run:
         if isinstance(event, Exited):
             return high << 32 | event.number
         if isinstance(event, Ready):
-            raise self._failure(Ended.STEPS_USED, event)
+            raise self._failure(self.limit.cause or Ended.STEPS_USED, event)
         if isinstance(event, Call):
             raise self._failure(Ended.REFUSED, event)
         raise self._failure(Ended.TRAPPED if isinstance(event, Trapped) else Ended.STOPPED, event)

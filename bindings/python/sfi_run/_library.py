@@ -157,6 +157,9 @@ class Library:
                 raise _other_version(handle)
             function.restype, function.argtypes = result, arguments
             self._functions[name] = function
+        self.native_data: Callable[..., int] | None = getattr(handle, "sfi_native_data", None)  # of a translated plug-in
+        if self.native_data:
+            self.native_data.restype, self.native_data.argtypes = ctypes.c_void_p, [_WORLD, _WORD]
         if self["version"]() // 256 != _version_number() // 256:
             raise _other_version(handle)
 

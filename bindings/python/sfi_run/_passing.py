@@ -7,7 +7,7 @@ from collections.abc import Callable, Sequence
 from dataclasses import dataclass
 from typing import TYPE_CHECKING, Any
 
-from . import _functions, _library
+from . import _functions, _library, _limits
 from .signatures import LEAST, UNFIT, WANTED, WORD, WORDS, Block, Signature, split, taken, value_of, words_of
 from .told import Call, OutsideData, TooLong
 
@@ -60,17 +60,17 @@ def _size(blocks: Sequence[Block]) -> int:
 
 
 def called(sandbox: Sandbox, pc: int, name: str, signature: Signature, given: Sequence[Any], stack: Stack, steps: int,
-           serve: Callable[[Call], object] | None) -> Any:
+           serve: Callable[[Call], object] | None, limit: _limits.Limit) -> Any:
     """Calls a function at pc with these arguments: its result."""
     words, blocks = taken(name, signature, given)
     if blocks and _size(blocks) > stack.room():
         raise TooLong(name, _size(blocks), stack.room())
     if not blocks and signature.result != "s":  # then no memory is read or written beside the call
-        return _value(sandbox, signature.result, _functions.called(sandbox, pc, words, steps, serve))
+        return _value(sandbox, signature.result, _functions.called(sandbox, pc, words, steps, serve, limit))
     prepare = (lambda: lay(sandbox, name, blocks, stack)) if blocks else None
     sandbox._world._made_here()
     with sandbox._world._lock:
-        result = _functions.called(sandbox, pc, words, steps, serve, prepare)
+        result = _functions.called(sandbox, pc, words, steps, serve, limit, prepare)
         for block in blocks:
             if block.buffer is not None:
                 _bring_back(sandbox, name, block)

@@ -4,7 +4,7 @@ from __future__ import annotations
 import ctypes
 import os
 
-from . import Call, Exited, Sandbox, Stopped, Trapped, World, _bytes, _library, _word
+from . import Call, Exited, Sandbox, Stopped, Trapped, World, _bytes, _library, _views, _word
 
 
 class Console:
@@ -47,6 +47,7 @@ class Console:
         world = self.world
         world._made_here()
         with world._lock:
+            _views.release(world)
             is_done = self._calls["console_turn"](self._at, world._at, sandbox._place(), _word(steps))
             sandbox._seat.gone_on = next(world._moves)
         if not is_done:

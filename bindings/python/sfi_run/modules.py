@@ -20,7 +20,7 @@ from collections.abc import Callable, Mapping
 from types import TracebackType
 from typing import Any
 
-from . import Library, World, _bytes, _library, _make
+from . import Library, World, _bytes, _library, _limits, _make
 from .names import Claims, Handler, Plugin, claims
 
 
@@ -60,10 +60,12 @@ class Module:
         return made
 
     def instance(self, *, number: int = 0, steps: int = 1_000_000, signatures: Mapping[str, str] | None = None,
-                 **handlers: Handler) -> Plugin:
+                 timeout: float | None = None, interrupt: _limits.Interrupt | None = None, **handlers: Handler) -> Plugin:
         """A plug-in in a world of its own: what Plugin makes of the image."""
         made = Plugin.__new__(Plugin)
-        made._begin(self.image, self._calls, self.world(), number, steps, signatures, handlers, self._claims_of(number))
+        made.steps, made.timeout, made.interrupt = steps, timeout, interrupt
+        made._begin(self.image, self._calls, self.world(), number, signatures, handlers, self._claims_of(number))
+        made._start()
         return made
 
     def _claims_of(self, number: int) -> Claims:

@@ -20,7 +20,7 @@ from dataclasses import dataclass, field
 from types import TracebackType
 from typing import Any
 
-from . import Call, Library, World, _functions, _library, _passing
+from . import Call, Library, World, _functions, _library, _limits, _passing, snapshots
 from .signatures import Signature, claimed, parsed
 from .told import WrongSignature
 
@@ -170,7 +170,8 @@ class Plugin:
     words."""
 
     def __init__(self, image: bytes, *, number: int = 0, steps: int = 1_000_000, library: Library | None = None,
-                 signatures: Mapping[str, str] | None = None, **handlers: Handler) -> None:
+                 signatures: Mapping[str, str] | None = None, timeout: float | None = None,
+                 interrupt: _limits.Interrupt | None = None, **handlers: Handler) -> None:
         """Loads the image, and runs the sandbox of that number through its start, which has to exit. A handler gets each call of
         the gate of its name. Where that has a signature, it gets the values, and answers the result's: for a text an address of the
         sandbox's. A call with a text or bytes that don't lie in the sandbox's data is refused. Without a signature, and in
@@ -179,25 +180,50 @@ class Plugin:
         called. `signatures` states what exports and imports take and give, as {"add": "(ii)i"}. Without it, the image chooses of
         which types a handler's values are, and what a call gives; with it, also {}, no claim holds, and names that it hasn't go by
         words. A call has at most `steps` steps, and its handlers get at most 16 bytes of texts, `b` and `w` for each: more are
-        refused. Raises what World does, NotReturned, and WrongSignature where the image claims another signature than that which
+        refused. It has at most `timeout` seconds, and ends once `interrupt` is set, as `Sandbox.call` has them; so do later calls
+        then, until that is cleared. `plugin.steps`, `timeout` and `interrupt` can be changed between calls. Raises what World does, NotReturned, and WrongSignature where the image claims another signature than that which
         is stated."""
         image = bytes(memoryview(image))
-        self._begin(image, library, World(image, library), number, steps, signatures, handlers)
+        self.steps, self.timeout, self.interrupt = steps, timeout, interrupt
+        self._begin(image, library, World(image, library), number, signatures, handlers)
+        self._start()
 
-    def _begin(self, image: bytes, library: Library | None, world: World, number: int, steps: int,
-               signatures: Mapping[str, str] | None, handlers: dict[str, Handler], found: Claims | None = None) -> None:
+    def _begin(self, image: bytes, library: Library | None, world: World, number: int, signatures: Mapping[str, str] | None,
+               handlers: dict[str, Handler], found: Claims | None = None) -> None:
         """In that world, which is closed where it can't be. `found` are the sandbox's claims, if they are known."""
-        self.image, self.steps, self._library, self.world = image, steps, library, world
+        self.image, self._library, self.world = image, library, world
         try:
             self.sandbox = world[number]
             of_image = found or claims(image, number, library)
             self._claims = of_image if signatures is None else of_image.stated(signatures)
             self._handle(number, handlers)
-            with world._lock:
-                _functions.Run(self.sandbox).finish(steps, self._serving())
         except BaseException:
             world.close()
             raise
+
+    def _start(self) -> None:
+        """Runs the sandbox through its start. The world is closed where it doesn't exit."""
+        try:
+            with self.world._lock:
+                _functions.Run(self.sandbox, self._limit()).finish(self.steps, self._serving())
+        except BaseException:
+            self.world.close()
+            raise
+
+    @classmethod
+    def restore(cls, image: bytes, snapshot: bytes, *, number: int = 0, steps: int = 1_000_000, library: Library | None = None,
+                signatures: Mapping[str, str] | None = None, timeout: float | None = None,
+                interrupt: _limits.Interrupt | None = None, **handlers: Handler) -> Plugin:
+        """A plug-in of that image as it was when `snapshot` was taken, whose start isn't run again. Raises what `snapshots.restore`
+        does, and WrongSignature."""
+        image, made = bytes(memoryview(image)), cls.__new__(cls)
+        made.steps, made.timeout, made.interrupt = steps, timeout, interrupt
+        made._begin(image, library, snapshots.restore(image, snapshot, library), number, signatures, handlers)
+        return made
+
+    def snapshot(self) -> bytes:
+        """The plug-in as bytes: `snapshots.take`."""
+        return snapshots.take(self.world, self.image)
 
     def _handle(self, number: int, handlers: dict[str, Handler]) -> None:
         self._handlers: dict[int, Callable[[Call, _passing.Allowance], None]] = {}
@@ -213,6 +239,10 @@ class Plugin:
             except NoName as missing:
                 if missing.why != 5:
                     raise
+
+    def _limit(self) -> _limits.Limit:
+        """That of a call which begins now."""
+        return _limits.Limit(self.timeout, self.interrupt)
 
     def _serving(self) -> Callable[[Call], None]:
         """What serves the calls of one run."""
@@ -246,13 +276,16 @@ class Plugin:
 
     def call64(self, name: str, *arguments: int) -> int:
         """The same, with a result of 64 bits: `Sandbox.call64` says of which functions."""
-        return self.sandbox.call64(self.address(name), *arguments, steps=self.steps, serve=self._serving())
+        return self.sandbox.call64(self.address(name), *arguments, steps=self.steps, serve=self._serving(), timeout=self.timeout,
+                                   interrupt=self.interrupt)
 
     def _called(self, address: int, *arguments: int) -> int:
-        return self.sandbox.call(address, *arguments, steps=self.steps, serve=self._serving())
+        return self.sandbox.call(address, *arguments, steps=self.steps, serve=self._serving(), timeout=self.timeout,
+                                 interrupt=self.interrupt)
 
     def _called_by(self, address: int, name: str, signature: Signature, *arguments: Any) -> Any:
-        return _passing.called(self.sandbox, address, name, signature, arguments, self._claims.stack, self.steps, self._serving())
+        return _passing.called(self.sandbox, address, name, signature, arguments, self._claims.stack, self.steps, self._serving(),
+                               self._limit())
 
     def _function(self, name: str) -> Callable[..., Any]:
         address, signature = self.address(name), self._claims.exports.get(name)

@@ -64,6 +64,8 @@ class Ended(enum.Enum):
     REFUSED = "it calls a gate, and no handler replied"
     STOPPED = "a handler stopped the sandbox"
     GONE = "a handler reset, entered or removed the sandbox, or set its registers"
+    TIMED_OUT = "its time is over"
+    INTERRUPTED = "it is interrupted"
 
 
 class NotReturned(Exception):

@@ -21,6 +21,10 @@ pub enum NotReturned {
     },
     /// Its steps are used. What may take more steps is begun by [`Sandbox::enter`], and goes on by [`Sandbox::serve`].
     StepsUsed,
+    /// Its time is over: [`Sandbox::set_deadline`].
+    TimedOut,
+    /// Another thread, or a handler, ended it: [`Sandbox::set_interrupt`].
+    Interrupted,
     /// A call of a gate got no reply, or its handler answered false.
     Refused,
     /// A handler stopped the sandbox.
@@ -45,6 +49,12 @@ impl fmt::Display for NotReturned {
             NotReturned::StepsUsed => {
                 "the call is over: its steps are used (what may take more steps is begun by `enter`, and goes on by \
                  `serve`); the sandbox can be called"
+            }
+            NotReturned::TimedOut => {
+                "the call is over: its time is over; the sandbox can be called"
+            }
+            NotReturned::Interrupted => {
+                "the call is over: it is interrupted; the sandbox can be called"
             }
             NotReturned::Refused => {
                 "the call is over: it calls a gate, and no handler replied; the sandbox can be called"
@@ -218,7 +228,7 @@ impl<'world> Frame<'_, 'world> {
     ) -> Result<u64, E> {
         let (mut high, mut goes_on, mut own) = (0, true, None);
         let entered = self.entered;
-        let event = self.sandbox.serve(steps, |sandbox, call| {
+        let (event, cut) = self.sandbox.served(steps, |sandbox, call| {
             if call.service == 0 {
                 high = call.a1;
                 return sandbox.exit(call.a0).is_ok();
@@ -237,8 +247,9 @@ impl<'world> Frame<'_, 'world> {
             Event::Trapped { cause, address } => NotReturned::Trapped { cause, address },
             Event::Stopped => NotReturned::Stopped,
             Event::Exited(low) if goes_on => return Ok(u64::from(high) << 32 | u64::from(low)),
-            Event::Ready if goes_on => NotReturned::StepsUsed,
-            Event::Exited(_) | Event::Ready | Event::Call(_) => NotReturned::Refused,
+            Event::Ready if goes_on => cut.unwrap_or(NotReturned::StepsUsed),
+            Event::Exited(_) | Event::Ready => NotReturned::Refused,
+            Event::Call(_) => cut.unwrap_or(NotReturned::Refused),
         };
         Err(why.into())
     }

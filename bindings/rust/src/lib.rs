@@ -26,10 +26,13 @@ use std::ptr;
 mod calls;
 pub mod console;
 mod errors;
+mod limits;
 pub mod modules;
 pub mod names;
 mod sys;
 pub mod values;
+#[cfg(feature = "translated")]
+mod views;
 pub use calls::{Argument, NotReturned};
 pub use errors::{CallError, ChangeError, Finding, LoadError};
 pub use sys::{Region, Registers};
@@ -217,6 +220,7 @@ impl World {
             world: &mut self.raw,
             number,
             stands: Stands::default(),
+            limit: limits::Limit::default(),
         })
     }
 }
@@ -233,6 +237,7 @@ pub struct Sandbox<'world> {
     world: &'world mut sys::World,
     number: u32,
     stands: Stands,
+    limit: limits::Limit<'world>,
 }
 
 /// What was done to a sandbox, since it was borrowed: all of it goes through that.
@@ -296,25 +301,36 @@ impl Sandbox<'_> {
 
     /// A turn of at most `steps` steps in all, in which `serve` replies to each call and says whether the turn goes on: how
     /// it stands then. A call that comes when all steps are used is left for the next turn, and so is one without a reply.
-    /// Steps that `serve` itself has the sandbox do count, too: where they use up all that are left, the turn is over.
-    pub fn serve(&mut self, steps: u64, mut serve: impl FnMut(&mut Self, Call) -> bool) -> Event {
+    /// Steps that `serve` itself has the sandbox do count, too: where they use up all that are left, the turn is over. So it is by
+    /// [`set_interrupt`](Self::set_interrupt) and [`set_deadline`](Self::set_deadline).
+    pub fn serve(&mut self, steps: u64, serve: impl FnMut(&mut Self, Call) -> bool) -> Event {
+        self.served(steps, serve).0
+    }
+
+    /// The same, and why its limit ended the turn, if it did.
+    fn served(
+        &mut self,
+        steps: u64,
+        mut serve: impl FnMut(&mut Self, Call) -> bool,
+    ) -> (Event, Option<NotReturned>) {
         let end = self.steps().saturating_add(steps);
         loop {
             let now = self.steps();
-            if now > end {
-                return self.event(); // `serve` had it run on
+            let cause = self.limit.cause();
+            if now > end || cause.is_some() {
+                return (self.event(), cause); // `serve` had it run on, or its limit ends it
             }
-            let event = self.turn(u32::try_from(end - now).unwrap_or(u32::MAX));
+            let event = self.turn(self.limit.turn(end - now));
             let done = self.steps();
             match event {
-                Event::Ready if done < end => {} // there were more steps than one turn takes
+                Event::Ready if done < end => {} // there were more steps than this turn takes
                 Event::Call(call) if done < end => {
                     let before = self.stands;
                     if !serve(self, call) || self.stands == before || self.steps() == done {
-                        return self.event();
+                        return (self.event(), None);
                     }
                 }
-                _ => return event,
+                _ => return (event, None),
             }
         }
     }
