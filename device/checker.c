@@ -19,17 +19,13 @@ _Static_assert((int)MODULE_GATES == (int)SFI_DEVICE_GATES_MOST, "the gates of th
 
 /* ---- For the C that wasm2c made */
 
-/* Addresses of the module wrap in 32 bits, as those of the processor do. */
-static uint32_t in_module(const void *place) {
-    return (uint32_t)place - (uint32_t)&sfi_device_checker_memory + (LINKED_STACK - MODULE_STACK);
-}
-
-/* Where the module can't go on: each call below then has no other answer than that. It is called from within these alone. */
-static void *stopped[5];
+/* Where the module can't go on: each call below then has no other answer than that. It is called from within these, and
+   those of decisions.c, alone. */
+void *sfi_device_stopped[STOPPED_WORDS];
 
 void wasm_rt_trap(wasm_rt_trap_t cause) {
     (void)cause;
-    __builtin_longjmp(stopped, 1);
+    __builtin_longjmp(sfi_device_stopped, 1);
 }
 
 void wasm_rt_allocate_memory(wasm_rt_memory_t *memory, uint32_t pages, uint32_t most) {
@@ -94,7 +90,7 @@ enum sfi_device_status sfi_device_check(const uint8_t *image, uint32_t length, v
     memset((uint8_t *)&sfi_device_checker_memory + MODULE_STACK, 0, sizeof sfi_device_checker_memory - MODULE_STACK);
     judged = (struct reach){0, 0};
     sfi_device_image_reach = (struct reach){in_module(image), length};
-    if (__builtin_setjmp(stopped) != 0)
+    if (__builtin_setjmp(sfi_device_stopped) != 0)
         return SFI_DEVICE_CHECKER_STOPPED;
     Z_sfi_init_module();
     Z_sfi_instantiate(&module);
@@ -116,7 +112,7 @@ static uint32_t told(struct module_part *place, const struct sfi_device_part *pa
 }
 
 bool sfi_device_are_apart(const struct sfi_device_part *one, const struct sfi_device_part *other) {
-    if (__builtin_setjmp(stopped) != 0)
+    if (__builtin_setjmp(sfi_device_stopped) != 0)
         return false;
     return Z_sfiZ_sfi_c_apart(&module, told(&sfi_device_checker_memory.part, one),
                               told(&sfi_device_checker_memory.other_part, other));
@@ -125,7 +121,7 @@ bool sfi_device_are_apart(const struct sfi_device_part *one, const struct sfi_de
 bool sfi_device_move(uint8_t *image, uint32_t length, uint32_t number, uint32_t code_base, uint32_t data_base) {
     if (!is_judged(image, length))
         return false;
-    if (__builtin_setjmp(stopped) != 0)
+    if (__builtin_setjmp(sfi_device_stopped) != 0)
         return false;
     return Z_sfiZ_sfi_c_move(&module, in_module(image), length, number, code_base, data_base) == SFI_FOUND;
 }
@@ -143,7 +139,7 @@ enum sfi_device_status sfi_device_tell(const uint8_t *image, uint32_t length, ui
     const struct module_part *told = &sfi_device_checker_memory.part;
     if (!is_judged(image, length))
         return SFI_DEVICE_NOT_ACCEPTED;
-    if (__builtin_setjmp(stopped) != 0)
+    if (__builtin_setjmp(sfi_device_stopped) != 0)
         return SFI_DEVICE_CHECKER_STOPPED;
     if (Z_sfiZ_sfi_c_part(&module, in_module(image), length, number, in_module(told)) != SFI_FOUND)
         return SFI_DEVICE_NO_SANDBOX;

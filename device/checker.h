@@ -5,6 +5,7 @@
 #include <stdint.h>
 
 #include "sfi.h"
+#include "sfi_slots.h"
 
 #ifndef MODULE_STACK
 #define MODULE_STACK 4096       /* as much of LINKED_STACK is there: the last addresses */
@@ -28,7 +29,11 @@ struct checker_memory {
     uint8_t stack[MODULE_STACK], data[MODULE_DATA];
     struct sfi_stream stream;
     struct sfi_verdict verdict;
-    struct module_part part, other_part;
+    struct module_part part;
+    union {
+        struct module_part other_part;
+        struct sfi_bounds bounds;
+    };
     struct sfi_gate gates[MODULE_GATES];
 };
 extern struct checker_memory sfi_device_checker_memory;

@@ -1,7 +1,8 @@
 #!/usr/bin/env bash
-# Makes FOLDER/checker.o: the proved checker for RV32, which a firmware links, and moving.o, which moves sandboxes, too.
+# Makes FOLDER/checker.o: the proved checker for RV32, which a firmware links, and of the library of slots, if that is named,
+# moving.o, which moves sandboxes and decides of slots, too.
 #
-#     device/checker.sh LIBRARY FOLDER              # LIBRARY is libsfi_c.a for wasm64
+#     device/checker.sh LIBRARY FOLDER [SLOTS]      # libsfi_c.a, and libsfi_slots.a, for wasm64
 #
 # The linker of Rattle's toolchain makes a WebAssembly module of the library, wasm-opt takes it from
 # 64 to 32 bits, wasm2c turns it into C, and gcc compiles that. In the environment, RATTLE is the
@@ -20,8 +21,9 @@ needs() { # a command, and where it comes from
     [ -n "$(type -P "$1")" ] || fail "$1 isn't there ($2)"
 }
 
-[ $# = 2 ] || fail "takes a library and a folder: checker.sh LIBRARY FOLDER"
+[ $# = 2 ] || [ $# = 3 ] || fail "takes a library and a folder: checker.sh LIBRARY FOLDER [SLOTS]"
 [ -f "$1" ] || fail "there is no library $1"
+[ -f "${3:-$1}" ] || fail "there is no library $3"
 needs wasm-opt "Debian's package binaryen"
 needs wasm2c "Debian's package wabt"
 needs "$riscv" "Debian's package gcc-riscv64-unknown-elf"
@@ -32,22 +34,31 @@ needs "$riscv" "Debian's package gcc-riscv64-unknown-elf"
     fail "picolibc.specs isn't there (Debian's package picolibc-riscv64-unknown-elf)"
 toolchain=${RATTLE:-$(dirname "$(rt doc)")}
 library=$(realpath "$1")
+slots=${3:+$(realpath "$3")}
 mkdir -p "$2"
 cd "$2"
 
 # 65536 is the least stack that the linker takes: LINKED_STACK of checker.h.
-"$toolchain/bin/rattle-link" --target wasm64-unknown-unknown --toolchain "$toolchain/toolchain" \
-    --stack 65536 -o sfi64.wasm "$library" 2>link.log || { cat link.log >&2 && exit 1; }
-wasm-opt --all-features --memory64-lowering sfi64.wasm -o sfi32.wasm
-wasm2c sfi32.wasm -n sfi -o sfi_wasm.c
 # wasm2c tests each access against the memory's end alone; reach.h says where the module may go, and
 # where its bytes are: a call of an access that passes neither memory nor 64 bits is shorter.
-grep -q '^  if (UNLIKELY(offset + (uint64_t)len > mem->size))' sfi_wasm.c ||
-    fail "sfi_wasm.c has no such test of an access as it had"
-[ "$(grep -c 'mem, u64 addr' sfi_wasm.c)/$(grep -c '&mem->data\[addr\]' sfi_wasm.c)" = 4/2 ] ||
-    fail "sfi_wasm.c has no such accesses as it had"
-sed -i -e 's/(offset + (uint64_t)len > mem->size)/(!module_reaches(offset, len))/' \
-    -e 's/mem, u64 addr/mem, u32 addr/; s/&mem->data\[addr\]/module_byte(addr)/' sfi_wasm.c
+make_c() { # a library, the module's name
+    "$toolchain/bin/rattle-link" --target wasm64-unknown-unknown --toolchain "$toolchain/toolchain" \
+        --stack 65536 -o "${2}64.wasm" "$1" 2>link.log || { cat link.log >&2 && exit 1; }
+    wasm-opt --all-features --memory64-lowering "${2}64.wasm" -o "${2}32.wasm"
+    wasm2c "${2}32.wasm" -n "$2" -o "${2}_wasm.c"
+    grep -q '^  if (UNLIKELY(offset + (uint64_t)len > mem->size))' "${2}_wasm.c" ||
+        fail "${2}_wasm.c has no such test of an access as it had"
+    [ "$(grep -c 'mem, u64 addr' "${2}_wasm.c")/$(grep -c '&mem->data\[addr\]' "${2}_wasm.c")" = 4/2 ] ||
+        fail "${2}_wasm.c has no such accesses as it had"
+    sed -i -e 's/(offset + (uint64_t)len > mem->size)/(!module_reaches(offset, len))/' \
+        -e 's/mem, u64 addr/mem, u32 addr/; s/&mem->data\[addr\]/module_byte(addr)/' "${2}_wasm.c"
+}
+
+make_c "$library" sfi
+if [ -n "$slots" ]; then
+    make_c "$slots" slots
+    ! grep -q '^static const u8 data_segment' slots_wasm.c || fail "the module of slots has constants, as the checker's has"
+fi
 
 # What wasm2c wrote wants headers of C: they are picolibc's. Nothing of a C library is linked.
 cp /usr/include/wasm-rt.h .
@@ -55,7 +66,7 @@ machine=(-march=rv32imc -mabi=ilp32)
 flags=("${machine[@]}" --specs=picolibc.specs -std=c11 -Os -mcmodel=medany -msmall-data-limit=0)
 flags+=(-ffreestanding -fno-builtin -fno-jump-tables -ffunction-sections -fdata-sections)
 flags+=(-DNDEBUG -DWASM_RT_USE_STACK_DEPTH_COUNT=0)
-flags+=(-I. -I"$here/../crates/sfi_c/include")
+flags+=(-I. -I"$here/../crates/sfi_c/include" -I"$here/../crates/sfi_slots/include")
 # shellcheck disable=SC2206 # words
 flags+=(${CHECKER_FLAGS:-})
 warned=(-Wall -Wextra -Wconversion -Wshadow -Wmissing-prototypes -Werror -I"$here")
@@ -63,7 +74,15 @@ warned=(-Wall -Wextra -Wconversion -Wshadow -Wmissing-prototypes -Werror -I"$her
 "$riscv" "${flags[@]}" "${warned[@]}" -c -o judge.o "$here/checker.c"
 linked=(-nostdlib -r -Wl,--gc-sections,-esfi_device_check,-usfi_device_tell,-usfi_device_are_apart)
 "$riscv" "${machine[@]}" "${linked[@]}" -o checker.o judge.o sfi_wasm.o -lgcc
-"$riscv" "${machine[@]}" "${linked[@]}" -Wl,-usfi_device_move -o moving.o judge.o sfi_wasm.o -lgcc
-for made in checker.o moving.o; do # no other name of theirs can meet one of the firmware's
-    "$("$riscv" -print-prog-name=objcopy)" --wildcard --keep-global-symbol='sfi_device_*' "$made"
+made=(checker.o)
+if [ -n "$slots" ]; then
+    "$riscv" "${flags[@]}" -w -I"$here" -include reach.h -c -o slots_wasm.o slots_wasm.c
+    "$riscv" "${flags[@]}" "${warned[@]}" -c -o decisions.o "$here/decisions.c"
+    decisions=(clear begin accept refuse try place write turn confirm roll_back remove may_enter)
+    "$riscv" "${machine[@]}" "${linked[@]}" -Wl,-usfi_device_move "${decisions[@]/#/-Wl,-usfi_device_slots_}" \
+        -o moving.o judge.o sfi_wasm.o decisions.o slots_wasm.o -lgcc
+    made+=(moving.o)
+fi
+for object in "${made[@]}"; do # no other name of theirs can meet one of the firmware's
+    "$("$riscv" -print-prog-name=objcopy)" --wildcard --keep-global-symbol='sfi_device_*' "$object"
 done

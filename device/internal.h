@@ -2,13 +2,11 @@
 #ifndef SFI_DEVICE_INTERNAL_H
 #define SFI_DEVICE_INTERNAL_H
 
+#include "bytes.h"
 #include "sfi_device.h"
 
 enum { SP = 2, A0 = 10, A1 = 11, RA = 1 }; /* registers: the stack pointer, a call's arguments and answers, the return address */
 enum { ECALL_SIZE = 4 };
-
-void *memset(void *to, int byte, size_t length);
-void *memcpy(void *restrict to, const void *restrict from, size_t length);
 
 /* gates.c: answers the call at the caller's pc; false where the turn ends */
 bool sfi_device_answer_call(const struct sfi_device_firmware *firmware, struct sfi_device_sandbox *caller);

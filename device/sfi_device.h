@@ -160,6 +160,15 @@ uint8_t *sfi_device_own_bytes(const struct sfi_device_sandbox *sandbox, uint32_t
 uint32_t sfi_device_word_at(const uint8_t *bytes);
 bool sfi_device_are_same(const uint8_t *one, const uint8_t *other, uint32_t length);
 
+/* A function that the image names. */
+struct sfi_device_function {
+    uint32_t address, length;   /* that of the name, whose bytes are visible ASCII, without a zero after them */
+    const uint8_t *name;        /* in the image's own bytes */
+};
+/* The exported function that begins last before an address of code, or at it: where a trap is, say. False where no name is
+   there. Nothing rests on it: names are the author's claim. */
+bool sfi_device_function_at(const struct sfi_device_part *part, uint32_t address, struct sfi_device_function *function);
+
 /* ---- Ports: pmp.c, for code in M-mode; none.c, for a chip without physical memory protection; sv32.c has a header */
 
 /* Closes the guard zones of the sandbox of that number, once sfi_device_write_protection is called. DONE, NO_GUARDS or NO_ENTRY. */

@@ -1,14 +1,18 @@
-/* Plug-ins in slots, and their versions. */
+/* Plug-ins in slots, and their versions: what the decisions ask for is done here. */
 #include "sfi_device_slots.h"
 
+#include "decisions.h"
 #include "internal.h"
 
-static uint32_t next_of(const struct sfi_device_slot *slot) {
-    return (slot->current + 1) % SFI_DEVICE_VERSIONS;
+/* One of the calls of decisions.h, for a slot. */
+#define DECIDED(call, ...) sfi_device_slots_##call(all->decided, all->count, __VA_ARGS__)
+
+const struct sfi_version *sfi_device_current(const struct sfi_device_slots *all, uint32_t number) {
+    return &all->decided[number].current;
 }
 
-struct sfi_device_version *sfi_device_current(const struct sfi_device_slots *all, uint32_t number) {
-    return &all->slots[number].versions[all->slots[number].current];
+static struct sfi_device_part *part_of(const struct sfi_device_slots *all, uint32_t number, const struct sfi_version *version) {
+    return &all->slots[number].parts[version->memory];
 }
 
 static void empty(const struct sfi_device_slots *all, uint32_t number) {
@@ -16,40 +20,54 @@ static void empty(const struct sfi_device_slots *all, uint32_t number) {
     all->emptied(number);
 }
 
-/* After this its place is anyone's: nothing is left of it that could be run, started or entered. */
-static void drop(const struct sfi_device_slots *all, uint32_t number, uint32_t version) {
-    if (version == all->slots[number].current)
+/* What the image in that memory said. */
+static void forget(const struct sfi_device_slots *all, uint32_t number, uint32_t memory) {
+    all->slots[number].parts[memory] = (struct sfi_device_part){0};
+}
+
+void sfi_device_clear_slots(const struct sfi_device_slots *all) {
+    sfi_device_slots_clear(all->decided, all->count);
+    for (uint32_t number = 0; number < all->count; number++) {
         empty(all, number);
-    all->slots[number].versions[version] = (struct sfi_device_version){0};
+        for (uint32_t memory = 0; memory < SFI_DEVICE_VERSIONS; memory++)
+            forget(all, number, memory);
+    }
 }
 
 uint32_t sfi_device_free_slot(const struct sfi_device_slots *all) {
     uint32_t number = 0;
-    while (number < all->count && sfi_device_current(all, number)->number != 0)
+    while (number < all->count && sfi_device_current(all, number)->state != SFI_SLOT_EMPTY)
         number++;
     return number;
 }
 
 /* ---- Starting and stopping */
 
-static void place_code(const struct sfi_device_slots *all, const struct sfi_device_part *part) {
+/* Writes the current version's code to its place. */
+static bool place_code(const struct sfi_device_slots *all, uint32_t number, const struct sfi_device_part *part) {
+    if (!DECIDED(place, number))
+        return false;
     for (uint32_t done = 0; done < part->code_size; done += SFI_DEVICE_WRITTEN_MOST) {
-        uint32_t left = part->code_size - done;
-        all->write_code(part->code_base + done, part->code + done, left < SFI_DEVICE_WRITTEN_MOST ? left : SFI_DEVICE_WRITTEN_MOST);
+        uint32_t left = part->code_size - done, piece = left < SFI_DEVICE_WRITTEN_MOST ? left : SFI_DEVICE_WRITTEN_MOST;
+        if (!DECIDED(write, number, piece))
+            return false;
+        all->write_code(part->code_base + done, part->code + done, piece);
         all->between_pieces();
         sfi_device_run_slots(all);
     }
     __asm__ volatile("fence.i" ::: "memory");
+    return !sfi_device_is_code_in_place || sfi_device_is_code_in_place(part);
 }
 
 /* The current version, on trial or not. */
 static bool start(const struct sfi_device_slots *all, uint32_t number) {
-    const struct sfi_device_part *part = &sfi_device_current(all, number)->part;
-    if (sfi_device_current(all, number)->number == 0)
-        return false;
+    const struct sfi_device_part *part = part_of(all, number, sfi_device_current(all, number));
     empty(all, number); /* has no turn until all of it is placed */
-    place_code(all, part);
-    if (sfi_device_is_code_in_place && !sfi_device_is_code_in_place(part))
+    if (!place_code(all, number, part)) {
+        DECIDED(place, number); /* and is in no place then */
+        return false;
+    }
+    if (!DECIDED(may_enter, number, part->start))
         return false;
     memset((uint8_t *)part->data_base, 0, part->data_size);
     memcpy((uint8_t *)part->data_base, part->first, part->first_count);
@@ -58,7 +76,11 @@ static bool start(const struct sfi_device_slots *all, uint32_t number) {
 }
 
 bool sfi_device_start_slot(const struct sfi_device_slots *all, uint32_t number) {
-    return sfi_device_current(all, number)->trial_turns == 0 && start(all, number);
+    return sfi_device_current(all, number)->state == SFI_SLOT_GOOD && start(all, number);
+}
+
+bool sfi_device_confirm_slot(const struct sfi_device_slots *all, uint32_t number) {
+    return DECIDED(confirm, number);
 }
 
 bool sfi_device_kill_slot(const struct sfi_device_slots *all, uint32_t number) {
@@ -73,36 +95,37 @@ bool sfi_device_kill_slot(const struct sfi_device_slots *all, uint32_t number) {
 
 bool sfi_device_call_slot(const struct sfi_device_slots *all, uint32_t number, uint32_t pc,
                           const uint32_t arguments[SFI_DEVICE_ARGUMENTS]) {
-    return sfi_device_current(all, number)->trial_turns == 0 && sfi_device_enter_again(all->slots[number].sandbox, pc, arguments);
+    return sfi_device_current(all, number)->state == SFI_SLOT_GOOD && DECIDED(may_enter, number, pc) &&
+           sfi_device_enter_again(all->slots[number].sandbox, pc, arguments);
 }
 
+/* After this its place is anyone's: nothing is left of it that could be run, started or entered. */
 bool sfi_device_remove_slot(const struct sfi_device_slots *all, uint32_t number) {
-    const struct sfi_device_version *version = sfi_device_current(all, number);
-    if (version->number == 0 || version->trial_turns > 0)
+    if (!DECIDED(remove, number))
         return false;
-    for (uint32_t k = 0; k < SFI_DEVICE_VERSIONS; k++)
-        drop(all, number, k);
+    empty(all, number);
+    for (uint32_t memory = 0; memory < SFI_DEVICE_VERSIONS; memory++)
+        forget(all, number, memory);
     return true;
 }
 
 static void roll_back(const struct sfi_device_slots *all, uint32_t number) {
-    struct sfi_device_slot *slot = &all->slots[number];
     sfi_device_kill_slot(all, number);
     all->tells(number, SFI_DEVICE_NO_REPORT);
-    drop(all, number, slot->current);
-    slot->current = next_of(slot);
+    forget(all, number, sfi_device_current(all, number)->memory);
+    DECIDED(roll_back, number);
     if (start(all, number))
         all->tells(number, SFI_DEVICE_OLDER_VERSION);
 }
 
 static void run_slot(const struct sfi_device_slots *all, uint32_t number) {
     struct sfi_device_sandbox *sandbox = all->slots[number].sandbox;
-    struct sfi_device_version *version = sfi_device_current(all, number);
     if (sandbox->state == SFI_DEVICE_EMPTY) /* it has no version, or that is being placed */
         return;
     if (sandbox->state == SFI_DEVICE_READY)
         sfi_device_turn(all->firmware, sandbox, all->turn_ticks);
-    if (version->trial_turns > 0 && (sandbox->state != SFI_DEVICE_READY || --version->trial_turns == 0))
+    if (sfi_device_current(all, number)->state == SFI_SLOT_ON_TRIAL &&
+        (sandbox->state != SFI_DEVICE_READY || !DECIDED(turn, number)))
         roll_back(all, number);
 }
 
@@ -114,11 +137,11 @@ void sfi_device_run_slots(const struct sfi_device_slots *all) {
 /* ---- Updates */
 
 uint8_t *sfi_device_begin_update(const struct sfi_device_slots *all, uint32_t number) {
-    const struct sfi_device_slot *slot = &all->slots[number];
-    if (sfi_device_current(all, number)->trial_turns > 0)
+    const struct sfi_version *other = &all->decided[number].other;
+    if (!DECIDED(begin, number))
         return NULL;
-    drop(all, number, next_of(slot));
-    return slot->images[next_of(slot)];
+    forget(all, number, other->memory);
+    return all->slots[number].images[other->memory];
 }
 
 /* While an image is judged. The slot that it is for goes on with its current version. */
@@ -134,43 +157,19 @@ static bool is_its_place(const struct sfi_device_slots *all, uint32_t number, co
            part->data_size == all->data_size;
 }
 
-/* From each version that any other slot keeps, since it may be started again. */
-static bool is_apart(const struct sfi_device_slots *all, uint32_t number, const struct sfi_device_part *part) {
-    for (uint32_t k = 0; k < all->count * SFI_DEVICE_VERSIONS; k++) {
-        const struct sfi_device_version *kept = &all->slots[k / SFI_DEVICE_VERSIONS].versions[k % SFI_DEVICE_VERSIONS];
-        if (k / SFI_DEVICE_VERSIONS != number && kept->number != 0 && !sfi_device_are_apart(part, &kept->part))
-            return false;
-    }
-    return true;
-}
-
 /* The code stays as it was judged, so the moved image is accepted, too. */
 static bool move_to_slot(const struct sfi_device_slot *slot, uint8_t *image, uint32_t length, struct sfi_device_part *part) {
     return sfi_device_move(image, length, 0, slot->moved_to, slot->data_base) &&
            sfi_device_tell(image, length, 0, part) == SFI_DEVICE_DONE;
 }
 
-/* Where it can't be placed the older version is started again. */
-static enum sfi_device_update start_version(const struct sfi_device_slots *all, uint32_t number, uint32_t version,
-                                            const struct sfi_device_part *part) {
-    struct sfi_device_slot *slot = &all->slots[number];
-    slot->versions[version] = (struct sfi_device_version){.number = ++slot->updates, .trial_turns = all->trial_turns};
-    slot->versions[version].part = *part;
-    slot->current = version;
-    if (start(all, number))
-        return SFI_DEVICE_STARTED;
-    roll_back(all, number);
-    return SFI_DEVICE_NOT_PLACED;
-}
-
-enum sfi_device_update sfi_device_end_update(const struct sfi_device_slots *all, uint32_t number, uint32_t length, bool moves,
-                                             enum sfi_device_status *status, struct sfi_verdict *verdict) {
+/* Whether the image that was received may be the slot's: STARTED, where it was accepted. */
+static enum sfi_device_update accept(const struct sfi_device_slots *all, uint32_t number, uint32_t length, bool moves,
+                                     enum sfi_device_status *status, struct sfi_verdict *verdict) {
     const struct sfi_device_slot *slot = &all->slots[number];
-    const uint32_t version = next_of(slot); /* no turn changes it: the current one isn't on trial */
-    uint8_t *image = slot->images[version];
+    const uint32_t memory = all->decided[number].other.memory; /* no turn changes it: the current version isn't on trial */
+    uint8_t *image = slot->images[memory];
     struct sfi_device_part part, further;
-    if (sfi_device_current(all, number)->trial_turns > 0 || slot->versions[version].number != 0)
-        return SFI_DEVICE_NOT_BEGUN;
     *status = sfi_device_check(image, length, between_pieces, (void *)all, verdict);
     if (*status != SFI_DEVICE_DONE)
         return SFI_DEVICE_UPDATE_REFUSED;
@@ -179,7 +178,26 @@ enum sfi_device_update sfi_device_end_update(const struct sfi_device_slots *all,
         return SFI_DEVICE_NOT_ONE_PLUGIN;
     if ((moves && !move_to_slot(slot, image, length, &part)) || !is_its_place(all, number, &part))
         return SFI_DEVICE_NOT_ITS_PLACE;
-    if (!is_apart(all, number, &part))
+    struct sfi_bounds bounds = {part.format, part.code_base, part.code_size, part.data_base, part.data_size};
+    if (!DECIDED(accept, number, &bounds))
         return SFI_DEVICE_NOT_APART;
-    return start_version(all, number, version, &part);
+    all->slots[number].parts[memory] = part;
+    return SFI_DEVICE_STARTED;
+}
+
+enum sfi_device_update sfi_device_end_update(const struct sfi_device_slots *all, uint32_t number, uint32_t length, bool moves,
+                                             enum sfi_device_status *status, struct sfi_verdict *verdict) {
+    const struct sfi_slot *slot = &all->decided[number];
+    if (slot->current.state == SFI_SLOT_ON_TRIAL || slot->other.state != SFI_SLOT_RECEIVING)
+        return SFI_DEVICE_NOT_BEGUN;
+    enum sfi_device_update outcome = accept(all, number, length, moves, status, verdict);
+    if (outcome != SFI_DEVICE_STARTED) {
+        DECIDED(refuse, number);
+        return outcome;
+    }
+    DECIDED(try, number, all->trial_turns);
+    if (start(all, number))
+        return SFI_DEVICE_STARTED;
+    roll_back(all, number);
+    return SFI_DEVICE_NOT_PLACED;
 }

@@ -1,0 +1,104 @@
+//! The declarations of sfi_device.h and sfi_device_store.h, which say what each is. tests/layouts.rs compares them.
+#![allow(missing_docs)]
+use core::ffi::{c_char, c_void};
+
+macro_rules! numbers {
+    ($name:ident: $($variant:ident = $number:literal),*) => {
+        #[repr(u32)]
+        #[derive(Clone, Copy, Debug, PartialEq, Eq)]
+        pub enum $name { $($variant = $number),* }
+    };
+}
+
+numbers!(Status: Done = 0, NotAccepted = 1, CheckerStopped = 2, NoSandbox = 3, NoGuards = 4, NoEntry = 5, NoMemory = 6,
+    CodeIsHost = 7, DataIsHost = 8, OtherRules = 9, EntryDiffers = 10, GuardIsOpen = 11, DataIsClosed = 12, IsMirrored = 13);
+numbers!(State: Empty = 0, Ready = 1, Exited = 2, Trapped = 3);
+numbers!(Outcome: Replied = 0, GoesOn = 1, Yielded = 2, Left = 3);
+numbers!(StoreStatus: Done = 0, BadSetup = 1, NoVersion = 2, FlashFailed = 3, TooEarly = 4, WrongLength = 5, TooOld = 6,
+    NotSigned = 7, Differs = 8);
+
+macro_rules! structs {
+    ($($name:ident { $($field:ident: $kind:ty),* $(,)? })*) => {
+        $(#[repr(C)]
+        #[derive(Clone, Copy)]
+        pub struct $name { $(pub $field: $kind),* })*
+
+        /// The size of each structure, and where its fields are.
+        pub fn layouts(mut each: impl FnMut(&str, &str, usize)) {
+            $(each(stringify!($name), "", core::mem::size_of::<$name>());
+            $(each(stringify!($name), stringify!($field), core::mem::offset_of!($name, $field));)*)*
+        }
+    };
+}
+
+pub type Service = unsafe extern "C" fn(host: *mut c_void, caller: *mut Sandbox, call: *mut Call) -> Outcome;
+
+structs! {
+    Fault { status: Status, address: u32, other: u32 }
+    Gate { address: u32, service: u32 }
+    Part {
+        format: u32, code_base: u32, code_size: u32, data_base: u32, data_size: u32, start: u32, gate_count: u32, first_count: u32,
+        code: *const u8, first: *const u8, gates: [Gate; 64],
+    }
+    Frame { x: [u32; 32], pc: u32, host_stack: u32, retired_before: u32, retired_after: u32, called: u32 }
+    Sandbox {
+        part: Part, frame: Frame, state: State, exit_code: u32, trap: *const c_char, trap_address: u32, steps: u64,
+    }
+    Call { service: u32, a0: u32, a1: u32 }
+    Firmware {
+        services: *const Option<Service>, service_count: u32, host: *mut c_void,
+        interrupt_after: Option<extern "C" fn(ticks: u32)>, answer_interrupt: Option<extern "C" fn(cause: u32) -> bool>,
+    }
+    Finding { sandbox: u32, address: u32, rule: u32 }
+    Verdict { status: u32, layout_fault: u32, sandboxes: u32, bundles: u32, findings: u32, first: Finding }
+    Flash {
+        sector_size: u32, page_size: u32,
+        read: Option<unsafe extern "C" fn(host: *mut c_void, address: u32, bytes: *mut u8, length: u32) -> bool>,
+        erase_sector: Option<unsafe extern "C" fn(host: *mut c_void, address: u32) -> bool>,
+        program_page: Option<unsafe extern "C" fn(host: *mut c_void, address: u32, bytes: *const u8) -> bool>,
+    }
+    Claim { sequence: u32, least_sequence: u32, length: u32, digest: [u8; 32] }
+    StoredVersion { state: u32, starts: u32, claim: Claim, signature: [u8; 64] }
+    Record {
+        layout: u32, count: u32, latest_sequence: u32, least_sequence: u32, versions: [StoredVersion; 2], check: [u8; 8],
+    }
+    Store {
+        flash: *const Flash, host: *mut c_void, records: u32, areas: [u32; 2], area_size: u32, trial_starts: u32,
+        is_signed: Option<unsafe extern "C" fn(host: *mut c_void, claim: *const Claim, signature: *const u8) -> bool>,
+        watch: Option<unsafe extern "C" fn(host: *mut c_void, on: bool)>,
+        read_counter: Option<unsafe extern "C" fn(host: *mut c_void) -> u32>,
+        raise_counter: Option<unsafe extern "C" fn(host: *mut c_void, least_sequence: u32) -> bool>,
+        record: Record, place: u32, is_chosen: bool, chosen: u32, is_taking: bool, target: u32, taken: u32,
+        update: StoredVersion, page: [u8; 256],
+    }
+    Sha256 { state: [u32; 8], length: u32, block: [u8; 64] }
+}
+
+#[link(name = "sfi_device", kind = "static")]
+extern "C" {
+    pub fn sfi_device_check(
+        image: *const u8,
+        length: u32,
+        between_pieces: Option<unsafe extern "C" fn(host: *mut c_void)>,
+        host: *mut c_void,
+        verdict: *mut Verdict,
+    ) -> Status;
+    pub fn sfi_device_tell(image: *const u8, length: u32, number: u32, part: *mut Part) -> Status;
+    pub fn sfi_device_empty(sandbox: *mut Sandbox);
+    pub fn sfi_device_enter_start(sandbox: *mut Sandbox, part: *const Part);
+    pub fn sfi_device_enter_again(sandbox: *mut Sandbox, pc: u32, arguments: *const u32) -> bool;
+    pub fn sfi_device_turn(firmware: *const Firmware, sandbox: *mut Sandbox, ticks: u32);
+    pub fn sfi_device_own_bytes(sandbox: *const Sandbox, address: u32, length: u32) -> *mut u8;
+    pub fn sfi_device_close_guards(number: u32, part: *const Part) -> Fault;
+    pub fn sfi_device_write_protection() -> Fault;
+    pub fn sfi_device_store_open(store: *mut Store) -> StoreStatus;
+    pub fn sfi_device_store_choose(store: *mut Store, area: *mut u32) -> StoreStatus;
+    pub fn sfi_device_store_keep(store: *mut Store) -> StoreStatus;
+    pub fn sfi_device_store_reject(store: *mut Store) -> StoreStatus;
+    pub fn sfi_device_store_begin(store: *mut Store, claim: *const Claim, signature: *const u8) -> StoreStatus;
+    pub fn sfi_device_store_write(store: *mut Store, bytes: *const u8, length: u32) -> StoreStatus;
+    pub fn sfi_device_store_finish(store: *mut Store) -> StoreStatus;
+    pub fn sfi_device_sha256_begin(hash: *mut Sha256);
+    pub fn sfi_device_sha256_add(hash: *mut Sha256, bytes: *const u8, length: u32);
+    pub fn sfi_device_sha256_end(hash: *mut Sha256, digest: *mut u8);
+}

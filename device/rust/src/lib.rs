@@ -1,0 +1,11 @@
+//! Suygapid's libsfi_device for a firmware in Rust: judges images, runs their sandboxes by turns, answers their calls, and
+//! keeps the versions of a plug-in in flash. The headers of the folder above say what each call does; docs/DEVICE.md, what the
+//! firmware owes the theorem. The firmware links libsfi_device.a: `RUSTFLAGS="-L native=FOLDER"`.
+#![no_std]
+pub mod ffi;
+mod sandbox;
+mod store;
+
+pub use ffi::{Call, Claim, Outcome, Part, State, Status, StoreStatus, Verdict};
+pub use sandbox::{check, Accepted, Caller, Firmware, Refused, Sandbox, Service};
+pub use store::{digest, Device, Setup, Store};

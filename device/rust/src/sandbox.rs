@@ -1,0 +1,172 @@
+//! Images and sandboxes.
+use crate::ffi::{self, Call, Outcome, Part, State, Status, Verdict};
+use core::ffi::c_void;
+use core::marker::PhantomData;
+use core::mem::MaybeUninit;
+use core::ptr;
+
+/// An image that the checker accepted. Its bytes stay as they are as long as it is borrowed.
+pub struct Accepted<'image> {
+    image: &'image [u8],
+}
+
+/// Why an image isn't accepted: the checker's verdict, or `CheckerStopped`.
+#[derive(Clone, Copy)]
+pub struct Refused {
+    /// `NotAccepted`, or `CheckerStopped`
+    pub status: Status,
+    /// Of `NotAccepted`
+    pub verdict: Verdict,
+}
+
+fn length_of(bytes: &[u8]) -> u32 {
+    u32::try_from(bytes.len()).unwrap_or(u32::MAX)
+}
+
+/// Judges an image where it lies.
+pub fn check(image: &[u8]) -> Result<Accepted<'_>, Refused> {
+    let mut verdict = MaybeUninit::<Verdict>::zeroed();
+    // SAFETY: the slice can be read, and zeros are a verdict.
+    let (status, verdict) = unsafe {
+        let status = ffi::sfi_device_check(image.as_ptr(), length_of(image), None, ptr::null_mut(), verdict.as_mut_ptr());
+        (status, verdict.assume_init())
+    };
+    match status {
+        Status::Done => Ok(Accepted { image }),
+        status => Err(Refused { status, verdict }),
+    }
+}
+
+impl Accepted<'_> {
+    /// What the image says of a sandbox: `NotAccepted` where another image was judged since.
+    pub fn part(&self, number: u32) -> Result<Part, Status> {
+        let mut part = MaybeUninit::<Part>::zeroed();
+        // SAFETY: the slice can be read; zeros are a part, in which pointers are null.
+        let (status, part) = unsafe {
+            let status = ffi::sfi_device_tell(self.image.as_ptr(), length_of(self.image), number, part.as_mut_ptr());
+            (status, part.assume_init())
+        };
+        match status {
+            Status::Done => Ok(part),
+            status => Err(status),
+        }
+    }
+}
+
+/// What answers a gate.
+pub trait Service<H> {
+    /// It has to be right for any a0 and a1, at any time.
+    fn answer(host: &mut H, caller: &mut Caller<'_>, call: &mut Call) -> Outcome;
+}
+
+/// The sandbox that called.
+pub struct Caller<'turn> {
+    sandbox: &'turn mut ffi::Sandbox,
+}
+
+impl Caller<'_> {
+    /// Bytes of its data from an address on, or none where one of them isn't its own.
+    pub fn own_bytes(&mut self, address: u32, length: u32) -> Option<&mut [u8]> {
+        // SAFETY: what isn't null is data of this sandbox, which makes no step while it is borrowed.
+        unsafe {
+            let bytes = ffi::sfi_device_own_bytes(self.sandbox, address, length);
+            (!bytes.is_null()).then(|| core::slice::from_raw_parts_mut(bytes, length as usize))
+        }
+    }
+}
+
+unsafe extern "C" fn answered<H, S: Service<H>>(host: *mut c_void, caller: *mut ffi::Sandbox, call: *mut Call) -> Outcome {
+    // SAFETY: `turn` has the library call it, with the host that `Firmware` borrows, and with a sandbox and a call of its own.
+    unsafe { S::answer(&mut *host.cast::<H>(), &mut Caller { sandbox: &mut *caller }, &mut *call) }
+}
+
+/// What a firmware gives: a host, services by the numbers that images give their gates, and the timer.
+pub struct Firmware<'host, H> {
+    raw: ffi::Firmware,
+    host: PhantomData<&'host mut H>,
+}
+
+impl<'host, H> Firmware<'host, H> {
+    /// The entry of a table of services.
+    pub const fn service<S: Service<H>>() -> Option<ffi::Service> {
+        Some(answered::<H, S>)
+    }
+
+    /// `answer_interrupt` quiets an interrupt other than the timer's, and says whether it is one of the firmware's.
+    ///
+    /// # Safety
+    /// Each service of the table is one that `service` of this type made. Neither function touches the host or a sandbox, and
+    /// `answer_interrupt` knows no interrupt by which the processor tells of an access that failed.
+    pub unsafe fn new(
+        host: &'host mut H,
+        services: &'host [Option<ffi::Service>],
+        interrupt_after: extern "C" fn(ticks: u32),
+        answer_interrupt: Option<extern "C" fn(cause: u32) -> bool>,
+    ) -> Self {
+        let raw = ffi::Firmware {
+            services: services.as_ptr(),
+            service_count: length_in(services),
+            host: ptr::from_mut(host).cast(),
+            interrupt_after: Some(interrupt_after),
+            answer_interrupt,
+        };
+        Firmware { raw, host: PhantomData }
+    }
+}
+
+fn length_in<T>(table: &[T]) -> u32 {
+    u32::try_from(table.len()).unwrap_or(u32::MAX)
+}
+
+/// A sandbox of an accepted image.
+pub struct Sandbox<'image> {
+    raw: ffi::Sandbox,
+    image: PhantomData<&'image [u8]>,
+}
+
+impl<'image> Sandbox<'image> {
+    /// One that is ready at its start.
+    ///
+    /// # Safety
+    /// The part is of that image. Code and data are in their places, and the premises of the theorem are kept as long as this
+    /// is ready: nothing else writes its code or its data, and its guard zones trap.
+    pub unsafe fn start(_image: &Accepted<'image>, part: &Part) -> Self {
+        let mut raw = MaybeUninit::<ffi::Sandbox>::zeroed();
+        // SAFETY: zeros are an empty sandbox.
+        let raw = unsafe {
+            ffi::sfi_device_enter_start(raw.as_mut_ptr(), part);
+            raw.assume_init()
+        };
+        Sandbox { raw, image: PhantomData }
+    }
+
+    /// One turn, of at most so many ticks.
+    ///
+    /// # Safety
+    /// In M-mode or S-mode, as the library was built, with interrupts off.
+    pub unsafe fn turn<H>(&mut self, firmware: &mut Firmware<'_, H>, ticks: u32) {
+        // SAFETY: as the caller says.
+        unsafe { ffi::sfi_device_turn(&firmware.raw, &mut self.raw, ticks) }
+    }
+
+    /// Makes one that has stopped ready at pc. False, and nothing is changed, where it can't be.
+    pub fn enter_again(&mut self, pc: u32, arguments: &[u32; 8]) -> bool {
+        // SAFETY: the sandbox and the arguments are there.
+        unsafe { ffi::sfi_device_enter_again(&mut self.raw, pc, arguments.as_ptr()) }
+    }
+
+    /// Whether it is ready, or how it has stopped.
+    pub fn state(&self) -> State {
+        self.raw.state
+    }
+
+    /// Of one that has exited.
+    pub fn exit_code(&self) -> Option<u32> {
+        (self.raw.state == State::Exited).then_some(self.raw.exit_code)
+    }
+
+    /// Of one that a trap stopped: pc, and the first byte of the access, or else pc.
+    pub fn trap(&self) -> Option<(u32, u32)> {
+        (self.raw.state == State::Trapped).then_some((self.raw.frame.pc, self.raw.trap_address))
+    }
+}
