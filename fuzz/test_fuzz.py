@@ -4,6 +4,8 @@ import io
 import os
 import random
 import re
+import subprocess
+import sys
 import tempfile
 import unittest
 
@@ -13,6 +15,7 @@ import calls
 import commands
 import corpus
 import escapes
+import files
 import mutants
 import ports
 import second
@@ -195,6 +198,14 @@ class Ports(testing.Folder):
         cases = [(f"0 --round {number}", end) for number, end in enumerate((4, 5, 6))]
         silently(ports.see_cases, tally, players[1], cases, *answers)
         self.assertEqual((len(answers[0]), tally.compared, tally.wrong), (48, {"other": 3}, {"other": 1}))
+
+
+class Files(unittest.TestCase):
+    def test_each_mistake_of_the_host_is_seen(self):
+        for name in files.MISTAKES:
+            done = subprocess.run([sys.executable, files.__file__, "--rounds", "100", "--plant", name], stdout=subprocess.PIPE, text=True,
+                                  check=False)
+            self.assertEqual(done.returncode, 1, f"{name}: {done.stdout}")
 
 
 class Scripts(testing.Folder):
