@@ -3,6 +3,9 @@
 # compiled natively.
 #
 #     examples/rust/test.sh [SFI]      # SFI is the program; ./sfi at the top if absent
+#
+# CARGO is the cargo for programs of several crates, which lie in the folder VENDORED: the one beside rustc, and Debian's
+# if absent.
 set -uo pipefail
 unset CDPATH
 here=$(cd "$(dirname "${BASH_SOURCE[0]}")" && pwd)
@@ -89,6 +92,45 @@ try_line() {
     report "where a panic traps" 1 "$(riscv64-unknown-elf-objdump -dl "$room/debugged.elf" | grep -B2 ebreak | grep -c panicking.rs)"
 }
 
+vendored=${VENDORED:-/usr/share/cargo/registry}
+package=$room/package/crates
+
+missing_for_crates() { # cargo; what isn't there
+    compgen -G "$vendored/miniz_oxide-*" >"$room/which" && compgen -G "$vendored/serde_json-*" >"$room/which" ||
+        echo "the crates miniz_oxide and serde_json aren't in $vendored (Debian's librust-miniz-oxide-dev, librust-serde-json-dev)"
+    has "$1" || echo "$1 isn't there (Debian's package cargo)"
+}
+
+# The package of crates/ in a folder of its own, whose cargo finds other crates in $vendored.
+make_package() {
+    mkdir -p "$room/cargo" "$room/package" && cp -r crates sfi_guest "$room/package"
+    printf '[source.crates-io]\nreplace-with = "vendored"\n[source.vendored]\ndirectory = "%s"\n' "$vendored" >"$room/cargo/config.toml"
+    (cd "$package" && "$here/sfi-rustc" --init --program "$sfi" --heap 800000 --stack 98304) >"$room/added"
+}
+
+build_crates() { # cargo; its options
+    (cd "$package" && CARGO_HOME=$room/cargo "$1" build --offline --release --quiet "${@:2}")
+}
+
+try_crate() { # program, machine, input
+    cp "$package/target/$2/release/$1" "$room/$1"
+    report "$1 by cargo, $3" "$(native_line "$1" "$3")" "$(line_of "$package/target/riscv32imc-unknown-none-elf/release/$1" "$3")"
+}
+
+try_crates() {
+    local rustc cargo machine why input
+    make_package
+    rustc=$(sed -n 's/^rustc = "\(.*\)"$/\1/p' "$package/.cargo/config.toml")
+    cargo=${CARGO:-${rustc%/*}/cargo}
+    why=$(missing_for_crates "$cargo" | head -n 1)
+    if [ -n "$why" ]; then skip 1 "programs of several crates" "$why" && return; fi
+    machine=$("$rustc" -vV | sed -n 's/^host: //p')
+    silently "crates by cargo" build_crates "$cargo"
+    silently "crates by cargo, natively" build_crates "$cargo" --target "$machine"
+    for input in empty prose; do try_crate packing "$machine" "$input"; done
+    for input in json-tree json-unfinished json-deep; do try_crate values "$machine" "$input"; done
+}
+
 try_guest
 if ! ./sfi-rustc --missing 2>"$room/messages"; then
     skip 1 "Rust programs" "$(cat "$room/messages")"
@@ -101,4 +143,5 @@ done
 while read -r program format <&3; do try_program "$program" "$format"; done 3< <(due 4 words median panics calls)
 try_memory
 try_line
+try_crates
 finish
