@@ -1,9 +1,9 @@
 #!/usr/bin/env python3
 """Programs that people have, of their sources as they are: natively, and by sfi-cc with newlib or C++'s library in each format.
 
-    examples/c/programs.py [OPTIONS] [NAME ..]
+    examples/c/programs.py [OPTIONS] [NAME ..|--all]
 
-Exit codes and outputs are compared, and a table has the steps, the bytes of code, and the seconds of `sfi run`. The sources
+Without names it tries a sample in words, or all in each format where EACH_FORMAT is set, as by ./test. Exit codes and outputs are compared, and a table has the steps, the bytes of code, and the seconds of `sfi run`. The sources
 are Debian's: those of GCC in gcc-12-source, the others' archives in the folder --sources, where --fetch has apt-get put
 them. A program whose sources aren't there is skipped. The last line is `N passed, M failed[, K skipped]`.
 """
@@ -31,18 +31,25 @@ from suygapid.library.sources import GCC_SOURCE, unpacked
 
 FORMATS = ("1", "2", "words")
 GCC_PARTS = ("zlib", "libdecnumber", "libiberty", "include")
-HEADERS = {"config.h": "", "gstdint.h": "#include <stdint.h>\n"}  # what GCC's configuration would make
+HEADERS = {  # what configurations would make: GCC's, and one of Mbed TLS in C alone, without files, network, clock and source of chance
+    "config.h": "",
+    "gstdint.h": "#include <stdint.h>\n",
+    "mbedtls_here.h": "#define MBEDTLS_NO_PLATFORM_ENTROPY\n" + "".join(f"#undef MBEDTLS_{name}\n" for name in (
+        "AESNI_C", "PADLOCK_C", "FS_IO", "NET_C", "TIMING_C", "HAVE_TIME", "HAVE_TIME_DATE", "PSA_ITS_FILE_C", "PSA_CRYPTO_STORAGE_C")),
+}
 MANGLED = re.compile(r"_[ZRD].{,157}", re.ASCII)
 MOST_MANGLED = 360
+SAMPLE = ("zlib", "cjson", "tinyxml2", "tinyscheme", "truetype")  # what builds in seconds
 NO_ROOM = "more than format 1 has room for"
 RUN = ("run", "--rounds", "10000", "--quantum", "1000000")
 
 
 @dataclass(frozen=True)
 class Program:
-    """The package of a program, the patterns of its files and of those that are left out, options, inputs (ours, the
-    package's, or those of the other examples), and the bytes that malloc and the stack have. A file of our own has its main,
-    if there is one of its name."""
+    """The packages of a program, the patterns of the first one's files and of those that are left out, options, inputs (ours,
+    the package's, or those of the other examples, one after another where + joins them), the bytes that malloc and the stack
+    have, the folder of headers beside those of the files, and a file that the program has as data.h. A file of our own has its
+    main, if there is one of its name."""
     package: str
     files: str
     options: str = ""
@@ -51,6 +58,8 @@ class Program:
     heap: int = 400000
     stack: int = 65536
     library: str = "newlib"
+    headers: str = "include"
+    data: str = ""
 
     def is_plus_plus(self):
         return self.library == "c++"
@@ -71,6 +80,17 @@ PROGRAMS = {
     "tinyxml2": Program("tinyxml2", "tinyxml2.cpp", inputs="list.xml", library="c++"),
     "pugixml": Program("pugixml", "src/pugixml.cpp", "-DPUGIXML_NO_EXCEPTIONS", "list.xml", library="c++"),
     "json": Program("nlohmann-json3", "", "-std=c++17", "json-tree", library="c++"),
+    "mujs": Program("mujs", "one.c", inputs="classic.js"),
+    "zstd": Program("libzstd", "lib/common/*.c lib/compress/*.c lib/decompress/*.c", "-DZSTD_DISABLE_ASM", "prose json-tree",
+                    heap=700000, headers="lib"),
+    "brotli": Program("brotli", "c/common/*.c c/enc/*.c c/dec/*.c", inputs="list.xml calls.lua", heap=566000, stack=10240,
+                      headers="c/include"),
+    "mbedtls": Program("mbedtls", "library/*.c programs/test/selftest.c", '-DMBEDTLS_USER_CONFIG_FILE="mbedtls_here.h"'),
+    "sqlite": Program("libdbd-sqlite3-perl", "sqlite3.c", "-DSQLITE_OS_OTHER=1 -DSQLITE_THREADSAFE=0 -DSQLITE_OMIT_LOAD_EXTENSION "
+                      "-DSQLITE_TEMP_STORE=3", "shop.sql", heap=600000),
+    "tinyscheme": Program("tinyscheme", "scheme.c", "-D_POSIX_C_SOURCE=200809 -DSTANDALONE=0 -DUSE_DL=0", "init.scm+queens.scm", heap=800000),
+    "lodepng": Program("lodepng", "lodepng.cpp", "-DLODEPNG_NO_COMPILE_DISK", library="c++"),
+    "truetype": Program("libstb fonts-tuffy", "", headers=".", data="Tuffy_Bold.ttf"),
 }
 
 
@@ -92,17 +112,39 @@ def archive_of(package, options):
     return max((path for path in glob.glob(pattern) if not path.endswith(".asc")), default=None)
 
 
+def missing(program, options):
+    """The first of a program's packages whose sources aren't there, or None."""
+    return next((package for package in program.package.split()
+                 if not (GCC_SOURCE.where() if package == GCC_SOURCE.name else archive_of(package, options))), None)
+
+
 def tree_of(program, options, folder):
-    """The folder of a program's sources, or None."""
-    if program.package == GCC_SOURCE.name:
-        return unpacked(GCC_SOURCE, *GCC_PARTS) if GCC_SOURCE.where() else None
-    archive = archive_of(program.package, options)
-    if archive is None:
+    """The folder of a program's sources, beside that of each other package of its, or None."""
+    if missing(program, options):
         return None
-    tree = os.path.join(folder, program.package)
-    os.makedirs(tree, exist_ok=True)
-    subprocess.run(["tar", "-xf", archive, "-C", tree, "--strip-components=1"], check=True)
-    return tree
+    if program.package == GCC_SOURCE.name:
+        return unpacked(GCC_SOURCE, *GCC_PARTS)
+    trees = [os.path.join(folder, package) for package in program.package.split()]
+    for tree in trees:
+        os.makedirs(tree, exist_ok=True)
+        subprocess.run(["tar", "-xf", archive_of(os.path.basename(tree), options), "-C", tree, "--strip-components=1"], check=True)
+    return trees[0]
+
+
+def contents(path):
+    with open(path, "rb") as file:
+        return file.read()
+
+
+def headers_of(name, tree, folder):
+    """The folder, with the headers that a program's own configuration, or this table, makes."""
+    data = PROGRAMS[name].data
+    found = glob.glob(os.path.join(os.path.dirname(tree), "*", data)) if data else []
+    texts = {**HEADERS, **{"data.h": f"static const unsigned char data[] = {{{','.join(map(str, contents(path)))}}};\n" for path in found}}
+    for header, text in texts.items():
+        with open(os.path.join(folder, header), "w", encoding="utf-8") as file:
+            file.write(text)
+    return folder
 
 
 def files_of(name, tree):
@@ -115,21 +157,20 @@ def files_of(name, tree):
 
 def options_of(name, tree, folder):
     """The compiler's options: the headers are where the files are."""
-    for header, text in HEADERS.items():
-        with open(os.path.join(folder, header), "w", encoding="utf-8") as file:
-            file.write(text)
-    folders = [folder, os.path.join(tree, "include"), *sorted({os.path.dirname(path) for path in files_of(name, tree)} - {OWN})]
+    folders = [headers_of(name, tree, folder), os.path.join(tree, PROGRAMS[name].headers), *sorted({os.path.dirname(path) for path in files_of(name, tree)} - {OWN})]
     return ["-O2", "-w", *PROGRAMS[name].options.split(), *(word for place in folders for word in ("-I", place))]
 
 
 def given_to(name, tree):
     """The bytes of an input."""
+    if "+" in name:
+        return b"".join(given_to(part, tree) for part in name.split("+"))
     if name == "mangled":
         paths = sorted(glob.glob(os.path.join(tree, "libiberty", "testsuite", "*demangle-expected")))
         lines = {line for path in paths for line in open(path, encoding="latin-1").read().splitlines()}
         return "".join(f"{line}\n" for line in sorted(filter(MANGLED.fullmatch, lines))[:MOST_MANGLED]).encode("latin-1")
     path = next((it for it in (os.path.join(OWN, name), os.path.join(tree, name)) if os.path.exists(it)), None)
-    return input_of(name) if path is None else open(path, "rb").read()
+    return input_of(name) if path is None else contents(path)
 
 
 def natively(name, tree, folder):
@@ -142,12 +183,18 @@ def natively(name, tree, folder):
     return {it: Found(done.returncode, done.stdout) for it, done in runs}
 
 
+def command_of(name, tree, folder, image_format, path):
+    """The command that links a program there."""
+    program = PROGRAMS[name]
+    return [SFI_CC, "--format", image_format, "--library", program.library, "--heap", str(program.heap), "--stack", str(program.stack),
+            *options_of(name, tree, folder), "-o", path, *files_of(name, tree)]
+
+
 def built(name, tree, folder, image_format, options):
     """The linked program and its image, or what sfi-cc says."""
-    program, path = PROGRAMS[name], os.path.join(folder, f"{name}.elf")
-    words = [SFI_CC, "--format", image_format, "--library", program.library, "--heap", str(program.heap), "--stack", str(program.stack),
-             *options_of(name, tree, folder), *options.given]
-    done = subprocess.run([*words, "-o", path, *files_of(name, tree)], stderr=subprocess.PIPE, check=False)
+    path = os.path.join(folder, f"{name}.elf")
+    words = [*command_of(name, tree, folder, image_format, path), *options.given]
+    done = subprocess.run(words, stderr=subprocess.PIPE, check=False)
     if done.returncode:
         return None, done.stderr.decode("utf-8", "replace")
     image = subprocess.run([SFI_IMAGE, path], stdout=subprocess.PIPE, check=True).stdout
@@ -196,7 +243,8 @@ def try_program(name, image_format, options, results, rows):
     with tempfile.TemporaryDirectory() as folder:
         tree = tree_of(PROGRAMS[name], options, folder)
         if tree is None:
-            return results.skip(f"{name}, format {image_format}", f"the sources of Debian's package {PROGRAMS[name].package} aren't there")
+            why = f"the sources of Debian's package {missing(PROGRAMS[name], options)} aren't there"
+            return results.skip(f"{name}, format {image_format}", why)
         elf, image = built(name, tree, folder, image_format, options)
         if elf is None:
             tell = results.skip if NO_ROOM in image else results.fail
@@ -213,8 +261,9 @@ def try_program(name, image_format, options, results, rows):
 
 def parsed(words):
     parser = argparse.ArgumentParser(prog="programs.py", description=__doc__.split("\n", maxsplit=1)[0])
-    parser.add_argument("names", nargs="*", metavar="NAME", help=f"of {', '.join(PROGRAMS)}; all if absent")
-    parser.add_argument("--format", action="append", choices=FORMATS, help="all if absent")
+    parser.add_argument("names", nargs="*", metavar="NAME", help=f"of {', '.join(PROGRAMS)}; if absent {', '.join(SAMPLE)}")
+    parser.add_argument("--all", action="store_true", help="tries all programs")
+    parser.add_argument("--format", action="append", choices=FORMATS, help="all if absent, but words of the sample")
     parser.add_argument("--sources", metavar="FOLDER", default=os.path.join(root(), "sources"),
                         help="where the archives of source packages are; %(default)s if absent")
     parser.add_argument("--fetch", action="store_true", help="runs `apt-get source --download-only` there for those that aren't")
@@ -222,16 +271,19 @@ def parsed(words):
     options, options.given = parser.parse_known_args(words)
     if not set(options.names) <= set(PROGRAMS):
         parser.error(f"the programs are {', '.join(PROGRAMS)}")
+    is_whole = options.all or bool(os.environ.get("EACH_FORMAT"))
+    options.format = options.format or (FORMATS if is_whole or options.names else ["words"])
+    options.names = options.names or (PROGRAMS if is_whole else SAMPLE)
     return options
 
 
 def main():
     options, results, rows = parsed(sys.argv[1:]), Results(), []
-    for name in options.names or PROGRAMS:
-        for image_format in options.format or FORMATS:
+    for name in options.names:
+        for image_format in options.format:
             try_program(name, image_format, options, results, rows)
-    print("\n| program, input | format | exit, bytes of output | bytes of code | steps | seconds |\n|---|---|---|---|---|---|")
-    print("\n".join(rows))
+    if rows:
+        print("\n".join(["", "| program, input | format | exit, bytes of output | bytes of code | steps | seconds |", "|---" * 6 + "|", *rows]))
     print(f"{results.passed} passed, {results.failed} failed" + (f", {results.skipped} skipped" if results.skipped else ""))
     return 1 if results.failed else 0
 
