@@ -185,6 +185,18 @@ static void print_instruction(const struct sfi_device_sandbox *sandbox) {
         print_hex(half_at(bytes + 2) << 16 | half, 8);
 }
 
+/* By the image's names, if it has any. */
+static void print_function(const struct sfi_device_sandbox *sandbox) {
+    struct sfi_device_function function;
+    if (!sfi_device_function_at(&sandbox->part, sandbox->frame.pc, &function))
+        return;
+    print(" in ");
+    for (uint32_t at = 0; at < function.length; at++)
+        send((char)function.name[at]);
+    print("+");
+    print_decimal(sandbox->frame.pc - function.address);
+}
+
 static void print_registers(const struct sfi_device_frame *frame) {
     for (uint32_t number = 1; number < 32; number++) {
         print("x");
@@ -205,6 +217,8 @@ static void print_place(const struct world *world, uint32_t number) {
     print(" pc=");
     print_hex(sandbox->frame.pc, 8);
     print_instruction(sandbox);
+    if (sandbox->state == SFI_DEVICE_TRAPPED)
+        print_function(sandbox);
     print("\n");
     if (world->arguments->prints_registers)
         print_registers(&sandbox->frame);

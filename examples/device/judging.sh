@@ -1,11 +1,12 @@
 # The checker on the device beside `sfi check`. A part of testing.sh. WASM_LIBRARY is the absolute path of the
-# library for wasm64; that of crates/sfi_c at the top if absent.
+# library for wasm64; that of crates/sfi_c at the top if absent. SLOTS_LIBRARY likewise, of crates/sfi_slots.
 
 # Answers whether there is a checker to try; else it is skipped, or has failed.
 make_checker() {
     local why status
     local library=${WASM_LIBRARY:-$shared/../../crates/sfi_c/out/wasm64-unknown-unknown/libsfi_c.a}
-    why=$("$shared/../../device/checker.sh" "$library" "$room/checker" 2>&1 && "$shared/measured.sh" "$room/checker" 2>&1)
+    local slots=${SLOTS_LIBRARY:-$shared/../../crates/sfi_slots/out/wasm64-unknown-unknown/libsfi_slots.a}
+    why=$("$shared/../../device/checker.sh" "$library" "$room/checker" "$slots" 2>&1 && "$shared/measured.sh" "$room/checker" 2>&1)
     status=$?
     if [ "$status" = 3 ]; then
         skip 1 "the checker on the device" "${why#checker.sh: }"

@@ -11,7 +11,7 @@ riscv=${RISCV:-riscv64-unknown-elf-gcc}
 cd "$1"
 machine=(-march=rv32imc_zicsr -mabi=ilp32 -mcmodel=medany -msmall-data-limit=0)
 flags=(-std=c11 -Os -ffreestanding -fno-builtin -Wall -Wextra -Wconversion -Wshadow -Wmissing-prototypes -Werror)
-flags+=(-I"$here" -I"$here/../../device" -I"$here/../../crates/sfi_c/include")
+flags+=(-I"$here" -I"$here/../../device" -I"$here/../../crates/sfi_c/include" -I"$here/../../crates/sfi_slots/include")
 "$riscv" "${machine[@]}" "${flags[@]}" -c -o measure.o "$here/measure.c"
 riscv64-unknown-elf-objcopy --redefine-sym sfi_device_check=checker_check \
     --redefine-sym sfi_device_tell=checker_tell checker.o renamed.o

@@ -421,6 +421,8 @@ esac
 source "$here/test_premises.sh"
 try_vendor 01000000 1
 try_report "$room/words.hex"
+try_debugging
+try_functions 01000000
 
 # ---- The library by itself
 
@@ -456,7 +458,7 @@ refused_by_script 2 "run.sh: the image $no_digits source fault 3 Number line 1" 
 xxd -r -p ../smallest.hex | head -c 32 >"$room/image.hex"
 refused_by_script 2 "run.sh: the image $no_digits SFI1" --steps
 echo 00112233 >"$room/image.hex"
-refused_by_script 2 "layout fault 1 Magic" --steps
+refused_by_script 2 "<stdin>: the first four bytes are of no format"$'\nlayout fault 1 Magic' --steps
 cp ../smallest.hex "$room/image.hex"
 QEMU_OPTIONS=-none refused_by_script 4 \
     "run.sh: QEMU failed in status 1: qemu-system-riscv32: -none: invalid option"

@@ -10,10 +10,10 @@ names_of() {
 try_names() { # what the library is built for; words of gcc
     local source objects=()
     for source in "$library"/*.S "$library"/*.c "$library"/ports/*.[cS]; do
-        case $source in */checker.c) continue ;; esac # which wants what checker.sh makes
+        case $source in */checker.c | */decisions.c) continue ;; esac # which wants what checker.sh makes
         objects+=("$room/$(basename "${source//./_}").o")
         riscv64-unknown-elf-gcc -std=c11 -Os -Wall -Wextra -Werror -march=rv32im_zicsr_zifencei -mabi=ilp32 -mcmodel=medany -ffreestanding \
-            "${@:2}" -I"$shared" -I"$library" -I"$shared/../../crates/sfi_c/include" -c -o "${objects[-1]}" "$source" 2>&1
+            "${@:2}" -I"$shared" -I"$library" -I"$shared/../../crates/sfi_c/include" -I"$shared/../../crates/sfi_slots/include" -c -o "${objects[-1]}" "$source" 2>&1
     done
     report "the library's names, for $1" "memcpy memset" "$(names_of "${objects[@]}")"
 }
@@ -26,6 +26,7 @@ try_cpp() { # a compiler, and words for it
     fi
     cat >"$room/firmware.cpp" <<'END_OF_FIRMWARE'
 #include "sfi_device_slots.h"
+#include "sfi_device_store.h"
 #include "sfi_device_sv32.h"
 
 static sfi_device_outcome leave(void *, sfi_device_sandbox *, sfi_device_call *) { return SFI_DEVICE_LEFT; }
@@ -41,7 +42,89 @@ sfi_device_state run(sfi_device_sandbox &sandbox) {
 }
 END_OF_FIRMWARE
     succeeds "the header in C++, by $1" "$@" -std=c++17 -Wall -Wextra -Wpedantic -Werror -fsyntax-only -I"$library" \
-        -I"$shared/../../crates/sfi_c/include" "$room/firmware.cpp"
+        -I"$shared/../../crates/sfi_c/include" -I"$shared/../../crates/sfi_slots/include" "$room/firmware.cpp"
+}
+
+# The least firmware that takes the library in: it asks for each part of it.
+least_firmware() {
+    cat <<'END_OF_FIRMWARE'
+#include "sfi_device_slots.h"
+#include "sfi_device_store.h"
+
+void sfi_device_trap_of_host(void);
+void sfi_device_trap_of_host(void) {}
+void *memset(void *to, int byte, size_t length);
+void *memset(void *to, int byte, size_t length) {
+    for (size_t at = 0; at < length; at++)
+        ((volatile unsigned char *)to)[at] = (unsigned char)byte;
+    return to;
+}
+void *memcpy(void *restrict to, const void *restrict from, size_t length);
+void *memcpy(void *restrict to, const void *restrict from, size_t length) {
+    for (size_t at = 0; at < length; at++)
+        ((volatile unsigned char *)to)[at] = ((const unsigned char *)from)[at];
+    return to;
+}
+
+void _start(void);
+void _start(void) {
+    static struct sfi_device_sandbox sandbox;
+    static const struct sfi_device_firmware firmware;
+    static struct sfi_device_store store;
+    sfi_device_write_protection();
+    sfi_device_store_open(&store);
+    sfi_device_turn(&firmware, &sandbox, 1);
+}
+END_OF_FIRMWARE
+}
+
+by_cmake() { # a project's folder, where it is built, words of CMake
+    cmake -S "$1" -B "$2" -DCMAKE_SYSTEM_NAME=Generic -DCMAKE_TRY_COMPILE_TARGET_TYPE=STATIC_LIBRARY "${@:3}" \
+        -DCMAKE_C_COMPILER=riscv64-unknown-elf-gcc "-DCMAKE_C_FLAGS=$machine -Os -Werror -ffreestanding" "-DCMAKE_ASM_FLAGS=$machine" &&
+        cmake --build "$2"
+}
+
+# The library is built and installed by CMake, and the firmware finds it, by CMake and by pkg-config.
+try_cmake() {
+    if ! has cmake || ! has pkg-config; then
+        skip 5 "the library by CMake and pkg-config" "cmake or pkg-config isn't there"
+        return
+    fi
+    local machine="-march=rv32imac_zicsr_zifencei -mabi=ilp32" prefix=$room/prefix least=$room/least config="-DSFI_DEVICE_CONFIG=$shared"
+    report "CMake refuses a port that isn't there" "SFI_DEVICE_PORT is mmu: there are pmp, sv32 and none" \
+        "$(by_cmake "$library" "$room/mmu" "$config" -DSFI_DEVICE_PORT=mmu 2>&1 | sed -n 's/^ *\(SFI_DEVICE_PORT is\)/\1/p')"
+    succeeds "the library by CMake" by_cmake "$library" "$room/cmake" "$config"
+    succeeds "the library is installed" cmake --install "$room/cmake" --prefix "$prefix"
+    mkdir -p "$least"
+    least_firmware >"$least/firmware.c"
+    cat >"$least/CMakeLists.txt" <<'END_OF_LISTS'
+cmake_minimum_required(VERSION 3.16)
+project(firmware LANGUAGES C ASM)
+find_package(sfi_device 0.1 REQUIRED)
+add_executable(firmware firmware.c)
+target_link_libraries(firmware PRIVATE sfi_device::sfi_device)
+target_link_options(firmware PRIVATE -nostdlib)
+END_OF_LISTS
+    succeeds "a firmware by find_package" by_cmake "$least" "$least/out" "-Dsfi_device_DIR=$prefix/lib/cmake/sfi_device"
+    # shellcheck disable=SC2046,SC2086 # words
+    succeeds "a firmware by pkg-config" riscv64-unknown-elf-gcc $machine -Os -ffreestanding -nostdlib -o "$least/firmware" \
+        "$least/firmware.c" $(PKG_CONFIG_PATH=$prefix/lib/pkgconfig pkg-config --cflags --libs sfi_device)
+}
+
+# The crate for Rust: its declarations are those of the headers, and updates by it, on this machine.
+try_rust() {
+    if ! has cargo || ! has gcc; then
+        skip 1 "the library's crate for Rust" "cargo or gcc isn't there"
+        return
+    fi
+    mkdir -p "$room/host"
+    local source
+    for source in store sha256; do
+        succeeds "$source.c on this machine" gcc -std=c11 -O2 -Wall -Wextra -Wconversion -Werror -c -o "$room/host/$source.o" "$library/$source.c"
+    done
+    ar rcs "$room/host/libsfi_device.a" "$room/host/"*.o
+    succeeds "the library's crate for Rust" env -C "$library/rust" "RUSTFLAGS=-D warnings -L native=$room/host" \
+        cargo test -q --offline --locked --target-dir "$room/host/target"
 }
 
 # A host that gives turns to what has stopped, too: it makes no step more.
@@ -57,5 +140,7 @@ try_library() {
     try_names "M-mode" -DMICROCONTROLLER -Imcu/chips/sifive_e
     try_cpp g++
     try_cpp riscv64-unknown-elf-g++ -march=rv32imc -mabi=ilp32 -ffreestanding
+    try_cmake
+    try_rust
     try_turns
 }

@@ -7,6 +7,7 @@ source "$shared/../harness.sh"
 source "$shared/images.sh"
 source "$shared/judging.sh"
 source "$shared/test_vendor.sh"
+source "$shared/test_debugging.sh"
 cd "$here" || exit 1
 
 for need in "qemu-system-riscv32 qemu-system-misc" "riscv64-unknown-elf-gcc gcc-riscv64-unknown-elf" \

@@ -66,14 +66,17 @@ install_python() {
     export PYTHONDONTWRITEBYTECODE=1
     export PYTHONPATH=$top/bindings/python SFI_RUN_LIBRARY=$room/lib/libsfi_run.so
     if ! python3 -m pip --version >"$room/log" 2>&1; then
-        skip 2 "pip install" "python3 has no pip"
+        skip 4 "pip install" "python3 has no pip"
     else
-        succeeds "pip install" env PIP_DISABLE_PIP_VERSION_CHECK=1 PIP_ROOT_USER_ACTION=ignore python3 -m pip install -q \
+        succeeds "the checker is linked" "$top/tools/libraries.py" sfi_c "$top/crates/sfi_c/out/libsfi_c.a" "$room/lib"
+        succeeds "pip install" env SFI_C_LIBRARY="$room/lib/libsfi_c.so" PIP_DISABLE_PIP_VERSION_CHECK=1 PIP_ROOT_USER_ACTION=ignore python3 -m pip install -q \
             --no-cache-dir --no-index --target "$room/site" "$top/bindings/python"
         unset SFI_RUN_LIBRARY
         PYTHONPATH=$room/site
         report "the package has its library" "$room/site/sfi_run/libsfi_run.so" \
             "$(python3 -c 'import sfi_run; print(sfi_run._library.places()[0])' 2>&1)"
+        report "the package checks" "accepted sandboxes=1 bundles=16" \
+            "$(cd "$room" && "$SFI" build --raw <"$top/examples/hi.s" >hi.image && site/bin/sfi-check hi.image 2>&1 | sed 's/ sha256=.*//')"
     fi
     for name in "${examples[@]}" values; do
         hosts[Python $name]="python3 $top/bindings/python/examples/$name.py"
@@ -270,7 +273,7 @@ documented() {
     report "the host in Python of EMBEDDING.md" "hello 42" "$(cd "$place" && python3 host.py 2>&1)"
     has cargo || { skip 1 "the host in Rust of EMBEDDING.md" "cargo isn't there" && return; }
     block "Running from Rust" rust >"$place/src/main.rs"
-    printf '[package]\nname = "host"\nversion = "0.1.0"\nedition = "2021"\n[dependencies]\nsfi-run = { path = "%s" }\n' \
+    printf '[package]\nname = "host"\nversion = "0.1.0"\nedition = "2021"\n[dependencies]\nsuygapid = { path = "%s" }\n' \
         "$top/bindings/rust" >"$place/Cargo.toml"
     found=$(cd "$place" && SFI_RUN_LIBRARY=$room/lib/libsfi_run.a cargo run -q 2>&1)
     report "the host in Rust of EMBEDDING.md" "hello 42" "$found"
@@ -293,15 +296,24 @@ says_so() { # what is tried, what is wanted, and a command
     report "$what" "$wanted" "$("$@" 2>&1)"
 }
 
+# A snapshot that C took is restored in Python, and taken again.
+in_python='import sys
+from sfi_run import snapshots
+image, kept = (open(path, "rb").read() for path in sys.argv[1:])
+print("the same" if snapshots.take(snapshots.restore(image, kept), image) == kept else "another")'
+
 header_in_c() {
     local checked=(gcc -std=c11 "${warnings[@]}" -D_POSIX_C_SOURCE=200809L -pthread)
     local wrapped=-Wl,--wrap=malloc,--wrap=realloc,--wrap=free images=() format
     succeeds "calls.c" "${checked[@]}" "$here/calls.c" "$room/lib/libsfi_run.a" -o "$room/calls"
     succeeds "failed_calls.c" "${checked[@]}" "$here/failed_calls.c" "$room/lib/libsfi_run.a" -o "$room/failed_calls"
+    succeeds "limit.c" "${checked[@]}" "$here/limit.c" "$room/lib/libsfi_run.a" -o "$room/limit"
+    succeeds "snapshot.c" "${checked[@]}" "$here/snapshot.c" "$room/lib/libsfi_run.a" -o "$room/snapshot"
     succeeds "names.c" "${checked[@]}" "$here/names.c" "$room/lib/libsfi_run.a" -o "$room/names"
     says_so "names and signatures" "all is so" "$room/names"
+    succeeds "the header of limits in C" "${checked[@]}" -Wconversion -x c -fsyntax-only "$top/crates/sfi_run/include/sfi_run_limit.h"
     succeeds "the headers in C99" gcc -std=c99 "${warnings[@]}" -Wconversion -x c -fsyntax-only \
-        "$top/crates/sfi_run/include/sfi_run_serve.h"
+        "$top/crates/sfi_run/include"/sfi_run_{serve,snapshot}.h
     succeeds "threads.c" "${checked[@]}" "$here/threads.c" "$room/lib/libsfi_run.a" -o "$room/threads"
     succeeds "memory.c" "${checked[@]}" "$here/memory.c" "$room/lib/libsfi_run.a" $wrapped -o "$room/memory"
     succeeds "modules.c" "${checked[@]}" "$here/modules.c" "$room/lib/libsfi_run.a" $wrapped -o "$room/modules"
@@ -312,6 +324,12 @@ header_in_c() {
         says_so "single calls, format $format" "all is so" "$room/calls" "$room/on.image"
         image "$here/failed_calls.s" "$format" failed_calls
         says_so "calls that fail, format $format" "all is so" "$room/failed_calls" "$room/failed_calls.image"
+        says_so "runs that are cut short, format $format" "all is so" "$room/limit" "$room/failed_calls.image" \
+            "$room"/{on,turn,squares,words}.image
+        image "$here/squares.s" "$format" kept
+        says_so "snapshots, format $format" "all is so" "$room/snapshot" "$room/kept.image" \
+            "$(sha256sum <"$room/kept.image" | cut -d ' ' -f 1)" "$room/kept.snapshot"
+        says_so "a snapshot from C in Python, format $format" "the same" python3 -c "$in_python" "$room/kept.image" "$room/kept.snapshot"
         says_so "four threads and one world, format $format" "10000 steps" "$room/threads" "$room/on.image" 10000
         says_so "four threads and worlds of one module, format $format" "40000 steps" "$room/modules" "$room/on.image" 10000
         image "$here/../hi.s" "$format" "hi_$format"
@@ -340,12 +358,14 @@ broken_at() {
 }
 
 header_in_cpp() {
-    has g++ || { skip 5 "the headers in C++" "g++ isn't there" && return; }
+    has g++ || { skip 6 "the headers in C++" "g++ isn't there" && return; }
     local standard
     for standard in c++98 c++17; do
         succeeds "the headers in $standard" g++ -std=$standard "${warnings[@]}" -Wconversion -x c++ -fsyntax-only \
-            "$top/crates/sfi_run/include/sfi_run_serve.h"
+            "$top/crates/sfi_run/include"/sfi_run_{serve,snapshot}.h
     done
+    succeeds "the header of limits in C++" g++ -std=c++11 "${warnings[@]}" -Wconversion -x c++ -fsyntax-only \
+        "$top/crates/sfi_run/include/sfi_run_limit.h"
     succeeds "world.cc" g++ -std=c++17 "${warnings[@]}" "$here/world.cc" "$room/lib/libsfi_run.a" -o "$room/world"
     has xxd || return
     says_so "a host in C++" "Hi kind 3 number 105" "$room/world" "$room/hi_2.image"
@@ -361,6 +381,20 @@ own_tests() { # a language, and a command whose last line counts its tests
     add_counts "$last" || report "the tests in $language" "N passed, M failed" "$last"
 }
 
+# What the crate shows of the data of a plug-in that is translated.
+views_in_rust() {
+    local native=$top/crates/sfi_translate/include
+    has xxd || { skip 2 "views in Rust" "xxd isn't there" && return; }
+    image "$here/tally.s" 2 native
+    "$SFI" translate <"$room/native.hex" >"$room/native.inc"
+    xxd -i <"$room/native.image" >"$room/native.bytes"
+    succeeds "a translated library" gcc -std=gnu11 "${warnings[@]}" -I"$native" -DSFI_TEXT="\"$room/native.inc\"" \
+        -DSFI_IMAGE="\"$room/native.bytes\"" -c "$native/sfi_native_run.c" -o "$room/native.o"
+    mkdir -p "$room/native" && ar rcs "$room/native/libsfi_run.a" "$room/native.o"
+    succeeds "cargo test of views" env -C "$top/bindings/rust" SFI_RUN_LIBRARY="$room/native/libsfi_run.a" \
+        SFI_TRANSLATED="$room/native.image" cargo test -q --locked --features translated --test views
+}
+
 # What `npm pack` packs of the package for node, once its module is made: here a file that stands for it.
 packed_for_node() {
     local place=$room/packed
@@ -370,7 +404,7 @@ packed_for_node() {
         "$(cd "$place" && npm pack --offline 2>&1 | grep '^sfi_run')"
     touch "$place/sfi_run.wasm"
     report "npm pack" "$(cd "$place" && ls *.md *.mjs *.mts *.json *.wasm | grep -v '^test' | sort)" \
-        "$(cd "$place" && npm pack --offline --silent >/dev/null 2>&1; tar tzf sfi-run-*.tgz | sed 's,^package/,,' | sort)"
+        "$(cd "$place" && npm pack --offline --silent >/dev/null 2>&1; tar tzf suygapid-*.tgz | sed 's,^package/,,' | sort)"
 }
 
 bindings() {
@@ -381,6 +415,7 @@ bindings() {
     for kind in "" --release; do # arithmetic that overflows panics in the first alone
         succeeds "cargo test $kind" env -C "$top/bindings/rust" SFI_RUN_LIBRARY="$room/lib/libsfi_run.a" cargo test -q --locked $kind
     done
+    views_in_rust
 }
 
 build_c

@@ -31,8 +31,8 @@ for text in "$top"/examples/*.s; do
     for line in "${lines[@]}"; do
         case $line in build* | map) input=$text ;; *) input=$room/image.hex ;; esac
         read -r -a words <<<"$line"
-        report "$line on ${text##*/}" "$("$SFI" "${words[@]}" <"$input" 2>&1; echo "status $?")" \
-            "$("$room/tool" "${words[@]}" <"$input" 2>&1; echo "status $?")"
+        report "$line on ${text##*/}" "$("$SFI" "${words[@]}" <"$input" 2>/dev/null; echo "status $?")" \
+            "$("$room/tool" "${words[@]}" <"$input" 2>/dev/null; echo "status $?")"
     done
 done
 succeeds "edges" "$room/edges"

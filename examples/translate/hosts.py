@@ -52,7 +52,8 @@ HOSTS = [  # a host, a source of its plug-in, and the host's words
     ("words", "words.s", [LONG]), ("tally", "tally.s", ["5", "7", "new", "3"]), ("console", "../primes.s", ["40", "97"]),
     ("console", "../hanoi.s", ["3", "997"]),
     ("console", "../echo.s", ["7", "13", "48656c6c6f"]), ("console", "../sort.s", ["200", "1000", "0903"]),
-    ("threads", ON, ["3000"]), ("failed_calls", "failed_calls.s", [])]
+    ("threads", ON, ["3000"]), ("failed_calls", "failed_calls.s", []),
+    ("limit", "failed_calls.s", [])]
 FAULTING = [  # instructions that access a guard zone, below the data and above them
     b".sandbox 4096\nli a0, 4095\nli a1, 0\nlw a2, -1(a1)\n", b".sandbox 4096\nli a0, 4095\nsw a0, -2(a0)\n",
     b".sandbox 8192\nli a0, 8188\nlw zero, 4(a0)\n"]

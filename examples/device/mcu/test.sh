@@ -215,6 +215,8 @@ try_chip() {
     case $chip in
     sifive_e)
         try_script
+        try_debugging --stack 256 --data 512 --at "$(printf %x:%x $((code_at)) $((data_at)))"
+        try_functions "$(printf %x $((code_at)))"
         try_without_pmp
         [ "${by[0]}" = --unchecked ] || judge_layouts
         ;;

@@ -19,9 +19,9 @@ static enum sfi_device_outcome put(void *host, struct sfi_device_sandbox *sandbo
 }
 
 static enum sfi_device_outcome report(void *host, struct sfi_device_sandbox *sandbox, struct sfi_device_call *call) {
-    struct sfi_device_version *version = sfi_device_current(&slots, number_of(host, sandbox));
-    version->trial_turns = 0;
-    call->a0 = version->number;
+    uint32_t number = number_of(host, sandbox);
+    sfi_device_confirm_slot(&slots, number);
+    call->a0 = sfi_device_current(&slots, number)->number;
     return SFI_DEVICE_REPLIED;
 }
 

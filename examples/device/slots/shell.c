@@ -89,7 +89,7 @@ static void print_slot(uint32_t number, const char *what) {
     print(" ");
     print(what);
     item(": version=", sfi_device_current(&slots, number)->number);
-    if (sfi_device_current(&slots, number)->trial_turns > 0)
+    if (sfi_device_current(&slots, number)->state == SFI_SLOT_ON_TRIAL)
         print(" on trial");
     print_state(&plugin->sandbox);
     item(" put=", plugin->output_length);

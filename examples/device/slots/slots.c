@@ -4,6 +4,7 @@
 static const struct arguments asked = {.turn_ticks = TURN_TICKS / 100};
 struct world world;
 static struct sfi_device_slot places[SLOTS];
+static struct sfi_slot decided[SLOTS];
 uint32_t longest_unfed, fed_between_pieces;
 
 _Static_assert(SLOTS <= SANDBOXES_MOST, "chip.h");
@@ -43,7 +44,7 @@ static void empty_plugin(uint32_t number) {
 }
 
 const struct sfi_device_slots slots = {
-    .firmware = &world.firmware, .slots = places, .count = SLOTS, .data_size = SLOT_DATA, .code_from = FLASH_CODE,
+    .firmware = &world.firmware, .slots = places, .decided = decided, .count = SLOTS, .data_size = SLOT_DATA, .code_from = FLASH_CODE,
     .code_to = FLASH_ARGUMENTS, .trial_turns = TRIAL_TURNS, .turn_ticks = TURN_TICKS / 100, .write_code = write_code,
     .between_pieces = feed_between_pieces, .emptied = empty_plugin, .tells = tell_news
 };
@@ -71,6 +72,5 @@ void start_slots(void) {
     }
     refuse_fault(0, sfi_device_write_protection());
     test_guards(&world);
-    for (uint32_t number = 0; number < SLOTS; number++)
-        empty(&world.plugins[number]);
+    sfi_device_clear_slots(&slots);
 }

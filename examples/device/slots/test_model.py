@@ -74,7 +74,7 @@ class OnDevice(unittest.TestCase):
             with self.subTest(image_format=image_format):
                 self.assertEqual(device.verdict_of(hidden.bytes()), "accepted")
                 self.assertRegex(self.device.update(0, silent.bytes()), "^slot=0 started: version=1 on trial")
-                self.assertRegex(self.device.next_line(), "^slot=0 no report: version=1 trap=Killed")
+                self.assertRegex(self.device.next_line(), "^slot=0 no report: version=1 on trial trap=Killed")
                 self.assertRegex(self.device.update(1, hidden.bytes()), "^slot=1 started: version=1 on trial")
                 self.assertRegex(self.device.stopped(1), f"^slot=1 is: version=1 exit={0x41414000} ")
                 before = self.device.ask("sums")

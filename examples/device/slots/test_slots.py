@@ -100,7 +100,7 @@ class Slots(OnDevice):
 
     def test_no_older_version(self):
         self.device.update(3, image_of(SILENT, "1", place_of(3)))
-        self.assertRegex(self.device.next_line(), "^slot=3 no report: version=1 trap=Killed")
+        self.assertRegex(self.device.next_line(), "^slot=3 no report: version=1 on trial trap=Killed")
         self.assertEqual(self.device.ask("show", 3), "slot=3 is: version=0 empty put=0")
         for command in ("start 3", "kill 3", f"call 3 {place_of(3)[0]:x} 0 0", "remove 3"):
             self.assertEqual(self.device.ask(command), "no", command)

@@ -1,0 +1,147 @@
+"""Tests of device/store.c beside the model of walk.py. CUTS in the environment is how often the power is cut."""
+import ctypes
+import hashlib
+import os
+import shutil
+import sys
+import tempfile
+import unittest
+
+sys.dont_write_bytecode = True
+import store
+import walk
+from flash import PIECES, Misused
+
+CUTS = int(os.environ.get("CUTS", "10000"))
+MISTAKE_CUTS = 1500  # in which a mistake has to be seen
+ONE_RECORD = (256, 64)  # a flash whose sectors hold one record each
+MISTAKES = (  # what, the text of store.c, and the text in its place
+    ("the latest record's sector is erased", "store->place < size ? size : 0", "store->place < size ? 0 : size"),
+    ("a record's check isn't looked at", "&& are_same(&sealed, record, sizeof sealed)", ""),
+    ("the last record counts, not the latest", "&& found.count > store->record.count", ""),
+    ("a record is written to a place that was cut", "!is_erased(store, next)", "false"),
+    ("a record isn't counted", "++store->record.count", "store->record.count"),
+    ("an update takes the place of what runs", "store->chosen == 0 ? 1 : 0", "store->chosen == 1 ? 1 : 0"),
+    ("an area is erased before the record says so", "versions[area].state != SFI_DEVICE_VERSION_NONE && write", "layout == 0 && write"),
+    ("every other sector isn't erased", "length; done += store->flash->sector_size", "length; done += 2 * store->flash->sector_size"),
+    ("an update's digest isn't looked at", "!has_image(store, store->target, &store->update.claim)", "false"),
+    ("a started version's digest isn't", "!has_image(store, area, &version->claim)", "false"),
+    ("a trial's start isn't on record", "return version->starts < store->trial_starts &&", "return version->starts < store->trial_starts ||"),
+    ("a trial has a start too many", "version->starts < store->trial_starts", "version->starts <= store->trial_starts"),
+    ("a version is bad until the next reset", "status = write_state(store, area, SFI_DEVICE_VERSION_BAD, store->record.versions[area].starts)",
+     "status = SFI_DEVICE_STORE_DONE"),
+    ("the older version is started", "version->claim.sequence > store->record", "version->claim.sequence < store->record"),
+    ("versions go back", "next.least_sequence = higher(next.least_sequence, version->claim.least_sequence)", "(void)higher"),
+    ("an update is taken again", "next.latest_sequence = store->update.claim.sequence", "(void)0"),
+    ("signatures aren't asked for", "store->is_signed && !", "false && !"),
+    ("the counter stays behind after a cut", "    store->record.layout = LAYOUT;\n    return raise_counter(store) ?",
+     "    store->record.layout = LAYOUT;\n    return raise_counter ?"),
+    ("the watchdog stays on", "            return status;\n        watch(store, false);", "            return status;"),
+    ("no watchdog watches a trial", "watch(store, is_on_trial(store))", "watch(store, false)"),
+    ("an update's last bytes aren't written", "store->taken % store->flash->page_size != 0 && !write_page(store)", "false"),
+)
+
+
+@unittest.skipUnless(shutil.which("gcc"), "gcc isn't there")
+class Stores(unittest.TestCase):
+    @classmethod
+    def setUpClass(cls):
+        cls.room = tempfile.TemporaryDirectory()
+        cls.addClassCleanup(cls.room.cleanup)
+        cls.library = store.build(cls.room.name)
+
+    def walk(self, library, cuts):
+        """Walks in flashes of each shape until the power was cut so often."""
+        for number, shape in enumerate(walk.SHAPES):
+            one = walk.Walk(library, number, shape)
+            while one.flash.cuts < cuts // len(walk.SHAPES):
+                one.step(cuts=True)
+
+    def test_digests(self):
+        for length in (0, 1, 55, 56, 63, 64, 65, 119, 120, 1000):
+            data, state, digest = bytes(range(250)) * 4, ctypes.create_string_buffer(256), ctypes.create_string_buffer(32)
+            self.library.sfi_device_sha256_begin(state)
+            self.library.sfi_device_sha256_add(state, data[:7 * length // 10], 7 * length // 10)
+            self.library.sfi_device_sha256_add(state, data[7 * length // 10:length], length - 7 * length // 10)
+            self.library.sfi_device_sha256_end(state, digest)
+            self.assertEqual(digest.raw, hashlib.sha256(data[:length]).digest(), length)
+
+    def test_walks(self):
+        self.walk(self.library, CUTS)
+
+    def scenario(self, cut_at=None, piece=None):
+        """The versions 1, kept; 2, kept; 3, rejected: so the second area is written twice. How many writes that takes."""
+        one = walk.Walk(self.library, 1, ONE_RECORD)
+        if cut_at is not None:
+            one.flash.plan_cut(cut_at, piece)
+        one.choose()
+        for sequence in (1, 2, 3):
+            one.put(walk.right(sequence, sequence - 1, one.chance.randbytes(150 * sequence)))
+            one.choose()
+            (one.reject if sequence == 3 else one.keep)()
+        one.choose()
+        self.assertEqual(one.flash.cuts, int(cut_at is not None))
+        return one
+
+    def test_each_write(self):
+        """Each write of these updates is cut, at each piece of it; then all goes on, and another update runs."""
+        whole = self.scenario()
+        self.assertEqual([it[0] for it in whole.model.versions], ["bad", "good"])
+        for cut_at in range(whole.flash.writes):
+            for piece in PIECES:
+                one = self.scenario(cut_at, piece)
+                one.choose()
+                if one.is_on_trial():
+                    one.reject()
+                    one.choose()
+                one.put(walk.right(9, 0, b"the next"))
+                one.choose()
+                self.assertEqual(one.model.versions[one.chosen], ("on trial", 1, 9, 0), (cut_at, piece))
+
+    def test_worn_flash(self):
+        """Where nothing can be written, no trial begins, and the good version runs; and where it can again, the trial does."""
+        one = walk.Walk(self.library, 1, ONE_RECORD)
+        one.choose()
+        one.put(walk.right(1, 0, b"first"))
+        one.choose()
+        one.keep()
+        one.put(walk.right(2, 0, b"second"))
+        area = ctypes.c_uint32()
+        for is_worn, chosen in ((True, 0), (False, 1)):
+            one.reset()
+            one.flash.is_worn = is_worn
+            self.assertEqual(one.call("choose", ctypes.byref(area)), "done")
+            self.assertEqual((area.value, one.watched), (chosen, chosen == 1))
+
+    def test_last_count(self):
+        """Behind the last count no record is written, and a change that a reset forgets isn't told as done."""
+        one = walk.Walk(self.library, 1, ONE_RECORD)
+        one.choose()
+        one.put(walk.right(1, 0, b"first"))
+        one.choose()
+        one.store.record.count = 2 ** 32 - 2
+        one.keep()
+        self.assertEqual(one.call("reject"), "flash failed")
+        one.power_on([one.model])
+
+    def test_setup(self):
+        one = walk.Walk(self.library, 1, ONE_RECORD)
+        right = bytes(one.store)
+        for field, value in (("flash", None), ("area_size", 0), ("area_size", 300), ("trial_starts", 0), ("records", one.store.areas[1])):
+            one.store = store.Store.from_buffer_copy(right)
+            setattr(one.store, field, value)
+            self.assertEqual(one.call("open"), "bad setup", field)
+            self.assertEqual(one.call("choose", ctypes.byref(ctypes.c_uint32())), "too early", field)
+
+    def test_mistakes(self):
+        """The walks see each of these mistakes of store.c."""
+        text = (store.DEVICE / "store.c").read_text(encoding="utf-8")
+        for what, old, new in MISTAKES:
+            with self.subTest(what):
+                self.assertEqual(text.count(old), 1, "it stands there once")
+                with tempfile.TemporaryDirectory() as room, self.assertRaises((walk.Wrong, Misused)):
+                    self.walk(store.build(room, text.replace(old, new)), MISTAKE_CUTS)
+
+
+if __name__ == "__main__":
+    unittest.main()
