@@ -5,7 +5,8 @@
 
 - sfi.wasm, all commands and a runtime, by tools/wasm_module.py, which wants the toolchain;
 - sfi.wasm.js, the same as text, for a page that is opened as a file;
-- made.js, the examples, the sentences of the rules, which docs/IMAGE.md has, and the names of services.
+- made.js, the examples, the sentences of the rules, which docs/IMAGE.md has, those of faults, which the program has, and the
+  names of services.
 """
 import base64
 import json
@@ -66,9 +67,16 @@ def sentences(heading):
     return {name: re.sub(r"\[([^]]*)\]\([^)]*\)", r"\1", said).replace("`", "") for name, said in rows}
 
 
+def fault_sentences():
+    """What the program says of each fault, by its kind and name."""
+    rows = re.findall(r'kind: "(.*)",\s*name: "(.*)",\s*says: "(.*)",', read("crates", "sfi", "src", "sentences.rt"))
+    return {f"{kind} {name}": says for kind, name, says in rows}
+
+
 def made_script():
     rules = sentences("Code in bundles")
-    parts = {"EXAMPLES": examples(), "RULES": rules, "WORD_RULES": rules | sentences("Code in words"), "SERVICES": services.SERVICES}
+    parts = {"EXAMPLES": examples(), "RULES": rules, "WORD_RULES": rules | sentences("Code in words"), "SERVICES": services.SERVICES,
+             "SENTENCES": fault_sentences()}
     return '"use strict";\n' + "".join(f"const {name} = {json.dumps(value, indent=0)};\n" for name, value in parts.items())
 
 

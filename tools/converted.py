@@ -1,5 +1,5 @@
-"""The libraries that a release has compiled and converted, so that sfi-cc doesn't have to at their first use: newlib, floating
-point, the small library and what each program is linked with, by gcc for code in words. Beside them are the licences of their
+"""The libraries that a release has compiled and converted, so that sfi-cc doesn't have to at their first use: newlib, what
+it has of files, floating point, the small library and what each program is linked with, by gcc for code in words. Beside them are the licences of their
 sources, which are Debian's packages newlib-source and gcc-12-source."""
 import os
 import pathlib
@@ -15,7 +15,7 @@ from suygapid.library.sources import GCC_SOURCE, NEWLIB_SOURCE, unpacked
 
 TOP = pathlib.Path(kept.RELEASED).resolve().parent.parent.parent
 TARGET = Target("words")
-LIBRARIES = ("newlib", SMALL)
+LIBRARIES = ("files", "newlib", SMALL)
 LICENCES = {NEWLIB_SOURCE: ("COPYING.NEWLIB",), GCC_SOURCE: ("COPYING3", "COPYING3.LIB", "COPYING.RUNTIME")}
 
 

@@ -2,20 +2,53 @@
 import contextlib
 import os
 import pathlib
+import sys
 from dataclasses import dataclass
 
+import completions
 import libraries
 import version
 
 TOP = pathlib.Path(__file__).resolve().parent.parent
+sys.path.append(str(TOP / "bindings" / "python"))
+from sfi_check import _built
+
 SHARE = "share/suygapid"  # the tools, at the places that they have in the repository
 NOTED = f"{SHARE}/installed"  # the list of all that was installed
-TOOLS = ("sfi-cc", "sfi-exec", "sfi-gdb", "sfi-image", "sfi-library", "sfi-move", "sfi-trace")
+TOOLS = ("sfi-cc", "sfi-check", "sfi-corpus", "sfi-exec", "sfi-gdb", "sfi-image", "sfi-library", "sfi-map", "sfi-move", "sfi-trace")
 FOLDERS = ("tools/suygapid", "examples/c/include", "examples/c/library", "bindings/python", "bindings/rust", "bindings/node")
 SINGLE = ("tools/asm2elf", "examples/c/gates.h")
-PAGES = ("sfi.1", "sfi-cc.1", "sfi-exec.1", "sfi-gdb.1", "sfi-image.1", "sfi-library.1", "sfi-move.1",
-         "sfi-trace.1")
+PAGES = ("sfi.1", "sfi-cc.1", "sfi-check.1", "sfi-corpus.1", "sfi-exec.1", "sfi-gdb.1", "sfi-image.1", "sfi-library.1", "sfi-map.1",
+         "sfi-move.1", "sfi-trace.1")
 DOCUMENTS = ("README.md", "CHANGELOG.md", "CONTRIBUTING.md", "SECURITY.md", "docs/*.md", "docs/*.png")  # at the same places below share/doc/suygapid
+# What `find_package(suygapid)` of CMake reads, and by which it judges whether this version is the one asked for.
+CMAKE = """\
+get_filename_component(_suygapid_folder "${CMAKE_CURRENT_LIST_DIR}" REALPATH)
+get_filename_component(_suygapid_prefix "${_suygapid_folder}/../../.." ABSOLUTE)
+foreach(_suygapid_name sfi_c sfi_run)
+  if(NOT TARGET suygapid::${_suygapid_name})
+    add_library(suygapid::${_suygapid_name} SHARED IMPORTED)
+    add_library(suygapid::${_suygapid_name}_static STATIC IMPORTED)
+    set_target_properties(suygapid::${_suygapid_name} PROPERTIES
+      IMPORTED_LOCATION "${_suygapid_prefix}/lib/lib${_suygapid_name}.so")
+    set_target_properties(suygapid::${_suygapid_name}_static PROPERTIES
+      IMPORTED_LOCATION "${_suygapid_prefix}/lib/lib${_suygapid_name}.a")
+    set_target_properties(suygapid::${_suygapid_name} suygapid::${_suygapid_name}_static PROPERTIES
+      INTERFACE_INCLUDE_DIRECTORIES "${_suygapid_prefix}/include")
+  endif()
+endforeach()
+"""
+CMAKE_VERSION = """\
+set(PACKAGE_VERSION "{whole}")
+if(PACKAGE_FIND_VERSION VERSION_GREATER "{whole}" OR PACKAGE_FIND_VERSION VERSION_LESS "{compatible}")
+  set(PACKAGE_VERSION_COMPATIBLE FALSE)
+else()
+  set(PACKAGE_VERSION_COMPATIBLE TRUE)
+endif()
+if(CMAKE_SIZEOF_VOID_P AND NOT CMAKE_SIZEOF_VOID_P EQUAL 8)
+  set(PACKAGE_VERSION_UNSUITABLE TRUE)
+endif()
+"""
 TOLD = {"sfi_c": "The checker of Suygapid's images", "sfi_run": "Checks Suygapid's images and runs their sandboxes"}
 
 
@@ -53,6 +86,13 @@ def package(crate):
             f"Cflags: -I${{prefix}}/include\nLibs: -L${{prefix}}/lib -l{crate}\n")
 
 
+def cmake_files():
+    """The files by which CMake finds both libraries."""
+    folder = "lib/cmake/suygapid"
+    judging = CMAKE_VERSION.format(whole=version.version(), compatible=libraries.compatible_version())
+    return [Item(f"{folder}/suygapid-config.cmake", text=CMAKE), Item(f"{folder}/suygapid-config-version.cmake", text=judging)]
+
+
 def library(crate):
     """A static and a shared library, with its header and its pkg-config file."""
     static, shared = libraries.make(crate)
@@ -74,12 +114,15 @@ def items():
     found = [Item("bin/sfi", TOP / "crates" / "sfi" / "out" / "sfi"), Item(f"{SHARE}/sfi", link="../../bin/sfi")]
     for crate in libraries.HEADERS:
         found += library(crate)
+    found += cmake_files()
     for tool in TOOLS:
         found.append(Item(f"{SHARE}/tools/{tool}", TOP / "tools" / tool))
         found.append(Item(f"bin/{tool}", link=f"../{SHARE}/tools/{tool}"))
     files = [path for folder in FOLDERS for path in sorted((TOP / folder).rglob("*")) if is_tool_file(path)]
     files += [TOP / it for it in SINGLE]
+    found.append(Item(f"{SHARE}/{_built.FILE}", text=_built.noted()))
     found += [Item(f"{SHARE}/{path.relative_to(TOP)}", path) for path in files]
+    found += [Item(place, text=text) for place, text in completions.files([TOP / "tools" / it for it in TOOLS]).items()]
     found += [Item(f"share/man/man1/{page}", TOP / "docs" / page) for page in PAGES]
     documents = [path for named in DOCUMENTS for path in sorted(TOP.glob(named))]
     found += [Item(f"share/doc/suygapid/{path.relative_to(TOP)}", path) for path in documents]

@@ -19,7 +19,8 @@ sys.dont_write_bytecode = True
 import version
 
 HEADERS = {"sfi_c": "sfi.h", "sfi_run": "sfi_run.h"}
-MORE_HEADERS = {"sfi_c": [], "sfi_run": ["sfi_run_serve.h"]}  # which declare no call of the library
+MORE_HEADERS = {"sfi_c": [], "sfi_run": ["sfi_run_serve.h", "sfi_run_limit.h", "sfi_run_snapshot.h",
+                                         "sfi_run_files.h"]}  # which declare no call of the library
 C_FILES = {"sfi_c": [], "sfi_run": ["c/heap.c"]}
 
 
@@ -36,11 +37,16 @@ def header(crate):
     return path(crate, "include", HEADERS[crate])
 
 
-def shared_name(crate):
-    """The name by which programs ask for a shared library: with the part of the version in which libraries have to agree
-    so that one can stand for the other, which is the first number, or while that is 0 the first two."""
+def compatible_version():
+    """The part of the version in which libraries have to agree so that one can stand for the other: the first number, or
+    while that is 0 the first two."""
     first, second, _ = version.version().split(".")
-    return f"lib{crate}.so.{first}" + (f".{second}" if first == "0" else "")
+    return f"0.{second}" if first == "0" else first
+
+
+def shared_name(crate):
+    """The name by which programs ask for a shared library."""
+    return f"lib{crate}.so.{compatible_version()}"
 
 
 def calls(file):

@@ -1,17 +1,17 @@
 #!/usr/bin/env python3
-"""Makes the tar file of a release: all files of the commit that is checked out, and what is built of them, where it lies
-in the repository.
+"""Makes a release: a tar file with all files of the commit that is checked out, and what is built of them, where it lies in
+the repository; and the packages of tools/packages.py.
 
-    tools/release.py [--log LOG] [FOLDER]     # LOG is out/ci.log, and FOLDER out/release, if absent
+    tools/release.py [--log LOG] [--tar] [FOLDER]     # LOG is out/ci.log, and FOLDER out/release, if absent; --tar: no packages
 
-FOLDER gets suygapid-VERSION-x86_64-linux.tar.gz and, with .sha256 at its end, the checksum of it. In the tar file
+FOLDER gets suygapid-VERSION-x86_64-linux.tar.gz, the packages and, with .sha256 at its end, the checksum of each. In the tar file
 SHA256SUMS has that of every other file. The same commit, the same built files and the same LOG make the same bytes: owners,
 times and the order of the files don't depend on where and when it is made. Nothing is made where a file isn't committed,
 where what is built is missing, empty or older than a source, where suygapid_check.c and suygapid_run.c, the checker and the runtime
 in one file of C each, can't be made (tools/checker_file.py, tools/runtime_file.py), or where what is packed doesn't do what
-tools/release_trial.py tries.
+tools/release_trial.py and tools/package_trial.py try.
 
-In it are also the libraries that sfi-cc would else compile and convert at their first use (tools/converted.py); where the
+built.json in it has the commit and the logic. In it are also the libraries that sfi-cc would else compile and convert at their first use (tools/converted.py); where the
 compiler or sources aren't there, they aren't, as a line says.
 
 LOG is what `rt ci --anew > LOG` printed over this commit. Of it the page of evidence is made (tools/evidence.py), and both are
@@ -37,11 +37,14 @@ import definitions
 import evidence
 import installed
 import libraries
+import package_trial
+import packages
 import release_trial
 import runtime_file
 import toolchain
 import verify_evidence
 import version
+from sfi_check import _built  # which installed.py finds
 
 MACHINE = "x86_64-linux"
 # What tools/build_page.py and tools/build_node.py make.
@@ -109,7 +112,8 @@ def library_files():
 def contents(log):
     """The bytes of each file of the release and whether it can be run, by its path."""
     paths = [it for it in git("ls-files", "-z").split("\0") if it] + built_files()
-    return {path: ((TOP / path).read_bytes(), os.access(TOP / path, os.X_OK)) for path in paths} | library_files() | evidence_files(log)
+    files = {path: ((TOP / path).read_bytes(), os.access(TOP / path, os.X_OK)) for path in paths}
+    return files | {_built.FILE: (_built.noted().encode(), False)} | library_files() | evidence_files(log)
 
 
 def checksums(files):
@@ -138,7 +142,19 @@ def try_out(name, packed_bytes):
         fail(f"nothing is released: {faults[0]}")
 
 
-def release(folder, log):
+def tried_packages(room):
+    """The packages, made in the folder `room`. Ends where one can't be made, or isn't as it has to be."""
+    try:
+        made = packages.make(room)
+    except packages.Failed as failed:
+        fail(f"nothing is released: {failed}")
+    faults = [fault for path in made for fault in package_trial.faults(path)]
+    if faults:
+        fail(f"nothing is released: {faults[0]}")
+    return {it.name: it.read_bytes() for it in made}
+
+
+def release(folder, log, has_packages):
     missing = [str(it.relative_to(TOP)) for it in [*installed.built(), *MADE] if not it.is_file()]
     if missing:
         fail(f"{' and '.join(missing)} isn't built")
@@ -152,20 +168,25 @@ def release(folder, log):
     name = f"suygapid-{version.version()}-{MACHINE}"
     whole = packed(name, files, int(git("log", "-1", "--format=%ct")))
     try_out(name, whole)
-    data = gzip.compress(whole, compresslevel=9, mtime=0)
+    made = {f"{name}.tar.gz": gzip.compress(whole, compresslevel=9, mtime=0)}
+    if has_packages:
+        with tempfile.TemporaryDirectory() as room:
+            made |= tried_packages(pathlib.Path(room))
     folder.mkdir(parents=True, exist_ok=True)
-    tar = folder / f"{name}.tar.gz"
-    tar.write_bytes(data)
-    pathlib.Path(f"{tar}.sha256").write_text(f"{hashlib.sha256(data).hexdigest()}  {tar.name}\n", encoding="utf-8")
-    print(tar)
+    for name, data in made.items():
+        (folder / name).write_bytes(data)
+        (folder / f"{name}.sha256").write_text(f"{hashlib.sha256(data).hexdigest()}  {name}\n", encoding="utf-8")
+        print(folder / name)
 
 
 def main():
     parser = argparse.ArgumentParser(description=__doc__, formatter_class=argparse.RawDescriptionHelpFormatter)
     parser.add_argument("--log", type=pathlib.Path, default=TOP / "out" / "ci.log")
+    parser.add_argument("--tar", action="store_true")
     parser.add_argument("folder", nargs="?", type=pathlib.Path, default=TOP / "out" / "release")
     options = parser.parse_args()
-    release(options.folder, options.log)
+    os.environ[_built.STATED] = git("rev-parse", "--short=12", "HEAD").strip()
+    release(options.folder, options.log, not options.tar)
 
 
 if __name__ == "__main__":

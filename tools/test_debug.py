@@ -109,9 +109,9 @@ class Debug(Folder):
         return subprocess.run([SFI_EXEC, "--program", SFI, *words, program], capture_output=True, text=True, check=False)
 
     def stops_here(self, text, done):
-        """Whether the last line that was told is the one that is marked."""
+        """Whether the first line that was told is the one that is marked."""
         told = re.findall(r"program\.c:(\d+)$", done.stderr, re.MULTILINE)
-        self.assertEqual(told[-1:], [str(marked_line(text))], done.stderr)
+        self.assertEqual(told[:1], [str(marked_line(text))], done.stderr)
 
     def test_traps(self):
         for what, body in TRAPS.items():

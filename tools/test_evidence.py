@@ -23,6 +23,7 @@ HEAP = "axioms libc: libc::heap::rattle_alloc, libc::heap::rattle_dealloc, libc:
 NONE = "axioms {}: none reached of the 22 declared\n"
 AXIOMS = {
     "sfi_c": (0, NONE.format("libc") + NONE.format("os")),
+    "sfi_slots": (0, NONE.format("libc") + NONE.format("os")),
     "sfi_run": (3, HEAP + NONE.format("os")),
     "sfi_tool_c": (3, HEAP + NONE.format("os")),
     "x86_trial": (3, HEAP + NONE.format("os")),
@@ -395,7 +396,7 @@ class Commands(testing.Folder):
             self.assertIn("is the word of whoever ma", " ".join(done.stdout.split()).replace("it is the word", "is the word"))
 
     def test_an_edited_definition(self):
-        for part in ("crates", "tools"):
+        for part in ("crates", "tools", "bindings/python"):
             shutil.copytree(testing.TOP / part, self.room / part, ignore=shutil.ignore_patterns("out", "must-fail", "target"))
         for name in ("crates.txt", "README.md", "CHANGELOG.md"):
             shutil.copy(testing.TOP / name, self.room)

@@ -1,5 +1,6 @@
 """Tests of ./install and tools/release.py: `tools/unit_tests.py tools`. They are skipped where the program or a library
 isn't built, or gcc isn't there; those of releases and of node where a module isn't made."""
+import json
 import os
 import pathlib
 import re
@@ -278,7 +279,7 @@ class Scratch(Installing):
     def release(self, top):
         """A release with a log that says that all is proved."""
         log = self.write("log", test_evidence.log_of(definitions.crate_names()))
-        return run(sys.executable, top / "tools" / "release.py", "--log", log, self.room / "made")
+        return run(sys.executable, top / "tools" / "release.py", "--tar", "--log", log, self.room / "made")
 
     def test_a_release_is_used(self):
         done = self.release(self.repository("top"))
@@ -289,6 +290,8 @@ class Scratch(Installing):
         top = self.room / f"suygapid-{version.version()}-x86_64-linux"
         sums = run("sha256sum", "--quiet", "-c", "SHA256SUMS", cwd=top)
         self.assertEqual((sums.returncode, sums.stdout), (0, ""))
+        commit = run("git", "-C", self.room / "top", "rev-parse", "--short=12", "HEAD").stdout.strip()
+        self.assertEqual(json.loads((top / "built.json").read_text(encoding="utf-8"))["commit"], commit)
         env = {name: value for name, value in os.environ.items() if name != "SFI"}
         checked = run(top / "sfi", "check", given=SMALLEST, env={**env, "PATH": "/usr/bin:/bin"})
         self.assertEqual((checked.stdout, checked.stderr), (ACCEPTED, ""))

@@ -1,16 +1,17 @@
 """Tests of the Python of this repository by linters: `tools/unit_tests.py tools test_python.py`. It has nothing that pyflakes
-complains of, and mypy finds no type of the package suygapid wrong."""
+complains of, and mypy finds no type of the packages suygapid and sfi_check wrong."""
 import subprocess
 import unittest
 
 from testing import TOOLS, TOP, needs
 
-WORDS = ["--explicit-package-bases", "--ignore-missing-imports", "--cache-dir=/dev/null", "-p", "suygapid"]
+WORDS = ["--explicit-package-bases", "--ignore-missing-imports", "--cache-dir=/dev/null"]
+PACKAGES = {"suygapid": TOOLS, "sfi_check": TOP / "bindings" / "python"}
 
 
 class Linters(unittest.TestCase):
-    def said(self, *words):
-        done = subprocess.run(words, cwd=TOOLS, capture_output=True, text=True, check=False)
+    def said(self, *words, folder=TOOLS):
+        done = subprocess.run(words, cwd=folder, capture_output=True, text=True, check=False)
         return done.stdout + done.stderr
 
     @needs("pyflakes3")
@@ -24,7 +25,8 @@ class Linters(unittest.TestCase):
 
     @needs("mypy")
     def test_types(self):
-        self.assertIn("Success", self.said("mypy", *WORDS))
+        for package, folder in PACKAGES.items():
+            self.assertIn("Success", self.said("mypy", *WORDS, "-p", package, folder=folder))
 
 
 if __name__ == "__main__":

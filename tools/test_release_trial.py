@@ -17,6 +17,8 @@ import definitions
 import evidence
 import installed
 import libraries
+import package_trial
+import packages
 import release
 import release_trial
 import runtime_file
@@ -116,12 +118,12 @@ class Whole(Folder):
             patched.start()
             self.addCleanup(patched.stop)
 
-    def release(self, made="made"):
-        """The path of the tar file, or why there is none, and what was printed on standard error."""
+    def release(self, made="made", has_packages=False):
+        """What was printed on standard output, the paths of what was made, or why nothing was; and on standard error."""
         printed, said = io.StringIO(), io.StringIO()
         with contextlib.redirect_stdout(printed), contextlib.redirect_stderr(said):
             try:
-                release.release(self.room / made, self.room / "log")
+                release.release(self.room / made, self.room / "log", has_packages)
             except SystemExit as ended:
                 return ended.code, said.getvalue()
         return printed.getvalue().strip(), said.getvalue()
@@ -130,7 +132,7 @@ class Whole(Folder):
         made, said = self.release()
         with tarfile.open(made) as tar:
             names = sorted(it.partition("/")[2] for it in tar.getnames())
-        self.assertEqual(names, sorted([*FILES, ".gitignore", "SHA256SUMS"]))
+        self.assertEqual(names, sorted([*FILES, ".gitignore", "SHA256SUMS", "built.json"]))
         self.assertIn("no evidence is in it", said)
 
     def test_the_same_files_make_the_same_bytes(self):
@@ -138,6 +140,25 @@ class Whole(Folder):
         self.assertEqual(made.read_bytes(), another.read_bytes())
         said = pathlib.Path(f"{made}.sha256").read_text(encoding="utf-8").split()
         self.assertEqual(said[0], hashlib.sha256(made.read_bytes()).hexdigest())
+
+    def make_packages(self, folder):
+        (folder / "a.deb").write_bytes(b"package")
+        return [folder / "a.deb"]
+
+    def test_packages(self):
+        with mock.patch.object(packages, "make", self.make_packages), mock.patch.object(package_trial, "faults", lambda path: []):
+            made = self.release(has_packages=True)[0].split("\n")
+        self.assertEqual(made[1], str(self.room / "made" / "a.deb"))
+        for it in map(pathlib.Path, made):
+            said = pathlib.Path(f"{it}.sha256").read_text(encoding="utf-8")
+            self.assertEqual(said, f"{hashlib.sha256(it.read_bytes()).hexdigest()}  {it.name}\n")
+
+    def test_packages_with_faults(self):
+        with mock.patch.object(packages, "make", self.make_packages), mock.patch.object(package_trial, "faults", lambda path: [f"{path.name}: bad"]):
+            self.assertEqual(self.release(has_packages=True)[0], "release.py: nothing is released: a.deb: bad")
+        with mock.patch.object(packages, "missing", lambda _: ["npm"]):
+            self.assertEqual(self.release(has_packages=True)[0], "release.py: nothing is released: npm isn't there")
+        self.assertFalse((self.room / "made").exists())
 
     def test_nothing_is_released(self):
         for path, data, why in ((release_trial.PROGRAM, b"", f"{release_trial.PROGRAM} has 0 bytes"), ("page/sfi.wasm", b"", "page/sfi.wasm has 0 bytes"),

@@ -20,6 +20,11 @@ class Version(unittest.TestCase):
             with self.subTest(file=place[0]):
                 self.assertEqual(int(version.stated(place)[1][1], 0), major * 65536 + minor * 256 + patch)
 
+    def test_each_package_has_the_name(self):
+        for place in version.NAMES:
+            with self.subTest(file=place[0]):
+                self.assertEqual(version.stated(place)[1][1], version.NAME)
+
     def test_the_number_of_a_version(self):
         self.assertEqual(version.number_of("1.2.34"), "0x010222")
         self.assertRaises(SystemExit, version.number_of, "0.256.0")
@@ -36,7 +41,7 @@ class Version(unittest.TestCase):
 
 class Pages(unittest.TestCase):
     def test_each_option_is_in_the_manual(self):
-        for tool in ("sfi-cc", "sfi-exec", "sfi-gdb", "sfi-image", "sfi-library", "sfi-move", "sfi-trace"):
+        for tool in ("sfi-cc", "sfi-check", "sfi-exec", "sfi-gdb", "sfi-image", "sfi-library", "sfi-map", "sfi-move", "sfi-trace"):
             said = subprocess.run([TOOLS / tool, "--help"], capture_output=True, text=True, check=True).stdout
             page = (version.TOP / "docs" / f"{tool}.1").read_text(encoding="utf-8").replace("\\-", "-")
             for option in set(re.findall(r"^  (-[\w-]+)", said, re.MULTILINE)) - {"-h"}:

@@ -5,13 +5,15 @@
 
 The version is that of the program, `VERSION` in crates/sfi_command/src/commands.rt. A header, a package or a page can't read
 it there, so each has a copy of its own: PLACES lists them all, and a test compares them. NUMBERS lists where it is one
-number, for a program to compare: 65536 for each major version, 256 for each minor and 1 for each patch.
+number, for a program to compare: 65536 for each major version, 256 for each minor and 1 for each patch. NAMES lists where
+the name of the packages stands.
 """
 import pathlib
 import re
 import sys
 
 TOP = pathlib.Path(__file__).resolve().parent.parent
+NAME = "suygapid"  # by which each package is installed; in programs for Python and Rust it is called sfi_run
 FIRST = ("crates/sfi_command/src/commands.rt", r'pub const VERSION: &str = "(.*)";')
 PLACES = [
     FIRST,
@@ -21,18 +23,30 @@ PLACES = [
     ("bindings/python/pyproject.toml", r'^version = "(.*)"'),
     ("bindings/python/sfi_run/__init__.py", r'^__version__ = "(.*)"'),
     ("bindings/rust/Cargo.toml", r'^version = "(.*)"'),
-    ("bindings/rust/Cargo.lock", r'^name = "sfi-run"\nversion = "(.*)"'),
+    ("bindings/rust/Cargo.lock", r'^name = "suygapid"\nversion = "(.*)"'),
     ("bindings/node/package.json", r'^  "version": "(.*)"'),
+    ("device/rust/Cargo.toml", r'^version = "(.*)"'),
+    ("device/rust/Cargo.lock", r'^name = "sfi_device"\nversion = "(.*)"'),
     ("bindings/node/library.mjs", r'^export const VERSION = "(.*)"'),
+    ("README.md", r"--path suygapid-(\d+\.\d+\.\d+)"),
     ("docs/sfi.1", r'^\.TH .* "Suygapid (.*)" '),
     ("docs/sfi-cc.1", r'^\.TH .* "Suygapid (.*)" '),
+    ("docs/sfi-check.1", r'^\.TH .* "Suygapid (.*)" '),
+    ("docs/sfi-corpus.1", r'^\.TH .* "Suygapid (.*)" '),
     ("docs/sfi-exec.1", r'^\.TH .* "Suygapid (.*)" '),
     ("docs/sfi-gdb.1", r'^\.TH .* "Suygapid (.*)" '),
     ("docs/sfi-image.1", r'^\.TH .* "Suygapid (.*)" '),
+    ("docs/sfi-map.1", r'^\.TH .* "Suygapid (.*)" '),
     ("docs/sfi-move.1", r'^\.TH .* "Suygapid (.*)" '),
     ("docs/sfi-library.1", r'^\.TH .* "Suygapid (.*)" '),
     ("docs/sfi-trace.1", r'^\.TH .* "Suygapid (.*)" '),
     ("CHANGELOG.md", r"^## (\d+\.\d+\.\d+)"),
+]
+NAMES = [
+    ("bindings/python/pyproject.toml", r'^name = "(.*)"'),
+    ("bindings/rust/Cargo.toml", r'^name = "(.*)"'),
+    ("bindings/rust/Cargo.lock", r'^name = "(.*)"'),
+    ("bindings/node/package.json", r'^  "name": "(.*)"'),
 ]
 NUMBERS = [
     ("crates/sfi_c/src/version.rt", r"\bVERSION_NUMBER: u32 = (.*);"),

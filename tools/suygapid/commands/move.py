@@ -58,7 +58,8 @@ def moved(content, options):
     try:
         return ran([options.program, *words], content)[0]
     except Failed as failed:
-        told = failed.told.decode("utf-8", "replace").splitlines() or [str(failed)]
+        lines = failed.told.decode("utf-8", "replace").splitlines()
+        told = [it for it in lines if not it.startswith("<stdin>:")] or [str(failed)]  # the fault, and not its sentence
         raise Wrong(told[0] + reason(content, options.sandbox, options.at)) from failed
 
 

@@ -1,5 +1,5 @@
 """Runs a program with the console's services, and shows what it does: each instruction, each call, what it comes by at
-breakpoints, or where its steps go.
+breakpoints, or where its steps go, also as a picture.
 
     tools/sfi-trace [OPTIONS] IMAGE.hex | TEXT.s | PROGRAM.elf | FILE.c .. [OPTIONS OF sfi-cc]
 
@@ -7,10 +7,12 @@ An image has no names; those of a source text are its labels; C is compiled by t
 what sfi-cc linked with -g. The last lines are those of `sfi run`. docs/C.md says more.
 """
 import argparse
+import os
 import sys
 
 import sfi_run
 from suygapid.commands.options import add_program, digits
+from suygapid.pictures.flame import Flame, write
 from suygapid.trace.programs import Failed, program
 from suygapid.trace.tracing import Breaks, Calls, Instructions, Profile, Tracer
 
@@ -30,6 +32,8 @@ def parsed(words):
                       help="prints the instruction and the registers each time that it comes by a name, an address, or FILE:LINE of C")
     what.add_argument("--profile", choices=["function", "line", "instruction"], metavar="BY",
                       help="prints how many steps each function, line or instruction takes")
+    what.add_argument("--flame", metavar="NAME",
+                      help="writes how many steps functions take by the calls to them: a picture, NAME.svg, and NAME.speedscope.json")
     parser.add_argument("--every", type=count, default=1, metavar="N", help="the profile counts one in N steps, which is faster")
     parser.add_argument("--steps", type=count, default=1000000, metavar="N", help="the most steps of a sandbox; 1000000 if absent")
     parser.add_argument("--quantum", type=count, default=1000, metavar="Q", help="the most steps of a turn; 1000 if absent")
@@ -42,6 +46,8 @@ def parsed(words):
 
 
 def watch_of(options, shown, say, several):
+    if options.flame:
+        return Flame(shown)
     if options.profile:
         return Profile(say, several, shown, options.profile, options.every)
     if options.places:
@@ -58,6 +64,8 @@ def traced(words):
             watch = watch_of(options, shown, print, len(world) > 1)
             for line in Tracer(world, options.input, watch).run(options.steps, options.quantum):
                 print(line)
+        if options.flame:
+            write(watch, os.path.basename(next(it for it in files if not it.startswith("-"))), options.flame)
     except BrokenPipeError:
         raise
     except (Failed, OSError, sfi_run.Refused, sfi_run.NoImage) as error:

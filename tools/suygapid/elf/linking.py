@@ -141,7 +141,7 @@ def words_of(options, libraries, objects, folder):
     made = runtime.folder_of(options.target)
     named = [*(f"-L{place}" for place in options.folders), *(f"-l{name}" for name in options.libraries)]
     archives = [path for path in objects if path.endswith(".a")]
-    names = Names(options, objects)
+    names = Names(options, [*objects, *libraries.archives])
     main = ["libplugin.a"] if names.exports else []  # where a host calls functions, there need be no other
     own = [os.path.join(made, name) for name in ("libruntime.a", "libgates.a", "libmovable.a", *main)]
     heap = [os.path.join(made, "heap_checks.o"), "--wrap=exit_with"] if options.target.is_checking and libraries.have_heap else []

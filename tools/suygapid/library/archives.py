@@ -10,15 +10,16 @@ from suygapid.cc.compilers import ASSEMBLY, HOSTED, Failed
 from suygapid.elf.runtime import ingredients
 from suygapid.elf.tools import Target, archived, assembled, rewritten_into
 from suygapid.kept import kept
-from suygapid.library import newlib, plus_plus, small_library, softfloat
+from suygapid.library import files, newlib, plus_plus, small_library, softfloat
 from suygapid.library.sources import GCC_SOURCE
 
 ARCHIVE = "library.a"
 MANY = 40  # files of assembly: to convert more takes long
 SMALL = "small"  # what a program has that asks for a library and names none
-# What makes the folders of a name, by a compiler, in the order in which headers are looked for.
+# What makes the folders of a name, by a compiler, in the order in which headers and functions are looked for.
 NAMED: dict[str, Sequence[Callable[[str], str]]] = {
-    "newlib": [newlib.folder_of], "c++": [plus_plus.folder_of, newlib.folder_of], SMALL: [small_library.folder_of]}
+    "files": [files.folder_of, newlib.folder_of], "newlib": [newlib.folder_of], "c++": [plus_plus.folder_of, newlib.folder_of],
+    SMALL: [small_library.folder_of]}
 
 
 def assembly_of(folder: str) -> list[str]:
@@ -63,9 +64,12 @@ def archive_of(folder: str, target: Target) -> str:
 
 
 def folders_of(libraries: Iterable[str], compiler: str) -> list[str]:
-    """The folders of libraries that are named, or given as folders."""
-    found = [[folder_of(compiler) for folder_of in NAMED[library]] if library in NAMED else [library] for library in libraries]
-    return list(dict.fromkeys(folder for folders in found for folder in folders))
+    """The folders of libraries that are named, or given as folders: `files` first, since it has its own of some of newlib's
+    functions, and one that several want behind all of these."""
+    ordered = sorted(libraries, key=lambda library: library != "files")
+    found = [folder for library in ordered
+             for folder in ([folder_of(compiler) for folder_of in NAMED[library]] if library in NAMED else [library])]
+    return list(dict.fromkeys(reversed(found)))[::-1]
 
 
 def headers(libraries: Sequence[str]) -> list[str]:

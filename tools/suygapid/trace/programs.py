@@ -1,4 +1,5 @@
 """An image with the names and the lines of what it was made of: `sfi dis`, `sfi map` and sfi-cc's ELF file tell them."""
+import functools
 import os
 import re
 import subprocess
@@ -66,6 +67,17 @@ class Program:
         """What an instruction belongs to."""
         number = bisect_right(self.functions, (address, "\x7f")) - 1
         return FunctionLine(self.functions[number][1]) if number >= 0 else FunctionLine(f"{address:08x}")
+
+    @functools.cached_property
+    def starts(self):
+        """The first addresses of functions."""
+        return {at for at, _ in self.functions}
+
+    def told(self, function):
+        """A function's name, and where it is known its file and first line, as speedscope has them."""
+        at = next((it for it, name in self.functions if name == function), None)
+        path, _, line = self.place(at).line.rpartition(":") if at is not None else ("", "", "")
+        return {"name": function, "file": path, "line": int(line)} if path else {"name": function}
 
     def label(self, address):
         """The name of a gate or label at an address, or nothing."""

@@ -1,0 +1,151 @@
+"""Tries packages as those who install them do: each in an empty folder, with nothing of this repository, of its toolchain or from
+a network. What is installed has to say of the smallest image, which is 64 times ebreak, by which cause it traps."""
+import os
+import pathlib
+import shutil
+import subprocess
+import sys
+import tarfile
+import tempfile
+
+import installed
+import release_trial
+import version
+
+IMAGE = bytes.fromhex((installed.TOP / release_trial.SMALLEST).read_text(encoding="ascii"))
+COMPLETIONS = ("bash-completion/completions/sfi", "zsh/vendor-completions/_sfi", "fish/vendor_completions.d/sfi.fish")
+PYTHON = """
+import importlib.metadata, pathlib, sfi_run, sys
+assert (pathlib.Path(sfi_run.__file__).parent / "py.typed").is_file(), "py.typed isn't there"
+assert importlib.metadata.version("suygapid") == sfi_run.__version__, "the versions differ"
+print(sfi_run.World(sys.stdin.buffer.read())[0].turn(5).cause.name)
+"""
+NODE = """
+import { readFileSync } from "node:fs";
+import { load } from "suygapid";
+const about = JSON.parse(readFileSync("node_modules/suygapid/package.json"));
+readFileSync(`node_modules/suygapid/${about.exports["."].types}`);
+console.log((await load(readFileSync(0))).sandboxes[0].turn(5).cause);
+"""
+RUST = """
+use std::io::Read;
+
+fn main() -> Result<(), Box<dyn std::error::Error>> {
+    let mut image = Vec::new();
+    std::io::stdin().read_to_end(&mut image)?;
+    let mut world = sfi_run::World::load(&image)?;
+    println!("{:?}", world.sandbox(0).unwrap().turn(5));
+    Ok(())
+}
+"""
+CMAKE = """\
+cmake_minimum_required(VERSION 3.16)
+project(host C)
+find_package({name} {version} CONFIG REQUIRED)
+foreach(kind IN ITEMS sfi_run sfi_run_static)
+  add_executable(${{kind}} host.c)
+  target_link_libraries(${{kind}} {name}::${{kind}})
+endforeach()
+"""
+
+
+class Fault(Exception):
+    """What is wrong with a package."""
+
+
+def environment(room, **more):
+    """The variables of an environment that knows nothing of this repository."""
+    kept = {name: value for name, value in os.environ.items() if not name.startswith(("SFI", "PYTHON", "CMAKE", "PKG_CONFIG", "npm_"))}
+    return {**kept, "PYTHONDONTWRITEBYTECODE": "1", "CARGO_HOME": f"{room}/cargo", "npm_config_cache": f"{room}/npm", **more}
+
+
+def run(room, *words, given=b"", **more):
+    """What a command prints on standard output."""
+    done = subprocess.run(words, cwd=room, input=given, capture_output=True, check=False, env=environment(room, **more))
+    if done.returncode:
+        said = (done.stderr or done.stdout).decode(errors="replace").strip().splitlines()
+        raise Fault(f"{pathlib.Path(words[0]).name} fails: {said[-1] if said else f'status {done.returncode}'}")
+    return done.stdout.decode(errors="replace")
+
+
+def hold(said, wanted, what):
+    if wanted not in said:
+        raise Fault(f"{what} says {said.strip()!r}, not {wanted!r}")
+
+
+# ---- the trials, each in the empty folder `room`
+
+def wheel(path, room):
+    run(room, sys.executable, "-m", "venv", "mine")
+    run(room, room / "mine" / "bin" / "pip", "install", "--quiet", "--no-index", "--disable-pip-version-check", path)
+    hold(run(room, room / "mine" / "bin" / "python", "-c", PYTHON, given=IMAGE, HOME=str(room)), "BREAK", "the package for Python")
+
+
+def tarball(path, room):
+    (room / "package.json").write_text("{}", encoding="utf-8")
+    run(room, "npm", "install", "--offline", "--no-audit", "--no-fund", path)
+    hold(run(room, "node", "--input-type=module", "-e", NODE, given=IMAGE), "Break", "the package for node")
+
+
+def crate(path, room):
+    with tarfile.open(path) as tar:
+        tar.extractall(room, filter="data")
+    name = path.name.removesuffix(".crate")
+    about = f'[package]\nname = "host"\nversion = "1.0.0"\nedition = "2021"\n[dependencies]\n{version.NAME} = {{ path = "{name}" }}\n'
+    (room / "src").mkdir()
+    (room / "Cargo.toml").write_text(about, encoding="utf-8")
+    (room / "src" / "main.rs").write_text(RUST, encoding="utf-8")
+    hold(run(room, "cargo", "run", "--quiet", "--offline", given=IMAGE), "Break", "the crate")
+
+
+def debian(path, room):
+    hold(run(room, "dpkg-deb", "--field", path, "Package", "Version"), version.version(), "the package for Debian")
+    run(room, "dpkg-deb", "--extract", path, room)
+    usr = room / "usr"
+    hold(run(room, usr / "bin" / "sfi", "check", given=IMAGE), release_trial.ACCEPTED, "the program")
+    for tool in installed.TOOLS:
+        run(room, usr / "bin" / tool, "--help")
+    for place in (*(f"man/man1/{page}" for page in installed.PAGES), *COMPLETIONS):
+        if not (usr / "share" / place).is_file():
+            raise Fault(f"usr/share/{place} isn't there")
+    (room / "host.c").write_text(release_trial.HOST, encoding="utf-8")
+    by_package(room, usr)
+    by_cmake(room, usr)
+
+
+def by_package(room, usr):
+    """A host that pkg-config's words compile and link."""
+    words = run(room, "pkg-config", "--cflags", "--libs", "sfi_run", PKG_CONFIG_PATH=f"{usr}/lib/pkgconfig").split()
+    run(room, "gcc", "-Wall", "-Wextra", "-Werror", "host.c", "-o", "host", *words, f"-Wl,-rpath,{usr}/lib")
+    hold(run(room, room / "host", given=IMAGE), "Break", "a host by pkg-config")
+
+
+def by_cmake(room, usr):
+    """The same host as CMake links it with each library."""
+    (room / "CMakeLists.txt").write_text(CMAKE.format(name=version.NAME, version=version.version()), encoding="utf-8")
+    run(room, "cmake", "-S", ".", "-B", "build", f"-DCMAKE_PREFIX_PATH={usr}")
+    run(room, "cmake", "--build", "build")
+    for name in ("sfi_run", "sfi_run_static"):
+        hold(run(room, room / "build" / name, given=IMAGE), "Break", f"a host by CMake, with {name},")
+
+
+TRIALS = {".whl": (wheel, ()), ".tgz": (tarball, ("npm", "node")), ".crate": (crate, ("cargo", "cc", "ar")),
+          ".deb": (debian, ("dpkg-deb", "pkg-config", "gcc", "cmake"))}
+
+
+def missing(ending):
+    """The commands by which a package with this ending is tried and that aren't there."""
+    return [it for it in TRIALS[ending][1] if not shutil.which(it)]
+
+
+def faults(path):
+    """What is wrong with a package, or with this machine, on which it can't be tried."""
+    lacking = missing(path.suffix)
+    if lacking:
+        return [f"{' and '.join(lacking)} isn't there, by which {path.name} is tried"]
+    with tempfile.TemporaryDirectory() as room:
+        try:
+            TRIALS[path.suffix][0](path, pathlib.Path(room))
+        except Fault as fault:
+            return [f"{path.name}: {fault}"]
+    return []

@@ -1,0 +1,137 @@
+"""Tests of tools/packages.py: `tools/unit_tests.py tools test_packages.py`. Each package is installed and used in an empty folder,
+by tools/package_trial.py, which also has to tell what was damaged. They are skipped where what the packages are made of isn't built."""
+import io
+import pathlib
+import shutil
+import subprocess
+import tarfile
+import tempfile
+import unittest
+import zipfile
+
+import package_trial
+import packages
+import runtime_file
+import version
+from testing import needs
+
+MAKERS = {".whl": packages.wheel, ".tgz": packages.tarball, ".crate": packages.crate, ".deb": packages.debian}
+
+
+def rezipped(path, target, change):
+    """A copy of a wheel, each file of which `change` gives or leaves out, by its name and bytes."""
+    with zipfile.ZipFile(path) as old, zipfile.ZipFile(target, "w") as new:
+        for name in old.namelist():
+            data = change(name, old.read(name))
+            if data is not None:
+                new.writestr(name, data)
+
+
+def repacked(path, target, change):
+    """The same of a tar file."""
+    with tarfile.open(path) as old, tarfile.open(target, "w:gz") as new:
+        for entry in old:
+            data = change(entry.name, old.extractfile(entry).read())
+            if data is not None:
+                entry.size = len(data)
+                new.addfile(entry, io.BytesIO(data))
+
+
+def without(place):
+    return lambda name, data: None if name.endswith(place) else data
+
+
+def emptied(place):
+    return lambda name, data: b"" if name.endswith(place) else data
+
+
+class Packages(unittest.TestCase):
+    @classmethod
+    def setUpClass(cls):
+        room = tempfile.TemporaryDirectory()
+        cls.addClassCleanup(room.cleanup)
+        cls.room, cls.made = pathlib.Path(room.name), {}
+
+    def package(self, ending):
+        """The package with this ending, made once."""
+        if ending == ".crate" and not runtime_file.is_fresh(runtime_file.TARGET):
+            self.skipTest("suygapid_run.c isn't made, or older than a source: tools/runtime_file.py")
+        lacking = packages.missing(MAKERS[ending])
+        if lacking:
+            self.skipTest(f"{' and '.join(lacking)} isn't there")
+        if ending not in self.made:
+            self.made[ending] = MAKERS[ending](self.room)
+        return self.made[ending]
+
+    def tried(self, path, said=None):
+        """Tries a package, of which this has to be said, or nothing."""
+        lacking = package_trial.missing(path.suffix)
+        if lacking:
+            self.skipTest(f"{' and '.join(lacking)} isn't there")
+        found = package_trial.faults(path)
+        self.assertEqual([it.partition(": ")[2][:len(said or "")] for it in found], [said] if said else [], found)
+
+    def damaged(self, ending, change):
+        """The package with something changed by one of the functions above."""
+        path = self.package(ending)
+        (self.room / "damaged").mkdir(exist_ok=True)
+        target = self.room / "damaged" / path.name
+        (rezipped if ending == ".whl" else repacked)(path, target, change)
+        return target
+
+    def test_names(self):
+        found = sorted(self.package(it).name for it in MAKERS)
+        whole = f"{version.NAME}-{version.version()}"
+        self.assertEqual(found, sorted([f"{whole}-py3-none-manylinux_2_34_x86_64.whl", f"{whole}.tgz", f"{whole}.crate",
+                                        f"{version.NAME}_{version.version()}_amd64.deb"]))
+
+    def test_the_wheel(self):
+        self.tried(self.package(".whl"))
+
+    def test_the_tarball(self):
+        self.tried(self.package(".tgz"))
+
+    def test_the_crate(self):
+        self.tried(self.package(".crate"))
+
+    def test_the_package_for_debian(self):
+        self.tried(self.package(".deb"))
+
+    def test_damages(self):
+        for ending, change, said in ((".whl", without("/py.typed"), "python fails: AssertionError: py.typed isn't there"),
+                                     (".whl", without(".so"), "python fails: OSError"),
+                                     (".tgz", emptied(".wasm"), "node fails"), (".tgz", without(".d.mts"), "node fails"),
+                                     (".crate", without(".c"), "cargo fails")):
+            with self.subTest(said, ending=ending):
+                self.tried(self.damaged(ending, change), said)
+
+    def test_a_damaged_package_for_debian(self):
+        path = self.package(".deb")
+        for place, said in (("usr/include/sfi.h", "gcc fails"), ("usr/lib/cmake", "cmake fails"), ("usr/lib/pkgconfig/sfi_run.pc", "pkg-config fails"),
+                            ("usr/share/man/man1/sfi-cc.1", "usr/share/man/man1/sfi-cc.1 isn't there"), ("usr/share/zsh", "usr/share/zsh/vendor-completions/_sfi isn't there"), ("usr/share/suygapid/tools/suygapid", "sfi-cc fails")):
+            with self.subTest(said), tempfile.TemporaryDirectory() as room:
+                subprocess.run(["dpkg-deb", "--raw-extract", path, f"{room}/all"], check=True)
+                gone = pathlib.Path(room) / "all" / place
+                shutil.rmtree(gone) if gone.is_dir() else gone.unlink()
+                subprocess.run(["dpkg-deb", "-Znone", "--build", f"{room}/all", f"{room}/{path.name}"], check=True, stdout=subprocess.DEVNULL)
+                self.tried(pathlib.Path(room) / path.name, said)
+
+    def test_the_same_files_make_the_same_bytes(self):
+        for ending, maker in MAKERS.items():
+            with self.subTest(ending), tempfile.TemporaryDirectory() as room:
+                made = self.package(ending).read_bytes()
+                self.assertEqual(maker(pathlib.Path(room)).read_bytes(), made)
+
+    @needs("pip")
+    def test_what_pip_says_of_the_wheel(self):
+        """It names the types, and installs for the machine that the wheel is for alone."""
+        with zipfile.ZipFile(self.package(".whl")) as archive:
+            told = archive.read(f"{version.NAME}-{version.version()}.dist-info/METADATA").decode()
+        self.assertIn("\nClassifier: Typing :: Typed\n", told)
+        done = subprocess.run(["pip", "download", "--quiet", "--no-index", "--no-deps", "--platform", "manylinux_2_28_x86_64", "--only-binary", ":all:",
+                               "--dest", self.room / "none", self.package(".whl")], capture_output=True, text=True, check=False)
+        self.assertIn("is not a supported wheel on this platform", done.stderr)
+
+
+if __name__ == "__main__":
+    unittest.main()
