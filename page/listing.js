@@ -146,6 +146,7 @@ function list() {
     box.scrollTop = top;
     if ($("more")) $("more").onclick = () => { now.limit += 4 * MOST_ROWS; list(); };
     if (now.caret === null) showPc();
+    drawProfile();
 }
 
 // Scrolls to the instruction that comes next.

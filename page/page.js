@@ -39,9 +39,10 @@ function build() {
     const made = isImage(now.text) ? { status: 0, text: now.text } : timed("build", () => tool.answer(["build"], now.text));
     number(made.status ? +(/ line (\d+)/.exec(made.text) || [0, 0])[1] : 0);
     $("fault").hidden = !made.status;
-    $("fault").textContent = made.text.trim();
+    $("fault").textContent = made.status ? explained(made.text.trim(), now.text) : "";
     $("listing").classList.toggle("stale", made.status !== 0);
-    if (made.status) return show({ kind: "fault", text: made.text.trim() });
+    $("save").disabled = made.status !== 0;
+    if (made.status) return refuse(made.text.trim());
     now.image = bytesOf(made.text);
     now.built = now.image.slice();
     now.typed = new Set();
@@ -50,6 +51,13 @@ function build() {
     now.sandboxes = [];
     setCaret(null);
     return judge();
+}
+
+// Of a text with a fault nothing runs: the image that is shown is that of an earlier one.
+function refuse(fault) {
+    now.going++;
+    allowRuns();
+    show({ kind: "fault", text: fault });
 }
 
 // The verdict on the image as it is now, its listing, and a world of it.
@@ -80,7 +88,7 @@ function show(verdict) {
     box.className = verdict.kind;
     box.dataset.text = box.title = verdict.text;
     box.firstChild.textContent = accepted ? `✓ Accepted: ${counted(accepted[1], "sandbox", "sandboxes")}, ${counted(accepted[2], "bundle", "bundles")}`
-        : refused ? `✗ Refused: ${counted(refused[1], "finding", "findings")}, the first of ${refused[2]}` : `✗ ${verdict.text}`;
+        : refused ? `✗ Refused: ${counted(refused[1], "finding", "findings")}, the first of ${refused[2]}` : `✗ ${explained(verdict.text, now.text)}`;
     box.lastChild.textContent = verdict.kind === "fault" ? "" : `judged in ${now.times.check.toFixed(1)} ms`;
 }
 
@@ -105,6 +113,26 @@ function setText(text, input = "") {
     $("source").value = text;
     $("source").scrollTop = $("listing").scrollTop = 0;
     build();
+}
+
+// What an address says behind its #: an example's name, or a text and an input.
+function openAddress(hash) {
+    if (!hash.startsWith("text=")) return pick(decodeURIComponent(hash));
+    const [text, input] = hash.slice("text=".length).split("&input=").map(decodeURIComponent);
+    $("pick").selectedIndex = -1;
+    return setText(text, input);
+}
+
+function link() {
+    history.replaceState(null, "", `#text=${encodeURIComponent(now.text)}&input=${encodeURIComponent($("input").value)}`);
+}
+
+function save() {
+    const to = make("a");
+    to.href = URL.createObjectURL(new Blob([now.image]));
+    to.download = "sandbox.image";
+    to.click();
+    URL.revokeObjectURL(to.href);
 }
 
 function pick(name) {
@@ -132,7 +160,9 @@ function listenToPage() {
     $("format").onchange = () => setFormat($("format").value);
     $("ask").onclick = () => $("about").showModal();
     $("pick").onchange = () => { location.hash = $("pick").value; };
-    addEventListener("hashchange", () => pick(decodeURIComponent(location.hash.slice(1))));
+    $("link").onclick = link;
+    $("save").onclick = save;
+    addEventListener("hashchange", () => openAddress(location.hash.slice(1)));
     $("file").onchange = () => { if ($("file").files[0]) openFile($("file").files[0]); $("file").value = ""; };
     $("opener").onkeydown = (event) => { if (event.key === "Enter" || event.key === " ") $("file").click(); };
     for (const name of ["dragover", "drop"]) addEventListener(name, (event) => {
@@ -173,7 +203,7 @@ async function start() {
         return show({ kind: "fault", text: `sfi.wasm doesn't run here: ${error.message}` });
     }
     tool = new Tool(sfi);
-    pick(decodeURIComponent(location.hash.slice(1)));
+    openAddress(location.hash.slice(1));
     now.times.load = performance.now() - begun;
     document.body.dataset.ready = "yes";
     return undefined;

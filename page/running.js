@@ -17,9 +17,13 @@ function restart() {
     $("which").replaceChildren(...Array.from({ length: count }, (_, i) => new Option(`sandbox ${i}`, i)));
     $("which").hidden = count < 2;
     $("which").value = now.which;
-    for (const id of CONTROLS) $(id).disabled = now.world.status !== 0;
+    allowRuns();
     tell();
     list();
+}
+
+function allowRuns() {
+    for (const id of CONTROLS) $(id).disabled = !now.world || now.world.status !== 0 || !$("fault").hidden;
 }
 
 function stateText(event, pc) {
@@ -76,8 +80,8 @@ function showOutput(world, i) {
 
 function dataLine(region, data, row, changed) {
     const bytes = Array.from(data.subarray(row * 16, row * 16 + 16));
-    const digits = bytes.map((byte, k) => `<b class="${changed.has(row * 16 + k) ? "changed" : byte ? "" : "zero"}">${HEX[byte]}</b>${k === 7 ? " " : ""}`);
-    return `<div><u>${hex8(region.base + row * 16)}</u>  ${digits.join(" ")}  ${escaped(bytes.map(shown).join(""))}</div>`;
+    const digits = bytes.map((byte, k) => `<b class="${changed.has(row * 16 + k) ? "changed" : byte ? "" : "zero"}">${HEX[byte]}</b>${k % 4 === 3 ? " " : ""}`);
+    return `<div><u>${hex8(region.base + row * 16)}</u> ${digits.join("")}${escaped(bytes.map(shown).join(""))}</div>`;
 }
 
 // The first rows, those that hold anything, that changed, and that of the stack pointer.

@@ -33,6 +33,15 @@ ROWS = r"""[...document.querySelectorAll('.row.code')].map((row) => [row.querySe
     row.querySelector('.bytes').textContent.replace(/\s/g, ''), row.querySelector('.asm').firstChild.textContent])"""
 HIDDEN = "[...document.querySelectorAll('[data-rows]')].reduce((sum, it) => sum + +it.dataset.rows, 0)"
 FIELDS = r"[...document.querySelectorAll('.row.field .bytes')].map((it) => [+it.dataset.offset, it.textContent.replace(/\s/g, '')])"
+# A text, and what the page says of its fault.
+FAULTS = [
+    (".sandbox 256\nhere:  lbx a0, 0(a1)  # no such\n", "source:2:8: unknown word 'lbx'"),
+    (".sandbox 256\n\tlw a0, 4096(a1)\n", "source:2:2: a number, in its range, is expected: 'lw a0, 4096(a1)'"),
+    (".sandbox 256\n  j nowhere\n", "source:2:5: no label or gate has the name 'nowhere'"),
+    (".sandbox 256\na: nop\na: nop\n", "source:3:1: this sandbox already has a label or gate 'a'"),
+    (".data\n", "source:1:1: this may not stand here, or there is no .sandbox before it: '.data'"),
+    ("#include <stdio.h>\nint main(void) { return 0; }\n", "source:1:1: this is no assembly: tools/sfi-cc makes an image of C"),
+]
 FINDINGS = "document.querySelectorAll('.finding').length"
 VERDICT = "$('verdict').dataset.text"
 LINES = """((rounds) => { const world = new World(sfi, now.image, utf8.encode($('input').value));
@@ -117,6 +126,10 @@ def try_run(page, program, what, image):
     expect(f"{what}: the button Run", page.value("now.world.lines()"), last)
     steps = sum(int(it) for it in re.findall(r"steps=(\d+)", last))
     expect(f"{what}: steps of the profile", page.value("[...now.counts.values()].reduce((a, b) => a + b, 0)"), steps)
+    expect(f"{what}: steps by names", page.value("stepsByName().reduce((a, b) => a + b.steps, 0)"), steps)
+    names = page.value("[...$('profile').querySelectorAll('b')].map((it) => it.textContent)")
+    expect(f"{what}: names of the profile", names, page.value("stepsByName().slice(0, MOST_PROFILED)"
+                                                              ".map((it) => (now.sandboxes.length > 1 ? it.sandbox + ': ' : '') + it.name)"))
     output = bytes.fromhex(re.search(r"out=(\w*)$", last, re.MULTILINE)[1])  # of the first sandbox
     shown = page.value("$('console').textContent")
     expect(f"{what}: output shown", shown, output[-4000:].decode(errors="replace") or "nothing yet")
@@ -174,6 +187,25 @@ def try_hand(page, program):
     page.value("setText('.sandbox 256\\nbogus a0\\n')")
     expect("a fault's line is marked", page.value("$('numbers').querySelector('b').textContent"), "● 2")
     expect("a fault is shown", page.value(VERDICT), program.answer(["build"], ".sandbox 256\nbogus a0\n")[1].strip())
+    expect("nothing runs after a fault", page.value("['step', 'call', 'go', 'reset', 'save'].every((id) => $(id).disabled)"), True)
+    steps = page.value("now.world.steps(0)")
+    page.key("F10")
+    expect("nor by a key", page.value("now.world.steps(0)"), steps)
+    for text, said in FAULTS:
+        page.value(f"setText({json.dumps(text)})")
+        expect(f"what is said of {text!r}", page.value("$('fault').textContent").partition(" (")[0], said)
+    page.value("setText('53 46 49 31')")
+    expect("what is said of a cut image", page.value("$('verdict').firstChild.textContent"), "✗ image: bytes are missing at the end (layout fault 3 Short)")
+    page.value("setText('.sandbox 256\\n  # 100 %\\nebreak\\n', 'a&b'), $('link').click()")
+    linked = page.value("[hexOf(now.image), now.text, location.hash]")
+    page.value(f"pick('primes'), openAddress({json.dumps(linked[2][1:])})")
+    expect("a link carries the text", page.value("[hexOf(now.image), now.text]"), linked[:2])
+    expect("a link carries the input", page.value("$('input').value"), "a&b")
+    page.resize(1280, 800)
+    page.value("pick('sort')")
+    expect("the data's letters are seen", page.value("$('data').scrollWidth <= $('data').clientWidth"), True)
+    expect("the source's pane", page.value("$('source').clientWidth > 250"), True)
+    page.resize(1500, 940)
     drop = "(async () => { const given = new DataTransfer(); given.items.add(new File([%s], 'x.image'));" \
         " dispatchEvent(new DragEvent('drop', { dataTransfer: given })); })()"
     for what, data in ("bytes", f"bytesOf('{image}')"), ("digits", f"'{image}'"):
@@ -194,7 +226,7 @@ def shoot(page, folder):
     }
     for name, does in stages.items():
         page.value(f"Promise.resolve(({does}, 0))")
-        page.wait("!now.world || now.world.status || !$('go').disabled")
+        page.wait("!now.world || now.world.status || !$('fault').hidden || !$('go').disabled")
         page.shot(os.path.join(folder, f"{name}.png"))
         page.value("$('about').close()")
     page.dark(True)
