@@ -32,7 +32,7 @@ import odd_images
 TOP = os.path.dirname(measure.HERE)
 LIBRARY = os.path.join(TOP, "crates", "sfi_c", "out", "libsfi_c.a")
 
-# The words of each are the folder, the number at a time, and the program. RECORDS is the command of docs/EMBEDDING.md.
+# The words of each are the folder, the number at a time, and the program.
 BY_PROCESS = """find "$1" -type f -print0 | xargs -0 -P"$2" -n1 sh -c 'exec "$0" check --raw < "$1"' "$3" """
 BY_THREADS = """find "$1" -type f -print0 | "$3" "$2" """
 BY_PARALLEL = """find "$1" -type f -print0 | parallel --pipe --recend '\\0' --max-args 250 --jobs "$2" "$3" 1"""

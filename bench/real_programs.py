@@ -2,15 +2,16 @@
 """The price of a sandbox to programs that people have: those of examples/c/programs.py with newlib, beside the same C
 without a sandbox.
 
-    bench/real_programs.py [--program PATH] [--format N ..] [--sources FOLDER] [NAME ..]
+    bench/real_programs.py [--program PATH] [--format N ..] [--sources FOLDER] [--builds] [NAME ..]
 
-Without a sandbox, GNU's assembler and linker make the program of the compiler's assembly and of newlib's, and
+--builds has the processor seconds of builds in the place of steps, without results that sfi-cc kept. Without a sandbox, GNU's assembler and linker make the program of the compiler's assembly and of newlib's, and
 interpreter.c runs it, as in compiled.py. In brackets are ratios, and the last row has their geometric means. The answers
 must be equal.
 """
 import argparse
 import glob
 import os
+import resource
 import subprocess
 import tempfile
 from concurrent.futures import ThreadPoolExecutor
@@ -25,6 +26,7 @@ from suygapid.kept import kept, root
 from suygapid.library.newlib import folder_of
 
 PRICED = ("lua", "bzip2", "zlib", "cjson")
+BUILT = ("lua", "mujs", "zstd", "sqlite")
 AS = ["-march=rv32imc", "-mabi=ilp32"]
 KEPT = ["ra", "sp", *(f"s{number}" for number in range(12))]  # by setjmp: the library's leaves out the sandbox's own registers
 SETJMP = "".join(f"{name}:\n" + "".join(f" {word} {register}, {4 * number}(a0)\n" for number, register in enumerate(KEPT)) + end
@@ -67,7 +69,7 @@ def objects_of(name, tree, folder, include):
         return [*pool.map(made, enumerate(programs.files_of(name, tree))), assembled(heap, heap + ".o")]
 
 
-def without_sandbox(name, tree, folder, interpreter):
+def without_sandbox(name, tree, folder):
     """The image of a program that the interpreter alone runs, and the bytes of its code."""
     library_folder, archive = library()
     script, start, linked = (os.path.join(folder, file) for file in ("script", "start.s", "plain.elf"))
@@ -85,7 +87,7 @@ def measured(name, options, interpreter, folder):
     tree = programs.tree_of(programs.PROGRAMS[name], options, folder)
     if tree is None:
         raise SystemExit(f"bench: the sources of {programs.PROGRAMS[name].package} aren't there")
-    plain, size = without_sandbox(name, tree, folder, interpreter)
+    plain, size = without_sandbox(name, tree, folder)
     path = measure.written(os.path.join(folder, "plain.image"), plain)
     made = {image_format: programs.built(name, tree, folder, image_format, options) for image_format in options.format}
     for given in programs.PROGRAMS[name].inputs.split():
@@ -101,6 +103,37 @@ def measured(name, options, interpreter, folder):
         yield row
 
 
+def processor_seconds(work):
+    """What the processes that some work starts take of processors."""
+    before = resource.getrusage(resource.RUSAGE_CHILDREN)
+    work()
+    after = resource.getrusage(resource.RUSAGE_CHILDREN)
+    return after.ru_utime + after.ru_stime - before.ru_utime - before.ru_stime
+
+
+def built(name, options, folder):
+    """A row: the seconds of gcc, as and ld for a program, and those of sfi-cc in each format."""
+    tree = programs.tree_of(programs.PROGRAMS[name], options, folder)
+    if tree is None:
+        raise SystemExit(f"bench: the sources of {programs.PROGRAMS[name].package} aren't there")
+    library()
+    plain = processor_seconds(lambda: without_sandbox(name, tree, folder))
+    row = [name, f"{plain:.1f}"]
+    for image_format in options.format:
+        words = [*programs.command_of(name, tree, folder, image_format, os.path.join(folder, "linked.elf")), "--no-cache"]
+        seconds = processor_seconds(lambda: subprocess.run(words, check=True))
+        row += [f"{seconds:.1f}", f"{seconds / plain:.2f}"]
+    return row
+
+
+def builds(options, folder):
+    print("| program | gcc, as, ld, s | " + " | ".join(f"sfi-cc, {it}, s | ratio" for it in options.format) + " |")
+    print("|---" * (2 + 2 * len(options.format)) + "|")
+    for name in options.names or BUILT:
+        os.mkdir(os.path.join(folder, name))
+        print("| " + " | ".join(built(name, options, os.path.join(folder, name))) + " |", flush=True)
+
+
 def table(rows, formats):
     print("| program, input | steps without | " + " | ".join(formats) + " | bytes without | " + " | ".join(formats) + " |")
     print("|---" * (3 + 2 * len(formats)) + "|")
@@ -112,13 +145,17 @@ def table(rows, formats):
 
 def main():
     parser = argparse.ArgumentParser()
-    parser.add_argument("names", nargs="*", default=PRICED)
+    parser.add_argument("names", nargs="*")
+    parser.add_argument("--builds", action="store_true")
     parser.add_argument("--program", default=measure.PROGRAM)
     parser.add_argument("--format", action="append", choices=programs.FORMATS)
     parser.add_argument("--sources", default=os.path.join(root(), "sources"))
     options, options_given = parser.parse_known_args()
     options.given, options.fetch, options.format = options_given, False, options.format or ["words"]
     with tempfile.TemporaryDirectory() as folder:
+        if options.builds:
+            return builds(options, folder)
+        options.names = options.names or PRICED
         interpreter = measure.compiled("interpreter.c", os.path.join(folder, "interpreter"))
         rows = []
         for name in options.names:
@@ -129,6 +166,7 @@ def main():
         by_program = [mean([row[2 + number].steps / row[1].steps for row in rows if row[0].startswith(name + ",")])
                       for name in options.names]
         print(f"geometric mean of programs, steps, format {image_format}: {mean(by_program):.3f}")
+    return None
 
 
 if __name__ == "__main__":

@@ -77,6 +77,7 @@ def commands(program):
         (["move", "--at", "20500000:80000000", "--raw"], raw),
         (["move", "--at", "20500000:80000000"], bare),
         (["translate", "--whole"], bare),
+        (["native"], bare),
         (["frob"], b""),
         (["--help"], b""),
     ]

@@ -2,14 +2,16 @@
 """How fast translated images are: the programs of examples/c and four kernels (kernels.c), by `sfi translate` and gcc
 -O2, beside the same C by gcc -O2 alone, and by clang, wasm2c and gcc -O2.
 
-    bench/translated.py [--program PATH] [--rounds N] [--instructions] [--option OPTION ..] [--interpreted] [--peers] [NAME ..]
+    bench/translated.py [--program PATH] [--rounds N] [--instructions] [--option OPTION ..] [--interpreted] [--native] [--peers]
+                        [NAME ..]
 
 It wants sfi-cc's tools, and for wasm2c clang, wasm-ld and wabt. OPTION is one of gcc for the
 translations, such as -DSFI_PORTABLE. A program
 runs again and again over an input that is built in (repeat.c); it ends where the checksums differ. Processor seconds
 of the native program, each the least of N alternated runs, and of the others the ratios to it; then the text's bytes
 for an instruction. With --instructions, in place of seconds the x86 instructions that callgrind counts in a twentieth of the
-work, which other work on the machine doesn't change. With --interpreted, so of the same images by `sfi run`, which takes long. With --peers, so of the
+work, which other work on the machine doesn't change. With --interpreted, so of the same images by `sfi run`, which takes long. With --native, so by
+their native code. With --peers, so of the
 kernels by qemu-riscv32, by node (less its start), and by wabt's wasm-interp (of a hundredth of the work), each where it is.
 """
 import argparse
@@ -146,6 +148,17 @@ def translated(program, image_format, folder, options, for_gcc):
     return [path, *TURNS], lines
 
 
+def by_native_code(program, image_format, folder, lines):
+    """The words that run the native code of a translated image."""
+    source, path = measure.written(os.path.join(folder, "lines.c"), lines), os.path.join(folder, f"host.{image_format}")
+    code = call(program, "native", input=measure.contents(image_in(folder, image_format)))
+    file = measure.written(os.path.join(folder, f"{image_format}.native"), code)
+    included = ["-I", os.path.join(compiled.TOP, "crates/sfi_native/include"), "-I", INCLUDE]
+    host = os.path.join(compiled.TOP, "examples/native/sfi_console.c")
+    call("gcc", "-O1", "-std=gnu11", "-Wno-unused-function", *included, f'-DSFI_TEXT="{source}"', host, "-o", path)
+    return [path, file, *TURNS]
+
+
 def answer_of(output):
     """The checksum that a program prints, or exits with."""
     return re.search(r"(?:exit=)?(\d+)", output.split(" ", 1)[-1]).group(1)
@@ -171,6 +184,8 @@ def measured(program, name, given, folder):
     for image_format in FORMATS:
         words, texts[image_format] = translated(program, image_format, folder, options, given.option)
         ways[image_format] = words, os.devnull
+        if given.native:
+            ways[f"native {image_format}"] = by_native_code(program, image_format, folder, texts[image_format]), os.devnull
     if shutil.which("wasm2c") and shutil.which("clang"):
         ways["wasm2c"] = by_wasm2c(folder, options), os.devnull
     if name in KERNELS and given.peers:
@@ -208,6 +223,7 @@ def main():
     parser.add_argument("--instructions", action="store_true")
     parser.add_argument("--option", action="append", default=[])
     parser.add_argument("--interpreted", action="store_true")
+    parser.add_argument("--native", action="store_true")
     parser.add_argument("--peers", action="store_true")
     given = parser.parse_args()
     if given.instructions and (given.peers or given.interpreted):
