@@ -106,11 +106,6 @@ module _ (f : ℕ → Option ℕ) (number : ℕ) (shared : SharedNames) (s : San
   listed : is_unlisted shared ≡ false → tail_of f number shared s ≡ on_ok (table_of f texts shared) (bytes_within number (room_of s))
   listed h = ap (λ b. cond b (Ok []) (on_ok (table_of f texts shared) (bytes_within number (room_of s)))) h
 
-  -- the first fault of the exports, and of the imports
-  pub wrong_export : is_unlisted shared ≡ false → (g : TableFault) → entries_of f texts shared.exports ≡ Err g → tail_of f number shared s ≡ Err g
-  wrong_export h g e =
-      listed h ∙ ap (λ r. on_ok (on_ok r (λ exports. on_ok (entries_of f texts shared.imports) (λ imports. Ok (record { version = 0; exports = exports; imports = imports })))) (bytes_within number (room_of s))) e
-
   pub wrong_import : is_unlisted shared ≡ false → (es : List Named) (g : TableFault) → entries_of f texts shared.exports ≡ Ok es → entries_of f texts shared.imports ≡ Err g → tail_of f number shared s ≡ Err g
   wrong_import h es g e i =
       listed h ∙ (λ k. on_ok (on_ok (e k) (λ exports. on_ok (i k) (λ imports. Ok (record { version = 0; exports = exports; imports = imports })))) (bytes_within number (room_of s)))

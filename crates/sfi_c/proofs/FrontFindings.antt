@@ -61,15 +61,15 @@ record IsSame (xs ys : List Finding) (n m : Owed) : Type 0 where
 judged : BundlePlace → ℕ → Owed → List ℕ → List Piece → List Finding
 judged b at owed word reading = found_from b at owed reading ++ rest_finding b (at + (4 - length (rest_of word reading))) (rest_of word reading)
 
-left_by : Owed → List ℕ → List Piece → Owed
-left_by owed word reading = cond (is_empty (rest_of word reading)) (owed_past owed reading) Nothing
+left_by : BundlePlace → Owed → List ℕ → List Piece → Owed
+left_by b owed word reading = cond (is_empty (rest_of word reading)) (owed_past b.format owed reading) Nothing
 
 one_word : (b : BundlePlace) (at : ℕ) (owed : Owed) (word : List ℕ) (xs ys : List Finding) (n m : Owed) → IsWordFound b at owed word xs n → IsWordFound b at owed word ys m → IsSame xs ys n m
 unfolding judged left_by
 one_word b at owed word xs ys n m x y =
     let same = one_longest_reading word x.reading y.reading x.longest y.longest in
     let f : judged b at owed word x.reading ≡ judged b at owed word y.reading = ap (judged b at owed word) same in
-    let g : left_by owed word x.reading ≡ left_by owed word y.reading = ap (left_by owed word) same in
+    let g : left_by b owed word x.reading ≡ left_by b owed word y.reading = ap (left_by b owed word) same in
     record { found = x.found_is ∙ f ∙ sym y.found_is; owed = x.next_is ∙ g ∙ sym y.next_is }
 
 one_in_bundle : (b : BundlePlace) (owed : Owed) (bytes : List ℕ) (k : ℕ) (xs ys : List Finding) (n m : Owed) → AreFoundInWords b owed bytes k xs n → AreFoundInWords b owed bytes k ys m → IsSame xs ys n m

@@ -38,6 +38,7 @@ x1=00000000 x2=018000f0
 = sfi translate | program | 0 | #include \"sfi_native.h\"
 SANDBOX(0,16,01000000,256,01800000,256,01000020,2,2)
 = sfi translate --whole | program | 0 | #ifndef SFI_NATIVE_H
+= sfi native | program | 0 | SFIN
 = sfi check | head | 2 | layout fault 3 Short
 ";
 
