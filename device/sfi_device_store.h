@@ -62,11 +62,10 @@ struct sfi_device_stored_version {
 
 /* What is written at each change, as a whole. */
 struct sfi_device_record {
-    uint32_t layout, count;                 /* the record with the highest count is the latest */
-    uint32_t latest_sequence;               /* of all versions that were taken */
+    uint32_t layout, generation;            /* of its sector: one more than that of the records before, in the other sector */
     uint32_t least_sequence;                /* of versions that may run: it never falls */
-    struct sfi_device_stored_version versions[SFI_DEVICE_AREAS];
-    uint8_t check[8];                       /* the first bytes of the SHA-256 of all bytes before */
+    struct sfi_device_stored_version versions[SFI_DEVICE_AREAS];    /* of NONE the claim is that of the last one there */
+    uint8_t check[12];                      /* the first bytes of the SHA-256 of all bytes before */
 };
 
 struct sfi_device_store {
@@ -82,7 +81,8 @@ struct sfi_device_store {
     void (*watch)(void *host, bool on);     /* from a trial's start to its end a watchdog resets the device */
     uint32_t (*read_counter)(void *host);   /* a counter that can't be set back, outside this flash: the least sequence .. */
     bool (*raise_counter)(void *host, uint32_t least_sequence); /* .. number that runs. False: it failed */
-    /* It follows the record, whose check has no key: who can write this flash can raise it to the end, and then nothing runs again */
+    /* keep alone raises it, to no more than the kept version's sequence number. It wants is_signed: then, whatever somebody
+       writes into this flash, no older version runs, and one that the vendor signs anew is taken */
     /* The library's, 0 at first */
     struct sfi_device_record record;
     uint32_t place;                         /* of the latest record, from `records` on */
@@ -99,7 +99,7 @@ enum sfi_device_store_status {
     SFI_DEVICE_STORE_BAD_SETUP,     /* sizes, addresses or functions aren't as they have to be */
     SFI_DEVICE_STORE_NO_VERSION,    /* there is none that may run */
     SFI_DEVICE_STORE_FLASH_FAILED,  /* a write, or the counter, failed: after a reset the record is the old or the new one */
-    SFI_DEVICE_STORE_TOO_EARLY,     /* choose comes before it, begin before write, a trial's end before the next update */
+    SFI_DEVICE_STORE_TOO_EARLY,     /* choose comes before it, begin before write, the running version's keep before an update */
     SFI_DEVICE_STORE_WRONG_LENGTH,  /* no byte, more than there is room for, or others than the claim says */
     SFI_DEVICE_STORE_TOO_OLD,       /* its sequence number isn't higher than the latest, or is below the least of a claim */
     SFI_DEVICE_STORE_NOT_SIGNED,
@@ -112,7 +112,8 @@ enum sfi_device_store_status sfi_device_store_open(struct sfi_device_store *stor
    that it marks each bad that comes before it and can't be started: on trial too often, or not as its claim says. Where the
    flash can't be written, a good version is told all the same. DONE or NO_VERSION. */
 enum sfi_device_store_status sfi_device_store_choose(struct sfi_device_store *store, uint32_t *area);
-/* The chosen version works: its trial ends, and older ones than its claim's least sequence number never run again. */
+/* The chosen version works: its trial ends, and older ones than its claim's least sequence number never run again. To be called
+   at each start: of a version that is kept it writes nothing, unless power was cut before the counter was raised. */
 enum sfi_device_store_status sfi_device_store_keep(struct sfi_device_store *store);
 /* The chosen version doesn't work, or isn't accepted: it never runs again. choose then tells the older one. */
 enum sfi_device_store_status sfi_device_store_reject(struct sfi_device_store *store);

@@ -1,5 +1,6 @@
 /* The versions of a plug-in in flash. A record is appended to those before it: to their sector, or where that is full to the
-   other, which is erased first. So no write touches the latest record; one that is cut has a wrong check, and doesn't count. */
+   other, which is erased first. So no write touches the latest record; one that is cut has a wrong check, and doesn't count.
+   Anybody can make a right check: what the counter is raised to is what a signed claim says, of a version that was kept. */
 #include "bytes.h"
 #include "sfi_device_store.h"
 
@@ -34,17 +35,21 @@ static bool are_apart(uint64_t one, uint64_t one_size, uint64_t other, uint64_t 
     return one + one_size <= other || other + other_size <= one;
 }
 
-static bool is_set_up(const struct sfi_device_store *store) {
+static bool are_places(const struct sfi_device_store *store) {
     const struct sfi_device_flash *flash = store->flash;
-    if (!flash || !flash->read || !flash->erase_sector || !flash->program_page)
-        return false;
     uint32_t sector = flash->sector_size, page = flash->page_size, area = store->area_size;
     bool are_sizes = sector != 0 && sector % SFI_DEVICE_RECORD_SIZE == 0 && page != 0 && page <= SFI_DEVICE_PAGE_MOST &&
                      (page & (page - 1)) == 0 && area != 0 && area % sector == 0 && store->trial_starts != 0;
-    return are_sizes && !store->read_counter == !store->raise_counter &&
-           are_apart(store->areas[0], area, store->areas[1], area) &&
+    return are_sizes && are_apart(store->areas[0], area, store->areas[1], area) &&
            are_apart(store->areas[0], area, store->records, 2 * (uint64_t)sector) &&
            are_apart(store->areas[1], area, store->records, 2 * (uint64_t)sector);
+}
+
+/* A counter without signatures would be anybody's to raise. */
+static bool are_functions(const struct sfi_device_store *store) {
+    const struct sfi_device_flash *flash = store->flash;
+    return flash && flash->read && flash->erase_sector && flash->program_page && !store->read_counter == !store->raise_counter &&
+           (store->is_signed || !store->read_counter);
 }
 
 static bool is_open(const struct sfi_device_store *store) { return store->record.layout == LAYOUT; }
@@ -86,6 +91,33 @@ static bool make_place(const struct sfi_device_store *store, uint32_t *place) {
     return store->flash->erase_sector(store->host, store->records + *place);
 }
 
+/* The last record of a sector, which begins at `from`. False where it has none. */
+static bool read_last(const struct sfi_device_store *store, uint32_t from, struct sfi_device_record *last, uint32_t *place) {
+    struct sfi_device_record found;
+    bool is_there = false;
+    for (uint32_t at = from; at < from + store->flash->sector_size; at += SFI_DEVICE_RECORD_SIZE)
+        if (read_place(store, at, &found) && is_record(&found)) {
+            *last = found;
+            *place = at;
+            is_there = true;
+        }
+    return is_there;
+}
+
+/* Reads the latest record: the last of the later sector. Generations go on from 0 after the last number. */
+static void read_latest(struct sfi_device_store *store) {
+    uint32_t size = store->flash->sector_size, place;
+    struct sfi_device_record last;
+    memset(&store->record, 0, sizeof store->record);
+    store->place = 2 * size - SFI_DEVICE_RECORD_SIZE; /* where there is none, the first goes to the other sector's beginning */
+    bool is_there = read_last(store, 0, &store->record, &store->place);
+    if (read_last(store, size, &last, &place) && (!is_there || (int32_t)(last.generation - store->record.generation) > 0)) {
+        store->record = last;
+        store->place = place;
+    }
+    store->record.layout = LAYOUT;
+}
+
 static bool program(const struct sfi_device_store *store, uint32_t address, const uint8_t *bytes, uint32_t length) {
     uint32_t page = store->flash->page_size, done = 0;
     while (done < length && store->flash->program_page(store->host, address + done, bytes + done))
@@ -93,16 +125,15 @@ static bool program(const struct sfi_device_store *store, uint32_t address, cons
     return done >= length;
 }
 
-/* Has the record say this from now on. The count rises where that fails, too: a later record is then later than what was
-   written all the same. */
+/* Has the record say this from now on. */
 static enum sfi_device_store_status write_record(struct sfi_device_store *store, const struct sfi_device_record *next) {
     struct sfi_device_record sealed = *next, found;
-    uint32_t place;
-    if (store->record.count == UINT32_MAX)  /* no record is later than that one, which only somebody else has written */
+    uint32_t place, size = store->flash->sector_size;
+    if (!make_place(store, &place))
         return SFI_DEVICE_STORE_FLASH_FAILED;
-    sealed.count = ++store->record.count;
+    sealed.generation = store->record.generation + (place / size != store->place / size);
     seal(&sealed);
-    if (!make_place(store, &place) || !program(store, store->records + place, (const uint8_t *)&sealed, sizeof sealed) ||
+    if (!program(store, store->records + place, (const uint8_t *)&sealed, sizeof sealed) ||
         !read_place(store, place, &found) || !are_same(&found, &sealed, sizeof found))
         return SFI_DEVICE_STORE_FLASH_FAILED;
     store->record = sealed;
@@ -120,15 +151,43 @@ static enum sfi_device_store_status write_state(struct sfi_device_store *store, 
 
 /* ---- Versions */
 
+static bool is_signed(const struct sfi_device_store *store, const struct sfi_device_stored_version *version) {
+    return !store->is_signed || store->is_signed(store->host, &version->claim, version->signature);
+}
+
+/* The counter, and what the record says beyond it, as far as a signed claim in it says so, too: what was kept before a cut. */
+static uint32_t believed_least(const struct sfi_device_store *store) {
+    if (!store->read_counter)
+        return store->record.least_sequence;
+    uint32_t least = store->read_counter(store->host);
+    for (uint32_t area = 0; area < SFI_DEVICE_AREAS; area++) {
+        const struct sfi_device_stored_version *version = &store->record.versions[area];
+        uint32_t claimed = version->claim.least_sequence;
+        if (claimed > least && claimed <= store->record.least_sequence && is_signed(store, version))
+            least = claimed;
+    }
+    return least;
+}
+
+/* Of all versions that were taken: the last of them stays on record until the next. */
+static uint32_t latest_sequence(const struct sfi_device_store *store) {
+    uint32_t latest = 0;
+    for (uint32_t area = 0; area < SFI_DEVICE_AREAS; area++) {
+        const struct sfi_device_stored_version *version = &store->record.versions[area];
+        if (version->claim.sequence > latest && is_signed(store, version))
+            latest = version->claim.sequence;
+    }
+    return latest;
+}
+
 static uint32_t least_sequence(const struct sfi_device_store *store) {
     uint32_t counted = store->read_counter ? store->read_counter(store->host) : 0;
     return higher(counted, store->record.least_sequence);
 }
 
-/* The counter follows the record: also after a cut between both. */
-static bool raise_counter(const struct sfi_device_store *store) {
-    uint32_t least = store->record.least_sequence;
-    return !store->raise_counter || store->read_counter(store->host) >= least || store->raise_counter(store->host, least);
+/* After a cut between both, until the version is kept again. */
+static bool is_counter_behind(const struct sfi_device_store *store) {
+    return store->read_counter && store->read_counter(store->host) < store->record.least_sequence;
 }
 
 static enum sfi_device_store_status judge_claim(const struct sfi_device_store *store,
@@ -138,7 +197,7 @@ static enum sfi_device_store_status judge_claim(const struct sfi_device_store *s
         return SFI_DEVICE_STORE_WRONG_LENGTH;
     if (claim->sequence < least_sequence(store) || claim->sequence < claim->least_sequence)
         return SFI_DEVICE_STORE_TOO_OLD;
-    if (store->is_signed && !store->is_signed(store->host, claim, version->signature))
+    if (!is_signed(store, version))
         return SFI_DEVICE_STORE_NOT_SIGNED;
     return SFI_DEVICE_STORE_DONE;
 }
@@ -196,21 +255,14 @@ static bool is_on_trial(const struct sfi_device_store *store) {
 /* ---- What runs */
 
 enum sfi_device_store_status sfi_device_store_open(struct sfi_device_store *store) {
-    struct sfi_device_record found;
     memset(&store->record, 0, sizeof store->record);
     store->is_chosen = store->is_taking = false;
     store->chosen = SFI_DEVICE_AREAS;
-    if (!is_set_up(store))
+    if (!are_functions(store) || !are_places(store))
         return SFI_DEVICE_STORE_BAD_SETUP;
-    uint32_t end = 2 * store->flash->sector_size;
-    store->place = end - SFI_DEVICE_RECORD_SIZE; /* the first of all records goes to the other sector's beginning */
-    for (uint32_t place = 0; place < end; place += SFI_DEVICE_RECORD_SIZE)
-        if (read_place(store, place, &found) && is_record(&found) && found.count > store->record.count) {
-            store->record = found;
-            store->place = place;
-        }
-    store->record.layout = LAYOUT;
-    return raise_counter(store) ? SFI_DEVICE_STORE_DONE : SFI_DEVICE_STORE_FLASH_FAILED;
+    read_latest(store);
+    store->record.least_sequence = believed_least(store);
+    return SFI_DEVICE_STORE_DONE;
 }
 
 enum sfi_device_store_status sfi_device_store_choose(struct sfi_device_store *store, uint32_t *area) {
@@ -236,14 +288,15 @@ enum sfi_device_store_status sfi_device_store_keep(struct sfi_device_store *stor
     struct sfi_device_record next = store->record;
     struct sfi_device_stored_version *version = &next.versions[store->chosen];
     next.least_sequence = higher(next.least_sequence, version->claim.least_sequence);
-    if (version->state != SFI_DEVICE_VERSION_GOOD) {
-        version->state = SFI_DEVICE_VERSION_GOOD;
+    version->state = SFI_DEVICE_VERSION_GOOD;
+    if (!are_same(&next, &store->record, sizeof next)) {
         enum sfi_device_store_status status = write_record(store, &next);
         if (status != SFI_DEVICE_STORE_DONE)
             return status;
-        watch(store, false);
     }
-    return raise_counter(store) ? SFI_DEVICE_STORE_DONE : SFI_DEVICE_STORE_FLASH_FAILED;
+    watch(store, false);
+    bool is_raised = !is_counter_behind(store) || store->raise_counter(store->host, store->record.least_sequence);
+    return is_raised ? SFI_DEVICE_STORE_DONE : SFI_DEVICE_STORE_FLASH_FAILED;
 }
 
 enum sfi_device_store_status sfi_device_store_reject(struct sfi_device_store *store) {
@@ -258,11 +311,22 @@ enum sfi_device_store_status sfi_device_store_reject(struct sfi_device_store *st
 
 /* ---- Updates */
 
-/* Leaves the area without a version, on record, and then erases what the image needs of it. */
+static bool may_begin(const struct sfi_device_store *store) {
+    bool is_running = store->chosen != SFI_DEVICE_AREAS;
+    return store->is_chosen && !is_on_trial(store) && !(is_running && is_counter_behind(store));
+}
+
+/* Not the chosen version's area; nor, where none runs, that of the claim which the counter doesn't tell of yet. */
+static uint32_t area_for_update(const struct sfi_device_store *store) {
+    if (store->chosen != SFI_DEVICE_AREAS)
+        return store->chosen == 0 ? 1 : 0;
+    return is_counter_behind(store) && store->record.versions[0].claim.least_sequence == store->record.least_sequence ? 1 : 0;
+}
+
+/* Leaves the area without a version, but its claim, on record, and then erases what the image needs of it. */
 static enum sfi_device_store_status clear_area(struct sfi_device_store *store, uint32_t area, uint32_t length) {
-    struct sfi_device_record next = store->record;
-    memset(&next.versions[area], 0, sizeof next.versions[area]);
-    if (store->record.versions[area].state != SFI_DEVICE_VERSION_NONE && write_record(store, &next) != SFI_DEVICE_STORE_DONE)
+    if (store->record.versions[area].state != SFI_DEVICE_VERSION_NONE &&
+        write_state(store, area, SFI_DEVICE_VERSION_NONE, 0) != SFI_DEVICE_STORE_DONE)
         return SFI_DEVICE_STORE_FLASH_FAILED;
     for (uint32_t done = 0; done < length; done += store->flash->sector_size)
         if (!store->flash->erase_sector(store->host, store->areas[area] + done))
@@ -272,7 +336,7 @@ static enum sfi_device_store_status clear_area(struct sfi_device_store *store, u
 
 enum sfi_device_store_status sfi_device_store_begin(struct sfi_device_store *store, const struct sfi_device_claim *claim,
                                                     const uint8_t signature[SFI_DEVICE_SIGNATURE_SIZE]) {
-    if (!store->is_chosen || is_on_trial(store))
+    if (!may_begin(store))
         return SFI_DEVICE_STORE_TOO_EARLY;
     store->is_taking = false;
     memset(&store->update, 0, sizeof store->update);
@@ -280,11 +344,11 @@ enum sfi_device_store_status sfi_device_store_begin(struct sfi_device_store *sto
     store->update.claim = *claim;
     memcpy(store->update.signature, signature, sizeof store->update.signature);
     enum sfi_device_store_status status = judge_claim(store, &store->update);
-    if (status == SFI_DEVICE_STORE_DONE && claim->sequence <= store->record.latest_sequence)
+    if (status == SFI_DEVICE_STORE_DONE && claim->sequence <= latest_sequence(store))
         status = SFI_DEVICE_STORE_TOO_OLD;
     if (status != SFI_DEVICE_STORE_DONE)
         return status;
-    store->target = store->chosen == 0 ? 1 : 0;
+    store->target = area_for_update(store);
     store->taken = 0;
     memset(store->page, ERASED, sizeof store->page);
     status = clear_area(store, store->target, claim->length);
@@ -332,6 +396,5 @@ enum sfi_device_store_status sfi_device_store_finish(struct sfi_device_store *st
         return SFI_DEVICE_STORE_DIFFERS;
     struct sfi_device_record next = store->record;
     next.versions[store->target] = store->update;
-    next.latest_sequence = store->update.claim.sequence;
     return write_record(store, &next);
 }

@@ -60,7 +60,7 @@ structs! {
     Claim { sequence: u32, least_sequence: u32, length: u32, digest: [u8; 32] }
     StoredVersion { state: u32, starts: u32, claim: Claim, signature: [u8; 64] }
     Record {
-        layout: u32, count: u32, latest_sequence: u32, least_sequence: u32, versions: [StoredVersion; 2], check: [u8; 8],
+        layout: u32, generation: u32, least_sequence: u32, versions: [StoredVersion; 2], check: [u8; 12],
     }
     Store {
         flash: *const Flash, host: *mut c_void, records: u32, areas: [u32; 2], area_size: u32, trial_starts: u32,

@@ -30,8 +30,8 @@ class Version(ctypes.Structure):
 
 
 class Record(ctypes.Structure):
-    _fields_ = [("layout", U32), ("count", U32), ("latest_sequence", U32), ("least_sequence", U32), ("versions", Version * AREAS),
-                ("check", ctypes.c_ubyte * 8)]
+    _fields_ = [("layout", U32), ("generation", U32), ("least_sequence", U32), ("versions", Version * AREAS),
+                ("check", ctypes.c_ubyte * 12)]
 
 
 IS_SIGNED = ctypes.CFUNCTYPE(ctypes.c_bool, ctypes.c_void_p, ctypes.POINTER(Claim), BYTES)

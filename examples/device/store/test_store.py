@@ -8,21 +8,24 @@ import tempfile
 import unittest
 
 sys.dont_write_bytecode = True
+import hostile
 import store
 import walk
 from flash import PIECES, Misused
 
 CUTS = int(os.environ.get("CUTS", "10000"))
 MISTAKE_CUTS = 1500  # in which a mistake has to be seen
+ATTACKS = 400  # rounds of hostile.py
 ONE_RECORD = (256, 64)  # a flash whose sectors hold one record each
 MISTAKES = (  # what, the text of store.c, and the text in its place
     ("the latest record's sector is erased", "store->place < size ? size : 0", "store->place < size ? 0 : size"),
     ("a record's check isn't looked at", "&& are_same(&sealed, record, sizeof sealed)", ""),
-    ("the last record counts, not the latest", "&& found.count > store->record.count", ""),
+    ("the last sector counts, not the later", "&& (!is_there || (int32_t)(last.generation - store->record.generation) > 0)", ""),
     ("a record is written to a place that was cut", "!is_erased(store, next)", "false"),
-    ("a record isn't counted", "++store->record.count", "store->record.count"),
-    ("an update takes the place of what runs", "store->chosen == 0 ? 1 : 0", "store->chosen == 1 ? 1 : 0"),
-    ("an area is erased before the record says so", "versions[area].state != SFI_DEVICE_VERSION_NONE && write", "layout == 0 && write"),
+    ("a sector has no generation of its own", "store->record.generation + (place / size != store->place / size)",
+     "store->record.generation"),
+    ("an update takes the place of what runs", "return store->chosen == 0 ? 1 : 0", "return store->chosen == 1 ? 1 : 0"),
+    ("an area is erased before the record says so", "versions[area].state != SFI_DEVICE_VERSION_NONE &&", "layout == 0 &&"),
     ("every other sector isn't erased", "length; done += store->flash->sector_size", "length; done += 2 * store->flash->sector_size"),
     ("an update's digest isn't looked at", "!has_image(store, store->target, &store->update.claim)", "false"),
     ("a started version's digest isn't", "!has_image(store, area, &version->claim)", "false"),
@@ -32,13 +35,27 @@ MISTAKES = (  # what, the text of store.c, and the text in its place
      "status = SFI_DEVICE_STORE_DONE"),
     ("the older version is started", "version->claim.sequence > store->record", "version->claim.sequence < store->record"),
     ("versions go back", "next.least_sequence = higher(next.least_sequence, version->claim.least_sequence)", "(void)higher"),
-    ("an update is taken again", "next.latest_sequence = store->update.claim.sequence", "(void)0"),
-    ("signatures aren't asked for", "store->is_signed && !", "false && !"),
-    ("the counter stays behind after a cut", "    store->record.layout = LAYOUT;\n    return raise_counter(store) ?",
-     "    store->record.layout = LAYOUT;\n    return raise_counter ?"),
-    ("the watchdog stays on", "            return status;\n        watch(store, false);", "            return status;"),
+    ("an update is taken again", "claim->sequence <= latest_sequence(store)", "claim->sequence < latest_sequence(store)"),
+    ("signatures aren't asked for", "!is_signed(store, version)", "false"),
+    ("the counter isn't raised", "!is_counter_behind(store) || store->raise", "true || store->raise"),
+    ("what was kept before a cut is forgotten", "claimed <= store->record.least_sequence && is_signed", "false && is_signed"),
+    ("a claim that wasn't kept counts", "claimed <= store->record.least_sequence && ", ""),
+    ("an update comes before the counter", "!(is_running && is_counter_behind(store))", "is_running == is_running"),
+    ("the watchdog stays on", "    watch(store, false);\n    bool is_raised", "    bool is_raised"),
     ("no watchdog watches a trial", "watch(store, is_on_trial(store))", "watch(store, false)"),
     ("an update's last bytes aren't written", "store->taken % store->flash->page_size != 0 && !write_page(store)", "false"),
+)
+HOSTILE_MISTAKES = (
+    ("a sequence number that nobody signed counts", "version->claim.sequence > latest && is_signed(store, version)",
+     "version->claim.sequence > latest"),
+    ("a least number that nobody signed counts", "claimed <= store->record.least_sequence && is_signed(store, version)", "true"),
+    ("the record's least number counts", "store->record.least_sequence = believed_least(store)", "(void)believed_least"),
+    ("the counter is raised at a start", "    store->is_chosen = true;",
+     "    store->is_chosen = true;\n    if (is_counter_behind(store)) store->raise_counter(store->host, store->record.least_sequence);"),
+    ("signatures aren't asked for", "!is_signed(store, version)", "false"),
+    ("a started version's digest isn't looked at", "!has_image(store, area, &version->claim)", "false"),
+    ("the last generation stays the latest", "(int32_t)(last.generation - store->record.generation) > 0",
+     "last.generation > store->record.generation"),
 )
 
 
@@ -69,6 +86,17 @@ class Stores(unittest.TestCase):
     def test_walks(self):
         self.walk(self.library, CUTS)
 
+    def attack(self, library):
+        for number, shape in enumerate(walk.SHAPES):
+            one = hostile.Hostile(library, number, shape)
+            for _ in range(ATTACKS // len(walk.SHAPES)):
+                one.round()
+
+    def test_hostile_flash(self):
+        """Whatever is written into the flash, the counter rises to nothing but what was kept, no older version runs, and the next
+        update is taken."""
+        self.attack(self.library)
+
     def scenario(self, cut_at=None, piece=None):
         """The versions 1, kept; 2, kept; 3, rejected: so the second area is written twice. How many writes that takes."""
         one = walk.Walk(self.library, 1, ONE_RECORD)
@@ -94,6 +122,7 @@ class Stores(unittest.TestCase):
                 if one.is_on_trial():
                     one.reject()
                     one.choose()
+                one.keep()
                 one.put(walk.right(9, 0, b"the next"))
                 one.choose()
                 self.assertEqual(one.model.versions[one.chosen], ("on trial", 1, 9, 0), (cut_at, piece))
@@ -113,16 +142,17 @@ class Stores(unittest.TestCase):
             self.assertEqual(one.call("choose", ctypes.byref(area)), "done")
             self.assertEqual((area.value, one.watched), (chosen, chosen == 1))
 
-    def test_last_count(self):
-        """Behind the last count no record is written, and a change that a reset forgets isn't told as done."""
+    def test_last_generation(self):
+        """Behind the last generation the first comes."""
         one = walk.Walk(self.library, 1, ONE_RECORD)
         one.choose()
+        one.store.record.generation = 2 ** 32 - 2
         one.put(walk.right(1, 0, b"first"))
         one.choose()
-        one.store.record.count = 2 ** 32 - 2
         one.keep()
-        self.assertEqual(one.call("reject"), "flash failed")
-        one.power_on([one.model])
+        self.assertEqual(one.store.record.generation, 1)
+        one.reset()
+        self.assertEqual(one.model.versions[0], ("good", 1, 1, 0))
 
     def test_setup(self):
         one = walk.Walk(self.library, 1, ONE_RECORD)
@@ -133,14 +163,21 @@ class Stores(unittest.TestCase):
             self.assertEqual(one.call("open"), "bad setup", field)
             self.assertEqual(one.call("choose", ctypes.byref(ctypes.c_uint32())), "too early", field)
 
-    def test_mistakes(self):
-        """The walks see each of these mistakes of store.c."""
+    def mistakes(self, table, run):
         text = (store.DEVICE / "store.c").read_text(encoding="utf-8")
-        for what, old, new in MISTAKES:
+        for what, old, new in table:
             with self.subTest(what):
                 self.assertEqual(text.count(old), 1, "it stands there once")
                 with tempfile.TemporaryDirectory() as room, self.assertRaises((walk.Wrong, Misused)):
-                    self.walk(store.build(room, text.replace(old, new)), MISTAKE_CUTS)
+                    run(store.build(room, text.replace(old, new)))
+
+    def test_mistakes(self):
+        """The walks see each of these mistakes of store.c."""
+        self.mistakes(MISTAKES, lambda library: self.walk(library, MISTAKE_CUTS))
+
+    def test_hostile_mistakes(self):
+        """The attacks see these."""
+        self.mistakes(HOSTILE_MISTAKES, self.attack)
 
 
 if __name__ == "__main__":

@@ -68,6 +68,7 @@ class Walk:
         self.flash = Flash((2 + AREAS * AREA_SECTORS) * sector, sector, page, self.chance)
         self.functions = Functions(sector, page, READ(self.flash.read), ERASE(self.flash.erase_sector), PROGRAM(self.flash.program_page))
         self.counter, self.watched = 0, False
+        self.most_kept = 0                      # the highest sequence number of a version of which the firmware called keep
         self.model, self.images = State(), {}   # images: by sequence number, of versions that may be on record
         self.chosen, self.rotten = None, set()  # areas: the one that runs, and those whose image was changed
         self.power_on([self.model])
@@ -83,11 +84,13 @@ class Walk:
     def raise_counter(self, _, least):
         if not self.flash.has_power or self.flash.is_cut():
             return False
+        if least > self.most_kept:
+            self.flash.misuse(f"the counter is raised to {least}, and no version above {self.most_kept} is kept")
         self.counter = max(self.counter, least)
         return True
 
-    def power_on(self, possible):
-        """After a reset the record is one of the possible ones; and the counter isn't behind it."""
+    def open_store(self):
+        """After a reset, which writes nothing."""
         self.flash.power_on()
         sector = self.functions.sector_size
         self.store = Store(
@@ -95,14 +98,15 @@ class Walk:
             trial_starts=TRIAL_STARTS, is_signed=IS_SIGNED(self.is_signed), watch=WATCH(self.watch),
             read_counter=READ_COUNTER(lambda _: self.counter), raise_counter=RAISE_COUNTER(self.raise_counter))
         self.chosen, self.watched = None, False
-        if self.call("open") is None:
-            return self.power_on(possible)
+        self.expect("open's answer", self.call("open"), "done")
+
+    def power_on(self, possible):
+        """After a reset the record is one of the possible ones."""
+        self.open_store()
         found = self.state()
         if found not in possible:
             raise Wrong(f"after a reset the record is {found}, not one of {possible}")
         self.model = found
-        self.expect("the counter", self.counter >= found.least, True)
-        return None
 
     # ---- What is looked at
 
@@ -110,7 +114,7 @@ class Walk:
         record = self.store.record
         versions = [NONE if not it.state else (STATES[it.state] if it.state < len(STATES) else it.state, it.starts,
                                                it.claim.sequence, it.claim.least_sequence) for it in record.versions]
-        return State(tuple(versions), record.latest_sequence, record.least_sequence)
+        return State(tuple(versions), max(it.claim.sequence for it in record.versions), record.least_sequence)
 
     def expect(self, what, found, wanted):
         if found != wanted:
@@ -166,7 +170,8 @@ class Walk:
     def keep(self):
         if self.chosen is None:
             return self.passes("keep", [], "too early")
-        name, starts, _, least = self.model.versions[self.chosen]
+        name, starts, sequence, least = self.model.versions[self.chosen]
+        self.most_kept = max(self.most_kept, sequence)
         state = dataclasses.replace(self.model.with_state(self.chosen, "good", starts), least=max(self.model.least, least))
         if self.passes("keep", [state] if name != "good" else [], "done"):
             self.expect("the watchdog", self.watched, False)
@@ -222,9 +227,11 @@ class Walk:
     def put(self, update, at_begin="done", at_end="done"):
         words = ctypes.byref(update.claim()), update.signature()
         before = self.flash.bytes(0, self.flash.size)
-        if not self.store.is_chosen or self.is_on_trial():
+        is_behind = self.counter < self.model.least
+        if not self.store.is_chosen or self.is_on_trial() or self.chosen is not None and is_behind:
             at_begin = "too early"
-        target = 1 if self.chosen == 0 else 0
+        is_told_by_first = self.store.record.versions[0].claim.least_sequence == self.model.least
+        target = 1 if self.chosen == 0 or self.chosen is None and is_behind and is_told_by_first else 0
         states = [self.model.with_version(target, NONE)] if at_begin == "done" and self.model.versions[target] != NONE else []
         if not self.passes("begin", states, at_begin, *words):
             return
