@@ -20,13 +20,15 @@ pub trait Device {
     fn is_signed(&mut self, claim: &Claim, signature: &[u8; 64]) -> bool;
     /// From a trial's start to its end a watchdog resets the device.
     fn watch(&mut self, on: bool);
-    /// A counter that can't be set back: the least sequence number that runs.
+    /// Whether the device has a counter.
+    const HAS_COUNTER: bool = false;
+    /// A counter that can't be set back, outside the flash: the least sequence number that runs.
     fn counter(&mut self) -> u32 {
         0
     }
-    /// Raises it.
+    /// Raises it, or answers false.
     fn raise_counter(&mut self, _least_sequence: u32) -> bool {
-        true
+        false
     }
 }
 
@@ -91,8 +93,10 @@ impl<D: Device> Store<D> {
         (raw.area_size, raw.trial_starts) = (setup.area_size, setup.trial_starts);
         raw.is_signed = Some(is_signed::<D>);
         raw.watch = Some(watch::<D>);
-        raw.read_counter = Some(read_counter::<D>);
-        raw.raise_counter = Some(raise_counter::<D>);
+        if D::HAS_COUNTER {
+            raw.read_counter = Some(read_counter::<D>);
+            raw.raise_counter = Some(raise_counter::<D>);
+        }
         let flash = ffi::Flash {
             sector_size: D::SECTOR_SIZE,
             page_size: D::PAGE_SIZE,

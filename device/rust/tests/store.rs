@@ -3,12 +3,20 @@ use sfi_device::{digest, Claim, Device, Setup, Store, StoreStatus};
 
 const SETUP: Setup = Setup { records: 0, areas: [1024, 2048], area_size: 1024, trial_starts: 1 };
 
-struct Memory {
+#[derive(Default)]
+struct Memory<const COUNTS: bool> {
     bytes: Vec<u8>,
     is_watched: bool,
+    counter: u32,
 }
 
-impl Device for Memory {
+impl<const COUNTS: bool> Memory<COUNTS> {
+    fn new() -> Self {
+        Memory { bytes: vec![0; 3072], ..Memory::default() }
+    }
+}
+
+impl<const COUNTS: bool> Device for Memory<COUNTS> {
     const SECTOR_SIZE: u32 = 512;
     const PAGE_SIZE: u32 = 64;
     fn read(&mut self, address: u32, bytes: &mut [u8]) -> bool {
@@ -29,16 +37,27 @@ impl Device for Memory {
     fn watch(&mut self, on: bool) {
         self.is_watched = on;
     }
+    const HAS_COUNTER: bool = COUNTS;
+    fn counter(&mut self) -> u32 {
+        assert!(COUNTS);
+        self.counter
+    }
+    fn raise_counter(&mut self, least_sequence: u32) -> bool {
+        assert!(COUNTS);
+        self.counter = least_sequence;
+        true
+    }
 }
 
+/// Once a version is kept no older one runs.
 fn claim(sequence: u32, image: &[u8]) -> (Claim, [u8; 64]) {
-    let claim = Claim { sequence, least_sequence: 0, length: image.len() as u32, digest: digest(image) };
+    let claim = Claim { sequence, least_sequence: sequence, length: image.len() as u32, digest: digest(image) };
     let mut signature = [0; 64];
     signature[..32].copy_from_slice(&claim.digest);
     (claim, signature)
 }
 
-fn update(store: &mut Store<Memory>, sequence: u32, image: &[u8]) -> Result<(), StoreStatus> {
+fn update<const COUNTS: bool>(store: &mut Store<Memory<COUNTS>>, sequence: u32, image: &[u8]) -> Result<(), StoreStatus> {
     let (claim, signature) = claim(sequence, image);
     store.begin(&claim, &signature)?;
     image.chunks(100).try_for_each(|piece| store.write(piece))?;
@@ -53,7 +72,7 @@ fn digests() {
 
 #[test]
 fn a_version_that_is_not_kept_gives_way() {
-    let mut store = Store::open(Memory { bytes: vec![0; 3072], is_watched: false }, SETUP).unwrap();
+    let mut store = Store::open(Memory::<false>::new(), SETUP).unwrap();
     assert_eq!(store.choose(), Err(StoreStatus::NoVersion));
     update(&mut store, 1, &[1; 700]).unwrap();
     let first = store.choose().unwrap();
@@ -69,4 +88,16 @@ fn a_version_that_is_not_kept_gives_way() {
     let mut store = Store::open(device, SETUP).unwrap();
     assert_eq!(store.choose(), Ok(first));
     assert!(!store.into_device().is_watched);
+}
+
+#[test]
+fn a_version_that_is_kept_raises_the_counter() {
+    let mut store = Store::open(Memory::<true>::new(), SETUP).unwrap();
+    assert_eq!(store.choose(), Err(StoreStatus::NoVersion));
+    for sequence in [3, 4] {
+        update(&mut store, sequence, &[1; 700]).unwrap();
+        store.choose().unwrap();
+        store.keep().unwrap();
+    }
+    assert_eq!(store.into_device().counter, 4);
 }
