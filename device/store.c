@@ -63,9 +63,11 @@ static void seal(struct sfi_device_record *record) {
 }
 
 static bool is_record(const struct sfi_device_record *record) {
+    if (record->layout != LAYOUT)
+        return false;
     struct sfi_device_record sealed = *record;
     seal(&sealed);
-    return record->layout == LAYOUT && are_same(&sealed, record, sizeof sealed);
+    return are_same(&sealed, record, sizeof sealed);
 }
 
 static bool read_place(const struct sfi_device_store *store, uint32_t place, struct sfi_device_record *record) {

@@ -19,7 +19,7 @@ ATTACKS = 400  # rounds of hostile.py
 ONE_RECORD = (256, 64)  # a flash whose sectors hold one record each
 MISTAKES = (  # what, the text of store.c, and the text in its place
     ("the latest record's sector is erased", "store->place < size ? size : 0", "store->place < size ? 0 : size"),
-    ("a record's check isn't looked at", "&& are_same(&sealed, record, sizeof sealed)", ""),
+    ("a record's check isn't looked at", "return are_same(&sealed, record, sizeof sealed)", "return true"),
     ("the last sector counts, not the later", "&& (!is_there || (int32_t)(last.generation - store->record.generation) > 0)", ""),
     ("a record is written to a place that was cut", "!is_erased(store, next)", "false"),
     ("a sector has no generation of its own", "store->record.generation + (place / size != store->place / size)",
