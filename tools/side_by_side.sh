@@ -4,7 +4,7 @@ results=()
 scripts=()
 lanes=$(($(nproc) / 2)) # how many scripts run at a time: some of them have several processes
 ((lanes > 0)) || lanes=1
-starter=''
+groups=() # the processes that lead those beside this one
 
 # Adds what a part's last line counts. The part has failed where it has no such line or counts nothing, and where its
 # status says so though its line doesn't.
@@ -69,18 +69,42 @@ start_scripts() {
     wait
 }
 
-stop_scripts() {
-    [ -z "$starter" ] || kill -- "-$starter" 2>"$room/stopped" || true
+# Starts a command beside this one, in a group of processes of its own, which ends with this.
+start_group() { # a command
+    set -m
+    "$@" &
+    groups+=($!)
+    set +m
+    trap 'stop_groups; rm -rf "$room"' EXIT
+}
+
+stop_groups() {
+    local leader
+    for leader in "${groups[@]}"; do
+        kill -- "-$leader" 2>"$room/stopped" || true
+        wait "$leader" 2>"$room/stopped" || true # so that none of it writes into $room any more
+    done
+}
+
+wait_for_groups() {
+    wait "${groups[@]}"
+    groups=()
+}
+
+make_and_tell() { # as start_making
+    "${@:2}"
+    touch "$room/$1"
+}
+
+# Starts a command that makes what scripts need: a line `wait NAME` among them waits for its end.
+start_making() { # NAME; a command
+    start_group make_and_tell "$@" </dev/null
 }
 
 # Runs all that `scripts` lists, and prints and counts each in their order, the first that hasn't ended as it comes.
 run_scripts() {
     local number status seconds words
-    set -m # a group of processes of their own, which ends with this
-    start_scripts &
-    starter=$!
-    set +m
-    trap 'stop_scripts; rm -rf "$room"' EXIT
+    start_group start_scripts
     for number in "${!scripts[@]}"; do
         [[ ${scripts[number]} != "wait "* ]] || continue
         read -r -a words <<<"${scripts[number]}"
@@ -92,6 +116,5 @@ run_scripts() {
         [ ! -e "$room/part$number.ended" ] || read -r status seconds <"$room/part$number.ended"
         judge_part "${words[*]}" "$status" "$seconds" "$room/part$number.output"
     done
-    wait "$starter"
-    starter=''
+    wait_for_groups
 }

@@ -202,7 +202,8 @@ scripts=(
     "./part fifth 0.1 killed 0"
     "nothing_of_this_name"
 )
-{ sleep 2; echo modules >>log; touch "$room/modules"; } &
+make_modules() { sleep 2; echo modules >>log; }
+start_making modules make_modules
 run_scripts
 printf '%s\n' "${results[@]}"
 finish
@@ -288,11 +289,12 @@ class SideBySide(unittest.TestCase):
 
     def test_what_runs_ends_with_the_gate(self):
         written(f"{self.room}/scripts", SCRIPTS.replace("{top}", str(TOP)).replace("first 1 ", "first 600 "))
-        process = subprocess.Popen(["bash", "scripts", "2"], cwd=self.room, stdout=subprocess.PIPE, text=True)
+        process = subprocess.Popen(["bash", "scripts", "2"], cwd=self.room, stdout=subprocess.PIPE, stderr=subprocess.PIPE, text=True)
         while process.stdout.readline() != "of first\n":
             pass
         process.terminate()
-        process.communicate(timeout=60)  # no script holds the pipe any more
+        said = process.communicate(timeout=60)[1]  # neither a script nor what is made holds a pipe any more
+        self.assertEqual(said, "")
         found = subprocess.run(["pgrep", "-f", "part first 600"], stdout=subprocess.PIPE, text=True, check=False)
         self.assertEqual(found.stdout, "")
 
