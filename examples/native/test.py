@@ -5,7 +5,6 @@ each file is that of zlib; a file with a byte changed or missing is refused.
 
     examples/native/test.py [--program SFI] [--images N] [--seed SEED]
 """
-import argparse
 import os
 import platform
 import random
@@ -22,12 +21,11 @@ TOP = os.path.dirname(os.path.dirname(HERE))
 sys.path += [os.path.join(TOP, it) for it in ("examples/translate", "fuzz", "bench", "tools")]
 import corpus
 import guarded
-import measure
+import trial
 
 INCLUDED = [word for it in ("sfi_native", "sfi_translate") for word in ("-I", os.path.join(TOP, "crates", it, "include"))]
 COMPILERS = (("gcc", "-O1"), ("clang", "-O1"))
 TURNS = (("2", "2000"), ("50", "13"), ("1", "64"), ("1", "128"), ("3", "100000"))
-INPUT = "00ff10203040506070809a0b0c0d0e0f11"
 PAGE = 4096  # the least data that guard zones lie beside
 OTHER_FILE = 2
 
@@ -64,7 +62,7 @@ def try_image(sfi, compiler, folder, image):
     path = written(os.path.join(folder, "image.native"), file)
     yield f"the file of {image.hex()[:80]}.. is closed", is_closed(file)
     for rounds, quantum in TURNS:
-        options = ["--rounds", rounds, "--quantum", quantum, "--input", INPUT]
+        options = ["--rounds", rounds, "--quantum", quantum, "--input", trial.INPUT]
         wanted, found = printed([sfi, "run", *options], image), printed([program, path, *options])
         yield f"{image.hex()[:80]}.. {options}\n  wanted {wanted[:200]}\n  found  {found[:200]}", wanted == found
 
@@ -82,11 +80,7 @@ def try_refusals(sfi, compiler, folder, image):
 
 
 def main():
-    parser = argparse.ArgumentParser(description=__doc__, formatter_class=argparse.RawDescriptionHelpFormatter)
-    parser.add_argument("--program", default=measure.PROGRAM, help="the program sfi")
-    parser.add_argument("--images", type=int, default=12, help="how many random images (12)")
-    parser.add_argument("--seed", type=int, default=0, help="of the random images (0)")
-    given = parser.parse_args()
+    given = trial.options(__doc__)
     compilers = [it for it in COMPILERS if shutil.which(it[0])]
     if not compilers or sys.platform != "linux" or platform.machine() != "x86_64":
         print("skipped: native code: gcc and clang aren't there, or this isn't Linux on x86-64\n0 passed, 0 failed, 1 skipped")
@@ -99,12 +93,7 @@ def main():
         for number, image in enumerate(images):
             tried += try_image(given.program, compilers[number % len(compilers)], folder, image)
         tried += try_refusals(given.program, compilers[0], folder, images[0])
-    for what, is_right in tried:
-        if not is_right:
-            print(f"FAILED {what}")
-    failed = sum(not is_right for _, is_right in tried)
-    print(f"{len(tried) - failed} passed, {failed} failed")
-    return 1 if failed else 0
+    return trial.ended(tried)
 
 
 if __name__ == "__main__":

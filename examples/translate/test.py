@@ -6,7 +6,6 @@ accesses that are guarded; and a turn of each in WebAssembly, in node.
 
     examples/translate/test.py [--program SFI] [--images N] [--seed SEED]
 """
-import argparse
 import os
 import random
 import shutil
@@ -18,7 +17,7 @@ sys.dont_write_bytecode = True
 import lines
 import corpus
 import guarded
-import measure
+import trial
 import whole_translation
 from lines import HERE, TOP
 from suygapid.image.layout import MAGICS, Part, spelled
@@ -30,7 +29,6 @@ TURNS = (("2", "2000"), ("50", "13"), ("1", "64"), ("1", "128"))
 REFUSED = [(3, "--rounds"), (3, "--rounds", "0"), (3, "--rounds", "10001"), (3, "--quantum", "1000001"), (3, "--quantum", "x"),
            (3, "--other", "1"), (2, "--input", "486"), (2, "--input", "4g")]
 INCLUDE_LINE = '#include "sfi_native.h"\n'
-INPUT = "00ff10203040506070809a0b0c0d0e0f11"
 
 
 def straight():
@@ -71,7 +69,7 @@ def differing(sfi, compiler, folder, image):
     digits = image.hex()
     for program in programs(sfi, compiler, folder, digits):
         for rounds, quantum in TURNS:
-            options = ["--rounds", rounds, "--quantum", quantum, "--input", INPUT]
+            options = ["--rounds", rounds, "--quantum", quantum, "--input", trial.INPUT]
             yield options, printed([sfi, "run", *options], digits.encode()), printed([program, *options])
 
 
@@ -146,11 +144,7 @@ def try_zones(sfi, images):
 
 
 def main():
-    parser = argparse.ArgumentParser(description=__doc__, formatter_class=argparse.RawDescriptionHelpFormatter)
-    parser.add_argument("--program", default=measure.PROGRAM, help="the program sfi")
-    parser.add_argument("--images", type=int, default=12, help="how many random images (12)")
-    parser.add_argument("--seed", type=int, default=0, help="of the random images (0)")
-    given = parser.parse_args()
+    given = trial.options(__doc__)
     pick = random.Random(given.seed)
     skipped = 0
     tried = [("the front of whole programs is the header and the console", whole_translation.is_made())]
@@ -174,13 +168,7 @@ def main():
             skipped += 1
         for program in programs(given.program, compilers[0], folder, images[0].hex()) if compilers else []:
             tried += [(f"the options {options}: status {found}, not {wanted}", wanted == found) for options, wanted, found in statuses(program)]
-    for what, is_right in tried:
-        if not is_right:
-            print(f"FAILED {what}")
-    failed = sum(not is_right for _, is_right in tried)
-    passed = len(tried) - failed
-    print(f"{passed} passed, {failed} failed" + (f", {skipped} skipped" if skipped else ""))
-    return 1 if failed else 0
+    return trial.ended(tried, skipped)
 
 
 if __name__ == "__main__":
