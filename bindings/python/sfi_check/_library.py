@@ -2,9 +2,10 @@
 from __future__ import annotations
 
 import ctypes
-import os
 import pathlib
 from typing import Optional
+
+from . import _places
 
 NAME = "libsfi_c.so"
 PACKAGE = pathlib.Path(__file__).resolve().parent
@@ -18,16 +19,8 @@ class Verdict(ctypes.Structure):
 
 
 def places() -> list[str]:
-    """Where the library is, the first before the others: what SFI_C_LIBRARY names; in this package, as pip installs it; in the
-    repository or the installation that holds this package; at the usual places; where the system looks."""
-    named = os.environ.get("SFI_C_LIBRARY")
-    if named:
-        return [named]
-    folders = [PACKAGE, pathlib.Path.home() / ".local" / "lib", pathlib.Path("/usr/local/lib")]
-    above = PACKAGE.parents
-    if len(above) > 4:
-        folders[1:1] = [above[2] / "crates" / "sfi_c" / "out" / "linked", above[4] / "lib"]
-    return [str(it / NAME) for it in folders if (it / NAME).exists()] + [NAME]
+    """Where the library is, the first before the others."""
+    return _places.places("sfi_c", PACKAGE)
 
 
 class Library:

@@ -8,6 +8,8 @@ import pathlib
 from collections.abc import Callable, Sequence
 from typing import Any
 
+from sfi_check import _places
+
 NAME = "libsfi_run.so"
 PACKAGE = pathlib.Path(__file__).resolve().parent
 
@@ -118,16 +120,8 @@ def _argument(value: int) -> int:
 
 
 def places() -> list[str]:
-    """Where the library is, the first before the others: what SFI_RUN_LIBRARY names; in this package, as pip installs it; in
-    the repository or the installation that holds this package; at the usual places; where the system looks."""
-    named = os.environ.get("SFI_RUN_LIBRARY")
-    if named:
-        return [named]
-    folders = [PACKAGE, pathlib.Path.home() / ".local" / "lib", pathlib.Path("/usr/local/lib")]
-    above = PACKAGE.parents
-    if len(above) > 4:
-        folders[1:1] = [above[2] / "crates" / "sfi_run" / "out" / "linked", above[4] / "lib"]
-    return [str(it / NAME) for it in folders if (it / NAME).exists()] + [NAME]
+    """Where the library is, the first before the others."""
+    return _places.places("sfi_run", PACKAGE)
 
 
 def _version_number() -> int:
