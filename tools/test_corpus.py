@@ -5,6 +5,7 @@ import contextlib
 import hashlib
 import json
 import os
+import pathlib
 import pty
 import re
 import shutil
@@ -26,6 +27,25 @@ SHORT = SMALLEST[:-1]
 ACCEPTED, REFUSED = "accepted sandboxes=1 bundles=16", "refused findings=1 first=V4 sandbox=0 at=01000000"
 READY = os.path.exists(libraries.built("sfi_c")) and shutil.which("gcc")
 LOGIC = r"version=\d+\.\d+\.\d+ commit=\w+(\+\w+)? logic=\w+"
+NOBODY = 65534 if os.geteuid() == 0 else None  # a user who may write nothing here, where the tests' own may write all
+COUNTS = ["18 accepted", "2 refused first=V4", "1 no image fault=Short"]
+# What `report` takes of pyarrow, which writes what it is handed.
+PYARROW = {
+    "__init__": """
+def string(): return "text"
+def int64(): return "number"
+def schema(columns): return columns
+class Table:
+    @staticmethod
+    def from_pylist(rows, columns): return [columns, rows]
+""",
+    "parquet": """
+import json
+def write_table(table, path):
+    with open(path, "w") as file:
+        json.dump(table, file)
+""",
+}
 # Work that kills the process which does it, the first time that a file isn't there.
 KILLS = """
 import os, signal, time
@@ -71,8 +91,8 @@ class Corpus(Folder):
             self.image(f"many/{k:05}.image", bytes(made) + k.to_bytes(4, "little"))
         return str(self.room / "many")
 
-    def run_words(self, *words, env=None):
-        done = subprocess.run(words, capture_output=True, text=True, check=False, env=env or self.env, cwd=self.room)
+    def run_words(self, *words, env=None, user=None):
+        done = subprocess.run(words, capture_output=True, text=True, check=False, env=env or self.env, cwd=self.room, user=user)
         return done.returncode, done.stdout.splitlines(), done.stderr
 
     def check(self, *words):
@@ -111,8 +131,8 @@ class Files(Corpus):
     def test_json(self):
         name = self.image("a\nb", BROKEN)
         told = json.loads(self.check("--json", name)[1][0])
-        self.assertEqual({it: told[it] for it in ("file", "status", "findings", "rule", "sandbox", "at", "sha256")},
-                         {"file": name, "status": 1, "findings": 1, "rule": "V4", "sandbox": 0, "at": "01000000",
+        self.assertEqual({it: told[it] for it in ("file", "status", "verdict", "findings", "rule", "sandbox", "at", "sha256")},
+                         {"file": name, "status": 1, "verdict": REFUSED, "findings": 1, "rule": "V4", "sandbox": 0, "at": "01000000",
                           "sha256": hashlib.sha256(BROKEN).hexdigest()})
         self.assertRegex(" ".join(f"{it}={told[it]}" for it in ("version", "commit", "logic")), f"^{LOGIC}$")
         self.assertEqual(self.check(name)[1][0].rpartition("file=")[2], json.dumps(name))
@@ -178,6 +198,17 @@ class Kept(Corpus):
         self.assertIn(run.returncode, (0, 130, 1))  # it may have ended before
         self.assertNotIn("Traceback", said)
         self.assertRegex(self.corpus("check", folder)[1][-1], "^files=3000: 2700 accepted, 300 refused, 0 no image, 0 not judged; ")
+        self.assertEqual(len(self.told()), 3000)
+
+    def test_a_local_worker_that_is_killed(self):
+        folder = self.images(3000)
+        run = subprocess.Popen([TOOLS / "sfi-corpus", "check", "--jobs", "2", folder], env=self.env, cwd=self.room, stdout=subprocess.PIPE, text=True)
+        workers = pathlib.Path(f"/proc/{run.pid}/task/{run.pid}/children")
+        while run.poll() is None and not (started := workers.read_text(encoding="ascii").split()):
+            time.sleep(0.001)
+        with contextlib.suppress(ProcessLookupError):  # it may have ended before
+            os.kill(int(started[-1]), signal.SIGKILL)
+        self.assertRegex(run.communicate()[0], "files=3000: 2700 accepted, 300 refused, 0 no image, 0 not judged; ")
         self.assertEqual(len(self.told()), 3000)
 
     def test_two_databases(self):
@@ -280,7 +311,55 @@ class Reports(Corpus):
 
     def test_counts(self):
         lines = self.corpus("report")[1]
-        self.assertEqual([re.sub(f" {LOGIC}", "", it) for it in lines], ["18 accepted", "2 refused first=V4", "1 no image fault=Short"])
+        self.assertEqual([re.sub(f" {LOGIC}", "", it) for it in lines], COUNTS)
+
+    def test_the_exact_verdicts(self):
+        verdicts = {it["file"]: it["verdict"] for it in self.told() if "verdict" in it}
+        self.assertEqual(len(verdicts), 21)
+        for name, verdict in (("many/00000.image", ACCEPTED), ("many/00009.image", REFUSED), ("<&>\x01.image", "layout fault 3 Short")):
+            self.assertEqual(verdicts[self.path(name)], verdict)
+
+    def test_a_database_that_cannot_be_written(self):
+        """Nobody's own process reads it, since root may write all; nothing changes, and what is to be written is refused."""
+        self.room.chmod(0o755)
+        python = shutil.which("python3", path="/usr/bin")  # which each user can run
+        if not python or self.run_words(python, TOOLS / "sfi-corpus", "--help", user=NOBODY)[0]:
+            self.skipTest("/usr/bin/python3 isn't there, or nobody can't run the tool")
+        self.image("copied/corpus.sqlite", (self.room / "corpus.sqlite").read_bytes())
+        self.addCleanup((self.room / "copied").chmod, 0o755)
+        for path, mode in ((self.room / "copied" / "corpus.sqlite", 0o444), (self.room / "copied", 0o555)):
+            path.chmod(mode)
+        before = self.listed("copied")
+        words = [python, TOOLS / "sfi-corpus", "report", "--database", "copied/corpus.sqlite"]
+        status, lines, said = self.run_words(*words, user=NOBODY)
+        self.assertEqual((status, [re.sub(f" {LOGIC}", "", it) for it in lines], said), (0, COUNTS, ""))
+        self.assertEqual(self.listed("copied"), before)
+        status, _, said = self.run_words(python, TOOLS / "sfi-corpus", "check", "--database", "copied/corpus.sqlite", "none", user=NOBODY)
+        self.assertEqual((status, said), (5, "sfi-corpus: copied/corpus.sqlite: attempt to write a readonly database\n"))
+        self.assertEqual(self.corpus("merge", "new", "copied/corpus.sqlite"), (0, [], ""))
+        self.assertEqual(len(self.told("new")), 22)
+
+    def listed(self, folder):
+        """The names, times and lengths of the files in a folder."""
+        return sorted((it.name, it.stat().st_mtime_ns, it.stat().st_size) for it in (self.room / folder).iterdir())
+
+    def test_a_report_leaves_nothing(self):
+        before = self.listed(".")
+        self.corpus("report")
+        self.assertEqual(self.listed("."), before)
+
+    def test_parquet_by_a_stand_in(self):
+        """What pyarrow is handed: columns with their types, and the rows."""
+        for name, text in PYARROW.items():
+            self.write(f"pyarrow/{name}.py", text)
+        status, _, said = self.run_words(TOOLS / "sfi-corpus", "report", "--parquet", "x.parquet", env={**self.env, "PYTHONPATH": self.folder})
+        self.assertEqual((status, said), (0, ""))
+        columns, rows = json.loads(self.read("x.parquet"))
+        self.assertEqual(columns, [["file", "text"], ["status", "number"], ["sha256", "text"], ["verdict", "text"], ["sandboxes", "number"],
+                                   ["bundles", "number"], ["findings", "number"], ["rule", "text"], ["sandbox", "number"], ["at", "text"],
+                                   ["fault", "text"], ["failure", "text"], ["version", "text"], ["commit", "text"], ["logic", "text"]])
+        self.assertEqual((len(rows), [it["verdict"] for it in rows if it["status"] == 1]), (22, [REFUSED] * 2))
+        self.assertLessEqual({key for it in rows for key in it}, {name for name, _ in columns})
 
     def test_the_page(self):
         self.corpus("report", "--page", "page.html")

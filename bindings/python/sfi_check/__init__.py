@@ -62,10 +62,12 @@ class Verdict:
             f"accepted sandboxes={self.sandboxes} bundles={self.bundles}"
 
     def fields(self) -> dict[str, Any]:
-        """What is known, for JSON."""
+        """What is known, for JSON: the line, and what it says."""
+        line = {"verdict": str(self)}
         if self.first:
-            return {"findings": self.findings, "rule": f"V{self.first.rule}", "sandbox": self.first.sandbox, "at": f"{self.first.address:08x}"}
-        return {"fault": FAULTS[self.fault]} if self.fault else {"sandboxes": self.sandboxes, "bundles": self.bundles}
+            first = {"rule": f"V{self.first.rule}", "sandbox": self.first.sandbox, "at": f"{self.first.address:08x}"}
+            return {**line, "findings": self.findings, **first}
+        return {**line, **({"fault": FAULTS[self.fault]} if self.fault else {"sandboxes": self.sandboxes, "bundles": self.bundles})}
 
 
 def check(image: bytes) -> Verdict:

@@ -177,7 +177,7 @@ def main(words: Optional[Sequence[str]] = None) -> int:
     options = parsed(words)
     does = {"check": check, "seeds": by_seeds, "merge": merge, "report": told}[options.kind]
     try:
-        with Store(options.database, make=options.kind != "report") as store:
+        with Store(options.database, reads=options.kind == "report") as store:
             return does(store, options)
     except KeyboardInterrupt:
         print(f"sfi-corpus: interrupted; {options.database} has what was done, and the same command goes on", file=sys.stderr)

@@ -61,7 +61,7 @@ def write_parquet(store: Store, path: str) -> None:
     import pyarrow.parquet
 
     text, number = pyarrow.string(), pyarrow.int64()
-    columns = {"file": text, "status": number, "sha256": text, "sandboxes": number, "bundles": number, "findings": number, "rule": text,
+    columns = {"file": text, "status": number, "sha256": text, "verdict": text, "sandboxes": number, "bundles": number, "findings": number, "rule": text,
                "sandbox": number, "at": text, "fault": text, "failure": text, "version": text, "commit": text, "logic": text}
     rows = [{**it, "file": it["file"].encode(errors="surrogateescape").decode(errors="backslashreplace")} for it in records(store)]
     pyarrow.parquet.write_table(pyarrow.Table.from_pylist(rows, pyarrow.schema(list(columns.items()))), path)

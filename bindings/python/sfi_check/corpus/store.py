@@ -6,6 +6,7 @@ import contextlib
 import os
 import sqlite3
 import time
+import urllib.parse
 from collections.abc import Iterable, Iterator
 from typing import Any, Optional, Union
 
@@ -59,18 +60,33 @@ def _verdict(columns: Iterable[int]) -> Verdict:
     return Verdict(status, sandboxes, bundles, findings, Finding(sandbox, address, rule) if rule else None, fault)
 
 
-class Store:
-    """A database, which is made where there is none. Checkers are named by the words of what they were built of."""
+def _address(path: str, mode: str) -> str:
+    """What SQLite opens for a path, in that mode."""
+    return f"file://{urllib.parse.quote(os.fsencode(os.path.abspath(path)))}?mode={mode}"
 
-    def __init__(self, path: str, make: bool = True) -> None:
-        if not make and not os.path.exists(path):
+
+def _to_read(path: str) -> str:
+    """The same for a database that is only read. Where nothing may be written, SQLite has to be told that nobody else writes, either,
+    unless somebody who does has left a file beside it."""
+    if all(os.access(it, os.W_OK) for it in (path, os.path.dirname(os.path.abspath(path)))):
+        return _address(path, "rw")
+    return _address(path, "ro" if os.path.exists(path + "-wal") else "ro&immutable=1")
+
+
+class Store:
+    """A database, which is made where there is none, unless it is only read. Checkers are named by the words of what they were built
+    of."""
+
+    def __init__(self, path: str, reads: bool = False) -> None:
+        if reads and not os.path.exists(path):
             raise Wrong(f"{path} isn't there")
         try:
-            self.base = sqlite3.connect(path, WAITED, isolation_level=None)
+            self.base = sqlite3.connect(_to_read(path) if reads else _address(path, "rwc"), WAITED, isolation_level=None, uri=True)
             layout, = self.base.execute("pragma user_version").fetchone()
-            if layout not in (0, LAYOUT) or not layout and self.base.execute("select 1 from sqlite_master").fetchone():
+            is_new = not layout and not reads and not self.base.execute("select 1 from sqlite_master").fetchone()
+            if layout != LAYOUT and not is_new:
                 raise Wrong(f"{path} is no database of this sfi-corpus")
-            self.base.executescript(f"{PRAGMAS} {TABLES} pragma user_version = {LAYOUT};")
+            self.base.executescript("pragma query_only = 1;" if reads else f"{PRAGMAS} {TABLES} pragma user_version = {LAYOUT};")
         except sqlite3.Error as error:
             raise Wrong(f"{path}: {error}") from error
         self.path, self.written = path, 0.0
@@ -185,9 +201,9 @@ class Store:
     def merge(self, path: str) -> None:
         """Takes what another database has and this one hasn't. Wrong where they have different verdicts of one checker on the same
         bytes: nothing changes then."""
-        with Store(path, make=False):
+        with Store(path, reads=True):
             pass
-        self.base.execute("attach ? as other", (path,))
+        self.base.execute("attach ? as other", (_to_read(path),))
         try:
             self._merge(path)
         finally:
