@@ -14,27 +14,28 @@ import os
 import sys
 import tempfile
 from concurrent.futures import ThreadPoolExecutor
-from dataclasses import dataclass
+from dataclasses import dataclass, replace
 
 from suygapid.cc.compilers import (
-    CLANG, GCC, WITH_VALUE, Failed, compiled, default_compiler, is_source, reserved, run, tell)
+    CLANG, GCC, PLUS_PLUS_SOURCES, SOURCES, WITH_VALUE, Failed, compiled, default_compiler, is_clang, is_source, reserved, run, tell)
 from suygapid.cc.signatures import lines_of
 from suygapid.commands.options import add_program, address, place, region
 from suygapid.elf import linking
 from suygapid.elf.elf import Wrong
 from suygapid.elf.image import as_text, image
-from suygapid.elf.small import ROOM, options_of, small_bytes
-from suygapid.elf.tools import Target, assembled, rewritten
+from suygapid.elf.small import LIMIT, ROOM, SMALL, options_of, small_bytes, with_limit
+from suygapid.elf.tools import Target, assembled, assembled_file, rewritten
 from suygapid.elf.where import told
 from suygapid.image.layout import MOST_SANDBOXES, NAMED as FORMATS
 from suygapid.image.names import LONGEST, SERVICE, is_name, too_long_lists
 from suygapid.library import plus_plus, small_library
-from suygapid.library.archives import NAMED, SMALL, folders_of, headers
+from suygapid.library.archives import NAMED, folders_of, headers
+from suygapid.library.archives import SMALL as SMALL_LIBRARY
 from suygapid.services import GATES
 
 LINKED = (".o", ".a")
-SMALLER: tuple[list[str], ...] = ([], ["-msmall-data-limit=8"], ["-msmall-data-limit=0"])
-TOO_MANY_SMALL = b"the small objects and the room below them exceed"  # what the linker script says
+LIMITS = (SMALL, 8, 0)  # bytes of the largest small objects, tried in this order
+LONG = 300_000  # bytes of assembly that take much longer to convert than to link as they are
 DEBUG = ["-Og", "-g", "-fstack-protector-strong"]  # what goes before the compiler's options that are given
 KEEPING = "known,sharing,stepping"  # passes that leave the stack pointer, variables and the order of instructions as they were
 
@@ -197,8 +198,8 @@ def compiled_by(options, words, file, place):
             raise
     options.takes_small = True
     try:
-        hosted = [*headers(folders_of([SMALL], options.cc)), *words]
-        assembly, said = compiled(options.cc, hosted, file, os.path.join(place, SMALL), reserved(options.format))
+        hosted = [*headers(folders_of([SMALL_LIBRARY], options.cc)), *words]
+        assembly, said = compiled(options.cc, hosted, file, os.path.join(place, SMALL_LIBRARY), reserved(options.format))
         return Source(file, hosted, assembly), said
     except Failed as failed:
         failed.told += plus_plus.advice(failed.told) + small_library.advice(failed.told, small_library.speaks_of_others(failed.told))
@@ -238,23 +239,64 @@ def objects_of(options, given, files, sources, folder):
                 for size, source, output in sorted(zip(sizes, sources, outputs), key=lambda job: -job[0])}
         for output in outputs:
             tell(jobs[output].result())
+    return with_outputs(files, outputs)
+
+
+def with_outputs(files, outputs):
+    """The files with these outputs in the places of sources."""
     made = iter(outputs)
     return [next(made) if is_source(file) else file for file in files]
 
 
+def with_fewer_small(options, sources, limit, folder):
+    """The sources with small objects of at most so many bytes; None where the compiler has to make them anew."""
+    found = []
+    for source in sources:
+        if source.file.endswith((*SOURCES, *PLUS_PLUS_SOURCES)):
+            with open(source.assembly, encoding="utf-8", errors="surrogateescape") as file:
+                text = None if is_clang(options.cc) else with_limit(file.read(), limit)
+            if text is None:
+                return None
+            assembly = os.path.join(tempfile.mkdtemp(dir=folder), os.path.basename(source.assembly))
+            with open(assembly, "w", encoding="utf-8", errors="surrogateescape") as file:
+                file.write(text)
+            source = replace(source, assembly=assembly)
+        found.append(source)
+    return found
+
+
+def may_have_room(options, files, sources, folder):
+    """Whether small objects may have room. A long program is linked for that before it's converted, where a library is named."""
+    assemblies = [source.assembly for source in sources]
+    if small_bytes(assemblies) > ROOM:
+        return False
+    if not options.library or sum(map(os.path.getsize, assemblies)) < LONG:
+        return True
+    room = tempfile.mkdtemp(dir=folder)
+    outputs = outputs_of(options, files, room)
+    try:
+        with ThreadPoolExecutor(options.jobs) as pool:
+            list(pool.map(assembled_file, assemblies, outputs))
+    except Failed:
+        return True  # what the converter or `as` says of it comes later
+    return linking.has_room(options, with_outputs(files, outputs), room)
+
+
 def program_of(options, given, files, folder):
-    """The linked program. Where its small objects have no room, which the linker says at last, fewer are small."""
-    rooms = [os.path.join(folder, str(number)) for number in range(len(SMALLER))]
-    for room, smaller in zip(rooms, SMALLER):
+    """The linked program. Where its small objects have no room, which the linker says at last, fewer are small, unless an
+    option says which."""
+    limits, sources = LIMITS[:1] if any(word.startswith(LIMIT) for word in given) else LIMITS, []
+    for limit in limits:
+        room, is_last = os.path.join(folder, str(limit)), limit == limits[-1]
         os.mkdir(room)
-        words, is_last = [*smaller, *given], room == rooms[-1]
-        sources = sources_of(options, words, files, room)
-        if small_bytes(source.assembly for source in sources) > ROOM and not is_last:
+        words = given if limit == SMALL else [f"{LIMIT}{limit}", *given]
+        sources = with_fewer_small(options, sources, limit, room) or sources_of(options, words, files, room)
+        if not is_last and not may_have_room(options, files, sources, room):
             continue
         try:
             return linking.linked(options, objects_of(options, words, files, sources, room), room)
         except Failed as failed:
-            if TOO_MANY_SMALL not in failed.told or is_last or not any(map(is_source, files)):
+            if linking.TOO_MANY_SMALL not in failed.told or is_last or not any(map(is_source, files)):
                 raise
     return None
 

@@ -1,5 +1,6 @@
 """Links objects and archives to an ELF file of a sandbox."""
 import os
+from argparse import Namespace
 
 from suygapid.cc.compilers import Failed, ran, tell
 from suygapid.elf import moving
@@ -14,6 +15,7 @@ from suygapid.services import GATES
 CODE, DATA = 0x01000000, 0x00800000  # a sandbox's place is its number plus 1 times the first, its data lie the second above
 WORDS = ["-m", "elf32lriscv", "--no-relax", "--gc-sections", "-z", "noexecstack", "--no-warn-rwx-segments"]
 UNDEFINED = b"undefined"  # what the linker says of a symbol
+TOO_MANY_SMALL = b"the small objects and the room below them exceed"  # what the linker script says
 START = ["-u", "_start"]  # what a C library does before main and after it, where one has it
 
 
@@ -87,6 +89,18 @@ def ran_linker(words, libraries):
         if libraries.wanted:
             failed.told += f"sfi-cc: for floating point {libraries.wanted}\n".encode()
         raise
+
+
+def has_room(options, objects, folder):
+    """Whether the small objects of a program and of its libraries may have room, by objects whose code has no masks yet: in the end
+    the room below them may be larger, too."""
+    quiet = Namespace(**{**vars(options), "no_signatures": True})
+    try:
+        _, first, last = words_of(quiet, Libraries(quiet, options.library, objects), objects, folder)
+        ran([*first, *last])
+    except Failed as failed:
+        return TOO_MANY_SMALL not in failed.told
+    return True
 
 
 def linked(options, objects, folder):

@@ -26,6 +26,12 @@ def assembled(text: bytes, output: str) -> bytes:
     return ran([binutil("as"), *AS, "-o", output, "-"], text)[1]
 
 
+def assembled_file(path: str, output: str) -> bytes:
+    """The same of a text in a file."""
+    with open(path, "rb") as file:
+        return assembled(file.read(), output)
+
+
 @dataclass(frozen=True)
 class Target:
     """What code is made for: a format, whether the program can be moved, and whether it stops where masks change something."""

@@ -8,7 +8,7 @@ from typing import Callable, Iterable, Sequence
 
 from suygapid.cc.compilers import ASSEMBLY, HOSTED, Failed
 from suygapid.elf.runtime import ingredients
-from suygapid.elf.tools import Target, archived, assembled, rewritten_into
+from suygapid.elf.tools import Target, archived, assembled_file, rewritten_into
 from suygapid.kept import kept
 from suygapid.library import files, newlib, plus_plus, small_library, softfloat
 from suygapid.library.sources import GCC_SOURCE
@@ -47,8 +47,7 @@ def make(folder: str, paths: Sequence[str], target: Target) -> None:
 def object_of(text: str) -> str:
     """The path of the object that is made of a text, in the text's place."""
     output = os.path.splitext(text)[0] + ".o"
-    with open(text, "rb") as file:
-        assembled(file.read(), output)
+    assembled_file(text, output)
     os.remove(text)
     return output
 
