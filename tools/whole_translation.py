@@ -10,7 +10,7 @@ import sys
 
 TOP = os.path.dirname(os.path.dirname(os.path.abspath(__file__)))
 HEADERS = os.path.join(TOP, "crates/sfi_translate/include")
-INCLUDED = ("sfi_native_data.h", "sfi_native.h", "sfi_native_x86_64.h", "sfi_services.h")
+INCLUDED = ("sfi_native_data.h", "sfi_native_guards.h", "sfi_native.h", "sfi_native_x86_64.h", "sfi_services.h")
 CONSOLE = os.path.join(TOP, "examples/translate/sfi_console.c")
 MADE = os.path.join(TOP, "crates/sfi_answers/src/whole_program.rt")
 BEGINNING = """\
@@ -45,8 +45,9 @@ def front():
     whole = read(CONSOLE)
     for header in INCLUDED:
         include = f'#include "{header}"\n'
-        assert whole.count(include) == 1
-        whole = whole.replace(include, read(os.path.join(HEADERS, header)))
+        before, found, after = whole.partition(include)
+        assert found
+        whole = before + read(os.path.join(HEADERS, header)) + after.replace(include, "")
     return BEGINNING + without_comments(OWN_NAME + whole + "#else\n")
 
 

@@ -13,15 +13,10 @@
 static struct sfi_code codes[SFI_SANDBOXES];
 
 static int turn(const struct sfi_sandbox *s, struct sfi_hart *h, sfi_u32 *at) {
-    return sfi_native_turn(&codes[s - sfi_sandboxes], s, h, at);
+    return sfi_native_turn(&codes[s - sfi_sandboxes], h, at);
 }
 
-static void free_guarded(const struct sfi_sandbox *s, uint8_t *data) {
-    if (data != NULL)
-        munmap(data - SFI_PAGE, s->data_size + 2 * SFI_PAGE);
-}
-
-/* The bytes of a file, which stay. */
+/* The bytes of a file. */
 static uint8_t *read_file(const char *path, size_t *length) {
     FILE *const file = fopen(path, "rb");
     uint8_t *bytes = NULL;
@@ -38,8 +33,6 @@ static uint8_t *read_file(const char *path, size_t *length) {
 
 #define SFI_TESTED
 #define sfi_turn turn
-#define sfi_new_data sfi_guarded_data
-#define sfi_free_data free_guarded
 #define main run_console
 #include "../translate/sfi_console.c"
 #undef main
@@ -49,11 +42,13 @@ int main(int count, char **words) {
     if (count < 2)
         return 3;
     uint8_t *const file = read_file(words[1], &length);
-    if (!sfi_map_code(file, length, codes) || sfi_handle_faults()) {
+    const int is_mapped = sfi_map_code(file, length, sfi_sandboxes, SFI_SANDBOXES, codes);
+    free(file);
+    if (!is_mapped) {
         fprintf(stderr, "%s isn't the native code of this image\n", words[1]);
         return 2;
     }
     const int status = run_console(count - 1, words + 1);
-    free(file);
+    sfi_unmap_code(codes, SFI_SANDBOXES);
     return status;
 }

@@ -1,7 +1,7 @@
 #!/usr/bin/env python3
 """Makes native code of images, and compares what it prints in a host with what `sfi run` does, traps and steps included: the
 examples in each format, and random accepted images with accesses to guard zones, in turns of several lengths. The checksum of
-each file is that of zlib; a file with a byte changed or missing is refused.
+each file is that of zlib; a file with a byte changed or missing is refused. Then hostile.py.
 
     examples/native/test.py [--program SFI] [--images N] [--seed SEED]
 """
@@ -21,9 +21,11 @@ TOP = os.path.dirname(os.path.dirname(HERE))
 sys.path += [os.path.join(TOP, it) for it in ("examples/translate", "fuzz", "bench", "tools")]
 import corpus
 import guarded
+import hostile
 import trial
 
 INCLUDED = [word for it in ("sfi_native", "sfi_translate") for word in ("-I", os.path.join(TOP, "crates", it, "include"))]
+FLAGS = ["-std=gnu11", "-Wall", "-Wextra", "-Werror", "-Wno-unused-function", *INCLUDED]
 COMPILERS = (("gcc", "-O1"), ("clang", "-O1"))
 TURNS = (("2", "2000"), ("50", "13"), ("1", "64"), ("1", "128"), ("3", "100000"))
 PAGE = 4096  # the least data that guard zones lie beside
@@ -44,8 +46,7 @@ def host(compiler, folder, sfi, image):
     """The path of a host of the image."""
     text = written(os.path.join(folder, "image.c"), printed([sfi, "translate"], image))
     program = os.path.join(folder, "image")
-    subprocess.run([*compiler, "-std=gnu11", "-Wall", "-Wextra", "-Werror", "-Wno-unused-function", *INCLUDED, f'-DSFI_TEXT="{text}"',
-                    os.path.join(HERE, "sfi_console.c"), "-o", program], check=True)
+    subprocess.run([*compiler, *FLAGS, f'-DSFI_TEXT="{text}"', os.path.join(HERE, "sfi_console.c"), "-o", program], check=True)
     return program
 
 
@@ -93,6 +94,8 @@ def main():
         for number, image in enumerate(images):
             tried += try_image(given.program, compilers[number % len(compilers)], folder, image)
         tried += try_refusals(given.program, compilers[0], folder, images[0])
+        tried += hostile.decodes(printed, compilers[0], FLAGS, folder, pick)
+        tried += hostile.tests(printed, given.program, [it[0] for it in compilers], FLAGS, folder)
     return trial.ended(tried)
 
 

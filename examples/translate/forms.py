@@ -31,7 +31,7 @@ from suygapid.image import layout
 from suygapid.isa.decoding import Instruction
 
 INCLUDE = os.path.join(TOP, "crates/sfi_translate/include")
-HEADERS = ["sfi_native.h", "sfi_native_x86_64.h", "sfi_native_data.h"]
+HEADERS = ["sfi_native.h", "sfi_native_x86_64.h", "sfi_native_data.h", "sfi_native_guards.h"]
 CODE, CODE_SIZE, DATA, PLACE, MASK = 0x01000000, 65536, 0x01800000, 8, 0xFFFFFFFF
 DATA_SIZE, GUARDED_SIZE, ZONE = 256, 4096, 4096
 OTHER = "".join(["SANDBOX(1,16,00f00000,256,01400000,256,00f00000,0,0)\nDATA(1,0)\nFUNCTION(1,00f00000)\n",

@@ -124,12 +124,10 @@ enum { SFI_NEXT, SFI_CALL, SFI_LOAD, SFI_STORE, SFI_BREAK, SFI_FETCH };
 enum { SFI_PART = 16384 };
 #define SFI_HEAD 128
 #define SFI_MOST (SFI_HEAD / 2 + 1)
-static int sfi_step(const struct sfi_sandbox *s, struct sfi_hart *h, sfi_u32 *at) {
-    const sfi_u32 offset = h->pc - s->code;
+static int sfi_step_by(struct sfi_row row, const struct sfi_sandbox *s, struct sfi_hart *h, sfi_u32 *at) {
     *at = h->pc;
-    if (offset >= s->code_size || offset % 2 || s->rows()[offset / 2].size == 0)
+    if (row.size == 0)
         return SFI_FETCH;
-    const struct sfi_row row = s->rows()[offset / 2];
     const sfi_u32 a = h->x[row.rs1], b = h->x[row.rs2], number = (sfi_u32)row.number, place = a + number - s->data;
     sfi_u32 next = h->pc + row.size, value = 0, writes = row.rd;
     switch (row.kind) {
@@ -160,6 +158,12 @@ static int sfi_step(const struct sfi_sandbox *s, struct sfi_hart *h, sfi_u32 *at
     h->pc = next;
     h->left--;
     return SFI_NEXT;
+}
+#ifdef SFI_TEXT
+static int sfi_step(const struct sfi_sandbox *s, struct sfi_hart *h, sfi_u32 *at) {
+    static const struct sfi_row none;
+    const sfi_u32 offset = h->pc - s->code;
+    return sfi_step_by(offset < s->code_size && offset % 2 == 0 ? s->rows()[offset / 2] : none, s, h, at);
 }
 static int sfi_turn(const struct sfi_sandbox *s, struct sfi_hart *h, sfi_u32 *at) {
     sfi_function *const *const functions = s->functions;
@@ -593,32 +597,21 @@ __asm__(".pushsection .rodata.sfi_fixups,\"a\"\nsfi_fixups_end:\n .popsection\n"
 #endif
 #endif
 #endif
+#endif
 #ifdef SFI_GUARDED
+#ifndef SFI_NATIVE_GUARDS_H
+#define SFI_NATIVE_GUARDS_H
+#include <signal.h>
+#include <sys/mman.h>
+#include <ucontext.h>
 #ifndef REG_RIP
-#error "SFI_GUARDED wants _GNU_SOURCE defined before the first header"
+#error "guard zones want _GNU_SOURCE defined before the first header"
 #endif
 enum { SFI_ZONE = 4096 };
-struct sfi_fixup { int32_t access, onward; };
-extern const struct sfi_fixup sfi_fixups[] __attribute__((visibility("hidden")));
-extern const struct sfi_fixup sfi_fixups_end[] __attribute__((visibility("hidden")));
-static uintptr_t sfi_onward(uintptr_t address) {
-    size_t low = 0, high = ((uintptr_t)sfi_fixups_end - (uintptr_t)sfi_fixups) / sizeof *sfi_fixups;
-    while (low < high) {
-        const size_t middle = low + (high - low) / 2;
-        const struct sfi_fixup *it = &sfi_fixups[middle];
-        const uintptr_t access = (uintptr_t)&it->access + (uintptr_t)(intptr_t)it->access;
-        if (access == address)
-            return (uintptr_t)&it->onward + (uintptr_t)(intptr_t)it->onward;
-        if (access < address)
-            low = middle + 1;
-        else
-            high = middle;
-    }
-    return 0;
-}
-static struct sigaction sfi_other_handler;
-static void sfi_hand_on(int number, siginfo_t *info, void *context) {
-    const struct sigaction other = sfi_other_handler;
+static int sfi_takes_fault(uintptr_t address, greg_t registers[]);
+static struct sigaction sfi_handlers_before[2];
+static void sfi_hand_on(struct sigaction *before, int number, siginfo_t *info, void *context) {
+    struct sigaction other = *before;
     const int is_sent = info->si_code <= 0;
     if (other.sa_handler == SIG_IGN && is_sent)
         return;
@@ -629,19 +622,24 @@ static void sfi_hand_on(int number, siginfo_t *info, void *context) {
         return;
     }
     if (other.sa_flags & (int)SA_RESETHAND)
-        sfi_other_handler.sa_handler = SIG_DFL;
+        before->sa_handler = SIG_DFL;
+    if (!(other.sa_flags & SA_NODEFER))
+        sigaddset(&other.sa_mask, number);
+    sigprocmask(SIG_BLOCK, &other.sa_mask, NULL);
     if (other.sa_flags & SA_SIGINFO)
         other.sa_sigaction(number, info, context);
     else
         other.sa_handler(number);
 }
 static void sfi_on_fault(int number, siginfo_t *info, void *context) {
-    greg_t *rip = &((ucontext_t *)context)->uc_mcontext.gregs[REG_RIP];
-    const uintptr_t onward = info->si_code > 0 ? sfi_onward((uintptr_t)*rip) : 0;
-    if (onward != 0)
-        *rip = (greg_t)onward;
-    else
-        sfi_hand_on(number, info, context);
+    greg_t *const registers = ((ucontext_t *)context)->uc_mcontext.gregs;
+    if (info->si_code <= 0 || !sfi_takes_fault((uintptr_t)info->si_addr, registers))
+        sfi_hand_on(&sfi_handlers_before[number == SIGBUS], number, info, context);
+}
+static int sfi_replace_handlers(const struct sigaction *own) {
+    struct sigaction *const before = sfi_handlers_before;
+    return sigaction(SIGSEGV, NULL, &before[0]) || sigaction(SIGBUS, NULL, &before[1]) || sigaction(SIGSEGV, own, NULL) ||
+           sigaction(SIGBUS, own, NULL);
 }
 static int sfi_handle_faults(void) {
     enum { NOT_YET, BEGUN, DONE };
@@ -650,7 +648,7 @@ static int sfi_handle_faults(void) {
     own.sa_sigaction = sfi_on_fault;
     int before = NOT_YET;
     if (__atomic_compare_exchange_n(&state, &before, BEGUN, 0, __ATOMIC_ACQ_REL, __ATOMIC_ACQUIRE))
-        __atomic_store_n(&state, sigaction(SIGSEGV, &own, &sfi_other_handler) ? NOT_YET : DONE, __ATOMIC_RELEASE);
+        __atomic_store_n(&state, sfi_replace_handlers(&own) ? NOT_YET : DONE, __ATOMIC_RELEASE);
     while ((before = __atomic_load_n(&state, __ATOMIC_ACQUIRE)) == BEGUN)
         ;
     return before == DONE ? 0 : -1;
@@ -673,7 +671,33 @@ static void sfi_free_data(const struct sfi_sandbox *s, uint8_t *data) {
     if (data != NULL)
         munmap(data - SFI_ZONE, sfi_room_of(s) + 2 * SFI_ZONE);
 }
-#else
+#endif
+struct sfi_fixup { int32_t access, onward; };
+extern const struct sfi_fixup sfi_fixups[] __attribute__((visibility("hidden")));
+extern const struct sfi_fixup sfi_fixups_end[] __attribute__((visibility("hidden")));
+static uintptr_t sfi_onward(uintptr_t address) {
+    size_t low = 0, high = ((uintptr_t)sfi_fixups_end - (uintptr_t)sfi_fixups) / sizeof *sfi_fixups;
+    while (low < high) {
+        const size_t middle = low + (high - low) / 2;
+        const struct sfi_fixup *it = &sfi_fixups[middle];
+        const uintptr_t access = (uintptr_t)&it->access + (uintptr_t)(intptr_t)it->access;
+        if (access == address)
+            return (uintptr_t)&it->onward + (uintptr_t)(intptr_t)it->onward;
+        if (access < address)
+            low = middle + 1;
+        else
+            high = middle;
+    }
+    return 0;
+}
+static int sfi_takes_fault(uintptr_t address, greg_t registers[]) {
+    const uintptr_t onward = sfi_onward((uintptr_t)registers[REG_RIP]);
+    (void)address;
+    if (onward != 0)
+        registers[REG_RIP] = (greg_t)onward;
+    return onward != 0;
+}
+#elif !defined(SFI_NATIVE_GUARDS_H)
 static uint8_t *sfi_new_data(const struct sfi_sandbox *s) {
     return calloc(1, s->data_size);
 }

@@ -1,0 +1,92 @@
+/* The data of a sandbox between two guard zones, and the faults of the processor there, for hosts on Linux: a handler of SIGSEGV
+   and SIGBUS, which leaves to others what isn't an access of a sandbox. Nothing of this file is proved. */
+#ifndef SFI_NATIVE_GUARDS_H
+#define SFI_NATIVE_GUARDS_H
+#include <signal.h>
+#include <sys/mman.h>
+#include <ucontext.h>
+#include "sfi_native.h"
+#ifndef REG_RIP
+#error "guard zones want _GNU_SOURCE defined before the first header"
+#endif
+
+enum { SFI_ZONE = 4096 };  /* the bytes of a guard zone (docs/IMAGE.md), and of a page */
+
+/* Whether the fault at that address is one of a sandbox's access: then the registers are where it goes on. An includer has it. */
+static int sfi_takes_fault(uintptr_t address, greg_t registers[]);
+
+static struct sigaction sfi_handlers_before[2];  /* of SIGSEGV and SIGBUS */
+
+/* Does what would be done without this file's handler, by the flags and the mask of the one before: the mask ends with the signal. */
+static void sfi_hand_on(struct sigaction *before, int number, siginfo_t *info, void *context) {
+    struct sigaction other = *before;
+    const int is_sent = info->si_code <= 0;
+    if (other.sa_handler == SIG_IGN && is_sent)
+        return;
+    if (other.sa_handler == SIG_DFL || other.sa_handler == SIG_IGN) {  /* a fault comes again */
+        sigaction(number, &other, NULL);
+        if (is_sent)
+            raise(number);
+        return;
+    }
+    if (other.sa_flags & (int)SA_RESETHAND)
+        before->sa_handler = SIG_DFL;
+    if (!(other.sa_flags & SA_NODEFER))
+        sigaddset(&other.sa_mask, number);
+    sigprocmask(SIG_BLOCK, &other.sa_mask, NULL);
+    if (other.sa_flags & SA_SIGINFO)
+        other.sa_sigaction(number, info, context);
+    else
+        other.sa_handler(number);
+}
+
+static void sfi_on_fault(int number, siginfo_t *info, void *context) {
+    greg_t *const registers = ((ucontext_t *)context)->uc_mcontext.gregs;
+    if (info->si_code <= 0 || !sfi_takes_fault((uintptr_t)info->si_addr, registers))
+        sfi_hand_on(&sfi_handlers_before[number == SIGBUS], number, info, context);
+}
+
+/* What is there stays known before it is replaced: another thread may fault meanwhile. */
+static int sfi_replace_handlers(const struct sigaction *own) {
+    struct sigaction *const before = sfi_handlers_before;
+    return sigaction(SIGSEGV, NULL, &before[0]) || sigaction(SIGBUS, NULL, &before[1]) || sigaction(SIGSEGV, own, NULL) ||
+           sigaction(SIGBUS, own, NULL);
+}
+
+/* Handles faults, from the first call on. What isn't a sandbox's fault goes to the handler that was there then. It is set once:
+   one that is set later may hand on to it, and a fault of neither would go round. SA_NODEFER: another handler may jump away. */
+static int sfi_handle_faults(void) {
+    enum { NOT_YET, BEGUN, DONE };
+    static int state;
+    struct sigaction own = { .sa_flags = SA_SIGINFO | SA_ONSTACK | SA_NODEFER };
+    own.sa_sigaction = sfi_on_fault;
+    int before = NOT_YET;
+    if (__atomic_compare_exchange_n(&state, &before, BEGUN, 0, __ATOMIC_ACQ_REL, __ATOMIC_ACQUIRE))
+        __atomic_store_n(&state, sfi_replace_handlers(&own) ? NOT_YET : DONE, __ATOMIC_RELEASE);
+    while ((before = __atomic_load_n(&state, __ATOMIC_ACQUIRE)) == BEGUN)
+        ;  /* another thread's call */
+    return before == DONE ? 0 : -1;
+}
+
+static size_t sfi_room_of(const struct sfi_sandbox *s) {
+    return ((size_t)s->data_size + SFI_ZONE - 1) / SFI_ZONE * SFI_ZONE;
+}
+
+/* Data of zeros between guard zones, or NULL. */
+static uint8_t *sfi_new_data(const struct sfi_sandbox *s) {
+    const size_t room = sfi_room_of(s);
+    uint8_t *const zone = mmap(NULL, room + 2 * SFI_ZONE, PROT_NONE, MAP_PRIVATE | MAP_ANONYMOUS | MAP_NORESERVE, -1, 0);
+    if (zone == MAP_FAILED)
+        return NULL;
+    if (mprotect(zone + SFI_ZONE, room, PROT_READ | PROT_WRITE) || sfi_handle_faults()) {
+        munmap(zone, room + 2 * SFI_ZONE);
+        return NULL;
+    }
+    return zone + SFI_ZONE;
+}
+
+static void sfi_free_data(const struct sfi_sandbox *s, uint8_t *data) {
+    if (data != NULL)
+        munmap(data - SFI_ZONE, sfi_room_of(s) + 2 * SFI_ZONE);
+}
+#endif

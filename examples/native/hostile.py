@@ -1,0 +1,80 @@
+"""Builds the host hostile.c, which does to native code what might break it, with each compiler and with sanitizers, and runs its
+tests. Beside it stands decode.c: what the host decodes when it runs is compared with the decoder of the tools.
+"""
+import os
+import struct
+import subprocess
+
+from suygapid.isa import decoding
+
+HERE = os.path.dirname(os.path.abspath(__file__))
+SOURCE, HOST, DECODER = (os.path.join(HERE, it) for it in ("hostile.s", "hostile.c", "decode.c"))
+TESTS = ("steps", "threads", "worlds", "timer", "fork", "files", "maps", "fates", "ignored", "handler-once", "handler-before", "handler-after")
+# Each build with its tests. The thread sanitizer blocks all signals while a handler runs, and so a sandbox's faults there.
+BUILDS = (
+    (("gcc", "-O2"), TESTS),
+    (("clang", "-O2"), TESTS),
+    (("gcc", "-O1", "-g", "-fsanitize=thread"), ("steps", "threads", "worlds")),
+    (("gcc", "-O1", "-g", "-fsanitize=address,undefined", "-fno-sanitize-recover"), TESTS),
+)
+SECONDS = 60  # that a test may take
+PC = 0x40000
+OPCODES = (0x33, 0x33, 0x33, 0x13, 0x13, 0x03, 0x23, 0x63, 0x6F, 0x67, 0x37, 0x17)
+DECODED = 20000  # words of 32 bits
+
+
+def tests(run, sfi, compilers, flags, folder):
+    """What each test is, and whether it passed. `run` gives a program's output."""
+    with open(SOURCE, "rb") as file:
+        image = run([sfi, "build"], file.read())
+    text, native = (os.path.join(folder, it) for it in ("hostile.inc", "hostile.native"))
+    for path, data in ((text, run([sfi, "translate"], image)), (native, run([sfi, "native"], image))):
+        with open(path, "wb") as file:
+            file.write(data)
+    for compiler, names in BUILDS:
+        if compiler[0] not in compilers:
+            continue
+        host = os.path.join(folder, "hostile")
+        subprocess.run([*compiler, *flags, f'-DSFI_TEXT="{text}"', HOST, "-pthread", "-o", host], check=True)
+        for name in names:
+            yield f"hostile.c, {name}, by {' '.join(compiler)}", is_passed([host, native, name])
+
+
+def is_passed(words):
+    try:
+        return subprocess.run(words, timeout=SECONDS, check=False).returncode == 0
+    except subprocess.TimeoutExpired:
+        return False
+
+
+def samples(pick):
+    """Every 16-bit form, and random words by their opcodes."""
+    words = [struct.pack("<HH", half, pick.getrandbits(16)) for half in range(1 << 16) if half & 3 != 3]
+    for _ in range(DECODED):
+        word = pick.getrandbits(32) & ~0x7F | pick.choice(OPCODES)
+        words.append(struct.pack("<I", word & 0x1FFFFFF | pick.choice((0, 1, 32)) << 25 if word & 0x5F == 0x13 and pick.random() < 0.8 else word))
+    return words + [struct.pack("<I", it) for it in (0x73, 0x100073, 0x0FF0000F)]
+
+
+def row(found):
+    """The row of an instruction, as decode.c prints it."""
+    number = found.number + PC if found.op in ("jal", *decoding.BRANCHES) else found.number >> 12 if found.op in ("lui", "auipc") else found.number
+    if found.op == "fence":
+        return "fence 4 0 0 0 0"
+    return f"{found.op} {found.size} {found.rd} {found.rs1} {found.rs2} {number & 0xFFFFFFFF}"
+
+
+def decodes(run, compiler, flags, folder, pick):
+    """Whether each word that decodes does so to the same instruction."""
+    program, words = os.path.join(folder, "decode"), samples(pick)
+    subprocess.run([*compiler, *flags, DECODER, "-o", program], check=True)
+    rows = run([program, hex(PC)], b"".join(words)).decode().splitlines()
+    wrong = []
+    kinds = set()
+    for word, told in zip(words, rows, strict=True):
+        found = decoding.decode(word)
+        if found is not None:
+            kinds.add(found.op)
+            wrong += [word.hex()] if row(found) != told else []
+    yield f"{len(wrong)} words decode otherwise: {wrong[:3]}", not wrong
+    yield f"{len(kinds)} kinds of instructions", len(kinds) == 48
