@@ -1,5 +1,5 @@
 -- The sandbox's registers in free registers of the processor, and back.
-use Rattle.std.proofs.Common.{◌≡◌, ℕ, ◌+◌, ◌*◌, ◌%◌, ◌^◌, ◌<◌, ◌≤◌, ◌==◌, ◌⊎◌, inl, inr, true, false, length, List, [], ◌∷◌, Option, Some, None, if◌then◌else◌, refl, sym, ap, ◌∙◌, subst, arith, nat_lt}
+use Rattle.std.proofs.Common.{◌≡◌, ℕ, ◌+◌, ◌*◌, ◌%◌, ◌^◌, ◌<◌, ◌≤◌, ◌==◌, ◌⊎◌, inl, inr, true, false, length, List, [], ◌∷◌, Option, Some, None, if◌then◌else◌, refl, sym, ap, ◌∙◌, subst, arith, nat_lt, eqb-true}
 use Rattle.std.specs.Prelude.{Ok}
 use Rattle.std.proofs.lemmas.Bool.{cases_Bool, cases_eq, cases_lt, false≢true, lt-ltb}
 use Rattle.std.proofs.lemmas.List.{get_or-set_same, get_or-set_other, length-set}
@@ -11,17 +11,18 @@ use Rattle.x86_instr.specs.Spelling.{number}
 use Rattle.x86_instr.specs.declared.instr.Instr.{Instr as Native}
 use Rattle.x86_instr.specs.declared.instr.Instr.TheVariants.{Mov}
 use Rattle.x86_instr.specs.declared.instr.Width.TheVariants.{Dword}
-use Rattle.x86_step.specs.State.{Core, may_write, with_memory, with_register, written}
-use Rattle.x86_step.specs.Step.{address, loaded, low, stored}
+use Rattle.x86_step.specs.State.{Core, may_write, number_at, with_memory, with_register, written}
+use Rattle.x86_step.specs.Step.{address, loaded, low, stored, value as operand_value}
 unfoldable use Rattle.x86_step.specs.Step.{computes}
 use Rattle.x86_step.specs.Running.{exec}
 use Rattle.sfi_native.specs.declared.layout.Layout.{Layout}
 use Rattle.sfi_native.specs.Layout.{Holds, IsLayout, IsRelated, OthersStay, value}
-use Rattle.sfi_native.specs.Code.{fetch, operand_of, slot, store_eax, write}
+use Rattle.sfi_native.specs.Code.{bring, fetch, lies_in, operand_of, slot, store_eax, write}
 use Rattle.sfi_native.specs.Registers.{IsRightMap, assigned, is_fixed}
 use Rattle.sfi_native.proofs.Arithmetic.{low_is}
 use Rattle.sfi_native.proofs.Assigned.{Free, free as free_register, holds_kept, holds_on, same_register, updated_same}
-use Rattle.sfi_native.proofs.Kept.{Kept, others_same, updated_other}
+use Rattle.sfi_native.proofs.Kept.{Kept, KeptBut, Leaves, but_register, but_same, others_same, updated_other}
+use Rattle.sfi_native.proofs.Runs.{straight_runs}
 use Rattle.sfi_native.proofs.Fixed.{fixed_free, fixed_length, fixed_same}
 use Rattle.sfi_native.proofs.Memory.{load_there, may_write_each, number_elsewhere, number_written, store_there, written_elsewhere}
 
@@ -99,11 +100,19 @@ module _ (p : Part) (l : Layout) (layout : IsLayout p.data_size l) where
   slot_below : (r : ℕ) → r < 32 → l.frame + 4 * r + 4 ≤ 2 ^ 64
   slot_below r small = omega (arith, small, layout.frame_ends)
 
-  slot_is : (g : Going) (c : Core) (r : ℕ) → r < 32 → IsRelated p l g c → address c (slot r) ≡ l.frame + 4 * r
-  slot_is g c r small is =
+  slot_at : (c : Core) (r : ℕ) → r < 32 → c.registers 4 ≡ l.frame → address c (slot r) ≡ l.frame + 4 * r
+  slot_at c r small frame =
       let near : nat_lt (4 * r) (2 ^ 31) ≡ true = lt-ltb (4 * r) (2 ^ 31) (omega (arith, small)) in
       let below : (l.frame + 0 + 4 * r) % 2 ^ 64 ≡ l.frame + 4 * r = omega (arith, slot_below r small) in
-      rw (near, is.frame) below
+      rw (near, frame) below
+
+  slot_is : (g : Going) (c : Core) (r : ℕ) → r < 32 → IsRelated p l g c → address c (slot r) ≡ l.frame + 4 * r
+  slot_is g c r small is = slot_at c r small is.frame
+
+  -- the value of an operand, where it lies
+  pub operand_is : (c : Core) (r v : ℕ) → r < 32 → v < 2 ^ 32 → c.registers 4 ≡ l.frame → (o : Option Register) → Holds l c r o v → operand_value c Dword (operand_of o r) ≡ Ok v
+  operand_is c r v small fits frame None has = ap (loaded c 4) (slot_at c r small frame) ∙ load_there c 4 (l.frame + 4 * r) v (slot_below r small) has
+  operand_is c r v small fits frame (Some q) has = ap Ok (ap (low Dword) has ∙ low_is v fits)
 
   -- a register that lies there
   pub slot_loaded : (g : Going) (c : Core) (r : ℕ) → r < 32 → IsRelated p l g c → Holds l c r None (value p g r) → loaded c 4 (address c (slot r)) ≡ Ok (value p g r)
@@ -124,6 +133,36 @@ module _ (p : Part) (l : Layout) (layout : IsLayout p.data_size l) where
   pub fetched : (g : Going) (c : Core) (dst : Register) (r : ℕ) → r < 32 → IsRelated p l g c → exec (fetch l.registers dst r) c ≡ Ok (with_register c (number dst) (value p g r))
   fetched g c dst r small is = fetched_from g c dst r small is (assigned l.registers r) (is.registers r small)
 
+  brought_from : (g : Going) (c : Core) (dst : Register) (r : ℕ) → r < 32 → IsRelated p l g c → (o : Option Register) → Holds l c r o (value p g r)
+      → Leaves (number dst) (if lies_in o dst then [] else Mov Dword dst (operand_of o r) ∷ []) c (value p g r)
+  brought_from g c dst r small is None has = record {
+    after = with_register c (number dst) (value p g r);
+    runs = straight_runs (Mov Dword dst (operand_of None r) ∷ []) c (with_register c (number dst) (value p g r)) refl (fetched_from g c dst r small is None has);
+    result = updated_same c.registers (number dst) (value p g r);
+    kept = but_register c (number dst) (value p g r);
+  }
+  brought_from g c dst r small is (Some q) has =
+      let move = Mov Dword dst (operand_of (Some q) r) ∷ [] in
+      let d = with_register c (number dst) (value p g r) in
+      elim (cases_Bool (number q == number dst)) [
+        | inl e ↦ subst (λ t. Leaves (number dst) (if t then [] else move) c (value p g r)) (sym e) (record {
+          after = c;
+          runs = straight_runs [] c c refl refl;
+          result = ap c.registers (sym (eqb-true (number q) (number dst) e)) ∙ has;
+          kept = but_same (number dst) c;
+        })
+        | inr e ↦ subst (λ t. Leaves (number dst) (if t then [] else move) c (value p g r)) (sym e) (record {
+          after = d;
+          runs = straight_runs move c d refl (fetched_from g c dst r small is (Some q) has);
+          result = updated_same c.registers (number dst) (value p g r);
+          kept = but_register c (number dst) (value p g r);
+        })
+      ]
+
+  -- a register's value into that one, unless it lies there
+  pub brought : (g : Going) (c : Core) (dst : Register) (r : ℕ) → r < 32 → IsRelated p l g c → Leaves (number dst) (bring l.registers dst r) c (value p g r)
+  brought g c dst r small is = brought_from g c dst r small is (assigned l.registers r) (is.registers r small)
+
   -- a fixed register isn't written
   pub unwritten : (g : Going) (c : Core) (place : ControlPoint) (rd v : ℕ) (k : Hart) → IsRelated p l g c → IsWritten p g rd v k → is_fixed rd ≡ true
       → IsRelated p l (record { place = place; state = record { hart = k; memory = g.state.memory }; left = g.left }) c
@@ -142,7 +181,7 @@ module _ (p : Part) (l : Layout) (layout : IsLayout p.data_size l) where
 
   -- ---- eax into a register
 
-  module _ (g : Going) (c : Core) (is : IsRelated p l g c) (place : ControlPoint) (rd v : ℕ) (k : Hart) (small : rd < 32) (fits : v < 2 ^ 32) (w : IsWritten p g rd v k) (in_eax : c.registers 0 ≡ v) where
+  module _ (g : Going) (c : Core) (is : IsRelated p l g c) (place : ControlPoint) (rd v : ℕ) (k : Hart) (small : rd < 32) (fits : v < 2 ^ 32) (w : IsWritten p g rd v k) where
     abbrev pub turned : Going
     turned = record { place = place; state = record { hart = k; memory = g.state.memory }; left = g.left }
 
@@ -173,13 +212,6 @@ module _ (p : Part) (l : Layout) (layout : IsLayout p.data_size l) where
       | inr below ↦ inl (omega (arith, below, within))
     ]
 
-    -- the free registers stay
-    abbrev pub FreeStay : Core → Type 0
-    FreeStay e = (k : ℕ) → k < 3 → e.registers k ≡ c.registers k
-
-    abbrev Wrote : List Native → Type 0
-    Wrote is = (e : Core) × (exec is c ≡ Ok e) × IsRelated p l turned e × OthersStay p l c e × FreeStay e
-
     -- where the value is in its place and the others are as before
     related_to : (e : Core) → is_fixed rd ≡ false → Holds l e rd (assigned l.registers rd) v
         → ((r : ℕ) → r < 32 → (r ≡ rd → ⊥) → Holds l c r (assigned l.registers r) (value p g r) → Holds l e r (assigned l.registers r) (value p g r))
@@ -191,106 +223,132 @@ module _ (p : Part) (l : Layout) (layout : IsLayout p.data_size l) where
       | inr other ↦ subst (λ x. Holds l e r (assigned l.registers r) x) (sym (w.old r (inr other))) (old r below other (is.registers r below))
     ]
 
-    -- ---- in the frame
-
-    module _ (free : is_fixed rd ≡ false) (none : assigned l.registers rd ≡ None) where
-      was : Holds l c rd None (value p g rd)
-      was = subst (λ o. Holds l c rd o (value p g rd)) none (is.registers rd small)
-
-      rewritten : IsRelated p l turned stored_core
-      rewritten = record {
-        register_count = w.count;
-        words = word_is;
-        registers = related_to stored_core free (subst (λ o. Holds l stored_core rd o v) (sym none) (number_written c.memory at v fits))
-            (λ r below other has. holds_on l c stored_core r (value p g r) (assigned l.registers r)
-            (λ e. number_elsewhere c.memory 4 at v 4 (l.frame + 4 * r) (beside r other)) (λ q e. refl) has);
-        frame = is.frame;
-        frame_is_written = is.frame_is_written;
-        few = is.few;
-        left = is.left;
-        bytes = λ j within. written_elsewhere c.memory 4 at v (l.data_start + j) (clear j within) ∙ is.bytes j within;
-        bytes_are_written = is.bytes_are_written;
-        origin_is = is.origin_is;
-      }
-
-      can : may_write c.writable 4 at ≡ true
-      can = may_write_each c.writable 4 at (λ j few.
-          let e : l.frame + (4 * rd + j) ≡ at + j = omega arith in
-          subst (λ a. c.writable a ≡ true) e (is.frame_is_written (4 * rd + j) (omega (arith, small, few))))
-
-      store : stored c 4 (address c (slot rd)) (c.registers 0) ≡ Ok stored_core
-      store =
-          ap (λ a. stored c 4 a (c.registers 0)) (slot_is g c rd small is) ∙ ap (stored c 4 at) in_eax
-          ∙ store_there c 4 at (value p g rd) v (slot_below rd small) was can
-
-      stay : OthersStay p l c stored_core
-      stay = record {
-        others = λ j more other apart. refl;
-        elsewhere = λ a by_frame by_data. written_elsewhere c.memory 4 at v a (elim by_frame [
-          | inl below ↦ inl (omega (arith, below))
-          | inr above ↦ inr (omega (arith, above, small))
-        ]);
-        writable = refl;
-      }
-
-      wrote_frame : Wrote (store_eax None rd ∷ [])
-      unfolding computes
-      wrote_frame = (stored_core, rw store refl, rewritten, stay, λ k low. refl)
+    right : IsRightMap l.registers
+    right = layout.registers_are_right
 
     -- ---- in a register of the processor
 
-    module _ (free : is_fixed rd ≡ false) (q : Register) (own : assigned l.registers rd ≡ Some q) where
-      abbrev moved_core : Core
-      moved_core = with_register c (number q) v
-
-      right : IsRightMap l.registers
-      right = layout.registers_are_right
-
+    module _ (q : Register) (own : assigned l.registers rd ≡ Some q) (e : Core) (has : e.registers (number q) ≡ v) (kept : KeptBut (number q) c e) where
       numbered : Free (number q)
       numbered = free_register l.registers right rd q own
 
-      moved : IsRelated p l turned moved_core
+      not_fixed : is_fixed rd ≡ false
+      not_fixed = elim (cases_Bool (is_fixed rd)) [
+        | inl held ↦ let clash : None ≡ Some q = sym (right.in_frame rd held) ∙ own in cc
+        | inr free ↦ free
+      ]
+
+      stays : (k : ℕ) → 2 < k → (k ≡ number q → ⊥) → e.registers k ≡ c.registers k
+      stays = kept.registers
+
+      pub moved : IsRelated p l turned e
       moved = record {
         register_count = w.count;
         words = word_is;
-        registers = related_to moved_core free (subst (λ o. Holds l moved_core rd o v) (sym own) (updated_same c.registers (number q) v))
-            (λ r below other has. holds_on l c moved_core r (value p g r) (assigned l.registers r) (λ e. refl)
-            (λ k e. updated_other c.registers (number q) v (number k) (λ same. other (right.apart r rd q (e ∙ ap Some (same_register k q same)) own))) has);
-        frame = updated_other c.registers (number q) v 4 (λ e. numbered.no_frame (sym e)) ∙ is.frame;
-        frame_is_written = is.frame_is_written;
+        registers = related_to e not_fixed (subst (λ o. Holds l e rd o v) (sym own) has)
+            (λ r below other had. holds_on l c e r (value p g r) (assigned l.registers r) (λ x. ap (λ m. number_at m 4 (l.frame + 4 * r)) kept.memory)
+            (λ k x. stays (number k) (free_register l.registers right r k x).above (λ same. other (right.apart r rd q (x ∙ ap Some (same_register k q same)) own))) had);
+        frame = stays 4 (omega arith) (λ x. numbered.no_frame (sym x)) ∙ is.frame;
+        frame_is_written = λ j below. ap (λ f. f (l.frame + j)) kept.writable ∙ is.frame_is_written j below;
         few = is.few;
-        left = updated_other c.registers (number q) v 14 (λ e. omega (arith, e, numbered.below)) ∙ is.left;
-        bytes = is.bytes;
-        bytes_are_written = is.bytes_are_written;
-        origin_is = updated_other c.registers (number q) v 15 (λ e. omega (arith, e, numbered.below)) ∙ is.origin_is;
+        left = stays 14 (omega arith) (λ x. omega (arith, x, numbered.below)) ∙ is.left;
+        bytes = λ j below. ap (λ m. m (l.data_start + j)) kept.memory ∙ is.bytes j below;
+        bytes_are_written = λ j below. ap (λ f. f (l.data_start + j)) kept.writable ∙ is.bytes_are_written j below;
+        origin_is = stays 15 (omega arith) (λ x. omega (arith, x, numbered.below)) ∙ is.origin_is;
       }
 
-      moved_stay : OthersStay p l c moved_core
+      pub moved_stay : OthersStay p l c e
       moved_stay = record {
-        others = λ k more other apart. updated_other c.registers (number q) v k (λ e. apart (rd, q, own, sym e));
-        elsewhere = λ a by_frame by_data. refl;
-        writable = refl;
+        others = λ k more other apart. stays k more (λ x. apart (rd, q, own, sym x));
+        elsewhere = λ a by_frame by_data. ap (λ m. m a) kept.memory;
+        writable = kept.writable;
       }
 
-      wrote_register : Wrote (store_eax (Some q) rd ∷ [])
-      unfolding computes
-      wrote_register = (
-        moved_core,
-        ap (λ x. Ok (with_register c (number q) x)) (ap (low Dword) in_eax ∙ low_is v fits),
-        moved,
-        moved_stay,
-        λ k low. updated_other c.registers (number q) v k (λ e. omega (arith, e, low, numbered.above)),
-      )
+    -- ---- eax there
 
-    wrote_free : is_fixed rd ≡ false → (o : Option Register) → assigned l.registers rd ≡ o → Wrote (store_eax o rd ∷ [])
-    wrote_free free None e = wrote_frame free e
-    wrote_free free (Some q) e = wrote_register free q e
+    module _ (in_eax : c.registers 0 ≡ v) where
+      -- the free registers stay
+      abbrev pub FreeStay : Core → Type 0
+      FreeStay e = (k : ℕ) → k < 3 → e.registers k ≡ c.registers k
 
-    pub wrote : Wrote (write l.registers rd)
-    wrote = elim (cases_Bool (is_fixed rd)) [
-      | inl held ↦ (c, rw held refl, unwritten g c place rd v k is w held, others_same p l c, λ k low. refl)
-      | inr free ↦ subst (λ t. Wrote (if t then [] else store_eax (assigned l.registers rd) rd ∷ [])) (sym free) (wrote_free free (assigned l.registers rd) refl)
-    ]
+      abbrev Wrote : List Native → Type 0
+      Wrote is = (e : Core) × (exec is c ≡ Ok e) × IsRelated p l turned e × OthersStay p l c e × FreeStay e
+
+      -- ---- in the frame
+
+      module _ (free : is_fixed rd ≡ false) (none : assigned l.registers rd ≡ None) where
+        was : Holds l c rd None (value p g rd)
+        was = subst (λ o. Holds l c rd o (value p g rd)) none (is.registers rd small)
+
+        rewritten : IsRelated p l turned stored_core
+        rewritten = record {
+          register_count = w.count;
+          words = word_is;
+          registers = related_to stored_core free (subst (λ o. Holds l stored_core rd o v) (sym none) (number_written c.memory at v fits))
+              (λ r below other has. holds_on l c stored_core r (value p g r) (assigned l.registers r)
+              (λ e. number_elsewhere c.memory 4 at v 4 (l.frame + 4 * r) (beside r other)) (λ q e. refl) has);
+          frame = is.frame;
+          frame_is_written = is.frame_is_written;
+          few = is.few;
+          left = is.left;
+          bytes = λ j within. written_elsewhere c.memory 4 at v (l.data_start + j) (clear j within) ∙ is.bytes j within;
+          bytes_are_written = is.bytes_are_written;
+          origin_is = is.origin_is;
+        }
+
+        can : may_write c.writable 4 at ≡ true
+        can = may_write_each c.writable 4 at (λ j few.
+            let e : l.frame + (4 * rd + j) ≡ at + j = omega arith in
+            subst (λ a. c.writable a ≡ true) e (is.frame_is_written (4 * rd + j) (omega (arith, small, few))))
+
+        store : stored c 4 (address c (slot rd)) (c.registers 0) ≡ Ok stored_core
+        store =
+            ap (λ a. stored c 4 a (c.registers 0)) (slot_is g c rd small is) ∙ ap (stored c 4 at) in_eax
+            ∙ store_there c 4 at (value p g rd) v (slot_below rd small) was can
+
+        stay : OthersStay p l c stored_core
+        stay = record {
+          others = λ j more other apart. refl;
+          elsewhere = λ a by_frame by_data. written_elsewhere c.memory 4 at v a (elim by_frame [
+            | inl below ↦ inl (omega (arith, below))
+            | inr above ↦ inr (omega (arith, above, small))
+          ]);
+          writable = refl;
+        }
+
+        wrote_frame : Wrote (store_eax None rd ∷ [])
+        unfolding computes
+        wrote_frame = (stored_core, rw store refl, rewritten, stay, λ k low. refl)
+
+      module _ (q : Register) (own : assigned l.registers rd ≡ Some q) where
+        abbrev moved_core : Core
+        moved_core = with_register c (number q) v
+
+        there : moved_core.registers (number q) ≡ v
+        there = updated_same c.registers (number q) v
+
+        but : KeptBut (number q) c moved_core
+        but = but_register c (number q) v
+
+        wrote_register : Wrote (store_eax (Some q) rd ∷ [])
+        unfolding computes
+        wrote_register = (
+          moved_core,
+          ap (λ x. Ok (with_register c (number q) x)) (ap (low Dword) in_eax ∙ low_is v fits),
+          moved q own moved_core there but,
+          moved_stay q own moved_core there but,
+          λ k low. updated_other c.registers (number q) v k (λ e. omega (arith, e, low, (free_register l.registers right rd q own).above)),
+        )
+
+      wrote_free : is_fixed rd ≡ false → (o : Option Register) → assigned l.registers rd ≡ o → Wrote (store_eax o rd ∷ [])
+      wrote_free free None e = wrote_frame free e
+      wrote_free free (Some q) e = wrote_register q e
+
+      pub wrote : Wrote (write l.registers rd)
+      wrote = elim (cases_Bool (is_fixed rd)) [
+        | inl held ↦ (c, rw held refl, unwritten g c place rd v k is w held, others_same p l c, λ k low. refl)
+        | inr free ↦ subst (λ t. Wrote (if t then [] else store_eax (assigned l.registers rd) rd ∷ [])) (sym free) (wrote_free free (assigned l.registers rd) refl)
+      ]
 
 -- where the turn is doesn't matter
 pub related_goes : (p : Part) (l : Layout) (g : Going) (c : Core) (place : ControlPoint) (pc : ℕ) → IsRelated p l g c → IsRelated p l (goes_with g place pc) c

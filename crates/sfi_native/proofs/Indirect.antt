@@ -10,11 +10,11 @@ use Rattle.rv_step.specs.Step.{word}
 use Rattle.sfi_image.specs.Spelling.{Part}
 use Rattle.sfi_translate.specs.Lines.{Line}
 use Rattle.sfi_translate.specs.Machine.{Assembly, Going, at_head, enters as enters_at, is_short, label, one_less}
-use Rattle.x86_instr.specs.declared.operand.Register.TheVariants.{Rax, Rdx}
+use Rattle.x86_instr.specs.declared.operand.Register.TheVariants.{Rdx}
 use Rattle.x86_instr.specs.declared.operand.Operand.TheVariants.{Reg}
 use Rattle.x86_instr.specs.declared.instr.AluOp.TheVariants as alu
 use Rattle.x86_instr.specs.declared.instr.Width.TheVariants.{Dword}
-use Rattle.x86_instr.specs.declared.instr.Instr.TheVariants.{AluImm, MovImm}
+use Rattle.x86_instr.specs.declared.instr.Instr.TheVariants.{AluImm}
 use Rattle.x86_step.specs.State.{Core, IsFixed, Text, with_flags, with_register}
 use Rattle.x86_step.specs.Step.{Reaches, is_canonical, jumped, logical, low, sum}
 unfoldable use Rattle.x86_step.specs.Step.{computes}
@@ -24,16 +24,16 @@ use Rattle.x86_step.proofs.Running.{exec_append, has_back, has_front, spellings_
 use Rattle.sfi_native.specs.declared.layout.Layout.{Layout}
 use Rattle.sfi_native.specs.Layout.{IsLayout, IsRelated, value}
 use Rattle.sfi_native.specs.Laws.{IsLow, JalrLinesRun, end_of, jalr_place}
-use Rattle.sfi_native.specs.Code.{count, enter_code, enter_size, fetch, indirect_jump, jalr_line, number_code, start_code, start_size, steps_code, target_code, write}
+use Rattle.sfi_native.specs.Code.{count, enter_code, enter_size, fetch, indirect_jump, jalr_line, number_code, start_code, start_size, steps_code, target_code}
 use Rattle.sfi_native.specs.Entries.{entry_of}
 use Rattle.sfi_native.specs.Places.{exit_of}
 use Rattle.sfi_native.specs.Table.{HasTable, LieInCode, is_unit_start}
 use Rattle.sfi_native.proofs.Accessing.{offset_is}
 use Rattle.sfi_native.proofs.Counting.{counts}
 use Rattle.sfi_native.proofs.Entering.{enters, has_steps, out_over, starts}
-use Rattle.sfi_native.proofs.Fetching.{fetched, hart_written, related_kept, wrote}
+use Rattle.sfi_native.proofs.Fetching.{fetched, related_kept}
 use Rattle.sfi_native.proofs.Kept.{Kept, kept_join, kept_register, kept_result, others_join, others_kept}
-use Rattle.sfi_native.proofs.Lines.{hart_with, write_straight}
+use Rattle.sfi_native.proofs.Lines.{number_written}
 use Rattle.sfi_native.proofs.Lists.{enter_bytes, start_bytes}
 use Rattle.sfi_native.proofs.Runs.{back_fixed, back_stands, end_append, runs_join, straight_runs, then_reaches}
 use Rattle.sfi_native.proofs.Table.{table_kept, table_stays}
@@ -166,18 +166,16 @@ jalr_lines_run target p code rest address size rd rs1 imm distance base l t at g
     let place = at_head target left (enters_at target p code address to) in
     let first = targets p l here.layout g c here.related rs1 imm range.1 in
     let k = first.core in
-    let d = with_register k 0 v in
-    let kept = kept_join c k d first.kept (kept_register k 0 v (omega arith)) in
-    let is = related_kept p l here.layout g c d here.related kept in
-    let w = wrote p l here.layout g d is place rd v (hart_with p l here.layout g c here.related place to rd v) range.0 (omega arith) (hart_written p g here.related.register_count to rd v range.0) refl in
-    let last = counts p l here.layout _ w.0 w.2 in
+    let is = related_kept p l here.layout g c k here.related first.kept in
+    let number = number_written p l here.layout g k is place to rd v range.0 (omega arith) in
+    let w = number.0 in
+    let last = counts p l here.layout _ w.core w.related in
     let target_runs = straight_runs (target_code l.registers rs1 (word imm)) c k refl first.runs in
-    let number_runs = runs_join (MovImm Rax v ∷ []) (write l.registers rd) k d w.0 (straight_runs (MovImm Rax v ∷ []) k d refl refl) (straight_runs (write l.registers rd) d w.0 (write_straight l.registers rd) w.1) in
-    let count_runs = runs_join (number_code l.registers rd v) count k w.0 last.core number_runs (straight_runs count w.0 last.core refl last.runs) in
+    let count_runs = runs_join (number_code l.registers rd v) count k w.core last.core w.runs (straight_runs count w.core last.core refl last.runs) in
     let front = target_code l.registers rs1 (word imm) ++ (number_code l.registers rd v ++ count) in
     let runs = runs_join (target_code l.registers rs1 (word imm)) (number_code l.registers rd v ++ count) c k last.core target_runs count_runs in
-    let edx : last.core.registers 2 ≡ to = last.others 2 (λ e. omega (arith, e)) ∙ w.4 2 (omega arith) ∙ first.edx in
-    let stay = others_join p l c d last.core (others_kept p l c d kept) (others_join p l d w.0 last.core w.3 last.stay) in
+    let edx : last.core.registers 2 ≡ to = last.others 2 (λ e. omega (arith, e)) ∙ number.1 ∙ first.edx in
+    let stay = others_join p l c k last.core (others_kept p l c k first.kept) (others_join p l k w.core last.core w.others last.stay) in
     let from = end_of at front in
     let end : end_of from (indirect_jump distance) ≡ end_of at (jalr_line l.registers rd rs1 (word imm) v distance) = end_append at front (indirect_jump distance) in
     let it = goes_on p l here.layout base code lie t here.text_is_low in_reach _ few last.core last.related (table_stays p l here.layout base code c last.core stay has) to edx (target_fits (value p g rs1) imm) from distance ahead

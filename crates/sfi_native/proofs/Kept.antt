@@ -76,3 +76,54 @@ behind c d one more v runs kept done = record {
   result = done.result;
   kept = kept_join c d done.after kept done.kept;
 }
+
+-- ==== Results in any register.
+
+-- eax, ecx, edx, the flags and the register of that number may differ
+pub record KeptBut (r : ℕ) (c d : Core) : Type 0 where
+  pub registers : (k : ℕ) → 2 < k → (k ≡ r → ⊥) → d.registers k ≡ c.registers k
+  pub memory : d.memory ≡ c.memory
+  pub writable : d.writable ≡ c.writable
+
+pub kept_but : (r : ℕ) (c d : Core) → Kept c d → KeptBut r c d
+kept_but r c d k = record { registers = λ j more other. k.registers j more; memory = k.memory; writable = k.writable }
+
+pub but_join : (r : ℕ) (c d e : Core) → KeptBut r c d → KeptBut r d e → KeptBut r c e
+but_join r c d e a b = record {
+  registers = λ k more other. b.registers k more other ∙ a.registers k more other;
+  memory = b.memory ∙ a.memory;
+  writable = b.writable ∙ a.writable;
+}
+
+pub but_same : (r : ℕ) (c : Core) → KeptBut r c c
+but_same r c = record { registers = λ k more other. refl; memory = refl; writable = refl }
+
+pub but_flags : (r : ℕ) (c : Core) (f : Flags) → KeptBut r c (with_flags c f)
+but_flags r c f = record { registers = λ k more other. refl; memory = refl; writable = refl }
+
+pub but_register : (c : Core) (r v : ℕ) → KeptBut r c (with_register c r v)
+but_register c r v = record { registers = λ k more other. updated_other c.registers r v k other; memory = refl; writable = refl }
+
+-- the instructions leave v in the register of that number
+pub record Leaves (r : ℕ) (is : List Native) (c : Core) (v : ℕ) : Type 0 where
+  pub after : Core
+  pub runs : Runs is c after
+  pub result : after.registers r ≡ v
+  pub kept : KeptBut r c after
+
+pub leaves_in_eax : (is : List Native) (c : Core) (v : ℕ) → Leaves 0 is c v → Computed is c v
+leaves_in_eax is c v done = record {
+  after = done.after;
+  runs = done.runs;
+  result = done.result;
+  kept = record { registers = λ k more. done.kept.registers k more (λ e. omega (arith, e, more)); memory = done.kept.memory; writable = done.kept.writable };
+}
+
+-- one after another
+pub leaves_join : (r : ℕ) (one more : List Native) (c : Core) (v w : ℕ) (done : Leaves r one c v) → Leaves r more done.after w → Leaves r (one ++ more) c w
+leaves_join r one more c v w done next = record {
+  after = next.after;
+  runs = runs_join one more c done.after next.after done.runs next.runs;
+  result = next.result;
+  kept = but_join r c done.after next.after done.kept next.kept;
+}

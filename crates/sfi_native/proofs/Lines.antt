@@ -1,7 +1,7 @@
 -- The code of a computing line, from its first instruction to its last.
-use Rattle.std.proofs.Common.{◌≡◌, ℕ, ◌+◌, ◌*◌, ◌%◌, ◌^◌, ◌<◌, true, List, [], ◌∷◌, ◌++◌, Option, Some, None, refl, arith, inl, inr}
-use Rattle.std.specs.Prelude.{ℤ}
-use Rattle.std.proofs.lemmas.Bool.{cases_Bool, false≢true}
+use Rattle.std.proofs.Common.{◌≡◌, ℕ, ◌+◌, ◌*◌, ◌%◌, ◌^◌, ◌<◌, Bool, true, false, List, [], ◌∷◌, ◌++◌, ◌==◌, ◌∙◌, Option, Some, None, if◌then◌else◌, refl, sym, ap, subst, append_assoc, arith, inl, inr}
+use Rattle.std.specs.Prelude.{Ok, ℤ}
+use Rattle.std.proofs.lemmas.Bool.{cases_Bool, eq-eqb, false≢true}
 use Rattle.rv_word.specs.declared.instr.RegOp.{RegOp}
 use Rattle.rv_word.specs.declared.instr.ImmOp.{ImmOp}
 use Rattle.rv_word.specs.declared.instr.Instr.{Instr}
@@ -18,21 +18,26 @@ use Rattle.x86_instr.specs.declared.operand.Register.{Register}
 use Rattle.x86_instr.specs.declared.operand.Register.TheVariants.{Rax, Rcx}
 use Rattle.x86_instr.specs.declared.instr.Instr.{Instr as Native}
 use Rattle.x86_instr.specs.declared.instr.Instr.TheVariants.{MovImm}
-use Rattle.x86_step.specs.State.{Core, with_register}
+use Rattle.x86_instr.specs.declared.operand.Operand.TheVariants.{Reg}
+use Rattle.x86_instr.specs.declared.instr.Width.TheVariants.{Dword}
+use Rattle.x86_instr.specs.Spelling.{number}
+use Rattle.x86_step.specs.State.{Core, number_at, with_register}
+use Rattle.x86_step.specs.Step.{value as operand_value}
 unfoldable use Rattle.x86_step.specs.Step.{computes}
 use Rattle.x86_step.specs.Running.{are_straight}
 use Rattle.sfi_native.specs.declared.registers.RegisterMap.{RegisterMap}
 use Rattle.sfi_native.specs.declared.layout.Layout.{Layout}
 use Rattle.sfi_native.specs.Layout.{IsLayout, IsRelated, OthersStay, value}
 use Rattle.sfi_native.specs.Laws.{ComputingLinesRun}
-use Rattle.sfi_native.specs.Code.{computing_line, count, does_compute, fetch, imm_code, number_code, op_code, store_eax, write}
+use Rattle.sfi_native.specs.Code.{bring, computing_line, count, does_compute, ecx_code, fetch, imm_code, needs_ecx, number_code, op_code, operand_of, place_beside, place_code, result_in, settle, store_eax, write}
 use Rattle.sfi_native.specs.Registers.{assigned, is_fixed}
 unfoldable use Rattle.sfi_native.specs.Code.{computation, compute, compute_imm}
-use Rattle.sfi_native.proofs.Computing.{computed, computed_imm}
-use Rattle.sfi_native.proofs.Kept.{Computed, behind, kept_register, others_join, others_kept, others_same}
+use Rattle.sfi_native.proofs.Assigned.{free, holds_on, same_register, updated_same}
+use Rattle.sfi_native.proofs.Computing.{computed, computed_imm, computed_there}
+use Rattle.sfi_native.proofs.Kept.{Computed, KeptBut, Leaves, behind, but_register, kept_register, leaves_in_eax, leaves_join, others_join, others_kept, others_same, updated_other}
 use Rattle.sfi_native.proofs.Counting.{counted, counts}
 use Rattle.sfi_native.proofs.Runs.{Runs, runs_join, straight_runs}
-use Rattle.sfi_native.proofs.Fetching.{fetched, hart_written, related_kept, unwritten, wrote}
+use Rattle.sfi_native.proofs.Fetching.{brought, fetched, hart_written, moved, moved_stay, operand_is, related_kept, unwritten, wrote}
 
 store_straight : (o : Option Register) (rd : ℕ) → are_straight (store_eax o rd ∷ []) ≡ true
 store_straight None rd = refl
@@ -61,7 +66,7 @@ module _ (p : Part) (l : Layout) (layout : IsLayout p.data_size l) (g : Going) (
   abbrev pub hart_with : ℕ → ℕ → Hart
   hart_with rd v = fixed p (with_value (with_pc (fixed p g.state.hart) pc) rd v)
 
-  abbrev turn_with : ℕ → ℕ → ℕ → Going
+  abbrev pub turn_with : ℕ → ℕ → ℕ → Going
   turn_with rd v left = record { place = place; state = record { hart = hart_with rd v; memory = g.state.memory }; left = left }
 
   -- a value that was computed goes to rd, and the step is counted
@@ -71,33 +76,138 @@ module _ (p : Part) (l : Layout) (layout : IsLayout p.data_size l) (g : Going) (
       let w = wrote p l layout g done.after kept place rd v (hart_with rd v) small fits (hart_written p g is.register_count pc rd v small) done.result in
       record { core = w.0; runs = runs_join front (write l.registers rd) c done.after w.0 done.runs (straight_runs (write l.registers rd) done.after w.0 (write_straight l.registers rd) w.1); related = w.2; others = others_join p l c done.after w.0 (others_kept p l c done.after done.kept) w.3 }
 
-  op_comes : (op : RegOp) (rd rs1 rs2 : ℕ) → rd < 32 → rs1 < 32 → rs2 < 32
-      → Comes (op_code l.registers op rd rs1 rs2) p l c (turn_with rd (result_of op (value p g rs1) (value p g rs2)) g.left)
-  op_comes op rd rs1 rs2 fd f1 f2 =
+  -- a result that was computed where rd lies, or in eax, goes to rd
+  pub settled : (front : List Native) (o : Option Register) (rd v : ℕ) → rd < 32 → v < 2 ^ 32 → ((q : Register) → o ≡ Some q → assigned l.registers rd ≡ Some q)
+      → Leaves (number (result_in o)) front c v → Comes (front ++ settle l.registers o rd) p l c (turn_with rd v g.left)
+  settled front None rd v small fits own done = finish front rd v small fits (leaves_in_eax front c v done)
+  settled front (Some q) rd v small fits own done =
+      let w = hart_written p g is.register_count pc rd v small in
+      record {
+        core = done.after;
+        runs = runs_join front [] c done.after done.after done.runs (straight_runs [] done.after done.after refl refl);
+        related = moved p l layout g c is place rd v (hart_with rd v) small fits w q (own q refl) done.after done.result done.kept;
+        others = moved_stay p l layout g c is place rd v (hart_with rd v) small fits w q (own q refl) done.after done.result done.kept;
+      }
+
+  ecx_comes : (op : RegOp) (rd rs1 rs2 : ℕ) → needs_ecx op ≡ true → rd < 32 → rs1 < 32 → rs2 < 32
+      → Comes (ecx_code l.registers op rd rs1 rs2) p l c (turn_with rd (result_of op (value p g rs1) (value p g rs2)) g.left)
+  ecx_comes op rd rs1 rs2 needs fd f1 f2 =
       let a = value p g rs1 in
       let b = value p g rs2 in
       let c1 = with_register c 0 a in
       let c2 = with_register c1 1 b in
       let k1 = kept_register c 0 a (omega arith) in
-      let second = behind c1 c2 (fetch l.registers Rcx rs2) (compute op) (result_of op a b) (straight_runs (fetch l.registers Rcx rs2) c1 c2 refl (fetched p l layout g c1 Rcx rs2 f2 (related_kept p l layout g c c1 is k1))) (kept_register c1 1 b (omega arith))
-      (computed op c2 (is.words rs1) (is.words rs2)) in
-      let done = behind c c1 (fetch l.registers Rax rs1) (fetch l.registers Rcx rs2 ++ compute op) (result_of op a b) (straight_runs (fetch l.registers Rax rs1) c c1 refl (fetched p l layout g c Rax rs1 f1 is)) k1 second in
-      finish (fetch l.registers Rax rs1 ++ (fetch l.registers Rcx rs2 ++ compute op)) rd (result_of op a b) fd (result_fits op a b (is.words rs1) (is.words rs2)) done
+      let does = compute op Rax (Reg Rcx) in
+      let second = behind c1 c2 (fetch l.registers Rcx rs2) does (result_of op a b) (straight_runs (fetch l.registers Rcx rs2) c1 c2 refl (fetched p l layout g c1 Rcx rs2 f2 (related_kept p l layout g c c1 is k1))) (kept_register c1 1 b (omega arith))
+      (computed op c2 needs (is.words rs1) (is.words rs2)) in
+      let done = behind c c1 (fetch l.registers Rax rs1) (fetch l.registers Rcx rs2 ++ does) (result_of op a b) (straight_runs (fetch l.registers Rax rs1) c c1 refl (fetched p l layout g c Rax rs1 f1 is)) k1 second in
+      finish (fetch l.registers Rax rs1 ++ (fetch l.registers Rcx rs2 ++ does)) rd (result_of op a b) fd (result_fits op a b (is.words rs1) (is.words rs2)) done
+
+  -- ---- an operation on rs2 where it lies, which isn't where the result is computed
+
+  module _ (o : Option Register) (rd rs2 : ℕ) (f2 : rs2 < 32) (own : (q : Register) → o ≡ Some q → (assigned l.registers rd ≡ Some q) × (rd ≡ rs2 → ⊥)) where
+    no_frame : (x : Option Register) → o ≡ x → 4 ≡ number (result_in x) → ⊥
+    no_frame None e same = omega (arith, same)
+    no_frame (Some q) e same = (free l.registers layout.registers_are_right rd q (own q e).0).no_frame (sym same)
+
+    apart : (x : Option Register) → o ≡ x → (k : Register) → assigned l.registers rs2 ≡ Some k → number k ≡ number (result_in x) → ⊥
+    apart None e k lies same = omega (arith, same, (free l.registers layout.registers_are_right rs2 k lies).above)
+    apart (Some q) e k lies same = (own q e).1 (layout.registers_are_right.apart rd rs2 q (own q e).0 (lies ∙ ap Some (same_register k q same)))
+
+    operand_stays : (d : Core) → KeptBut (number (result_in o)) c d → operand_value d Dword (operand_of (assigned l.registers rs2) rs2) ≡ Ok (value p g rs2)
+    operand_stays d kept =
+        let v = value p g rs2 in
+        let holds = holds_on l c d rs2 v (assigned l.registers rs2) (λ e. ap (λ m. number_at m 4 (l.frame + 4 * rs2)) kept.memory)
+        (λ k lies. kept.registers (number k) (free l.registers layout.registers_are_right rs2 k lies).above (apart o refl k lies)) (is.registers rs2 f2) in
+        operand_is p l layout d rs2 v f2 (is.words rs2) (kept.registers 4 (omega arith) (no_frame o refl) ∙ is.frame) (assigned l.registers rs2) holds
+
+    place_comes : (op : RegOp) (rs1 : ℕ) → needs_ecx op ≡ false → rd < 32 → rs1 < 32
+        → Comes (place_code l.registers o op rd rs1 rs2) p l c (turn_with rd (result_of op (value p g rs1) (value p g rs2)) g.left)
+    place_comes op rs1 plain fd f1 =
+        let d = result_in o in
+        let a = value p g rs1 in
+        let b = value p g rs2 in
+        let src = operand_of (assigned l.registers rs2) rs2 in
+        let first = brought p l layout g c d rs1 f1 is in
+        let fits = subst (λ x. x < 2 ^ 32) (sym first.result) (is.words rs1) in
+        let next = subst (λ x. Leaves (number d) (compute op d src) first.after (result_of op x b)) first.result
+        (computed_there d src first.after b fits (is.words rs2) (operand_stays first.after first.kept) op plain) in
+        let both = leaves_join (number d) (bring l.registers d rs1) (compute op d src) c a (result_of op a b) first next in
+        subst (λ is. Comes is p l c (turn_with rd (result_of op a b) g.left)) (append_assoc (bring l.registers d rs1) (compute op d src) (settle l.registers o rd))
+        (settled (bring l.registers d rs1 ++ compute op d src) o rd (result_of op a b) fd (result_fits op a b (is.words rs1) (is.words rs2)) (λ q e. (own q e).0) both)
+
+  -- nothing is written before rs2 is read where both are one
+  beside_own : (rd rs2 : ℕ) (q : Register) → place_beside l.registers rd rs2 ≡ Some q → (assigned l.registers rd ≡ Some q) × (rd ≡ rs2 → ⊥)
+  beside_own rd rs2 q lies = elim (cases_Bool (rd == rs2)) [
+    | inl e ↦ let clash : None ≡ Some q = ap (λ t. if t then None else assigned l.registers rd) (sym e) ∙ lies in cc
+    | inr e ↦ (
+      ap (λ t. if t then None else assigned l.registers rd) (sym e) ∙ lies,
+      λ same. false≢true (sym e ∙ eq-eqb rd rs2 same),
+    )
+  ]
+
+  op_comes : (op : RegOp) (rd rs1 rs2 : ℕ) → rd < 32 → rs1 < 32 → rs2 < 32
+      → Comes (op_code l.registers op rd rs1 rs2) p l c (turn_with rd (result_of op (value p g rs1) (value p g rs2)) g.left)
+  op_comes op rd rs1 rs2 fd f1 f2 =
+      let by : Bool → List Native = λ t. if t then ecx_code l.registers op rd rs1 rs2 else place_code l.registers (place_beside l.registers rd rs2) op rd rs1 rs2 in
+      elim (cases_Bool (needs_ecx op)) [
+        | inl e ↦ subst (λ t. Comes (by t) p l c (turn_with rd (result_of op (value p g rs1) (value p g rs2)) g.left)) (sym e) (ecx_comes op rd rs1 rs2 e fd f1 f2)
+        | inr e ↦ subst (λ t. Comes (by t) p l c (turn_with rd (result_of op (value p g rs1) (value p g rs2)) g.left)) (sym e)
+            (place_comes (place_beside l.registers rd rs2) rd rs2 f2 (beside_own rd rs2) op rs1 e fd f1)
+      ]
 
   imm_comes : (op : ImmOp) (rd rs1 : ℕ) (imm : ℤ) → rd < 32 → rs1 < 32
       → Comes (imm_code l.registers op rd rs1 (word imm)) p l c (turn_with rd (result_of (register_op op) (value p g rs1) (word imm)) g.left)
   imm_comes op rd rs1 imm fd f1 =
+      let o = assigned l.registers rd in
+      let d = result_in o in
       let a = value p g rs1 in
-      let v = result_of (register_op op) a (word imm) in
-      let c1 = with_register c 0 a in
-      let done = behind c c1 (fetch l.registers Rax rs1) (compute_imm op (word imm)) v (straight_runs (fetch l.registers Rax rs1) c c1 refl (fetched p l layout g c Rax rs1 f1 is)) (kept_register c 0 a (omega arith))
-      (computed_imm op (word imm) c1 (is.words rs1) (word_fits imm)) in
-      finish (fetch l.registers Rax rs1 ++ compute_imm op (word imm)) rd v fd (result_fits (register_op op) a (word imm) (is.words rs1) (word_fits imm)) done
+      let n = word imm in
+      let v = result_of (register_op op) a n in
+      let first = brought p l layout g c d rs1 f1 is in
+      let fits = subst (λ x. x < 2 ^ 32) (sym first.result) (is.words rs1) in
+      let next = subst (λ x. Leaves (number d) (compute_imm op d n) first.after (result_of (register_op op) x n)) first.result (computed_imm d n first.after fits (word_fits imm) op) in
+      let both = leaves_join (number d) (bring l.registers d rs1) (compute_imm op d n) c a v first next in
+      subst (λ is. Comes is p l c (turn_with rd v g.left)) (append_assoc (bring l.registers d rs1) (compute_imm op d n) (settle l.registers o rd))
+      (settled (bring l.registers d rs1 ++ compute_imm op d n) o rd v fd (result_fits (register_op op) a n (is.words rs1) (word_fits imm)) (λ q e. e) both)
+
+  -- edx stays
+  abbrev pub NumberComes : Option Register → ℕ → ℕ → Type 0
+  NumberComes o rd v = (it : Comes (MovImm (result_in o) v ∷ settle l.registers o rd) p l c (turn_with rd v g.left)) × (it.core.registers 2 ≡ c.registers 2)
+
+  number_by : (o : Option Register) (rd v : ℕ) → rd < 32 → v < 2 ^ 32 → assigned l.registers rd ≡ o → NumberComes o rd v
+  unfolding computes
+  number_by None rd v small fits own =
+      let d = with_register c 0 v in
+      let k = kept_register c 0 v (omega arith) in
+      let w = wrote p l layout g d (related_kept p l layout g c d is k) place rd v (hart_with rd v) small fits (hart_written p g is.register_count pc rd v small) refl in (
+        record {
+          core = w.0;
+          runs = runs_join (MovImm Rax v ∷ []) (write l.registers rd) c d w.0 (straight_runs (MovImm Rax v ∷ []) c d refl refl) (straight_runs (write l.registers rd) d w.0 (write_straight l.registers rd) w.1);
+          related = w.2;
+          others = others_join p l c d w.0 (others_kept p l c d k) w.3;
+        },
+        w.4 2 (omega arith),
+      )
+  number_by (Some q) rd v small fits own =
+      let d = with_register c (number q) v in
+      let w = hart_written p g is.register_count pc rd v small in
+      let result = updated_same c.registers (number q) v in
+      let k = but_register c (number q) v in (
+        record {
+          core = d;
+          runs = straight_runs (MovImm q v ∷ []) c d refl refl;
+          related = moved p l layout g c is place rd v (hart_with rd v) small fits w q own d result k;
+          others = moved_stay p l layout g c is place rd v (hart_with rd v) small fits w q own d result k;
+        },
+        updated_other c.registers (number q) v 2 (λ e. omega (arith, e, (free l.registers layout.registers_are_right rd q own).above)),
+      )
+
+  pub number_written : (rd v : ℕ) → rd < 32 → v < 2 ^ 32 → NumberComes (assigned l.registers rd) rd v
+  number_written rd v small fits = number_by (assigned l.registers rd) rd v small fits refl
 
   pub number_comes : (rd v : ℕ) → rd < 32 → v < 2 ^ 32 → Comes (number_code l.registers rd v) p l c (turn_with rd v g.left)
-  unfolding computes
-  number_comes rd v fd fits =
-      finish (MovImm Rax v ∷ []) rd v fd fits (record { after = with_register c 0 v; runs = straight_runs (MovImm Rax v ∷ []) c (with_register c 0 v) refl refl; result = refl; kept = kept_register c 0 v (omega arith) })
+  number_comes rd v small fits = (number_written rd v small fits).0
 
   -- no register changes
   pub none_comes : IsRelated p l (turn_with 0 0 g.left) c

@@ -1,7 +1,8 @@
 -- Bytes of instructions behind others.
-use Rattle.std.proofs.Common.{◌≡◌, ℕ, ◌+◌, ◌-◌, ◌%◌, ◌^◌, Bool, true, false, length, refl, if◌then◌else◌, List, [], ◌∷◌, ◌++◌, sym, ap, ◌∙◌, append_assoc, append-nil}
+use Rattle.std.proofs.Common.{◌≡◌, ℕ, ◌+◌, ◌-◌, ◌%◌, ◌^◌, Bool, true, false, length, refl, if◌then◌else◌, List, [], ◌∷◌, ◌++◌, Option, sym, ap, ◌∙◌, append_assoc, append-nil}
 use Rattle.rv_word.specs.declared.instr.ImmOp.{ImmOp}
 use Rattle.rv_word.specs.declared.instr.RegOp.{RegOp}
+use Rattle.x86_instr.specs.declared.operand.Register.{Register}
 use Rattle.x86_instr.specs.declared.operand.Register.TheVariants.{Rax, Rcx, Rdx}
 use Rattle.x86_instr.specs.declared.instr.Instr.{Instr}
 unfoldable use Rattle.x86_instr.specs.Spelling.{memory, rex, spelling}
@@ -20,7 +21,8 @@ use Rattle.sfi_translate.specs.Lines.{Line}
 use Rattle.sfi_native.specs.declared.registers.RegisterMap.{RegisterMap}
 use Rattle.sfi_native.specs.Places.{code_of, whole_code}
 use Rattle.sfi_native.specs.declared.jump.Jump.{Jump}
-use Rattle.sfi_native.specs.Code.{avoid_minus_one, avoid_zero, branch_line, compare_code, compare_divisor, compute, compute_imm, count, data_address, divide_by_one, divide_signed, divide_unsigned, end_code, enter_code, enter_size, fetch, head_line, imm_code, indirect_jump, has_test, jal_line, jalr_line, jump_size, load_code, load_from, load_line, number_code, op_code, opposite, remainder, slot, start_code, start_size, steps_code, store_line, store_to, test_code, target_code, test_divisor, tested_jump, write}
+use Rattle.sfi_native.specs.Registers.{assigned}
+use Rattle.sfi_native.specs.Code.{avoid_minus_one, avoid_zero, branch_line, bring, ecx_code, operand_of, place_code, result_in, settle, compare_code, compare_divisor, compute, compute_imm, count, data_address, divide_by_one, divide_signed, divide_unsigned, end_code, enter_code, enter_size, fetch, head_line, imm_code, indirect_jump, has_test, jal_line, jalr_line, jump_size, load_code, load_from, load_line, number_code, opposite, remainder, slot, start_code, start_size, steps_code, store_line, store_to, test_code, target_code, test_divisor, tested_jump, write}
 
 pub no_part : (old : List ℕ) → old ≡ old ++ spellings []
 no_part old = sym (append-nil old)
@@ -37,13 +39,19 @@ three_parts old a b c = two_parts (old ++ spellings a) b c ∙ two_parts old a (
 pub four_parts : (old : List ℕ) (a b c d : List Instr) → (((old ++ spellings a) ++ spellings b) ++ spellings c) ++ spellings d ≡ old ++ spellings (a ++ (b ++ (c ++ d)))
 four_parts old a b c d = three_parts (old ++ spellings a) b c d ∙ two_parts old a (b ++ (c ++ d))
 
-pub op_parts : (registers : RegisterMap) (old : List ℕ) (op : RegOp) (rd rs1 rs2 : ℕ)
-    → (((old ++ spellings (fetch registers Rax rs1)) ++ spellings (fetch registers Rcx rs2)) ++ spellings (compute op)) ++ spellings (write registers rd) ≡ old ++ spellings (op_code registers op rd rs1 rs2)
-op_parts registers old op rd rs1 rs2 = four_parts old (fetch registers Rax rs1) (fetch registers Rcx rs2) (compute op) (write registers rd)
+pub ecx_parts : (registers : RegisterMap) (old : List ℕ) (op : RegOp) (rd rs1 rs2 : ℕ)
+    → (((old ++ spellings (fetch registers Rax rs1)) ++ spellings (fetch registers Rcx rs2)) ++ spellings (compute op Rax (Reg Rcx))) ++ spellings (write registers rd) ≡ old ++ spellings (ecx_code registers op rd rs1 rs2)
+ecx_parts registers old op rd rs1 rs2 = four_parts old (fetch registers Rax rs1) (fetch registers Rcx rs2) (compute op Rax (Reg Rcx)) (write registers rd)
+
+pub place_parts : (registers : RegisterMap) (old : List ℕ) (o : Option Register) (op : RegOp) (rd rs1 rs2 : ℕ)
+    → ((old ++ spellings (bring registers (result_in o) rs1)) ++ spellings (compute op (result_in o) (operand_of (assigned registers rs2) rs2))) ++ spellings (settle registers o rd) ≡ old ++ spellings (place_code registers o op rd rs1 rs2)
+place_parts registers old o op rd rs1 rs2 = three_parts old (bring registers (result_in o) rs1) (compute op (result_in o) (operand_of (assigned registers rs2) rs2)) (settle registers o rd)
 
 pub imm_parts : (registers : RegisterMap) (old : List ℕ) (op : ImmOp) (rd rs1 n : ℕ)
-    → ((old ++ spellings (fetch registers Rax rs1)) ++ spellings (compute_imm op n)) ++ spellings (write registers rd) ≡ old ++ spellings (imm_code registers op rd rs1 n)
-imm_parts registers old op rd rs1 n = three_parts old (fetch registers Rax rs1) (compute_imm op n) (write registers rd)
+    → ((old ++ spellings (bring registers (result_in (assigned registers rd)) rs1)) ++ spellings (compute_imm op (result_in (assigned registers rd)) n)) ++ spellings (settle registers (assigned registers rd) rd) ≡ old ++ spellings (imm_code registers op rd rs1 n)
+imm_parts registers old op rd rs1 n =
+    let o = assigned registers rd in
+    three_parts old (bring registers (result_in o) rs1) (compute_imm op (result_in o) n) (settle registers o rd)
 
 pub compare_parts : (registers : RegisterMap) (old : List ℕ) (rs1 rs2 : ℕ)
     → (((old ++ spellings (fetch registers Rax rs1)) ++ spellings (fetch registers Rcx rs2)) ++ spellings count) ++ spellings (Alu alu.Cmp Dword Rax (Reg Rcx) ∷ []) ≡ old ++ spellings (compare_code registers rs1 rs2)

@@ -1,7 +1,7 @@
 -- How many bytes lines have.
 use Rattle.std.proofs.Common.{◌≡◌, ℕ, suc, zero, ◌+◌, ◌-◌, ◌*◌, ◌%◌, ◌^◌, ◌<◌, ◌≤◌, ◌⊎◌, Bool, true, false, List, [], ◌∷◌, ◌++◌, length, drop, take, refl, sym, ap, ◌∙◌, subst, arith, inl, inr, if◌then◌else◌, length-append, length-drop, cond, Option, Some, None, ◌/◌}
 use Rattle.std.specs.Prelude.{◌==◌, nat_lt, ◌&&◌, not}
-use Rattle.std.proofs.lemmas.Bool.{cases_Bool, cond_both, eq-eqb, lt-ltb}
+use Rattle.std.proofs.lemmas.Bool.{cases_Bool, cond_both, eq-eqb, false≢true, lt-ltb}
 use Rattle.rv_word.specs.declared.instr.RegOp.{RegOp}
 use Rattle.rv_word.specs.declared.instr.RegOp.TheVariants.{Add, Sub, Sll, Slt, Sltu, Xor, Srl, Sra, Or, And, Mul, Mulh, Mulhsu, Mulhu, Div, Divu, Rem, Remu}
 use Rattle.rv_word.specs.declared.instr.ImmOp.{ImmOp}
@@ -30,18 +30,21 @@ use Rattle.sfi_translate.specs.Lines.{Line, Does, AreLinesOfFirst, AreUnitLines,
 use Rattle.sfi_translate.proofs.LinesStand.{unit_length, units}
 use Rattle.x86_instr.specs.declared.operand.Register.TheVariants.{Rax, Rcx, Rdx}
 use Rattle.x86_instr.specs.declared.operand.Address.{Address}
-use Rattle.x86_instr.specs.declared.operand.Operand.TheVariants.{Reg}
+use Rattle.x86_instr.specs.declared.operand.Operand.{Operand}
+use Rattle.x86_instr.specs.declared.operand.Operand.TheVariants.{Mem, Reg}
 use Rattle.x86_instr.specs.declared.instr.Width.TheVariants.{Dword}
 use Rattle.x86_instr.specs.declared.instr.AluOp.{AluOp}
 use Rattle.x86_instr.specs.declared.instr.AluOp.TheVariants as alu
-use Rattle.x86_instr.specs.declared.instr.Instr.TheVariants.{Alu, AluImm, Jcc, MovExtended, MovImm, Setcc, Mov}
+use Rattle.x86_instr.specs.declared.instr.Instr.TheVariants.{Alu, AluImm, Imul, Jcc, MovExtended, MovImm, Setcc, ShiftImm, Mov}
+use Rattle.x86_instr.specs.declared.instr.ShiftOp.{ShiftOp}
+use Rattle.x86_instr.specs.declared.instr.ShiftOp.TheVariants.{Shl, Shr, Sar}
 use Rattle.x86_instr.specs.declared.instr.Narrow.TheVariants.{Byte}
 use Rattle.x86_instr.specs.declared.instr.Extension.TheVariants.{Zero}
 use Rattle.x86_instr.specs.declared.instr.Condition.{Condition}
 use Rattle.x86_instr.specs.declared.instr.Condition.TheVariants.{Below, Less}
 use Rattle.x86_instr.specs.declared.instr.Instr.{Instr as Native}
 unfoldable use Rattle.x86_instr.specs.Spelling.{memory, rex, spelling}
-use Rattle.x86_instr.specs.Spelling.{alu_number, byte_extended, dword_bytes, is_short, modrm, number, sib}
+use Rattle.x86_instr.specs.Spelling.{alu_number, byte_extended, coded, coded_0f, dword_bytes, is_short, modrm, number, rex_bits, shift_number, sib}
 use Rattle.x86_step.specs.Running.{spellings}
 use Rattle.x86_step.proofs.Running.{spellings_append}
 use Rattle.x86_instr.specs.declared.operand.Register.{Register}
@@ -52,7 +55,7 @@ use Rattle.sfi_native.specs.declared.jump.Jump.{Jump}
 use Rattle.sfi_native.specs.Sizes.{CodeIsSmall, EachCodeFits}
 unfoldable use Rattle.sfi_native.specs.Code.{computation}
 use Rattle.sfi_native.specs.Places.{code_of, exit_of, jump_of, size_of, size_of_all, whole_code}
-use Rattle.sfi_native.specs.Code.{branch_line, compare_code, count, data_address, end_code, fetch, has_test, head_line, imm_code, indirect_jump, jal_line, jalr_line, leave_line, load_code, load_from, load_line, number_code, op_code, operand_of, opposite, set_if, slot, store_eax, store_line, store_to, target_code, tested_jump, unless, write}
+use Rattle.sfi_native.specs.Code.{branch_line, bring, compare_code, count, ecx_code, lies_in, needs_ecx, place_beside, place_code, result_in, settle, data_address, end_code, fetch, has_test, head_line, imm_code, indirect_jump, jal_line, jalr_line, leave_line, load_code, load_from, load_line, number_code, op_code, operand_of, opposite, set_if, slot, store_eax, store_line, store_to, target_code, tested_jump, unless, write}
 use Rattle.sfi_native.proofs.Places.{code_size, sizes_append}
 use Rattle.sfi_native.proofs.Lists.{indirect_size, tested_size}
 
@@ -99,29 +102,39 @@ rex_most n = of_either (n == 0) [] ((64 + n) ∷ []) 1 (omega arith) (λ e. omeg
 move_most : (n a b : ℕ) → length ((rex n ++ a ∷ b ∷ []) ++ []) ≤ 4
 move_most n a b = omega (arith, rex_most n, length-append (rex n ++ a ∷ b ∷ []) [], length-append (rex n) (a ∷ b ∷ []))
 
-rax_most : (o : Option Register) (r : ℕ) → r < 32 → bytes (Mov Dword Rax (operand_of o r) ∷ []) ≤ 4
-unfolding spelling rex
-rax_most None r below = omega (arith, slot_most 0 r below, length-append (memory 0 (slot r)) [])
-rax_most (Some q) r below = move_most (0 + number q / 8) 0x8B (modrm 3 0 (number q))
+-- what is before an immediate
+coded_most : (opcode reg : ℕ) (o : Option Register) (r : ℕ) → r < 32 → length (coded Dword opcode reg (operand_of o r)) ≤ 5
+coded_most opcode reg None r below =
+    let n = rex_bits Dword reg (Mem (slot r)) in
+    omega (arith, rex_most n, slot_most reg r below, length-append (rex n) (opcode ∷ memory reg (slot r)))
+coded_most opcode reg (Some q) r below =
+    let n = rex_bits Dword reg (Reg q) in
+    omega (arith, rex_most n, length-append (rex n) (opcode ∷ modrm 3 reg (number q) ∷ []))
 
-rcx_most : (o : Option Register) (r : ℕ) → r < 32 → bytes (Mov Dword Rcx (operand_of o r) ∷ []) ≤ 4
-unfolding spelling rex
-rcx_most None r below = omega (arith, slot_most 1 r below, length-append (memory 1 (slot r)) [])
-rcx_most (Some q) r below = move_most (0 + number q / 8) 0x8B (modrm 3 1 (number q))
+coded_0f_most : (opcode reg : ℕ) (o : Option Register) (r : ℕ) → r < 32 → length (coded_0f Dword opcode reg (operand_of o r)) ≤ 6
+coded_0f_most opcode reg None r below =
+    let n = rex_bits Dword reg (Mem (slot r)) in
+    omega (arith, rex_most n, slot_most reg r below, length-append (rex n) (0x0F ∷ opcode ∷ memory reg (slot r)))
+coded_0f_most opcode reg (Some q) r below =
+    let n = rex_bits Dword reg (Reg q) in
+    omega (arith, rex_most n, length-append (rex n) (0x0F ∷ opcode ∷ modrm 3 reg (number q) ∷ []))
 
-rdx_most : (o : Option Register) (r : ℕ) → r < 32 → bytes (Mov Dword Rdx (operand_of o r) ∷ []) ≤ 4
-unfolding spelling rex
-rdx_most None r below = omega (arith, slot_most 2 r below, length-append (memory 2 (slot r)) [])
-rdx_most (Some q) r below = move_most (0 + number q / 8) 0x8B (modrm 3 2 (number q))
+mov_most : (dst : Register) (o : Option Register) (r : ℕ) → r < 32 → bytes (Mov Dword dst (operand_of o r) ∷ []) ≤ 5
+unfolding spelling
+mov_most dst o r below = omega (arith, coded_most 0x8B (number dst) o r below, length-append (coded Dword 0x8B (number dst) (operand_of o r)) [])
 
-fetch_rax : (registers : RegisterMap) (r : ℕ) → r < 32 → bytes (fetch registers Rax r) ≤ 4
-fetch_rax registers r below = rax_most (assigned registers r) r below
+alu_most : (op : AluOp) (dst : Register) (o : Option Register) (r : ℕ) → r < 32 → bytes (Alu op Dword dst (operand_of o r) ∷ []) ≤ 5
+unfolding spelling
+alu_most op dst o r below =
+    let opcode = alu_number op * 8 + 3 in
+    omega (arith, coded_most opcode (number dst) o r below, length-append (coded Dword opcode (number dst) (operand_of o r)) [])
 
-fetch_rcx : (registers : RegisterMap) (r : ℕ) → r < 32 → bytes (fetch registers Rcx r) ≤ 4
-fetch_rcx registers r below = rcx_most (assigned registers r) r below
+fetch_most : (registers : RegisterMap) (dst : Register) (r : ℕ) → r < 32 → bytes (fetch registers dst r) ≤ 5
+fetch_most registers dst r below = mov_most dst (assigned registers r) r below
 
-fetch_rdx : (registers : RegisterMap) (r : ℕ) → r < 32 → bytes (fetch registers Rdx r) ≤ 4
-fetch_rdx registers r below = rdx_most (assigned registers r) r below
+bring_most : (registers : RegisterMap) (dst : Register) (r : ℕ) → r < 32 → bytes (bring registers dst r) ≤ 5
+bring_most registers dst r below =
+    cond_both (lies_in (assigned registers r) dst) [] (fetch registers dst r) (λ (is : List Native). bytes is ≤ 5) (λ e. omega arith) (λ e. fetch_most registers dst r below)
 
 eax_most : (o : Option Register) (r : ℕ) → r < 32 → bytes (store_eax o r ∷ []) ≤ 4
 unfolding spelling rex
@@ -130,6 +143,10 @@ eax_most (Some q) r below = move_most _ 0x8B (modrm 3 (number q) 0)
 
 write_most : (registers : RegisterMap) (r : ℕ) → r < 32 → bytes (write registers r) ≤ 4
 write_most registers r below = cond_both (is_fixed r) [] (store_eax (assigned registers r) r ∷ []) (λ (is : List Native). bytes is ≤ 4) (λ e. omega arith) (λ e. eax_most (assigned registers r) r below)
+
+settle_most : (registers : RegisterMap) (o : Option Register) (r : ℕ) → r < 32 → bytes (settle registers o r) ≤ 4
+settle_most registers None r below = write_most registers r below
+settle_most registers (Some q) r below = omega arith
 
 -- ==== Computations.
 
@@ -141,45 +158,62 @@ is_division Rem = true
 is_division Remu = true
 is_division op = false
 
-compute_most : (op : RegOp) → bytes (compute op) ≤ (if is_division op then 37 else 14)
+set_is : (c : Condition) (d : Register) → bytes (Setcc c d ∷ MovExtended Zero Byte d (Reg d) ∷ []) ≡ 8
+unfolding spelling rex
+set_is c d = refl
+
+set_most : (compare : Native) (condition : Condition) (d : Register) (n : ℕ) → bytes (compare ∷ []) ≤ n → bytes (set_if compare condition d) ≤ n + 8
+set_most compare condition d n less = omega (arith, less, both (compare ∷ []) (Setcc condition d ∷ MovExtended Zero Byte d (Reg d) ∷ []), set_is condition d)
+
+imul_most : (dst : Register) (o : Option Register) (r : ℕ) → r < 32 → bytes (Imul Dword dst (operand_of o r) ∷ []) ≤ 6
+unfolding spelling
+imul_most dst o r below = omega (arith, coded_0f_most 0xAF (number dst) o r below, length-append (coded_0f Dword 0xAF (number dst) (operand_of o r)) [])
+
+ecx_most : (op : RegOp) → needs_ecx op ≡ true → (d : Register) (s : Operand) → bytes (compute op d s) ≤ (if is_division op then 37 else 14)
 unfolding compute spelling rex
-compute_most Add = omega arith
-compute_most Sub = omega arith
-compute_most Sll = omega arith
-compute_most Slt = omega arith
-compute_most Sltu = omega arith
-compute_most Xor = omega arith
-compute_most Srl = omega arith
-compute_most Sra = omega arith
-compute_most Or = omega arith
-compute_most And = omega arith
-compute_most Mul = omega arith
-compute_most Mulh = omega arith
-compute_most Mulhsu = omega arith
-compute_most Mulhu = omega arith
-compute_most Div = omega arith
-compute_most Divu = omega arith
-compute_most Rem = omega arith
-compute_most Remu = omega arith
+ecx_most Sll needs d s = omega arith
+ecx_most Srl needs d s = omega arith
+ecx_most Sra needs d s = omega arith
+ecx_most Mulh needs d s = omega arith
+ecx_most Mulhsu needs d s = omega arith
+ecx_most Mulhu needs d s = omega arith
+ecx_most Div needs d s = omega arith
+ecx_most Divu needs d s = omega arith
+ecx_most Rem needs d s = omega arith
+ecx_most Remu needs d s = omega arith
+ecx_most op needs d s = absurd (false≢true needs)
+
+place_most : (op : RegOp) → needs_ecx op ≡ false → (d : Register) (o : Option Register) (r : ℕ) → r < 32 → bytes (compute op d (operand_of o r)) ≤ 14
+unfolding compute
+place_most Add plain d o r below = omega (arith, alu_most alu.Add d o r below)
+place_most Sub plain d o r below = omega (arith, alu_most alu.Sub d o r below)
+place_most Xor plain d o r below = omega (arith, alu_most alu.Xor d o r below)
+place_most Or plain d o r below = omega (arith, alu_most alu.Or d o r below)
+place_most And plain d o r below = omega (arith, alu_most alu.And d o r below)
+place_most Slt plain d o r below = omega (arith, set_most (Alu alu.Cmp Dword d (operand_of o r)) Less d 5 (alu_most alu.Cmp d o r below))
+place_most Sltu plain d o r below = omega (arith, set_most (Alu alu.Cmp Dword d (operand_of o r)) Below d 5 (alu_most alu.Cmp d o r below))
+place_most Mul plain d o r below = omega (arith, imul_most d o r below)
+place_most op plain d o r below = absurd (false≢true (sym plain))
 
 -- an immediate has one byte or four
-abbrev short_imm : AluOp → ℕ → List ℕ
-short_imm op n = 0x83 ∷ modrm 3 (alu_number op) 0 ∷ (n % 256) ∷ []
+register_most : (opcode reg : ℕ) (d : Register) → length (coded Dword opcode reg (Reg d)) ≤ 3
+register_most opcode reg d =
+    let n = rex_bits Dword reg (Reg d) in
+    omega (arith, rex_most n, length-append (rex n) (opcode ∷ modrm 3 reg (number d) ∷ []))
 
-abbrev long_imm : AluOp → ℕ → List ℕ
-long_imm op n = 0x81 ∷ modrm 3 (alu_number op) 0 ∷ dword_bytes n
-
-imm_is : (op : AluOp) (n : ℕ) → length ((if is_short n then short_imm op n else long_imm op n) ++ []) ≤ 6
-imm_is op n = omega (arith, of_either (is_short n) (short_imm op n) (long_imm op n) 6 (omega arith) (λ e. omega arith), length-append (if is_short n then short_imm op n else long_imm op n) [])
-
-imm_most : (op : AluOp) (n : ℕ) → bytes (AluImm op Dword (Reg Rax) n ∷ []) ≤ 6
-unfolding spelling rex
-imm_most alu.Add n = imm_is alu.Add n
-imm_most alu.Or n = imm_is alu.Or n
-imm_most alu.And n = imm_is alu.And n
-imm_most alu.Sub n = imm_is alu.Sub n
-imm_most alu.Xor n = imm_is alu.Xor n
-imm_most alu.Cmp n = imm_is alu.Cmp n
+imm_most : (op : AluOp) (d : Register) (n : ℕ) → bytes (AluImm op Dword (Reg d) n ∷ []) ≤ 7
+unfolding spelling
+imm_most op d n =
+    let short = coded Dword 0x83 (alu_number op) (Reg d) in
+    let long = coded Dword 0x81 (alu_number op) (Reg d) in
+    let four = dword_bytes n in
+    omega (
+      arith,
+      of_either (is_short n) (short ++ (n % 256) ∷ []) (long ++ four) 7
+          (omega (arith, length-append short ((n % 256) ∷ []), register_most 0x83 (alu_number op) d))
+          (λ e. omega (arith, length-append long four, register_most 0x81 (alu_number op) d)),
+      length-append (if is_short n then short ++ (n % 256) ∷ [] else long ++ four) [],
+    )
 
 target_imm : (op : AluOp) (n : ℕ) → length ((if is_short n then 0x83 ∷ modrm 3 (alu_number op) 2 ∷ (n % 256) ∷ [] else 0x81 ∷ modrm 3 (alu_number op) 2 ∷ dword_bytes n) ++ []) ≤ 6
 target_imm op n =
@@ -192,24 +226,24 @@ target_most : (n : ℕ) → bytes (AluImm alu.Add Dword (Reg Rdx) n ∷ []) ≤ 
 unfolding spelling rex
 target_most n = target_imm alu.Add n
 
-set_is : (c : Condition) → bytes (Setcc c Rax ∷ MovExtended Zero Byte Rax (Reg Rax) ∷ []) ≡ 8
-unfolding spelling rex
-set_is c = refl
+shift_most : (op : ShiftOp) (d : Register) (n : ℕ) → bytes (ShiftImm op Dword (Reg d) n ∷ []) ≤ 4
+unfolding spelling
+shift_most op d n =
+    let front = coded Dword 0xC1 (shift_number op) (Reg d) in
+    omega (arith, register_most 0xC1 (shift_number op) d, length-append front (n ∷ []), length-append (front ++ n ∷ []) [])
 
-set_most : (compare : Native) (condition : Condition) (n : ℕ) → bytes (compare ∷ []) ≤ n → bytes (set_if compare condition) ≤ n + 8
-set_most compare condition n less = omega (arith, less, both (compare ∷ []) (Setcc condition Rax ∷ MovExtended Zero Byte Rax (Reg Rax) ∷ []), set_is condition)
-
-compute_imm_most : (op : ImmOp) (n : ℕ) → bytes (compute_imm op n) ≤ 14
-unfolding compute_imm spelling rex
-compute_imm_most Addi n = omega (arith, imm_most alu.Add n)
-compute_imm_most Slti n = omega (arith, set_most (AluImm alu.Cmp Dword (Reg Rax) n) Less 6 (imm_most alu.Cmp n))
-compute_imm_most Sltiu n = omega (arith, set_most (AluImm alu.Cmp Dword (Reg Rax) n) Below 6 (imm_most alu.Cmp n))
-compute_imm_most Xori n = omega (arith, imm_most alu.Xor n)
-compute_imm_most Ori n = omega (arith, imm_most alu.Or n)
-compute_imm_most Andi n = omega (arith, imm_most alu.And n)
-compute_imm_most Slli n = omega arith
-compute_imm_most Srli n = omega arith
-compute_imm_most Srai n = omega arith
+compute_imm_most : (op : ImmOp) (d : Register) (n : ℕ) → bytes (compute_imm op d n) ≤ 15
+unfolding compute_imm
+compute_imm_most Addi d n =
+    cond_both (n == 0) [] (AluImm alu.Add Dword (Reg d) n ∷ []) (λ (is : List Native). bytes is ≤ 15) (λ e. omega arith) (λ e. omega (arith, imm_most alu.Add d n))
+compute_imm_most Slti d n = omega (arith, set_most (AluImm alu.Cmp Dword (Reg d) n) Less d 7 (imm_most alu.Cmp d n))
+compute_imm_most Sltiu d n = omega (arith, set_most (AluImm alu.Cmp Dword (Reg d) n) Below d 7 (imm_most alu.Cmp d n))
+compute_imm_most Xori d n = omega (arith, imm_most alu.Xor d n)
+compute_imm_most Ori d n = omega (arith, imm_most alu.Or d n)
+compute_imm_most Andi d n = omega (arith, imm_most alu.And d n)
+compute_imm_most Slli d n = omega (arith, shift_most Shl d (n % 256))
+compute_imm_most Srli d n = omega (arith, shift_most Shr d (n % 256))
+compute_imm_most Srai d n = omega (arith, shift_most Sar d (n % 256))
 
 -- ==== Lines.
 
@@ -217,17 +251,50 @@ count_is : bytes count ≡ 4
 unfolding spelling rex
 count_is = refl
 
-number_most : (registers : RegisterMap) (rd n : ℕ) → rd < 32 → bytes (number_code registers rd n) ≤ 9
+number_by : (registers : RegisterMap) (o : Option Register) (rd n : ℕ) → rd < 32 → bytes (MovImm (result_in o) n ∷ settle registers o rd) ≤ 9
 unfolding spelling rex
-number_most registers rd n below = omega (arith, both (MovImm Rax n ∷ []) (write registers rd), write_most registers rd below)
+number_by registers None rd n below = omega (arith, both (MovImm Rax n ∷ []) (write registers rd), write_most registers rd below)
+number_by registers (Some q) rd n below =
+    let x = number q / 8 in
+    let front = rex x ++ (0xB8 + number q % 8) ∷ [] in
+    omega (arith, rex_most x, length-append (rex x) ((0xB8 + number q % 8) ∷ []), length-append front (dword_bytes n), length-append (front ++ dword_bytes n) [])
 
-op_most : (registers : RegisterMap) (op : RegOp) (rd rs1 rs2 : ℕ) → rd < 32 → rs1 < 32 → rs2 < 32 → bytes (op_code registers op rd rs1 rs2 ++ count) ≤ (if is_division op then 37 else 14) + 16
+number_most : (registers : RegisterMap) (rd n : ℕ) → rd < 32 → bytes (number_code registers rd n) ≤ 9
+number_most registers rd n below = number_by registers (assigned registers rd) rd n below
+
+ecx_code_most : (registers : RegisterMap) (op : RegOp) (rd rs1 rs2 : ℕ) → rd < 32 → rs1 < 32 → rs2 < 32 → needs_ecx op ≡ true → bytes (ecx_code registers op rd rs1 rs2) ≤ 51
+ecx_code_most registers op rd rs1 rs2 d a b needs =
+    let does = compute op Rax (Reg Rcx) in
+    omega (arith, both (fetch registers Rax rs1) (fetch registers Rcx rs2 ++ (does ++ write registers rd)), both (fetch registers Rcx rs2) (does ++ write registers rd), both does (write registers rd), fetch_most registers Rax rs1 a, fetch_most registers Rcx rs2 b, division_most op (ecx_most op needs Rax (Reg Rcx)), write_most registers rd d)
+  where
+    division_most : (op : RegOp) → bytes (compute op Rax (Reg Rcx)) ≤ (if is_division op then 37 else 14) → bytes (compute op Rax (Reg Rcx)) ≤ 37
+    division_most op less = by (is_division op) less
+      where
+        by : (t : Bool) → bytes (compute op Rax (Reg Rcx)) ≤ (if t then 37 else 14) → bytes (compute op Rax (Reg Rcx)) ≤ 37
+        by true less = less
+        by false less = omega (arith, less)
+
+place_code_most : (registers : RegisterMap) (o : Option Register) (op : RegOp) (rd rs1 rs2 : ℕ) → rd < 32 → rs1 < 32 → rs2 < 32 → needs_ecx op ≡ false → bytes (place_code registers o op rd rs1 rs2) ≤ 51
+place_code_most registers o op rd rs1 rs2 d a b plain =
+    let src = operand_of (assigned registers rs2) rs2 in
+    let does = compute op (result_in o) src in
+    omega (arith, both (bring registers (result_in o) rs1) (does ++ settle registers o rd), both does (settle registers o rd), bring_most registers (result_in o) rs1 a, place_most op plain (result_in o) (assigned registers rs2) rs2 b, settle_most registers o rd d)
+
+op_most : (registers : RegisterMap) (op : RegOp) (rd rs1 rs2 : ℕ) → rd < 32 → rs1 < 32 → rs2 < 32 → bytes (op_code registers op rd rs1 rs2 ++ count) ≤ 55
 op_most registers op rd rs1 rs2 d a b =
-    omega (arith, both (op_code registers op rd rs1 rs2) count, count_is, both (fetch registers Rax rs1) (fetch registers Rcx rs2 ++ (compute op ++ write registers rd)), both (fetch registers Rcx rs2) (compute op ++ write registers rd), both (compute op) (write registers rd), fetch_rax registers rs1 a, fetch_rcx registers rs2 b, compute_most op, write_most registers rd d)
+    omega (
+      arith,
+      both (op_code registers op rd rs1 rs2) count,
+      count_is,
+      cond_both (needs_ecx op) (ecx_code registers op rd rs1 rs2) (place_code registers (place_beside registers rd rs2) op rd rs1 rs2) (λ (is : List Native). bytes is ≤ 51)
+          (ecx_code_most registers op rd rs1 rs2 d a b) (place_code_most registers (place_beside registers rd rs2) op rd rs1 rs2 d a b),
+    )
 
-imm_line_most : (registers : RegisterMap) (op : ImmOp) (rd rs1 n : ℕ) → rd < 32 → rs1 < 32 → bytes (imm_code registers op rd rs1 n ++ count) ≤ 26
+imm_line_most : (registers : RegisterMap) (op : ImmOp) (rd rs1 n : ℕ) → rd < 32 → rs1 < 32 → bytes (imm_code registers op rd rs1 n ++ count) ≤ 28
 imm_line_most registers op rd rs1 n d a =
-    omega (arith, both (imm_code registers op rd rs1 n) count, count_is, both (fetch registers Rax rs1) (compute_imm op n ++ write registers rd), both (compute_imm op n) (write registers rd), fetch_rax registers rs1 a, compute_imm_most op n, write_most registers rd d)
+    let o = assigned registers rd in
+    let does = compute_imm op (result_in o) n in
+    omega (arith, both (imm_code registers op rd rs1 n) count, count_is, both (bring registers (result_in o) rs1) (does ++ settle registers o rd), both does (settle registers o rd), bring_most registers (result_in o) rs1 a, compute_imm_most op (result_in o) n, settle_most registers o rd d)
 
 tested_most : (j : Jump) → bytes (tested_jump j) ≤ 20
 tested_most j = elim (cases_Bool (has_test j)) [
@@ -243,7 +310,7 @@ cmp_is : bytes (Alu alu.Cmp Dword Rax (Reg Rcx) ∷ []) ≡ 2
 unfolding spelling rex
 cmp_is = refl
 
-branch_most : (registers : RegisterMap) (cond : Cond) (rs1 rs2 : ℕ) (j : Jump) → rs1 < 32 → rs2 < 32 → bytes (branch_line registers cond rs1 rs2 j) ≤ 40
+branch_most : (registers : RegisterMap) (cond : Cond) (rs1 rs2 : ℕ) (j : Jump) → rs1 < 32 → rs2 < 32 → bytes (branch_line registers cond rs1 rs2 j) ≤ 42
 branch_most registers cond rs1 rs2 j a b =
     let jump = tested_jump j in
     omega (
@@ -255,8 +322,8 @@ branch_most registers cond rs1 rs2 j a b =
       both (fetch registers Rax rs1) (fetch registers Rcx rs2 ++ (count ++ (Alu alu.Cmp Dword Rax (Reg Rcx) ∷ []))),
       both (fetch registers Rcx rs2) (count ++ (Alu alu.Cmp Dword Rax (Reg Rcx) ∷ [])),
       both count (Alu alu.Cmp Dword Rax (Reg Rcx) ∷ []),
-      fetch_rax registers rs1 a,
-      fetch_rcx registers rs2 b,
+      fetch_most registers Rax rs1 a,
+      fetch_most registers Rcx rs2 b,
       count_is,
       cmp_is,
     )
@@ -268,7 +335,7 @@ and_is : bytes (AluImm alu.And Dword (Reg Rdx) (2 ^ 32 - 2) ∷ []) ≡ 3
 unfolding spelling rex
 and_is = refl
 
-jalr_most : (registers : RegisterMap) (rd rs1 displacement next distance : ℕ) → rd < 32 → rs1 < 32 → bytes (jalr_line registers rd rs1 displacement next distance) ≤ 63
+jalr_most : (registers : RegisterMap) (rd rs1 displacement next distance : ℕ) → rd < 32 → rs1 < 32 → bytes (jalr_line registers rd rs1 displacement next distance) ≤ 64
 jalr_most registers rd rs1 displacement next distance d a =
     let sum = AluImm alu.Add Dword (Reg Rdx) displacement in
     let even = AluImm alu.And Dword (Reg Rdx) (2 ^ 32 - 2) in
@@ -279,7 +346,7 @@ jalr_most registers rd rs1 displacement next distance d a =
       both (number_code registers rd next) count,
       both (fetch registers Rdx rs1) (sum ∷ even ∷ []),
       both (sum ∷ []) (even ∷ []),
-      fetch_rdx registers rs1 a,
+      fetch_most registers Rdx rs1 a,
       target_most displacement,
       and_is,
       number_most registers rd next d,
@@ -295,14 +362,14 @@ from_most Lw n = let a = data_address n in omega (arith, memory_most 0 a, length
 from_most Lbu n = let a = data_address n in omega (arith, memory_most 0 a, length-append (memory 0 a) [])
 from_most Lhu n = let a = data_address n in omega (arith, memory_most 0 a, length-append (memory 0 a) [])
 
-load_most : (registers : RegisterMap) (kind : LoadKind) (rd rs1 displacement : ℕ) → rd < 32 → rs1 < 32 → bytes (load_line registers kind rd rs1 displacement) ≤ 21
+load_most : (registers : RegisterMap) (kind : LoadKind) (rd rs1 displacement : ℕ) → rd < 32 → rs1 < 32 → bytes (load_line registers kind rd rs1 displacement) ≤ 22
 load_most registers kind rd rs1 n d a =
     omega (
       arith,
       both (load_code registers kind rd rs1 n) count,
       both (fetch registers Rax rs1) (load_from kind (data_address n) ∷ write registers rd),
       both (load_from kind (data_address n) ∷ []) (write registers rd),
-      fetch_rax registers rs1 a,
+      fetch_most registers Rax rs1 a,
       from_most kind n,
       write_most registers rd d,
       count_is,
@@ -314,10 +381,10 @@ to_most Sb n = let a = data_address n in omega (arith, memory_most 1 a, length-a
 to_most Sh n = let a = data_address n in omega (arith, memory_most 1 a, length-append (memory 1 a) [])
 to_most Sw n = let a = data_address n in omega (arith, memory_most 1 a, length-append (memory 1 a) [])
 
-store_most : (registers : RegisterMap) (width : StoreWidth) (rs1 rs2 displacement : ℕ) → rs1 < 32 → rs2 < 32 → bytes (store_line registers width rs1 rs2 displacement) ≤ 21
+store_most : (registers : RegisterMap) (width : StoreWidth) (rs1 rs2 displacement : ℕ) → rs1 < 32 → rs2 < 32 → bytes (store_line registers width rs1 rs2 displacement) ≤ 23
 store_most registers width rs1 rs2 n a b =
     let access = store_to width (data_address n) ∷ [] in
-    omega (arith, both (fetch registers Rax rs1) (fetch registers Rcx rs2 ++ (access ++ count)), both (fetch registers Rcx rs2) (access ++ count), both access count, fetch_rax registers rs1 a, fetch_rcx registers rs2 b, to_most width n, count_is)
+    omega (arith, both (fetch registers Rax rs1) (fetch registers Rcx rs2 ++ (access ++ count)), both (fetch registers Rcx rs2) (access ++ count), both access count, fetch_most registers Rax rs1 a, fetch_most registers Rcx rs2 b, to_most width n, count_is)
 
 head_is : (at distance : ℕ) → bytes (head_line at distance) ≡ 15
 unfolding spelling rex
@@ -333,13 +400,9 @@ end_is end = refl
 
 -- ==== An instruction.
 
-pub does_most : (registers : RegisterMap) (at n : ℕ) (i : Instr) → InRange i → size_of registers (Does at n i) ≤ 63
+pub does_most : (registers : RegisterMap) (at n : ℕ) (i : Instr) → InRange i → size_of registers (Does at n i) ≤ 64
 unfolding InRange computation
-does_most registers at n (Op op rd rs1 rs2) (d, a, b) = by (is_division op) (op_most registers op rd rs1 rs2 d a b)
-  where
-    by : (t : Bool) → bytes (op_code registers op rd rs1 rs2 ++ count) ≤ (if t then 37 else 14) + 16 → bytes (op_code registers op rd rs1 rs2 ++ count) ≤ 63
-    by true less = omega (arith, less)
-    by false less = omega (arith, less)
+does_most registers at n (Op op rd rs1 rs2) (d, a, b) = omega (arith, op_most registers op rd rs1 rs2 d a b)
 does_most registers at n (OpImm op rd rs1 imm) (d, a, fits) = omega (arith, imm_line_most registers op rd rs1 (word imm) d a)
 does_most registers at n (Lui rd imm) (d, fits) = omega (arith, both (number_code registers rd ((imm * 4096) % 2 ^ 32)) count, number_most registers rd ((imm * 4096) % 2 ^ 32) d, count_is)
 does_most registers at n (Auipc rd imm) (d, fits) = omega (arith, both (number_code registers rd ((at + imm * 4096) % 2 ^ 32)) count, number_most registers rd ((at + imm * 4096) % 2 ^ 32) d, count_is)
@@ -356,7 +419,7 @@ does_most registers at n Ebreak range = omega (arith, leave_is at 0)
 piece_most : (registers : RegisterMap) (at n : ℕ) (i : Instr) (spelled : List ℕ) → Spells spelled i n → size_of registers (Does at n i) ≤ 32 * n
 piece_most registers at n i spelled spells = by spells
   where
-    most : size_of registers (Does at n i) ≤ 63
+    most : size_of registers (Does at n i) ≤ 64
     most = does_most registers at n i (spelled_in_range spelled i n spells)
 
     by : Spells spelled i n → size_of registers (Does at n i) ≤ 32 * n

@@ -15,6 +15,7 @@ use Rattle.rv_word.specs.declared.instr.Instr.TheVariants.{Op, OpImm, Lui, Auipc
 use Rattle.rv_step.specs.Step.{word}
 use Rattle.sfi_translate.specs.Lines.{head_bytes}
 use Rattle.sfi_translate.specs.Machine.{most}
+use Rattle.x86_instr.specs.Spelling.{number}
 use Rattle.x86_instr.specs.declared.operand.Register.{Register}
 use Rattle.x86_instr.specs.declared.operand.Register.TheVariants.{Rax, Rcx, Rdx, Rsp, R12, R13, R14, R15}
 use Rattle.x86_instr.specs.declared.operand.Scale.TheVariants.{One}
@@ -59,11 +60,32 @@ store_eax None r = MovStore Dword (slot r) Rax
 abbrev pub write : RegisterMap → ℕ → List Native
 write registers r = if is_fixed r then [] else store_eax (assigned registers r) r ∷ []
 
--- ==== Computations: of eax and ecx, into eax; edx and the flags may change.
+-- ==== Results where they lie. Some register is where the result's register lies; None: the result is computed in eax.
+
+-- the register that a result is computed in
+abbrev pub result_in : Option Register → Register
+result_in (Some q) = q
+result_in None = Rax
+
+-- rd gets the result
+abbrev pub settle : RegisterMap → Option Register → ℕ → List Native
+settle registers (Some q) rd = []
+settle registers None rd = write registers rd
+
+-- a register of the sandbox lies in that one
+abbrev pub lies_in : Option Register → Register → Bool
+lies_in (Some q) dst = number q == number dst
+lies_in None dst = false
+
+-- register r into that one, unless it lies there
+abbrev pub bring : RegisterMap → Register → ℕ → List Native
+bring registers dst r = if lies_in (assigned registers r) dst then [] else fetch registers dst r
+
+-- ==== Computations: of a register and an operand, into the register; eax, ecx, edx and the flags may change.
 
 -- 1 where the comparison meets the condition, else 0
-abbrev pub set_if : Native → Condition → List Native
-set_if compare condition = compare ∷ Setcc condition Rax ∷ MovExtended Zero Byte Rax (Reg Rax) ∷ []
+abbrev pub set_if : Native → Condition → Register → List Native
+set_if compare condition dst = compare ∷ Setcc condition dst ∷ MovExtended Zero Byte dst (Reg dst) ∷ []
 
 -- the high 32 bits of rax times rcx
 abbrev pub high_product : List Native
@@ -103,37 +125,49 @@ divide_by_one = compare_divisor ∷ unless NotEqual (MovImm Rcx 1 ∷ [])
 abbrev pub remainder : List Native → List Native
 remainder division = test_divisor ∷ unless Equal (division ++ (Mov Dword Rax (Reg Rdx) ∷ []))
 
-unfoldable pub compute : RegOp → List Native
-compute Add = Alu alu.Add Dword Rax (Reg Rcx) ∷ []
-compute Sub = Alu alu.Sub Dword Rax (Reg Rcx) ∷ []
-compute Sll = ShiftCl Shl Rax ∷ []
-compute Slt = set_if (Alu alu.Cmp Dword Rax (Reg Rcx)) Less
-compute Sltu = set_if (Alu alu.Cmp Dword Rax (Reg Rcx)) Below
-compute Xor = Alu alu.Xor Dword Rax (Reg Rcx) ∷ []
-compute Srl = ShiftCl Shr Rax ∷ []
-compute Sra = ShiftCl Sar Rax ∷ []
-compute Or = Alu alu.Or Dword Rax (Reg Rcx) ∷ []
-compute And = Alu alu.And Dword Rax (Reg Rcx) ∷ []
-compute Mul = Imul Dword Rax (Reg Rcx) ∷ []
-compute Mulh = Movsxd Rax (Reg Rax) ∷ Movsxd Rcx (Reg Rcx) ∷ high_product
-compute Mulhsu = Movsxd Rax (Reg Rax) ∷ high_product
-compute Mulhu = high_product
-compute Div = avoid_zero ++ (avoid_minus_one ++ divide_signed)
-compute Divu = avoid_zero ++ divide_unsigned
-compute Rem = divide_by_one ++ remainder divide_signed
-compute Remu = remainder divide_unsigned
+-- shifts by cl, high products and divisions take no operands but eax and ecx
+abbrev pub needs_ecx : RegOp → Bool
+needs_ecx Add = false
+needs_ecx Sub = false
+needs_ecx Slt = false
+needs_ecx Sltu = false
+needs_ecx Xor = false
+needs_ecx Or = false
+needs_ecx And = false
+needs_ecx Mul = false
+needs_ecx op = true
 
--- of eax and a number of 32 bits
-unfoldable pub compute_imm : ImmOp → ℕ → List Native
-compute_imm Addi n = AluImm alu.Add Dword (Reg Rax) n ∷ []
-compute_imm Slti n = set_if (AluImm alu.Cmp Dword (Reg Rax) n) Less
-compute_imm Sltiu n = set_if (AluImm alu.Cmp Dword (Reg Rax) n) Below
-compute_imm Xori n = AluImm alu.Xor Dword (Reg Rax) n ∷ []
-compute_imm Ori n = AluImm alu.Or Dword (Reg Rax) n ∷ []
-compute_imm Andi n = AluImm alu.And Dword (Reg Rax) n ∷ []
-compute_imm Slli n = ShiftImm Shl Dword (Reg Rax) (n % 256) ∷ []
-compute_imm Srli n = ShiftImm Shr Dword (Reg Rax) (n % 256) ∷ []
-compute_imm Srai n = ShiftImm Sar Dword (Reg Rax) (n % 256) ∷ []
+unfoldable pub compute : RegOp → Register → Operand → List Native
+compute Add dst src = Alu alu.Add Dword dst src ∷ []
+compute Sub dst src = Alu alu.Sub Dword dst src ∷ []
+compute Slt dst src = set_if (Alu alu.Cmp Dword dst src) Less dst
+compute Sltu dst src = set_if (Alu alu.Cmp Dword dst src) Below dst
+compute Xor dst src = Alu alu.Xor Dword dst src ∷ []
+compute Or dst src = Alu alu.Or Dword dst src ∷ []
+compute And dst src = Alu alu.And Dword dst src ∷ []
+compute Mul dst src = Imul Dword dst src ∷ []
+compute Sll dst src = ShiftCl Shl Rax ∷ []
+compute Srl dst src = ShiftCl Shr Rax ∷ []
+compute Sra dst src = ShiftCl Sar Rax ∷ []
+compute Mulh dst src = Movsxd Rax (Reg Rax) ∷ Movsxd Rcx (Reg Rcx) ∷ high_product
+compute Mulhsu dst src = Movsxd Rax (Reg Rax) ∷ high_product
+compute Mulhu dst src = high_product
+compute Div dst src = avoid_zero ++ (avoid_minus_one ++ divide_signed)
+compute Divu dst src = avoid_zero ++ divide_unsigned
+compute Rem dst src = divide_by_one ++ remainder divide_signed
+compute Remu dst src = remainder divide_unsigned
+
+-- of a register and a number of 32 bits
+unfoldable pub compute_imm : ImmOp → Register → ℕ → List Native
+compute_imm Addi dst n = if n == 0 then [] else AluImm alu.Add Dword (Reg dst) n ∷ []
+compute_imm Slti dst n = set_if (AluImm alu.Cmp Dword (Reg dst) n) Less dst
+compute_imm Sltiu dst n = set_if (AluImm alu.Cmp Dword (Reg dst) n) Below dst
+compute_imm Xori dst n = AluImm alu.Xor Dword (Reg dst) n ∷ []
+compute_imm Ori dst n = AluImm alu.Or Dword (Reg dst) n ∷ []
+compute_imm Andi dst n = AluImm alu.And Dword (Reg dst) n ∷ []
+compute_imm Slli dst n = ShiftImm Shl Dword (Reg dst) (n % 256) ∷ []
+compute_imm Srli dst n = ShiftImm Shr Dword (Reg dst) (n % 256) ∷ []
+compute_imm Srai dst n = ShiftImm Sar Dword (Reg dst) (n % 256) ∷ []
 
 -- ==== Lines.
 
@@ -148,13 +182,31 @@ does_compute i = false
 
 -- a number into rd
 abbrev pub number_code : RegisterMap → ℕ → ℕ → List Native
-number_code registers rd n = MovImm Rax n ∷ write registers rd
+number_code registers rd n = MovImm (result_in (assigned registers rd)) n ∷ settle registers (assigned registers rd) rd
+
+-- an operation on eax and ecx
+abbrev pub ecx_code : RegisterMap → RegOp → ℕ → ℕ → ℕ → List Native
+ecx_code registers op rd rs1 rs2 = fetch registers Rax rs1 ++ (fetch registers Rcx rs2 ++ (compute op Rax (Reg Rcx) ++ write registers rd))
+
+-- rd may be written before rs2 is read
+abbrev pub place_beside : RegisterMap → ℕ → ℕ → Option Register
+place_beside registers rd rs2 = if rd == rs2 then None else assigned registers rd
+
+-- an operation where its result lies, on rs2 where that lies
+abbrev pub place_code : RegisterMap → Option Register → RegOp → ℕ → ℕ → ℕ → List Native
+place_code registers place op rd rs1 rs2 =
+    bring registers (result_in place) rs1
+    ++ (compute op (result_in place) (operand_of (assigned registers rs2) rs2) ++ settle registers place rd)
 
 abbrev pub op_code : RegisterMap → RegOp → ℕ → ℕ → ℕ → List Native
-op_code registers op rd rs1 rs2 = fetch registers Rax rs1 ++ (fetch registers Rcx rs2 ++ (compute op ++ write registers rd))
+op_code registers op rd rs1 rs2 =
+    if needs_ecx op then ecx_code registers op rd rs1 rs2
+    else place_code registers (place_beside registers rd rs2) op rd rs1 rs2
 
 abbrev pub imm_code : RegisterMap → ImmOp → ℕ → ℕ → ℕ → List Native
-imm_code registers op rd rs1 n = fetch registers Rax rs1 ++ (compute_imm op n ++ write registers rd)
+imm_code registers op rd rs1 n =
+    let place = assigned registers rd in
+    bring registers (result_in place) rs1 ++ (compute_imm op (result_in place) n ++ settle registers place rd)
 
 -- what the instruction at that address computes
 unfoldable pub computation : RegisterMap → ℕ → Instr → List Native

@@ -1,9 +1,12 @@
 //! The bytes of a line that computes.
 ghost use Rattle.std.specs.Prelude.{◌≡◌, ◌++◌, ◌*◌, ◌%◌, ◌^◌, ◌+◌, IfOk, OnOk, true, if◌then◌else◌};
-ghost use Rattle.sfi_native.specs.Code.{computation, computing_line, count, does_compute, imm_code, number_code, op_code};
+ghost use Rattle.sfi_native.specs.Code.{computation, computing_line, count, does_compute, ecx_code, imm_code, number_code, op_code, place_beside as place_beside_of, place_code};
 ghost use Rattle.x86_step.specs.Running.{spellings};
 
-use crate::operation::{put, put_compute, put_compute_imm, put_fetch, put_write};
+use crate::operation::{
+    needs_ecx, operand, put, put_bring, put_compute, put_compute_imm, put_fetch, put_settle,
+    put_write, result_in,
+};
 use crate::registers::RegisterMap;
 use rv_word::{ImmOp, Instr, Reg, RegOp};
 use std::alloc::AllocError;
@@ -19,17 +22,64 @@ pub(crate) fn put_number(
 ) -> Result<(), AllocError>
     ensures { OnOk result (out.new.items ≡ out.old.items ++ spellings (number_code registers.now rd number)) }
 {
+    let place = registers.of(rd);
     put(
         out,
         Native::MovImm {
-            dst: Register::Rax,
+            dst: result_in(place),
             imm: number,
         },
     )?;
+    put_settle(out, registers, place, rd)
+}
+
+/// Writes an operation on eax and ecx.
+#[tactic(auto, using(crate::proofs::Lists::ecx_parts))]
+fn put_by_ecx(
+    out: &mut Vec<u8>,
+    registers: &RegisterMap,
+    op: RegOp,
+    rd: Reg,
+    rs1: Reg,
+    rs2: Reg,
+) -> Result<(), AllocError>
+    ensures { OnOk result (out.new.items ≡ out.old.items ++ spellings (ecx_code registers.now op rd rs1 rs2)) }
+{
+    put_fetch(out, registers, Register::Rax, rs1)?;
+    put_fetch(out, registers, Register::Rcx, rs2)?;
+    put_compute(out, op, Register::Rax, Operand::Reg(Register::Rcx))?;
     put_write(out, registers, rd)
 }
 
-#[tactic(auto, using(crate::proofs::Lists::op_parts))]
+/// Where `rd` lies, if it may be written there before `rs2` is read.
+fn place_beside(registers: &RegisterMap, rd: Reg, rs2: Reg) -> Option<Register>
+    ensures { result ≡ place_beside_of registers.now rd rs2 }
+{
+    if rd.number() == rs2.number() {
+        None
+    } else {
+        registers.of(rd)
+    }
+}
+
+/// Writes an operation where its result lies.
+#[tactic(auto, using(crate::proofs::Lists::place_parts))]
+fn put_in_place(
+    out: &mut Vec<u8>,
+    registers: &RegisterMap,
+    place: Option<Register>,
+    op: RegOp,
+    rd: Reg,
+    rs1: Reg,
+    rs2: Reg,
+) -> Result<(), AllocError>
+    ensures { OnOk result (out.new.items ≡ out.old.items ++ spellings (place_code registers.now place op rd rs1 rs2)) }
+{
+    put_bring(out, registers, result_in(place), rs1)?;
+    put_compute(out, op, result_in(place), operand(registers, rs2))?;
+    put_settle(out, registers, place, rd)
+}
+
 fn put_op(
     out: &mut Vec<u8>,
     registers: &RegisterMap,
@@ -40,10 +90,18 @@ fn put_op(
 ) -> Result<(), AllocError>
     ensures { OnOk result (out.new.items ≡ out.old.items ++ spellings (op_code registers.now op rd rs1 rs2)) }
 {
-    put_fetch(out, registers, Register::Rax, rs1)?;
-    put_fetch(out, registers, Register::Rcx, rs2)?;
-    put_compute(out, op)?;
-    put_write(out, registers, rd)
+    if needs_ecx(op) {
+        return put_by_ecx(out, registers, op, rd, rs1, rs2);
+    }
+    put_in_place(
+        out,
+        registers,
+        place_beside(registers, rd, rs2),
+        op,
+        rd,
+        rs1,
+        rs2,
+    )
 }
 
 #[tactic(auto, using(crate::proofs::Lists::imm_parts))]
@@ -57,9 +115,10 @@ fn put_op_imm(
 ) -> Result<(), AllocError>
     ensures { OnOk result (out.new.items ≡ out.old.items ++ spellings (imm_code registers.now op rd rs1 imm)) }
 {
-    put_fetch(out, registers, Register::Rax, rs1)?;
-    put_compute_imm(out, op, imm)?;
-    put_write(out, registers, rd)
+    let place = registers.of(rd);
+    put_bring(out, registers, result_in(place), rs1)?;
+    put_compute_imm(out, op, result_in(place), imm)?;
+    put_settle(out, registers, place, rd)
 }
 
 /// Writes what an instruction at that address computes.

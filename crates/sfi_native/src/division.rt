@@ -148,7 +148,7 @@ pub(crate) fn put_unsigned_remainder(out: &mut Vec<u8>) -> Result<(), AllocError
 
 #[tactic(auto, unfolding(crate::specs::Code::compute), using(crate::proofs::Lists::two_parts))]
 pub(crate) fn put_signed_remainder(out: &mut Vec<u8>) -> Result<(), AllocError>
-    ensures { OnOk result (out.new.items ≡ out.old.items ++ spellings (compute Rem)) }
+    ensures { OnOk result (out.new.items ≡ out.old.items ++ spellings (compute Rem Rax (InRegister Rcx))) }
 {
     put_divide_by_one(out)?;
     put_nonzero_remainder(out)
@@ -156,7 +156,7 @@ pub(crate) fn put_signed_remainder(out: &mut Vec<u8>) -> Result<(), AllocError>
 
 #[tactic(auto, unfolding(crate::specs::Code::compute), using(crate::proofs::Lists::two_parts))]
 pub(crate) fn put_unsigned_quotient(out: &mut Vec<u8>) -> Result<(), AllocError>
-    ensures { OnOk result (out.new.items ≡ out.old.items ++ spellings (compute Divu)) }
+    ensures { OnOk result (out.new.items ≡ out.old.items ++ spellings (compute Divu Rax (InRegister Rcx))) }
 {
     put_avoid_zero(out)?;
     put_divide_unsigned(out)
@@ -164,7 +164,7 @@ pub(crate) fn put_unsigned_quotient(out: &mut Vec<u8>) -> Result<(), AllocError>
 
 #[tactic(auto, unfolding(crate::specs::Code::compute), using(crate::proofs::Lists::three_parts))]
 pub(crate) fn put_signed_quotient(out: &mut Vec<u8>) -> Result<(), AllocError>
-    ensures { OnOk result (out.new.items ≡ out.old.items ++ spellings (compute Div)) }
+    ensures { OnOk result (out.new.items ≡ out.old.items ++ spellings (compute Div Rax (InRegister Rcx))) }
 {
     put_avoid_zero(out)?;
     put_avoid_minus_one(out)?;

@@ -5,11 +5,11 @@ ghost use Rattle.x86_step.specs.Running.{spellings};
 
 use crate::computation::{put_count, put_number};
 use crate::head::push_head_line;
-use crate::operation::{put, put_fetch, with_ecx};
+use crate::operation::{put, put_fetch, with_operand};
 use crate::registers::RegisterMap;
 use rv_word::{Cond, Reg};
 use std::alloc::AllocError;
-use x86_instr::{AluOp, Condition, Instr, Register};
+use x86_instr::{AluOp, Condition, Instr, Operand, Register};
 
 /// A jump between two addresses of the sandbox. Distances are in bytes, from the line's end, in two's complement.
 #[derive(Clone, Copy)]
@@ -84,7 +84,10 @@ fn put_compare(
     put_fetch(out, registers, Register::Rax, rs1)?;
     put_fetch(out, registers, Register::Rcx, rs2)?;
     put_count(out)?;
-    put(out, with_ecx(AluOp::Cmp))
+    put(
+        out,
+        with_operand(AluOp::Cmp, Register::Rax, Operand::Reg(Register::Rcx)),
+    )
 }
 
 /// Writes the line of a branch behind what is there.

@@ -1,9 +1,10 @@
-//! The instructions of one operation on eax and ecx, and those that fetch and write the sandbox's registers.
+//! The instructions of one operation, and those that fetch and write the sandbox's registers.
 ghost use Rattle.std.specs.Prelude.{◌≡◌, ◌++◌, ◌∷◌, [], ◌%◌, OnOk};
-ghost use Rattle.sfi_native.specs.Code.{compute, compute_imm, fetch, high_product, operand_of, set_if, slot as slot_of, store_eax as store_eax_of, write};
+ghost use Rattle.sfi_native.specs.Code.{bring, compute, compute_imm, fetch, high_product, lies_in as lies_in_of, needs_ecx as needs_ecx_of, operand_of, result_in as result_in_of, set_if, settle, slot as slot_of, store_eax as store_eax_of, write};
 ghost use Rattle.sfi_native.specs.Registers.{assigned};
 ghost use Rattle.rv_word.specs.declared.instr.RegOp.TheVariants.{Mulh, Mulhsu};
-ghost use Rattle.x86_instr.specs.declared.instr.Instr.TheVariants.{Alu, AluImm, Movsxd, ShiftImm};
+ghost use Rattle.rv_word.specs.declared.instr.ImmOp.TheVariants.{Addi};
+ghost use Rattle.x86_instr.specs.declared.instr.Instr.TheVariants.{Alu, AluImm, Movsxd, ShiftCl, ShiftImm};
 ghost use Rattle.x86_instr.specs.declared.instr.Width.TheVariants.{Dword};
 ghost use Rattle.x86_instr.specs.declared.operand.Operand.TheVariants.{Reg as InRegister};
 ghost use Rattle.x86_instr.specs.declared.operand.Register.TheVariants.{Rax, Rcx};
@@ -41,7 +42,7 @@ pub(crate) fn slot(r: Reg) -> Address
 }
 
 /// The place of a register.
-fn operand(registers: &RegisterMap, r: Reg) -> Operand
+pub(crate) fn operand(registers: &RegisterMap, r: Reg) -> Operand
     ensures { result ≡ operand_of (assigned registers.now r) r }
 {
     match registers.of(r) {
@@ -101,39 +102,90 @@ pub(crate) fn put_write(
     put(out, store_eax(registers, r))
 }
 
-/// Writes a comparison, and its outcome into eax.
+/// The register that a result is computed in: where it lies, or else eax.
+pub(crate) fn result_in(place: Option<Register>) -> Register
+    ensures { result ≡ result_in_of place }
+{
+    match place {
+        Some(q) => q,
+        None => Register::Rax,
+    }
+}
+
+/// Writes what puts a result into a register, if it was computed in eax.
+#[tactic(auto, using(crate::proofs::Lists::no_part))]
+pub(crate) fn put_settle(
+    out: &mut Vec<u8>,
+    registers: &RegisterMap,
+    place: Option<Register>,
+    rd: Reg,
+) -> Result<(), AllocError>
+    ensures { OnOk result (out.new.items ≡ out.old.items ++ spellings (settle registers.now place rd)) }
+{
+    match place {
+        Some(_) => Ok(()),
+        None => put_write(out, registers, rd),
+    }
+}
+
+/// Whether a register of the sandbox lies in that one.
+fn lies_in(place: Option<Register>, dst: Register) -> bool
+    ensures { result ≡ lies_in_of place dst }
+{
+    match place {
+        Some(q) => q.number() == dst.number(),
+        None => false,
+    }
+}
+
+/// Fetches a register into that one, unless it lies there.
+#[tactic(auto, using(crate::proofs::Lists::no_part))]
+pub(crate) fn put_bring(
+    out: &mut Vec<u8>,
+    registers: &RegisterMap,
+    dst: Register,
+    r: Reg,
+) -> Result<(), AllocError>
+    ensures { OnOk result (out.new.items ≡ out.old.items ++ spellings (bring registers.now dst r)) }
+{
+    if lies_in(registers.of(r), dst) {
+        return Ok(());
+    }
+    put_fetch(out, registers, dst, r)
+}
+
+/// Writes a comparison, and its outcome into a register.
 #[tactic(auto, using(crate::proofs::Lists::three_parts))]
-fn put_set_if(out: &mut Vec<u8>, compare: Instr, condition: Condition) -> Result<(), AllocError>
-    ensures { OnOk result (out.new.items ≡ out.old.items ++ spellings (set_if compare condition)) }
+fn put_set_if(
+    out: &mut Vec<u8>,
+    compare: Instr,
+    condition: Condition,
+    dst: Register,
+) -> Result<(), AllocError>
+    ensures { OnOk result (out.new.items ≡ out.old.items ++ spellings (set_if compare condition dst)) }
 {
     put(out, compare)?;
-    put(
-        out,
-        Instr::Setcc {
-            condition,
-            dst: Register::Rax,
-        },
-    )?;
+    put(out, Instr::Setcc { condition, dst })?;
     put(
         out,
         Instr::MovExtended {
             extension: Extension::Zero,
             from: Narrow::Byte,
-            dst: Register::Rax,
-            src: Operand::Reg(Register::Rax),
+            dst,
+            src: Operand::Reg(dst),
         },
     )
 }
 
-/// The operation of eax and ecx.
-pub(crate) fn with_ecx(op: AluOp) -> Instr
-    ensures { result ≡ Alu op Dword Rax (InRegister Rcx) }
+/// An operation of a register and an operand.
+pub(crate) fn with_operand(op: AluOp, dst: Register, src: Operand) -> Instr
+    ensures { result ≡ Alu op Dword dst src }
 {
     Instr::Alu {
         op,
         width: Width::Dword,
-        dst: Register::Rax,
-        src: Operand::Reg(Register::Rcx),
+        dst,
+        src,
     }
 }
 
@@ -174,7 +226,7 @@ fn with_sign(register: Register) -> Instr
 /// Writes the high half of a product with signs.
 #[tactic(auto, unfolding(crate::specs::Code::compute), using(crate::proofs::Lists::three_parts))]
 fn put_signed_product(out: &mut Vec<u8>) -> Result<(), AllocError>
-    ensures { OnOk result (out.new.items ≡ out.old.items ++ spellings (compute Mulh)) }
+    ensures { OnOk result (out.new.items ≡ out.old.items ++ spellings (compute Mulh Rax (InRegister Rcx))) }
 {
     put(out, with_sign(Register::Rax))?;
     put(out, with_sign(Register::Rcx))?;
@@ -184,54 +236,78 @@ fn put_signed_product(out: &mut Vec<u8>) -> Result<(), AllocError>
 /// Writes the high half of a product of which the first factor has a sign.
 #[tactic(auto, unfolding(crate::specs::Code::compute), using(crate::proofs::Lists::two_parts))]
 fn put_mixed_product(out: &mut Vec<u8>) -> Result<(), AllocError>
-    ensures { OnOk result (out.new.items ≡ out.old.items ++ spellings (compute Mulhsu)) }
+    ensures { OnOk result (out.new.items ≡ out.old.items ++ spellings (compute Mulhsu Rax (InRegister Rcx))) }
 {
     put(out, with_sign(Register::Rax))?;
     put_high_product(out)
 }
 
-/// Writes an operation of eax and ecx.
-#[tactic(auto, unfolding(crate::specs::Code::compute))]
-pub(crate) fn put_compute(out: &mut Vec<u8>, op: RegOp) -> Result<(), AllocError>
-    ensures { OnOk result (out.new.items ≡ out.old.items ++ spellings (compute op)) }
+/// A shift of eax by cl.
+fn shift_by_cl(op: ShiftOp) -> Instr
+    ensures { result ≡ ShiftCl op Rax }
+{
+    Instr::ShiftCl {
+        op,
+        dst: Register::Rax,
+    }
+}
+
+/// Whether an operation takes no operands but eax and ecx.
+pub(crate) fn needs_ecx(op: RegOp) -> bool
+    ensures { result ≡ needs_ecx_of op }
 {
     match op {
-        RegOp::Add => put(out, with_ecx(AluOp::Add)),
-        RegOp::Sub => put(out, with_ecx(AluOp::Sub)),
-        RegOp::Xor => put(out, with_ecx(AluOp::Xor)),
-        RegOp::Or => put(out, with_ecx(AluOp::Or)),
-        RegOp::And => put(out, with_ecx(AluOp::And)),
-        RegOp::Sll => put(
+        RegOp::Add
+        | RegOp::Sub
+        | RegOp::Slt
+        | RegOp::Sltu
+        | RegOp::Xor
+        | RegOp::Or
+        | RegOp::And
+        | RegOp::Mul => false,
+        _ => true,
+    }
+}
+
+/// Writes an operation of a register and an operand, into the register.
+#[tactic(auto, unfolding(crate::specs::Code::compute))]
+pub(crate) fn put_compute(
+    out: &mut Vec<u8>,
+    op: RegOp,
+    dst: Register,
+    src: Operand,
+) -> Result<(), AllocError>
+    ensures { OnOk result (out.new.items ≡ out.old.items ++ spellings (compute op dst src)) }
+{
+    match op {
+        RegOp::Add => put(out, with_operand(AluOp::Add, dst, src)),
+        RegOp::Sub => put(out, with_operand(AluOp::Sub, dst, src)),
+        RegOp::Xor => put(out, with_operand(AluOp::Xor, dst, src)),
+        RegOp::Or => put(out, with_operand(AluOp::Or, dst, src)),
+        RegOp::And => put(out, with_operand(AluOp::And, dst, src)),
+        RegOp::Slt => put_set_if(
             out,
-            Instr::ShiftCl {
-                op: ShiftOp::Shl,
-                dst: Register::Rax,
-            },
+            with_operand(AluOp::Cmp, dst, src),
+            Condition::Less,
+            dst,
         ),
-        RegOp::Srl => put(
+        RegOp::Sltu => put_set_if(
             out,
-            Instr::ShiftCl {
-                op: ShiftOp::Shr,
-                dst: Register::Rax,
-            },
+            with_operand(AluOp::Cmp, dst, src),
+            Condition::Below,
+            dst,
         ),
-        RegOp::Sra => put(
-            out,
-            Instr::ShiftCl {
-                op: ShiftOp::Sar,
-                dst: Register::Rax,
-            },
-        ),
-        RegOp::Slt => put_set_if(out, with_ecx(AluOp::Cmp), Condition::Less),
-        RegOp::Sltu => put_set_if(out, with_ecx(AluOp::Cmp), Condition::Below),
         RegOp::Mul => put(
             out,
             Instr::Imul {
                 width: Width::Dword,
-                dst: Register::Rax,
-                src: Operand::Reg(Register::Rcx),
+                dst,
+                src,
             },
         ),
+        RegOp::Sll => put(out, shift_by_cl(ShiftOp::Shl)),
+        RegOp::Srl => put(out, shift_by_cl(ShiftOp::Shr)),
+        RegOp::Sra => put(out, shift_by_cl(ShiftOp::Sar)),
         RegOp::Mulhu => put_high_product(out),
         RegOp::Mulh => put_signed_product(out),
         RegOp::Mulhsu => put_mixed_product(out),
@@ -242,44 +318,65 @@ pub(crate) fn put_compute(out: &mut Vec<u8>, op: RegOp) -> Result<(), AllocError
     }
 }
 
-/// The operation of eax and a number.
-fn with_number(op: AluOp, imm: u32) -> Instr
-    ensures { result ≡ AluImm op Dword (InRegister Rax) imm }
+/// The operation of a register and a number.
+fn with_number(op: AluOp, dst: Register, imm: u32) -> Instr
+    ensures { result ≡ AluImm op Dword (InRegister dst) imm }
 {
     Instr::AluImm {
         op,
         width: Width::Dword,
-        dst: Operand::Reg(Register::Rax),
+        dst: Operand::Reg(dst),
         imm,
     }
 }
 
-/// The shift of eax by a number's low byte, of which the processor takes five bits.
-fn shift_by(op: ShiftOp, imm: u32) -> Instr
-    ensures { result ≡ ShiftImm op Dword (InRegister Rax) (imm % 256) }
+/// The shift of a register by a number's low byte, of which the processor takes five bits.
+fn shift_by(op: ShiftOp, dst: Register, imm: u32) -> Instr
+    ensures { result ≡ ShiftImm op Dword (InRegister dst) (imm % 256) }
 {
     Instr::ShiftImm {
         op,
         width: Width::Dword,
-        dst: Operand::Reg(Register::Rax),
+        dst: Operand::Reg(dst),
         amount: (imm % 256) as u8,
     }
 }
 
-/// Writes an operation of eax and a number.
+/// Writes the sum of a register and a number.
+#[tactic(auto, unfolding(crate::specs::Code::compute_imm), using(crate::proofs::Lists::no_part))]
+fn put_sum(out: &mut Vec<u8>, dst: Register, imm: u32) -> Result<(), AllocError>
+    ensures { OnOk result (out.new.items ≡ out.old.items ++ spellings (compute_imm Addi dst imm)) }
+{
+    if imm == 0 {
+        return Ok(());
+    }
+    put(out, with_number(AluOp::Add, dst, imm))
+}
+
+/// Writes an operation of a register and a number, into the register.
 #[tactic(auto, unfolding(crate::specs::Code::compute_imm))]
-pub(crate) fn put_compute_imm(out: &mut Vec<u8>, op: ImmOp, imm: u32) -> Result<(), AllocError>
-    ensures { OnOk result (out.new.items ≡ out.old.items ++ spellings (compute_imm op imm)) }
+pub(crate) fn put_compute_imm(
+    out: &mut Vec<u8>,
+    op: ImmOp,
+    dst: Register,
+    imm: u32,
+) -> Result<(), AllocError>
+    ensures { OnOk result (out.new.items ≡ out.old.items ++ spellings (compute_imm op dst imm)) }
 {
     match op {
-        ImmOp::Addi => put(out, with_number(AluOp::Add, imm)),
-        ImmOp::Xori => put(out, with_number(AluOp::Xor, imm)),
-        ImmOp::Ori => put(out, with_number(AluOp::Or, imm)),
-        ImmOp::Andi => put(out, with_number(AluOp::And, imm)),
-        ImmOp::Slli => put(out, shift_by(ShiftOp::Shl, imm)),
-        ImmOp::Srli => put(out, shift_by(ShiftOp::Shr, imm)),
-        ImmOp::Srai => put(out, shift_by(ShiftOp::Sar, imm)),
-        ImmOp::Slti => put_set_if(out, with_number(AluOp::Cmp, imm), Condition::Less),
-        ImmOp::Sltiu => put_set_if(out, with_number(AluOp::Cmp, imm), Condition::Below),
+        ImmOp::Addi => put_sum(out, dst, imm),
+        ImmOp::Xori => put(out, with_number(AluOp::Xor, dst, imm)),
+        ImmOp::Ori => put(out, with_number(AluOp::Or, dst, imm)),
+        ImmOp::Andi => put(out, with_number(AluOp::And, dst, imm)),
+        ImmOp::Slli => put(out, shift_by(ShiftOp::Shl, dst, imm)),
+        ImmOp::Srli => put(out, shift_by(ShiftOp::Shr, dst, imm)),
+        ImmOp::Srai => put(out, shift_by(ShiftOp::Sar, dst, imm)),
+        ImmOp::Slti => put_set_if(out, with_number(AluOp::Cmp, dst, imm), Condition::Less, dst),
+        ImmOp::Sltiu => put_set_if(
+            out,
+            with_number(AluOp::Cmp, dst, imm),
+            Condition::Below,
+            dst,
+        ),
     }
 }

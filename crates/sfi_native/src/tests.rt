@@ -9,11 +9,10 @@ use sfi_image::SandboxPart;
 use std::alloc::Global;
 use std::test::Fail;
 
-// {load} add and {rex} setl choose among spellings of one instruction. x24 isn't written, and an ecall isn't computed.
-const BYTES: [u8; 50] = [
+// {rex} setl chooses among spellings of one instruction. x24 isn't written, and an ecall isn't computed.
+const BYTES: [u8; 48] = [
     139, 68, 36, 20, // mov eax, [rsp+20]
-    139, 76, 36, 24, // mov ecx, [rsp+24]
-    3, 193, // {load} add eax, ecx
+    3, 68, 36, 24, // add eax, [rsp+24]
     137, 68, 36, 28, // mov [rsp+28], eax
     65, 131, 238, 1, // sub r14d, 1
     139, 68, 36, 20, // mov eax, [rsp+20]
