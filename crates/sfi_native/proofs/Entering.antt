@@ -124,7 +124,7 @@ module _ (p : Part) (l : Layout) (base : ℕ) (code : List Line) (lie : LieInCod
 
     pub record Enters (at : ℕ) : Type 0 where
       pub after : Core
-      pub reached : Reaches t (record { rip = at; core = d }) (record { rip = base + entry; core = after })
+      pub reached : Reaches t 3 (record { rip = at; core = d }) (record { rip = base + entry; core = after })
       pub kept : Kept d after
       pub target : after.registers 2 ≡ to
 
@@ -175,7 +175,7 @@ module _ (p : Part) (l : Layout) (layout : IsLayout p.data_size l) (code : List 
 
     pub record Starts (at distance : ℕ) : Type 0 where
       pub after : Core
-      pub reached : Reaches t (record { rip = at; core = d })
+      pub reached : Reaches t 5 (record { rip = at; core = d })
           (record { rip = if not (is_unit_start p to) then jumped (end_of at (start_code distance)) ((distance + enter_size) % 2 ^ 32) else end_of at (start_code distance); core = after })
       pub kept : Kept d after
       pub target : after.registers 2 ≡ to
@@ -221,7 +221,7 @@ module _ (p : Part) (l : Layout) (layout : IsLayout p.data_size l) (code : List 
     -- too few steps are left, or not
     pub record HasSteps (at distance : ℕ) : Type 0 where
       pub after : Core
-      pub reached : Reaches t (record { rip = at; core = d })
+      pub reached : Reaches t 2 (record { rip = at; core = d })
           (record { rip = if is_short Assembly k.left then jumped (end_of at (steps_code distance)) ((distance + (start_size + enter_size)) % 2 ^ 32) else end_of at (steps_code distance); core = after })
       pub kept : Kept d after
       pub target : after.registers 2 ≡ to

@@ -1,5 +1,5 @@
 -- The code of accesses that touch a guard zone.
-use Rattle.std.proofs.Common.{◌≡◌, ℕ, zero, suc, ◌+◌, ◌-◌, ◌*◌, ◌%◌, ◌^◌, ◌<◌, ◌≤◌, true, Option, Some, None, List, ◌∷◌, ◌++◌, refl, ap, ◌∙◌, sym, arith, inl, inr}
+use Rattle.std.proofs.Common.{◌≡◌, ℕ, zero, suc, ◌+◌, ◌-◌, ◌*◌, ◌%◌, ◌^◌, ◌<◌, ◌≤◌, true, Option, Some, None, List, ◌∷◌, ◌++◌, refl, ap, ◌∙◌, sym, arith, inl, inr, length}
 use Rattle.std.specs.Prelude.{Err, ℤ, pos, negsuc, int_le, ◌+ℤ◌, nat_le}
 use Rattle.std.proofs.lemmas.Bool.{cases_Bool, cases_lt, leb-false, le-ltb, lt-ltb}
 use Rattle.std.proofs.lemmas.Int.{ints}
@@ -24,15 +24,16 @@ use Rattle.x86_step.specs.Step.{address, effect, loaded, resumed, sign_extended}
 unfoldable use Rattle.x86_step.specs.Step.{computes}
 use Rattle.x86_step.specs.Running.{spellings}
 use Rattle.x86_step.proofs.Facts.{faults_resume}
-use Rattle.x86_step.proofs.Running.{exec_append, has_front}
+use Rattle.x86_step.proofs.Running.{exec_append, has_front, in_more}
 use Rattle.sfi_native.specs.declared.layout.Layout.{Layout}
 use Rattle.sfi_native.specs.Layout.{GuardsAreEmpty, IsLayout, IsRelated, value}
-use Rattle.sfi_native.specs.Laws.{FaultingLinesRun, IsBefore, TouchesGuards, LeadsTo, end_of}
+use Rattle.sfi_native.specs.Laws.{FaultingLinesRun, IsBefore, TouchesGuards, LeadsTo, end_of, line_most}
 use Rattle.sfi_native.specs.Code.{count, data_address, fetch, load_from, store_to, write}
 use Rattle.sfi_native.proofs.Accessing.{negative_small, positive_small}
 use Rattle.sfi_native.proofs.Fetching.{fetched, related_goes, related_kept}
 use Rattle.sfi_native.proofs.Kept.{Kept, kept_join, kept_register, others_kept}
 use Rattle.sfi_native.proofs.Runs.{Runs, back_fixed, back_stands, straight_runs, then_reaches}
+use Rattle.sfi_native.proofs.Lengths.{front_few}
 
 -- ==== Bytes that aren't there.
 
@@ -141,8 +142,8 @@ store_faults Sw a after c is = rw is refl
 -- Behind code that only changes free registers, an instruction that faults goes on by its fixup.
 goes_on : (p : Part) (l : Layout) (t : Text) (at : ℕ) (front back : List Native) (access : Native) (f : Fixup) (g : Going) (address : ℕ) (c d : Core)
     → IsBefore (front ++ (access ∷ back)) t at p l g c → Runs front c d → Kept c d → ((after : ℕ) → effect access after d ≡ Err Fault)
-    → t.fixups (end_of at front) ≡ Some f → (it : LeadsTo t at f.to p l c (goes_with g Slow address)) × (it.after.registers 2 ≡ f.rdx)
-goes_on p l t at front back access f g address c d here runs kept faults has =
+    → length front + 1 ≤ line_most → t.fixups (end_of at front) ≡ Some f → (it : LeadsTo t at f.to p l c (goes_with g Slow address)) × (it.after.registers 2 ≡ f.rdx)
+goes_on p l t at front back access f g address c d here runs kept faults few has =
     let behind = access ∷ back in
     let own = has_front t (end_of at front) (spelling access) (spellings back) (back_stands t at front behind c d here.text_is_fixed here.text_is_low here.stands runs) in
     let fixed_here = back_fixed t at front behind c d here.text_is_fixed here.text_is_low here.stands runs in
@@ -150,8 +151,8 @@ goes_on p l t at front back access f g address c d here runs kept faults has =
     let all = kept_join c d e kept (kept_register d 2 f.rdx (omega arith)) in (
       record {
         after = e;
-        reached = then_reaches t at front behind c d here.text_is_fixed here.text_is_low here.stands runs (resumed f d)
-            (faults_resume t (end_of at front) access d f fixed_here own (faults _) has);
+        reached = in_more t _ line_most _ _ few (then_reaches t at front behind c d here.text_is_fixed here.text_is_low here.stands runs 1 (resumed f d)
+            (faults_resume t (end_of at front) access d f fixed_here own (faults _) has));
         related = related_goes p l g e Slow address (related_kept p l here.layout g c e here.related all);
         others = others_kept p l c e all;
       },
@@ -169,7 +170,7 @@ faulting_lines_run target p code rest address size (Load kind rd rs1 imm) distan
     (goes_on p l t at front (write l.registers rd ++ count) (load_from kind (data_address (word imm))) f g address c d here
     (straight_runs front c d refl (fetched p l here.layout g c Rax rs1 range.1 here.related)) kept
     (λ after. load_faults kind (data_address (word imm)) after d
-    (faults p l here.layout g c here.related here.guards (load_size kind) (load_sized kind).some rs1 imm range.2 access d refl kept)) has)
+    (faults p l here.layout g c here.related here.guards (load_size kind) (load_sized kind).some rs1 imm range.2 access d refl kept)) (omega (arith, front_few l.registers (Load kind rd rs1 imm))) has)
 faulting_lines_run target p code rest address size (Store width rs1 rs2 imm) distance out f l t at g c range access here has =
     let a = value p g rs1 in
     let b = value p g rs2 in
@@ -184,5 +185,5 @@ faulting_lines_run target p code rest address size (Store width rs1 rs2 imm) dis
     (goes_on p l t at front count (store_to width (data_address (word imm))) f g address c d here
     (straight_runs front c d refl fetches) kept
     (λ after. store_faults width (data_address (word imm)) after d
-    (faults p l here.layout g c here.related here.guards (store_size width) (store_sized width).some rs1 imm range.2 access d refl kept)) has)
+    (faults p l here.layout g c here.related here.guards (store_size width) (store_sized width).some rs1 imm range.2 access d refl kept)) (omega (arith, front_few l.registers (Store width rs1 rs2 imm))) has)
 faulting_lines_run target p code rest address size i distance out f l t at g c range access here has = absurd access

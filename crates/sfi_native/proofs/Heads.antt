@@ -23,7 +23,7 @@ use Rattle.sfi_native.proofs.Runs.{branch_effect, jal_effect, jumps_to, straight
 -- It goes out where too few steps are left.
 pub record Tests (t : Text) (from at out left : ℕ) (c : Core) : Type 0 where
   pub after : Core
-  pub reached : Reaches t (record { rip = from; core = c })
+  pub reached : Reaches t 3 (record { rip = from; core = c })
       (record { rip = if is_short Assembly left then jumped (end_of from (head_line at out)) out else end_of from (head_line at out); core = after })
   pub kept : Kept c after
   pub edx : after.registers 2 ≡ at
@@ -50,7 +50,7 @@ head_tests t from at out left c fixed_text low_text stands same canonical =
 -- A line that goes out always.
 pub record Leaves (p : Part) (l : Layout) (t : Text) (from at out : ℕ) (g : Going) (c : Core) : Type 0 where
   pub after : Core
-  pub reached : Reaches t (record { rip = from; core = c }) (record { rip = jumped (end_of from (leave_line at out)) out; core = after })
+  pub reached : Reaches t 2 (record { rip = from; core = c }) (record { rip = jumped (end_of from (leave_line at out)) out; core = after })
   pub related : IsRelated p l g after
   pub others : OthersStay p l c after
   pub edx : after.registers 2 ≡ at

@@ -1,5 +1,5 @@
 -- The code of a jalr, from its first instruction to where it goes out.
-use Rattle.std.proofs.Common.{◌≡◌, ℕ, ◌+◌, ◌-◌, ◌%◌, ◌^◌, ◌<◌, Bool, true, false, List, [], ◌∷◌, ◌++◌, refl, ap, ◌∙◌, subst, arith, not, if◌then◌else◌}
+use Rattle.std.proofs.Common.{◌≡◌, ℕ, ◌+◌, ◌-◌, ◌%◌, ◌^◌, ◌<◌, Bool, true, false, List, [], ◌∷◌, ◌++◌, refl, ap, ◌∙◌, subst, arith, not, if◌then◌else◌, length}
 use Rattle.std.specs.Prelude.{Ok, ℤ, bit_and}
 use Rattle.std.proofs.lemmas.Nat.Bits.{and_high}
 unfoldable use Rattle.rv_word.specs.Spelling.{InRange}
@@ -20,10 +20,10 @@ use Rattle.x86_step.specs.Step.{Reaches, is_canonical, jumped, logical, low, sum
 unfoldable use Rattle.x86_step.specs.Step.{computes}
 use Rattle.x86_step.specs.Running.{HasAt, exec, spellings}
 use Rattle.x86_step.proofs.Facts.{fixed_stays, steps_join}
-use Rattle.x86_step.proofs.Running.{exec_append, has_back, has_front, spellings_append}
+use Rattle.x86_step.proofs.Running.{exec_append, has_back, has_front, spellings_append, in_more}
 use Rattle.sfi_native.specs.declared.layout.Layout.{Layout}
 use Rattle.sfi_native.specs.Layout.{IsLayout, IsRelated, value}
-use Rattle.sfi_native.specs.Laws.{IsLow, JalrLinesRun, end_of, jalr_place}
+use Rattle.sfi_native.specs.Laws.{IsLow, JalrLinesRun, end_of, jalr_place, line_most}
 use Rattle.sfi_native.specs.Code.{count, enter_code, enter_size, fetch, indirect_jump, jalr_line, number_code, start_code, start_size, steps_code, target_code}
 use Rattle.sfi_native.specs.Entries.{entry_of}
 use Rattle.sfi_native.specs.Places.{exit_of}
@@ -37,6 +37,7 @@ use Rattle.sfi_native.proofs.Lines.{number_written}
 use Rattle.sfi_native.proofs.Lists.{enter_bytes, start_bytes}
 use Rattle.sfi_native.proofs.Runs.{back_fixed, back_stands, end_append, runs_join, straight_runs, then_reaches}
 use Rattle.sfi_native.proofs.Table.{table_kept, table_stays}
+use Rattle.sfi_native.proofs.Lengths.{jalr_front_few}
 
 -- all bits but the lowest
 masked : (n : ℕ) → n < 2 ^ 32 → bit_and n (2 ^ 32 - 2) ≡ even_of n
@@ -95,7 +96,7 @@ module _ (p : Part) (l : Layout) (layout : IsLayout p.data_size l) (base : ℕ) 
 
     pub record Goes (place : ℕ) : Type 0 where
       pub after : Core
-      pub reached : Reaches t (record { rip = at; core = d }) (record { rip = place; core = after })
+      pub reached : Reaches t 10 (record { rip = at; core = d }) (record { rip = place; core = after })
       pub kept : Kept d after
       pub target : after.registers 2 ≡ to
 
@@ -113,39 +114,39 @@ module _ (p : Part) (l : Layout) (layout : IsLayout p.data_size l) (base : ℕ) 
       start_out = out_over start_end end enter_size distance end_is.1 (omega (arith, ahead))
 
       -- at a unit's start
-      from_start : (e : Core) → Reaches t (record { rip = at; core = d }) (record { rip = start_end; core = e }) → Kept d e → e.registers 2 ≡ to → is_unit_start p to ≡ true
+      from_start : (e : Core) → Reaches t 7 (record { rip = at; core = d }) (record { rip = start_end; core = e }) → Kept d e → e.registers 2 ≡ to → is_unit_start p to ≡ true
           → Goes (base + entry_of l.registers code (label to code))
       from_start e reached kept same start =
           let own = has_back t steps_end (spellings (start_code distance)) (spellings enter_code) more in
-          let it = enters p l base code lie t low_text in_reach e (table_kept p l layout base code d e kept has) to same start start_end (fixed_stays t _ _ reached) own in
-          record { after = it.after; reached = steps_join t _ _ _ reached it.reached; kept = kept_join d e it.after kept it.kept; target = it.target }
+          let it = enters p l base code lie t low_text in_reach e (table_kept p l layout base code d e kept has) to same start start_end (fixed_stays t _ _ _ reached) own in
+          record { after = it.after; reached = steps_join t 7 3 _ _ _ reached it.reached; kept = kept_join d e it.after kept it.kept; target = it.target }
 
       by_start : (start : Bool) → is_unit_start p to ≡ start → (e : Core)
-          → Reaches t (record { rip = at; core = d }) (record { rip = if not start then jumped start_end ((distance + enter_size) % 2 ^ 32) else start_end; core = e })
+          → Reaches t 7 (record { rip = at; core = d }) (record { rip = if not start then jumped start_end ((distance + enter_size) % 2 ^ 32) else start_end; core = e })
           → Kept d e → e.registers 2 ≡ to → Goes (if start then base + entry_of l.registers code (label to code) else jumped end distance)
       by_start true is_start e reached kept same = from_start e reached kept same is_start
       by_start false is_start e reached kept same = record {
         after = e;
-        reached = subst (λ a. Reaches t (record { rip = at; core = d }) (record { rip = a; core = e })) start_out reached;
+        reached = subst (λ a. Reaches t 10 (record { rip = at; core = d }) (record { rip = a; core = e })) start_out (in_more t 7 10 _ _ (omega arith) reached);
         kept = kept;
         target = same;
       }
 
       -- with enough steps
-      from_steps : (e : Core) → Reaches t (record { rip = at; core = d }) (record { rip = steps_end; core = e }) → Kept d e → e.registers 2 ≡ to
+      from_steps : (e : Core) → Reaches t 2 (record { rip = at; core = d }) (record { rip = steps_end; core = e }) → Kept d e → e.registers 2 ≡ to
           → Goes (if is_unit_start p to then base + entry_of l.registers code (label to code) else jumped end distance)
       from_steps e reached kept same =
           let own = has_front t steps_end (spellings (start_code distance)) (spellings enter_code) more in
-          let it = starts p l layout code lie t low_text k e (related_kept p l layout k d e is kept) to same fits steps_end distance (fixed_stays t _ _ reached) own (ap is_canonical start_out ∙ canonical) in
-          by_start (is_unit_start p to) refl it.after (steps_join t _ _ _ reached it.reached) (kept_join d e it.after kept it.kept) it.target
+          let it = starts p l layout code lie t low_text k e (related_kept p l layout k d e is kept) to same fits steps_end distance (fixed_stays t _ _ _ reached) own (ap is_canonical start_out ∙ canonical) in
+          by_start (is_unit_start p to) refl it.after (steps_join t 2 5 _ _ _ reached it.reached) (kept_join d e it.after kept it.kept) it.target
 
       by_steps : (short : Bool) → (e : Core)
-          → Reaches t (record { rip = at; core = d }) (record { rip = if short then jumped steps_end ((distance + (start_size + enter_size)) % 2 ^ 32) else steps_end; core = e })
+          → Reaches t 2 (record { rip = at; core = d }) (record { rip = if short then jumped steps_end ((distance + (start_size + enter_size)) % 2 ^ 32) else steps_end; core = e })
           → Kept d e → e.registers 2 ≡ to
           → Goes (if short then jumped end distance else if is_unit_start p to then base + entry_of l.registers code (label to code) else jumped end distance)
       by_steps true e reached kept same = record {
         after = e;
-        reached = subst (λ a. Reaches t (record { rip = at; core = d }) (record { rip = a; core = e })) short_out reached;
+        reached = subst (λ a. Reaches t 10 (record { rip = at; core = d }) (record { rip = a; core = e })) short_out (in_more t 2 10 _ _ (omega arith) reached);
         kept = kept;
         target = same;
       }
@@ -184,9 +185,9 @@ jalr_lines_run target p code rest address size rd rs1 imm distance base l t at g
     (ap (λ a. is_canonical (jumped a distance)) end ∙ canonical) in (
       record {
         after = it.after;
-        reached = then_reaches t at front (indirect_jump distance) c last.core here.text_is_fixed here.text_is_low here.stands runs
+        reached = in_more t (length front + 10) line_most _ _ (omega (arith, jalr_front_few l.registers rd rs1 (word imm) v)) (then_reaches t at front (indirect_jump distance) c last.core here.text_is_fixed here.text_is_low here.stands runs 10
             (record { rip = jalr_place l.registers p code base (end_of at (jalr_line l.registers rd rs1 (word imm) v distance)) distance to left; core = it.after })
-            (subst (λ a. Reaches t (record { rip = from; core = last.core }) (record { rip = jalr_place l.registers p code base a distance to left; core = it.after })) end it.reached);
+            (subst (λ a. Reaches t 10 (record { rip = from; core = last.core }) (record { rip = jalr_place l.registers p code base a distance to left; core = it.after })) end it.reached));
         related = related_kept p l here.layout _ last.core it.after last.related it.kept;
         others = others_join p l c last.core it.after stay (others_kept p l last.core it.after it.kept);
       },

@@ -1,5 +1,5 @@
 -- The code of branches and jal, from its first instruction to where it leads.
-use Rattle.std.proofs.Common.{◌≡◌, ℕ, ◌%◌, ◌^◌, ◌<◌, Bool, true, false, Some, List, [], ◌∷◌, ◌++◌, length, refl, sym, inl, inr, ap, ◌∙◌, append_assoc, nat_lt, subst, arith, if◌then◌else◌}
+use Rattle.std.proofs.Common.{◌≡◌, ℕ, ◌%◌, ◌^◌, ◌<◌, Bool, true, false, Some, List, [], ◌∷◌, ◌++◌, length, refl, sym, inl, inr, ap, ◌∙◌, append_assoc, nat_lt, subst, arith, if◌then◌else◌, length-append, ◌+◌}
 use Rattle.std.specs.Prelude.{Ok, not}
 use Rattle.std.proofs.lemmas.Bool.{cases_Bool, false≢true, lt-ltb}
 unfoldable use Rattle.rv_word.specs.Spelling.{InRange}
@@ -20,11 +20,11 @@ use Rattle.x86_step.specs.State.{Core, IsFixed, Text, with_flags, with_register}
 use Rattle.x86_step.specs.Step.{Reaches, difference, is_met, low}
 unfoldable use Rattle.x86_step.specs.Step.{computes}
 use Rattle.x86_step.specs.Running.{HasAt, exec, spellings}
-use Rattle.x86_step.proofs.Running.{exec_append}
+use Rattle.x86_step.proofs.Running.{exec_append, in_more}
 use Rattle.sfi_native.specs.declared.jump.Jump.{Jump}
 use Rattle.sfi_native.specs.declared.layout.Layout.{Layout}
 use Rattle.sfi_native.specs.Layout.{IsLayout, IsRelated, OthersStay, value}
-use Rattle.sfi_native.specs.Laws.{BranchLinesRun, IsJump, IsLow, JalLinesRun, end_of, is_slow, jump_place}
+use Rattle.sfi_native.specs.Laws.{BranchLinesRun, IsJump, IsLow, JalLinesRun, end_of, is_slow, jump_place, line_most}
 use Rattle.sfi_native.specs.Code.{compare_code, count, fetch, has_test, jal_line, number_code, opposite, tested_jump, unless}
 use Rattle.sfi_native.proofs.Arithmetic.{low_is, unmet_is}
 use Rattle.sfi_native.proofs.Kept.{Kept, kept_flags, kept_join, kept_register, others_join, others_kept}
@@ -34,6 +34,7 @@ use Rattle.sfi_native.proofs.Lists.{tested_size}
 use Rattle.sfi_native.proofs.Tested.{jumps_by_test}
 use Rattle.sfi_native.proofs.Fetching.{fetched, related_kept}
 use Rattle.sfi_native.proofs.Lines.{none_comes, number_comes, then_count}
+use Rattle.sfi_native.proofs.Lengths.{branch_few, compare_few, number_counted_few}
 
 -- ==== A branch.
 
@@ -126,7 +127,7 @@ module _ (t : Text) (at : ℕ) (front : List Native) (condition : Condition) (j 
 
   pub record Branches (taken : Bool) : Type 0 where
     pub after : Core
-    pub reached : Reaches t (record { rip = at; core = c }) (record { rip = if taken then jump_place end j left else end; core = after })
+    pub reached : Reaches t (length front + 5) (record { rip = at; core = c }) (record { rip = if taken then jump_place end j left else end; core = after })
     pub kept : Kept d after
     pub edx : taken ≡ true → is_slow j left ≡ true → after.registers 2 ≡ j.to
 
@@ -137,7 +138,7 @@ module _ (t : Text) (at : ℕ) (front : List Native) (condition : Condition) (j 
   branches false met =
       record {
         after = d;
-        reached = runs_join front (unless condition (tested_jump j)) c d d runs (skipped condition (tested_jump j) d (jump_few j) met) t at fixed_text low_text stands;
+        reached = in_more t _ (length front + 5) _ _ (branch_few front condition j) (runs_join front (unless condition (tested_jump j)) c d d runs (skipped condition (tested_jump j) d (jump_few j) met) t at fixed_text low_text stands);
         kept = record { registers = λ k more. refl; memory = refl; writable = refl };
         edx = λ e. absurd (false≢true e);
       }
@@ -151,8 +152,9 @@ module _ (t : Text) (at : ℕ) (front : List Native) (condition : Condition) (j 
       let jumps = jumps_by_test t from j left d fixed_here low_text same (back_stands t at (front ++ (skip ∷ [])) (tested_jump j) c d fixed_text low_text whole to_jump) here in
       record {
         after = jumps.after;
-        reached = then_reaches t at (front ++ (skip ∷ [])) (tested_jump j) c d fixed_text low_text whole to_jump (record { rip = jump_place end j left; core = jumps.after })
-            (subst (λ a. Reaches t (record { rip = from; core = d }) (record { rip = jump_place a j left; core = jumps.after })) end_is jumps.reached);
+        reached = in_more t (length (front ++ (skip ∷ [])) + 4) (length front + 5) _ _ (omega (arith, length-append front (skip ∷ [])))
+            (then_reaches t at (front ++ (skip ∷ [])) (tested_jump j) c d fixed_text low_text whole to_jump 4 (record { rip = jump_place end j left; core = jumps.after })
+            (subst (λ a. Reaches t 4 (record { rip = from; core = d }) (record { rip = jump_place a j left; core = jumps.after })) end_is jumps.reached));
         kept = jumps.kept;
         edx = λ e. jumps.edx;
       }
@@ -170,7 +172,7 @@ branch_lines_run target p code rest address size cond rs1 rs2 offset j l t at g 
     (one_less g.left) same here.stands jump (is_taken cond a b) met in (
       record {
         after = it.after;
-        reached = it.reached;
+        reached = in_more t _ line_most _ _ (omega (arith, compare_few l.registers rs1 rs2)) it.reached;
         related = by_branch p l here.layout g c here.related (is_taken cond a b) _ address size (offset_by address offset) it.after
             (λ place pc. related_kept p l here.layout _ done.core it.after (done.related place pc) it.kept);
         others = others_join p l c done.core it.after done.others (others_kept p l done.core it.after it.kept);
@@ -194,8 +196,9 @@ jal_lines_run target p code rest address size rd offset j l t at g c range few j
     (back_stands t at front (tested_jump j) c done.core here.text_is_fixed here.text_is_low here.stands done.runs) (subst (λ a. IsJump a j) (sym end_is) jump) in (
       record {
         after = it.after;
-        reached = then_reaches t at front (tested_jump j) c done.core here.text_is_fixed here.text_is_low here.stands done.runs (record { rip = jump_place (end_of at (jal_line l.registers rd v j)) j (one_less g.left); core = it.after })
-            (subst (λ a. Reaches t (record { rip = from; core = done.core }) (record { rip = jump_place a j (one_less g.left); core = it.after })) end_is it.reached);
+        reached = in_more t (length front + 4) line_most _ _ (omega (arith, number_counted_few l.registers rd v))
+            (then_reaches t at front (tested_jump j) c done.core here.text_is_fixed here.text_is_low here.stands done.runs 4 (record { rip = jump_place (end_of at (jal_line l.registers rd v j)) j (one_less g.left); core = it.after })
+            (subst (λ a. Reaches t 4 (record { rip = from; core = done.core }) (record { rip = jump_place a j (one_less g.left); core = it.after })) end_is it.reached));
         related = related_kept p l here.layout _ done.core it.after done.related it.kept;
         others = others_join p l c done.core it.after done.others (others_kept p l done.core it.after it.kept);
       },

@@ -3,6 +3,7 @@ pub mod Fixed
 pub mod Arithmetic
 pub mod Products
 pub mod Runs
+pub mod Lengths
 pub mod Kept
 pub mod Assigned
 pub mod Places
@@ -28,6 +29,7 @@ pub mod Guarding
 pub mod Ready
 pub mod Fixups
 pub mod Heads
+pub mod Arriving
 pub mod Placed
 pub mod Steps
 pub mod Ways

@@ -28,7 +28,7 @@ use Rattle.x86_step.specs.Running.{are_straight}
 use Rattle.sfi_native.specs.declared.registers.RegisterMap.{RegisterMap}
 use Rattle.sfi_native.specs.declared.layout.Layout.{Layout}
 use Rattle.sfi_native.specs.Layout.{IsLayout, IsRelated, OthersStay, value}
-use Rattle.sfi_native.specs.Laws.{ComputingLinesRun}
+use Rattle.sfi_native.specs.Laws.{ComputingLinesRun, line_most}
 use Rattle.sfi_native.specs.Code.{bring, computing_line, count, does_compute, ecx_code, fetch, imm_code, needs_ecx, number_code, op_code, operand_of, place_beside, place_code, result_in, settle, store_eax, write}
 use Rattle.sfi_native.specs.Registers.{assigned, is_fixed}
 unfoldable use Rattle.sfi_native.specs.Code.{computation, compute, compute_imm}
@@ -38,6 +38,8 @@ use Rattle.sfi_native.proofs.Kept.{Computed, KeptBut, Leaves, behind, but_regist
 use Rattle.sfi_native.proofs.Counting.{counted, counts}
 use Rattle.sfi_native.proofs.Runs.{Runs, runs_join, straight_runs}
 use Rattle.sfi_native.proofs.Fetching.{brought, fetched, hart_written, moved, moved_stay, operand_is, related_kept, unwritten, wrote}
+use Rattle.x86_step.proofs.Running.{in_more}
+use Rattle.sfi_native.proofs.Lengths.{computing_few}
 
 store_straight : (o : Option Register) (rd : ℕ) → are_straight (store_eax o rd ∷ []) ≡ true
 store_straight None rd = refl
@@ -236,7 +238,7 @@ computing_lines_run target p code rest address size i l t at g c has range here 
     let line = computation_comes target p code rest address size l here.layout g c here.related i has range in
     record {
       after = line.core;
-      reached = line.runs t at here.text_is_fixed here.text_is_low here.stands;
+      reached = in_more t _ line_most _ _ (computing_few l.registers address i) (line.runs t at here.text_is_fixed here.text_is_low here.stands);
       related = line.related;
       others = line.others;
     }

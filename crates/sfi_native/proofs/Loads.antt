@@ -23,7 +23,7 @@ unfoldable use Rattle.x86_step.specs.Step.{computes}
 use Rattle.x86_step.specs.Running.{are_straight, exec}
 use Rattle.sfi_native.specs.declared.layout.Layout.{Layout}
 use Rattle.sfi_native.specs.Layout.{IsLayout, IsRelated, value}
-use Rattle.sfi_native.specs.Laws.{LoadLinesRun}
+use Rattle.sfi_native.specs.Laws.{LoadLinesRun, line_most}
 use Rattle.sfi_native.specs.Code.{data_address, fetch, load_code, load_from}
 use Rattle.sfi_native.proofs.Accessing.{number_is, place_is, some_number, within}
 use Rattle.sfi_native.proofs.Runs.{straight_runs}
@@ -31,6 +31,8 @@ use Rattle.sfi_native.proofs.Kept.{Computed, behind, kept_register}
 use Rattle.sfi_native.proofs.Fetching.{fetched}
 use Rattle.sfi_native.proofs.Lines.{finish, then_count}
 use Rattle.sfi_native.proofs.Memory.{load_there}
+use Rattle.x86_step.proofs.Running.{in_more}
+use Rattle.sfi_native.proofs.Lengths.{load_few}
 
 byte_extended : (v : ℕ) → v < 256 → extended_by Sign Byte v ≡ extended Lb v
 byte_extended v small = grind (arith, ints)
@@ -95,7 +97,7 @@ load_lines_run target p code rest address size kind rd rs1 imm l t at g c range 
     let done = then_count p l here.layout c (load_code l.registers kind rd rs1 (word imm)) _ written in
     rw (in_data.tested, reads) (record {
       after = done.core;
-      reached = done.runs t at here.text_is_fixed here.text_is_low here.stands;
+      reached = in_more t _ line_most _ _ (load_few l.registers kind rd rs1 (word imm)) (done.runs t at here.text_is_fixed here.text_is_low here.stands);
       related = done.related;
       others = done.others;
     })

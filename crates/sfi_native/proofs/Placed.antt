@@ -1,5 +1,5 @@
 -- Lines among all lines of the code, from where each begins to where the next does.
-use Rattle.std.proofs.Common.{append_assoc, ◌++◌, length, length-append, ◌%◌, ◌≤◌, ◌&&◌, ◌⊎◌, inl, inr, None, ◌≡◌, ℕ, ◌+◌, ◌^◌, ◌<◌, Bool, true, false, List, [], ◌∷◌, Option, Some, refl, sym, ap, ◌∙◌, subst, arith, if◌then◌else◌, not, ◌==◌}
+use Rattle.std.proofs.Common.{◌++◌, length, length-append, ◌%◌, ◌≤◌, ◌⊎◌, inl, inr, ◌≡◌, ℕ, ◌+◌, ◌^◌, ◌<◌, Bool, true, false, List, [], ◌∷◌, Some, refl, sym, ap, ◌∙◌, subst, arith, if◌then◌else◌, not, ◌==◌}
 use Rattle.std.proofs.lemmas.Bool.{and_parts, cases_Bool, false≢true, le-leb, lt-ltb}
 use Rattle.rv_word.specs.declared.instr.Cond.{Cond}
 use Rattle.rv_word.specs.declared.instr.Instr.{Instr}
@@ -11,23 +11,22 @@ use Rattle.rv_step.specs.Step.{is_taken, word}
 use Rattle.sfi_formats.specs.Formats.{unit}
 use Rattle.sfi_image.specs.Spelling.{Part}
 use Rattle.sfi_translate.specs.Lines.{Line, Function, End, Entry, Head, Does}
-use Rattle.sfi_translate.specs.Machine.{Assembly, Before, ControlPoint, Going, Loop, Lost, fixed, Slow, at_head, before_or, enters, goes, goes_with, is_short, jumps, label, line_step, one_less}
+use Rattle.sfi_translate.specs.Machine.{Assembly, Before, ControlPoint, Going, Loop, fixed, Slow, at_head, enters, goes, goes_with, is_short, jumps, label, line_step, one_less}
 use Rattle.x86_step.specs.State.{Core, Fixup, Machine, Text, with_register}
 use Rattle.x86_instr.specs.declared.instr.Instr.{Instr as Native}
 use Rattle.x86_instr.specs.declared.instr.Instr.TheVariants.{Jcc}
 use Rattle.x86_instr.specs.declared.instr.Width.TheVariants.{Dword}
-use Rattle.x86_step.proofs.Running.{has_back, has_front, spellings_append}
+use Rattle.x86_step.proofs.Running.{has_back, has_front, spellings_append, in_more, stays}
 unfoldable use Rattle.x86_instr.specs.Spelling.{rex, spelling}
 unfoldable use Rattle.x86_step.specs.Step.{computes}
-use Rattle.x86_step.specs.Step.{low, Reaches, is_canonical, jumped, stay}
+use Rattle.x86_step.specs.Step.{low, Reaches, is_canonical, jumped}
 use Rattle.x86_step.specs.Running.{HasAt, spellings}
 use Rattle.sfi_native.specs.declared.registers.RegisterMap.{RegisterMap}
 use Rattle.sfi_native.specs.declared.jump.Jump.{Jump}
 use Rattle.sfi_native.specs.declared.layout.Layout.{Layout}
 use Rattle.sfi_native.specs.Layout.{IsRelated, value}
-use Rattle.sfi_native.specs.Entries.{entry_of}
 use Rattle.sfi_native.specs.Table.{HasTable, LieInCode, is_unit_start}
-use Rattle.sfi_native.specs.Laws.{Accesses, Faults, Follows, IsBefore, IsCovered, IsJump, IsReady, is_slow, jalr_place, jump_place, LeadsTo, PlacedLinesRun, end_of}
+use Rattle.sfi_native.specs.Laws.{Accesses, Faults, Follows, IsBefore, IsCovered, IsJump, IsReady, is_slow, jalr_place, jump_place, LeadsTo, PlacedLinesRun, end_of, line_most}
 use Rattle.sfi_native.specs.Faults.{HasFixups, access_in, front_of}
 use Rattle.sfi_native.specs.declared.faults.Access.{Access}
 use Rattle.sfi_native.proofs.Fixups.{access_found, access_offset, within_line}
@@ -45,86 +44,7 @@ use Rattle.sfi_native.proofs.Loads.{load_lines_run}
 use Rattle.sfi_native.proofs.Places.{code_size, label_canonical, exit_reached, label_last, label_reached, last_below, line_size, line_ends, line_stands}
 use Rattle.sfi_native.proofs.Runs.{bytes_end, low_canonical, straight_runs}
 use Rattle.sfi_native.proofs.Stores.{store_lines_run}
-
--- ==== Where a step goes on.
-
-same_lines : (rest to : List Line) → Before rest ≡ Before to → to ≡ rest
-same_lines rest to e = cc
-
--- where a processor is after a jump
-jump_at : (registers : RegisterMap) (base : ℕ) (code : List Line) (pc : ℕ) (m : Machine) (end exit label : ℕ) (tested short : Bool) (o : Option (List Line)) (to : ℕ)
-    → ((rest : List Line) → o ≡ Some rest → AreLast code rest)
-    → jumped end label ≡ base + start_or_end registers code o → jumped end exit ≡ base + exit_of registers code
-    → m.rip ≡ jumped end (if tested && short then exit else label) → (tested && short ≡ true → m.core.registers 2 ≡ to) → to ≡ pc
-    → IsCovered (if tested then (if short then Slow else before_or Lost o) else before_or Lost o)
-    → IsAtPlace registers base code (if tested then (if short then Slow else before_or Lost o) else before_or Lost o) pc m
-jump_at registers base code pc m end exit label true true o to last near out rip edx pc_is covered = (rip ∙ out, edx refl ∙ pc_is)
-jump_at registers base code pc m end exit label true false (Some rest) to last near out rip edx pc_is covered = (rip ∙ near, last rest refl)
-jump_at registers base code pc m end exit label false short (Some rest) to last near out rip edx pc_is covered = (rip ∙ near, last rest refl)
-jump_at registers base code pc m end exit label true false None to last near out rip edx pc_is covered = absurd covered
-jump_at registers base code pc m end exit label false short None to last near out rip edx pc_is covered = absurd covered
-
--- where it is after a jump to an address in edx
-entered_at : (registers : RegisterMap) (base : ℕ) (code : List Line) (to : ℕ) (m : Machine) (end exit : ℕ) (short whole start : Bool) (o : Option (List Line))
-    → ((rest : List Line) → o ≡ Some rest → AreLast code rest) → jumped end exit ≡ base + exit_of registers code
-    → m.rip ≡ (if short then jumped end exit else if start then base + entry_of registers code o else jumped end exit) → m.core.registers 2 ≡ to
-    → (start ≡ true → whole ≡ true) → (whole ≡ true → start ≡ false → (rest : List Line) → o ≡ Some rest → ⊥)
-    → IsAtPlace registers base code (if short then Slow else (if not whole then Slow else before_or Slow o)) to m
-entered_at registers base code to m end exit true whole start o last out rip edx starts within = (rip ∙ out, edx)
-entered_at registers base code to m end exit false true true (Some rest) last out rip edx starts within = (rip, last rest refl)
-entered_at registers base code to m end exit false true true None last out rip edx starts within = (rip, edx)
-entered_at registers base code to m end exit false true false (Some rest) last out rip edx starts within = absurd (within refl refl rest refl)
-entered_at registers base code to m end exit false true false None last out rip edx starts within = (rip ∙ out, edx)
-entered_at registers base code to m end exit false false true o last out rip edx starts within = absurd (false≢true (starts refl))
-entered_at registers base code to m end exit false false false o last out rip edx starts within = (rip ∙ out, edx)
-
-of_done : (done : Bool) (one other : Going) (to : List Line) → done ≡ true → (if done then one else other).place ≡ Before to → one.place ≡ Before to
-of_done true one other to is e = e
-of_done false one other to is e = absurd (false≢true is)
-
--- what isn't done leads to a slow step
-not_before : (done : Bool) (one other : Going) (to : List Line) → done ≡ false → other.place ≡ Slow → (if done then one else other).place ≡ Before to → ⊥
-not_before true one other to is slow e = false≢true (sym is)
-not_before false one other to is slow e = let clash : Slow ≡ Before to = sym slow ∙ e in cc
-
--- what is done leads to lines
-not_slow : (done : Bool) (one other : Going) (rest : List Line) → done ≡ true → one.place ≡ Before rest → (if done then one else other).place ≡ Slow → ⊥
-not_slow true one other rest is before e = let clash : Before rest ≡ Slow = sym before ∙ e in cc
-not_slow false one other rest is before e = absurd (false≢true is)
-
-abbrev is_jump_line : Instr → Bool
-is_jump_line (Branch cond rs1 rs2 offset) = true
-is_jump_line (Jal rd offset) = true
-is_jump_line (Jalr rd rs1 imm) = true
-is_jump_line i = false
-
-slow_result : (done : Bool) (one other : Going) → done ≡ false → (if done then one else other) ≡ other
-slow_result true one other is = absurd (false≢true (sym is))
-slow_result false one other is = refl
-
--- no line but a jump leads to the loop
-neither : (done : Bool) (one other : Going) (rest : List Line) → one.place ≡ Before rest → other.place ≡ Slow → (if done then one else other).place ≡ Loop → ⊥
-neither true one other rest a b e = let clash : Before rest ≡ Loop = sym a ∙ e in cc
-neither false one other rest a b e = let clash : Slow ≡ Loop = sym b ∙ e in cc
-
-no_loop : (p : Part) (code rest : List Line) (g : Going) (address n : ℕ) (i : Instr) → is_jump_line i ≡ false
-    → (line_step Assembly p code (Does address n i ∷ rest) g).place ≡ Loop → ⊥
-no_loop p code rest g address n (Load kind rd rs1 imm) none e = neither _ _ _ rest refl refl e
-no_loop p code rest g address n (Store width rs1 rs2 imm) none e = neither _ _ _ rest refl refl e
-no_loop p code rest g address n (Jalr rd rs1 imm) none e = absurd (false≢true (sym none))
-no_loop p code rest g address n (Branch cond rs1 rs2 offset) none e = absurd (false≢true (sym none))
-no_loop p code rest g address n (Jal rd offset) none e = absurd (false≢true (sym none))
-no_loop p code rest g address n Ecall none e = absurd (cc)
-no_loop p code rest g address n Ebreak none e = absurd (cc)
-no_loop p code rest g address n (Op op rd rs1 rs2) none e = absurd (cc)
-no_loop p code rest g address n (OpImm op rd rs1 imm) none e = absurd (cc)
-no_loop p code rest g address n (Lui rd imm) none e = absurd (cc)
-no_loop p code rest g address n (Auipc rd imm) none e = absurd (cc)
-no_loop p code rest g address n (Fence imm rd rs1) none e = absurd (cc)
-
--- the lines behind
-tail_last : (code rest : List Line) (line : Line) → AreLast code (line ∷ rest) → AreLast code rest
-tail_last code rest line last = record { front = last.front ++ (line ∷ []); is = last.is ∙ sym (append_assoc last.front (line ∷ []) rest) }
+use Rattle.sfi_native.proofs.Arriving.{same_lines, jump_at, entered_at, of_done, not_before, not_slow, is_jump_line, slow_result, no_loop, tail_last}
 
 -- ==== A line.
 
@@ -252,13 +172,13 @@ module _ (p : Part) (code rest to : List Line) (l : Layout) (t : Text) (base : �
         let z : end_of place (placed l.registers code rest line) ≡ place = ap (end_of place) none ∙ omega arith in
         on (goes g (Before rest)) (subst (λ a. LeadsTo t place a p l c (goes g (Before rest))) (sym z) (record {
           after = c;
-          reached = record { fixed = here.text_is_fixed; steps = stay _ };
+          reached = in_more t 0 line_most _ _ (omega arith) (stays t _ here.text_is_fixed);
           related = related_goes p l g c (Before rest) g.state.hart.pc here.related;
           others = others_same p l c;
         })) e
 
   -- the end's code
-  end_runs : Follows t p l base code (record { rip = base + size_of_all l.registers code; core = c }) (goes_with g Loop (end_address p))
+  end_runs : Follows t line_most p l base code (record { rip = base + size_of_all l.registers code; core = c }) (goes_with g Loop (end_address p))
   unfolding computes
   end_runs =
       let d = with_register c 2 (end_address p) in
@@ -268,7 +188,7 @@ module _ (p : Part) (code rest to : List Line) (l : Layout) (t : Text) (base : �
       let runs = straight_runs (end_code (end_address p)) c d refl refl t at here.text_is_fixed here.text_is_low own in
       record {
         after = record { rip = end_of at (end_code (end_address p)); core = d };
-        reached = runs;
+        reached = in_more t _ line_most _ _ (omega arith) runs;
         alike = record {
           related = related_goes p l g d Loop (end_address p) (related_kept p l here.layout g c d here.related (kept_register c 2 (end_address p) (omega arith)));
           is_at = (ap (λ n. at + n) (end_length (end_address p)) ∙ omega arith, refl);
@@ -308,7 +228,7 @@ module _ (p : Part) (code rest to : List Line) (l : Layout) (t : Text) (base : �
   -- a jump, to a label or out
   jump_runs : (address n : ℕ) (i : Instr) → AreLast code (Does address n i ∷ rest) → InRange i → one_less g.left < 2 ^ 31 → is_jump_line i ≡ true
       → IsCovered (line_step Assembly p code (Does address n i ∷ rest) g).place
-      → Follows t p l base code (record { rip = base + start l.registers code (Does address n i ∷ rest); core = c }) (line_step Assembly p code (Does address n i ∷ rest) g)
+      → Follows t line_most p l base code (record { rip = base + start l.registers code (Does address n i ∷ rest); core = c }) (line_step Assembly p code (Does address n i ∷ rest) g)
   jump_runs address n (Branch cond rs1 rs2 offset) last range few_left is covered =
       let line = Does address n (Branch cond rs1 rs2 offset) in
       let target = offset_by address offset in
@@ -351,7 +271,7 @@ module _ (p : Part) (code rest to : List Line) (l : Layout) (t : Text) (base : �
 
   -- a line that goes out
   left_by : (address : ℕ) (line : Line) → AreLast code (line ∷ rest) → placed l.registers code rest line ≡ leave_line address (distance_out l.registers code rest)
-      → Follows t p l base code (record { rip = base + start l.registers code (line ∷ rest); core = c }) (goes_with g Slow address)
+      → Follows t line_most p l base code (record { rip = base + start l.registers code (line ∷ rest); core = c }) (goes_with g Slow address)
   left_by address line last is =
       let from = base + start l.registers code (line ∷ rest) in
       let out = distance_out l.registers code rest in
@@ -359,12 +279,12 @@ module _ (p : Part) (code rest to : List Line) (l : Layout) (t : Text) (base : �
       ap (λ is. jumped (end_of from is) out) (sym is) ∙ ap (λ a. jumped a out) (ends line last) ∙ exit_reached l.registers base code rest few low_end in
       let before : IsBefore (leave_line address out) t from p l g c = subst (λ is. IsBefore is t from p l g c) is (own line last) in
       let it = leaves p l t from address out g c before (ap is_canonical out_is ∙ low_canonical (base + exit_of l.registers code) low_end) in
-      record { after = _; reached = it.reached; alike = record { related = related_goes p l g it.after Slow address it.related; is_at = (out_is, it.edx) }; others = it.others }
+      record { after = _; reached = in_more t 2 line_most _ _ (omega arith) it.reached; alike = record { related = related_goes p l g it.after Slow address it.related; is_at = (out_is, it.edx) }; others = it.others }
 
   -- an access that faults
   by_fixup : (address n : ℕ) (i : Instr) (a : Access) → AreLast code (Does address n i ∷ rest) → InRange i → Faults p g i
       → access_in l.registers (Does address n i) ≡ Some a → (line_step Assembly p code (Does address n i ∷ rest) g ≡ goes_with g Slow a.pc)
-      → Follows t p l base code (record { rip = base + start l.registers code (Does address n i ∷ rest); core = c }) (line_step Assembly p code (Does address n i ∷ rest) g)
+      → Follows t line_most p l base code (record { rip = base + start l.registers code (Does address n i ∷ rest); core = c }) (line_step Assembly p code (Does address n i ∷ rest) g)
   by_fixup address n i a last range faults has goes =
       let line = Does address n i in
       let from = base + start l.registers code (line ∷ rest) in
@@ -388,7 +308,7 @@ module _ (p : Part) (code rest to : List Line) (l : Layout) (t : Text) (base : �
   -- a line that isn't a jump and leads to a slow step
   slow_instruction : (address n : ℕ) (i : Instr) → AreLast code (Does address n i ∷ rest) → InRange i → Accesses p g i → is_jump_line i ≡ false
       → (line_step Assembly p code (Does address n i ∷ rest) g).place ≡ Slow
-      → Follows t p l base code (record { rip = base + start l.registers code (Does address n i ∷ rest); core = c }) (line_step Assembly p code (Does address n i ∷ rest) g)
+      → Follows t line_most p l base code (record { rip = base + start l.registers code (Does address n i ∷ rest); core = c }) (line_step Assembly p code (Does address n i ∷ rest) g)
   slow_instruction address n Ecall last range asked none e = left_by address (Does address n Ecall) last refl
   slow_instruction address n Ebreak last range asked none e = left_by address (Does address n Ebreak) last refl
   slow_instruction address n (Load kind rd rs1 imm) last range (inl asked) none e = absurd (not_slow _ _ _ rest asked.0.tested refl e)
@@ -427,13 +347,13 @@ module _ (p : Part) (code rest to : List Line) (l : Layout) (t : Text) (base : �
     tested : IsRelated p l g tests.after
     tested = related_kept p l here.layout g c tests.after here.related tests.kept
 
-    head : (short : Bool) → Reaches t (record { rip = from; core = c })
+    head : (short : Bool) → Reaches t 3 (record { rip = from; core = c })
         (record { rip = if short then jumped (end_of from (head_line address out)) out else end_of from (head_line address out); core = tests.after })
-        → Follows t p l base code (record { rip = from; core = c }) (if short then goes_with g Slow address else goes g (Before rest))
-    head true reached = record { after = _; reached = reached; alike = record { related = related_goes p l g tests.after Slow address tested; is_at = (out_is, tests.edx) }; others = others_kept p l c tests.after tests.kept }
+        → Follows t line_most p l base code (record { rip = from; core = c }) (if short then goes_with g Slow address else goes g (Before rest))
+    head true reached = record { after = _; reached = in_more t 3 line_most _ _ (omega arith) reached; alike = record { related = related_goes p l g tests.after Slow address tested; is_at = (out_is, tests.edx) }; others = others_kept p l c tests.after tests.kept }
     head false reached = record {
       after = _;
-      reached = reached;
+      reached = in_more t 3 line_most _ _ (omega arith) reached;
       alike = record { related = related_goes p l g tests.after (Before rest) g.state.hart.pc tested; is_at = (ends (Head address) last, tail_last code rest (Head address) last) };
       others = others_kept p l c tests.after tests.kept;
     }
@@ -453,13 +373,13 @@ module _ (p : Part) (code rest : List Line) (l : Layout) (t : Text) (base : ℕ)
 
   -- what leads to lines leads on
   leads_on : (line : Line) (to : List Line) (k : Going) → k.place ≡ Before to → LeadsTo t (base + start l.registers code (line ∷ rest)) (base + start l.registers code to) p l m.core k × AreLast code to
-      → Follows t p l base code (start_of line) k
+      → Follows t line_most p l base code (start_of line) k
   leads_on line to k e leads =
       let n : Machine = record { rip = base + start l.registers code to; core = leads.0.after } in
       record { after = n; reached = leads.0.reached; alike = record { related = leads.0.related; is_at = subst (λ place. IsAtPlace l.registers base code place k.state.hart.pc n) (sym e) (refl, leads.1) }; others = leads.0.others }
 
   line_runs : (line : Line) → AreLast code (line ∷ rest) → 0 < g.left → g.left < 2 ^ 31 → IsReady p g line → IsCovered (line_step Assembly p code (line ∷ rest) g).place
-      → Follows t p l base code (start_of line) (line_step Assembly p code (line ∷ rest) g)
+      → Follows t line_most p l base code (start_of line) (line_step Assembly p code (line ∷ rest) g)
   line_runs (Function sandbox at) last some below ready covered = leads_on (Function sandbox at) rest _ refl (nothing p code rest rest l t base g m.core here few fixups lie has (Function sandbox at) last refl refl)
   line_runs (End at) last some below ready covered = leads_on (End at) rest _ refl (nothing p code rest rest l t base g m.core here few fixups lie has (End at) last refl refl)
   line_runs (Entry at) last some below ready covered = leads_on (Entry at) rest _ refl (nothing p code rest rest l t base g m.core here few fixups lie has (Entry at) last refl refl)
@@ -476,13 +396,13 @@ module _ (p : Part) (code rest : List Line) (l : Layout) (t : Text) (base : ℕ)
 
 -- the end's code, from its place
 ended : (p : Part) (code : List Line) (l : Layout) (t : Text) (base : ℕ) (g : Going) (m : Machine) → IsBefore (whole_code l.registers (end_address p) code) t base p l g m.core → exit_of l.registers code < 2 ^ 31 → HasFixups l.registers t base code → LieInCode p code → HasTable p l base code m.core
-    → m.rip ≡ base + start l.registers code [] → Follows t p l base code m (line_step Assembly p code [] g)
+    → m.rip ≡ base + start l.registers code [] → Follows t line_most p l base code m (line_step Assembly p code [] g)
 ended p code l t base g m here few fixups lie has rip =
     let leads = end_runs p code [] [] l t base g m.core here few fixups lie has in
     let from : base + size_of_all l.registers code ≡ m.rip = omega (arith, rip) in
     record {
       after = leads.after;
-      reached = subst (λ a. Reaches t (record { rip = a; core = m.core }) leads.after) from leads.reached;
+      reached = subst (λ a. Reaches t line_most (record { rip = a; core = m.core }) leads.after) from leads.reached;
       alike = leads.alike;
       others = leads.others;
     }
@@ -496,7 +416,7 @@ placed_lines_run p code (line ∷ rest) l t base g m here few fixups lie has pla
     let leads = line_runs p code rest l t base g m here few fixups lie has line at.1 some below ready covered in
     record {
       after = leads.after;
-      reached = subst (λ a. Reaches t (record { rip = a; core = m.core }) leads.after) (sym at.0) leads.reached;
+      reached = subst (λ a. Reaches t line_most (record { rip = a; core = m.core }) leads.after) (sym at.0) leads.reached;
       alike = leads.alike;
       others = leads.others;
     }

@@ -1,5 +1,5 @@
 -- Code with jumps within it, from its start to its end.
-use Rattle.std.proofs.Common.{◌≡◌, ℕ, ◌+◌, ◌^◌, ◌<◌, ◌≤◌, true, false, Bool, Some, List, [], ◌∷◌, ◌++◌, length, refl, ap, ◌∙◌, subst, arith, if◌then◌else◌, append-nil, length-append, nat_lt}
+use Rattle.std.proofs.Common.{suc, ◌≡◌, ℕ, ◌+◌, ◌^◌, ◌<◌, ◌≤◌, true, false, Bool, Some, List, [], ◌∷◌, ◌++◌, length, refl, ap, ◌∙◌, subst, arith, if◌then◌else◌, append-nil, length-append, nat_lt}
 use Rattle.std.specs.Prelude.{Ok}
 use Rattle.std.proofs.lemmas.Bool.{lt-ltb}
 use Rattle.x86_instr.specs.declared.instr.Condition.{Condition}
@@ -11,7 +11,7 @@ use Rattle.x86_step.specs.Step.{Reaches, stay, go, effect, is_canonical, is_met,
 unfoldable use Rattle.x86_step.specs.Step.{computes}
 use Rattle.x86_step.specs.Running.{HasAt, are_straight, exec, is_straight, spellings}
 use Rattle.x86_step.proofs.Facts.{fixed_stays, spelled_run, spelled_steps, steps_join}
-use Rattle.x86_step.proofs.Running.{has_back, has_front, spellings_append}
+use Rattle.x86_step.proofs.Running.{has_back, has_front, spellings_append, in_more}
 use Rattle.sfi_native.specs.Laws.{IsLow, end_of}
 use Rattle.sfi_native.specs.Code.{unless}
 
@@ -19,7 +19,7 @@ use Rattle.sfi_native.specs.Code.{unless}
 abbrev pub Runs : List Native → Core → Core → Type 0
 Runs is c d =
     (t : Text) (at : ℕ) → IsFixed t c → IsLow t → HasAt t at (spellings is)
-    → Reaches t (record { rip = at; core = c }) (record { rip = end_of at is; core = d })
+    → Reaches t (length is) (record { rip = at; core = c }) (record { rip = end_of at is; core = d })
 
 pub straight_runs : (is : List Native) (c d : Core) → are_straight is ≡ true → exec is c ≡ Ok d → Runs is c d
 straight_runs is c d straight e t at fixed low has = spelled_run t at is c d fixed straight has e
@@ -31,8 +31,9 @@ pub runs_join : (is js : List Native) (c d e : Core) → Runs is c d → Runs js
 runs_join is js c d e one more t at fixed low has =
     let parts : HasAt t at (spellings is ++ spellings js) = subst (λ bytes. HasAt t at bytes) (spellings_append is js) has in
     let first = one t at fixed low (has_front t at (spellings is) (spellings js) parts) in
-    let second = more t (end_of at is) (fixed_stays t _ _ first) low (has_back t at (spellings is) (spellings js) parts) in
-    subst (λ to. Reaches t (record { rip = at; core = c }) (record { rip = to; core = e })) (end_append at is js) (steps_join t _ _ _ first second)
+    let second = more t (end_of at is) (fixed_stays t _ _ _ first) low (has_back t at (spellings is) (spellings js) parts) in
+    let both = in_more t (length is + length js) (length (is ++ js)) _ _ (omega (arith, length-append is js)) (steps_join t _ _ _ _ _ first second) in
+    subst (λ to. Reaches t (length (is ++ js)) (record { rip = at; core = c }) (record { rip = to; core = e })) (end_append at is js) both
 
 -- ==== Jumps.
 
@@ -51,15 +52,18 @@ branch_effect condition distance after end d false is met canonical = rw (met, i
 
 -- one instruction
 pub one_step : (t : Text) (at to : ℕ) (i : Native) (c d : Core) → IsFixed t c → HasAt t at (spelling i) → effect i (at + length (spelling i)) c ≡ Ok (record { rip = to; core = d })
-    → Reaches t (record { rip = at; core = c }) (record { rip = to; core = d })
+    → Reaches t 1 (record { rip = at; core = c }) (record { rip = to; core = d })
 one_step t at to i c d fixed has does =
     let last : Machine = record { rip = to; core = d } in
     let one : step t (record { rip = at; core = c }) ≡ Ok last = spelled_steps t at i c has ∙ does in
-    record { fixed = fixed; steps = go (record { rip = at; core = c }) last last one (stay last) }
+    record { fixed = fixed; count = 1; few = omega arith; steps = go 0 (record { rip = at; core = c }) last last one (stay last) }
 
 pub jal_effect : (distance after end : ℕ) (d : Core) → after ≡ end → is_canonical (jumped end distance) ≡ true → effect (Jmp distance) after d ≡ Ok (record { rip = jumped end distance; core = d })
 unfolding computes
 jal_effect distance after end d is canonical = rw (is, canonical) refl
+
+one_at_least : (n : ℕ) → 1 ≤ suc n
+one_at_least n = omega arith
 
 -- Instructions that a condition skips.
 module _ (condition : Condition) (is : List Native) (k : Core) where
@@ -74,15 +78,15 @@ module _ (condition : Condition) (is : List Native) (k : Core) where
       let ends : end_of at (jump ∷ is) < 2 ^ 47 = omega (arith, bytes_end t at (spellings (jump ∷ is)) has, low) in
       let to = jumped (at + length (spelling jump)) (length (spellings is)) in
       let canonical : is_canonical to ≡ true = ap is_canonical (over_is few at ends) ∙ low_canonical (end_of at (jump ∷ is)) ends in
-      subst (λ a. Reaches t (record { rip = at; core = k }) (record { rip = a; core = k })) (over_is few at ends)
-      (one_step t at to jump k k fixed (has_front t at (spelling jump) (spellings is) has) (branch_effect condition (length (spellings is)) _ _ k true refl met canonical))
+      subst (λ a. Reaches t (length (unless condition is)) (record { rip = at; core = k }) (record { rip = a; core = k })) (over_is few at ends)
+      (in_more t 1 (length (unless condition is)) _ _ (one_at_least (length is)) (one_step t at to jump k k fixed (has_front t at (spelling jump) (spellings is) has) (branch_effect condition (length (spellings is)) _ _ k true refl met canonical)))
 
   pub falls : is_met condition k.flags ≡ Some false → Runs (jump ∷ []) k k
   unfolding computes
   falls met t at fixed low has =
       let own : HasAt t at (spelling jump) = has_front t at (spelling jump) [] has in
       let end : at + length (spelling jump) ≡ end_of at (jump ∷ []) = omega (arith, ap length (append-nil (spelling jump))) in
-      subst (λ a. Reaches t (record { rip = at; core = k }) (record { rip = a; core = k })) end
+      subst (λ a. Reaches t 1 (record { rip = at; core = k }) (record { rip = a; core = k })) end
       (one_step t at (at + length (spelling jump)) jump k k fixed own (rw met refl))
 
 -- A test before them.
@@ -104,24 +108,24 @@ module _ (t : Text) (at : ℕ) (front back : List Native) (c d : Core) (fixed_te
   parts : HasAt t at (spellings front ++ spellings back)
   parts = subst (λ bytes. HasAt t at bytes) (spellings_append front back) stands
 
-  first : Reaches t (record { rip = at; core = c }) (record { rip = end_of at front; core = d })
+  first : Reaches t (length front) (record { rip = at; core = c }) (record { rip = end_of at front; core = d })
   first = runs t at fixed_text low (has_front t at (spellings front) (spellings back) parts)
 
   pub back_stands : HasAt t (end_of at front) (spellings back)
   back_stands = has_back t at (spellings front) (spellings back) parts
 
   pub back_fixed : IsFixed t d
-  back_fixed = fixed_stays t _ _ first
+  back_fixed = fixed_stays t _ _ _ first
 
-  pub then_reaches : (k : Machine) → Reaches t (record { rip = end_of at front; core = d }) k → Reaches t (record { rip = at; core = c }) k
-  then_reaches k more = steps_join t _ _ _ first more
+  pub then_reaches : (most : ℕ) (k : Machine) → Reaches t most (record { rip = end_of at front; core = d }) k → Reaches t (length front + most) (record { rip = at; core = c }) k
+  then_reaches most k more = steps_join t (length front) most _ _ _ first more
 
 -- a jump
 pub jumps_to : (t : Text) (at : ℕ) (front : List Native) (jump : Native) (c d : Core) → IsFixed t c → IsLow t → HasAt t at (spellings (front ++ (jump ∷ []))) → Runs front c d
     → (to : ℕ) → ((after : ℕ) → after ≡ end_of at (front ++ (jump ∷ [])) → effect jump after d ≡ Ok (record { rip = to; core = d }))
-    → Reaches t (record { rip = at; core = c }) (record { rip = to; core = d })
+    → Reaches t (length front + 1) (record { rip = at; core = c }) (record { rip = to; core = d })
 jumps_to t at front jump c d fixed low stands runs to does =
     let own = subst (λ bytes. HasAt t (end_of at front) bytes) (append-nil (spelling jump)) (back_stands t at front (jump ∷ []) c d fixed low stands runs) in
     let end : end_of at front + length (spelling jump) ≡ end_of at (front ++ (jump ∷ [])) = omega (arith, end_append at front (jump ∷ []), ap length (append-nil (spelling jump))) in
-    then_reaches t at front (jump ∷ []) c d fixed low stands runs (record { rip = to; core = d })
+    then_reaches t at front (jump ∷ []) c d fixed low stands runs 1 (record { rip = to; core = d })
     (one_step t (end_of at front) to jump d d (back_fixed t at front (jump ∷ []) c d fixed low stands runs) own (does (end_of at front + length (spelling jump)) end))

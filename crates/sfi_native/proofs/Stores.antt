@@ -20,10 +20,10 @@ use Rattle.x86_step.specs.Step.{address, stored as stores}
 unfoldable use Rattle.x86_step.specs.Step.{computes}
 use Rattle.x86_step.specs.Running.{are_straight, exec}
 use Rattle.x86_step.proofs.Facts.{spelled_run}
-use Rattle.x86_step.proofs.Running.{exec_append}
+use Rattle.x86_step.proofs.Running.{exec_append, in_more}
 use Rattle.sfi_native.specs.declared.layout.Layout.{Layout}
 use Rattle.sfi_native.specs.Layout.{IsLayout, IsRelated, OthersStay, value}
-use Rattle.sfi_native.specs.Laws.{StoreLinesRun}
+use Rattle.sfi_native.specs.Laws.{StoreLinesRun, line_most}
 use Rattle.sfi_native.specs.Registers.{assigned}
 use Rattle.sfi_native.proofs.Assigned.{holds_on}
 use Rattle.sfi_native.specs.Code.{count, data_address, fetch, store_line, store_to}
@@ -33,6 +33,7 @@ use Rattle.sfi_native.proofs.Counting.{counts}
 use Rattle.sfi_native.proofs.Fetching.{fetched, related_kept}
 use Rattle.sfi_native.proofs.Lines.{none_comes}
 use Rattle.sfi_native.proofs.Memory.{may_write_each, number_elsewhere, store_there, written_elsewhere, written_here}
+use Rattle.sfi_native.proofs.Lengths.{store_few}
 
 -- ==== The memory of the machine after a store.
 
@@ -168,7 +169,7 @@ store_lines_run target p code rest own size width rs1 rs2 imm l t at g c range i
     ∙ exec_append (store_to width to ∷ []) count c2 c3 (puts width to c2 c3 put) ∙ last.runs in
     rw (in_data.tested, there) (record {
       after = last.core;
-      reached = spelled_run t at (store_line l.registers width rs1 rs2 (word imm)) c last.core here.text_is_fixed (store_straight width to) here.stands runs;
+      reached = in_more t _ line_most _ _ (store_few l.registers width rs1 rs2 (word imm)) (spelled_run t at (store_line l.registers width rs1 rs2 (word imm)) c last.core here.text_is_fixed (store_straight width to) here.stands runs);
       related = last.related;
       others = others_join p l c c2 last.core (others_kept p l c c2 (kept_join c c1 c2 (kept_register c 0 a (omega arith)) (kept_register c1 1 b (omega arith))))
           (others_join p l c2 c3 last.core (data_stored p l here.layout g c2 is2 width (offset_by a imm) b w.0 w.1 inside) last.stay);

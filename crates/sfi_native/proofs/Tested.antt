@@ -9,7 +9,7 @@ use Rattle.x86_step.specs.State.{Core, IsFixed, Text}
 use Rattle.x86_step.specs.Step.{Reaches, is_canonical, jumped, low}
 use Rattle.x86_step.specs.Running.{HasAt, spellings}
 use Rattle.x86_step.proofs.Facts.{fixed_stays, steps_join}
-use Rattle.x86_step.proofs.Running.{has_back, has_front, spellings_append}
+use Rattle.x86_step.proofs.Running.{has_back, has_front, spellings_append, in_more}
 use Rattle.sfi_native.specs.declared.jump.Jump.{Jump}
 use Rattle.sfi_native.specs.Laws.{IsJump, IsLow, end_of}
 use Rattle.sfi_native.specs.Code.{has_test, head_line, jump_size, test_code, tested_jump}
@@ -38,7 +38,7 @@ module _ (t : Text) (at : ℕ) (j : Jump) (left : ℕ) (d : Core) (fixed_text : 
 
   pub record Jumps (tested : Bool) : Type 0 where
     pub after : Core
-    pub reached : Reaches t (record { rip = at; core = d })
+    pub reached : Reaches t 4 (record { rip = at; core = d })
         (record { rip = jumped (end_by tested) (if tested && is_short Assembly left then j.exit else j.label); core = after })
     pub kept : Kept d after
     pub edx : tested && is_short Assembly left ≡ true → after.registers 2 ≡ j.to
@@ -51,25 +51,25 @@ module _ (t : Text) (at : ℕ) (j : Jump) (left : ℕ) (d : Core) (fixed_text : 
 
   -- behind the test
   behind : (short : Bool) (after : Core) → HasAt t at (spellings (head_line j.to out ++ (Jmp j.label ∷ []))) → IsJump (end_by true) j
-      → Reaches t (record { rip = at; core = d }) (record { rip = if short then jumped head_end out else head_end; core = after })
-      → Reaches t (record { rip = at; core = d }) (record { rip = jumped (end_by true) (if short then j.exit else j.label); core = after })
+      → Reaches t 3 (record { rip = at; core = d }) (record { rip = if short then jumped head_end out else head_end; core = after })
+      → Reaches t 4 (record { rip = at; core = d }) (record { rip = jumped (end_by true) (if short then j.exit else j.label); core = after })
   behind true after stands jump reached =
       let end : end_by true ≡ head_end + jump_size = sym (end_append at (head_line j.to out) (Jmp j.label ∷ [])) ∙ ap (λ n. head_end + n) (jump_bytes j.label) in
-      subst (λ a. Reaches t (record { rip = at; core = d }) (record { rip = a; core = after })) (shifted head_end (end_by true) j.exit end jump.ahead) reached
+      subst (λ a. Reaches t 4 (record { rip = at; core = d }) (record { rip = a; core = after })) (shifted head_end (end_by true) j.exit end jump.ahead) (in_more t 3 4 _ _ (omega arith) reached)
   behind false after stands jump reached =
       let parts = subst (λ bytes. HasAt t at bytes) (spellings_append (head_line j.to out) (Jmp j.label ∷ [])) stands in
       let back = has_back t at (spellings (head_line j.to out)) (spellings (Jmp j.label ∷ [])) parts in
       let own = subst (λ bytes. HasAt t head_end bytes) (append-nil (spelling (Jmp j.label))) back in
       let end : head_end + length (spelling (Jmp j.label)) ≡ end_by true =
       ap (λ n. head_end + n) (sym (ap length (append-nil (spelling (Jmp j.label))))) ∙ end_append at (head_line j.to out) (Jmp j.label ∷ []) in
-      steps_join t _ _ _ reached
-      (one_step t head_end (jumped (end_by true) j.label) (Jmp j.label) after after (fixed_stays t _ _ reached) own (jal_effect j.label _ (end_by true) after end jump.label))
+      steps_join t 3 1 _ _ _ reached
+      (one_step t head_end (jumped (end_by true) j.label) (Jmp j.label) after after (fixed_stays t _ _ _ reached) own (jal_effect j.label _ (end_by true) after end jump.label))
 
   by_test : (tested : Bool) → HasAt t at (spellings (test_code tested j ++ (Jmp j.label ∷ []))) → IsJump (end_by tested) j → Jumps tested
   by_test false stands jump = record {
     after = d;
-    reached = jumps_to t at [] (Jmp j.label) d d fixed_text low_text stands (straight_runs [] d d refl refl) (jumped (end_by false) j.label)
-        (λ after e. jal_effect j.label after (end_by false) d e jump.label);
+    reached = in_more t 1 4 _ _ (omega arith) (jumps_to t at [] (Jmp j.label) d d fixed_text low_text stands (straight_runs [] d d refl refl) (jumped (end_by false) j.label)
+        (λ after e. jal_effect j.label after (end_by false) d e jump.label));
     kept = kept_same d;
     edx = λ e. absurd (false≢true e);
   }

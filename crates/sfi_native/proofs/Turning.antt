@@ -1,5 +1,5 @@
 -- The moves of a turn of a sandbox without a finding: code's up to a slow step, then the host's.
-use Rattle.std.proofs.Common.{◌≡◌, ℕ, zero, suc, ◌+◌, ◌/◌, ◌%◌, ◌^◌, ◌<◌, ◌≤◌, ◌⊎◌, inl, inr, ◌&&◌, Bool, true, false, List, [], ◌∷◌, length, Option, Some, None, refl, sym, ap, ◌∙◌, subst, arith, ⊎_elim, if◌then◌else◌, nat_lt}
+use Rattle.std.proofs.Common.{◌≡◌, ℕ, zero, suc, ◌+◌, ◌/◌, ◌%◌, ◌^◌, ◌<◌, ◌≤◌, ◌⊎◌, inl, inr, ◌&&◌, Bool, true, false, List, [], ◌∷◌, length, Option, Some, None, refl, sym, ap, ◌∙◌, subst, arith, ⊎_elim, if◌then◌else◌, nat_lt, ◌*◌}
 use Rattle.std.specs.Prelude.{◌==◌, ◌||◌, nat_le, not}
 use Rattle.std.proofs.lemmas.Bool.{cond_both, leb-true, ltb-true}
 use Rattle.rv_word.specs.declared.instr.Instr.{Instr}
@@ -16,17 +16,17 @@ use Rattle.sfi_translate.specs.Laws.{IsOver, IsTurnTo}
 use Rattle.sfi_translate.proofs.Facts.{reached_harts_are_fixed, translated_runs_as_image, turns_are_ready, turns_go_on}
 use Rattle.sfi_translate.proofs.Turns.{turn_more}
 use Rattle.sfi_native.specs.Host.{HostMoves, IsHosts, IsInCode, IsProper, arrives, makes}
-use Rattle.sfi_native.specs.Laws.{Follows, IsAlike, IsBefore, IsCovered, IsReadyAt}
-use Rattle.x86_step.specs.State.{IsFixed, Machine, Text}
-use Rattle.x86_step.specs.Step.{Reaches, stay}
-use Rattle.x86_step.proofs.Facts.{fixed_stays, steps_join}
+use Rattle.sfi_native.specs.Laws.{Follows, IsAlike, IsBefore, IsCovered, IsReadyAt, line_most}
+use Rattle.x86_step.specs.State.{Machine, Text}
+use Rattle.x86_step.specs.Step.{Reaches}
+use Rattle.x86_step.proofs.Facts.{steps_join}
 use Rattle.sfi_native.specs.declared.layout.Layout.{Layout}
 use Rattle.sfi_native.specs.Faults.{HasFixups}
 use Rattle.sfi_native.specs.Layout.{OthersStay}
 use Rattle.sfi_native.specs.Places.{IsAt, IsAtPlace, end_address, exit_of, whole_code}
 use Rattle.sfi_native.specs.Table.{HasTable, LieInCode}
 use Rattle.sfi_native.proofs.Fetching.{related_goes}
-use Rattle.sfi_native.proofs.Kept.{others_join, others_same}
+use Rattle.sfi_native.proofs.Kept.{others_join}
 use Rattle.sfi_native.proofs.Ready.{accesses}
 use Rattle.sfi_native.proofs.Steps.{one, stands_on}
 use Rattle.sfi_native.proofs.Table.{table_stays}
@@ -206,62 +206,68 @@ module _ (sandbox : ℕ) (p : Part) (code : List Line) (s : State) (left : ℕ) 
       pub slow : Going
       pub is_slow : slow.place ≡ Slow
       pub out : Machine
-      pub reached : Reaches t m out
+      pub made : ℕ
+      pub reached : Reaches t made m out
       pub alike : IsAlike p l base code slow out
       pub others : OthersStay p l m.core out.core
       pub rest : ℕ
       pub fewer : rest < n
+      pub as_many : made + line_most * rest ≤ line_most * n
       pub moved : ℕ
       pub turn : Turns moved slow
       pub steps : AreTranslatedSteps Assembly p code rest slow last
 
     -- after a line
-    behind : (n all : ℕ) (m k : Machine) (last : Going) → n ≤ all → Reaches t m k → OthersStay p l m.core k.core → CodePart n k last → CodePart all m last
-    behind n all m k last fewer reached others it =
+    behind : (n all : ℕ) (m k : Machine) (last : Going) → n < all → Reaches t line_most m k → OthersStay p l m.core k.core → CodePart n k last → CodePart all m last
+    behind n all m k last more reached others it =
         let less = it.fewer in
+        let as_many = it.as_many in
         record {
           slow = it.slow;
           is_slow = it.is_slow;
           out = it.out;
-          reached = steps_join t m k it.out reached it.reached;
+          made = line_most + it.made;
+          reached = steps_join t line_most it.made m k it.out reached it.reached;
           alike = it.alike;
           others = others_join p l m.core k.core it.out.core others it.others;
           rest = it.rest;
-          fewer = omega (arith, less, fewer);
+          fewer = omega (arith, less, more);
+          as_many = omega (arith, as_many, more);
           moved = it.moved;
           turn = it.turn;
           steps = it.steps;
         }
 
-    -- where a line leads to a slow step, or the end's code into the loop, code has come out
-    at_slow : (n moves : ℕ) (g last : Going) (m : Machine) → Turns moves g → g.place ≡ Slow → IsAlike p l base code g m → AreTranslatedSteps Assembly p code n g last → IsFixed t m.core → CodePart (suc n) m last
-    at_slow n moves g last m turn e alike steps text = record {
+    -- where a line has led to a slow step, or the end's code into the loop, code has come out
+    at_slow : (n all moves : ℕ) (g last : Going) (m k : Machine) → n < all → Reaches t line_most m k → OthersStay p l m.core k.core → Turns moves g → g.place ≡ Slow → IsAlike p l base code g k → AreTranslatedSteps Assembly p code n g last → CodePart all m last
+    at_slow n all moves g last m k fewer reached others turn e alike steps = record {
       slow = g;
       is_slow = e;
-      out = m;
-      reached = record { fixed = text; steps = stay m };
+      out = k;
+      made = line_most;
+      reached = reached;
       alike = alike;
-      others = others_same p l m.core;
+      others = others;
       rest = n;
-      fewer = omega arith;
+      fewer = fewer;
+      as_many = omega (arith, fewer);
       moved = moves;
       turn = turn;
       steps = steps;
     }
 
-    at_loop : (n moves : ℕ) (g last : Going) (m : Machine) → Turns moves g → g.place ≡ Loop → g.state.hart.pc ≡ end_address p → 0 < g.left → IsAlike p l base code g m → AreTranslatedSteps Assembly p code n g last → IsOver last → IsFixed t m.core → CodePart (suc n) m last
-    at_loop zero moves g last m turn e pc some alike steps over text =
+    at_loop : (n all moves : ℕ) (g last : Going) (m k : Machine) → n < all → Reaches t line_most m k → OthersStay p l m.core k.core → Turns moves g → g.place ≡ Loop → g.state.hart.pc ≡ end_address p → 0 < g.left → IsAlike p l base code g k → AreTranslatedSteps Assembly p code n g last → IsOver last → CodePart all m last
+    at_loop zero all moves g last m k fewer reached others turn e pc some alike steps over =
         absurd (⊎_elim (λ one. let clash : Loop ≡ Stopped one.0 = sym e ∙ one.1 in cc) (λ one. let none = one.1 in omega (arith, none, some)) (subst IsOver steps over))
-    at_loop (suc n) moves g last m turn e pc some alike (between, step, more) over text =
+    at_loop (suc n) all moves g last m k fewer reached others turn e pc some alike (between, step, more) over =
         let own = subst (λ q. IsTranslatedStepAt q Assembly p code g between) e step in
         let place : from_loop Assembly p code g.state.hart.pc g.left ≡ Slow = ap (λ a. from_loop Assembly p code a g.left) pc ∙ end_goes p code g.left lie in
         let is : between ≡ goes g Slow = own.1 ∙ ap (goes g) place in
         let next = turn_more Assembly sandbox p code s left moves g between turn step in
-        let out = subst (λ q. IsAtPlace l.registers base code q g.state.hart.pc m) e alike.is_at in
-        behind (suc n) (suc (suc n)) m m last (omega arith) (record { fixed = text; steps = stay m }) (others_same p l m.core)
-        (at_slow n (suc moves) (goes g Slow) last m (subst (Turns (suc moves)) is next) refl
-        (record { related = related_goes p l g m.core Slow g.state.hart.pc alike.related; is_at = out })
-        (subst (λ x. AreTranslatedSteps Assembly p code n x last) is more) text)
+        let out = subst (λ q. IsAtPlace l.registers base code q g.state.hart.pc k) e alike.is_at in
+        at_slow n all (suc moves) (goes g Slow) last m k (omega (arith, fewer)) reached others (subst (Turns (suc moves)) is next) refl
+        (record { related = related_goes p l g k.core Slow g.state.hart.pc alike.related; is_at = out })
+        (subst (λ x. AreTranslatedSteps Assembly p code n x last) is more)
 
     -- a line's step leads to lines or out
     pub code_part : (n moves : ℕ) (g last : Going) (m : Machine) → Stands g m → HasTable p l base code m.core → IsAt l.registers base code g m → (lines : List Line) → g.place ≡ Before lines → Turns moves g
@@ -275,8 +281,7 @@ module _ (sandbox : ℕ) (p : Part) (code : List Line) (s : State) (left : ℕ) 
         let some = own.0 in
         let same : between.left ≡ g.left = ap (λ x. x.left) own.1 in
         let below = few_left moves g few turn in
-        behind (suc n) (suc n) m f.after last (omega arith) f.reached f.others
-        (at_loop n (suc moves) between last f.after next looped (ap (λ x. x.state.hart.pc) own.1) (omega (arith, some, same, below)) f.alike more over (fixed_stays t m f.after f.reached))
+        at_loop n (suc n) (suc moves) between last m f.after (omega arith) f.reached f.others next looped (ap (λ x. x.state.hart.pc) own.1) (omega (arith, some, same, below)) f.alike more over
     code_part (suc n) moves g last m here has at (line ∷ rest) e turn (between, step, more) over =
         by (λ lines is f. code_part n (suc moves) between last f.after (stands_on p code l t base fits fixups lie g between m here f) (table_stays p l here.layout base code m.core f.after.core f.others has) f.alike.is_at lines is next more over)
         between.place refl (subst (λ x. IsNoEnd x.place) (sym own.1) (line_goes p code rest line g))
@@ -287,17 +292,16 @@ module _ (sandbox : ℕ) (p : Part) (code : List Line) (s : State) (left : ℕ) 
         next : Turns (suc moves) between
         next = turn_more Assembly sandbox p code s left moves g between turn step
 
-        followed : IsCovered between.place → Follows t p l base code m between
+        followed : IsCovered between.place → Follows t line_most p l base code m between
         followed covered = (one p code l t base fits fixups lie g between m here has at (few_left moves g few turn) (Before (line ∷ rest)) e own (ready moves g turn (line ∷ rest) e) covered).0
 
-        by : ((lines : List Line) → between.place ≡ Before lines → (f : Follows t p l base code m between) → CodePart n f.after last) → (place : ControlPoint) → between.place ≡ place → IsNoEnd place → CodePart (suc n) m last
+        by : ((lines : List Line) → between.place ≡ Before lines → (f : Follows t line_most p l base code m between) → CodePart n f.after last) → (place : ControlPoint) → between.place ≡ place → IsNoEnd place → CodePart (suc n) m last
         by on (Before lines) is goes_on =
             let f = followed (subst IsCovered (sym is) tt) in
             behind n (suc n) m f.after last (omega arith) f.reached f.others (on lines is f)
         by on Slow is goes_on =
             let f = followed (subst IsCovered (sym is) tt) in
-            behind (suc n) (suc n) m f.after last (omega arith) f.reached f.others
-            (at_slow n (suc moves) between last f.after next is f.alike more (fixed_stays t m f.after f.reached))
+            at_slow n (suc n) (suc moves) between last m f.after (omega arith) f.reached f.others next is f.alike more
         by on Loop is goes_on = absurd goes_on
         by on (Stopped o) is goes_on = absurd goes_on
         by on Lost is goes_on = absurd (found (suc moves) between next is)

@@ -1,5 +1,5 @@
 -- A text's end is reached in one way.
-use Rattle.std.proofs.Common.{◌≡◌, ℕ, ◌+◌, ◌-◌, true, List, [], ◌∷◌, Some, length, drop, refl, sym, ap, ◌∙◌, subst, arith}
+use Rattle.std.proofs.Common.{zero, suc, ◌≡◌, ℕ, ◌+◌, ◌-◌, true, List, [], ◌∷◌, Some, length, drop, refl, sym, ap, ◌∙◌, subst, arith}
 use Rattle.std.specs.Prelude.{Ok, Err, nat_le}
 use Rattle.std.proofs.lemmas.Bool.{le-leb}
 use Rattle.x86_step.specs.declared.machine.Stop.{Stop}
@@ -37,17 +37,18 @@ module _ (t : Text) where
   no_fault : (m : Machine) → step t m ≡ Err NoInstruction → step t m ≡ Err Fault → ⊥
   no_fault m one two = let e : Err NoInstruction ≡ Err Fault = sym one ∙ two in cc
 
-  one_way : (m n k : Machine) → Steps t m n → Steps t m k → n.rip ≡ out → k.rip ≡ out → n ≡ k
-  one_way m n k (stay _) (stay _) at there = refl
-  one_way m n k (stay _) (go _ a _ does more) at there = absurd (not_both m a NoInstruction does (stops m at))
-  one_way m n k (stay _) (resume _ _ f faults is more) at there = absurd (no_fault m (stops m at) faults)
-  one_way m n k (go _ a _ does more) (stay _) at there = absurd (not_both m a NoInstruction does (stops m there))
-  one_way m n k (resume _ _ f faults is more) (stay _) at there = absurd (no_fault m (stops m there) faults)
-  one_way m n k (go _ a _ does more) (go _ b _ too others) at there = one_way a n k more (subst (λ x. Steps t x k) (same_next m b a too does) others) at there
-  one_way m n k (go _ a _ does more) (resume _ _ f faults is others) at there = absurd (not_both m a Fault does faults)
-  one_way m n k (resume _ _ f faults is more) (go _ b _ too others) at there = absurd (not_both m b Fault too faults)
-  one_way m n k (resume _ _ f faults is more) (resume _ _ h too was others) at there =
-      one_way (resumed f m.core) n k more (subst (λ x. Steps t (resumed x m.core) k) (same_fixup m h f was is) others) at there
+  one_way : (a b : ℕ) (m n k : Machine) → Steps t a m n → Steps t b m k → n.rip ≡ out → k.rip ≡ out → n ≡ k
+  one_way zero zero m n k (stay _) (stay _) at there = refl
+  one_way zero (suc b) m n k (stay _) (go _ _ i _ does more) at there = absurd (not_both m i NoInstruction does (stops m at))
+  one_way zero (suc b) m n k (stay _) (resume _ _ _ f faults is more) at there = absurd (no_fault m (stops m at) faults)
+  one_way (suc a) zero m n k (go _ _ i _ does more) (stay _) at there = absurd (not_both m i NoInstruction does (stops m there))
+  one_way (suc a) zero m n k (resume _ _ _ f faults is more) (stay _) at there = absurd (no_fault m (stops m there) faults)
+  one_way (suc a) (suc b) m n k (go _ _ i _ does more) (go _ _ j _ too others) at there =
+      one_way a b i n k more (subst (λ x. Steps t b x k) (same_next m j i too does) others) at there
+  one_way (suc a) (suc b) m n k (go _ _ i _ does more) (resume _ _ _ f faults is others) at there = absurd (not_both m i Fault does faults)
+  one_way (suc a) (suc b) m n k (resume _ _ _ f faults is more) (go _ _ j _ too others) at there = absurd (not_both m j Fault too faults)
+  one_way (suc a) (suc b) m n k (resume _ _ _ f faults is more) (resume _ _ _ h too was others) at there =
+      one_way a b (resumed f m.core) n k more (subst (λ x. Steps t b (resumed x m.core) k) (same_fixup m h f was is) others) at there
 
 pub one_way_out : OneWayOut
-one_way_out t m n k one two at there = one_way t m n k one.steps two.steps at there
+one_way_out t a b m n k one two at there = one_way t one.count two.count m n k one.steps two.steps at there

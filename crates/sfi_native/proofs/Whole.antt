@@ -13,7 +13,7 @@ use Rattle.sfi_safety.specs.Places.{IsCleanPart}
 use Rattle.sfi_native.specs.Entries.{AreEntries}
 use Rattle.sfi_translate.proofs.Facts.{each_turn_ends, reached_harts_are_fixed, translated_runs_as_image, turns_end}
 use Rattle.sfi_native.specs.Host.{EndsWithin, Host, HostMoves, IsHost, IsInCode, Serves, Spares, Works, answer_of}
-use Rattle.sfi_native.specs.Laws.{IsBefore}
+use Rattle.sfi_native.specs.Laws.{IsBefore, line_most}
 use Rattle.x86_instr.specs.declared.instr.Instr.{Instr as Native}
 use Rattle.x86_step.specs.State.{Core, Machine, Text, with_register}
 use Rattle.x86_step.specs.Running.{spellings}
@@ -99,8 +99,8 @@ module _ (sandbox : ℕ) (p : Part) (code : List Line) (s : State) (left : ℕ) 
         let rip = at.0 in
         omega (arith, rip, begins, size)
 
-    only : (k : Machine) → Reaches t m k → k.rip ≡ t.base + length t.bytes → k ≡ code_does.out
-    only k reached e = one_way_out t m k code_does.out reached code_does.reached e is_out
+    only : (most : ℕ) (k : Machine) → Reaches t most m k → k.rip ≡ t.base + length t.bytes → k ≡ code_does.out
+    only most k reached e = one_way_out t most code_does.made m k code_does.out reached code_does.reached e is_out
 
     ends : Spares p l host.own entry.core m.core → (o : Outcome) (k : Machine) → host.does code_does.out (Some o) k → Ended o k
     ends spares o k did =
@@ -118,7 +118,7 @@ module _ (sandbox : ℕ) (p : Part) (code : List Line) (s : State) (left : ℕ) 
     ready_again k did = ready_on p code l t base host begins size g host_does.next m k here (all k (done.serves None k did)) (done.relies None k did)
 
   rounds : (room n moves : ℕ) (g last : Going) (m : Machine) → n ≤ room → Ready p code l t base host g m → Spares p l host.own entry.core m.core → IsInCode g.place → Turns sandbox p code s left moves g
-      → AreTranslatedSteps Assembly p code n g last → IsOver last → EndsWithin room t p l host Ended m
+      → AreTranslatedSteps Assembly p code n g last → IsOver last → EndsWithin room (line_most * n) t p l host Ended m
   rounds zero n moved g last m fits_in here spares inside turn steps over =
       let fewer = (code_does n moved g last m here inside turn steps over).fewer in
       absurd (omega (arith, fewer, fits_in))
@@ -126,8 +126,13 @@ module _ (sandbox : ℕ) (p : Part) (code : List Line) (s : State) (left : ℕ) 
       let c = code_does n moved g last m here inside turn steps over in
       let h = host_does n moved g last m here inside turn steps over in
       let work = done n moved g last m here inside turn steps over in
+      let as_many = c.as_many in
+      let later = h.fewer in
       record {
         out = c.out;
+        made = c.made;
+        rest = line_most * h.rest;
+        as_many = omega (arith, as_many, later);
         comes_out = c.reached;
         is_out = is_out n moved g last m here inside turn steps over;
         only = only n moved g last m here inside turn steps over;
@@ -152,10 +157,13 @@ native_turns_end sandbox p code l t base host s left m works here =
     let begins = host_part sandbox p code s left end.0 0 (begun s left) end.1 first end.2.moved end.3 in
     let same = one_way p code (begun s left) begins.next here.first begins.leads here.begins in
     let fewer = begins.fewer in
+    let moves = turns_end Assembly sandbox p code s left end.0 end.1 end.2 in
     let ready : Ready p code l t base host here.first m = record { is_at = here.is_at; stands = here.stands; table = here.table; apart = here.apart; relies = here.relies } in
     record {
       rounds = end.0;
-      few = turns_end Assembly sandbox p code s left end.0 end.1 end.2;
+      few = moves;
+      instructions = line_most * begins.rest;
+      as_many = omega (arith, moves, fewer);
       ends = rounds sandbox p code s left l t base few (each_code_fits l.registers sandbox p code here.clean.right here.lines) here.fixups (lines_lie_in_code sandbox p code here.clean here.lines)
           host works here.text_begins here.text_size m end.0 begins.rest begins.moved here.first end.1 m (omega (arith, fewer)) ready (spares_same p l host.own m.core) here.in_code
           (subst (IsTurnTo Assembly sandbox p code s left begins.moved) same begins.turn) (subst (λ x. AreTranslatedSteps Assembly p code begins.rest x end.1) same begins.steps) end.3;

@@ -1,5 +1,5 @@
 -- What a host does where code has come out: it makes the turn's moves of `Slow` and `Loop`, and enters code again.
-use Rattle.std.specs.Prelude.{◌≡◌, ◌⊎◌, ℕ, zero, suc, ◌+◌, ◌<◌, List, length, Option, Some, None}
+use Rattle.std.specs.Prelude.{◌≡◌, ◌⊎◌, ℕ, zero, suc, ◌+◌, ◌<◌, List, length, Option, Some, None, ◌≤◌}
 use Rattle.rv_mem.specs.Bytes.{byte_at}
 use Rattle.rv_step.specs.declared.outcome.Outcome.{Outcome}
 use Rattle.rv_step.specs.declared.outcome.Outcome.TheVariants.{Next}
@@ -115,23 +115,27 @@ ThereIsAHost =
 -- The processor has one way: where a text ends at the way out, its code comes out in one state.
 abbrev pub OneWayOut : Type 0
 OneWayOut =
-    (t : Text) (m n k : Machine) → let out = t.base + length t.bytes in
-    Reaches t m n → Reaches t m k → n.rip ≡ out → k.rip ≡ out → n ≡ k
+    (t : Text) (a b : ℕ) (m n k : Machine) → let out = t.base + length t.bytes in
+    Reaches t a m n → Reaches t b m k → n.rip ≡ out → k.rip ≡ out → n ≡ k
 
--- A round: code comes out at the end of its text, in one state; there the host does something; and whatever it does, its answer
--- ends the turn as it has to, or it enters code anew.
-pub record Round (t : Text) (p : Part) (l : Layout) (host : Host) (Ended : Outcome → Machine → Type 0) (Entered : Machine → Type 0)
-    (m : Machine) : Type 0 where
+-- A round: code comes out at the end of its text, in one state, by some of the instructions that are left to the turn; there the
+-- host does something; and whatever it does, its answer ends the turn as it has to, or it enters code anew, with the rest of them.
+pub record Round (t : Text) (p : Part) (l : Layout) (host : Host) (Ended : Outcome → Machine → Type 0)
+    (Entered : ℕ → Machine → Type 0) (instructions : ℕ) (m : Machine) : Type 0 where
   pub out : Machine
-  pub comes_out : Reaches t m out
+  pub made : ℕ
+  pub rest : ℕ
+  pub as_many : made + rest ≤ instructions
+  pub comes_out : Reaches t made m out
   pub is_out : out.rip ≡ t.base + length t.bytes
-  pub only : (n : Machine) → Reaches t m n → n.rip ≡ t.base + length t.bytes → n ≡ out
+  pub only : (most : ℕ) (n : Machine) → Reaches t most m n → n.rip ≡ t.base + length t.bytes → n ≡ out
   pub others : OthersStay p l m.core out.core
   pub answers : (a : Option Outcome) × (n : Machine) × host.does out a n
   pub ends : (o : Outcome) (n : Machine) → host.does out (Some o) n → Ended o n
-  pub enters : (n : Machine) → host.does out None n → Entered n
+  pub enters : (n : Machine) → host.does out None n → Entered rest n
 
--- Fewer rounds than that, whatever the host does, end the turn as it has to.
-abbrev pub EndsWithin : ℕ → Text → Part → Layout → Host → (Outcome → Machine → Type 0) → Machine → Type 0
-EndsWithin zero t p l host Ended m = ⊥
-EndsWithin (suc rounds) t p l host Ended m = Round t p l host Ended (EndsWithin rounds t p l host Ended) m
+-- Fewer rounds than that, and at most so many instructions of code, whatever the host does, end the turn as it has to.
+abbrev pub EndsWithin : ℕ → ℕ → Text → Part → Layout → Host → (Outcome → Machine → Type 0) → Machine → Type 0
+EndsWithin zero instructions t p l host Ended m = ⊥
+EndsWithin (suc rounds) instructions t p l host Ended m =
+    Round t p l host Ended (λ rest n. EndsWithin rounds rest t p l host Ended n) instructions m

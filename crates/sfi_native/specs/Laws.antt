@@ -28,10 +28,14 @@ use Rattle.sfi_native.specs.Places.{AreLast, IsAt, code_of, end_address, exit_of
 use Rattle.sfi_native.specs.Entries.{AreEntries, entry_of}
 use Rattle.sfi_native.specs.Table.{HasTable, LieInCode, is_unit_start}
 
--- From a state of the processor at an address, code leads to another address, and to the state of the next turn.
+-- the most instructions that a line makes
+abbrev pub line_most : ℕ
+line_most = 16
+
+-- From a state of the processor at an address, a line's code leads to another address, and to the state of the next turn.
 pub record LeadsTo (t : Text) (at to : ℕ) (p : Part) (l : Layout) (c : Core) (next : Going) : Type 0 where
   pub after : Core
-  pub reached : Reaches t (record { rip = at; core = c }) (record { rip = to; core = after })
+  pub reached : Reaches t line_most (record { rip = at; core = c }) (record { rip = to; core = after })
   pub related : IsRelated p l next after
   pub others : OthersStay p l c after
 
@@ -234,10 +238,10 @@ pub record IsAlike (p : Part) (l : Layout) (base : ℕ) (code : List Line) (g : 
   pub related : IsRelated p l g m.core
   pub is_at : IsAt l.registers base code g m
 
--- From there the processor leads to where the next turn is.
-pub record Follows (t : Text) (p : Part) (l : Layout) (base : ℕ) (code : List Line) (m : Machine) (next : Going) : Type 0 where
+-- From there the processor leads to where the next turn is, by at most so many instructions.
+pub record Follows (t : Text) (most : ℕ) (p : Part) (l : Layout) (base : ℕ) (code : List Line) (m : Machine) (next : Going) : Type 0 where
   pub after : Machine
-  pub reached : Reaches t m after
+  pub reached : Reaches t most m after
   pub alike : IsAlike p l base code next after
   pub others : OthersStay p l m.core after.core
 
@@ -256,7 +260,7 @@ PlacedLinesRun =
     IsBefore (whole_code l.registers (end_address p) code) t base p l g m.core → exit_of l.registers code < 2 ^ 31 → HasFixups l.registers t base code
     → LieInCode p code → HasTable p l base code m.core → g.place ≡ Before rest → IsAt l.registers base code g m → 0 < g.left
     → g.left < 2 ^ 31 → IsReadyAt p g (Before rest) → IsCovered next.place
-    → Follows t p l base code m next
+    → Follows t line_most p l base code m next
 
 -- so many steps of such lines, one after another
 abbrev pub ArePlacedSteps : Part → List Line → ℕ → Going → Going → Type 0
@@ -271,4 +275,4 @@ PlacedStepsRun =
     (n : ℕ) (p : Part) (code : List Line) (l : Layout) (t : Text) (base : ℕ) (g k : Going) (m : Machine)
     → IsBefore (whole_code l.registers (end_address p) code) t base p l g m.core → exit_of l.registers code < 2 ^ 31 → HasFixups l.registers t base code
     → LieInCode p code → HasTable p l base code m.core → IsAt l.registers base code g m → g.left < 2 ^ 31 → ArePlacedSteps p code n g k
-    → Follows t p l base code m k
+    → Follows t (line_most * n) p l base code m k

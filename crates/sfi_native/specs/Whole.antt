@@ -14,7 +14,7 @@ use Rattle.sfi_native.specs.Entries.{AreEntries}
 use Rattle.sfi_native.specs.Faults.{HasFixups}
 use Rattle.sfi_native.specs.Host.{EndsWithin, Host, HostMoves, IsHost, IsInCode, Serves, answer_of}
 use Rattle.sfi_native.specs.Layout.{DoNotMeet, IsLayout, IsOutside, frame_size}
-use Rattle.sfi_native.specs.Laws.{IsBefore}
+use Rattle.sfi_native.specs.Laws.{IsBefore, line_most}
 use Rattle.sfi_native.specs.Places.{IsAt, end_address, exit_of, whole_code}
 use Rattle.sfi_native.specs.Table.{HasTable}
 
@@ -68,12 +68,14 @@ pub record EndsAsImage (p : Part) (code : List Line) (l : Layout) (base : ℕ) (
   pub serves : Serves p l base code host.own last m n
   pub relies : host.relies n.core
 
--- Whatever the host does, the turn ends so.
+-- Whatever the host does, the turn ends so, by so many instructions of code at most: five lines for each step left, and five.
 pub record TurnEnds (p : Part) (code : List Line) (l : Layout) (t : Text) (base : ℕ) (host : Host) (s : State) (left : ℕ)
     (m : Machine) : Type 0 where
   pub rounds : ℕ
   pub few : rounds ≤ 5 * (left + 1)
-  pub ends : EndsWithin rounds t p l host (EndsAsImage p code l base host s left m) m
+  pub instructions : ℕ
+  pub as_many : instructions ≤ line_most * (5 * (left + 1))
+  pub ends : EndsWithin rounds instructions t p l host (EndsAsImage p code l base host s left m) m
 
 -- Each turn ends so.
 abbrev pub NativeTurnsEnd : Type 1

@@ -7,8 +7,8 @@
 //! `branch_lines_run`, `jal_lines_run`, `jalr_lines_run`, `load_lines_run`, `store_lines_run`, `faulting_lines_run`;
 //! `lines_stand`, `placed_lines_run`, `placed_steps_run` of all that [`compile`] writes (`specs/Places.antt`). An access to
 //! a guard zone faults: the host then goes out by the table of accesses that [`compile`] makes, too (`specs/Faults.antt`).
-//! `native_turns_end` speaks of that code and a host (`specs/Host.antt`), in a whole turn of an accepted sandbox
-//! (`specs/Whole.antt`).
+//! `native_turns_end` speaks of that code and a host (`specs/Host.antt`), in a whole turn of an accepted sandbox, and of how many
+//! instructions it takes at most (`specs/Whole.antt`).
 #![tactic(auto)]
 
 mod access;

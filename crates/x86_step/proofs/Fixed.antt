@@ -1,5 +1,5 @@
 -- No step changes what may be written, so that fixed code stays fixed.
-use Rattle.std.proofs.Common.{◌≡◌, ℕ, ◌+◌, ◌-◌, ◌^◌, Bool, true, false, Option, Some, None, length, drop, refl, ap, ◌∙◌, subst, if◌then◌else◌}
+use Rattle.std.proofs.Common.{zero, suc, ◌≡◌, ℕ, ◌+◌, ◌-◌, ◌^◌, Bool, true, false, Option, Some, None, length, drop, refl, ap, ◌∙◌, subst, if◌then◌else◌}
 use Rattle.std.specs.Prelude.{Result, Ok, Err, IfOk, nat_le}
 use Rattle.x86_instr.specs.declared.operand.Operand.{Operand}
 use Rattle.x86_instr.specs.declared.operand.Operand.TheVariants.{Reg, Mem}
@@ -110,13 +110,13 @@ step_keeps t m =
     let bytes = drop (m.rip - t.base) t.bytes in
     at_text (nat_le t.base m.rip) m.core (stepped bytes m) (done_keeps (decode bytes) (length bytes) m)
 
-steps_keep : (t : Text) (m k : Machine) → Steps t m k → k.core.writable ≡ m.core.writable
-steps_keep t m k (stay n) = refl
-steps_keep t m k (go a b z one more) = steps_keep t b z more ∙ subst (Leads a.core) one (step_keeps t a)
-steps_keep t m k (resume a z f faults has more) = steps_keep t (resumed f a.core) z more
+steps_keep : (t : Text) (steps : ℕ) (m k : Machine) → Steps t steps m k → k.core.writable ≡ m.core.writable
+steps_keep t zero m k (stay n) = refl
+steps_keep t (suc steps) m k (go _ a b z one more) = steps_keep t steps b z more ∙ subst (Leads a.core) one (step_keeps t a)
+steps_keep t (suc steps) m k (resume _ a z f faults has more) = steps_keep t steps (resumed f a.core) z more
 
 pub fixed_stays : FixedStays
-fixed_stays t m k reached = record {
+fixed_stays t most m k reached = record {
   ends = reached.fixed.ends;
-  apart = λ a low high. ap (λ w. w a) (steps_keep t m k reached.steps) ∙ reached.fixed.apart a low high;
+  apart = λ a low high. ap (λ w. w a) (steps_keep t reached.count m k reached.steps) ∙ reached.fixed.apart a low high;
 }

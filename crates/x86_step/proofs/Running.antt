@@ -1,5 +1,5 @@
 -- Bytes that stand in a text run as their instructions.
-use Rattle.std.proofs.Common.{◌≡◌, ℕ, ◌+◌, ◌-◌, true, List, [], ◌∷◌, ◌++◌, length, drop, refl, sym, ap, ◌∙◌, subst, arith, append_assoc, length-append}
+use Rattle.std.proofs.Common.{◌≤◌, zero, suc, ◌≡◌, ℕ, ◌+◌, ◌-◌, true, List, [], ◌∷◌, ◌++◌, length, drop, refl, sym, ap, ◌∙◌, subst, arith, append_assoc, length-append}
 use Rattle.std.specs.Prelude.{Result, Ok, Err, nat_le}
 use Rattle.std.proofs.lemmas.Bool.{and_parts, false≢true, le-leb}
 use Rattle.std.proofs.lemmas.List.{drop_at}
@@ -10,8 +10,8 @@ use Rattle.x86_instr.proofs.Facts.{spelling_decodes}
 use Rattle.x86_step.specs.declared.machine.Stop.{Stop}
 use Rattle.x86_step.specs.Laws.{FaultsResume, SpelledRun, SpelledSteps, StepsJoin}
 use Rattle.x86_step.specs.Running.{HasAt, are_straight, exec, is_straight, spellings}
-use Rattle.x86_step.specs.State.{Core, Machine, Text}
-use Rattle.x86_step.specs.Step.{◌>>=◌, Steps, stay, go, resume, computes, goes_to, resumed, step}
+use Rattle.x86_step.specs.State.{Core, IsFixed, Machine, Text}
+use Rattle.x86_step.specs.Step.{◌>>=◌, Reaches, Steps, stay, go, resume, computes, goes_to, resumed, step}
 
 -- ==== Where bytes stand.
 
@@ -45,17 +45,46 @@ spelled_steps t at i c has =
 
 pub faults_resume : FaultsResume
 faults_resume t at i c f fixed has faults there =
-    record { fixed = fixed; steps = resume (record { rip = at; core = c }) (resumed f c) f (spelled_steps t at i c has ∙ faults) there (stay (resumed f c)) }
+    record {
+      fixed = fixed;
+      count = 1;
+      few = omega arith;
+      steps = resume 0 (record { rip = at; core = c }) (resumed f c) f (spelled_steps t at i c has ∙ faults) there (stay (resumed f c));
+    }
 
 -- ==== Several steps.
 
-pub steps_join : (t : Text) (m n k : Machine) → Steps t m n → Steps t n k → Steps t m k
-steps_join t m n k (stay a) more = more
-steps_join t m n k (go a b z one rest) more = go a b k one (steps_join t b z k rest more)
-steps_join t m n k (resume a z f faults has rest) more = resume a k f faults has (steps_join t (resumed f a.core) z k rest more)
+none_more : (more : ℕ) → more ≡ 0 + more
+none_more more = omega arith
+
+one_more : (first more : ℕ) → suc (first + more) ≡ suc first + more
+one_more first more = omega arith
+
+steps_join : (t : Text) (first more : ℕ) (m n k : Machine) → Steps t first m n → Steps t more n k → Steps t (first + more) m k
+steps_join t zero more m n k (stay a) rest = subst (λ all. Steps t all m k) (none_more more) rest
+steps_join t (suc first) more m n k (go steps a b z one then) rest =
+    subst (λ all. Steps t all m k) (one_more first more) (go (first + more) a b k one (steps_join t first more b z k then rest))
+steps_join t (suc first) more m n k (resume steps a z f faults has then) rest =
+    subst (λ all. Steps t all m k) (one_more first more) (resume (first + more) a k f faults has (steps_join t first more (resumed f a.core) z k then rest))
 
 pub reaches_join : StepsJoin
-reaches_join t m n k first more = record { fixed = first.fixed; steps = steps_join t m n k first.steps more.steps }
+reaches_join t first more m n k one then =
+    let few = one.few in
+    let fewer = then.few in
+    record {
+      fixed = one.fixed;
+      count = one.count + then.count;
+      few = omega (arith, few, fewer);
+      steps = steps_join t one.count then.count m n k one.steps then.steps;
+    }
+
+pub in_more : (t : Text) (few more : ℕ) (m k : Machine) → few ≤ more → Reaches t few m k → Reaches t more m k
+in_more t few more m k less reached =
+    let below = reached.few in
+    record { fixed = reached.fixed; count = reached.count; few = omega (arith, below, less); steps = reached.steps }
+
+pub stays : (t : Text) (m : Machine) → IsFixed t m.core → Reaches t 0 m m
+stays t m fixed = record { fixed = fixed; count = 0; few = omega arith; steps = stay m }
 
 straight_goes : (i : Instr) (after : ℕ) (c : Core) → is_straight i ≡ true → goes_to i after c ≡ Ok after
 straight_goes (Jcc condition distance) after c straight = absurd (false≢true straight)
@@ -76,29 +105,29 @@ same_core : (c d : Core) → exec [] c ≡ Ok d → c ≡ d
 same_core c d e = cc
 
 run_on : (t : Text) (at : ℕ) (i : Instr) (is : List Instr) (c d : Core) → is_straight i ≡ true → HasAt t at (spelling i)
-    → ((k : Core) → exec is k ≡ Ok d → Steps t (record { rip = at + length (spelling i); core = k }) (record { rip = at + length (spelling i) + length (spellings is); core = d }))
+    → ((k : Core) → exec is k ≡ Ok d → Steps t (length is) (record { rip = at + length (spelling i); core = k }) (record { rip = at + length (spelling i) + length (spellings is); core = d }))
     → (r : Result Core Stop) → computes i c ≡ r → (r >>= exec is) ≡ Ok d
-    → Steps t (record { rip = at; core = c }) (record { rip = at + length (spelling i) + length (spellings is); core = d })
+    → Steps t (suc (length is)) (record { rip = at; core = c }) (record { rip = at + length (spelling i) + length (spellings is); core = d })
 run_on t at i is c d straight has rest (Ok k) first e =
-    go (record { rip = at; core = c }) (record { rip = at + length (spelling i); core = k }) _ (straight_steps t at i c k straight has first) (rest k e)
+    go (length is) (record { rip = at; core = c }) (record { rip = at + length (spelling i); core = k }) _ (straight_steps t at i c k straight has first) (rest k e)
 run_on t at i is c d straight has rest (Err s) first e = absurd (cc)
 
 steps_run : (t : Text) (at : ℕ) (is : List Instr) (c d : Core) → are_straight is ≡ true → HasAt t at (spellings is) → exec is c ≡ Ok d
-    → Steps t (record { rip = at; core = c }) (record { rip = at + length (spellings is); core = d })
+    → Steps t (length is) (record { rip = at; core = c }) (record { rip = at + length (spellings is); core = d })
 steps_run t at [] c d straight has e =
     let sum : at ≡ at + 0 = omega arith in
-    subst (λ n. Steps t (record { rip = at; core = c }) (record { rip = n; core = d })) sum
-    (subst (λ k. Steps t (record { rip = at; core = c }) (record { rip = at; core = k })) (same_core c d e) (stay _))
+    subst (λ n. Steps t 0 (record { rip = at; core = c }) (record { rip = n; core = d })) sum
+    (subst (λ k. Steps t 0 (record { rip = at; core = c }) (record { rip = at; core = k })) (same_core c d e) (stay _))
 steps_run t at (i ∷ is) c d straight has e =
     let both = and_parts (is_straight i) (are_straight is) straight in
     let sum : at + length (spelling i) + length (spellings is) ≡ at + length (spelling i ++ spellings is) = omega (arith, length-append (spelling i) (spellings is)) in
-    subst (λ n. Steps t (record { rip = at; core = c }) (record { rip = n; core = d })) sum
+    subst (λ n. Steps t (suc (length is)) (record { rip = at; core = c }) (record { rip = n; core = d })) sum
     (run_on t at i is c d both.0 (has_front t at (spelling i) (spellings is) has)
     (λ k x. steps_run t (at + length (spelling i)) is k d both.1 (has_back t at (spelling i) (spellings is) has) x)
     (computes i c) refl e)
 
 pub spelled_run : SpelledRun
-spelled_run t at is c d fixed straight has e = record { fixed = fixed; steps = steps_run t at is c d straight has e }
+spelled_run t at is c d fixed straight has e = record { fixed = fixed; count = length is; few = omega arith; steps = steps_run t at is c d straight has e }
 
 -- ==== Lists of instructions that are put together.
 

@@ -9,11 +9,11 @@ use Rattle.x86_step.specs.Running.{HasAt, are_straight, exec, spellings}
 
 -- code that is fixed stays so
 abbrev pub FixedStays : Type 0
-FixedStays = (t : Text) (m k : Machine) → Reaches t m k → IsFixed t k.core
+FixedStays = (t : Text) (most : ℕ) (m k : Machine) → Reaches t most m k → IsFixed t k.core
 
--- some steps, and some from there
+-- steps, and steps from there
 abbrev pub StepsJoin : Type 0
-StepsJoin = (t : Text) (m n k : Machine) → Reaches t m n → Reaches t n k → Reaches t m k
+StepsJoin = (t : Text) (first more : ℕ) (m n k : Machine) → Reaches t first m n → Reaches t more n k → Reaches t (first + more) m k
 
 -- at the bytes that spell an instruction, the step does what it does
 abbrev pub SpelledSteps : Type 0
@@ -26,11 +26,11 @@ abbrev pub FaultsResume : Type 0
 FaultsResume =
     (t : Text) (at : ℕ) (i : Instr) (c : Core) (f : Fixup) → IsFixed t c → HasAt t at (spelling i)
     → effect i (at + length (spelling i)) c ≡ Err Fault → t.fixups at ≡ Some f
-    → Reaches t (record { rip = at; core = c }) (resumed f c)
+    → Reaches t 1 (record { rip = at; core = c }) (resumed f c)
 
--- the bytes that spell straight instructions run as these do, up to their end
+-- the bytes that spell straight instructions run as these do, one after another up to their end
 abbrev pub SpelledRun : Type 0
 SpelledRun =
     (t : Text) (at : ℕ) (is : List Instr) (c d : Core) → IsFixed t c → are_straight is ≡ true
     → HasAt t at (spellings is) → exec is c ≡ Ok d
-    → Reaches t (record { rip = at; core = c }) (record { rip = at + length (spellings is); core = d })
+    → Reaches t (length is) (record { rip = at; core = c }) (record { rip = at + length (spellings is); core = d })

@@ -1,7 +1,7 @@
 -- One step of a processor, at the instructions of `x86_instr`. Intel 64 and IA-32 Architectures Software Developer's
 -- Manual, volume 1, 3.4.1.1 (a result of 32 bits clears the upper half of a register), 3.4.3 and appendices A and B
 -- (flags and conditions); volume 2, the pages of the instructions.
-use Rattle.std.specs.Prelude.{◌≡◌, ℕ, ◌+◌, ◌-◌, ◌*◌, ◌/◌, ◌%◌, ◌^◌, ◌==◌, nat_lt, nat_le, ◌&&◌, ◌||◌, not, Bool, true, false, ℤ, pos, neg_ℤ, ◌+ℤ◌, ◌-ℤ◌, ◌*ℤ◌, int_le, int_lt, int_div, int_rem, bit_and, bit_or, bit_xor, List, length, drop, Option, Some, None, Result, Ok, Err, if◌then◌else◌}
+use Rattle.std.specs.Prelude.{zero, suc, ◌≤◌, ◌≡◌, ℕ, ◌+◌, ◌-◌, ◌*◌, ◌/◌, ◌%◌, ◌^◌, ◌==◌, nat_lt, nat_le, ◌&&◌, ◌||◌, not, Bool, true, false, ℤ, pos, neg_ℤ, ◌+ℤ◌, ◌-ℤ◌, ◌*ℤ◌, int_le, int_lt, int_div, int_rem, bit_and, bit_or, bit_xor, List, length, drop, Option, Some, None, Result, Ok, Err, if◌then◌else◌}
 use Rattle.std.specs.Int.{w32, w64, cast_signed, cast_unsigned, from_bool}
 use Rattle.std.specs.Option.{option_map}
 use Rattle.x86_instr.specs.declared.operand.Register.{Register}
@@ -337,12 +337,16 @@ step t m = if nat_le t.base m.rip then stepped (drop (m.rip - t.base) t.bytes) m
 abbrev pub resumed : Fixup → Core → Machine
 resumed f c = record { rip = f.to; core = with_register c 2 f.rdx }
 
-pub data Steps (t : Text) : Machine → Machine → Type 0 where
-  stay : (m : Machine) → Steps t m m
-  go : (m n k : Machine) → step t m ≡ Ok n → Steps t n k → Steps t m k
-  resume : (m k : Machine) (f : Fixup) → step t m ≡ Err Fault → t.fixups m.rip ≡ Some f → Steps t (resumed f m.core) k → Steps t m k
+-- so many steps, one after another: instructions that are done, or that fault
+pub data Steps (t : Text) : ℕ → Machine → Machine → Type 0 where
+  stay : (m : Machine) → Steps t zero m m
+  go : (steps : ℕ) (m n k : Machine) → step t m ≡ Ok n → Steps t steps n k → Steps t (suc steps) m k
+  resume : (steps : ℕ) (m k : Machine) (f : Fixup) → step t m ≡ Err Fault → t.fixups m.rip ≡ Some f → Steps t steps (resumed f m.core) k
+      → Steps t (suc steps) m k
 
--- some steps of fixed code lead from one state to another
-pub record Reaches (t : Text) (m k : Machine) : Type 0 where
+-- at most so many steps of fixed code lead from one state to another
+pub record Reaches (t : Text) (most : ℕ) (m k : Machine) : Type 0 where
   pub fixed : IsFixed t m.core
-  pub steps : Steps t m k
+  pub count : ℕ
+  pub few : count ≤ most
+  pub steps : Steps t count m k
