@@ -8,8 +8,11 @@
 enum { SP = 2, A0 = 10, A1 = 11, RA = 1 }; /* registers: the stack pointer, a call's arguments and answers, the return address */
 enum { ECALL_SIZE = 4 };
 
-/* gates.c: answers the call at the caller's pc; false where the turn ends */
-bool sfi_device_answer_call(const struct sfi_device_firmware *firmware, struct sfi_device_sandbox *caller);
+/* gates.c: answers the call at pc of a sandbox's frame, which has a firmware. The frame, or NULL where the turn ends. switch.S
+   calls the first, which is the second unless a file that measures defines it */
+struct sfi_device_frame *sfi_device_answer(struct sfi_device_frame *frame);
+struct sfi_device_frame *sfi_device_answer_call(struct sfi_device_frame *frame);
+extern const struct sfi_device_gate sfi_device_no_gate; /* at no address where an instruction begins */
 /* Has a service of the table, or none, answer */
 enum sfi_device_outcome sfi_device_serve(const struct sfi_device_firmware *firmware, struct sfi_device_sandbox *caller,
                                          struct sfi_device_call *call);

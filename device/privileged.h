@@ -106,9 +106,11 @@
 #define FRAME_BEFORE            136
 #define FRAME_AFTER             140
 #define FRAME_CALLED            144
+#define FRAME_FIRMWARE          148
+#define HOST_STACK_FRAME        60              /* the frame, behind what each_kept has there */
 
-/* ---- The cause by which `sfi_device_enter` tells that a call without a trap ends the turn: a number that no processor has,
-   since the manual reserves those from 64 on */
-#define CAUSE_BOARD             (1 << 30)
+/* ---- The cause by which `sfi_device_enter` tells that the answer to a gate's call ends the turn: a number that no processor
+   has, since the manual reserves those from 64 on */
+#define CAUSE_GATE              (1 << 30)
 
 #endif

@@ -7,3 +7,8 @@
         \operation s\r, 12+4*\r(sp)
         .endr
         .endm
+        .macro  each_passed operation   # of a sandbox, those that a function may change, but t0, and a0, which has the frame
+        .irp    r, 1,6,7,11,12,13,14,15,16,17,28,29,30,31
+        \operation x\r, 4*\r(a0)
+        .endr
+        .endm

@@ -68,11 +68,16 @@ struct sfi_device_part {
     struct sfi_device_gate gates[SFI_DEVICE_GATES_MOST];
 };
 
+struct sfi_device_firmware;
+
 /* A sandbox's registers while the host runs. switch.S knows the offsets. x[0] is always 0. */
 struct sfi_device_frame {
     uint32_t x[32], pc, host_stack;
     uint32_t retired_before, retired_after; /* counts of instructions, on the way in and out */
     uint32_t called;                        /* and at a call without a trap */
+    const struct sfi_device_firmware *firmware; /* that answers calls at gates; NULL: each ecall ends the way in */
+    const struct sfi_device_gate *last_gate;    /* that was called, in a turn; and its number */
+    uint32_t last_gate_number;
 };
 
 /* EMPTY: no code is there for it. All else of it is 0 then, so that it has no region, and can't be run or entered. */

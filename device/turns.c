@@ -6,14 +6,13 @@ _Static_assert(offsetof(struct sfi_device_frame, pc) == FRAME_PC, "switch.S");
 _Static_assert(offsetof(struct sfi_device_frame, host_stack) == FRAME_HOST_STACK, "switch.S");
 _Static_assert(offsetof(struct sfi_device_frame, retired_before) == FRAME_BEFORE, "switch.S");
 _Static_assert(offsetof(struct sfi_device_frame, retired_after) == FRAME_AFTER, "switch.S");
+_Static_assert(offsetof(struct sfi_device_frame, firmware) == FRAME_FIRMWARE, "switch.S");
 
 /* Answers whether the turn goes on after an interrupt or exception: after no other cause than these. A
    processor may tell of an access that failed by an interrupt, or by an NMI. */
 static bool goes_on(const struct sfi_device_firmware *firmware, struct sfi_device_sandbox *sandbox, uint32_t cause) {
-    if (cause == CAUSE_TIMER || cause == CAUSE_BOARD)
+    if (cause == CAUSE_TIMER || cause == CAUSE_GATE)
         return false;
-    if (cause == CAUSE_ECALL)
-        return sfi_device_answer_call(firmware, sandbox);
     if (cause & CAUSE_INTERRUPT && firmware->answer_interrupt && firmware->answer_interrupt(cause & ~CAUSE_INTERRUPT))
         return true;
     sfi_device_stop_by_trap(sandbox, cause);
@@ -25,6 +24,8 @@ void sfi_device_turn(const struct sfi_device_firmware *firmware, struct sfi_devi
     uint32_t cause;
     if (sandbox->state != SFI_DEVICE_READY)
         return;
+    sandbox->frame.firmware = firmware;
+    sandbox->frame.last_gate = sandbox->part.gate_count == 0 ? &sfi_device_no_gate : &sandbox->part.gates[sandbox->frame.last_gate_number];
     firmware->interrupt_after(ticks);
     if (sfi_device_will_run)
         sfi_device_will_run(sandbox);

@@ -7,12 +7,6 @@
 #include "machine.h"
 #include "registers.h"
 
-        .macro  each_passed operation   # of the sandbox, those that a function may change, but t0 and a0
-        .irp    r, 1,6,7,11,12,13,14,15,16,17,28,29,30,31
-        \operation x\r, 4*\r(a0)
-        .endr
-        .endm
-
         .set    IN, 19                  # the host's instructions at a call, before the first count and after the second
         .set    OUT, 24
 
@@ -89,5 +83,5 @@ leaves: .irp    r, 3,4,8,9,18,19,20,21,22,23,24,25,26,27
         lw      sp, FRAME_HOST_STACK(a0)
         each_kept lw
         addi    sp, sp, 64
-        li      a0, CAUSE_BOARD
+        li      a0, CAUSE_GATE
         ret

@@ -3,8 +3,7 @@
    checker's, which are called checker_check and checker_tell there. */
 #include "checker.h"
 
-#include "host.h"
-#include "internal.h"
+#include "sections.h"
 
 enum sfi_device_status checker_check(const uint8_t *image, uint32_t length, void (*between)(void *), void *host,
                                      struct sfi_verdict *verdict);
@@ -63,15 +62,11 @@ enum sfi_device_status sfi_device_tell(const uint8_t *image, uint32_t length, ui
     return status;
 }
 
-static uint32_t left_at, longest_masked;
-static bool has_left;
+static uint32_t longest_masked;
 
-void sfi_device_has_run(const struct sfi_device_frame *frame) {
-    uint32_t masked = frame->retired_before - left_at + sfi_device_switch_instructions;
-    if (has_left && masked > longest_masked)
-        longest_masked = masked;
-    left_at = frame->retired_after;
-    has_left = true;
+static void note_section(uint32_t instructions) {
+    if (instructions > longest_masked)
+        longest_masked = instructions;
 }
 
 void print_masked(void) {

@@ -25,13 +25,14 @@ static enum sfi_device_outcome fails(struct sfi_device_call *call) {
     return SFI_DEVICE_REPLIED;
 }
 
-static enum sfi_device_outcome put(void *host, struct sfi_device_sandbox *sandbox, struct sfi_device_call *call) {
-    struct plugin *caller = (struct plugin *)sandbox;
-    (void)host;
+static enum sfi_device_outcome move_nothing(struct sfi_device_call *call) {
+    call->a0 = 0;
+    return SFI_DEVICE_REPLIED;
+}
+
+static __attribute__((noinline)) enum sfi_device_outcome put_bytes(struct plugin *caller, struct sfi_device_call *call) {
     uint32_t length = call->a1, left = length - caller->moved, piece = least(left, CALL_BYTES_MOST);
-    if (length == 0)
-        return moved(caller, call, 0, 0);
-    const uint8_t *bytes = sfi_device_own_bytes(sandbox, call->a0, length);
+    const uint8_t *bytes = sfi_device_own_bytes(&caller->sandbox, call->a0, length);
     if (bytes == NULL || length > PUT_MOST || left > OUTPUT_MOST - caller->output_length)
         return fails(call);
     memcpy(caller->output + caller->output_length, bytes + caller->moved, piece);
@@ -39,13 +40,18 @@ static enum sfi_device_outcome put(void *host, struct sfi_device_sandbox *sandbo
     return moved(caller, call, piece, length);
 }
 
+static enum sfi_device_outcome put(void *host, struct sfi_device_sandbox *caller, struct sfi_device_call *call) {
+    (void)host;
+    return call->a1 == 0 ? move_nothing(call) : put_bytes((struct plugin *)caller, call);
+}
+
 static enum sfi_device_outcome get(void *host, struct sfi_device_sandbox *sandbox, struct sfi_device_call *call) {
     const struct world *world = host;
     struct plugin *caller = (struct plugin *)sandbox;
+    if (call->a1 == 0)
+        return move_nothing(call);
     uint32_t input = world->arguments->input_length - caller->input_read + caller->moved;
     uint32_t length = least(call->a1, input), piece = least(length - caller->moved, CALL_BYTES_MOST);
-    if (call->a1 == 0)
-        return moved(caller, call, 0, 0);
     uint8_t *bytes = sfi_device_own_bytes(sandbox, call->a0, call->a1);
     if (bytes == NULL || call->a1 > PUT_MOST)
         return fails(call);

@@ -40,7 +40,9 @@ structs! {
         format: u32, code_base: u32, code_size: u32, data_base: u32, data_size: u32, start: u32, gate_count: u32, first_count: u32,
         code: *const u8, first: *const u8, gates: [Gate; 64],
     }
-    Frame { x: [u32; 32], pc: u32, host_stack: u32, retired_before: u32, retired_after: u32, called: u32 }
+    Frame { x: [u32; 32], pc: u32, host_stack: u32, retired_before: u32, retired_after: u32, called: u32, firmware: *const Firmware,
+        last_gate: *const Gate,
+        last_gate_number: u32 }
     Sandbox {
         part: Part, frame: Frame, state: State, exit_code: u32, trap: *const c_char, trap_address: u32, steps: u64,
     }

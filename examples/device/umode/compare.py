@@ -1,6 +1,7 @@
 #!/usr/bin/env python3
 """The instructions on QEMU's `virt` of the same programs in U-mode, closed in by physical memory protection alone,
-and beside the host in M-mode, in each format.
+and beside the host in M-mode, in each format; and on three chips those of the host at a call. Prints the table of
+docs/DEVICE.md.
 
     examples/device/umode/compare.py [SFI]      # SFI is the program; ./sfi at the top if absent
 
@@ -22,6 +23,8 @@ import compiled
 SFI = os.path.abspath(sys.argv[1]) if len(sys.argv) > 1 else str(TOP / "sfi")
 CODE, DATA, DATA_SIZE = 0x80100000, 0x80408000, 1 << 15
 PROGRAMS = ("crc32", "sha256", "wordcount", "stack", "matrix", "regex")  # whose data fit
+CHIPS = {"virt": (0x80100000, 0x80401000), "sifive_e": (0x20500000, 0x80000000),  # FLASH_CODE and CHIP_RAM of chip.h
+         "opentitan": (0x20010000, 0x10000000)}
 IN_USER_MODE = "../umode/umode.c ../umode/count.c"
 IN_ONE_MODE = "main.c ../umode/count.c"
 
@@ -33,9 +36,9 @@ def at_the_chip():
     compiled.CODE, compiled.DATA, compiled.DATA_SIZE = CODE, DATA, DATA_SIZE
 
 
-def run(image, main, flags, folder, given=""):
+def run(image, main, flags, folder, given="", chip="virt"):
     """The lines of an image's run."""
-    command = [TOP / "examples/device/mcu/run.sh", "--chip", "virt", "--unchecked", "--steps", "--turn", "600000000",
+    command = [TOP / "examples/device/mcu/run.sh", "--chip", chip, "--unchecked", "--steps", "--turn", "600000000",
                "--input", given]
     out = os.path.join(folder, "user" if flags else "one")
     done = subprocess.run(command, input=image.encode(), stdout=subprocess.PIPE, check=True,
@@ -43,15 +46,16 @@ def run(image, main, flags, folder, given=""):
     return done.stdout.decode().splitlines()
 
 
-def in_user_mode(image, folder, given=""):
-    return run(image, IN_USER_MODE, "-DSFI_DEVICE_PLUGINS_IN_U_MODE", folder, given)
+def in_user_mode(image, folder, given="", chip="virt"):
+    return run(image, IN_USER_MODE, "-DSFI_DEVICE_PLUGINS_IN_U_MODE", folder, given, chip)
 
 
-def built(text, image_format, count=1):
-    """The image of a source text of `count` sandboxes."""
-    places = [f"{CODE + 0x10000 * number:x}:{DATA + 0x8000 * number:x}" for number in range(count)]
+def built(text, chip):
+    """The image of a source text of sandboxes with 256 bytes of data."""
+    code, data = CHIPS[chip]
+    places = [f"{code + 0x1000 * number:x}:{data + 0x2100 * number:x}" for number in range(text.count(".sandbox"))]
     words = [word for place in places for word in ("--at", place)]
-    return subprocess.run([SFI, "build", *words], input=f".format {image_format}\n{text}".encode(),
+    return subprocess.run([SFI, "build", *words], input=f".format words\n{text}".encode(),
                           stdout=subprocess.PIPE, check=True).stdout.decode()
 
 
@@ -66,39 +70,42 @@ def row(name, folder):
     build = pathlib.Path(compiled.EXAMPLES) / "build"
     code, data = compiled.linked(str(build / f"{name}.asm"), folder)
     steps, answer = compiled.answer(in_user_mode(compiled.image(code, data).hex(), folder, given)[0])
-    cells = [name, steps]
+    ratios = []
     for image_format in ("1", "2", "words"):
         assembly = build / ("words" if image_format == "words" else "") / f"{name}.asm"
         more, same = compiled.answer(run(compiled_image(assembly, image_format), IN_ONE_MODE, "", folder, given)[0])
         if same != answer:
             raise SystemExit(f"compare.py: {name}, format {image_format}: {same}, in U-mode {answer}")
-        cells.append(f"{more / steps:.2f}")
-    return cells
+        ratios.append(f"{more / steps:.2f}")
+    return name, f"{steps:,}", ", ".join(ratios)
 
 
 SECTIONS = {
-    "a put of no byte": (1, ".sandbox 32768\n.gate exit 0\n.gate put 1\n li a1, 0\n call put\n li a1, 0\n call put\n"
-                            " li a1, 0\n call put\n ebreak\n"),
-    "a yield, and the neighbour's entry": (2, ".sandbox 16384\n.gate yield 3\n call yield\n call yield\n call yield\n"
-                                              " call yield\n ebreak\n" * 2)}
+    "a `put` of no byte": ".sandbox 256\n.gate exit 0\n.gate put 1\n" + " li a1, 0\n call put\n" * 3 + " ebreak\n",
+    "a yield, and the neighbour's entry": (".sandbox 256\n.gate yield 3\n" + " call yield\n" * 4 + " ebreak\n") * 2}
 
 
-def section(count, text, folder):
+def section(text, chip, folder):
     """The shortest section of each host, of the same image."""
-    image = built(text, "words", count)
-    lines = [run(image, IN_ONE_MODE, "", folder)[-1], in_user_mode(image, folder)[-1]]
-    return [int(re.search(r"shortest=(\d+)", line)[1]) for line in lines]
+    image = built(text, chip)
+    lines = [in_user_mode(image, folder, chip=chip)[-1], run(image, IN_ONE_MODE, "", folder, chip=chip)[-1]]
+    return [re.search(r"shortest=(\d+)", line)[1] for line in lines]
+
+
+def print_row(*cells):
+    print("|", " | ".join(cells), "|")
 
 
 def main():
     at_the_chip()
     with tempfile.TemporaryDirectory() as folder:
-        print("program, U-mode's instructions, and times as many in formats 1, 2 and words")
+        print_row("", "in U-mode", "beside the host, in the three formats")
+        print_row("---", "---", "---")
         for name in PROGRAMS:
-            print(*row(name, folder))
-        print("instructions of the host, in one mode and with U-mode")
-        for what, (count, text) in SECTIONS.items():
-            print(f"{what}:", *section(count, text, folder))
+            print_row(*row(name, folder))
+        for what, text in SECTIONS.items():
+            for chip in CHIPS:
+                print_row(f"{what}, `{chip}`", *section(text, chip, folder))
 
 
 if __name__ == "__main__":

@@ -1,16 +1,13 @@
-/* Counts the instructions of the host from a trap of a sandbox to the next entry of one, beside either main. */
-#include "../host.h"
-#include "internal.h"
+/* Counts the instructions of the host from a trap of a sandbox to where one goes on, beside either main. */
+#include "../sections.h"
 
-static uint32_t left_at, shortest, longest;
+static uint32_t shortest, longest;
 
-void sfi_device_has_run(const struct sfi_device_frame *frame) {
-    uint32_t section = frame->retired_before - left_at + sfi_device_switch_instructions;
-    if (left_at != 0 && (shortest == 0 || section < shortest))
-        shortest = section;
-    if (left_at != 0 && section > longest)
-        longest = section;
-    left_at = frame->retired_after;
+static void note_section(uint32_t instructions) {
+    if (shortest == 0 || instructions < shortest)
+        shortest = instructions;
+    if (instructions > longest)
+        longest = instructions;
 }
 
 void print_masked(void) {
