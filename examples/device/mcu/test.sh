@@ -185,6 +185,33 @@ try_script() {
         "$(by=(--unchecked) && run <"$room/image.hex"; echo "status $?")"
 }
 
+puts_of() { # how many calls; an image of a sandbox that puts no byte so often, by 8 steps each
+    local number
+    image 1 1 < <({
+        echo "put: gate"
+        for ((number = 0; number < $1; number++)); do printf ' li a1, 0\n nop\n nop\n jal x1, put\n'; done
+        echo ebreak
+    } | sandbox "$flash_code" "$chip_ram" 256 1 "")
+}
+
+# The instructions of the host for a put of no byte, which README.md has: what another call adds to the steps of a host that
+# counts its own with them.
+try_price() {
+    local count steps=() price
+    price=$(sed -n 's/^| a call of a gate and its answer.* | \([0-9]*\),.*/\1/p' "$shared/README.md")
+    case $(riscv64-unknown-elf-gcc -dumpversion) in
+    12.*) ;;
+    *) skip 1 "what a call costs" "the number is that of gcc 12" && return ;;
+    esac
+    edit_host device/switch.S '/^count_reply:/,$ s/^        sw      t0, FRAME_BEFORE(a0)$/        nop/'
+    for count in 1 2; do
+        puts_of "$count" >"$room/image.hex"
+        steps+=("$(cd "$edited/$own" && by=(--unchecked) && OUT=$room/edited_out run --steps <"$room/image.hex" |
+            sed -n 's/.* steps=\([0-9]*\) .*/\1/p')")
+    done
+    report "$chip: the host's instructions for a put of no byte" "$price" "$((steps[1] - steps[0] - 8))"
+}
+
 try_chip() {
     local flash_code chip_ram host_ram sandboxes_most output_most uart
     read -r flash_code chip_ram host_ram sandboxes_most output_most uart < \
@@ -215,6 +242,7 @@ try_chip() {
     case $chip in
     sifive_e)
         try_script
+        try_price
         try_debugging --stack 256 --data 512 --at "$(printf %x:%x $((code_at)) $((data_at)))"
         try_functions "$(printf %x $((code_at)))"
         try_without_pmp
