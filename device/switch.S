@@ -18,6 +18,21 @@
         .endr
         .endm
 
+        .macro  aim                     # the way to where the frame at a0 has its pc, with interrupts on there
+        csrw    SCRATCH, a0
+        lw      t0, FRAME_PC(a0)
+        csrw    EXCEPTION_PC, t0
+        li      t0, STATUS_AT_ENTRY
+        csrs    STATUS, t0
+        .endm
+        .macro  go                      # there, with the registers that a call changes
+        each_pointer lw
+        each_passed lw
+        lw      t0, 4*5(a0)
+        lw      a0, 4*10(a0)
+        RETURN
+        .endm
+
         .set    IN, SFI_DEVICE_JUMPS_TO_TRAPPED + 17    # instructions at a trap before its count, ..
         .set    OUT, 25                                 # .. and at a reply from its count on
 
@@ -30,20 +45,12 @@ sfi_device_enter:
         each_kept sw
         sw      a0, HOST_STACK_FRAME(sp)
         sw      sp, FRAME_HOST_STACK(a0)
-        csrw    SCRATCH, a0
-        lw      t0, FRAME_PC(a0)
-        csrw    EXCEPTION_PC, t0
-        li      t0, STATUS_AT_ENTRY
-        csrs    STATUS, t0
+        aim
 count_before:
         csrr    t0, RETIRED
         sw      t0, FRAME_BEFORE(a0)
         each_saved lw
-        each_pointer lw
-        each_passed lw
-        lw      t0, 4*5(a0)
-        lw      a0, 4*10(a0)
-        RETURN
+        go
 enter_end:
 
         .balign 4
@@ -71,11 +78,7 @@ count_after:
         lw      tp, 8(sp)
         call    sfi_device_answer
         beqz    a0, turn_ends
-        lw      t0, FRAME_PC(a0)        # the sandbox goes on, behind its call or with it
-        csrw    EXCEPTION_PC, t0
-        csrw    SCRATCH, a0
-        li      t0, STATUS_AT_ENTRY
-        csrs    STATUS, t0
+        aim                             # the sandbox goes on, behind its call or with it
         lw      t1, FRAME_AFTER(a0)     # what the host does here is no step of the sandbox
         lw      t2, FRAME_BEFORE(a0)
 count_reply:
@@ -84,11 +87,7 @@ count_reply:
         add     t0, t0, t2
         addi    t0, t0, IN + OUT
         sw      t0, FRAME_BEFORE(a0)
-        each_pointer lw
-        each_passed lw
-        lw      t0, 4*5(a0)
-        lw      a0, 4*10(a0)
-        RETURN
+        go
 reply_end:
         .if     ((count_after - trap_saves) - 4 * (IN - SFI_DEVICE_JUMPS_TO_TRAPPED - 2)) || ((reply_end - count_reply) - 4 * OUT)
         .error  "the counts of instructions are wrong"
