@@ -47,6 +47,11 @@ export declare class NotEntered extends Error {}
 export declare class NotRunning extends Error {}
 /** Sandboxes that are to be added to a world, where one would lie on an address that one of the world's takes up. */
 export declare class Meets extends Error {}
+/** A world of which no snapshot is taken now: a sandbox has trapped, or stands within a bundle (in words: between the steps of an
+ * address), where no host may have it go on. It is taken after some more steps, or at the next call. */
+export declare class NotTaken extends Error {}
+/** Bytes that are no snapshot of that image. */
+export declare class WrongSnapshot extends Error {}
 /** There was no memory for what was asked. */
 export declare class NoMemory extends Error {}
 
@@ -245,8 +250,24 @@ export declare class Plugin {
   callWords(name: string, ...given: number[]): number;
   /** The same, with a result of 64 bits: `Sandbox.call64` says of which functions. */
   call64(name: string, ...given: number[]): bigint;
+  /** The plug-in as bytes: `snapshots.take`. */
+  snapshot(): Uint8Array;
+  /** A plug-in of that image as it was when the snapshot was taken, whose start isn't run again. Throws what `snapshots.restore` does,
+   * and WrongSignature. */
+  static restore(image: Bytes, snapshot: Bytes, options?: PluginOptions & { library?: Library }): Promise<Plugin>;
   close(): void;
   [Symbol.dispose](): void;
+}
+
+/** The sandboxes of a world as bytes, which have the data, registers and steps of each, and how it stands, and not what a Console keeps.
+ * Whatever the bytes are, each restored sandbox stays in its own data: who can write a snapshot decides what these are and where its
+ * code goes on, and no more. */
+export declare namespace snapshots {
+  /** A snapshot of a world of that image, in which nothing changes. Throws NotTaken. */
+  function take(world: World, image: Bytes): Uint8Array;
+  /** A world of the image, or of a module of it, whose sandboxes are those of the snapshot. Throws WrongSnapshot where that is of
+   * another image, cut or changed, and what `load` does. */
+  function restore(image: Bytes | Module, snapshot: Bytes, library?: Library): Promise<World>;
 }
 
 /** An image that is checked and decoded once. Its worlds share the decoded code, which nothing writes, and each has its data,

@@ -3,6 +3,7 @@ export { Console } from "./console.mjs";
 export { Library, NoMemory, VERSION } from "./library.mjs";
 export { Module } from "./module.mjs";
 export { Plugin, byCall } from "./plugin.mjs";
-export { Call, Cause, Ended, Exited, Meets, NoImage, NoName, NotEntered, NotReturned, NotRunning, NotWaiting, OutsideData, Ready,
-  Refused, Stopped, TooLong, Trapped, WrongArguments, WrongSignature } from "./told.mjs";
+export * as snapshots from "./snapshots.mjs";
+export { Call, Cause, Ended, Exited, Meets, NoImage, NoName, NotEntered, NotReturned, NotRunning, NotTaken, NotWaiting, OutsideData,
+  Ready, Refused, Stopped, TooLong, Trapped, WrongArguments, WrongSignature, WrongSnapshot } from "./told.mjs";
 export { load } from "./world.mjs";

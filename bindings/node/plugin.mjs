@@ -2,8 +2,9 @@
 import { STEPS, counted } from "./given.mjs";
 import { Allowance, callBySignature, serveBySignature } from "./passing.mjs";
 import { claimed, parsed, textOf } from "./signatures.mjs";
+import { restore, take } from "./snapshots.mjs";
 import { NoName, WrongSignature } from "./told.mjs";
-import { entryAt, finishStart, load } from "./world.mjs";
+import { entryAt, finishStart, imageOf, load } from "./world.mjs";
 
 const NO_SUCH_NAME = 5;
 const MOST_ENTRIES = 512; // of the exports, or the imports, in which signatures are looked for: in more it would take long
@@ -89,10 +90,21 @@ export class Plugin {
     return Plugin.of(await load(image, library), options, claimsOf);
   }
 
-  /** In that world, which is closed where it can't be. `claims` tells what the table of a sandbox claims. */
-  static of(world, { number = 0, steps = STEPS, handlers = {}, signatures, timeout, interrupt } = {}, claims = claimsOf) {
+  static async restore(image, snapshot, { library, ...options } = {}) {
+    return Plugin.#made(await restore(image, snapshot, library), options, claimsOf);
+  }
+
+  /** In that world, through its start. `claims` tells what the table of a sandbox claims. */
+  static of(world, options, claims) {
+    return Plugin.#made(world, options, claims, (plugin) => finishStart(plugin.sandbox, plugin.#options()));
+  }
+
+  /** In that world, which is closed where it can't be. */
+  static #made(world, { number = 0, steps = STEPS, handlers = {}, signatures, timeout, interrupt } = {}, claims, begin) {
     try {
-      return new Plugin(world, number, { steps, limits: { timeout, interrupt }, handlers, signatures, claims });
+      const plugin = new Plugin(world, number, { steps, limits: { timeout, interrupt }, handlers, signatures, claims });
+      begin?.(plugin);
+      return plugin;
     } catch (error) {
       world.close();
       throw error;
@@ -108,7 +120,6 @@ export class Plugin {
     const claimed = claims(this.sandbox);
     this.#claims = signatures === undefined ? claimed : inPlaceOf(claimed, signatures);
     for (const [name, handler] of Object.entries(handlers)) this.#handle(name, handler);
-    finishStart(this.sandbox, this.#options());
     this.exports = new Proxy(Object.freeze({}), { get: (_, name) => this.#function(name) });
   }
 
@@ -173,6 +184,10 @@ export class Plugin {
 
   call64(name, ...given) {
     return this.sandbox.call64(this.address(name), ...given, this.#options());
+  }
+
+  snapshot() {
+    return take(this.world, imageOf(this.world));
   }
 
   close() {

@@ -87,6 +87,8 @@ export class NotWaiting extends Error {}
 export class NotEntered extends Error {}
 export class NotRunning extends Error {}
 export class Meets extends Error {}
+export class NotTaken extends Error {}
+export class WrongSnapshot extends Error {}
 
 export class Ready {}
 export class Stopped {}

@@ -67,6 +67,7 @@ export class Held {
     this.moves = 0; // each reply, stop and entry has its number
     this.limit = undefined; // that of the call whose handler runs
     this.seats = [];
+    this.image = image;
     this.seat(image, keeps);
     dropped.register(this, this.free, this);
   }
@@ -76,8 +77,9 @@ export class Held {
     const first = this.seats.length;
     const count = Number(this.library.calls.count(this.at));
     for (let number = first; number < count; number++) {
-      // goneOn: its last reply, stop or entry. entered: how it came to the pc and registers that it has, also by a reset
-      this.seats.push({ number, place: number - first, image, keeps, goneOn: 0, entered: 0 });
+      // goneOn: its last reply, stop or entry. entered: how it came to the pc and registers that it has, also by a reset. before: how
+      // many steps it had done where it was restored, less those that the library counts since
+      this.seats.push({ number, place: number - first, image, keeps, goneOn: 0, entered: 0, before: 0n });
     }
     return this.seats.slice(first);
   }
@@ -111,6 +113,13 @@ export class Held {
 
 export const heldBy = new WeakMap(); // what a world holds, and what a module does
 export const seatOf = new WeakMap(); // of a sandbox
+
+/** The bytes of a module's image, or of that of which a world was made. */
+export function imageOf(holder) {
+  const { library, image: [at, length], isOpen } = heldBy.get(holder);
+  if (!isOpen) throw new RangeError("the world or the module is closed");
+  return library.copy(at, Number(length));
+}
 
 /** Throws why a call of the library changed nothing of a world, if so. */
 function changes(status) {
@@ -171,6 +180,10 @@ export let callFunction;
 export let resume;
 /** The entries of an image's table, as `export_at` or `import_at` gives them: the name and number at an index, if there is one. */
 export let entryAt;
+/** How many steps a sandbox has done, as a bigint. */
+export let doneBy;
+/** Has a sandbox have done so many steps. */
+export let countFrom;
 
 export class Sandbox {
   #held;
@@ -232,15 +245,15 @@ export class Sandbox {
   }
 
   events(steps, limits) {
-    return this.#events(counted(steps) + this.steps, new Limit(limits));
+    return this.#events(counted(steps) + this.#counted, new Limit(limits));
   }
 
   *#events(end, limit) {
-    for (let now = this.steps; ; now = this.steps) {
+    for (let now = this.#counted; ; now = this.#counted) {
       const { isOver } = limit;
       let event = this.turn(isOver ? 0 : Math.min(Math.max(0, end - now), TURN));
       if (event instanceof Ready || event instanceof Call) {
-        now = this.steps;
+        now = this.#counted;
         if (event instanceof Ready && now < end && !isOver) continue; // there were more steps than this turn takes
         if (now >= end || isOver) event = new Ready();
       }
@@ -286,6 +299,7 @@ export class Sandbox {
 
   reset() {
     this.#entered("reset");
+    this.#seat.before = 0n;
   }
 
   /** a0 to a7, in the passage. Those that are left are 0. */
@@ -352,6 +366,8 @@ export class Sandbox {
     };
     resume = (sandbox, { pc, x }) => sandbox.#call("set_registers", passWords(sandbox.#open().library, [pc, ...x])) !== 0;
     entryAt = (sandbox, call, index) => sandbox.#entryAt(call, index);
+    doneBy = (sandbox) => BigInt.asUintN(64, sandbox.#call("steps") + sandbox.#seat.before);
+    countFrom = (sandbox, steps) => { sandbox.#seat.before = steps - sandbox.#call("steps"); };
   }
 
   /** The two words of what the frame answers. However it ends, it is over then. */
@@ -372,7 +388,7 @@ export class Sandbox {
   #result(frame, { steps, serve, limit }) {
     let last;
     let high = 0;
-    for (const event of this.#events(steps + this.steps, limit)) {
+    for (const event of this.#events(steps + this.#counted, limit)) {
       last = event;
       if (!(event instanceof Call)) break;
       if (event.service === EXIT) {
@@ -420,6 +436,11 @@ export class Sandbox {
   }
 
   get steps() {
+    return Number(doneBy(this));
+  }
+
+  /** How many of them the library counts: those before it was restored aren't among them. */
+  get #counted() {
     return Number(BigInt.asUintN(64, this.#call("steps")));
   }
 

@@ -296,11 +296,15 @@ says_so() { # what is tried, what is wanted, and a command
     report "$what" "$wanted" "$("$@" 2>&1)"
 }
 
-# A snapshot that C took is restored in Python, and taken again.
+# A snapshot that C took is restored in Python, and in node, and taken again.
 in_python='import sys
 from sfi_run import snapshots
 image, kept = (open(path, "rb").read() for path in sys.argv[1:])
 print("the same" if snapshots.take(snapshots.restore(image, kept), image) == kept else "another")'
+in_node='import { readFileSync } from "node:fs";
+const { snapshots } = await import(process.argv[1]);
+const [image, kept] = process.argv.slice(2).map((path) => readFileSync(path));
+console.log(snapshots.take(await snapshots.restore(image, kept), image).equals(kept) ? "the same" : "another");'
 
 header_in_c() {
     local checked=(gcc -std=c11 "${warnings[@]}" -D_POSIX_C_SOURCE=200809L -pthread)
@@ -330,6 +334,8 @@ header_in_c() {
         says_so "snapshots, format $format" "all is so" "$room/snapshot" "$room/kept.image" \
             "$(sha256sum <"$room/kept.image" | cut -d ' ' -f 1)" "$room/kept.snapshot"
         says_so "a snapshot from C in Python, format $format" "the same" python3 -c "$in_python" "$room/kept.image" "$room/kept.snapshot"
+        [ -z "${hosts[node add]:-}" ] || says_so "a snapshot from C in node, format $format" "the same" \
+            node --input-type=module -e "$in_node" "$top/bindings/node/index.mjs" "$room/kept.image" "$room/kept.snapshot"
         says_so "four threads and one world, format $format" "10000 steps" "$room/threads" "$room/on.image" 10000
         says_so "four threads and worlds of one module, format $format" "40000 steps" "$room/modules" "$room/on.image" 10000
         image "$here/../hi.s" "$format" "hi_$format"
@@ -415,6 +421,9 @@ bindings() {
     for kind in "" --release; do # arithmetic that overflows panics in the first alone
         succeeds "cargo test $kind" env -C "$top/bindings/rust" SFI_RUN_LIBRARY="$room/lib/libsfi_run.a" cargo test -q --locked $kind
     done
+    [ ! -f "$room/kept.snapshot" ] ||
+        succeeds "a snapshot from C in Rust" env -C "$top/bindings/rust" SFI_RUN_LIBRARY="$room/lib/libsfi_run.a" \
+            SFI_IMAGE="$room/kept.image" SFI_SNAPSHOT="$room/kept.snapshot" cargo test -q --locked --test snapshots -- --ignored
     views_in_rust
 }
 

@@ -29,6 +29,8 @@ mod errors;
 mod limits;
 pub mod modules;
 pub mod names;
+pub mod snapshots;
+mod sums;
 mod sys;
 pub mod values;
 #[cfg(feature = "translated")]
@@ -143,7 +145,8 @@ impl Cause {
 /// In the forked child of a process that had threads no call may be made, nor a world dropped.
 pub struct World {
     raw: sys::World,
-    count: u32,
+    /// Of each sandbox, how many steps it had done where it was restored, less those that the library counts since.
+    before: Vec<u64>,
 }
 
 // SAFETY: the library keeps nothing of a thread's own, and lets any thread make a call, one at a time. That is proved of what
@@ -167,8 +170,8 @@ impl World {
     /// That of a world that is there.
     fn of(mut raw: sys::World) -> World {
         // SAFETY: nothing else uses it.
-        let count = unsafe { sys::sfi_run_count(&mut raw) } as u32;
-        World { raw, count }
+        let before = vec![0; unsafe { sys::sfi_run_count(&mut raw) }];
+        World { raw, before }
     }
 
     /// Adds the sandboxes of a module, beside those that are there, of which nothing changes: each ready at its start, with the
@@ -177,7 +180,10 @@ impl World {
         let mut first = 0;
         // SAFETY: nothing else uses the world and the module during the call.
         let status = unsafe { sys::sfi_run_add(&mut self.raw, &mut module.raw, &mut first) };
-        self.changed(status)?;
+        changed(status)?;
+        // SAFETY: as above.
+        self.before
+            .resize(unsafe { sys::sfi_run_count(&mut self.raw) }, 0);
         Ok(first)
     }
 
@@ -186,42 +192,42 @@ impl World {
     /// A console has to be made anew.
     pub fn remove(&mut self, number: u32) -> Result<(), ChangeError> {
         // SAFETY: nothing else uses the world.
-        let status = unsafe { sys::sfi_run_remove(&mut self.raw, number) };
-        self.changed(status)
-    }
-
-    /// What a status says of a change of the world, after which it may have another count of sandboxes.
-    fn changed(&mut self, status: u32) -> Result<(), ChangeError> {
-        // SAFETY: nothing else uses it.
-        self.count = unsafe { sys::sfi_run_count(&mut self.raw) } as u32;
-        match status {
-            0 => Ok(()),
-            3 => Err(ChangeError::NoSandbox),
-            4 => Err(ChangeError::Meets),
-            5 => Err(ChangeError::Full),
-            6 => Err(ChangeError::NoMemory),
-            status => unreachable!("a library of this version: status {status}"),
-        }
+        changed(unsafe { sys::sfi_run_remove(&mut self.raw, number) })?;
+        self.before.remove(number as usize);
+        Ok(())
     }
 
     /// How many sandboxes there are: of one image 1 to 16.
     pub fn len(&self) -> u32 {
-        self.count
+        self.before.len() as u32
     }
 
     /// Whether all sandboxes were removed.
     pub fn is_empty(&self) -> bool {
-        self.count == 0
+        self.before.is_empty()
     }
 
     /// A sandbox by its number from 0, or none where there is no such one.
     pub fn sandbox(&mut self, number: u32) -> Option<Sandbox<'_>> {
-        (number < self.count).then_some(Sandbox {
+        Some(Sandbox {
             world: &mut self.raw,
+            before: self.before.get_mut(number as usize)?,
             number,
             stands: Stands::default(),
             limit: limits::Limit::default(),
         })
+    }
+}
+
+/// What a status says of a change of a world.
+fn changed(status: u32) -> Result<(), ChangeError> {
+    match status {
+        0 => Ok(()),
+        3 => Err(ChangeError::NoSandbox),
+        4 => Err(ChangeError::Meets),
+        5 => Err(ChangeError::Full),
+        6 => Err(ChangeError::NoMemory),
+        status => unreachable!("a library of this version: status {status}"),
     }
 }
 
@@ -235,6 +241,7 @@ impl Drop for World {
 /// A sandbox of a world.
 pub struct Sandbox<'world> {
     world: &'world mut sys::World,
+    before: &'world mut u64,
     number: u32,
     stands: Stands,
     limit: limits::Limit<'world>,
@@ -313,20 +320,20 @@ impl Sandbox<'_> {
         steps: u64,
         mut serve: impl FnMut(&mut Self, Call) -> bool,
     ) -> (Event, Option<NotReturned>) {
-        let end = self.steps().saturating_add(steps);
+        let end = self.counted().saturating_add(steps);
         loop {
-            let now = self.steps();
+            let now = self.counted();
             let cause = self.limit.cause();
             if now > end || cause.is_some() {
                 return (self.event(), cause); // `serve` had it run on, or its limit ends it
             }
             let event = self.turn(self.limit.turn(end - now));
-            let done = self.steps();
+            let done = self.counted();
             match event {
                 Event::Ready if done < end => {} // there were more steps than this turn takes
                 Event::Call(call) if done < end => {
                     let before = self.stands;
-                    if !serve(self, call) || self.stands == before || self.steps() == done {
+                    if !serve(self, call) || self.stands == before || self.counted() == done {
                         return (self.event(), None);
                     }
                 }
@@ -402,6 +409,7 @@ impl Sandbox<'_> {
     pub fn reset(&mut self) {
         let is_done = unsafe { sys::sfi_run_reset(self.world, self.number) };
         self.entered(is_done);
+        *self.before = 0;
     }
 
     /// Makes it ready at pc, where it has stopped, with these arguments in a0 to a7. A function that returns calls its first
@@ -430,7 +438,17 @@ impl Sandbox<'_> {
 
     /// How many steps it has done.
     pub fn steps(&mut self) -> u64 {
+        self.before.wrapping_add(self.counted())
+    }
+
+    /// How many of them the library counts: those before it was restored aren't among them.
+    fn counted(&mut self) -> u64 {
         unsafe { sys::sfi_run_steps(self.world, self.number) }
+    }
+
+    /// Has it have done so many steps.
+    pub(crate) fn count_steps_from(&mut self, steps: u64) {
+        *self.before = steps.wrapping_sub(self.counted());
     }
 
     /// Its pc and registers.
