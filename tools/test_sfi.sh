@@ -97,6 +97,17 @@ first_build() {
     holds $? "a second call builds nothing, and says nothing" "$found"
 }
 
+versions() {
+    mkdir -p "$copy/bindings/python" && cp -r "$top/bindings/python/sfi_check" "$copy/bindings/python"
+    call "$copy/sfi" --version
+    report "a version says of what the program was built" \
+        "program --version commit=unknown+$(sha256sum <"$out/sfi" | cut -c 1-12) logic=unknown" "$(tr '\n' ' ' <"$room/output" | sed 's/ $//')"
+    echo '{"commit": "0123456789ab", "logic": "fedcba9876543210"}' >"$copy/built.json"
+    call "$copy/sfi" -V
+    report "a version says what a release notes" "commit=0123456789ab logic=fedcba9876543210" "$(tail -n 1 "$room/output")"
+    rm -r "$copy/bindings" "$copy/built.json"
+}
+
 which_changes_count() {
     change sfi_tests/src/lib.rt && change ffi/src/lib.rt
     call "$copy/sfi" check
@@ -271,6 +282,7 @@ make_copy
 make_builder
 make_rt
 first_build
+versions
 statuses
 tries
 named_program

@@ -25,14 +25,13 @@ def _said(*words: str) -> Optional[str]:
         return None
 
 
-def _commit() -> str:
-    """The checkout's commit, with the beginning of the library's SHA-256, since nothing here says that it was built of this commit;
-    or what a release states, which is made of its commit alone."""
+def _commit(made: pathlib.Path) -> str:
+    """The checkout's commit, with the beginning of the SHA-256 of what was built, since nothing here says that it was built of this
+    commit; or what a release states, which is made of its commit alone."""
     if STATED in os.environ:
         return os.environ[STATED]
     commit = _said("git", "rev-parse", "--short=12", "HEAD")
-    library = pathlib.Path(_library.places()[0])
-    digest = hashlib.sha256(library.read_bytes()).hexdigest()[:12] if library.is_file() else UNKNOWN
+    digest = hashlib.sha256(made.read_bytes()).hexdigest()[:12] if made.is_file() else UNKNOWN
     return f"{commit or UNKNOWN}+{digest}"
 
 
@@ -46,14 +45,15 @@ def _version() -> str:
     return f"{number >> 16}.{number >> 8 & 255}.{number & 255}"
 
 
-def noted() -> str:
-    """The text of FILE, for what packs this package: commit and logic, as they were noted or as the checkout tells."""
+def noted(made: Optional[str] = None) -> str:
+    """The text of FILE, for what packs this package: commit and logic, as they were noted or as the checkout tells of what was built
+    there, the library if nothing else is named."""
     for folder in (_library.PACKAGE, TOP):
         file = pathlib.Path(folder, FILE)
         if file.is_file():
             return file.read_text(encoding="utf-8")
     is_checkout = (TOP / "crates.txt").is_file()
-    return json.dumps({"commit": _commit() if is_checkout else UNKNOWN, "logic": _logic() if is_checkout else UNKNOWN}) + "\n"
+    return json.dumps({"commit": _commit(pathlib.Path(made or _library.places()[0])) if is_checkout else UNKNOWN, "logic": _logic() if is_checkout else UNKNOWN}) + "\n"
 
 
 @functools.lru_cache(maxsize=None)
@@ -63,4 +63,8 @@ def built() -> dict[str, str]:
 
 def words() -> str:
     """The same as a line has it."""
-    return " ".join(f"{name}={value}" for name, value in built().items())
+    return line_of(built())
+
+
+def line_of(told: dict[str, str]) -> str:
+    return " ".join(f"{name}={value}" for name, value in told.items())
