@@ -407,7 +407,7 @@ function matches(error, wanted) {
 }
 
 let [passed, failed] = [0, 0];
-const others = { ...callTests(built), ...limitTests(built), ...signatureTests, ...snapshotTests(built), ...valueTests(built) };
+const others = { ...callTests(built), ...limitTests(built), ...signatureTests, ...snapshotTests(built, LOOPS), ...valueTests(built) };
 for (const [name, test] of Object.entries({ ...tests, ...others })) {
   if (process.argv[2] && !name.includes(process.argv[2])) continue;
   try {

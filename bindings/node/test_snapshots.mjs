@@ -10,13 +10,6 @@ import { SOURCE } from "./test_calls.mjs";
 const STEPS = 400; // that both worlds do one by one
 const COUNTS = readFileSync(new URL("../counts.s", import.meta.url), "utf8");
 const HEAD = 44; // bytes of a snapshot before its first sandbox
-const LOOPS = `
-.sandbox 256
-.gate put 1
-        li   a1, 7
-        call put
-on:     j    on
-`;
 
 /** With the right sum of what else it has. */
 function resummed(snapshot) {
@@ -69,7 +62,8 @@ async function snapshotOf(built) {
 const isRefused = (image, snapshot, why) =>
   assert.rejects(snapshots.restore(image, snapshot), (error) => error instanceof WrongSnapshot && why.test(error.message));
 
-export const snapshotTests = (built) => ({
+/** `loops` is the source of a sandbox that calls once, and loops then. */
+export const snapshotTests = (built, loops) => ({
   async "snapshots: as the first would"() {
     for (const line of ["", ".format 2\n", ".format words\n"]) {
       const image = built(line + COUNTS);
@@ -86,7 +80,7 @@ export const snapshotTests = (built) => ({
     }
   },
   async "snapshots: each way to stand"() {
-    const image = built(LOOPS);
+    const image = built(loops);
     const ways = [() => {}, (it) => it.turn(100), (it) => it.turn(100).exit(42), (it) => it.stop(), (it) => { it.turn(100); it.stop(); }];
     for (const way of ways) {
       const world = await load(image);
@@ -95,7 +89,7 @@ export const snapshotTests = (built) => ({
     }
   },
   async "snapshots: a call waits in both"() {
-    const image = built(LOOPS);
+    const image = built(loops);
     const world = await load(image);
     const call = world.sandboxes[0].turn(100);
     const second = await snapshots.restore(image, snapshots.take(world, image));
@@ -107,7 +101,7 @@ export const snapshotTests = (built) => ({
     assert.deepEqual([state(second), second.sandboxes[0].steps], [state(world), 0]);
   },
   async "snapshots: steps that are many, and runs after them"() {
-    const image = built(LOOPS);
+    const image = built(loops);
     const snapshot = snapshots.take(await load(image), image);
     snapshot.writeBigUInt64LE(2n ** 64n - 1n, HEAD + 140);
     const again = await snapshots.restore(image, resummed(snapshot));
