@@ -60,6 +60,14 @@ def always(job):
 """
 
 
+def children_of(process):
+    """The processes that it has started, and that run."""
+    try:
+        return [int(it) for it in pathlib.Path(f"/proc/{process}/task/{process}/children").read_text(encoding="ascii").split()]
+    except FileNotFoundError:  # it has ended
+        return []
+
+
 def with_dask():
     """A Python that has `distributed`, or None."""
     for python in (sys.executable, "/usr/bin/python3"):
@@ -203,11 +211,11 @@ class Kept(Corpus):
     def test_a_local_worker_that_is_killed(self):
         folder = self.images(3000)
         run = subprocess.Popen([TOOLS / "sfi-corpus", "check", "--jobs", "2", folder], env=self.env, cwd=self.room, stdout=subprocess.PIPE, text=True)
-        workers = pathlib.Path(f"/proc/{run.pid}/task/{run.pid}/children")
-        while run.poll() is None and not (started := workers.read_text(encoding="ascii").split()):
+        while run.poll() is None and not children_of(run.pid):
             time.sleep(0.001)
         with contextlib.suppress(ProcessLookupError):  # it may have ended before
-            os.kill(int(started[-1]), signal.SIGKILL)
+            for worker in children_of(run.pid)[-1:]:
+                os.kill(worker, signal.SIGKILL)
         self.assertRegex(run.communicate()[0], "files=3000: 2700 accepted, 300 refused, 0 no image, 0 not judged; ")
         self.assertEqual(len(self.told()), 3000)
 
