@@ -63,11 +63,14 @@ class Verdict:
 
     def fields(self) -> dict[str, Any]:
         """What is known, for JSON: the line, and what it says."""
-        line = {"verdict": str(self)}
+        told: dict[str, Any] = {"verdict": str(self)}
         if self.first:
-            first = {"rule": f"V{self.first.rule}", "sandbox": self.first.sandbox, "at": f"{self.first.address:08x}"}
-            return {**line, "findings": self.findings, **first}
-        return {**line, **({"fault": FAULTS[self.fault]} if self.fault else {"sandboxes": self.sandboxes, "bundles": self.bundles})}
+            told.update(findings=self.findings, rule=f"V{self.first.rule}", sandbox=self.first.sandbox, at=f"{self.first.address:08x}")
+        elif self.fault:
+            told["fault"] = FAULTS[self.fault]
+        else:
+            told.update(sandboxes=self.sandboxes, bundles=self.bundles)
+        return told
 
 
 def check(image: bytes) -> Verdict:
