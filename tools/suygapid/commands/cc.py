@@ -13,6 +13,7 @@ import argparse
 import os
 import sys
 import tempfile
+from collections import Counter
 from concurrent.futures import ThreadPoolExecutor
 from dataclasses import dataclass, replace
 
@@ -24,13 +25,14 @@ from suygapid.elf import linking
 from suygapid.elf.elf import Wrong
 from suygapid.elf.image import as_text, image
 from suygapid.elf.small import LIMIT, ROOM, SMALL, options_of, small_bytes, with_limit
-from suygapid.elf.tools import Target, assembled, assembled_file, rewritten
+from suygapid.elf.tools import Target, assembled, assembled_file, rewritten_each
 from suygapid.elf.where import told
 from suygapid.image.layout import MOST_SANDBOXES, NAMED as FORMATS
 from suygapid.image.names import LONGEST, SERVICE, is_name, too_long_lists
 from suygapid.library import plus_plus, small_library
 from suygapid.library.archives import NAMED, folders_of, headers
 from suygapid.library.archives import SMALL as SMALL_LIBRARY
+from suygapid.passes.shares import shares_of
 from suygapid.services import GATES
 
 LINKED = (".o", ".a")
@@ -206,12 +208,13 @@ def compiled_by(options, words, file, place):
         raise
 
 
-def object_of(options, given, source, output, jobs):
-    """Makes the object of a source, by so many processes, and answers what `as` said."""
+def share_of_objects(options, given, share, jobs):
+    """Makes the objects of some sources, whose assembly has names of its own, by so many processes; what `as` said by object."""
+    sources = [source for source, _ in share]
     with ThreadPoolExecutor(1) as pool:
-        signatures = pool.submit(signatures_of, options, source)
-        text = rewritten(source.assembly, options.target, passes_of(options, given), jobs, options.is_kept)
-        return assembled(text + signatures.result(), output)
+        signatures = pool.map(lambda source: signatures_of(options, source), sources)
+        texts = rewritten_each([source.assembly for source in sources], options.target, passes_of(options, given), jobs, options.is_kept)
+        return {output: assembled(text + lines, output) for (_, output), text, lines in zip(share, texts, signatures)}
 
 
 def signatures_of(options, source):
@@ -231,15 +234,37 @@ def outputs_of(options, files, folder):
 
 
 def objects_of(options, given, files, sources, folder):
-    """The files with objects in the places of sources. The longest are begun first, and each has its share of the processes."""
-    outputs = outputs_of(options, files, folder)
-    sizes = [os.path.getsize(source.assembly) for source in sources]
+    """The files with objects in the places of sources."""
+    outputs, said = outputs_of(options, files, folder), {}
     with ThreadPoolExecutor(options.jobs) as pool:
-        jobs = {output: pool.submit(object_of, options, given, source, output, -(-options.jobs * size // (sum(sizes) or 1)) or 1)
-                for size, source, output in sorted(zip(sizes, sources, outputs), key=lambda job: -job[0])}
-        for output in outputs:
-            tell(jobs[output].result())
+        made = [pool.submit(share_of_objects, options, given, share, count)
+                for share, count in shares_of_sources(list(zip(sources, outputs)), options.jobs)]
+        for share in made:
+            said.update(share.result())
+    tell(b"".join(said[output] for output in outputs))
     return with_outputs(files, outputs)
+
+
+def shares_of_sources(made, jobs):
+    """Sources, each with its output, in shares that are converted side by side, each by a number of processes: a source that is long
+    by several, and others together by one, which begins once for all of them."""
+    sizes = [os.path.getsize(source.assembly) for source, _ in made]
+    total = sum(sizes) or 1
+    counts = [-(-jobs * size // total) or 1 for size in sizes]
+    short = [number for number, count in enumerate(counts) if count == 1]
+    shares = shares_of([sizes[number] for number in short], -(-jobs * sum(sizes[number] for number in short) // total) or 1)
+    return [*(([each], count) for each, count in zip(made, counts) if count > 1),
+            *((part, 1) for share in shares for part in without_doubles([made[short[at]] for at in sorted(share)]))]
+
+
+def without_doubles(share):
+    """A share in as many as it takes for no two files of assembly in one to have the same name."""
+    seen, parts = Counter(), {}
+    for source, output in share:
+        name = os.path.basename(source.assembly)
+        parts.setdefault(seen[name], []).append((source, output))
+        seen[name] += 1
+    return list(parts.values())
 
 
 def with_outputs(files, outputs):

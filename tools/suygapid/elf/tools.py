@@ -2,6 +2,7 @@
 import glob
 import os
 import sys
+import tempfile
 from dataclasses import dataclass
 from functools import lru_cache
 from typing import Iterable, Optional, Sequence
@@ -28,8 +29,7 @@ def assembled(text: bytes, output: str) -> bytes:
 
 def assembled_file(path: str, output: str) -> bytes:
     """The same of a text in a file."""
-    with open(path, "rb") as file:
-        return assembled(file.read(), output)
+    return assembled(content_of(path), output)
 
 
 @dataclass(frozen=True)
@@ -65,23 +65,40 @@ def converter() -> bytes:
     return "\0".join(texts_of(CONVERTER)).encode()
 
 
-def rewritten(assembly: str, target: Target, passes: Optional[str] = None, jobs: int = 1, is_kept: bool = True) -> bytes:
-    """The GNU assembly of a compiler's, by so many processes, or as it was kept."""
+def rewritten(assembly: str, target: Target) -> bytes:
+    """The GNU assembly of a compiler's, or as it was kept."""
+    return rewritten_each([assembly], target)[0]
+
+
+def rewritten_each(assemblies: Sequence[str], target: Target, passes: Optional[str] = None, jobs: int = 1, is_kept: bool = True) -> list[bytes]:
+    """The GNU assembly of several files, which have names of their own, by one run with so many processes, or as it was kept."""
     words = [*target.words(), *([] if passes is None else [f"--passes={passes}"])]
+    places = {path: results.place_of([converter(), *map(str.encode, words), content_of(path)]) for path in assemblies if is_kept}
+    found = {path: results.read(place) for path, place in places.items()}
+    missing = [path for path in assemblies if found.get(path) is None]
+    with tempfile.TemporaryDirectory() as folder:
+        for path, output in zip(missing, run_converter(folder, missing, [*words, f"--jobs={jobs}"])):
+            found[path] = content_of(output)
+            if is_kept:
+                results.write(places[path], found[path])
+    return [found[path] for path in assemblies]
 
-    def make() -> bytes:
-        return ran([*ASM2ELF, *words, f"--jobs={jobs}", assembly])[0]
 
-    if not is_kept:
-        return make()
-    with open(assembly, "rb") as file:
-        return results.kept([converter(), *map(str.encode, words), file.read()], make)
+def content_of(path: str) -> bytes:
+    with open(path, "rb") as file:
+        return file.read()
+
+
+def run_converter(folder: str, assemblies: Sequence[str], words: Sequence[str]) -> list[str]:
+    """Runs asm2elf with these options on files that have names of their own, if there are any; the paths of what it made, in a folder."""
+    if assemblies:
+        ran([*ASM2ELF, *words, f"--into={folder}", *assemblies])
+    return [os.path.join(folder, os.path.basename(path)) for path in assemblies]
 
 
 def rewritten_into(folder: str, assemblies: Sequence[str], target: Target) -> list[str]:
     """The paths of the GNU assembly of several files, which have names of their own, in a folder."""
-    ran([*ASM2ELF, *target.words(), "--jobs=1", f"--into={folder}", *assemblies])
-    return [os.path.join(folder, os.path.basename(path)) for path in assemblies]
+    return run_converter(folder, assemblies, [*target.words(), "--jobs=1"])
 
 
 def archived(output: str, objects: Iterable[str]) -> None:

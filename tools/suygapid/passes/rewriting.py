@@ -3,7 +3,6 @@ import os
 import pickle
 import traceback
 from functools import cached_property
-from heapq import heapreplace
 
 from suygapid.passes.assembly import Broken, Refused
 from suygapid.passes.checking import Checking
@@ -15,6 +14,7 @@ from suygapid.passes.instructions import NEAR, RELATIVE, replace
 from suygapid.passes.naming import Names
 from suygapid.passes.parts import joined, section_mark, sections_of, with_others
 from suygapid.passes.shown import AllShown
+from suygapid.passes.shares import shares_of
 from suygapid.passes.small_data import SmallData, is_near
 from suygapid.passes.soft import Order, without_soft_labels
 from suygapid.passes.telling import format_lines, frame_lines, frame_table_lines, margin_lines, name_lines
@@ -112,17 +112,6 @@ class Rewriting:
         except Unknown as unknown:
             raise Refused(self.unit.name, f"debug information that isn't known: {unknown}") from unknown
         return "\n".join([*head, *(texts[key] for key in self.given), RVC, ""])  # debuggers disassemble by the last option
-
-
-def shares_of(sizes, jobs):
-    """The numbers of parts of these sizes, in as many shares at most, which are about equally large."""
-    shares = [[] for _ in range(jobs)]
-    heap = [(0, number) for number in range(jobs)]
-    for number in sorted(range(len(sizes)), key=lambda number: -sizes[number]):
-        size, least = heap[0]
-        shares[least].append(number)
-        heapreplace(heap, (size + sizes[number], least))
-    return list(filter(None, shares))
 
 
 def side_by_side(rewriting, jobs):
