@@ -86,6 +86,7 @@ class Blocks:
 
     def __init__(self, code):
         self.code, self.starts, is_begun = code, [], False
+        self.liveness = None  # where it has been asked for
         for number, piece in enumerate(code):
             if piece.is_mark or not is_begun:
                 self.starts.append(number)
@@ -116,6 +117,7 @@ class Blocks:
     def changed(self, code):
         """The same of code of which each piece is like one of this."""
         found = copy(self)
+        found.liveness = None
         found.code, found.bodies = code, [code[start:end] for start, end in zip(self.starts, self.ends)]
         return found
 
@@ -175,6 +177,16 @@ class Blocks:
                     found.add(other)
                     waiting.append(other)
         return found
+
+
+newest: list[Blocks] = []  # the blocks that were found last
+
+
+def blocks_of(code):
+    """The blocks of some code, which a pass that changes nothing leaves to the next one."""
+    if not newest or newest[0].code is not code:
+        newest[:] = [Blocks(code)]
+    return newest[0]
 
 
 def meeting(block, other, dominators, rank):

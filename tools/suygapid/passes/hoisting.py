@@ -15,13 +15,13 @@ an access. Data registers that compilers leave alone hold nothing across calls, 
 from dataclasses import dataclass, field
 from itertools import islice
 
-from suygapid.passes.control import Blocks, leads_back
+from suygapid.passes.control import blocks_of, leads_back
 from suygapid.passes.dependences import runs
 from suygapid.passes.deriving import derived
 from suygapid.passes.facts import bits
 from suygapid.passes.functions import functions
 from suygapid.passes.instructions import Op
-from suygapid.passes.liveness import Liveness
+from suygapid.passes.liveness import liveness_of
 from suygapid.passes.looping import Code, Placing
 from suygapid.passes.loops import loops_of
 from suygapid.passes.raising import Ways
@@ -180,7 +180,7 @@ def with_hoisted_masks(code, names, registers, room):
     loop changes."""
     if not registers or not leads_back(code):
         return code
-    alive, out, has_changed = iter(Liveness(Blocks(code)).before), [], False
+    alive, out, has_changed = iter(liveness_of(blocks_of(code)).before), [], False
     for function in functions(code):
         part = Code(function.code, list(islice(alive, len(function.code))))
         hoisted = Hoister(part, function.outer, names, registers, room).hoisted()

@@ -2,7 +2,7 @@
 and jumps in their order, what is stored where, and the registers that are read later. tools/sfi-validate looks at that."""
 from typing import NamedTuple
 
-from suygapid.passes.control import Blocks
+from suygapid.passes.control import blocks_of
 from suygapid.passes.facts import DATA
 from suygapid.passes.hoisting import with_hoisted_masks
 from suygapid.passes.known import with_known_places
@@ -47,7 +47,7 @@ def improved_words(code, passes, names, whole, is_read):
     code = with_plain_jumps(code)
     if "hoisting" in passes:
         given, code = code, with_hoisted_masks(code, names, *whole)
-        code = code if is_read and code is given else without_unread(Blocks(code))
+        code = code if is_read and code is given else without_unread(blocks_of(code))
     if "sharing" in passes:
         code = with_shared_masks(code, whole.registers)
     if "targeting" in passes:

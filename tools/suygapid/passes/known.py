@@ -4,7 +4,7 @@ A masked `zero` is the region's first address, so a load or store at `N(zero)` r
 region's byte N, up to 2047, and needs no address in a register. A `la` whose address nothing
 reads after that is left out."""
 
-from suygapid.passes.control import Blocks
+from suygapid.passes.control import blocks_of
 from suygapid.passes.instructions import replace
 from suygapid.passes.liveness import without_unread
 
@@ -76,7 +76,7 @@ def direct(op, known, farthest):
 
 
 def with_known_places(code, small, farthest=FARTHEST):
-    blocks, following = Blocks(code), Known(small.offsets)
+    blocks, following = blocks_of(code), Known(small.offsets)
     if not any(piece.word == "la" and piece.operands[1] in small.offsets for piece in code):
         return without_unread(blocks)
     out = []

@@ -95,6 +95,14 @@ class Liveness:
         return found[:-1]
 
 
+def liveness_of(blocks):
+    """The liveness of some code, by its blocks."""
+    if blocks.liveness is None:
+        blocks.liveness = Liveness(blocks)
+    return blocks.liveness
+
+
 def without_unread(blocks):
-    """The code without the addresses, numbers and sums that nothing reads."""
-    return [piece for piece, after in zip(blocks.code, Liveness(blocks).after) if piece.has_effect or after & piece.written_bits]
+    """The code without the addresses, numbers and sums that nothing reads: the same list where all is read."""
+    found = [piece for piece, after in zip(blocks.code, liveness_of(blocks).after) if piece.has_effect or after & piece.written_bits]
+    return found if len(found) < len(blocks.code) else blocks.code

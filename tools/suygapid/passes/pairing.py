@@ -60,5 +60,5 @@ def with_pairs(code):
     out = []
     for run in runs(code):
         ops = [code[number] for number in run]
-        out += ops if len(ops) == 1 else Pairer(ops).paired()
+        out += ops if len(ops) <= 2 else Pairer(ops).paired()  # the first is taken first
     return out

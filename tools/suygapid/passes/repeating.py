@@ -86,6 +86,9 @@ def without_repeated_masks(code):
     for body, held in zip(blocks.bodies, held_at_starts(blocks)):
         held = held or 0
         for piece in body:
+            if not held and not piece.masked_base and piece.word != "mv":
+                out.append(piece)
+                continue
             name = holder(piece, held)
             if name:
                 out.append(on_base(piece, name, piece.offset))

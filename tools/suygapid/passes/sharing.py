@@ -9,7 +9,7 @@ A base that leads to an object lies in the data region (`margins`), so that the 
 before which it's set, and the later accesses are at the same addresses as before."""
 from typing import Optional
 
-from suygapid.passes.control import Blocks
+from suygapid.passes.control import blocks_of
 from suygapid.passes.facts import DATA, bits
 from suygapid.passes.known import KEPT_BY_CALLS
 from suygapid.passes.operands import REGISTERS
@@ -130,7 +130,7 @@ class Sharer:
 
     def __init__(self, code, registers):
         self.code, self.registers = code, registers
-        self.blocks = Blocks(code)
+        self.blocks = blocks_of(code)
         rank = {block: number for number, block in enumerate(self.blocks.order)}
         self.empty = {block for block in rank if block in self.blocks.entries or not rank.keys() >= set(self.blocks.before[block])}
         self.back = [(other, block) for block in rank if block not in self.empty

@@ -78,6 +78,8 @@ def costly_steps(code):
 
 
 def with_steps(code):
+    if not costly_steps(code):
+        return code
     out = []
     for run in runs(code):
         ops = [code[number] for number in run]

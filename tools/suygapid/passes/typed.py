@@ -117,6 +117,8 @@ def check_registers(ops):
 
 def with_plain_jumps(code):
     """The code whose jumps to a register plus a number have the sum in the register that they write."""
+    if not any(piece.word == "jalr" and piece.offset for piece in code):
+        return code
     out = []
     for piece in code:
         if piece.word != "jalr" or piece.offset == 0:

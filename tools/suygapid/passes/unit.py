@@ -27,6 +27,7 @@ THREAD_LOCAL = "thread-local data: there is one thread, so compile without _Thre
 WANTS = "\t.reloc ., R_RISCV_NONE, "
 WANTS_CONSTRUCTORS = WANTS + "__sfi_begin_wanted"  # the runtime's part that calls them
 WANTS_ATEXIT = WANTS + "atexit"  # the C library's, which runs destructors
+converted_lines: dict[str, tuple[list, set]] = {}  # by a line of any file: what becomes of it, and the names that this speaks of
 NAME = re.compile(r"[A-Za-z_]\w{0,254}", re.ASCII)  # what a table of names may have
 MARKING = re.compile(r"\s*\.(?:weak|protected)\s+(\S+)")
 
@@ -65,6 +66,11 @@ def with_one_name(text):
     return f'{match[1]} "{match[2]}/{match[3]}"{match[4]}' if match else text
 
 
+def spoken_of(made):
+    """The names of which the instructions of these words and operands speak."""
+    return {WORD.match(operands[-1])[0] for word, operands in made if SHAPES.get(word, "")[-1:] in ("J", "A")}
+
+
 class Unit:
     """A file's sections of code by their names, the other lines, and what the file says of its symbols."""
 
@@ -91,7 +97,7 @@ class Unit:
         self.switch(".text", "\t.text")
         lines = Lines(self.name)
         for number, line in enumerate(text.splitlines(), 1):
-            place, made = lines.place(number, line), self.known.get(line)
+            place, made = lines.place(number, line), self.known.get(line) or self.known_elsewhere(line)
             if made is not None and self.current is not None:
                 self.add(made, place)
                 continue
@@ -100,6 +106,15 @@ class Unit:
         for name in self.imports():  # an archive's gate wouldn't be taken for a weak reference
             for told in (self.verbatim, self.symbols):
                 told[:] = [line for line in told if not ((found := MARKING.fullmatch(line)) and found[1] == name)]
+
+    def known_elsewhere(self, line):
+        """What becomes of a line of code that another file had, too, or None."""
+        if line not in converted_lines or self.current is None:
+            return None
+        made, spoken = converted_lines[line]
+        self.spoken |= spoken
+        self.known[line] = made
+        return made
 
     def exports(self):
         """The names that are marked and defined here."""
@@ -126,6 +141,8 @@ class Unit:
             made = self.converted(statement)
             if is_one_statement(line):
                 self.known[line] = made
+                if "%pcrel" not in line:
+                    converted_lines[line] = made, spoken_of(made)
             self.add(made, statement.place)
 
     # Sections.
@@ -215,7 +232,7 @@ class Unit:
         if any(map(THREAD_LOCAL_OPERAND.match, statement.operands)):
             raise Refused(statement.place, THREAD_LOCAL)
         found = [(op.word, op.operands) for op in self.converter.convert(statement)]
-        self.spoken.update(WORD.match(operands[-1])[0] for word, operands in found if SHAPES.get(word, "")[-1:] in ("J", "A"))
+        self.spoken |= spoken_of(found)
         return found
 
     def directive(self, part, statement):
