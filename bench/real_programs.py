@@ -4,7 +4,7 @@ without a sandbox.
 
     bench/real_programs.py [--program PATH] [--format N ..] [--sources FOLDER] [--builds] [NAME ..]
 
---builds has the processor seconds of builds in the place of steps, without results that sfi-cc kept. Without a sandbox, GNU's assembler and linker make the program of the compiler's assembly and of newlib's, and
+--builds has the seconds of builds in the place of steps, of processors and on the clock, without results that sfi-cc kept. Without a sandbox, GNU's assembler and linker make the program of the compiler's assembly and of newlib's, and
 interpreter.c runs it, as in compiled.py. In brackets are ratios, and the last row has their geometric means. The answers
 must be equal.
 """
@@ -14,7 +14,9 @@ import os
 import resource
 import subprocess
 import tempfile
+import time
 from concurrent.futures import ThreadPoolExecutor
+from typing import NamedTuple
 
 import compiled
 import measure
@@ -103,12 +105,30 @@ def measured(name, options, interpreter, folder):
         yield row
 
 
-def processor_seconds(work):
-    """What the processes that some work starts take of processors."""
-    before = resource.getrusage(resource.RUSAGE_CHILDREN)
+class Seconds(NamedTuple):
+    """What some work takes of processors, by the processes that it starts, and on the clock."""
+    processor: float
+    clock: float
+
+    def __str__(self):
+        return f"{self.processor:.1f} | {self.clock:.1f}"
+
+    def over(self, other):
+        return f"{self.processor / other.processor:.2f} | {self.clock / other.clock:.2f}"
+
+
+def seconds_of(work):
+    before, begun = resource.getrusage(resource.RUSAGE_CHILDREN), time.monotonic()
     work()
-    after = resource.getrusage(resource.RUSAGE_CHILDREN)
-    return after.ru_utime + after.ru_stime - before.ru_utime - before.ru_stime
+    after, ended = resource.getrusage(resource.RUSAGE_CHILDREN), time.monotonic()
+    return Seconds(after.ru_utime + after.ru_stime - before.ru_utime - before.ru_stime, ended - begun)
+
+
+def make_libraries(image_format, folder):
+    """Has sfi-cc make and keep what it makes once: the library, and the functions of floating point."""
+    file = measure.written(os.path.join(folder, "floating.c"), b"#include <stdio.h>\nint main(int n) { return printf(\"%f\", n * 0.3); }\n")
+    output = os.path.join(folder, "floating.elf")
+    subprocess.run([programs.SFI_CC, "--format", image_format, "--library", "newlib", "-o", output, file], check=True)
 
 
 def built(name, options, folder):
@@ -116,19 +136,21 @@ def built(name, options, folder):
     tree = programs.tree_of(programs.PROGRAMS[name], options, folder)
     if tree is None:
         raise SystemExit(f"bench: the sources of {programs.PROGRAMS[name].package} aren't there")
-    library()
-    plain = processor_seconds(lambda: without_sandbox(name, tree, folder))
-    row = [name, f"{plain:.1f}"]
+    plain = seconds_of(lambda: without_sandbox(name, tree, folder))
+    row = [name, str(plain)]
     for image_format in options.format:
         words = [*programs.command_of(name, tree, folder, image_format, os.path.join(folder, "linked.elf")), "--no-cache"]
-        seconds = processor_seconds(lambda: subprocess.run(words, check=True))
-        row += [f"{seconds:.1f}", f"{seconds / plain:.2f}"]
+        seconds = seconds_of(lambda: subprocess.run(words, check=True))
+        row += [str(seconds), seconds.over(plain)]
     return row
 
 
 def builds(options, folder):
-    print("| program | gcc, as, ld, s | " + " | ".join(f"sfi-cc, {it}, s | ratio" for it in options.format) + " |")
-    print("|---" * (2 + 2 * len(options.format)) + "|")
+    library()
+    for image_format in options.format:
+        make_libraries(image_format, folder)
+    print("| program | gcc, as, ld, s | clock | " + " | ".join(f"sfi-cc, {it}, s | clock | ratio | clock" for it in options.format) + " |")
+    print("|---" * (3 + 4 * len(options.format)) + "|")
     for name in options.names or BUILT:
         os.mkdir(os.path.join(folder, name))
         print("| " + " | ".join(built(name, options, os.path.join(folder, name))) + " |", flush=True)
