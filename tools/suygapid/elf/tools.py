@@ -74,13 +74,14 @@ def rewritten_each(assemblies: Sequence[str], target: Target, passes: Optional[s
     """The GNU assembly of several files, which have names of their own, by one run with so many processes, or as it was kept."""
     words = [*target.words(), *([] if passes is None else [f"--passes={passes}"])]
     places = {path: results.place_of([converter(), *map(str.encode, words), content_of(path)]) for path in assemblies if is_kept}
-    found = {path: results.read(place) for path, place in places.items()}
-    missing = [path for path in assemblies if found.get(path) is None]
+    read = ((path, results.read(place)) for path, place in places.items())
+    found = {path: text for path, text in read if text is not None}
+    missing = [path for path in assemblies if path not in found]
     with tempfile.TemporaryDirectory() as folder:
         for path, output in zip(missing, run_converter(folder, missing, [*words, f"--jobs={jobs}"])):
-            found[path] = content_of(output)
+            text = found[path] = content_of(output)
             if is_kept:
-                results.write(places[path], found[path])
+                results.write(places[path], text)
     return [found[path] for path in assemblies]
 
 
