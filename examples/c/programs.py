@@ -78,7 +78,7 @@ PROGRAMS = {
     "demangle": Program(GCC_SOURCE.name, "libiberty/cp-demangle.c libiberty/cplus-dem.c libiberty/[dr]*-demangle.c "
                         "libiberty/safe-ctype.c", "-DHAVE_CONFIG_H -DHAVE_LIMITS_H -DHAVE_STDLIB_H -DHAVE_STRING_H", "mangled"),
     "tinyxml2": Program("tinyxml2", "tinyxml2.cpp", inputs="list.xml", library="c++"),
-    "pugixml": Program("pugixml", "src/pugixml.cpp", "-DPUGIXML_NO_EXCEPTIONS", "list.xml", library="c++"),
+    "pugixml": Program("pugixml", "src/pugixml.cpp", "", "list.xml", library="c++"),
     "json": Program("nlohmann-json3", "", "-std=c++17", "json-tree", library="c++"),
     "mujs": Program("mujs", "one.c", inputs="classic.js"),
     "zstd": Program("libzstd", "lib/common/*.c lib/compress/*.c lib/decompress/*.c", "-DZSTD_DISABLE_ASM", "prose json-tree",

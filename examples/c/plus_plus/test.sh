@@ -1,5 +1,5 @@
 #!/usr/bin/env bash
-# Compiles these programs of C++ with --library c++, in words, and compares what they do with what native g++ makes of them.
+# Compiles these programs of C++ with --library c++, and compares what they do with what native g++ makes of them.
 #
 #     examples/c/plus_plus/test.sh [SFI]      # SFI is the program; ./sfi at the top if absent
 set -uo pipefail
@@ -11,8 +11,7 @@ cd "$here" || exit 1
 source ../../harness.sh
 
 options="-std=c++17 -Wall -Wextra -Werror"
-no_exceptions="sfi-cc: a sandbox has no exceptions, with -fexceptions neither; many libraries have an option to do without, \
-and what std's functions throw ends the program"
+no_exceptions="sfi-cc: exceptions are those of --library c++, without -fno-exceptions and --movable"
 
 # Exit code and output, which has standard error's at its place: so a native program, too, puts its output by lines.
 outcome() { # a command
@@ -36,9 +35,9 @@ try_program() { # program, level of optimization, its option; inputs
     done
 }
 
-try_refused() { # what sfi-cc says at last; the program
+try_refused() { # what sfi-cc says at last; the program; options
     echo "$2" >"$room/refused.cpp"
-    report "$2" "$1" "$(compile "$room/refused.hex" "$room/refused.cpp"; grep -m 1 ^sfi-cc "$room/messages")"
+    report "$2" "$1" "$(compile "$room/refused.hex" "${@:3}" "$room/refused.cpp"; grep -m 1 ^sfi-cc "$room/messages")"
 }
 
 why=
@@ -50,10 +49,14 @@ why=${why:-$sources}
 if [ -n "$why" ]; then
     skip 1 "C++ with its library" "$why"
 else
-    try_program containers -O2 -fno-rtti empty prose json-tree
+    try_program containers -O2 -fno-exceptions empty prose json-tree
     try_program types -O0 -frtti empty
     try_program types --debug -frtti empty
-    try_refused "$no_exceptions" 'int main() { throw 1; }'
+    for level in -O2 -O0 --debug --format=2; do
+        try_program exceptions $level -fexceptions empty
+    done
+    try_refused "$no_exceptions" 'int main() { throw 1; }' -fno-exceptions
+    try_refused "$no_exceptions" 'int main() { throw 1; }' --movable
     try_refused "sfi-cc: std::cout: --library c++ has no streams and locales" $'#include <iostream>\nint main() { std::cout << 1; }'
 fi
 finish

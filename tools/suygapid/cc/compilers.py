@@ -17,7 +17,8 @@ COMMON = ["-march=rv32imc", "-mabi=ilp32", "-fno-builtin", "-ffunction-sections"
 OF_GCC = ["-Werror=trampolines", f"--param=case-values-threshold={CASES}"]
 PLUS_PLUS = ["-fno-exceptions", "-fno-rtti", "-fno-threadsafe-statics"]
 HOSTED = "-fhosted"  # what undoes -ffreestanding, which C++ isn't compiled with
-EXCEPTIONS = "-fexceptions"
+EXCEPTIONS, TYPES = "-fexceptions", "-frtti"
+WHOLE_PLUS_PLUS = "-fhosted=c++"  # stands for both, where the library has them, and is for no compiler
 GCC_HEADERS = ["-idirafter", os.path.join(os.path.dirname(__file__), "plus_plus")]  # what C++ by gcc has where there is no C library
 WITH_FRAMES = "-fasynchronous-unwind-tables"  # of a library, so that a debugger finds the callers of its functions
 LAST = ["-fno-lto"]  # what outweighs the options that are given
@@ -91,8 +92,11 @@ def language(file):
 
 
 def for_language(file, given):
-    """The options that are given for all files, without what gcc takes for C alone, and what C++ hasn't here."""
-    return [word for word in given if word not in (HOSTED, EXCEPTIONS)] if file.endswith(PLUS_PLUS_SOURCES) else given
+    """The options that are given for all files, without what gcc takes for C alone, and without exceptions where there is no library
+    for these."""
+    is_whole, is_plus_plus = WHOLE_PLUS_PLUS in given, file.endswith(PLUS_PLUS_SOURCES)
+    without = [WHOLE_PLUS_PLUS, *[HOSTED] * is_plus_plus, *[EXCEPTIONS] * (is_plus_plus and not is_whole)]
+    return [*[EXCEPTIONS] * is_whole, *[TYPES] * (is_whole and is_plus_plus), *(word for word in given if word not in without)]
 
 
 def key_of(compiler: str) -> list[str]:
@@ -156,7 +160,7 @@ def object_of(compiler: str, given: Iterable[str], file: str, output: str) -> No
 
 def preprocessed(compiler, given, file, assembly, _):
     target = TARGET if is_clang(compiler) else []
-    return ran([compiler, "-E", *target, *COMMON, *given, *HEADERS, "-o", assembly, file])[1]
+    return ran([compiler, "-E", *target, *COMMON, *for_language(file, given), *HEADERS, "-o", assembly, file])[1]
 
 
 def compiled(compiler: str, given: Iterable[str], file: str, place: str, registers: tuple[int, ...] = RESERVED_IN_WORDS) -> tuple[str, bytes]:

@@ -352,7 +352,7 @@ def main():
     options, files, given = parsed(sys.argv[1:])
     try:
         options.library = folders_of(options.library, options.cc)
-        given = [*headers(options.library), *given]
+        given = [*headers(options.library), *["-fno-exceptions"] * options.target.is_movable, *given]
         with tempfile.TemporaryDirectory() as folder:
             if options.compile:
                 objects_of(options, given, files, sources_of(options, given, files, folder), folder)

@@ -124,6 +124,8 @@ def linked_with(options, folders, objects, folder):
     """The program that objects, archives and the libraries in some folders make. One that can be moved is linked a second time:
     with the list of the addresses in its data, or, if there are none, without what sets them right."""
     libraries = Libraries(options, folders, objects)
+    if libraries.have_exceptions and options.target.is_movable:
+        raise Wrong("a program for any place has no exceptions: compile C++ with -fno-exceptions")
     fresh, first, last = words_of(options, libraries, objects, folder)
     name = os.path.basename(options.output) if options.output else "the program"
 
@@ -162,6 +164,7 @@ def words_of(options, libraries, objects, folder):
     fresh = os.path.join(folder, "program.elf")
     first = [binutil("ld"), *WORDS, *numbers_of(options, names), *START]
     return fresh, first, [
-        "-T", runtime.SCRIPT, *options.linker, "-o", fresh, os.path.join(made, "crt0.o"),
+        *runtime.EXCEPTIONS * libraries.have_exceptions, "-T", runtime.SCRIPT, *options.linker, "-o", fresh, os.path.join(made, "crt0.o"),
         *(path for path in objects if path not in archives), *names.objects(folder), *heap_of(options, folder), *heap,
+        "--whole-archive", *libraries.whole, "--no-whole-archive",
         "--start-group", *archives, *named, *names.archives(folder), *libraries.archives, *own, "--end-group"]

@@ -11,6 +11,7 @@ from suygapid.services import GATES
 
 LIB = os.path.join(TOOLS, "suygapid", "runtime")
 SCRIPT = os.path.join(LIB, "sandbox.ld")
+EXCEPTIONS = ["-T", os.path.join(LIB, "exceptions.ld")]  # what goes before the script for a program that has them
 FUNCTIONS = [*(os.path.join(LIB, f"{name}.asm") for name in ("constructors", "runtime", "atomics", "stack_protector")),
              os.path.join(LIB, "save_restore.s")]
 HEAP_CHECKS = os.path.join(LIB, "heap_checks.asm")  # the malloc of programs that stop at mistakes

@@ -6,7 +6,7 @@ import os
 from concurrent.futures import ThreadPoolExecutor
 from typing import Callable, Iterable, Sequence
 
-from suygapid.cc.compilers import ASSEMBLY, HOSTED, Failed
+from suygapid.cc.compilers import ASSEMBLY, HOSTED, WHOLE_PLUS_PLUS, Failed
 from suygapid.elf.runtime import ingredients
 from suygapid.elf.tools import Target, archived, assembled_file, rewritten_into
 from suygapid.kept import kept
@@ -77,13 +77,17 @@ def headers(libraries: Sequence[str]) -> list[str]:
     folders = [os.path.join(library, "include") for library in libraries]
     found = [word for folder in folders if os.path.isdir(folder) for word in ("-isystem", folder)]
     is_whole = not any(os.path.exists(os.path.join(library, small_library.MARK)) for library in libraries)
-    return [HOSTED, *["-fbuiltin"] * is_whole, *found] if found else []
+    has_plus_plus = any(map(plus_plus.uncaught, libraries))
+    return [HOSTED, *["-fbuiltin"] * is_whole, *[WHOLE_PLUS_PLUS] * has_plus_plus, *found] if found else []
 
 
 class Libraries:
     """The archives that a program of some objects is linked with."""
 
     def __init__(self, options, folders, objects):
+        self.have_exceptions = any(map(plus_plus.uncaught, folders)) and plus_plus.have_exceptions(objects)
+        first = [] if self.have_exceptions else [there for folder in folders for there in plus_plus.uncaught(folder)]
+        self.whole = [archive_of(folder, options.target) for folder in first]  # what takes the place of parts of the others
         self.archives = [archive_of(folder, options.target) for folder in folders]
         self.have_heap = any(os.path.exists(os.path.join(folder, mark)) for folder in folders for mark in (small_library.MARK, newlib.MARK))
         self.wanted = None  # what to install for floating point

@@ -1,12 +1,13 @@
-"""C++'s library for sandboxes: GCC's libstdc++ over newlib, without threads, locales and streams. Its own configure and make
-make its headers; some of its files are compiled, and what they throw ends the program by thrown.cc."""
+"""C++'s library for sandboxes: GCC's libstdc++ over newlib, without threads, locales and streams, and GCC's unwinder. Its own
+configure and make make its headers; some of its files are compiled. In a program that catches nothing, what they throw ends it."""
 import glob
 import os
 import re
 import shutil
 import tempfile
+from typing import Iterable
 
-from suygapid.cc.compilers import GCC, WITH_FRAMES, key_of, ran, version
+from suygapid.cc.compilers import GCC, WHOLE_PLUS_PLUS, WITH_FRAMES, key_of, ran, version
 from suygapid.elf.tools import binutil
 from suygapid.kept import kept
 from suygapid.library import newlib
@@ -19,7 +20,7 @@ PARTS = tuple(f"libstdc++-v3/{name}" for name in (
     "config", "config.h.in", "configure", "configure.host", "Makefile.in", "fragment.am", "include", "libsupc++", "scripts", "src",
     "doc/Makefile.in", "doc/xsl", "po/Makefile.in", "python/Makefile.in", "testsuite/Makefile.in"))
 PARTS += ("config.guess", "config.sub", "config-ml.in", "install-sh", "ltmain.sh", "missing", "mkinstalldirs", "move-if-change",
-          "gcc/BASE-VER", "gcc/DATESTAMP", "libgcc/gthr*.h", "libgcc/unwind-pe.h", "include")
+          "gcc/BASE-VER", "gcc/DATESTAMP", "libgcc/gthr*.h", "libgcc/unwind*", "include")
 MACHINE = "riscv32-unknown-elf"
 CONFIGURED = [f"--host={MACHINE}", f"--target={MACHINE}", "--prefix=/", "--with-target-subdir=.", "--with-newlib", *(
     f"--disable-{name}" for name in ("multilib", "nls", "threads", "libstdcxx-threads", "shared", "libstdcxx-pch", "dependency-tracking",
@@ -29,30 +30,39 @@ INSTALLED = (("include", ["install"]), ("libsupc++", ["install-stdHEADERS", "ins
 SOURCES = {
     ("libsupc++", "gnu++17"): "array_type_info bad_alloc bad_array_length bad_array_new bad_cast bad_typeid class_type_info "
                               "del_op del_opa del_opant del_opnt del_ops del_opsa del_opv del_opva del_opvant del_opvnt del_opvs "
-                              "del_opvsa dyncast eh_aux_runtime eh_exception eh_term_handler eh_terminate enum_type_info "
-                              "function_type_info fundamental_type_info hash_bytes new_handler new_op new_opa new_opv new_opva "
-                              "pbase_type_info pmem_type_info pointer_type_info pure si_class_type_info tinfo tinfo2 "
-                              "vmi_class_type_info",
+                              "del_opvsa dyncast eh_alloc eh_aux_runtime eh_call eh_catch eh_exception eh_globals eh_personality "
+                              "eh_ptr eh_term_handler eh_terminate eh_throw eh_type eh_unex_handler enum_type_info "
+                              "function_type_info fundamental_type_info hash_bytes nested_exception new_handler new_op "
+                              "new_opa new_opv new_opva pbase_type_info pmem_type_info pointer_type_info pure si_class_type_info "
+                              "tinfo tinfo2 vmi_class_type_info",
     ("src/c++98", "gnu++98"): "allocator-inst list stdexcept tree",
-    ("src/c++11", "gnu++11"): "cow-stdexcept cow-string-inst cxx11-stdexcept hash_c++0x hashtable_c++0x limits placeholders "
-                              "shared_ptr snprintf_lite string-inst system_error wstring-inst",
+    ("src/c++11", "gnu++11"): "cow-stdexcept cow-string-inst cxx11-stdexcept functexcept functional hash_c++0x hashtable_c++0x limits "
+                              "placeholders shared_ptr snprintf_lite string-inst system_error wstring-inst",
     ("src/c++17", "gnu++17"): "string-inst",
 }
-OWN, OWN_STANDARD = ("nothrow", "thrown"), "gnu++17"  # the files beside this one
-OPTIONS = ["-w", WITH_FRAMES, "-frtti", "-fno-implicit-templates"]
+OWN, OWN_STANDARD = ("ended", "nothrow", "terminating"), "gnu++17"  # of the files beside this one
+UNCAUGHT = "uncaught"  # the one for programs that catch nothing, and its folder
+UNWINDER = ("unwind-dw2", "frames")  # GCC's unwinder, and what finds frames for it
+OPTIONS = ["-w", WITH_FRAMES, WHOLE_PLUS_PLUS]
+OF_PLUS_PLUS = ["-fno-implicit-templates"]
+# What a compiler that builds libgcc has beside its options, and headers by what stands in them.
+OF_UNWINDER = ["-fbuilding-libgcc", "-DIN_LIBGCC2", "-include", "stddef.h", "-include", "stdlib.h", "-include", "string.h"]
+STUBS = {**dict.fromkeys(("tconfig.h", "coretypes.h", "libgcc_tm.h", "md-unwind-support.h"), ""),
+         "tsystem.h": "#define gcc_assert(is_so) ((is_so) ? (void)0 : abort())\n#define gcc_unreachable() abort()\n",
+         "tm.h": "#define DWARF_REG_TO_UNWIND_COLUMN(register) (register)\n",
+         "unwind.h": '#include "unwind-generic.h"\n', "gthr-default.h": '#include "gthr-single.h"\n'}
+THROWN = re.compile(rb"__gxx_personality_v0|__cxa_throw")  # what an object speaks of that catches exceptions, cleans up or throws
 NO_EXCEPTIONS = re.compile(rb"exception handling disabled|with exceptions disabled")  # what gcc and clang say of throw and try
 MISSING = re.compile(rb": fatal error: '?([a-z_]+)'?[: ]")  # a header without an ending that a compiler doesn't find
 STREAMS = re.compile(rb"undefined reference to `(std::(?:__cxx11::)?"
                      rb"(?:locale|ios_base|c(?:in|out|err|log)|basic_[a-z]*(?:stream|buf|ios))\b)")
-OF_NEW = ["-include", "bits/functexcept.h", "-D_GLIBCXX_THROW_OR_ABORT(thrown)=std::__throw_bad_alloc()"]  # of new_op.cc and new_opa.cc
 
 
 def advice(told: bytes) -> bytes:
     """A line for what a compiler or the linker complained of in C++: exceptions, a header of C++, or streams."""
     missing, stream = MISSING.search(told), STREAMS.search(told)
     if NO_EXCEPTIONS.search(told):
-        return (b"sfi-cc: a sandbox has no exceptions, with -fexceptions neither; many libraries have an option to do without, and what "
-                b"std's functions throw ends the program\n")
+        return b"sfi-cc: exceptions are those of --library c++, without -fno-exceptions and --movable\n"
     if missing:
         return b"sfi-cc: " + missing[1] + b": the headers of C++ are those of --library c++\n"
     return b"sfi-cc: " + stream[1] + b": --library c++ has no streams and locales\n" if stream else b""
@@ -80,31 +90,67 @@ def headers_of(tree: str) -> str:
     return kept("plus_plus_headers", words, lambda folder: configured(tree, folder))
 
 
+def own(name: str) -> Job:
+    return os.path.join(GLUE, f"{name}.cc"), f"sandbox-{name}", [f"-std={OWN_STANDARD}"]
+
+
 def jobs(tree: str) -> list[Job]:
-    """The files to compile."""
-    found: list[Job] = [(os.path.join(GLUE, f"{name}.cc"), f"sandbox-{name}", [f"-std={OWN_STANDARD}"]) for name in OWN]
+    """The files of C++ to compile."""
+    found = [own(name) for name in OWN]
     for (folder, standard), names in SOURCES.items():
-        found += [(f"{tree}/libstdc++-v3/{folder}/{name}.cc", f"{folder.replace('/', '-')}-{name}",
-                   [f"-std={standard}", *(OF_NEW if name in ("new_op", "new_opa") else [])]) for name in names.split()]
+        found += [(f"{tree}/libstdc++-v3/{folder}/{name}.cc", f"{folder.replace('/', '-')}-{name}", [f"-std={standard}", *OF_PLUS_PLUS])
+                  for name in names.split()]
     return found
+
+
+def compile_unwinder(folder: str, options: list[str]) -> None:
+    """Adds the unwinder, which gcc alone compiles."""
+    stubs = os.path.join(folder, "stubs")
+    os.mkdir(stubs)
+    for name, text in STUBS.items():
+        with open(os.path.join(stubs, name), "w", encoding="utf-8") as file:
+            file.write(text)
+    tree = unpacked(GCC_SOURCE, *PARTS)
+    places = (f"{tree}/libgcc/unwind-dw2.c", os.path.join(GLUE, "frames.c"))
+    compile_into(folder, GCC, [*options, *OF_UNWINDER, "-I", stubs, "-I", f"{tree}/include"],
+                 [(path, f"sandbox-{name}", []) for path, name in zip(places, UNWINDER)])
+    shutil.rmtree(stubs)
 
 
 def compile_all(compiler: str, folder: str) -> None:
     """Fills a folder with the library."""
     tree, include = unpacked(GCC_SOURCE, *PARTS), os.path.join(folder, "include")
     shutil.copytree(headers_of(tree), include)
-    found = ["-isystem", include, "-isystem", os.path.join(newlib.folder_of(compiler), "include"), "-I", f"{tree}/libstdc++-v3/libsupc++",
-             "-I", f"{tree}/libgcc"]
-    compile_into(folder, compiler, [*OPTIONS, *found], jobs(tree))
+    libgcc, newlibs = ["-I", f"{tree}/libgcc"], ["-isystem", os.path.join(newlib.folder_of(compiler), "include")]
+    found = [*OPTIONS, "-isystem", include, *newlibs, "-I", f"{tree}/libstdc++-v3/libsupc++", *libgcc, "-I", GLUE]
+    compile_into(folder, compiler, found, jobs(tree))
+    compile_unwinder(folder, [*OPTIONS, *newlibs, *libgcc])
+    os.mkdir(os.path.join(folder, UNCAUGHT))
+    compile_into(os.path.join(folder, UNCAUGHT), compiler, found, [own(UNCAUGHT)])
+
+
+def uncaught(folder: str) -> list[str]:
+    """The folder of what goes before the library of a folder in a program that catches nothing, if it's this library."""
+    there = os.path.join(folder, UNCAUGHT)
+    return [there] if os.path.isdir(there) else []
+
+
+def have_exceptions(objects: Iterable[str]) -> bool:
+    """Whether some objects and archives throw exceptions, catch them, or have anything to do where one leaves a function."""
+    for path in objects:
+        with open(path, "rb") as file:
+            if THROWN.search(file.read()):
+                return True
+    return False
 
 
 def folder_of(compiler: str) -> str:
     """The folder of the library by a compiler, which is kept."""
-    own = []
-    for name in OWN:
-        with open(os.path.join(GLUE, f"{name}.cc"), encoding="utf-8") as file:
-            own.append(file.read())
-    words = [*key_of(compiler), version(GCC), identity(GCC_SOURCE.path()), *own, *PARTS, *CONFIGURED, str(INSTALLED), str(SOURCES),
-             OWN_STANDARD, *OPTIONS, *OF_NEW, os.path.basename(newlib.folder_of(compiler))]
+    glue = []
+    for path in sorted(glob.glob(os.path.join(GLUE, "*"))):
+        with open(path, encoding="utf-8") as file:
+            glue.append(file.read())
+    words = [*key_of(compiler), version(GCC), identity(GCC_SOURCE.path()), *glue, *PARTS, *CONFIGURED, str(INSTALLED), str(SOURCES),
+             OWN_STANDARD, *OPTIONS, *OF_PLUS_PLUS, *OF_UNWINDER, str(STUBS), os.path.basename(newlib.folder_of(compiler))]
     return kept("plus_plus", words, lambda folder: compile_all(compiler, folder),
                 "libstdc++ is compiled and converted, which takes some minutes; it is kept")

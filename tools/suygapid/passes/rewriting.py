@@ -4,6 +4,7 @@ import pickle
 import traceback
 from functools import cached_property
 
+from suygapid.passes import landings
 from suygapid.passes.assembly import Broken, Refused
 from suygapid.passes.checking import Checking
 from suygapid.passes.debug_data import Unknown
@@ -30,9 +31,10 @@ MANY = 4000  # instructions from which on it pays to have several processes
 def by_sections(unit, is_movable):
     """The code by its sections, and the order of the pieces of each."""
     marks = {piece.name for section in unit.sections.values() for piece in section.pieces if piece.is_mark}
-    spoken = unit.spoken | unit.data_names | unit.globals
+    named, landed = landings.labels(unit.landings)
+    spoken = unit.spoken | unit.data_names | unit.globals | named
     hard = {name for name in marks if name in spoken or not name.startswith(".")}
-    taken = hard & (unit.globals | unit.data_names)  # where control may come from anywhere
+    taken = hard & (unit.globals | unit.data_names | landed)  # where control may come from anywhere
     code, orders = {}, {}
     for key, section in unit.sections.items():
         pieces, soft = without_soft_labels(section, hard, taken)

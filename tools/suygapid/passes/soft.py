@@ -26,17 +26,28 @@ def is_of_stack(text, piece):
     return text.startswith("\t.cfi_def_cfa") and piece is not None and "sp" in piece.writes
 
 
+def first_of_run(pieces, number):
+    """The number of the first piece that changes places with the one before this number."""
+    while number and not pieces[number - 1].is_barrier:
+        number -= 1
+    return number
+
+
 class Order:
     """The numbers of a section's pieces in the file, and its soft items; those of the stack pointer go with the instructions
     that move it, by their numbers."""
 
     def __init__(self, pieces, soft):
-        self.soft, self.beside = [], {}
+        self.soft, self.beside, last = [], {}, 0
         for number, text in soft:
             if is_of_stack(text, pieces[number - 1] if number else None):
                 self.beside.setdefault(number - 1, []).append(text)
+            elif text.startswith("\t.cfi_remember_state"):  # before the stack pointer moves, which may now come earlier
+                self.soft.append((max(last, first_of_run(pieces, number)), text))
             else:
                 self.soft.append((number, text))
+            last = number if text.startswith("\t.cfi_") else last
+        self.soft.sort(key=lambda item: item[0])
         self.kept = pieces  # so that no other piece gets the identity of one of these
 
     @cached_property

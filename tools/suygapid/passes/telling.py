@@ -56,7 +56,7 @@ def name_lines(unit):
 
 
 def frame_table_lines(unit):
-    """Has what says where each frame lies stand where debuggers look for it, and the linker keeps it."""
+    """Has what says where each frame lies stand where exceptions look for it, and where debuggers do: the linker keeps that."""
     items = (text for section in unit.sections.values() for _, text in section.soft)
     is_asked = any(".cfi_startproc" in text for text in items) and not any(".cfi_sections" in text for text in unit.symbols)
-    return ["\t.cfi_sections .debug_frame"] * is_asked
+    return ["\t.cfi_sections .eh_frame, .debug_frame"] * is_asked

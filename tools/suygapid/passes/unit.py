@@ -5,6 +5,7 @@ that speak of a place in the code and change nothing there."""
 import re
 from dataclasses import dataclass, field
 
+from suygapid.passes import landings
 from suygapid.passes.assembly import LABEL, Label, Lines, Refused, is_one_statement, read_assembly
 from suygapid.passes.facts import SHAPES
 from suygapid.passes.instructions import Converter, Op
@@ -12,7 +13,7 @@ from suygapid.passes.pcrel import pcrel_labels
 from suygapid.passes.program import Mark
 
 SMALL_NAMES = (".sdata", ".sbss", ".srodata")
-DEBUG_NAMES = (".debug", ".eh_frame", ".gcc_except_table", ".note", ".comment", ".stab", ".riscv.attributes")
+DEBUG_NAMES = (".debug", ".eh_frame", landings.SECTION, ".note", ".comment", ".stab", ".riscv.attributes")
 DESTRUCTORS = ".fini_array"
 ARRAYS = (".preinit_array", ".init_array", DESTRUCTORS)
 SWITCHING = (".section", ".pushsection", ".text", ".data", ".bss", ".rodata", ".popsection", ".previous")
@@ -49,7 +50,7 @@ def is_small(name):
 
 
 def is_code_section(name, line):
-    flags = re.search(r'"([^"]*)"', line)
+    flags = re.search(r',\s*"([^"]*)"', line)  # a name, too, may be quoted
     return name == ".text" or name.startswith(".text.") or bool(flags and "x" in flags.group(1))
 
 
@@ -83,6 +84,7 @@ class Unit:
         self.spoken = set()  # the names that code speaks of
         self.data_names = set()  # those that data and aliases speak of
         self.globals, self.weak, self.defined = set(), set(), set()
+        self.landings = []  # the operands in the tables of exceptions
         self.marked = []  # the names that SFI_EXPORT and SFI_IMPORT of gates.h stand before
         self.locations = {}  # by an instruction's place, the lines `.loc` that hold there
         self.stack, self.previous = [], None
@@ -193,6 +195,8 @@ class Unit:
         if statement.word in (".set", ".equ") and is_small(self.current_name) and HERE.match(operands[-1]):
             self.small.add(operands[0])
         self.symbol_directive(statement)
+        if self.current_name.startswith(landings.SECTION):
+            self.landings += operands
         if not is_debug(self.current_name) and not statement.word.startswith((".size", ".type")):
             self.data_names.update(WORD.findall(" ".join(it for it in operands if not it.startswith('"'))))
         text = without_labels(part)

@@ -1,6 +1,7 @@
 """What both ways of writing GNU assembly share: the sections, and beside each piece the soft items and the line of C."""
 from typing import Optional
 
+from suygapid.passes.landings import with_lengths
 from suygapid.passes.places import Places
 
 NORVC, RVC = "\t.option norvc", "\t.option rvc"
@@ -28,7 +29,7 @@ class Writer:
 
     def head(self, shown, told):
         """The lines before the code, with labels and debug information as the code's passes leave them."""
-        return [*Places(self.unit.verbatim, shown).right(), *self.unit.symbols, *told, *OPTIONS]
+        return [*with_lengths(Places(self.unit.verbatim, shown).right()), *self.unit.symbols, *told, *OPTIONS]
 
     def text(self, key, pieces, order, labels):
         """A section with its line, and with some labels before pieces of these numbers."""

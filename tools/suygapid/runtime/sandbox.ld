@@ -23,6 +23,9 @@ __sfi_above =
     DEFINED(__sfi_above_128) ? 128 :
     DEFINED(__sfi_above_64) ? 64 : 0;
 
+/* A program without exceptions has no frames to tell an unwinder (exceptions.ld). */
+PROVIDE(__sfi_frames = 0);
+
 /* A C library's _start calls main itself. */
 __sfi_main = DEFINED(_start) ? _start : main;
 

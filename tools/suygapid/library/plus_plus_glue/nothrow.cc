@@ -1,4 +1,4 @@
-// What `new (std::nothrow)` does, without the exception that libstdc++'s own would catch.
+// What `new (std::nothrow)` does, without an exception of its own, so that it also works in a program that catches none.
 #include <cstdlib>
 #include <malloc.h>
 #include <new>
@@ -9,7 +9,11 @@ static void *allocated(std::size_t size, std::size_t alignment) {
         std::new_handler handler = std::get_new_handler();
         if (memory || !handler)
             return memory;
-        handler();
+        try {
+            handler();
+        } catch (...) {
+            return nullptr;
+        }
     }
 }
 
