@@ -12,6 +12,7 @@ import version
 TOP = pathlib.Path(__file__).resolve().parent.parent
 sys.path.append(str(TOP / "bindings" / "python"))
 from sfi_check import _built
+from suygapid import native
 
 SHARE = "share/suygapid"  # the tools, at the places that they have in the repository
 NOTED = f"{SHARE}/installed"  # the list of all that was installed
@@ -111,6 +112,7 @@ def library(crate):
 
 def items():
     """All that is installed but the list of it."""
+    native.make()  # it lies among the tools
     found = [Item("bin/sfi", TOP / "crates" / "sfi" / "out" / "sfi"), Item(f"{SHARE}/sfi", link="../../bin/sfi")]
     for crate in libraries.HEADERS:
         found += library(crate)

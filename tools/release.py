@@ -45,6 +45,7 @@ import toolchain
 import verify_evidence
 import version
 from sfi_check import _built  # which installed.py finds
+from suygapid import native
 
 MACHINE = "x86_64-linux"
 # What tools/build_page.py and tools/build_node.py make.
@@ -78,6 +79,10 @@ def built_files():
         if lacking:
             fail(f"{name}, which docs/EMBEDDING.md says is in a release, can't be made: {' and '.join(lacking)} isn't there")
         found.append(os.path.relpath(maker.make(), TOP))
+    host = native.make()
+    if host is None:
+        fail("the host of native code can't be built here")
+    found.append(os.path.relpath(host, TOP))
     empty = [path for path in found if not (TOP / path).stat().st_size]
     if empty:
         fail(f"{empty[0]} has 0 bytes")

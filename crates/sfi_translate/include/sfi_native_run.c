@@ -11,20 +11,19 @@ enum { SERVICE_EXIT = 0, CALL_SIZE = 4, SLACK = 1020 }; /* SLACK: docs/IMAGE.md,
 enum { MAGIC_SIZE = 4, COUNT_SIZE = 4, FIELDS_SIZE = 28, GATE_SIZE = 8 }; /* docs/IMAGE.md, the layout */
 enum { WORD_SIZE = 4, FOOTER_SIZE = 16, NAME_AT = 5, BELOW_END = 16 }; /* the table of names; where the first stack pointer is */
 
+#ifdef SFI_IMAGE /* else an includer has the image, and the sandboxes: tools/suygapid/native/exec.c */
 static const uint8_t image_bytes[] = {
 #include SFI_IMAGE
 };
+static const size_t image_size = sizeof image_bytes;
+#endif
 
-/* A sandbox of a world. `number` and `address` are those of an exit or trap. */
+/* A sandbox, of which a world is an array. `number` and `address` are those of an exit or trap. */
 struct native_sandbox {
     const struct sfi_sandbox *text;
     struct sfi_hart hart;
     uint64_t steps;
     uint32_t kind, number, address;
-};
-
-struct native_world {
-    struct native_sandbox sandboxes[SFI_SANDBOXES];
 };
 
 /* ---- the image */
@@ -38,22 +37,22 @@ static uint32_t word_at(const uint8_t *bytes) {
 /* Whether the text is that of an image with these bytes: in all but its instructions. */
 static bool is_text_of_image(void) {
     size_t at = MAGIC_SIZE + COUNT_SIZE;
-    if (sizeof image_bytes < at || word_at(image_bytes + MAGIC_SIZE) != SFI_SANDBOXES)
+    if (image_size < at || word_at(image_bytes + MAGIC_SIZE) != SFI_SANDBOXES)
         return false;
     for (uint32_t number = 0; number < SFI_SANDBOXES; number++) {
         const struct sfi_sandbox *s = &sfi_sandboxes[number];
         const size_t gates = (size_t)s->gates * GATE_SIZE, rest = FIELDS_SIZE + gates + s->code_size + s->init;
-        if (sizeof image_bytes - at < rest || memcmp(image_bytes + at, &s->code, FIELDS_SIZE) ||
+        if (image_size - at < rest || memcmp(image_bytes + at, &s->code, FIELDS_SIZE) ||
             memcmp(image_bytes + at + FIELDS_SIZE, s->gate, gates) ||
             memcmp(image_bytes + at + rest - s->init, s->first_data, s->init))
             return false;
         at += rest;
     }
-    return at == sizeof image_bytes;
+    return at == image_size;
 }
 
 static bool is_image(const uint8_t *image, size_t length) {
-    return length == sizeof image_bytes && memcmp(image, image_bytes, length) == 0;
+    return length == image_size && memcmp(image, image_bytes, length) == 0;
 }
 
 static bool has_words(void) {
@@ -69,7 +68,7 @@ static bool has_stack(void) {
 static struct native_sandbox *sandbox_at(struct sfi_run_world *world, uint32_t number) {
     if (world->held == 0 || number >= SFI_SANDBOXES)
         return NULL;
-    return &((struct native_world *)world->at)->sandboxes[number];
+    return &((struct native_sandbox *)world->at)[number];
 }
 
 static bool is_unit(const struct sfi_sandbox *s, uint32_t pc) {
@@ -171,7 +170,7 @@ uint32_t sfi_native_load(struct sfi_run_world *world) {
     sfi_run_free(world);
     if (!is_text_of_image())
         return SFI_NATIVE_OTHER_IMAGE;
-    world->at = calloc(1, sizeof(struct native_world));
+    world->at = calloc(SFI_SANDBOXES, sizeof(struct native_sandbox));
     if (world->at == NULL)
         return SFI_RUN_NO_MEMORY;
     world->held = 1;

@@ -7,8 +7,8 @@ Standard input and output are the programs'. After what `sfi exec` says of a tra
 --where`, and one for the address of an access. Where the registers tell the line of the caller it comes last, and else, where no line
 is known of the pc, that of the return address in x1.
 
-With a folder, a variable or words one program is run, by the library libsfi_run, whose host has files, a clock and random bytes:
-bindings/python/sfi_run/files.py.
+With a folder, a variable or words one program is run, whose host has files, a clock and random bytes: by the library libsfi_run,
+bindings/python/sfi_run/files.py. Where tools/build_native.py has built a host of native code one program is run by that instead.
 """
 import argparse
 import os
@@ -18,6 +18,7 @@ import sys
 import tempfile
 
 from sfi_run import frames
+from suygapid import native
 from suygapid.cc.compilers import Failed, tell
 from suygapid.commands.options import add_program
 from suygapid.elf.elf import Elf, Wrong
@@ -58,6 +59,7 @@ def parsed(words):
     parser.add_argument("--dir", action="append", default=[], type=folder, metavar="HOST[=GUEST][:ro]",
                         help="a folder that the program sees, as GUEST, or else as /; with :ro it changes nothing there")
     parser.add_argument("--env", action="append", default=[], type=variable, metavar="NAME=VALUE", help="a variable that it sees")
+    parser.add_argument("--interpret", action="store_true", help="go step by step, not by native code")
     add_program(parser)
     end = words.index("--") if "--" in words else len(words)
     options = parser.parse_args(words[:end])
@@ -66,6 +68,31 @@ def parsed(words):
     if options.has_host and len(options.programs) > 1:
         parser.error("--dir, --env and words behind -- are for one program")
     return options
+
+
+def with_instruction(options, made, said):
+    """What is said of where a program stands, with the instruction there, as `sfi exec` says it."""
+    pc = PLACE.search(said.decode()).group(2)
+    listing = subprocess.run([options.program, "dis"], input=as_text(made), stdout=subprocess.PIPE, check=False).stdout.decode()
+    line = next((it for it in listing.splitlines() if it.startswith(f"{pc} ")), pc)
+    return said.replace(f"pc={pc}\n".encode(), f"pc={line}\n".encode())
+
+
+def run_natively(options, made):
+    """The same by native code; None where that can't be."""
+    if options.interpret or len(options.programs) > 1 or not native.is_ready():
+        return None
+    folders = [word for host, guest, is_read_only in options.dir for word in ("--dir", host, guest, "ro" if is_read_only else "rw")]
+    variables = [word for name, value in dict(options.env).items() for word in ("--env", f"{name}={value}")]
+    words = [os.path.basename(options.programs[0]), *options.words]
+    serves = "files" if options.has_host else "console"
+    try:
+        found = native.run(options.program, made, as_text(made), [serves, *folders, *variables, "--", *words], options.budget)
+    except OSError as error:
+        raise Failed(FAULT, f"{options.program} can't be run: {error.strerror}") from error
+    if found is not None and found[0] < 0:
+        raise Failed(FAULT, f"the host of native code ended by signal {-found[0]}")
+    return (found[0], with_instruction(options, made, found[1])) if found and found[1] and not options.has_host else found
 
 
 def run(options, made):
@@ -101,8 +128,8 @@ def told(programs, said):
 
 def state_text(now):
     """The pc and the registers, as `sfi exec` tells them."""
-    texts = [f"x{number}={now.x[number]:08x}" for number in range(1, 32)]
-    return f"sandbox=0 pc={now.pc:08x}\n" + "".join(" ".join(texts[at:at + 8]) + "\n" for at in range(0, 32, 8))
+    texts = [f"x{number}={now.x[number]:08x}" for number in range(32)]
+    return f"sandbox=0 pc={now.pc:08x}\n" + "".join(" ".join(texts[max(at, 1):at + 8]) + "\n" for at in range(0, 32, 8))
 
 
 def run_with_files(options, made):
@@ -127,7 +154,8 @@ def main():
     options = parsed(sys.argv[1:])
     try:
         programs = [Elf(path) for path in options.programs]
-        status, said = (run_with_files if options.has_host else run)(options, image(programs))
+        made = image(programs)
+        status, said = run_natively(options, made) or (run_with_files if options.has_host else run)(options, made)
         tell(said)
         tell("".join(told(programs, said.decode("ascii", "replace"))).encode())
     except (Failed, Wrong, OSError) as error:

@@ -1,0 +1,57 @@
+"""The host of sfi-exec that runs native code, for Linux on x86-64: exec.c, and how it is built and started. Where it isn't built, or
+can't run an image, sfi-exec goes step by step."""
+import os
+import platform
+import shutil
+import subprocess
+import sys
+import tempfile
+from typing import Optional, Sequence
+
+from suygapid import TOP
+
+HERE = os.path.dirname(os.path.abspath(__file__))
+SOURCE, HOST = os.path.join(HERE, "exec.c"), os.path.join(HERE, "out", "exec")
+INCLUDED = tuple(os.path.join(TOP, "crates", it, "include") for it in ("sfi_native", "sfi_translate", "sfi_run", "sfi_c"))
+FLAGS = ("-std=gnu11", "-O2", "-Wall", "-Wextra", "-Wno-unused-function")
+LOADED = b"loaded\n"  # what the host tells first of an image that it can run
+NO_BUDGET = str((1 << 64) - 1)
+
+
+def is_possible() -> bool:
+    """Whether this machine runs such code."""
+    return sys.platform == "linux" and platform.machine() == "x86_64"
+
+
+def is_ready() -> bool:
+    """Whether the host is built, and this machine can start it."""
+    return is_possible() and os.access(HOST, os.X_OK)
+
+
+def make() -> Optional[str]:
+    """Builds the host, where this machine runs it and has a compiler and the headers. Returns its path, or None where there is none."""
+    compiler = os.environ.get("CC") or next((it for it in ("gcc", "clang") if shutil.which(it)), None)
+    if is_possible() and compiler is not None and all(os.path.isdir(it) for it in INCLUDED):
+        os.makedirs(os.path.dirname(HOST), exist_ok=True)
+        fresh = f"{HOST}.{os.getpid()}"
+        subprocess.run([compiler, *FLAGS, *(f"-I{it}" for it in INCLUDED), SOURCE, "-o", fresh], check=True)
+        os.replace(fresh, HOST)
+    return HOST if is_ready() else None
+
+
+def run(program: str, image: bytes, text: bytes, options: Sequence[str], budget: Optional[str]) -> Optional[tuple[int, bytes]]:
+    """Has the program sfi compile the image, of which `text` is the text that it reads, and runs it by these options of exec.c: the
+    status, and what is told of a run that didn't exit. None where the image isn't accepted, or can't be run so."""
+    with tempfile.TemporaryDirectory() as folder:
+        paths = [os.path.join(folder, it) for it in ("image", "native")]
+        with open(paths[0], "wb") as file:
+            file.write(image)
+        with open(paths[1], "wb") as file:
+            if subprocess.run([program, "native"], input=text, stdout=file, stderr=subprocess.DEVNULL, check=False).returncode != 0:
+                return None
+        reading, writing = os.pipe()
+        with open(reading, "rb") as told:
+            with subprocess.Popen([HOST, *paths, str(writing), budget or NO_BUDGET, *options], pass_fds=[writing]) as host:
+                os.close(writing)
+                said = told.read()
+            return (host.returncode, said.removeprefix(LOADED)) if said.startswith(LOADED) else None

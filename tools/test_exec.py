@@ -1,0 +1,97 @@
+"""Tests of sfi-exec by native code, beside the same runs step by step: `tools/unit_tests.py tools test_exec.py`. They are skipped where
+this isn't Linux on x86-64, or a compiler or the program isn't there."""
+import os
+import subprocess
+import unittest
+
+from suygapid import native
+from testing import SFI, SFI_CC, TOOLS, TOP, Folder, needs_a_compiler, needs_program
+
+SFI_EXEC = str(TOOLS / "sfi-exec")
+# What a program does by its first byte of input. Each way is one of `sfi exec` to end, or a service.
+SOURCE = r"""
+#include "gates.h"
+#include <stdio.h>
+#include <stdlib.h>
+int main(void) {
+    unsigned word = 0;
+    static char block[70000];
+    switch (getchar()) {
+    case 'r': exit(300);
+    case 't': __asm__ volatile("lw a0, 1020(sp)" ::: "a0"); break; /* above the data, where the stack begins */
+    case 'b': __builtin_trap();
+    case 'l': for (;;) word++;
+    case 'm':
+        for (int k = 0; k < 20; k++) printf("%d", (int)post_word(0, 10 + k));
+        for (int k = 0; k < 20; k++) { struct taken_word it = take_word(); printf(" %u:%u", it.sender, it.word); }
+        printf(" %d\n", (int)post_word(1, 5));
+        yield_turn();
+        break;
+    case 'e': for (int byte; (byte = getchar()) != EOF;) putchar(byte ^ 32); break;
+    case 'p': printf("%d %d\n", (int)put(block, 70000), (int)put((char *)4, 8)); break;
+    default: return 7;
+    }
+    return 0;
+}
+"""
+
+
+@unittest.skipUnless(native.is_possible(), "this isn't Linux on x86-64")
+@needs_program
+@needs_a_compiler
+class Natively(Folder):
+    @classmethod
+    def setUpClass(cls):
+        native.make()
+
+    def setUp(self):
+        super().setUp()
+        self.log = self.path("log")
+        self.program = self.write("sfi", f'#!/bin/sh\necho "$1" >> {self.log}\nexec {SFI} "$@"\n', 0o755)
+
+    def built(self, source, *words):
+        program = self.path("program.elf")
+        subprocess.run([SFI_CC, "--program", SFI, "-O1", "-w", *words, "-o", program, source], check=True)
+        return program
+
+    def ran(self, words, given=b"", stdout=subprocess.PIPE):
+        """The status of sfi-exec, what was printed, and the commands of sfi that it took."""
+        open(self.log, "w", encoding="utf-8").close()
+        done = subprocess.run([SFI_EXEC, "--program", self.program, *words], input=given, stdout=stdout, stderr=subprocess.PIPE, check=False)
+        return (done.returncode, done.stdout, done.stderr), self.read("log").split()
+
+    def check_both(self, words, **more):
+        """Runs both ways, and returns what they have in common."""
+        natively, commands = self.ran(words, **more)
+        interpreted, others = self.ran(["--interpret", *words], **more)
+        self.assertEqual(natively, interpreted, words)
+        self.assertIn(commands, (["native"], ["native", "dis"]))  # the latter where it tells where it stands
+        self.assertNotIn("native", others)
+        return natively
+
+    def test_ways_to_end(self):
+        program = self.built(self.write("program.c", SOURCE), "-I", str(TOP / "examples" / "c"))
+        for way, status in {"r": 300 & 0xFF, "t": 126, "b": 126, "m": 0, "e": 0, "p": 0, "": 7}.items():
+            given = (way + "Some Input\n" * 90).encode() if way else b""
+            self.assertEqual(self.check_both([program], given=given)[0], status, way)
+        steps = int(self.check_both([program], given=b"t")[2].split(b"steps=")[1].split()[0])
+        self.assertEqual([self.check_both([program, "--budget", str(steps + it)], given=b"t")[0] for it in (0, 1)], [124, 126])
+        self.assertEqual(self.check_both([program, "--budget", "123457"], given=b"l")[0], 124)
+
+    def test_full_output(self):
+        program = self.built(str(TOP / "examples" / "c" / "hello.c"))
+        with open("/dev/full", "wb") as full:
+            self.assertEqual(self.check_both([program], stdout=full)[0], 125)
+
+    def test_what_is_interpreted(self):
+        program = self.built(str(TOP / "examples" / "c" / "hello.c"))
+        os.rename(program, self.path("first.elf"))
+        other = self.built(str(TOP / "examples" / "c" / "hello.c"), "--sandbox", "1")
+        self.assertEqual(self.ran([self.path("first.elf"), other]), ((0, b"Hello, world\n" * 2, b""), ["exec"]))
+        self.assertEqual(self.ran(["--interpret", other]), ((0, b"Hello, world\n", b""), ["exec"]))
+        small = self.built(self.write("small.c", "int main(void) { return 5; }"), "--stack", "256", "--data", "512")
+        self.assertEqual(self.ran([small]), ((5, b"", b""), ["native", "exec"]))
+
+
+if __name__ == "__main__":
+    unittest.main()
