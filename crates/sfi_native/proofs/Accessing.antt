@@ -3,7 +3,7 @@ use Rattle.std.proofs.Common.{◌≡◌, ℕ, zero, suc, ◌+◌, ◌-◌, ◌*�
 use Rattle.std.specs.Prelude.{ℤ, pos, negsuc, is_some}
 use Rattle.std.specs.List.{range_with_len}
 use Rattle.std.specs.Option.{option_map}
-use Rattle.std.proofs.lemmas.Bool.{false≢true, leb-true, le-ltb, lt-ltb}
+use Rattle.std.proofs.lemmas.Bool.{false≢true, leb-true, le-ltb, lt-ltb, ne_eqb}
 use Rattle.std.proofs.lemmas.Int.{ints}
 use Rattle.rv_word.specs.Spelling.{IsImm12, offset_by}
 unfoldable use Rattle.rv_word.specs.Spelling.{InRange}
@@ -12,12 +12,15 @@ use Rattle.rv_step.specs.Step.{word}
 use Rattle.sfi_image.specs.Parts.{HasGuardRoom}
 use Rattle.sfi_image.specs.Spelling.{Part}
 use Rattle.sfi_translate.specs.Machine.{Going, is_tested}
-use Rattle.x86_step.specs.State.{Core, joined, number_at, with_register}
+use Rattle.x86_instr.specs.declared.operand.Register.{Register}
+use Rattle.x86_instr.specs.Spelling.{number}
+use Rattle.x86_step.specs.State.{Core, joined, number_at}
 use Rattle.x86_step.specs.Step.{address, sign_extended}
 unfoldable use Rattle.x86_step.specs.Step.{computes}
 use Rattle.sfi_native.specs.declared.layout.Layout.{Layout}
-use Rattle.sfi_native.specs.Layout.{IsLayout, IsRelated, value}
+use Rattle.sfi_native.specs.Layout.{IsLayout, IsRelated, origin, value}
 use Rattle.sfi_native.specs.Code.{data_address}
+use Rattle.sfi_native.proofs.Kept.{Kept}
 
 -- ==== Bytes that both have.
 
@@ -86,6 +89,10 @@ module _ (a base size n start : ℕ) (low : 4096 ≤ base) (high : base + size +
       let far : sign_extended (word (negsuc k)) ≡ 2 ^ 64 - 1 - k = ap sign_extended d ∙ (rw (le-ltb (2 ^ 32 - 1 - k) (2 ^ 31) (omega (arith, small))) (omega (arith, small))) in
       omega (arith, far, whole, at.0, at.1, ends, low, high, small)
 
+pub address_is : (d : Core) (x : Register) (n o a : ℕ) → d.registers 15 ≡ o → (number x ≡ 4 → ⊥) → d.registers (number x) ≡ a
+    → address d (data_address x n) ≡ (o + a * 2 ^ 0 + sign_extended n) % 2 ^ 64
+address_is d x n o a base index has = rw (ne_eqb (number x) 4 index, base, has) refl
+
 -- an access of n bytes that is in the data
 module _ (p : Part) (l : Layout) (layout : IsLayout p.data_size l) (g : Going) (c : Core) (is : IsRelated p l g c) (room : HasGuardRoom p.data_base p.data_size)
     (n : ℕ) (some : 0 < n) (few : n ≤ p.data_size) (rs1 : ℕ) (imm : ℤ) (range : IsImm12 imm) (tested : is_tested p (offset_by (value p g rs1) imm) n ≡ true) where
@@ -101,9 +108,10 @@ module _ (p : Part) (l : Layout) (layout : IsLayout p.data_size l) (g : Going) (
   pub within : (p.data_base ≤ at) × (at - p.data_base + n ≤ p.data_size)
   within = inside_at (value p g rs1) p.data_base p.data_size n l.data_start room.below room.above few some (is.words rs1) (omega (arith, layout.data_ends)) at below close
 
-  pub place_is : address (with_register c 0 (value p g rs1)) (data_address (word imm)) ≡ l.data_start + (at - p.data_base)
-  place_is =
-      ap (λ o. (o + value p g rs1 * 2 ^ 0 + sign_extended (word imm)) % 2 ^ 64) is.origin_is
+  pub place_is : (d : Core) (x : Register) → Kept c d → (number x ≡ 4 → ⊥) → d.registers (number x) ≡ value p g rs1
+      → address d (data_address x (word imm)) ≡ l.data_start + (at - p.data_base)
+  place_is d x kept index has =
+      address_is d x (word imm) (origin p.data_base l) (value p g rs1) (kept.registers 15 (omega arith) ∙ is.origin_is) index has
       ∙ in_host (value p g rs1) p.data_base p.data_size n l.data_start room.below room.above few some (is.words rs1) (omega (arith, layout.data_ends)) imm range close
 
   -- what both have there

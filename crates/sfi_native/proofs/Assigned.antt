@@ -1,5 +1,5 @@
 -- Registers of the processor in which the sandbox's lie.
-use Rattle.std.proofs.Common.{◌≡◌, ℕ, zero, suc, ◌+◌, ◌*◌, ◌<◌, ◌==◌, ◌⊎◌, if◌then◌else◌, inl, inr, true, Option, Some, None, refl, sym, ap, ◌∙◌, subst, arith}
+use Rattle.std.proofs.Common.{◌≡◌, ℕ, zero, suc, ◌+◌, ◌*◌, ◌<◌, ◌≤◌, ◌==◌, ◌⊎◌, if◌then◌else◌, inl, inr, true, Option, Some, None, refl, sym, ap, ◌∙◌, subst, arith}
 use Rattle.std.specs.Prelude.{get_or, replicate, length}
 use Rattle.std.proofs.lemmas.Bool.{cases_Bool, cases_eq, cases_lt, eq-eqb, false≢true}
 use Rattle.std.proofs.lemmas.List.{get_or-replicate, get_or_past, length-replicate}
@@ -11,6 +11,7 @@ use Rattle.sfi_native.specs.declared.layout.Layout.{Layout}
 use Rattle.sfi_native.specs.declared.registers.RegisterMap.{RegisterMap}
 use Rattle.sfi_native.specs.Layout.{Holds}
 use Rattle.sfi_native.specs.Registers.{IsAssigned, IsRightMap, assigned, is_assignable, is_fixed}
+use Rattle.sfi_native.specs.Code.{register_or}
 use Rattle.sfi_native.specs.private.{IsRightAt}
 use Rattle.sfi_native.proofs.Kept.{Kept, updated_other}
 
@@ -89,6 +90,19 @@ module _ (registers : RegisterMap) (right : IsRightMap registers) where
   not_assigned k (inl low) (r, q, is, same) = let f = free r q is in omega (arith, low, f.above, same)
   not_assigned k (inr (inl high)) (r, q, is, same) = let f = free r q is in omega (arith, high, f.below, same)
   not_assigned k (inr (inr frame)) (r, q, is, same) = let f = free r q is in f.no_frame (same ∙ frame)
+
+  -- where a register is read from, or a result is computed
+  pub not_frame : (r : ℕ) (o : Option Register) → assigned registers r ≡ o → (x : Register) → number x ≤ 2 → number (register_or o x) ≡ 4 → ⊥
+  not_frame r None own x low same = omega (arith, low, same)
+  not_frame r (Some q) own x low same = (free r q own).no_frame same
+
+  pub not_free : (r : ℕ) (o : Option Register) → assigned registers r ≡ o → (x : Register) (k : ℕ) → k ≤ 2 → (number x ≡ k → ⊥) → number (register_or o x) ≡ k → ⊥
+  not_free r None own x k low other same = other same
+  not_free r (Some q) own x k low other same = omega (arith, low, same, (free r q own).above)
+
+  pub not_left : (r : ℕ) (o : Option Register) → assigned registers r ≡ o → (x : Register) → number x ≤ 2 → number (register_or o x) ≡ 14 → ⊥
+  not_left r None own x low same = omega (arith, low, same)
+  not_left r (Some q) own x low same = omega (arith, same, (free r q own).below)
 
   module _ (values : ℕ → ℕ) (f : ℕ → ℕ) where
     pub other_register : (n k : ℕ) → (IsAssigned registers k → ⊥) → with_values registers values n f k ≡ f k

@@ -48,6 +48,7 @@ module _ (p : Part) (l : Layout) (layout : IsLayout p.data_size l) (g : Going) (
     pub runs : exec count c ≡ Ok core
     pub related : IsRelated p l (counted g) core
     pub others : (k : ℕ) → (k ≡ 14 → ⊥) → core.registers k ≡ c.registers k
+    pub memory : core.memory ≡ c.memory
     pub stay : OthersStay p l c core
 
   pub counts : Counts
@@ -59,5 +60,6 @@ module _ (p : Part) (l : Layout) (layout : IsLayout p.data_size l) (g : Going) (
         runs = refl;
         related = counted_related r.result r.flags less_is;
         others = λ k other. updated_other c.registers 14 r.result k other;
+        memory = refl;
         stay = record { others = λ k more other apart. updated_other c.registers 14 r.result k other; elsewhere = λ a by_frame by_data. refl; writable = refl };
       }

@@ -14,14 +14,14 @@ use Rattle.x86_instr.specs.declared.instr.Width.TheVariants.{Dword}
 use Rattle.x86_step.specs.State.{Core, may_write, number_at, with_memory, with_register, written}
 use Rattle.x86_step.specs.Step.{address, loaded, low, stored, value as operand_value}
 unfoldable use Rattle.x86_step.specs.Step.{computes}
-use Rattle.x86_step.specs.Running.{exec}
+use Rattle.x86_step.specs.Running.{are_straight, exec}
 use Rattle.sfi_native.specs.declared.layout.Layout.{Layout}
 use Rattle.sfi_native.specs.Layout.{Holds, IsLayout, IsRelated, OthersStay, value}
-use Rattle.sfi_native.specs.Code.{bring, fetch, lies_in, operand_of, slot, store_eax, write}
+use Rattle.sfi_native.specs.Code.{bring, fetch, lies_in, operand_of, read, register_or, slot, store_eax, write}
 use Rattle.sfi_native.specs.Registers.{IsRightMap, assigned, is_fixed}
 use Rattle.sfi_native.proofs.Arithmetic.{low_is}
 use Rattle.sfi_native.proofs.Assigned.{Free, free as free_register, holds_kept, holds_on, same_register, updated_same}
-use Rattle.sfi_native.proofs.Kept.{Kept, KeptBut, Leaves, but_register, but_same, others_same, updated_other}
+use Rattle.sfi_native.proofs.Kept.{Kept, KeptBut, Leaves, but_register, but_same, kept_register, others_same, updated_other}
 use Rattle.sfi_native.proofs.Runs.{straight_runs}
 use Rattle.sfi_native.proofs.Fixed.{fixed_free, fixed_length, fixed_same}
 use Rattle.sfi_native.proofs.Memory.{load_there, may_write_each, number_elsewhere, number_written, store_there, written_elsewhere}
@@ -132,6 +132,37 @@ module _ (p : Part) (l : Layout) (layout : IsLayout p.data_size l) where
   -- a register's value in a free one
   pub fetched : (g : Going) (c : Core) (dst : Register) (r : ℕ) → r < 32 → IsRelated p l g c → exec (fetch l.registers dst r) c ≡ Ok (with_register c (number dst) (value p g r))
   fetched g c dst r small is = fetched_from g c dst r small is (assigned l.registers r) (is.registers r small)
+
+  -- register r in the register that it lies in, or read into that free one
+  pub record Reads (c : Core) (o : Option Register) (x : Register) (r v : ℕ) : Type 0 where
+    pub core : Core
+    pub straight : are_straight (read o x r) ≡ true
+    pub runs : exec (read o x r) c ≡ Ok core
+    pub result : core.registers (number (register_or o x)) ≡ v
+    pub others : (k : ℕ) → (k ≡ number x → ⊥) → core.registers k ≡ c.registers k
+    pub kept : Kept c core
+
+  reads_from : (g : Going) (c : Core) (x : Register) → number x ≤ 2 → (r : ℕ) → r < 32 → IsRelated p l g c → (o : Option Register) → Holds l c r o (value p g r)
+      → Reads c o x r (value p g r)
+  reads_from g c x low r small is None has = record {
+    core = with_register c (number x) (value p g r);
+    straight = refl;
+    runs = fetched_from g c x r small is None has;
+    result = updated_same c.registers (number x) (value p g r);
+    others = λ k other. updated_other c.registers (number x) (value p g r) k other;
+    kept = kept_register c (number x) (value p g r) low;
+  }
+  reads_from g c x low r small is (Some q) has = record {
+    core = c;
+    straight = refl;
+    runs = refl;
+    result = has;
+    others = λ k other. refl;
+    kept = record { registers = λ k more. refl; memory = refl; writable = refl };
+  }
+
+  pub reads : (g : Going) (c : Core) (x : Register) → number x ≤ 2 → (r : ℕ) → r < 32 → IsRelated p l g c → Reads c (assigned l.registers r) x r (value p g r)
+  reads g c x low r small is = reads_from g c x low r small is (assigned l.registers r) (is.registers r small)
 
   brought_from : (g : Going) (c : Core) (dst : Register) (r : ℕ) → r < 32 → IsRelated p l g c → (o : Option Register) → Holds l c r o (value p g r)
       → Leaves (number dst) (if lies_in o dst then [] else Mov Dword dst (operand_of o r) ∷ []) c (value p g r)

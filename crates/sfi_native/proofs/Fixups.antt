@@ -17,14 +17,14 @@ use Rattle.x86_instr.specs.declared.operand.Operand.TheVariants.{Mem}
 use Rattle.sfi_native.specs.Registers.{assigned}
 use Rattle.sfi_native.specs.declared.registers.RegisterMap.{RegisterMap}
 use Rattle.sfi_native.specs.declared.faults.Access.{Access}
-use Rattle.sfi_native.specs.Code.{count, data_address, fetch, load_from, slot, store_to, write, operand_of}
+use Rattle.sfi_native.specs.Code.{count, data_address, load_from, read, register_or, result_in, settle, slot, store_to}
 use Rattle.sfi_native.specs.Faults.{access_in, accesses_of, fixup_by, front_of, with_access}
 use Rattle.sfi_native.specs.Places.{AreLast, size_of, size_of_all, start}
 use Rattle.sfi_native.proofs.Places.{sizes_append}
 use Rattle.x86_instr.specs.declared.instr.Instr.{Instr as Native}
 
 -- an access is within its line
-front_below : (front back : List Native) → length (spellings front) + length (spellings back) ≡ length (spellings (front ++ back))
+pub front_below : (front back : List Native) → length (spellings front) + length (spellings back) ≡ length (spellings (front ++ back))
 front_below front back = omega (arith, ap length (spellings_append front back), length-append (spellings front) (spellings back))
 
 ends_counted : (front back : List Native) → length (spellings front) < length (spellings (front ++ (back ++ count)))
@@ -38,11 +38,20 @@ same_access x y e = cc
 
 pub within_line : (registers : RegisterMap) (line : Line) (a : Access) → access_in registers line ≡ Some a → a.offset < size_of registers line
 within_line registers (Does at n (Load kind rd rs1 imm)) a is =
+    let base = assigned registers rs1 in
+    let place = assigned registers rd in
+    let front = read base Rax rs1 in
+    let back = load_from kind (result_in place) (data_address (register_or base Rax) (word imm)) ∷ settle registers place rd in
     subst (λ x. x.offset < size_of registers (Does at n (Load kind rd rs1 imm))) (same_access _ _ is)
-    (ends_counted (fetch registers Rax rs1) (load_from kind (data_address (word imm)) ∷ write registers rd))
+    (subst (λ line. length (spellings front) < length (spellings line)) (sym (append_assoc front back count)) (ends_counted front back))
 within_line registers (Does at n (Store width rs1 rs2 imm)) a is =
+    let base = assigned registers rs1 in
+    let stored = assigned registers rs2 in
+    let one = read base Rax rs1 in
+    let two = read stored Rcx rs2 in
+    let access = store_to width (data_address (register_or base Rax) (word imm)) (register_or stored Rcx) ∷ [] in
     subst (λ x. x.offset < size_of registers (Does at n (Store width rs1 rs2 imm))) (same_access _ _ is)
-    (ends_counted (fetch registers Rax rs1 ++ fetch registers Rcx rs2) (store_to width (data_address (word imm)) ∷ []))
+    (subst (λ line. length (spellings (one ++ two)) < length (spellings line)) (append_assoc one two (access ++ count)) (ends_counted (one ++ two) access))
 within_line registers line a is = absurd (cc)
 
 -- and stands behind its front
@@ -93,73 +102,33 @@ slot_size m r small some =
 
 -- ---- from the frame
 
-pub eax_zero : (registers : RegisterMap) (r : ℕ) (o : Option Register) → r ≡ 0 → o ≡ assigned registers r → o ≡ None → 3 ≡ length (spellings (fetch registers Rax r))
+pub eax_zero : (registers : RegisterMap) (r : ℕ) (o : Option Register) → r ≡ 0 → o ≡ assigned registers r → o ≡ None → 3 ≡ length (spellings (read (assigned registers r) Rax r))
 unfolding spelling rex memory
-eax_zero registers r o zero is none = subst (λ x. 3 ≡ length (spellings (Mov Dword Rax (operand_of x r) ∷ []))) (sym none ∙ is) (rw zero refl)
+eax_zero registers r o zero is none = subst (λ x. 3 ≡ length (spellings (read x Rax r))) (sym none ∙ is) (rw zero refl)
 
-pub ecx_zero : (registers : RegisterMap) (r : ℕ) (o : Option Register) → r ≡ 0 → o ≡ assigned registers r → o ≡ None → 3 ≡ length (spellings (fetch registers Rcx r))
+pub ecx_zero : (registers : RegisterMap) (r : ℕ) (o : Option Register) → r ≡ 0 → o ≡ assigned registers r → o ≡ None → 3 ≡ length (spellings (read (assigned registers r) Rcx r))
 unfolding spelling rex memory
-ecx_zero registers r o zero is none = subst (λ x. 3 ≡ length (spellings (Mov Dword Rcx (operand_of x r) ∷ []))) (sym none ∙ is) (rw zero refl)
+ecx_zero registers r o zero is none = subst (λ x. 3 ≡ length (spellings (read x Rcx r))) (sym none ∙ is) (rw zero refl)
 
-pub eax_some : (registers : RegisterMap) (r : ℕ) (o : Option Register) → r < 32 → (r ≡ 0 → ⊥) → o ≡ assigned registers r → o ≡ None → 4 ≡ length (spellings (fetch registers Rax r))
+pub eax_some : (registers : RegisterMap) (r : ℕ) (o : Option Register) → r < 32 → (r ≡ 0 → ⊥) → o ≡ assigned registers r → o ≡ None → 4 ≡ length (spellings (read (assigned registers r) Rax r))
 unfolding spelling rex
 eax_some registers r o small some is none =
     let size : 4 ≡ length (spellings (Mov Dword Rax (Mem (slot r)) ∷ [])) = omega (arith, slot_size 0 r small some, ap length (append-nil (memory 0 (slot r)))) in
-    subst (λ x. 4 ≡ length (spellings (Mov Dword Rax (operand_of x r) ∷ []))) (sym none ∙ is) size
+    subst (λ x. 4 ≡ length (spellings (read x Rax r))) (sym none ∙ is) size
 
-pub ecx_some : (registers : RegisterMap) (r : ℕ) (o : Option Register) → r < 32 → (r ≡ 0 → ⊥) → o ≡ assigned registers r → o ≡ None → 4 ≡ length (spellings (fetch registers Rcx r))
+pub ecx_some : (registers : RegisterMap) (r : ℕ) (o : Option Register) → r < 32 → (r ≡ 0 → ⊥) → o ≡ assigned registers r → o ≡ None → 4 ≡ length (spellings (read (assigned registers r) Rcx r))
 unfolding spelling rex
 ecx_some registers r o small some is none =
     let size : 4 ≡ length (spellings (Mov Dword Rcx (Mem (slot r)) ∷ [])) = omega (arith, slot_size 1 r small some, ap length (append-nil (memory 1 (slot r)))) in
-    subst (λ x. 4 ≡ length (spellings (Mov Dword Rcx (operand_of x r) ∷ []))) (sym none ∙ is) size
+    subst (λ x. 4 ≡ length (spellings (read x Rcx r))) (sym none ∙ is) size
 
--- ---- from another register
+-- ---- where it lies in a register
 
-rex_size : (n : ℕ) → length (rex n) ≡ (if n == 0 then 0 else 1)
-unfolding rex
-rex_size n = by (n == 0)
-  where
-    by : (t : Bool) → length (if t then [] else (64 + n) ∷ []) ≡ (if t then 0 else 1)
-    by true = refl
-    by false = refl
+pub eax_lies : (registers : RegisterMap) (r : ℕ) (q : Register) (o : Option Register) → o ≡ assigned registers r → o ≡ Some q → 0 ≡ length (spellings (read (assigned registers r) Rax r))
+eax_lies registers r q o is own = subst (λ x. 0 ≡ length (spellings (read x Rax r))) (sym own ∙ is) refl
 
--- the size of a move between registers
-move_size : (n a b : ℕ) → length ((rex n ++ a ∷ b ∷ []) ++ []) ≡ (if n == 0 then 0 else 1) + 2
-move_size n a b = omega (arith, ap length (append-nil (rex n ++ a ∷ b ∷ [])), length-append (rex n) (a ∷ b ∷ []), rex_size n)
-
-from_low : (q : Register) → number q < 8 → (0 + number q / 8 == 0) ≡ true
-from_low q low = eq-eqb (0 + number q / 8) 0 (omega (arith, low))
-
-from_high : (q : Register) → (number q < 8 → ⊥) → (0 + number q / 8 == 0) ≡ false
-from_high q high = ne_eqb (0 + number q / 8) 0 (λ e. high (omega (arith, e)))
-
-module _ (registers : RegisterMap) (r : ℕ) (q : Register) (o : Option Register) (is : o ≡ assigned registers r) (own : o ≡ Some q) where
-  pub eax_low : number q < 8 → 2 ≡ length (spellings (fetch registers Rax r))
-  unfolding spelling
-  eax_low low =
-      subst (λ x. 2 ≡ length (spellings (Mov Dword Rax (operand_of x r) ∷ []))) (sym own ∙ is)
-      (sym (move_size (0 + number q / 8) 0x8B (modrm 3 0 (number q)) ∙ ap (λ t. (if t then 0 else 1) + 2) (from_low q low)))
-
-  pub eax_high : (number q < 8 → ⊥) → 3 ≡ length (spellings (fetch registers Rax r))
-  unfolding spelling
-  eax_high high =
-      subst (λ x. 3 ≡ length (spellings (Mov Dword Rax (operand_of x r) ∷ []))) (sym own ∙ is)
-      (sym (move_size (0 + number q / 8) 0x8B (modrm 3 0 (number q)) ∙ ap (λ t. (if t then 0 else 1) + 2) (from_high q high)))
-
-  pub ecx_low : number q < 8 → 2 ≡ length (spellings (fetch registers Rcx r))
-  unfolding spelling
-  ecx_low low =
-      subst (λ x. 2 ≡ length (spellings (Mov Dword Rcx (operand_of x r) ∷ []))) (sym own ∙ is)
-      (sym (move_size (0 + number q / 8) 0x8B (modrm 3 1 (number q)) ∙ ap (λ t. (if t then 0 else 1) + 2) (from_low q low)))
-
-  pub ecx_high : (number q < 8 → ⊥) → 3 ≡ length (spellings (fetch registers Rcx r))
-  unfolding spelling
-  ecx_high high =
-      subst (λ x. 3 ≡ length (spellings (Mov Dword Rcx (operand_of x r) ∷ []))) (sym own ∙ is)
-      (sym (move_size (0 + number q / 8) 0x8B (modrm 3 1 (number q)) ∙ ap (λ t. (if t then 0 else 1) + 2) (from_high q high)))
-
-store_size : (registers : RegisterMap) (rs1 rs2 : ℕ) → length (spellings (fetch registers Rax rs1 ++ fetch registers Rcx rs2)) ≡ length (spellings (fetch registers Rax rs1)) + length (spellings (fetch registers Rcx rs2))
-store_size registers rs1 rs2 = sym (front_below (fetch registers Rax rs1) (fetch registers Rcx rs2))
+pub ecx_lies : (registers : RegisterMap) (r : ℕ) (q : Register) (o : Option Register) → o ≡ assigned registers r → o ≡ Some q → 0 ≡ length (spellings (read (assigned registers r) Rcx r))
+ecx_lies registers r q o is own = subst (λ x. 0 ≡ length (spellings (read x Rcx r))) (sym own ∙ is) refl
 
 access_behind : (from : ℕ) (o : Option Access) (others : List Access) → with_access from o others ≡ with_access from o [] ++ others
 access_behind from None others = refl

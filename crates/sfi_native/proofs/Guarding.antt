@@ -1,5 +1,5 @@
 -- The code of accesses that touch a guard zone.
-use Rattle.std.proofs.Common.{◌≡◌, ℕ, zero, suc, ◌+◌, ◌-◌, ◌*◌, ◌%◌, ◌^◌, ◌<◌, ◌≤◌, true, Option, Some, None, List, ◌∷◌, ◌++◌, refl, ap, ◌∙◌, sym, arith, inl, inr, length}
+use Rattle.std.proofs.Common.{◌≡◌, ℕ, zero, suc, ◌+◌, ◌-◌, ◌*◌, ◌%◌, ◌^◌, ◌<◌, ◌≤◌, true, Option, Some, None, List, ◌∷◌, ◌++◌, [], refl, ap, ◌∙◌, sym, subst, append_assoc, arith, inl, inr, length}
 use Rattle.std.specs.Prelude.{Err, ℤ, pos, negsuc, int_le, ◌+ℤ◌, nat_le}
 use Rattle.std.proofs.lemmas.Bool.{cases_Bool, cases_lt, leb-false, le-ltb, lt-ltb}
 use Rattle.std.proofs.lemmas.Int.{ints}
@@ -14,7 +14,9 @@ use Rattle.rv_step.specs.Step.{load_size, store_size, word}
 use Rattle.sfi_image.specs.Spelling.{Part}
 use Rattle.sfi_safe_runs.proofs.Accessing.{load_sized, store_sized}
 use Rattle.sfi_translate.specs.Machine.{Going, Slow, goes_with}
+use Rattle.x86_instr.specs.declared.operand.Register.{Register}
 use Rattle.x86_instr.specs.declared.operand.Register.TheVariants.{Rax, Rcx}
+use Rattle.x86_instr.specs.Spelling.{number}
 use Rattle.x86_instr.specs.declared.operand.Address.{Address}
 use Rattle.x86_instr.specs.declared.instr.Instr.{Instr as Native}
 use Rattle.x86_instr.specs.Spelling.{spelling}
@@ -24,15 +26,17 @@ use Rattle.x86_step.specs.Step.{address, effect, loaded, resumed, sign_extended}
 unfoldable use Rattle.x86_step.specs.Step.{computes}
 use Rattle.x86_step.specs.Running.{spellings}
 use Rattle.x86_step.proofs.Facts.{faults_resume}
-use Rattle.x86_step.proofs.Running.{exec_append, has_front, in_more}
+use Rattle.x86_step.proofs.Running.{has_front, in_more}
 use Rattle.sfi_native.specs.declared.layout.Layout.{Layout}
-use Rattle.sfi_native.specs.Layout.{GuardsAreEmpty, IsLayout, IsRelated, value}
+use Rattle.sfi_native.specs.Layout.{GuardsAreEmpty, IsLayout, IsRelated, origin, value}
 use Rattle.sfi_native.specs.Laws.{FaultingLinesRun, IsBefore, TouchesGuards, LeadsTo, end_of, line_most}
-use Rattle.sfi_native.specs.Code.{count, data_address, fetch, load_from, store_to, write}
-use Rattle.sfi_native.proofs.Accessing.{negative_small, positive_small}
-use Rattle.sfi_native.proofs.Fetching.{fetched, related_goes, related_kept}
+use Rattle.sfi_native.specs.Code.{count, data_address, load_from, read, register_or, result_in, settle, store_to}
+use Rattle.sfi_native.specs.Registers.{assigned}
+use Rattle.sfi_native.proofs.Accessing.{address_is, negative_small, positive_small}
+use Rattle.sfi_native.proofs.Assigned.{not_frame, not_free}
+use Rattle.sfi_native.proofs.Fetching.{reads, related_goes, related_kept}
 use Rattle.sfi_native.proofs.Kept.{Kept, kept_join, kept_register, others_kept}
-use Rattle.sfi_native.proofs.Runs.{Runs, back_fixed, back_stands, straight_runs, then_reaches}
+use Rattle.sfi_native.proofs.Runs.{Runs, back_fixed, back_stands, runs_join, straight_runs, then_reaches}
 use Rattle.sfi_native.proofs.Lengths.{front_few}
 
 -- ==== Bytes that aren't there.
@@ -114,30 +118,28 @@ module _ (p : Part) (l : Layout) (layout : IsLayout p.data_size l) (g : Going) (
         (guards.above (place + (n - 1)) (omega (arith, over, behind, some)) (omega (arith, close, behind, some)))
   ]
 
-  -- whatever the free registers but eax have
-  pub faults : (d : Core) → d.registers 0 ≡ value p g rs1 → Kept c d → loaded d n (address d (data_address (word imm))) ≡ Err Fault
-  faults d in_eax kept =
-      let origin_is = kept.registers 15 (omega arith) ∙ is.origin_is in
-      let there : address d (data_address (word imm)) ≡ place =
-      ap (λ o. (o + d.registers 0 * 2 ^ 0 + sign_extended (word imm)) % 2 ^ 64) origin_is
-      ∙ ap (λ a. ((l.data_start + (2 ^ 64 - p.data_base)) % 2 ^ 64 + a * 2 ^ 0 + sign_extended (word imm)) % 2 ^ 64) in_eax ∙ reach.place in
+  -- whatever the other free registers have
+  pub faults : (d : Core) (x : Register) → (number x ≡ 4 → ⊥) → d.registers (number x) ≡ value p g rs1 → Kept c d → loaded d n (address d (data_address x (word imm))) ≡ Err Fault
+  faults d x index has kept =
+      let there : address d (data_address x (word imm)) ≡ place =
+      address_is d x (word imm) (origin p.data_base l) (value p g rs1) (kept.registers 15 (omega arith) ∙ is.origin_is) index has ∙ reach.place in
       ap (loaded d n) there ∙ load_missing d n place (ap (λ m. number_at m n place) kept.memory ∙ missing)
 
 -- ==== The instruction.
 
-load_faults : (kind : LoadKind) (a : Address) (after : ℕ) (c : Core) → loaded c (load_size kind) (address c a) ≡ Err Fault → effect (load_from kind a) after c ≡ Err Fault
+load_faults : (kind : LoadKind) (dst : Register) (a : Address) (after : ℕ) (c : Core) → loaded c (load_size kind) (address c a) ≡ Err Fault → effect (load_from kind dst a) after c ≡ Err Fault
 unfolding computes
-load_faults Lb a after c is = rw is refl
-load_faults Lh a after c is = rw is refl
-load_faults Lw a after c is = rw is refl
-load_faults Lbu a after c is = rw is refl
-load_faults Lhu a after c is = rw is refl
+load_faults Lb dst a after c is = rw is refl
+load_faults Lh dst a after c is = rw is refl
+load_faults Lw dst a after c is = rw is refl
+load_faults Lbu dst a after c is = rw is refl
+load_faults Lhu dst a after c is = rw is refl
 
-store_faults : (width : StoreWidth) (a : Address) (after : ℕ) (c : Core) → loaded c (store_size width) (address c a) ≡ Err Fault → effect (store_to width a) after c ≡ Err Fault
+store_faults : (width : StoreWidth) (a : Address) (src : Register) (after : ℕ) (c : Core) → loaded c (store_size width) (address c a) ≡ Err Fault → effect (store_to width a src) after c ≡ Err Fault
 unfolding computes
-store_faults Sb a after c is = rw is refl
-store_faults Sh a after c is = rw is refl
-store_faults Sw a after c is = rw is refl
+store_faults Sb a src after c is = rw is refl
+store_faults Sh a src after c is = rw is refl
+store_faults Sw a src after c is = rw is refl
 
 -- Behind code that only changes free registers, an instruction that faults goes on by its fixup.
 goes_on : (p : Part) (l : Layout) (t : Text) (at : ℕ) (front back : List Native) (access : Native) (f : Fixup) (g : Going) (address : ℕ) (c d : Core)
@@ -162,28 +164,39 @@ goes_on p l t at front back access f g address c d here runs kept faults few has
 pub faulting_lines_run : FaultingLinesRun
 unfolding InRange
 faulting_lines_run target p code rest address size (Load kind rd rs1 imm) distance out f l t at g c range access here has =
-    let a = value p g rs1 in
-    let front = fetch l.registers Rax rs1 in
-    let d = with_register c 0 a in
-    let kept = kept_register c 0 a (omega arith) in
+    let o = assigned l.registers rs1 in
+    let place = assigned l.registers rd in
+    let x = register_or o Rax in
+    let to = data_address x (word imm) in
+    let load = load_from kind (result_in place) to in
+    let front = read o Rax rs1 in
+    let first = reads p l here.layout g c Rax (omega arith) rs1 range.1 here.related in
+    let index = not_frame l.registers here.layout.registers_are_right rs1 o refl Rax (omega arith) in
+    let stands = subst (λ is. IsBefore is t at p l g c) (append_assoc front (load ∷ settle l.registers place rd) count) here in
     rw access.tested
-    (goes_on p l t at front (write l.registers rd ++ count) (load_from kind (data_address (word imm))) f g address c d here
-    (straight_runs front c d refl (fetched p l here.layout g c Rax rs1 range.1 here.related)) kept
-    (λ after. load_faults kind (data_address (word imm)) after d
-    (faults p l here.layout g c here.related here.guards (load_size kind) (load_sized kind).some rs1 imm range.2 access d refl kept)) (omega (arith, front_few l.registers (Load kind rd rs1 imm))) has)
+    (goes_on p l t at front (settle l.registers place rd ++ count) load f g address c first.core stands
+    (straight_runs front c first.core first.straight first.runs) first.kept
+    (λ after. load_faults kind (result_in place) to after first.core
+    (faults p l here.layout g c here.related here.guards (load_size kind) (load_sized kind).some rs1 imm range.2 access first.core x index first.result first.kept)) (omega (arith, front_few l.registers (Load kind rd rs1 imm))) has)
 faulting_lines_run target p code rest address size (Store width rs1 rs2 imm) distance out f l t at g c range access here has =
-    let a = value p g rs1 in
-    let b = value p g rs2 in
-    let front = fetch l.registers Rax rs1 ++ fetch l.registers Rcx rs2 in
-    let c1 = with_register c 0 a in
-    let d = with_register c1 1 b in
-    let first = kept_register c 0 a (omega arith) in
-    let kept = kept_join c c1 d first (kept_register c1 1 b (omega arith)) in
-    let fetches = exec_append (fetch l.registers Rax rs1) (fetch l.registers Rcx rs2) c c1 (fetched p l here.layout g c Rax rs1 range.0 here.related)
-    ∙ fetched p l here.layout g c1 Rcx rs2 range.1 (related_kept p l here.layout g c c1 here.related first) in
+    let o1 = assigned l.registers rs1 in
+    let o2 = assigned l.registers rs2 in
+    let x = register_or o1 Rax in
+    let y = register_or o2 Rcx in
+    let to = data_address x (word imm) in
+    let right = here.layout.registers_are_right in
+    let one = read o1 Rax rs1 in
+    let two = read o2 Rcx rs2 in
+    let first = reads p l here.layout g c Rax (omega arith) rs1 range.0 here.related in
+    let second = reads p l here.layout g first.core Rcx (omega arith) rs2 range.1 (related_kept p l here.layout g c first.core here.related first.kept) in
+    let d = second.core in
+    let kept = kept_join c first.core d first.kept second.kept in
+    let in_x = second.others (number x) (not_free l.registers right rs1 o1 refl Rax 1 (omega arith) (λ e. omega (arith, e))) ∙ first.result in
+    let index = not_frame l.registers right rs1 o1 refl Rax (omega arith) in
+    let stands = subst (λ is. IsBefore is t at p l g c) (sym (append_assoc one two (store_to width to y ∷ count))) here in
     rw access.tested
-    (goes_on p l t at front count (store_to width (data_address (word imm))) f g address c d here
-    (straight_runs front c d refl fetches) kept
-    (λ after. store_faults width (data_address (word imm)) after d
-    (faults p l here.layout g c here.related here.guards (store_size width) (store_sized width).some rs1 imm range.2 access d refl kept)) (omega (arith, front_few l.registers (Store width rs1 rs2 imm))) has)
+    (goes_on p l t at (one ++ two) count (store_to width to y) f g address c d stands
+    (runs_join one two c first.core d (straight_runs one c first.core first.straight first.runs) (straight_runs two first.core d second.straight second.runs)) kept
+    (λ after. store_faults width to y after d
+    (faults p l here.layout g c here.related here.guards (store_size width) (store_sized width).some rs1 imm range.2 access d x index in_x kept)) (omega (arith, front_few l.registers (Store width rs1 rs2 imm))) has)
 faulting_lines_run target p code rest address size i distance out f l t at g c range access here has = absurd access

@@ -1,5 +1,5 @@
 -- The code of branches and jal, from its first instruction to where it leads.
-use Rattle.std.proofs.Common.{◌≡◌, ℕ, ◌%◌, ◌^◌, ◌<◌, Bool, true, false, Some, List, [], ◌∷◌, ◌++◌, length, refl, sym, inl, inr, ap, ◌∙◌, append_assoc, nat_lt, subst, arith, if◌then◌else◌, length-append, ◌+◌}
+use Rattle.std.proofs.Common.{◌≡◌, ℕ, ◌+◌, ◌*◌, ◌%◌, ◌^◌, ◌<◌, Bool, true, false, Option, Some, None, List, [], ◌∷◌, ◌++◌, length, refl, sym, inl, inr, ap, ◌∙◌, append_assoc, nat_lt, subst, arith, if◌then◌else◌, length-append}
 use Rattle.std.specs.Prelude.{Ok, not}
 use Rattle.std.proofs.lemmas.Bool.{cases_Bool, false≢true, lt-ltb}
 unfoldable use Rattle.rv_word.specs.Spelling.{InRange}
@@ -9,30 +9,34 @@ use Rattle.rv_step.specs.Step.{is_taken}
 use Rattle.rv_step.specs.State.{past, with_pc}
 use Rattle.sfi_image.specs.Spelling.{Part}
 use Rattle.sfi_translate.specs.Machine.{ControlPoint, Going, fixed, jumps, one_less}
-use Rattle.x86_instr.specs.declared.operand.Register.TheVariants.{Rax, Rcx}
+use Rattle.x86_instr.specs.declared.operand.Register.{Register}
+use Rattle.x86_instr.specs.declared.operand.Register.TheVariants.{Rax}
+use Rattle.x86_instr.specs.declared.operand.Operand.{Operand}
+use Rattle.x86_instr.specs.Spelling.{number}
 use Rattle.x86_instr.specs.declared.instr.Width.TheVariants.{Dword}
 use Rattle.x86_instr.specs.declared.instr.Condition.{Condition}
 use Rattle.x86_instr.specs.declared.instr.Instr.{Instr as Native}
 use Rattle.x86_instr.specs.declared.instr.Instr.TheVariants.{Alu, Jcc}
 use Rattle.x86_instr.specs.declared.instr.AluOp.TheVariants as alu
-use Rattle.x86_instr.specs.declared.operand.Operand.TheVariants.{Reg}
-use Rattle.x86_step.specs.State.{Core, IsFixed, Text, with_flags, with_register}
-use Rattle.x86_step.specs.Step.{Reaches, difference, is_met, low}
+use Rattle.x86_step.specs.State.{Core, IsFixed, Text, number_at, with_flags}
+use Rattle.x86_step.specs.Step.{Reaches, difference, is_met, low, value as operand_value}
 unfoldable use Rattle.x86_step.specs.Step.{computes}
-use Rattle.x86_step.specs.Running.{HasAt, exec, spellings}
+use Rattle.x86_step.specs.Running.{HasAt, are_straight, exec, spellings}
 use Rattle.x86_step.proofs.Running.{exec_append, in_more}
 use Rattle.sfi_native.specs.declared.jump.Jump.{Jump}
 use Rattle.sfi_native.specs.declared.layout.Layout.{Layout}
 use Rattle.sfi_native.specs.Layout.{IsLayout, IsRelated, OthersStay, value}
 use Rattle.sfi_native.specs.Laws.{BranchLinesRun, IsJump, IsLow, JalLinesRun, end_of, is_slow, jump_place, line_most}
-use Rattle.sfi_native.specs.Code.{compare_code, count, fetch, has_test, jal_line, number_code, opposite, tested_jump, unless}
+use Rattle.sfi_native.specs.Code.{compare_code, count, has_test, jal_line, number_code, operand_of, opposite, read, register_or, tested_jump, unless}
+use Rattle.sfi_native.specs.Registers.{assigned}
+use Rattle.sfi_native.proofs.Assigned.{free, holds_on, not_left}
 use Rattle.sfi_native.proofs.Arithmetic.{low_is, unmet_is}
-use Rattle.sfi_native.proofs.Kept.{Kept, kept_flags, kept_join, kept_register, others_join, others_kept}
+use Rattle.sfi_native.proofs.Kept.{Kept, kept_flags, others_join, others_kept}
 use Rattle.sfi_native.proofs.Counting.{counts}
 use Rattle.sfi_native.proofs.Runs.{Runs, back_fixed, back_stands, end_append, falls, runs_join, skipped, straight_runs, then_reaches}
 use Rattle.sfi_native.proofs.Lists.{tested_size}
 use Rattle.sfi_native.proofs.Tested.{jumps_by_test}
-use Rattle.sfi_native.proofs.Fetching.{fetched, related_kept}
+use Rattle.sfi_native.proofs.Fetching.{operand_is, reads, related_kept}
 use Rattle.sfi_native.proofs.Lines.{none_comes, number_comes, then_count}
 use Rattle.sfi_native.proofs.Lengths.{branch_few, compare_few, number_counted_few}
 
@@ -67,35 +71,48 @@ module _ (p : Part) (l : Layout) (layout : IsLayout p.data_size l) where
     -- the flags are those of the comparison
     pub record Compares (rs1 rs2 : ℕ) : Type 0 where
       pub core : Core
+      pub straight : are_straight (compare_code l.registers rs1 rs2) ≡ true
       pub runs : exec (compare_code l.registers rs1 rs2) c ≡ Ok core
       pub related : (place : ControlPoint) (pc : ℕ) → IsRelated p l (moved place pc) core
       pub others : OthersStay p l c core
       pub flags : core.flags ≡ (difference Dword (value p g rs1) (value p g rs2)).flags
+
+    abbrev compare_of : ℕ → Operand → Option Register → List Native
+    compare_of r src o = read o Rax r ++ (count ++ (Alu alu.Cmp Dword (register_or o Rax) src ∷ []))
+
+    compare_straight : (r : ℕ) (src : Operand) (o : Option Register) → are_straight (compare_of r src o) ≡ true
+    compare_straight r src None = refl
+    compare_straight r src (Some q) = refl
 
     pub compares : (rs1 rs2 : ℕ) → rs1 < 32 → rs2 < 32 → Compares rs1 rs2
     unfolding computes
     compares rs1 rs2 f1 f2 =
         let a = value p g rs1 in
         let b = value p g rs2 in
-        let c1 = with_register c 0 a in
-        let c2 = with_register c1 1 b in
-        let is1 = related_kept p l layout g c c1 is (kept_register c 0 a (omega arith)) in
-        let is2 = related_kept p l layout g c1 c2 is1 (kept_register c1 1 b (omega arith)) in
-        let still = none_comes p l layout g c2 is2 g.place 0 in
-        let n = counts p l layout _ c2 still in
-        let in_eax : low Dword (n.core.registers 0) ≡ a = ap (low Dword) (n.others 0 (λ e. omega (arith, e))) ∙ low_is a (is.words rs1) in
-        let in_ecx : low Dword (n.core.registers 1) ≡ b = ap (low Dword) (n.others 1 (λ e. omega (arith, e))) ∙ low_is b (is.words rs2) in
-        let f = (difference Dword (low Dword (n.core.registers 0)) (low Dword (n.core.registers 1))).flags in
+        let o1 = assigned l.registers rs1 in
+        let o2 = assigned l.registers rs2 in
+        let x = register_or o1 Rax in
+        let src = operand_of o2 rs2 in
+        let compare = Alu alu.Cmp Dword x src ∷ [] in
+        let right = layout.registers_are_right in
+        let first = reads p l layout g c Rax (omega arith) rs1 f1 is in
+        let c1 = first.core in
+        let is1 = related_kept p l layout g c c1 is first.kept in
+        let still = none_comes p l layout g c1 is1 g.place 0 in
+        let n = counts p l layout _ c1 still in
+        let in_x : low Dword (n.core.registers (number x)) ≡ a = ap (low Dword) (n.others (number x) (not_left l.registers right rs1 o1 refl Rax (omega arith)) ∙ first.result) ∙ low_is a (is.words rs1) in
+        let holds = holds_on l c1 n.core rs2 b o2 (λ e. ap (λ m. number_at m 4 (l.frame + 4 * rs2)) n.memory) (λ k lies. n.others (number k) (λ e. omega (arith, e, (free l.registers right rs2 k lies).below))) (is1.registers rs2 f2) in
+        let there : operand_value n.core Dword src ≡ Ok b = operand_is p l layout n.core rs2 b f2 (is.words rs2) (n.others 4 (λ e. omega (arith, e)) ∙ is1.frame) o2 holds in
+        let f = (difference Dword (low Dword (n.core.registers (number x))) b).flags in
         record {
           core = with_flags n.core f;
-          runs = exec_append (fetch l.registers Rax rs1) (fetch l.registers Rcx rs2 ++ (count ++ (Alu alu.Cmp Dword Rax (Reg Rcx) ∷ []))) c c1 (fetched p l layout g c Rax rs1 f1 is)
-              ∙ exec_append (fetch l.registers Rcx rs2) (count ++ (Alu alu.Cmp Dword Rax (Reg Rcx) ∷ [])) c1 c2 (fetched p l layout g c1 Rcx rs2 f2 is1)
-              ∙ exec_append count (Alu alu.Cmp Dword Rax (Reg Rcx) ∷ []) c2 n.core n.runs ∙ refl;
+          straight = compare_straight rs1 src o1;
+          runs = exec_append (read o1 Rax rs1) (count ++ compare) c c1 first.runs ∙ exec_append count compare c1 n.core n.runs ∙ (rw there refl);
           related = λ place pc. replaced (fixed p g.state.hart).registers g.state.memory (one_less g.left) 0 pc g.place place (with_flags n.core f)
               (related_kept p l layout _ n.core (with_flags n.core f) n.related (kept_flags n.core f));
-          others = others_join p l c c2 (with_flags n.core f) (others_kept p l c c2 (kept_join c c1 c2 (kept_register c 0 a (omega arith)) (kept_register c1 1 b (omega arith))))
-              (others_join p l c2 n.core (with_flags n.core f) n.stay (others_kept p l n.core (with_flags n.core f) (kept_flags n.core f)));
-          flags = ap (λ x. (difference Dword x (low Dword (n.core.registers 1))).flags) in_eax ∙ ap (λ x. (difference Dword a x).flags) in_ecx;
+          others = others_join p l c c1 (with_flags n.core f) (others_kept p l c c1 first.kept)
+              (others_join p l c1 n.core (with_flags n.core f) n.stay (others_kept p l n.core (with_flags n.core f) (kept_flags n.core f)));
+          flags = ap (λ y. (difference Dword y b).flags) in_x;
         }
 
     -- taken or not
@@ -168,7 +185,7 @@ branch_lines_run target p code rest address size cond rs1 rs2 offset j l t at g 
     let met : is_met (opposite cond) done.core.flags ≡ Some (not (is_taken cond a b)) =
     ap (is_met (opposite cond)) done.flags ∙ unmet_is cond a b (here.related.words rs1) (here.related.words rs2) in
     let same = left_is p l here.layout g c here.related done.core done.related few in
-    let it = branches t at (compare_code l.registers rs1 rs2) (opposite cond) j c done.core here.text_is_fixed here.text_is_low (straight_runs (compare_code l.registers rs1 rs2) c done.core refl done.runs)
+    let it = branches t at (compare_code l.registers rs1 rs2) (opposite cond) j c done.core here.text_is_fixed here.text_is_low (straight_runs (compare_code l.registers rs1 rs2) c done.core done.straight done.runs)
     (one_less g.left) same here.stands jump (is_taken cond a b) met in (
       record {
         after = it.after;

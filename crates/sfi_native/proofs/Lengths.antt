@@ -1,5 +1,5 @@
 -- How many instructions the code of lines has.
-use Rattle.std.proofs.Common.{◌≡◌, ℕ, suc, ◌+◌, ◌*◌, ◌%◌, ◌^◌, ◌≤◌, Bool, true, false, List, [], ◌∷◌, ◌++◌, length, refl, arith, length-append}
+use Rattle.std.proofs.Common.{◌≡◌, ℕ, suc, ◌+◌, ◌*◌, ◌%◌, ◌^◌, ◌≤◌, ◌==◌, Bool, Option, Some, None, true, false, List, [], ◌∷◌, ◌++◌, length, refl, arith, length-append}
 use Rattle.std.proofs.lemmas.Bool.{cond_both}
 use Rattle.rv_word.specs.declared.instr.RegOp.{RegOp}
 use Rattle.rv_word.specs.declared.instr.RegOp.TheVariants.{Add, Sub, Sll, Slt, Sltu, Xor, Srl, Sra, Or, And, Mul, Mulh, Mulhsu, Mulhu, Div, Divu, Rem, Remu}
@@ -10,66 +10,101 @@ use Rattle.rv_word.specs.declared.instr.StoreWidth.{StoreWidth}
 use Rattle.rv_word.specs.declared.instr.Instr.{Instr}
 use Rattle.rv_word.specs.declared.instr.Instr.TheVariants.{Op, OpImm, Load, Store, Branch, Jal, Jalr, Lui, Auipc, Fence, Ecall, Ebreak}
 use Rattle.rv_step.specs.Step.{word}
+use Rattle.x86_instr.specs.declared.operand.Register.{Register}
 use Rattle.x86_instr.specs.declared.operand.Register.TheVariants.{Rax, Rcx}
+use Rattle.x86_instr.specs.declared.operand.Operand.{Operand}
+use Rattle.x86_instr.specs.declared.operand.Operand.TheVariants.{Reg}
 use Rattle.x86_instr.specs.declared.instr.Condition.{Condition}
 use Rattle.x86_instr.specs.declared.instr.Instr.{Instr as Native}
-use Rattle.x86_instr.specs.declared.instr.Instr.TheVariants.{Jmp, MovImm}
+use Rattle.x86_instr.specs.declared.instr.Instr.TheVariants.{Alu, AluImm, Jmp, MovImm}
+use Rattle.x86_instr.specs.declared.instr.AluOp.TheVariants as alu
+use Rattle.x86_instr.specs.declared.instr.Width.TheVariants.{Dword}
 use Rattle.sfi_native.specs.declared.registers.RegisterMap.{RegisterMap}
 use Rattle.sfi_native.specs.declared.jump.Jump.{Jump}
 use Rattle.sfi_native.specs.Registers.{assigned, is_fixed}
 use Rattle.sfi_native.specs.Laws.{line_most}
 use Rattle.sfi_native.specs.Faults.{front_of}
 unfoldable use Rattle.sfi_native.specs.Code.{computation, compute, compute_imm}
-use Rattle.sfi_native.specs.Code.{compare_code, computing_line, count, data_address, fetch, has_test, imm_code, load_code, load_from, load_line, number_code, op_code, store_eax, store_line, target_code, test_code, tested_jump, unless, write}
+use Rattle.sfi_native.specs.Code.{bring, compare_code, computing_line, count, data_address, ecx_code, fetch, has_test, imm_code, lies_in, load_code, load_from, load_line, needs_ecx, number_code, op_code, operand_of, place_beside, place_code, read, register_or, result_in, settle, store_eax, store_line, store_to, target_code, test_code, tested_jump, unless, write}
 
 write_few : (registers : RegisterMap) (r : ℕ) → length (write registers r) ≤ 1
 write_few registers r = cond_both (is_fixed r) [] (store_eax (assigned registers r) r ∷ []) (λ (is : List Native). length is ≤ 1) (λ e. omega arith) (λ e. omega arith)
 
+settle_few : (registers : RegisterMap) (place : Option Register) (rd : ℕ) → length (settle registers place rd) ≤ 1
+settle_few registers (Some q) rd = omega arith
+settle_few registers None rd = write_few registers rd
+
+read_few : (place : Option Register) (free : Register) (r : ℕ) → length (read place free r) ≤ 1
+read_few (Some q) free r = omega arith
+read_few None free r = omega arith
+
+bring_few : (registers : RegisterMap) (dst : Register) (r : ℕ) → length (bring registers dst r) ≤ 1
+bring_few registers dst r = cond_both (lies_in (assigned registers r) dst) [] (fetch registers dst r) (λ (is : List Native). length is ≤ 1) (λ e. omega arith) (λ e. omega arith)
+
 number_few : (registers : RegisterMap) (rd n : ℕ) → length (number_code registers rd n) ≤ 2
-number_few registers rd n = omega (arith, length-append (MovImm Rax n ∷ []) (write registers rd), write_few registers rd)
+number_few registers rd n =
+    let place = assigned registers rd in
+    omega (arith, length-append (MovImm (result_in place) n ∷ []) (settle registers place rd), settle_few registers place rd)
 
 -- ==== Computations.
 
-compute_few : (op : RegOp) → length (compute op) ≤ 10
+compute_few : (op : RegOp) (dst : Register) (src : Operand) → length (compute op dst src) ≤ 10
 unfolding compute
-compute_few Add = omega arith
-compute_few Sub = omega arith
-compute_few Sll = omega arith
-compute_few Slt = omega arith
-compute_few Sltu = omega arith
-compute_few Xor = omega arith
-compute_few Srl = omega arith
-compute_few Sra = omega arith
-compute_few Or = omega arith
-compute_few And = omega arith
-compute_few Mul = omega arith
-compute_few Mulh = omega arith
-compute_few Mulhsu = omega arith
-compute_few Mulhu = omega arith
-compute_few Div = omega arith
-compute_few Divu = omega arith
-compute_few Rem = omega arith
-compute_few Remu = omega arith
+compute_few Add dst src = omega arith
+compute_few Sub dst src = omega arith
+compute_few Sll dst src = omega arith
+compute_few Slt dst src = omega arith
+compute_few Sltu dst src = omega arith
+compute_few Xor dst src = omega arith
+compute_few Srl dst src = omega arith
+compute_few Sra dst src = omega arith
+compute_few Or dst src = omega arith
+compute_few And dst src = omega arith
+compute_few Mul dst src = omega arith
+compute_few Mulh dst src = omega arith
+compute_few Mulhsu dst src = omega arith
+compute_few Mulhu dst src = omega arith
+compute_few Div dst src = omega arith
+compute_few Divu dst src = omega arith
+compute_few Rem dst src = omega arith
+compute_few Remu dst src = omega arith
 
-compute_imm_few : (op : ImmOp) (n : ℕ) → length (compute_imm op n) ≤ 3
+compute_imm_few : (op : ImmOp) (dst : Register) (n : ℕ) → length (compute_imm op dst n) ≤ 3
 unfolding compute_imm
-compute_imm_few Addi n = omega arith
-compute_imm_few Slti n = omega arith
-compute_imm_few Sltiu n = omega arith
-compute_imm_few Xori n = omega arith
-compute_imm_few Ori n = omega arith
-compute_imm_few Andi n = omega arith
-compute_imm_few Slli n = omega arith
-compute_imm_few Srli n = omega arith
-compute_imm_few Srai n = omega arith
+compute_imm_few Addi dst n = cond_both (n == 0) [] (AluImm alu.Add Dword (Reg dst) n ∷ []) (λ (is : List Native). length is ≤ 3) (λ e. omega arith) (λ e. omega arith)
+compute_imm_few Slti dst n = omega arith
+compute_imm_few Sltiu dst n = omega arith
+compute_imm_few Xori dst n = omega arith
+compute_imm_few Ori dst n = omega arith
+compute_imm_few Andi dst n = omega arith
+compute_imm_few Slli dst n = omega arith
+compute_imm_few Srli dst n = omega arith
+compute_imm_few Srai dst n = omega arith
+
+ecx_few : (registers : RegisterMap) (op : RegOp) (rd rs1 rs2 : ℕ) → length (ecx_code registers op rd rs1 rs2) ≤ 13
+ecx_few registers op rd rs1 rs2 =
+    let ecx = Reg Rcx in
+    omega (arith, length-append (fetch registers Rax rs1) (fetch registers Rcx rs2 ++ (compute op Rax ecx ++ write registers rd)), length-append (fetch registers Rcx rs2) (compute op Rax ecx ++ write registers rd), length-append (compute op Rax ecx) (write registers rd), compute_few op Rax ecx, write_few registers rd)
+
+place_few : (registers : RegisterMap) (place : Option Register) (op : RegOp) (rd rs1 rs2 : ℕ) → length (place_code registers place op rd rs1 rs2) ≤ 13
+place_few registers place op rd rs1 rs2 =
+    let dst = result_in place in
+    let src = operand_of (assigned registers rs2) rs2 in
+    let computes = compute op dst src in
+    omega (arith, length-append (bring registers dst rs1) (computes ++ settle registers place rd), length-append computes (settle registers place rd), bring_few registers dst rs1, compute_few op dst src, settle_few registers place rd)
 
 op_few : (registers : RegisterMap) (op : RegOp) (rd rs1 rs2 : ℕ) → length (op_code registers op rd rs1 rs2) ≤ 13
 op_few registers op rd rs1 rs2 =
-    omega (arith, length-append (fetch registers Rax rs1) (fetch registers Rcx rs2 ++ (compute op ++ write registers rd)), length-append (fetch registers Rcx rs2) (compute op ++ write registers rd), length-append (compute op) (write registers rd), compute_few op, write_few registers rd)
+    let place = place_beside registers rd rs2 in
+    cond_both (needs_ecx op) (ecx_code registers op rd rs1 rs2) (place_code registers place op rd rs1 rs2) (λ (is : List Native). length is ≤ 13)
+    (λ e. ecx_few registers op rd rs1 rs2) (λ e. place_few registers place op rd rs1 rs2)
 
 imm_few : (registers : RegisterMap) (op : ImmOp) (rd rs1 n : ℕ) → length (imm_code registers op rd rs1 n) ≤ 5
 imm_few registers op rd rs1 n =
-    omega (arith, length-append (fetch registers Rax rs1) (compute_imm op n ++ write registers rd), length-append (compute_imm op n) (write registers rd), compute_imm_few op n, write_few registers rd)
+    let place = assigned registers rd in
+    let dst = result_in place in
+    let computes = compute_imm op dst n in
+    omega (arith, length-append (bring registers dst rs1) (computes ++ settle registers place rd), length-append computes (settle registers place rd), bring_few registers dst rs1, compute_imm_few op dst n, settle_few registers place rd)
 
 counted_few : (is : List Native) → length is ≤ 15 → length (is ++ count) ≤ line_most
 counted_few is few = omega (arith, length-append is count, few)
@@ -93,16 +128,27 @@ computing_few registers at Ebreak = omega arith
 
 pub load_few : (registers : RegisterMap) (kind : LoadKind) (rd rs1 displacement : ℕ) → length (load_line registers kind rd rs1 displacement) ≤ line_most
 load_few registers kind rd rs1 displacement =
-    let front = fetch registers Rax rs1 ++ (load_from kind (data_address displacement) ∷ []) in
-    counted_few (load_code registers kind rd rs1 displacement) (omega (arith, length-append front (write registers rd), write_few registers rd))
+    let base = assigned registers rs1 in
+    let place = assigned registers rd in
+    let front = read base Rax rs1 in
+    let back = load_from kind (result_in place) (data_address (register_or base Rax) displacement) ∷ settle registers place rd in
+    let back_few : length back ≤ 2 = omega (arith, settle_few registers place rd) in
+    counted_few (load_code registers kind rd rs1 displacement) (omega (arith, length-append front back, read_few base Rax rs1, back_few))
 
 pub store_few : (registers : RegisterMap) (width : StoreWidth) (rs1 rs2 displacement : ℕ) → length (store_line registers width rs1 rs2 displacement) ≤ line_most
-store_few registers width rs1 rs2 displacement = omega arith
+store_few registers width rs1 rs2 displacement =
+    let base = assigned registers rs1 in
+    let stored = assigned registers rs2 in
+    let back = store_to width (data_address (register_or base Rax) displacement) (register_or stored Rcx) ∷ count in
+    omega (arith, length-append (read base Rax rs1) (read stored Rcx rs2 ++ back), length-append (read stored Rcx rs2) back, read_few base Rax rs1, read_few stored Rcx rs2)
 
 -- what stands before an access
 pub front_few : (registers : RegisterMap) (i : Instr) → length (front_of registers i) ≤ 2
-front_few registers (Load kind rd rs1 imm) = omega arith
-front_few registers (Store width rs1 rs2 imm) = omega arith
+front_few registers (Load kind rd rs1 imm) = omega (arith, read_few (assigned registers rs1) Rax rs1)
+front_few registers (Store width rs1 rs2 imm) =
+    let one = read (assigned registers rs1) Rax rs1 in
+    let two = read (assigned registers rs2) Rcx rs2 in
+    omega (arith, length-append one two, read_few (assigned registers rs1) Rax rs1, read_few (assigned registers rs2) Rcx rs2)
 front_few registers (Op op rd rs1 rs2) = omega arith
 front_few registers (OpImm op rd rs1 imm) = omega arith
 front_few registers (Lui rd imm) = omega arith
@@ -117,7 +163,10 @@ front_few registers Ebreak = omega arith
 -- ==== Jumps.
 
 pub compare_few : (registers : RegisterMap) (rs1 rs2 : ℕ) → length (compare_code registers rs1 rs2) ≤ 4
-compare_few registers rs1 rs2 = omega arith
+compare_few registers rs1 rs2 =
+    let first = assigned registers rs1 in
+    let back = count ++ (Alu alu.Cmp Dword (register_or first Rax) (operand_of (assigned registers rs2) rs2) ∷ []) in
+    omega (arith, length-append (read first Rax rs1) back, read_few first Rax rs1)
 
 pub number_counted_few : (registers : RegisterMap) (rd n : ℕ) → length (number_code registers rd n ++ count) ≤ 3
 number_counted_few registers rd n = omega (arith, length-append (number_code registers rd n) count, number_few registers rd n)

@@ -22,7 +22,7 @@ use Rattle.sfi_native.specs.declared.registers.RegisterMap.{RegisterMap}
 use Rattle.sfi_native.specs.Places.{code_of, whole_code}
 use Rattle.sfi_native.specs.declared.jump.Jump.{Jump}
 use Rattle.sfi_native.specs.Registers.{assigned}
-use Rattle.sfi_native.specs.Code.{avoid_minus_one, avoid_zero, branch_line, bring, ecx_code, operand_of, place_code, result_in, settle, compare_code, compare_divisor, compute, compute_imm, count, data_address, divide_by_one, divide_signed, divide_unsigned, end_code, enter_code, enter_size, fetch, head_line, imm_code, indirect_jump, has_test, jal_line, jalr_line, jump_size, load_code, load_from, load_line, number_code, opposite, remainder, slot, start_code, start_size, steps_code, store_line, store_to, test_code, target_code, test_divisor, tested_jump, write}
+use Rattle.sfi_native.specs.Code.{avoid_minus_one, avoid_zero, branch_line, bring, ecx_code, operand_of, place_code, read, register_or, result_in, settle, compare_code, compare_divisor, compute, compute_imm, count, data_address, divide_by_one, divide_signed, divide_unsigned, end_code, enter_code, enter_size, fetch, head_line, imm_code, indirect_jump, has_test, jal_line, jalr_line, jump_size, load_code, load_from, load_line, number_code, op_code, opposite, remainder, slot, start_code, start_size, steps_code, store_line, store_to, test_code, target_code, test_divisor, tested_jump, write}
 
 pub no_part : (old : List ℕ) → old ≡ old ++ spellings []
 no_part old = sym (append-nil old)
@@ -54,8 +54,10 @@ imm_parts registers old op rd rs1 n =
     three_parts old (bring registers (result_in o) rs1) (compute_imm op (result_in o) n) (settle registers o rd)
 
 pub compare_parts : (registers : RegisterMap) (old : List ℕ) (rs1 rs2 : ℕ)
-    → (((old ++ spellings (fetch registers Rax rs1)) ++ spellings (fetch registers Rcx rs2)) ++ spellings count) ++ spellings (Alu alu.Cmp Dword Rax (Reg Rcx) ∷ []) ≡ old ++ spellings (compare_code registers rs1 rs2)
-compare_parts registers old rs1 rs2 = four_parts old (fetch registers Rax rs1) (fetch registers Rcx rs2) count (Alu alu.Cmp Dword Rax (Reg Rcx) ∷ [])
+    → ((old ++ spellings (read (assigned registers rs1) Rax rs1)) ++ spellings count) ++ spellings (Alu alu.Cmp Dword (register_or (assigned registers rs1) Rax) (operand_of (assigned registers rs2) rs2) ∷ []) ≡ old ++ spellings (compare_code registers rs1 rs2)
+compare_parts registers old rs1 rs2 =
+    let o = assigned registers rs1 in
+    three_parts old (read o Rax rs1) count (Alu alu.Cmp Dword (register_or o Rax) (operand_of (assigned registers rs2) rs2) ∷ [])
 
 pub size_by : (tested : Bool) (j : Jump) → length (spellings (test_code tested j ++ (Jmp j.label ∷ []))) ≡ (if tested then 20 else 5)
 unfolding spelling rex
@@ -122,14 +124,19 @@ pub whole_parts : (registers : RegisterMap) (code : List Line) (end : ℕ) → s
 whole_parts registers code end = sym (spellings_append (code_of registers code code) (end_code end))
 
 pub load_parts : (registers : RegisterMap) (old : List ℕ) (kind : LoadKind) (rd rs1 displacement : ℕ)
-    → (((old ++ spellings (fetch registers Rax rs1)) ++ spellings (load_from kind (data_address displacement) ∷ [])) ++ spellings (write registers rd)) ++ spellings count ≡ old ++ spellings (load_line registers kind rd rs1 displacement)
+    → (((old ++ spellings (read (assigned registers rs1) Rax rs1)) ++ spellings (load_from kind (result_in (assigned registers rd)) (data_address (register_or (assigned registers rs1) Rax) displacement) ∷ [])) ++ spellings (settle registers (assigned registers rd) rd)) ++ spellings count ≡ old ++ spellings (load_line registers kind rd rs1 displacement)
 load_parts registers old kind rd rs1 displacement =
-    ap (λ x. x ++ spellings count) (three_parts old (fetch registers Rax rs1) (load_from kind (data_address displacement) ∷ []) (write registers rd))
+    let base = assigned registers rs1 in
+    let place = assigned registers rd in
+    ap (λ x. x ++ spellings count) (three_parts old (read base Rax rs1) (load_from kind (result_in place) (data_address (register_or base Rax) displacement) ∷ []) (settle registers place rd))
     ∙ two_parts old (load_code registers kind rd rs1 displacement) count
 
 pub store_parts : (registers : RegisterMap) (old : List ℕ) (width : StoreWidth) (rs1 rs2 displacement : ℕ)
-    → (((old ++ spellings (fetch registers Rax rs1)) ++ spellings (fetch registers Rcx rs2)) ++ spellings (store_to width (data_address displacement) ∷ [])) ++ spellings count ≡ old ++ spellings (store_line registers width rs1 rs2 displacement)
-store_parts registers old width rs1 rs2 displacement = four_parts old (fetch registers Rax rs1) (fetch registers Rcx rs2) (store_to width (data_address displacement) ∷ []) count
+    → (((old ++ spellings (read (assigned registers rs1) Rax rs1)) ++ spellings (read (assigned registers rs2) Rcx rs2)) ++ spellings (store_to width (data_address (register_or (assigned registers rs1) Rax) displacement) (register_or (assigned registers rs2) Rcx) ∷ [])) ++ spellings count ≡ old ++ spellings (store_line registers width rs1 rs2 displacement)
+store_parts registers old width rs1 rs2 displacement =
+    let base = assigned registers rs1 in
+    let stored = assigned registers rs2 in
+    four_parts old (read base Rax rs1) (read stored Rcx rs2) (store_to width (data_address (register_or base Rax) displacement) (register_or stored Rcx) ∷ []) count
 
 -- ==== Divisions: distances are sizes of what is skipped.
 

@@ -55,7 +55,7 @@ use Rattle.sfi_native.specs.declared.jump.Jump.{Jump}
 use Rattle.sfi_native.specs.Sizes.{CodeIsSmall, EachCodeFits}
 unfoldable use Rattle.sfi_native.specs.Code.{computation}
 use Rattle.sfi_native.specs.Places.{code_of, exit_of, jump_of, size_of, size_of_all, whole_code}
-use Rattle.sfi_native.specs.Code.{branch_line, bring, compare_code, count, ecx_code, lies_in, needs_ecx, place_beside, place_code, result_in, settle, data_address, end_code, fetch, has_test, head_line, imm_code, indirect_jump, jal_line, jalr_line, leave_line, load_code, load_from, load_line, number_code, op_code, operand_of, opposite, set_if, slot, store_eax, store_line, store_to, target_code, tested_jump, unless, write}
+use Rattle.sfi_native.specs.Code.{branch_line, bring, compare_code, count, ecx_code, lies_in, needs_ecx, place_beside, place_code, read, register_or, result_in, settle, data_address, end_code, fetch, has_test, head_line, imm_code, indirect_jump, jal_line, jalr_line, leave_line, load_code, load_from, load_line, number_code, op_code, operand_of, opposite, set_if, slot, store_eax, store_line, store_to, target_code, tested_jump, unless, write}
 use Rattle.sfi_native.proofs.Places.{code_size, sizes_append}
 use Rattle.sfi_native.proofs.Lists.{indirect_size, tested_size}
 
@@ -128,6 +128,16 @@ unfolding spelling
 alu_most op dst o r below =
     let opcode = alu_number op * 8 + 3 in
     omega (arith, coded_most opcode (number dst) o r below, length-append (coded Dword opcode (number dst) (operand_of o r)) [])
+
+read_most : (o : Option Register) (free : Register) (r : ℕ) → r < 32 → bytes (read o free r) ≤ 5
+read_most None free r below = mov_most free None r below
+read_most (Some q) free r below = omega arith
+
+-- a place in the data
+place_most_of : (opcode reg : ℕ) (a : Address) → length (coded Dword opcode reg (Mem a)) ≤ 8
+place_most_of opcode reg a =
+    let n = rex_bits Dword reg (Mem a) in
+    omega (arith, rex_most n, memory_most reg a, length-append (rex n) (opcode ∷ memory reg a))
 
 fetch_most : (registers : RegisterMap) (dst : Register) (r : ℕ) → r < 32 → bytes (fetch registers dst r) ≤ 5
 fetch_most registers dst r below = mov_most dst (assigned registers r) r below
@@ -306,26 +316,23 @@ jcc_is : (c : Condition) (n : ℕ) → bytes (Jcc c n ∷ []) ≡ 6
 unfolding spelling
 jcc_is c n = refl
 
-cmp_is : bytes (Alu alu.Cmp Dword Rax (Reg Rcx) ∷ []) ≡ 2
-unfolding spelling rex
-cmp_is = refl
-
-branch_most : (registers : RegisterMap) (cond : Cond) (rs1 rs2 : ℕ) (j : Jump) → rs1 < 32 → rs2 < 32 → bytes (branch_line registers cond rs1 rs2 j) ≤ 42
+branch_most : (registers : RegisterMap) (cond : Cond) (rs1 rs2 : ℕ) (j : Jump) → rs1 < 32 → rs2 < 32 → bytes (branch_line registers cond rs1 rs2 j) ≤ 40
 branch_most registers cond rs1 rs2 j a b =
     let jump = tested_jump j in
+    let first = assigned registers rs1 in
+    let second = assigned registers rs2 in
+    let compare = Alu alu.Cmp Dword (register_or first Rax) (operand_of second rs2) ∷ [] in
     omega (
       arith,
       both (compare_code registers rs1 rs2) (unless (opposite cond) jump),
       both (Jcc (opposite cond) (bytes jump) ∷ []) jump,
       jcc_is (opposite cond) (bytes jump),
       tested_most j,
-      both (fetch registers Rax rs1) (fetch registers Rcx rs2 ++ (count ++ (Alu alu.Cmp Dword Rax (Reg Rcx) ∷ []))),
-      both (fetch registers Rcx rs2) (count ++ (Alu alu.Cmp Dword Rax (Reg Rcx) ∷ [])),
-      both count (Alu alu.Cmp Dword Rax (Reg Rcx) ∷ []),
-      fetch_most registers Rax rs1 a,
-      fetch_most registers Rcx rs2 b,
+      both (read first Rax rs1) (count ++ compare),
+      both count compare,
+      read_most first Rax rs1 a,
       count_is,
-      cmp_is,
+      alu_most alu.Cmp (register_or first Rax) second rs2 b,
     )
 
 jal_most : (registers : RegisterMap) (rd next : ℕ) (j : Jump) → rd < 32 → bytes (jal_line registers rd next j) ≤ 33
@@ -354,37 +361,43 @@ jalr_most registers rd rs1 displacement next distance d a =
       indirect_size distance,
     )
 
-from_most : (kind : LoadKind) (displacement : ℕ) → bytes (load_from kind (data_address displacement) ∷ []) ≤ 9
-unfolding spelling rex
-from_most Lb n = let a = data_address n in omega (arith, memory_most 0 a, length-append (memory 0 a) [])
-from_most Lh n = let a = data_address n in omega (arith, memory_most 0 a, length-append (memory 0 a) [])
-from_most Lw n = let a = data_address n in omega (arith, memory_most 0 a, length-append (memory 0 a) [])
-from_most Lbu n = let a = data_address n in omega (arith, memory_most 0 a, length-append (memory 0 a) [])
-from_most Lhu n = let a = data_address n in omega (arith, memory_most 0 a, length-append (memory 0 a) [])
+from_most : (kind : LoadKind) (dst : Register) (a : Address) → bytes (load_from kind dst a ∷ []) ≤ 9
+unfolding spelling
+from_most Lb dst a = omega (arith, memory_most (number dst) a, length-append (memory (number dst) a) [])
+from_most Lh dst a = omega (arith, memory_most (number dst) a, length-append (memory (number dst) a) [])
+from_most Lw dst a = omega (arith, place_most_of 0x8B (number dst) a, length-append (coded Dword 0x8B (number dst) (Mem a)) [])
+from_most Lbu dst a = omega (arith, memory_most (number dst) a, length-append (memory (number dst) a) [])
+from_most Lhu dst a = omega (arith, memory_most (number dst) a, length-append (memory (number dst) a) [])
 
 load_most : (registers : RegisterMap) (kind : LoadKind) (rd rs1 displacement : ℕ) → rd < 32 → rs1 < 32 → bytes (load_line registers kind rd rs1 displacement) ≤ 22
 load_most registers kind rd rs1 n d a =
+    let base = assigned registers rs1 in
+    let place = assigned registers rd in
+    let to = data_address (register_or base Rax) n in
     omega (
       arith,
       both (load_code registers kind rd rs1 n) count,
-      both (fetch registers Rax rs1) (load_from kind (data_address n) ∷ write registers rd),
-      both (load_from kind (data_address n) ∷ []) (write registers rd),
-      fetch_most registers Rax rs1 a,
-      from_most kind n,
-      write_most registers rd d,
+      both (read base Rax rs1) (load_from kind (result_in place) to ∷ settle registers place rd),
+      both (load_from kind (result_in place) to ∷ []) (settle registers place rd),
+      read_most base Rax rs1 a,
+      from_most kind (result_in place) to,
+      settle_most registers place rd d,
       count_is,
     )
 
-to_most : (width : StoreWidth) (displacement : ℕ) → bytes (store_to width (data_address displacement) ∷ []) ≤ 9
-unfolding spelling rex
-to_most Sb n = let a = data_address n in omega (arith, memory_most 1 a, length-append (memory 1 a) [])
-to_most Sh n = let a = data_address n in omega (arith, memory_most 1 a, length-append (memory 1 a) [])
-to_most Sw n = let a = data_address n in omega (arith, memory_most 1 a, length-append (memory 1 a) [])
+to_most : (width : StoreWidth) (a : Address) (src : Register) → bytes (store_to width a src ∷ []) ≤ 9
+unfolding spelling
+to_most Sb a src = omega (arith, memory_most (number src) a, length-append (memory (number src) a) [])
+to_most Sh a src = omega (arith, place_most_of 0x89 (number src) a, length-append (coded Dword 0x89 (number src) (Mem a)) [])
+to_most Sw a src = omega (arith, place_most_of 0x89 (number src) a, length-append (coded Dword 0x89 (number src) (Mem a)) [])
 
 store_most : (registers : RegisterMap) (width : StoreWidth) (rs1 rs2 displacement : ℕ) → rs1 < 32 → rs2 < 32 → bytes (store_line registers width rs1 rs2 displacement) ≤ 23
 store_most registers width rs1 rs2 n a b =
-    let access = store_to width (data_address n) ∷ [] in
-    omega (arith, both (fetch registers Rax rs1) (fetch registers Rcx rs2 ++ (access ++ count)), both (fetch registers Rcx rs2) (access ++ count), both access count, fetch_most registers Rax rs1 a, fetch_most registers Rcx rs2 b, to_most width n, count_is)
+    let base = assigned registers rs1 in
+    let stored = assigned registers rs2 in
+    let to = data_address (register_or base Rax) n in
+    let access = store_to width to (register_or stored Rcx) ∷ [] in
+    omega (arith, both (read base Rax rs1) (read stored Rcx rs2 ++ (access ++ count)), both (read stored Rcx rs2) (access ++ count), both access count, read_most base Rax rs1 a, read_most stored Rcx rs2 b, to_most width to (register_or stored Rcx), count_is)
 
 head_is : (at distance : ℕ) → bytes (head_line at distance) ≡ 15
 unfolding spelling rex

@@ -1,5 +1,5 @@
 -- The code of stores to the data.
-use Rattle.std.proofs.Common.{◌≡◌, ℕ, zero, suc, ◌+◌, ◌-◌, ◌*◌, ◌/◌, ◌%◌, ◌^◌, ◌<◌, ◌≤◌, ◌⊎◌, true, Some, [], ◌∷◌, ◌++◌, refl, sym, ap, ◌∙◌, subst, arith, inl, inr}
+use Rattle.std.proofs.Common.{◌≡◌, ℕ, zero, suc, ◌+◌, ◌-◌, ◌*◌, ◌/◌, ◌%◌, ◌^◌, ◌<◌, ◌≤◌, ◌⊎◌, true, Option, Some, None, [], ◌∷◌, ◌++◌, refl, sym, ap, ◌∙◌, subst, arith, inl, inr}
 use Rattle.std.specs.Prelude.{Ok}
 use Rattle.std.specs.Int.{bytes_low_first}
 use Rattle.std.proofs.lemmas.Bool.{cases_lt}
@@ -13,9 +13,11 @@ use Rattle.rv_step.specs.Step.{store_size, word}
 use Rattle.sfi_safe_runs.proofs.Accessing.{store_sized}
 use Rattle.sfi_image.specs.Spelling.{Part}
 use Rattle.sfi_translate.specs.Machine.{Before, Going}
+use Rattle.x86_instr.specs.declared.operand.Register.{Register}
 use Rattle.x86_instr.specs.declared.operand.Register.TheVariants.{Rax, Rcx}
+use Rattle.x86_instr.specs.Spelling.{number}
 use Rattle.x86_instr.specs.declared.operand.Address.{Address}
-use Rattle.x86_step.specs.State.{Core, may_write, number_at, with_memory, with_register, written}
+use Rattle.x86_step.specs.State.{Core, may_write, number_at, with_memory, written}
 use Rattle.x86_step.specs.Step.{address, stored as stores}
 unfoldable use Rattle.x86_step.specs.Step.{computes}
 use Rattle.x86_step.specs.Running.{are_straight, exec}
@@ -25,12 +27,12 @@ use Rattle.sfi_native.specs.declared.layout.Layout.{Layout}
 use Rattle.sfi_native.specs.Layout.{IsLayout, IsRelated, OthersStay, value}
 use Rattle.sfi_native.specs.Laws.{StoreLinesRun, line_most}
 use Rattle.sfi_native.specs.Registers.{assigned}
-use Rattle.sfi_native.proofs.Assigned.{holds_on}
-use Rattle.sfi_native.specs.Code.{count, data_address, fetch, store_line, store_to}
+use Rattle.sfi_native.proofs.Assigned.{holds_on, not_frame, not_free}
+use Rattle.sfi_native.specs.Code.{count, data_address, read, register_or, store_line, store_to}
 use Rattle.sfi_native.proofs.Accessing.{number_is, place_is, some_number, within}
-use Rattle.sfi_native.proofs.Kept.{kept_join, kept_register, others_join, others_kept}
+use Rattle.sfi_native.proofs.Kept.{kept_join, others_join, others_kept}
 use Rattle.sfi_native.proofs.Counting.{counts}
-use Rattle.sfi_native.proofs.Fetching.{fetched, related_kept}
+use Rattle.sfi_native.proofs.Fetching.{reads, related_kept}
 use Rattle.sfi_native.proofs.Lines.{none_comes}
 use Rattle.sfi_native.proofs.Memory.{may_write_each, number_elsewhere, store_there, written_elsewhere, written_here}
 use Rattle.sfi_native.proofs.Lengths.{store_few}
@@ -128,16 +130,23 @@ module _ (p : Part) (l : Layout) (layout : IsLayout p.data_size l) (g : Going) (
 
 -- ==== A store.
 
-store_straight : (width : StoreWidth) (a : Address) → are_straight ((store_to width a ∷ []) ++ count) ≡ true
-store_straight Sb a = refl
-store_straight _ a = refl
+store_straight : (width : StoreWidth) (a : Address) (src : Register) → are_straight ((store_to width a src ∷ []) ++ count) ≡ true
+store_straight Sb a src = refl
+store_straight _ a src = refl
 
--- ecx goes to the place
-puts : (width : StoreWidth) (a : Address) (c d : Core) → stores c (store_size width) (address c a) (c.registers 1) ≡ Ok d → exec (store_to width a ∷ []) c ≡ Ok d
+line_straight : (width : StoreWidth) (a : Address) (src : Register) (rs1 rs2 : ℕ) (first second : Option Register)
+    → are_straight (read first Rax rs1 ++ (read second Rcx rs2 ++ ((store_to width a src ∷ []) ++ count))) ≡ true
+line_straight width a src rs1 rs2 None None = store_straight width a src
+line_straight width a src rs1 rs2 None (Some k) = store_straight width a src
+line_straight width a src rs1 rs2 (Some q) None = store_straight width a src
+line_straight width a src rs1 rs2 (Some q) (Some k) = store_straight width a src
+
+-- the register goes to the place
+puts : (width : StoreWidth) (a : Address) (src : Register) (c d : Core) → stores c (store_size width) (address c a) (c.registers (number src)) ≡ Ok d → exec (store_to width a src ∷ []) c ≡ Ok d
 unfolding computes
-puts Sb a c d is = rw is refl
-puts Sh a c d is = rw is refl
-puts Sw a c d is = rw is refl
+puts Sb a src c d is = rw is refl
+puts Sh a src c d is = rw is refl
+puts Sw a src c d is = rw is refl
 
 pub store_lines_run : StoreLinesRun
 unfolding InRange
@@ -146,31 +155,42 @@ store_lines_run target p code rest own size width rs1 rs2 imm l t at g c range i
     let sized = store_sized width in
     let a = value p g rs1 in
     let b = value p g rs2 in
-    let to = data_address (word imm) in
-    let c1 = with_register c 0 a in
-    let c2 = with_register c1 1 b in
-    let is1 = related_kept p l here.layout g c c1 here.related (kept_register c 0 a (omega arith)) in
-    let is2 = related_kept p l here.layout g c1 c2 is1 (kept_register c1 1 b (omega arith)) in
+    let o1 = assigned l.registers rs1 in
+    let o2 = assigned l.registers rs2 in
+    let x = register_or o1 Rax in
+    let y = register_or o2 Rcx in
+    let to = data_address x (word imm) in
+    let right = here.layout.registers_are_right in
+    let first = reads p l here.layout g c Rax (omega arith) rs1 range.0 here.related in
+    let c1 = first.core in
+    let is1 = related_kept p l here.layout g c c1 here.related first.kept in
+    let second = reads p l here.layout g c1 Rcx (omega arith) rs2 range.1 is1 in
+    let c2 = second.core in
+    let kept = kept_join c c1 c2 first.kept second.kept in
+    let is2 = related_kept p l here.layout g c c2 here.related kept in
     let w = within p l here.layout g c here.related in_data.room n sized.some in_data.fits rs1 imm range.2 in_data.tested in
     let place = l.data_start + (offset_by a imm - p.data_base) in
     let old = some_number (bytes_at g.state.memory (addresses (offset_by a imm) n)) there in
-    let held : number_at c.memory n place ≡ Some old.0 = number_is p l here.layout g c here.related in_data.room n sized.some in_data.fits rs1 imm range.2 in_data.tested ∙ old.1 in
+    let held : number_at c2.memory n place ≡ Some old.0 = ap (λ m. number_at m n place) kept.memory
+    ∙ number_is p l here.layout g c here.related in_data.room n sized.some in_data.fits rs1 imm range.2 in_data.tested ∙ old.1 in
     let inside : p.data_base + p.data_size ≤ 2 ^ 32 = omega (arith, in_data.room.above) in
-    let c3 = with_memory c2 (written c.memory n place b) in
+    let c3 = with_memory c2 (written c2.memory n place b) in
     let is3 = related_stored p l here.layout g c2 is2 width (offset_by a imm) b w.0 w.1 inside in
-    let put : stores c2 n (address c2 to) b ≡ Ok c3 =
-    ap (λ q. stores c2 n q b) (place_is p l here.layout g c here.related in_data.room n sized.some in_data.fits rs1 imm range.2 in_data.tested)
+    let in_x : c2.registers (number x) ≡ a = second.others (number x) (not_free l.registers right rs1 o1 refl Rax 1 (omega arith) (λ e. omega (arith, e))) ∙ first.result in
+    let where_is : address c2 to ≡ place = place_is p l here.layout g c here.related in_data.room n sized.some in_data.fits rs1 imm range.2 in_data.tested c2 x kept (not_frame l.registers right rs1 o1 refl Rax (omega arith)) in_x in
+    let put : stores c2 n (address c2 to) (c2.registers (number y)) ≡ Ok c3 =
+    ap (stores c2 n (address c2 to)) second.result ∙ ap (λ q. stores c2 n q b) where_is
     ∙ store_there c2 n place old.0 b (omega (arith, w.1, here.layout.data_ends)) held (may_be_written p l here.layout g c2 is2 width (offset_by a imm) b w.0 w.1 inside) in
     let still = none_comes p l here.layout _ c3 is3 (Before rest) (address_after own size) in
     let last = counts p l here.layout _ c3 still in
     let runs : exec (store_line l.registers width rs1 rs2 (word imm)) c ≡ Ok last.core =
-    exec_append (fetch l.registers Rax rs1) (fetch l.registers Rcx rs2 ++ ((store_to width to ∷ []) ++ count)) c c1 (fetched p l here.layout g c Rax rs1 range.0 here.related)
-    ∙ exec_append (fetch l.registers Rcx rs2) ((store_to width to ∷ []) ++ count) c1 c2 (fetched p l here.layout g c1 Rcx rs2 range.1 is1)
-    ∙ exec_append (store_to width to ∷ []) count c2 c3 (puts width to c2 c3 put) ∙ last.runs in
+    exec_append (read o1 Rax rs1) (read o2 Rcx rs2 ++ ((store_to width to y ∷ []) ++ count)) c c1 first.runs
+    ∙ exec_append (read o2 Rcx rs2) ((store_to width to y ∷ []) ++ count) c1 c2 second.runs
+    ∙ exec_append (store_to width to y ∷ []) count c2 c3 (puts width to y c2 c3 put) ∙ last.runs in
     rw (in_data.tested, there) (record {
       after = last.core;
-      reached = in_more t _ line_most _ _ (store_few l.registers width rs1 rs2 (word imm)) (spelled_run t at (store_line l.registers width rs1 rs2 (word imm)) c last.core here.text_is_fixed (store_straight width to) here.stands runs);
+      reached = in_more t _ line_most _ _ (store_few l.registers width rs1 rs2 (word imm)) (spelled_run t at (store_line l.registers width rs1 rs2 (word imm)) c last.core here.text_is_fixed (line_straight width to y rs1 rs2 o1 o2) here.stands runs);
       related = last.related;
-      others = others_join p l c c2 last.core (others_kept p l c c2 (kept_join c c1 c2 (kept_register c 0 a (omega arith)) (kept_register c1 1 b (omega arith))))
+      others = others_join p l c c2 last.core (others_kept p l c c2 kept)
           (others_join p l c2 c3 last.core (data_stored p l here.layout g c2 is2 width (offset_by a imm) b w.0 w.1 inside) last.stay);
     })

@@ -60,12 +60,21 @@ store_eax None r = MovStore Dword (slot r) Rax
 abbrev pub write : RegisterMap → ℕ → List Native
 write registers r = if is_fixed r then [] else store_eax (assigned registers r) r ∷ []
 
--- ==== Results where they lie. Some register is where the result's register lies; None: the result is computed in eax.
+-- ==== Values where they lie.
 
--- the register that a result is computed in
+-- the register that one of the sandbox's lies in, or else that free one
+abbrev pub register_or : Option Register → Register → Register
+register_or (Some q) free = q
+register_or None free = free
+
+-- register r into that free one, unless it lies in a register
+abbrev pub read : Option Register → Register → ℕ → List Native
+read (Some q) free r = []
+read None free r = Mov Dword free (Mem (slot r)) ∷ []
+
+-- the register that a result is computed in, where its own lies, or else eax
 abbrev pub result_in : Option Register → Register
-result_in (Some q) = q
-result_in None = Rax
+result_in place = register_or place Rax
 
 -- rd gets the result
 abbrev pub settle : RegisterMap → Option Register → ℕ → List Native
@@ -271,7 +280,9 @@ opposite Bltu = AboveOrEqual
 opposite Bgeu = Below
 
 abbrev pub compare_code : RegisterMap → ℕ → ℕ → List Native
-compare_code registers rs1 rs2 = fetch registers Rax rs1 ++ (fetch registers Rcx rs2 ++ (count ++ (Alu alu.Cmp Dword Rax (Reg Rcx) ∷ [])))
+compare_code registers rs1 rs2 =
+    let first = assigned registers rs1 in
+    read first Rax rs1 ++ (count ++ (Alu alu.Cmp Dword (register_or first Rax) (operand_of (assigned registers rs2) rs2) ∷ []))
 
 -- the line of a branch
 abbrev pub branch_line : RegisterMap → Cond → ℕ → ℕ → Jump → List Native
@@ -324,31 +335,38 @@ abbrev pub jalr_line : RegisterMap → ℕ → ℕ → ℕ → ℕ → ℕ → L
 jalr_line registers rd rs1 displacement next distance =
     (target_code registers rs1 displacement ++ (number_code registers rd next ++ count)) ++ indirect_jump distance
 
--- ==== Accesses: eax has the value of rs1, ecx that of rs2, r15 the origin of the data.
+-- ==== Accesses: rs1 lies in a register or is read into eax, rs2 likewise into ecx; r15 has the origin of the data.
 
-abbrev pub data_address : ℕ → Address
-data_address displacement = record { base = R15; index = Rax; scale = One; displacement = displacement }
+-- the place that a register and a displacement say
+abbrev pub data_address : Register → ℕ → Address
+data_address index displacement = record { base = R15; index = index; scale = One; displacement = displacement }
 
-abbrev pub load_from : LoadKind → Address → Native
-load_from Lb a = MovExtended Sign Byte Rax (Mem a)
-load_from Lh a = MovExtended Sign Word Rax (Mem a)
-load_from Lw a = Mov Dword Rax (Mem a)
-load_from Lbu a = MovExtended Zero Byte Rax (Mem a)
-load_from Lhu a = MovExtended Zero Word Rax (Mem a)
+abbrev pub load_from : LoadKind → Register → Address → Native
+load_from Lb dst a = MovExtended Sign Byte dst (Mem a)
+load_from Lh dst a = MovExtended Sign Word dst (Mem a)
+load_from Lw dst a = Mov Dword dst (Mem a)
+load_from Lbu dst a = MovExtended Zero Byte dst (Mem a)
+load_from Lhu dst a = MovExtended Zero Word dst (Mem a)
 
 abbrev pub load_code : RegisterMap → LoadKind → ℕ → ℕ → ℕ → List Native
-load_code registers kind rd rs1 displacement = fetch registers Rax rs1 ++ (load_from kind (data_address displacement) ∷ write registers rd)
+load_code registers kind rd rs1 displacement =
+    let base = assigned registers rs1 in
+    let place = assigned registers rd in
+    read base Rax rs1 ++ (load_from kind (result_in place) (data_address (register_or base Rax) displacement) ∷ settle registers place rd)
 
 -- the line of a load: its step is counted last, as it isn't done where the access faults
 abbrev pub load_line : RegisterMap → LoadKind → ℕ → ℕ → ℕ → List Native
 load_line registers kind rd rs1 displacement = load_code registers kind rd rs1 displacement ++ count
 
-abbrev pub store_to : StoreWidth → Address → Native
-store_to Sb a = MovStoreByte a Rcx
-store_to Sh a = MovStoreWord a Rcx
-store_to Sw a = MovStore Dword a Rcx
+abbrev pub store_to : StoreWidth → Address → Register → Native
+store_to Sb a src = MovStoreByte a src
+store_to Sh a src = MovStoreWord a src
+store_to Sw a src = MovStore Dword a src
 
 -- the line of a store
 abbrev pub store_line : RegisterMap → StoreWidth → ℕ → ℕ → ℕ → List Native
 store_line registers width rs1 rs2 displacement =
-    fetch registers Rax rs1 ++ (fetch registers Rcx rs2 ++ ((store_to width (data_address displacement) ∷ []) ++ count))
+    let base = assigned registers rs1 in
+    let stored = assigned registers rs2 in
+    read base Rax rs1
+    ++ (read stored Rcx rs2 ++ ((store_to width (data_address (register_or base Rax) displacement) (register_or stored Rcx) ∷ []) ++ count))

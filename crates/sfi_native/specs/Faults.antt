@@ -9,13 +9,14 @@ use Rattle.x86_step.specs.Running.{spellings}
 use Rattle.x86_step.specs.State.{Fixup, Text}
 use Rattle.sfi_native.specs.declared.registers.RegisterMap.{RegisterMap}
 use Rattle.sfi_native.specs.declared.faults.Access.{Access}
-use Rattle.sfi_native.specs.Code.{fetch}
+use Rattle.sfi_native.specs.Code.{read}
+use Rattle.sfi_native.specs.Registers.{assigned}
 use Rattle.sfi_native.specs.Places.{exit_of, start}
 
 -- what stands before the one instruction of a line that accesses the data
 abbrev pub front_of : RegisterMap → Instr → List Native
-front_of registers (Load kind rd rs1 imm) = fetch registers Rax rs1
-front_of registers (Store width rs1 rs2 imm) = fetch registers Rax rs1 ++ fetch registers Rcx rs2
+front_of registers (Load kind rd rs1 imm) = read (assigned registers rs1) Rax rs1
+front_of registers (Store width rs1 rs2 imm) = read (assigned registers rs1) Rax rs1 ++ read (assigned registers rs2) Rcx rs2
 front_of registers i = []
 
 -- a line's access, if it has one: how far behind its start it is, and the line's address

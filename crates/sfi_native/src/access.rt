@@ -3,54 +3,53 @@ ghost use Rattle.std.specs.Prelude.{◌≡◌, ◌++◌, OnOk};
 ghost use Rattle.sfi_native.specs.Code.{data_address as data_address_at, load_from as load_of, load_line, store_line, store_to as store_of};
 ghost use Rattle.x86_instr.specs.declared.instr.Instr.TheVariants.{MovExtended};
 ghost use Rattle.x86_instr.specs.declared.operand.Operand.TheVariants.{Mem};
-ghost use Rattle.x86_instr.specs.declared.operand.Register.TheVariants.{Rax};
 ghost use Rattle.x86_step.specs.Running.{spellings};
 
 use crate::computation::put_count;
-use crate::operation::{put, put_fetch, put_write};
+use crate::operation::{put, put_read, put_settle, register_or, result_in};
 use crate::registers::RegisterMap;
 use rv_word::{LoadKind, Reg, StoreWidth};
 use std::alloc::AllocError;
 use x86_instr::{Address, Extension, Instr, Narrow, Operand, Register, Scale, Width};
 
-/// The place in the data that eax and a displacement say.
-fn data_address(displacement: u32) -> Address
-    ensures { result ≡ data_address_at displacement }
+/// The place in the data that a register and a displacement say.
+fn data_address(index: Register, displacement: u32) -> Address
+    ensures { result ≡ data_address_at index displacement }
 {
     Address {
         base: Register::R15,
-        index: Register::Rax,
+        index,
         scale: Scale::One,
         displacement,
     }
 }
 
-/// A load of a byte or a halfword into eax.
-fn narrow_load(extension: Extension, from: Narrow, place: Address) -> Instr
-    ensures { result ≡ MovExtended extension from Rax (Mem place) }
+/// A load of a byte or a halfword into a register.
+fn narrow_load(extension: Extension, from: Narrow, dst: Register, place: Address) -> Instr
+    ensures { result ≡ MovExtended extension from dst (Mem place) }
 {
     Instr::MovExtended {
         extension,
         from,
-        dst: Register::Rax,
+        dst,
         src: Operand::Mem(place),
     }
 }
 
-/// A load into eax.
-fn load_from(kind: LoadKind, place: Address) -> Instr
-    ensures { result ≡ load_of kind place }
+/// A load into a register.
+fn load_from(kind: LoadKind, dst: Register, place: Address) -> Instr
+    ensures { result ≡ load_of kind dst place }
 {
     match kind {
-        LoadKind::Lb => narrow_load(Extension::Sign, Narrow::Byte, place),
-        LoadKind::Lh => narrow_load(Extension::Sign, Narrow::Word, place),
+        LoadKind::Lb => narrow_load(Extension::Sign, Narrow::Byte, dst, place),
+        LoadKind::Lh => narrow_load(Extension::Sign, Narrow::Word, dst, place),
         LoadKind::Lw => Instr::Mov {
             width: Width::Dword,
-            dst: Register::Rax,
+            dst,
             src: Operand::Mem(place),
         },
-        LoadKind::Lbu => narrow_load(Extension::Zero, Narrow::Byte, place),
-        LoadKind::Lhu => narrow_load(Extension::Zero, Narrow::Word, place),
+        LoadKind::Lbu => narrow_load(Extension::Zero, Narrow::Byte, dst, place),
+        LoadKind::Lhu => narrow_load(Extension::Zero, Narrow::Word, dst, place),
     }
 }
 
@@ -66,29 +65,26 @@ pub fn push_load_line(
 ) -> Result<(), AllocError>
     ensures { OnOk result (out.new.items ≡ out.old.items ++ spellings (load_line registers.now kind rd rs1 displacement)) }
 {
-    put_fetch(out, registers, Register::Rax, rs1)?;
-    put(out, load_from(kind, data_address(displacement)))?;
-    put_write(out, registers, rd)?;
+    let base = registers.of(rs1);
+    let place = registers.of(rd);
+    put_read(out, base, Register::Rax, rs1)?;
+    let from = data_address(register_or(base, Register::Rax), displacement);
+    put(out, load_from(kind, result_in(place), from))?;
+    put_settle(out, registers, place, rd)?;
     put_count(out)
 }
 
-/// A store of ecx.
-fn store_to(width: StoreWidth, place: Address) -> Instr
-    ensures { result ≡ store_of width place }
+/// A store of a register.
+fn store_to(width: StoreWidth, place: Address, src: Register) -> Instr
+    ensures { result ≡ store_of width place src }
 {
     match width {
-        StoreWidth::Sb => Instr::MovStoreByte {
-            dst: place,
-            src: Register::Rcx,
-        },
-        StoreWidth::Sh => Instr::MovStoreWord {
-            dst: place,
-            src: Register::Rcx,
-        },
+        StoreWidth::Sb => Instr::MovStoreByte { dst: place, src },
+        StoreWidth::Sh => Instr::MovStoreWord { dst: place, src },
         StoreWidth::Sw => Instr::MovStore {
             width: Width::Dword,
             dst: place,
-            src: Register::Rcx,
+            src,
         },
     }
 }
@@ -105,8 +101,11 @@ pub fn push_store_line(
 ) -> Result<(), AllocError>
     ensures { OnOk result (out.new.items ≡ out.old.items ++ spellings (store_line registers.now width rs1 rs2 displacement)) }
 {
-    put_fetch(out, registers, Register::Rax, rs1)?;
-    put_fetch(out, registers, Register::Rcx, rs2)?;
-    put(out, store_to(width, data_address(displacement)))?;
+    let base = registers.of(rs1);
+    let stored = registers.of(rs2);
+    put_read(out, base, Register::Rax, rs1)?;
+    put_read(out, stored, Register::Rcx, rs2)?;
+    let to = data_address(register_or(base, Register::Rax), displacement);
+    put(out, store_to(width, to, register_or(stored, Register::Rcx)))?;
     put_count(out)
 }

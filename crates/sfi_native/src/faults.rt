@@ -1,6 +1,7 @@
 //! Where code accesses the data.
 ghost use Rattle.std.specs.Prelude.{◌≡◌, ◌≤◌, ◌<◌, ◌^◌, ◌++◌, [], length, IfSome, OnOk};
-ghost use Rattle.sfi_native.specs.Code.{fetch};
+ghost use Rattle.sfi_native.specs.Code.{read};
+ghost use Rattle.sfi_native.specs.Registers.{assigned};
 ghost use Rattle.sfi_native.specs.Faults.{access_in, with_access};
 ghost use Rattle.sfi_native.specs.Lines.{line_of};
 ghost use Rattle.x86_instr.specs.declared.operand.Register.TheVariants.{Rax, Rcx};
@@ -20,20 +21,21 @@ pub struct Access {
     pub pc: u32,
 }
 
-/// How many bytes fetch a register into eax or ecx.
-#[tactic(auto, using(crate::proofs::Fixups::eax_zero, crate::proofs::Fixups::eax_some, crate::proofs::Fixups::ecx_zero, crate::proofs::Fixups::ecx_some, crate::proofs::Fixups::eax_low, crate::proofs::Fixups::eax_high, crate::proofs::Fixups::ecx_low, crate::proofs::Fixups::ecx_high))]
-fn fetch_size(registers: &RegisterMap, r: Reg) -> u32
-    ensures eax { result ≡ length (spellings (fetch registers.now Rax r)) }
+/// How many bytes fetch a register into eax or ecx, if it lies in the frame.
+#[tactic(auto, using(crate::proofs::Fixups::eax_zero, crate::proofs::Fixups::eax_some, crate::proofs::Fixups::ecx_zero, crate::proofs::Fixups::ecx_some, crate::proofs::Fixups::eax_lies, crate::proofs::Fixups::ecx_lies))]
+fn read_size(registers: &RegisterMap, r: Reg) -> u32
+    ensures eax { result ≡ length (spellings (read (assigned registers.now r) Rax r)) }
     ensures few { result ≤ 4 }
-    ensures ecx { result ≡ length (spellings (fetch registers.now Rcx r)) }
+    ensures ecx { result ≡ length (spellings (read (assigned registers.now r) Rcx r)) }
 {
     match registers.of(r) {
-        Some(q) => if q.number() < 8 { 2 } else { 3 },
+        Some(_) => 0,
         None => if r.number() == 0 { 3 } else { 4 },
     }
 }
 
 /// The access of a line, if it has one, as far behind the line's start.
+#[tactic(auto, using(crate::proofs::Fixups::front_below))]
 fn access_of(registers: &RegisterMap, line: &Line) -> Option<Access>
     ensures is { result ≡ access_in registers.now (line_of line.now) }
     ensures few { IfSome result (λ a. a.offset ≤ 8) }
@@ -43,11 +45,11 @@ fn access_of(registers: &RegisterMap, line: &Line) -> Option<Access>
     };
     match instr {
         Instr::Load { rs1, .. } => Some(Access {
-            offset: fetch_size(registers, rs1),
+            offset: read_size(registers, rs1),
             pc: at,
         }),
         Instr::Store { rs1, rs2, .. } => Some(Access {
-            offset: fetch_size(registers, rs1) + fetch_size(registers, rs2),
+            offset: read_size(registers, rs1) + read_size(registers, rs2),
             pc: at,
         }),
         _ => None,

@@ -5,11 +5,11 @@ ghost use Rattle.x86_step.specs.Running.{spellings};
 
 use crate::computation::{put_count, put_number};
 use crate::head::push_head_line;
-use crate::operation::{put, put_fetch, with_operand};
+use crate::operation::{operand, put, put_read, register_or, with_operand};
 use crate::registers::RegisterMap;
 use rv_word::{Cond, Reg};
 use std::alloc::AllocError;
-use x86_instr::{AluOp, Condition, Instr, Operand, Register};
+use x86_instr::{AluOp, Condition, Instr, Register};
 
 /// A jump between two addresses of the sandbox. Distances are in bytes, from the line's end, in two's complement.
 #[derive(Clone, Copy)]
@@ -81,12 +81,16 @@ fn put_compare(
 ) -> Result<(), AllocError>
     ensures { OnOk result (out.new.items ≡ out.old.items ++ spellings (compare_code registers.now rs1 rs2)) }
 {
-    put_fetch(out, registers, Register::Rax, rs1)?;
-    put_fetch(out, registers, Register::Rcx, rs2)?;
+    let first = registers.of(rs1);
+    put_read(out, first, Register::Rax, rs1)?;
     put_count(out)?;
     put(
         out,
-        with_operand(AluOp::Cmp, Register::Rax, Operand::Reg(Register::Rcx)),
+        with_operand(
+            AluOp::Cmp,
+            register_or(first, Register::Rax),
+            operand(registers, rs2),
+        ),
     )
 }
 

@@ -1,6 +1,6 @@
 //! The instructions of one operation, and those that fetch and write the sandbox's registers.
 ghost use Rattle.std.specs.Prelude.{◌≡◌, ◌++◌, ◌∷◌, [], ◌%◌, OnOk};
-ghost use Rattle.sfi_native.specs.Code.{bring, compute, compute_imm, fetch, high_product, lies_in as lies_in_of, needs_ecx as needs_ecx_of, operand_of, result_in as result_in_of, set_if, settle, slot as slot_of, store_eax as store_eax_of, write};
+ghost use Rattle.sfi_native.specs.Code.{bring, compute, compute_imm, fetch, high_product, lies_in as lies_in_of, needs_ecx as needs_ecx_of, operand_of, read, register_or as register_or_of, result_in as result_in_of, set_if, settle, slot as slot_of, store_eax as store_eax_of, write};
 ghost use Rattle.sfi_native.specs.Registers.{assigned};
 ghost use Rattle.rv_word.specs.declared.instr.RegOp.TheVariants.{Mulh, Mulhsu};
 ghost use Rattle.rv_word.specs.declared.instr.ImmOp.TheVariants.{Addi};
@@ -102,14 +102,44 @@ pub(crate) fn put_write(
     put(out, store_eax(registers, r))
 }
 
+/// The register that one of the sandbox's lies in, or else that free one.
+pub(crate) fn register_or(place: Option<Register>, free: Register) -> Register
+    ensures { result ≡ register_or_of place free }
+{
+    match place {
+        Some(q) => q,
+        None => free,
+    }
+}
+
+/// Fetches a register into that free one, unless it lies in a register.
+#[tactic(auto, using(crate::proofs::Lists::no_part))]
+pub(crate) fn put_read(
+    out: &mut Vec<u8>,
+    place: Option<Register>,
+    free: Register,
+    r: Reg,
+) -> Result<(), AllocError>
+    ensures { OnOk result (out.new.items ≡ out.old.items ++ spellings (read place free r)) }
+{
+    match place {
+        Some(_) => Ok(()),
+        None => put(
+            out,
+            Instr::Mov {
+                width: Width::Dword,
+                dst: free,
+                src: Operand::Mem(slot(r)),
+            },
+        ),
+    }
+}
+
 /// The register that a result is computed in: where it lies, or else eax.
 pub(crate) fn result_in(place: Option<Register>) -> Register
     ensures { result ≡ result_in_of place }
 {
-    match place {
-        Some(q) => q,
-        None => Register::Rax,
-    }
+    register_or(place, Register::Rax)
 }
 
 /// Writes what puts a result into a register, if it was computed in eax.

@@ -1,6 +1,8 @@
 //! Lines by a map of registers, as the GNU assembler spells their instructions, and maps that aren't right.
-use crate::{RegisterMap, push_computing_line, push_load_line};
-use rv_word::{ImmOp, Instr, LoadKind, Reg, RegOp};
+use crate::{
+    Jump, RegisterMap, push_branch_line, push_computing_line, push_load_line, push_store_line,
+};
+use rv_word::{Cond, ImmOp, Instr, LoadKind, Reg, RegOp, StoreWidth};
 use std::test::Fail;
 use x86_instr::Register;
 
@@ -70,25 +72,64 @@ fn computations_are_spelled_by_a_map(rt: HostRuntime) -> Result<(), Fail> {
     Ok(())
 }
 
-const LOAD_BY_MAP: [u8; 16] = [
-    139, 198, // {load} mov eax, esi
-    65, 15, 190, 68, 7, 252, // movsx eax, byte ptr [r15+rax-4]
+const ACCESSES_BY_MAP: [u8; 44] = [
+    65, 15, 190, 68, 55, 252, // movsx eax, byte ptr [r15+rsi-4]
     137, 68, 36, 40, // mov [rsp+40], eax
+    65, 131, 238, 1, // sub r14d, 1
+    65, 139, 92, 55, 8, // mov ebx, [r15+rsi+8]
+    65, 131, 238, 1, // sub r14d, 1
+    69, 136, 28, 55, // mov [r15+rsi], r11b
+    65, 131, 238, 1, // sub r14d, 1
+    139, 68, 36, 40, // mov eax, [rsp+40]
+    65, 137, 116, 7, 4, // mov [r15+rax+4], esi
     65, 131, 238, 1, // sub r14d, 1
 ];
 
 #[test]
-fn loads_are_spelled_by_a_map(rt: HostRuntime) -> Result<(), Fail> {
+fn accesses_are_spelled_by_a_map(rt: HostRuntime) -> Result<(), Fail> {
     let mut out = Vec::new(rt.alloc());
-    push_load_line(
+    let registers = some_registers();
+    let (x2, x10) = (Reg::numbered(2), Reg::numbered(10));
+    push_load_line(&mut out, &registers, LoadKind::Lb, x10, x2, 0xffff_fffc)?;
+    push_load_line(&mut out, &registers, LoadKind::Lw, Reg::numbered(6), x2, 8)?;
+    push_store_line(
+        &mut out,
+        &registers,
+        StoreWidth::Sb,
+        x2,
+        Reg::numbered(7),
+        0,
+    )?;
+    push_store_line(&mut out, &registers, StoreWidth::Sw, x10, x2, 4)?;
+    assert!(rt; out.as_slice() == ACCESSES_BY_MAP.as_slice());
+    Ok(())
+}
+
+const BRANCH_BY_MAP: [u8; 19] = [
+    65, 131, 238, 1, // sub r14d, 1
+    68, 59, 4, 36, // cmp r8d, [rsp]
+    15, 130, 5, 0, 0, 0, // {disp32} jb .+11
+    233, 0, 1, 0, 0, // {disp32} jmp .+261
+];
+
+#[test]
+fn branches_are_spelled_by_a_map(rt: HostRuntime) -> Result<(), Fail> {
+    let mut out = Vec::new(rt.alloc());
+    let ahead = Jump {
+        from: 0x0100_0000,
+        to: 0x0100_0040,
+        label: 256,
+        exit: 4096,
+    };
+    push_branch_line(
         &mut out,
         &some_registers(),
-        LoadKind::Lb,
-        Reg::numbered(10),
-        Reg::numbered(2),
-        0xffff_fffc,
+        Cond::Bgeu,
+        Reg::numbered(5),
+        Reg::numbered(0),
+        ahead,
     )?;
-    assert!(rt; out.as_slice() == LOAD_BY_MAP.as_slice());
+    assert!(rt; out.as_slice() == BRANCH_BY_MAP.as_slice());
     Ok(())
 }
 

@@ -53,11 +53,10 @@ fn lines_are_spelled(rt: HostRuntime) -> Result<(), Fail> {
     Ok(())
 }
 
-const JUMPS: [u8; 128] = [
+const JUMPS: [u8; 126] = [
     139, 68, 36, 20, // mov eax, [rsp+20]
-    139, 76, 36, 24, // mov ecx, [rsp+24]
     65, 131, 238, 1, // sub r14d, 1
-    59, 193, // {load} cmp eax, ecx
+    59, 68, 36, 24, // cmp eax, [rsp+24]
     15, 130, 5, 0, 0, 0, // {disp32} jb 1f
     233, 0, 1, 0, 0, // {disp32} jmp .+261
     184, 4, 0, 0, 1, // 1: mov eax, 0x1000004
@@ -303,14 +302,13 @@ fn each_kind_of_line_is_spelled(rt: HostRuntime) -> Result<(), Fail> {
     Ok(())
 }
 
-const COMPILED: [u8; 87] = [
+const COMPILED: [u8; 85] = [
     186, 0, 0, 0, 1, // mov edx, 0x1000000
     65, 131, 254, 65, // cmp r14d, 65
-    15, 130, 72, 0, 0, 0, // {disp32} jb 9f
+    15, 130, 70, 0, 0, 0, // {disp32} jb 9f
     139, 68, 36, 20, // 1: mov eax, [rsp+20]
-    139, 76, 36, 24, // mov ecx, [rsp+24]
     65, 131, 238, 1, // sub r14d, 1
-    59, 193, // {load} cmp eax, ecx
+    59, 68, 36, 24, // cmp eax, [rsp+24]
     15, 130, 5, 0, 0, 0, // {disp32} jb 3f
     233, 9, 0, 0, 0, // {disp32} jmp 2f
     184, 0, 176, 173, 222, // 3: mov eax, 0xdeadb000
@@ -321,12 +319,12 @@ const COMPILED: [u8; 87] = [
     186, 0, 0, 0, 1, // mov edx, 0x1000000
     65, 131, 254, 65, // cmp r14d, 65
     15, 130, 10, 0, 0, 0, // {disp32} jb 9f
-    233, 189, 255, 255, 255, // {disp32} jmp 1b
+    233, 191, 255, 255, 255, // {disp32} jmp 1b
     186, 12, 0, 0, 1, // mov edx, 0x100000c; 9:
 ];
 
 // 1, 3 and 2 above
-const ENTRIES: [u32; 3] = [15, 40, 49];
+const ENTRIES: [u32; 3] = [15, 38, 47];
 
 /// A sandbox of that code, at 0x01000000.
 fn part_of(alloc: Global, code: &[u8]) -> SandboxPart<'_> {
