@@ -1,6 +1,7 @@
 -- How many instructions the code of lines has.
-use Rattle.std.proofs.Common.{◌≡◌, ℕ, suc, ◌+◌, ◌*◌, ◌%◌, ◌^◌, ◌≤◌, ◌==◌, Bool, Option, Some, None, true, false, List, [], ◌∷◌, ◌++◌, length, refl, arith, length-append}
+use Rattle.std.proofs.Common.{◌≡◌, ℕ, suc, ◌+◌, ◌*◌, ◌%◌, ◌^◌, ◌≤◌, ◌==◌, Bool, Option, Some, None, true, false, List, [], ◌∷◌, ◌++◌, length, if◌then◌else◌, refl, arith, length-append}
 use Rattle.std.proofs.lemmas.Bool.{cond_both}
+use Rattle.std.specs.Prelude.{◌&&◌}
 use Rattle.rv_word.specs.declared.instr.RegOp.{RegOp}
 use Rattle.rv_word.specs.declared.instr.RegOp.TheVariants.{Add, Sub, Sll, Slt, Sltu, Xor, Srl, Sra, Or, And, Mul, Mulh, Mulhsu, Mulhu, Div, Divu, Rem, Remu}
 use Rattle.rv_word.specs.declared.instr.ImmOp.{ImmOp}
@@ -25,7 +26,7 @@ use Rattle.sfi_native.specs.Registers.{assigned, is_fixed}
 use Rattle.sfi_native.specs.Laws.{line_most}
 use Rattle.sfi_native.specs.Faults.{front_of}
 unfoldable use Rattle.sfi_native.specs.Code.{computation, compute, compute_imm}
-use Rattle.sfi_native.specs.Code.{bring, compare_code, computing_line, count, data_address, ecx_code, fetch, has_test, imm_code, lies_in, load_code, load_from, load_line, needs_ecx, number_code, op_code, operand_of, place_beside, place_code, read, register_or, result_in, settle, store_eax, store_line, store_to, target_code, test_code, tested_jump, unless, write}
+use Rattle.sfi_native.specs.Code.{beside_code, bring, compare_code, computing_line, count, data_address, ecx_code, fetch, has_test, imm_code, is_commutative, lies_in, load_code, load_from, load_line, needs_ecx, number_code, op_code, operand_of, place_beside, place_code, read, register_or, result_in, settle, store_eax, store_line, store_to, target_code, test_code, tested_jump, unless, write}
 
 write_few : (registers : RegisterMap) (r : ℕ) → length (write registers r) ≤ 1
 write_few registers r = cond_both (is_fixed r) [] (store_eax (assigned registers r) r ∷ []) (λ (is : List Native). length is ≤ 1) (λ e. omega arith) (λ e. omega arith)
@@ -93,11 +94,18 @@ place_few registers place op rd rs1 rs2 =
     let computes = compute op dst src in
     omega (arith, length-append (bring registers dst rs1) (computes ++ settle registers place rd), length-append computes (settle registers place rd), bring_few registers dst rs1, compute_few op dst src, settle_few registers place rd)
 
+beside_few : (registers : RegisterMap) (op : RegOp) (rd rs1 rs2 : ℕ) → length (beside_code registers op rd rs1 rs2) ≤ 13
+beside_few registers op rd rs1 rs2 = place_few registers (place_beside registers rd rs2) op rd rs1 rs2
+
 op_few : (registers : RegisterMap) (op : RegOp) (rd rs1 rs2 : ℕ) → length (op_code registers op rd rs1 rs2) ≤ 13
 op_few registers op rd rs1 rs2 =
-    let place = place_beside registers rd rs2 in
-    cond_both (needs_ecx op) (ecx_code registers op rd rs1 rs2) (place_code registers place op rd rs1 rs2) (λ (is : List Native). length is ≤ 13)
-    (λ e. ecx_few registers op rd rs1 rs2) (λ e. place_few registers place op rd rs1 rs2)
+    let exchanged = is_commutative op && (rd == rs2) in
+    let one = beside_code registers op rd rs2 rs1 in
+    let other = beside_code registers op rd rs1 rs2 in
+    let beside : List Native = if exchanged then one else other in
+    cond_both (needs_ecx op) (ecx_code registers op rd rs1 rs2) beside (λ (is : List Native). length is ≤ 13)
+    (λ e. ecx_few registers op rd rs1 rs2)
+    (λ e. cond_both exchanged one other (λ (is : List Native). length is ≤ 13) (λ h. beside_few registers op rd rs2 rs1) (λ h. beside_few registers op rd rs1 rs2))
 
 imm_few : (registers : RegisterMap) (op : ImmOp) (rd rs1 n : ℕ) → length (imm_code registers op rd rs1 n) ≤ 5
 imm_few registers op rd rs1 n =

@@ -2,7 +2,11 @@
 use Rattle.std.proofs.Common.{◌≡◌, ℕ, ◌+◌, ◌*◌, ◌%◌, ◌^◌, ◌<◌, Bool, true, false, List, [], ◌∷◌, ◌++◌, ◌==◌, ◌∙◌, Option, Some, None, if◌then◌else◌, refl, sym, ap, subst, append_assoc, arith, inl, inr}
 use Rattle.std.specs.Prelude.{Ok, ℤ}
 use Rattle.std.proofs.lemmas.Bool.{cases_Bool, eq-eqb, false≢true}
+use Rattle.std.proofs.lemmas.Nat.{and_comm, or_comm, xor_comm}
+use Rattle.std.proofs.Math.Nat.{add_comm, mul_comm}
+use Rattle.std.specs.Prelude.{◌&&◌}
 use Rattle.rv_word.specs.declared.instr.RegOp.{RegOp}
+use Rattle.rv_word.specs.declared.instr.RegOp.TheVariants.{Add, Xor, Or, And, Mul}
 use Rattle.rv_word.specs.declared.instr.ImmOp.{ImmOp}
 use Rattle.rv_word.specs.declared.instr.Instr.{Instr}
 use Rattle.rv_word.specs.declared.instr.Instr.TheVariants.{Op, OpImm, Lui, Auipc, Fence}
@@ -29,7 +33,7 @@ use Rattle.sfi_native.specs.declared.registers.RegisterMap.{RegisterMap}
 use Rattle.sfi_native.specs.declared.layout.Layout.{Layout}
 use Rattle.sfi_native.specs.Layout.{IsLayout, IsRelated, OthersStay, value}
 use Rattle.sfi_native.specs.Laws.{ComputingLinesRun, line_most}
-use Rattle.sfi_native.specs.Code.{bring, computing_line, count, does_compute, ecx_code, fetch, imm_code, needs_ecx, number_code, op_code, operand_of, place_beside, place_code, result_in, settle, store_eax, write}
+use Rattle.sfi_native.specs.Code.{beside_code, is_commutative, bring, computing_line, count, does_compute, ecx_code, fetch, imm_code, needs_ecx, number_code, op_code, operand_of, place_beside, place_code, result_in, settle, store_eax, write}
 use Rattle.sfi_native.specs.Registers.{assigned, is_fixed}
 unfoldable use Rattle.sfi_native.specs.Code.{computation, compute, compute_imm}
 use Rattle.sfi_native.proofs.Assigned.{free, holds_on, same_register, updated_same}
@@ -148,14 +152,38 @@ module _ (p : Part) (l : Layout) (layout : IsLayout p.data_size l) (g : Going) (
     )
   ]
 
+  beside_comes : (op : RegOp) (rd rs1 rs2 : ℕ) → needs_ecx op ≡ false → rd < 32 → rs1 < 32 → rs2 < 32
+      → Comes (beside_code l.registers op rd rs1 rs2) p l c (turn_with rd (result_of op (value p g rs1) (value p g rs2)) g.left)
+  beside_comes op rd rs1 rs2 plain fd f1 f2 = place_comes (place_beside l.registers rd rs2) rd rs2 f2 (beside_own rd rs2) op rs1 plain fd f1
+
+  commutes : (op : RegOp) (a b : ℕ) → is_commutative op ≡ true → result_of op a b ≡ result_of op b a
+  commutes Add a b may = ap (λ x. x % 2 ^ 32) (add_comm a b)
+  commutes Xor a b may = xor_comm a b
+  commutes Or a b may = or_comm a b
+  commutes And a b may = and_comm a b
+  commutes Mul a b may = ap (λ x. x % 2 ^ 32) (mul_comm a b)
+  commutes op a b may = absurd (false≢true may)
+
+  exchanged_comes : (op : RegOp) (rd rs1 rs2 : ℕ) → needs_ecx op ≡ false → rd < 32 → rs1 < 32 → rs2 < 32 → (exchanged : Bool) → (exchanged ≡ true → is_commutative op ≡ true)
+      → Comes (if exchanged then beside_code l.registers op rd rs2 rs1 else beside_code l.registers op rd rs1 rs2) p l c (turn_with rd (result_of op (value p g rs1) (value p g rs2)) g.left)
+  exchanged_comes op rd rs1 rs2 plain fd f1 f2 true may =
+      subst (λ v. Comes (beside_code l.registers op rd rs2 rs1) p l c (turn_with rd v g.left)) (commutes op (value p g rs2) (value p g rs1) (may refl)) (beside_comes op rd rs2 rs1 plain fd f2 f1)
+  exchanged_comes op rd rs1 rs2 plain fd f1 f2 false may = beside_comes op rd rs1 rs2 plain fd f1 f2
+
+  first_true : (a b : Bool) → a && b ≡ true → a ≡ true
+  first_true true b both = refl
+  first_true false b both = both
+
   op_comes : (op : RegOp) (rd rs1 rs2 : ℕ) → rd < 32 → rs1 < 32 → rs2 < 32
       → Comes (op_code l.registers op rd rs1 rs2) p l c (turn_with rd (result_of op (value p g rs1) (value p g rs2)) g.left)
   op_comes op rd rs1 rs2 fd f1 f2 =
-      let by : Bool → List Native = λ t. if t then ecx_code l.registers op rd rs1 rs2 else place_code l.registers (place_beside l.registers rd rs2) op rd rs1 rs2 in
+      let exchanged = is_commutative op && (rd == rs2) in
+      let beside : List Native = if exchanged then beside_code l.registers op rd rs2 rs1 else beside_code l.registers op rd rs1 rs2 in
+      let by : Bool → List Native = λ t. if t then ecx_code l.registers op rd rs1 rs2 else beside in
       elim (cases_Bool (needs_ecx op)) [
         | inl e ↦ subst (λ t. Comes (by t) p l c (turn_with rd (result_of op (value p g rs1) (value p g rs2)) g.left)) (sym e) (ecx_comes op rd rs1 rs2 e fd f1 f2)
         | inr e ↦ subst (λ t. Comes (by t) p l c (turn_with rd (result_of op (value p g rs1) (value p g rs2)) g.left)) (sym e)
-            (place_comes (place_beside l.registers rd rs2) rd rs2 f2 (beside_own rd rs2) op rs1 e fd f1)
+            (exchanged_comes op rd rs1 rs2 e fd f1 f2 exchanged (first_true (is_commutative op) (rd == rs2)))
       ]
 
   imm_comes : (op : ImmOp) (rd rs1 : ℕ) (imm : ℤ) → rd < 32 → rs1 < 32

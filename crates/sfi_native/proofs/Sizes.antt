@@ -55,7 +55,7 @@ use Rattle.sfi_native.specs.declared.jump.Jump.{Jump}
 use Rattle.sfi_native.specs.Sizes.{CodeIsSmall, EachCodeFits}
 unfoldable use Rattle.sfi_native.specs.Code.{computation}
 use Rattle.sfi_native.specs.Places.{code_of, exit_of, jump_of, size_of, size_of_all, whole_code}
-use Rattle.sfi_native.specs.Code.{branch_line, bring, compare_code, count, ecx_code, lies_in, needs_ecx, place_beside, place_code, read, register_or, result_in, settle, data_address, end_code, fetch, has_test, head_line, imm_code, indirect_jump, jal_line, jalr_line, leave_line, load_code, load_from, load_line, number_code, op_code, operand_of, opposite, set_if, slot, store_eax, store_line, store_to, target_code, tested_jump, unless, write}
+use Rattle.sfi_native.specs.Code.{beside_code, branch_line, bring, is_commutative, compare_code, count, ecx_code, lies_in, needs_ecx, place_beside, place_code, read, register_or, result_in, settle, data_address, end_code, fetch, has_test, head_line, imm_code, indirect_jump, jal_line, jalr_line, leave_line, load_code, load_from, load_line, number_code, op_code, operand_of, opposite, set_if, slot, store_eax, store_line, store_to, target_code, tested_jump, unless, write}
 use Rattle.sfi_native.proofs.Places.{code_size, sizes_append}
 use Rattle.sfi_native.proofs.Lists.{indirect_size, tested_size}
 
@@ -160,14 +160,6 @@ settle_most registers (Some q) r below = omega arith
 
 -- ==== Computations.
 
--- a division
-abbrev pub is_division : RegOp → Bool
-is_division Div = true
-is_division Divu = true
-is_division Rem = true
-is_division Remu = true
-is_division op = false
-
 set_is : (c : Condition) (d : Register) → bytes (Setcc c d ∷ MovExtended Zero Byte d (Reg d) ∷ []) ≡ 8
 unfolding spelling rex
 set_is c d = refl
@@ -179,7 +171,7 @@ imul_most : (dst : Register) (o : Option Register) (r : ℕ) → r < 32 → byte
 unfolding spelling
 imul_most dst o r below = omega (arith, coded_0f_most 0xAF (number dst) o r below, length-append (coded_0f Dword 0xAF (number dst) (operand_of o r)) [])
 
-ecx_most : (op : RegOp) → needs_ecx op ≡ true → (d : Register) (s : Operand) → bytes (compute op d s) ≤ (if is_division op then 37 else 14)
+ecx_most : (op : RegOp) → needs_ecx op ≡ true → (d : Register) (s : Operand) → bytes (compute op d s) ≤ 37
 unfolding compute spelling rex
 ecx_most Sll needs d s = omega arith
 ecx_most Srl needs d s = omega arith
@@ -275,14 +267,7 @@ number_most registers rd n below = number_by registers (assigned registers rd) r
 ecx_code_most : (registers : RegisterMap) (op : RegOp) (rd rs1 rs2 : ℕ) → rd < 32 → rs1 < 32 → rs2 < 32 → needs_ecx op ≡ true → bytes (ecx_code registers op rd rs1 rs2) ≤ 51
 ecx_code_most registers op rd rs1 rs2 d a b needs =
     let does = compute op Rax (Reg Rcx) in
-    omega (arith, both (fetch registers Rax rs1) (fetch registers Rcx rs2 ++ (does ++ write registers rd)), both (fetch registers Rcx rs2) (does ++ write registers rd), both does (write registers rd), fetch_most registers Rax rs1 a, fetch_most registers Rcx rs2 b, division_most op (ecx_most op needs Rax (Reg Rcx)), write_most registers rd d)
-  where
-    division_most : (op : RegOp) → bytes (compute op Rax (Reg Rcx)) ≤ (if is_division op then 37 else 14) → bytes (compute op Rax (Reg Rcx)) ≤ 37
-    division_most op less = by (is_division op) less
-      where
-        by : (t : Bool) → bytes (compute op Rax (Reg Rcx)) ≤ (if t then 37 else 14) → bytes (compute op Rax (Reg Rcx)) ≤ 37
-        by true less = less
-        by false less = omega (arith, less)
+    omega (arith, both (fetch registers Rax rs1) (fetch registers Rcx rs2 ++ (does ++ write registers rd)), both (fetch registers Rcx rs2) (does ++ write registers rd), both does (write registers rd), fetch_most registers Rax rs1 a, fetch_most registers Rcx rs2 b, ecx_most op needs Rax (Reg Rcx), write_most registers rd d)
 
 place_code_most : (registers : RegisterMap) (o : Option Register) (op : RegOp) (rd rs1 rs2 : ℕ) → rd < 32 → rs1 < 32 → rs2 < 32 → needs_ecx op ≡ false → bytes (place_code registers o op rd rs1 rs2) ≤ 51
 place_code_most registers o op rd rs1 rs2 d a b plain =
@@ -292,12 +277,17 @@ place_code_most registers o op rd rs1 rs2 d a b plain =
 
 op_most : (registers : RegisterMap) (op : RegOp) (rd rs1 rs2 : ℕ) → rd < 32 → rs1 < 32 → rs2 < 32 → bytes (op_code registers op rd rs1 rs2 ++ count) ≤ 55
 op_most registers op rd rs1 rs2 d a b =
+    let exchanged = is_commutative op && (rd == rs2) in
+    let one = beside_code registers op rd rs2 rs1 in
+    let other = beside_code registers op rd rs1 rs2 in
     omega (
       arith,
       both (op_code registers op rd rs1 rs2) count,
       count_is,
-      cond_both (needs_ecx op) (ecx_code registers op rd rs1 rs2) (place_code registers (place_beside registers rd rs2) op rd rs1 rs2) (λ (is : List Native). bytes is ≤ 51)
-          (ecx_code_most registers op rd rs1 rs2 d a b) (place_code_most registers (place_beside registers rd rs2) op rd rs1 rs2 d a b),
+      cond_both (needs_ecx op) (ecx_code registers op rd rs1 rs2) (if exchanged then one else other) (λ (is : List Native). bytes is ≤ 51)
+          (ecx_code_most registers op rd rs1 rs2 d a b)
+          (λ e. cond_both exchanged one other (λ (is : List Native). bytes is ≤ 51)
+          (λ x. place_code_most registers (place_beside registers rd rs1) op rd rs2 rs1 d b a e) (λ x. place_code_most registers (place_beside registers rd rs2) op rd rs1 rs2 d a b e)),
     )
 
 imm_line_most : (registers : RegisterMap) (op : ImmOp) (rd rs1 n : ℕ) → rd < 32 → rs1 < 32 → bytes (imm_code registers op rd rs1 n ++ count) ≤ 28

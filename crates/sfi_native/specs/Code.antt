@@ -1,5 +1,5 @@
 -- The instructions of x86-64 that a line becomes. eax, ecx and edx are free between lines.
-use Rattle.std.specs.Prelude.{ℕ, ◌+◌, ◌-◌, ◌*◌, ◌/◌, ◌%◌, ◌^◌, ◌==◌, ◌||◌, nat_le, not, Bool, true, false, List, [], ◌∷◌, ◌++◌, length, Option, Some, None, if◌then◌else◌}
+use Rattle.std.specs.Prelude.{ℕ, ◌+◌, ◌-◌, ◌*◌, ◌/◌, ◌%◌, ◌^◌, ◌==◌, ◌||◌, ◌&&◌, nat_le, not, Bool, true, false, List, [], ◌∷◌, ◌++◌, length, Option, Some, None, if◌then◌else◌}
 use Rattle.rv_word.specs.declared.instr.RegOp.{RegOp}
 use Rattle.rv_word.specs.declared.instr.RegOp.TheVariants.{Add, Sub, Sll, Slt, Sltu, Xor, Srl, Sra, Or, And, Mul, Mulh, Mulhsu, Mulhu, Div, Divu, Rem, Remu}
 use Rattle.rv_word.specs.declared.instr.ImmOp.{ImmOp}
@@ -146,6 +146,15 @@ needs_ecx And = false
 needs_ecx Mul = false
 needs_ecx op = true
 
+-- its operands may be exchanged
+abbrev pub is_commutative : RegOp → Bool
+is_commutative Add = true
+is_commutative Xor = true
+is_commutative Or = true
+is_commutative And = true
+is_commutative Mul = true
+is_commutative op = false
+
 unfoldable pub compute : RegOp → Register → Operand → List Native
 compute Add dst src = Alu alu.Add Dword dst src ∷ []
 compute Sub dst src = Alu alu.Sub Dword dst src ∷ []
@@ -197,7 +206,7 @@ number_code registers rd n = MovImm (result_in (assigned registers rd)) n ∷ se
 abbrev pub ecx_code : RegisterMap → RegOp → ℕ → ℕ → ℕ → List Native
 ecx_code registers op rd rs1 rs2 = fetch registers Rax rs1 ++ (fetch registers Rcx rs2 ++ (compute op Rax (Reg Rcx) ++ write registers rd))
 
--- rd may be written before rs2 is read
+-- where a result for rd is computed that needs rs2 up to its end: where rd lies, unless rs2 lies there, too
 abbrev pub place_beside : RegisterMap → ℕ → ℕ → Option Register
 place_beside registers rd rs2 = if rd == rs2 then None else assigned registers rd
 
@@ -207,10 +216,14 @@ place_code registers place op rd rs1 rs2 =
     bring registers (result_in place) rs1
     ++ (compute op (result_in place) (operand_of (assigned registers rs2) rs2) ++ settle registers place rd)
 
+abbrev pub beside_code : RegisterMap → RegOp → ℕ → ℕ → ℕ → List Native
+beside_code registers op rd rs1 rs2 = place_code registers (place_beside registers rd rs2) op rd rs1 rs2
+
 abbrev pub op_code : RegisterMap → RegOp → ℕ → ℕ → ℕ → List Native
 op_code registers op rd rs1 rs2 =
     if needs_ecx op then ecx_code registers op rd rs1 rs2
-    else place_code registers (place_beside registers rd rs2) op rd rs1 rs2
+    else if is_commutative op && (rd == rs2) then beside_code registers op rd rs2 rs1
+    else beside_code registers op rd rs1 rs2
 
 abbrev pub imm_code : RegisterMap → ImmOp → ℕ → ℕ → ℕ → List Native
 imm_code registers op rd rs1 n =

@@ -1,11 +1,11 @@
 //! The bytes of a line that computes.
 ghost use Rattle.std.specs.Prelude.{◌≡◌, ◌++◌, ◌*◌, ◌%◌, ◌^◌, ◌+◌, IfOk, OnOk, true, if◌then◌else◌};
-ghost use Rattle.sfi_native.specs.Code.{computation, computing_line, count, does_compute, ecx_code, imm_code, number_code, op_code, place_beside as place_beside_of, place_code};
+ghost use Rattle.sfi_native.specs.Code.{beside_code, computation, computing_line, count, does_compute, ecx_code, imm_code, number_code, op_code, place_beside as place_beside_of, place_code};
 ghost use Rattle.x86_step.specs.Running.{spellings};
 
 use crate::operation::{
-    needs_ecx, operand, put, put_bring, put_compute, put_compute_imm, put_fetch, put_settle,
-    put_write, result_in,
+    is_commutative, needs_ecx, operand, put, put_bring, put_compute, put_compute_imm, put_fetch,
+    put_settle, put_write, result_in,
 };
 use crate::registers::RegisterMap;
 use rv_word::{ImmOp, Instr, Reg, RegOp};
@@ -80,6 +80,22 @@ fn put_in_place(
     put_settle(out, registers, place, rd)
 }
 
+/// Writes an operation where its result lies, or in eax where `rs2` lies there, too.
+fn put_beside(
+    out: &mut Vec<u8>,
+    registers: &RegisterMap,
+    op: RegOp,
+    rd: Reg,
+    rs1: Reg,
+    rs2: Reg,
+) -> Result<(), AllocError>
+    ensures { OnOk result (out.new.items ≡ out.old.items ++ spellings (beside_code registers.now op rd rs1 rs2)) }
+{
+    let place = place_beside(registers, rd, rs2);
+    put_in_place(out, registers, place, op, rd, rs1, rs2)
+}
+
+/// Writes an operation; the second operand is taken as the first where it lies in the result's place and may be.
 fn put_op(
     out: &mut Vec<u8>,
     registers: &RegisterMap,
@@ -93,15 +109,10 @@ fn put_op(
     if needs_ecx(op) {
         return put_by_ecx(out, registers, op, rd, rs1, rs2);
     }
-    put_in_place(
-        out,
-        registers,
-        place_beside(registers, rd, rs2),
-        op,
-        rd,
-        rs1,
-        rs2,
-    )
+    if is_commutative(op) && rd.number() == rs2.number() {
+        return put_beside(out, registers, op, rd, rs2, rs1);
+    }
+    put_beside(out, registers, op, rd, rs1, rs2)
 }
 
 #[tactic(auto, using(crate::proofs::Lists::imm_parts))]

@@ -16,13 +16,15 @@ fn some_registers() -> RegisterMap {
     registers
 }
 
-const BY_MAP: [u8; 65] = [
+const BY_MAP: [u8; 72] = [
     69, 139, 216, // {load} mov r11d, r8d
     68, 3, 219, // {load} add r11d, ebx
     65, 131, 238, 1, // sub r14d, 1
     65, 139, 192, // {load} mov eax, r8d
     43, 195, // {load} sub eax, ebx
     139, 216, // {load} mov ebx, eax
+    65, 131, 238, 1, // sub r14d, 1
+    65, 3, 216, // {load} add ebx, r8d
     65, 131, 238, 1, // sub r14d, 1
     69, 139, 216, // {load} mov r11d, r8d
     68, 59, 92, 36, 40, // cmp r11d, [rsp+40]
@@ -37,8 +39,8 @@ const BY_MAP: [u8; 65] = [
     65, 131, 238, 1, // sub r14d, 1
 ];
 
-/// Two sums, a difference into its second operand, a comparison, a move and a number.
-fn computations() -> [Instr; 6] {
+/// Sums, a difference into its second operand, a comparison, a move and a number.
+fn computations() -> [Instr; 7] {
     let (x5, x6, x7) = (Reg::numbered(5), Reg::numbered(6), Reg::numbered(7));
     let of = |op, rd, rs1, rs2| Instr::Op { op, rd, rs1, rs2 };
     let add = |rd, imm| Instr::OpImm {
@@ -50,6 +52,7 @@ fn computations() -> [Instr; 6] {
     [
         of(RegOp::Add, x7, x5, x6),
         of(RegOp::Sub, x6, x5, x6),
+        of(RegOp::Add, x6, x5, x6),
         of(RegOp::Slt, x7, x5, Reg::numbered(10)),
         add(x5, 5),
         add(x6, 0),
