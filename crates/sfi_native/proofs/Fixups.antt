@@ -1,6 +1,6 @@
 -- The table of a code has each of its accesses.
-use Rattle.std.proofs.Common.{◌≡◌, ℕ, ◌+◌, ◌<◌, ◌==◌, true, false, List, [], ◌∷◌, ◌++◌, length, Option, Some, None, refl, sym, ap, ◌∙◌, subst, arith, append_assoc, append-nil, length-append, nat_lt, ◌*◌, ◌%◌, if◌then◌else◌, ◌/◌, Bool}
-use Rattle.std.proofs.lemmas.Bool.{lt-ltb, ne_eqb, eq-eqb}
+use Rattle.std.proofs.Common.{◌≡◌, ℕ, ◌+◌, ◌<◌, ◌==◌, true, false, List, [], ◌∷◌, ◌++◌, length, Option, Some, None, refl, sym, ap, ◌∙◌, subst, arith, append_assoc, append-nil, length-append, nat_lt, ◌*◌, ◌%◌}
+use Rattle.std.proofs.lemmas.Bool.{lt-ltb, ne_eqb}
 use Rattle.rv_word.specs.declared.instr.Instr.{Instr}
 use Rattle.rv_word.specs.declared.instr.Instr.TheVariants.{Load, Store}
 use Rattle.rv_step.specs.Step.{word}
@@ -10,7 +10,6 @@ use Rattle.x86_instr.specs.declared.operand.Register.TheVariants.{Rax, Rcx}
 unfoldable use Rattle.x86_instr.specs.Spelling.{memory, rex, spelling}
 use Rattle.x86_step.specs.Running.{spellings}
 use Rattle.x86_step.proofs.Running.{spellings_append}
-use Rattle.x86_instr.specs.Spelling.{number, modrm}
 use Rattle.x86_instr.specs.declared.instr.Instr.TheVariants.{Mov}
 use Rattle.x86_instr.specs.declared.instr.Width.TheVariants.{Dword}
 use Rattle.x86_instr.specs.declared.operand.Operand.TheVariants.{Mem}

@@ -22,7 +22,7 @@ use Rattle.sfi_native.specs.declared.registers.RegisterMap.{RegisterMap}
 use Rattle.sfi_native.specs.Places.{code_of, whole_code}
 use Rattle.sfi_native.specs.declared.jump.Jump.{Jump}
 use Rattle.sfi_native.specs.Registers.{assigned}
-use Rattle.sfi_native.specs.Code.{avoid_minus_one, avoid_zero, branch_line, bring, ecx_code, operand_of, place_code, read, register_or, result_in, settle, compare_code, compare_divisor, compute, compute_imm, count, data_address, divide_by_one, divide_signed, divide_unsigned, end_code, enter_code, enter_size, fetch, head_line, imm_code, indirect_jump, has_test, jal_line, jalr_line, jump_size, load_code, load_from, load_line, number_code, op_code, opposite, remainder, slot, start_code, start_size, steps_code, store_line, store_to, test_code, target_code, test_divisor, tested_jump, write}
+use Rattle.sfi_native.specs.Code.{avoid_minus_one, avoid_zero, branch_line, bring, ecx_code, operand_of, place_code, read, register_or, result_in, settle, compare_code, compare_divisor, compute, compute_imm, count, data_address, divide_by_one, divide_signed, divide_unsigned, end_code, enter_code, enter_size, fetch, head_line, imm_code, indirect_jump, has_test, jal_line, jalr_line, jump_size, load_code, load_from, load_line, number_code, opposite, remainder, slot, start_code, start_size, steps_code, store_line, store_to, test_code, target_code, test_divisor, tested_jump, write}
 
 pub no_part : (old : List ℕ) → old ≡ old ++ spellings []
 no_part old = sym (append-nil old)
