@@ -1,5 +1,7 @@
 -- What holds of every step: laws, for proofs in the crates above.
+use Rattle.x86_step.specs.Accesses.{AccessesAreAll}
 use Rattle.x86_step.specs.Laws.{FaultsResume, FixedStays, SpelledRun, SpelledSteps, StepsJoin}
+use Rattle.x86_step.proofs.Accesses as accesses
 use Rattle.x86_step.proofs.Fixed as fixed
 use Rattle.x86_step.proofs.Running as running
 
@@ -17,3 +19,6 @@ faults_resume = running.faults_resume
 
 pub spelled_run : SpelledRun
 spelled_run = running.spelled_run
+
+pub accesses_are_all : AccessesAreAll
+accesses_are_all = accesses.accesses_are_all

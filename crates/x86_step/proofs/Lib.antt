@@ -2,4 +2,5 @@ pub mod Bytes
 pub mod Shifts
 pub mod Fixed
 pub mod Running
+pub mod Accesses
 pub mod Facts

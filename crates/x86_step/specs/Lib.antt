@@ -3,3 +3,4 @@ pub mod Step
 pub mod Held
 pub mod Laws
 pub mod Running
+pub mod Accesses
