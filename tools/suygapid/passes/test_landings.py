@@ -70,6 +70,15 @@ class Landings(unittest.TestCase):
         self.assertLess(lines.index("\t.cfi_remember_state"), lines.index("\t.cfi_def_cfa_offset 0"))
         self.assertIn("\t.cfi_sections .eh_frame, .debug_frame", lines)
 
+    def test_a_frame_begins_at_its_label(self):
+        """The first access is on a base that a pass puts in a data register at the function's beginning."""
+        text = THROWING.replace("\taddi\tsp,sp,-16\n", "\tlw\ta5,8(a0)\n\taddi\tsp,sp,-16\n").replace(
+            "\tmv\ts1,a0\n", "\tmv\ts1,a0\n\tlw\ta4,12(a0)\n\tlw\ta5,16(a0)\n\tsw\ta4,20(a0)\n")
+        lines = rewritten("a.s", text, PASSES, WORDS).splitlines()
+        begin = lines.index(".LFB0:")
+        self.assertEqual(lines[begin + 1], "\t.cfi_startproc")
+        self.assertEqual(lines[begin + 4:begin + 6], ["\tand x31, a0, x27", "\tor gp, x31, x26"])
+
     def test_lengths(self):
         """clang has two parts' lengths as differences, of which each gets three bytes."""
         table = ['\t.section\t".gcc_except_table.f$x","a",@progbits', "\t.p2align\t2", "\t.byte\t255", "\t.uleb128\t.Lbase-.Lref", ".Lref:",

@@ -53,6 +53,7 @@ class Writer:
                 self.out.append(f"{labels[number]}:")
             if piece.is_mark:
                 self.label(piece.name)
+                self.begin_frame(waiting, numbers[number])
             else:
                 if self.unit.locations:
                     self.locate(piece)
@@ -63,6 +64,12 @@ class Writer:
         self.end_word()
         for _, text in reversed(waiting):
             self.soft(text)
+
+    def begin_frame(self, waiting, number):
+        """Writes what tells of a frame directly after a label of this number: also where a pass puts an instruction there, the frame
+        begins at the label, from which tables of exceptions count."""
+        while number is not None and waiting and waiting[-1][0] == number + 1 and waiting[-1][1].startswith("\t.cfi_"):
+            self.soft(waiting.pop()[1])
 
     def soft(self, text):
         self.out.append(text)
