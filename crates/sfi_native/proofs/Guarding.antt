@@ -21,14 +21,14 @@ use Rattle.x86_instr.specs.declared.operand.Address.{Address}
 use Rattle.x86_instr.specs.declared.instr.Instr.{Instr as Native}
 use Rattle.x86_instr.specs.Spelling.{spelling}
 use Rattle.x86_step.specs.declared.machine.Stop.TheVariants.{Fault}
-use Rattle.x86_step.specs.State.{Core, Fixup, Text, joined, number_at, with_register}
-use Rattle.x86_step.specs.Step.{address, effect, loaded, resumed, sign_extended}
-unfoldable use Rattle.x86_step.specs.Step.{computes}
+use Rattle.x86_step.specs.State.{Core, Fixup, IsIn, Span, Text, joined, number_at, with_register}
+use Rattle.x86_step.specs.Step.{LiesIn, address, effect, loaded, resumed, sign_extended}
+unfoldable use Rattle.x86_step.specs.Step.{accessed, computes}
 use Rattle.x86_step.specs.Running.{spellings}
 use Rattle.x86_step.proofs.Facts.{faults_resume}
 use Rattle.x86_step.proofs.Running.{has_front, in_more}
 use Rattle.sfi_native.specs.declared.layout.Layout.{Layout}
-use Rattle.sfi_native.specs.Layout.{GuardsAreEmpty, IsLayout, IsRelated, origin, value}
+use Rattle.sfi_native.specs.Layout.{GuardsAreEmpty, IsLayout, IsRelated, guarded_data, origin, value}
 use Rattle.sfi_native.specs.Laws.{FaultingLinesRun, IsBefore, TouchesGuards, LeadsTo, end_of, line_most}
 use Rattle.sfi_native.specs.Code.{count, data_address, load_from, read, register_or, result_in, settle, store_to}
 use Rattle.sfi_native.specs.Registers.{assigned}
@@ -118,12 +118,24 @@ module _ (p : Part) (l : Layout) (layout : IsLayout p.data_size l) (g : Going) (
         (guards.above (place + (n - 1)) (omega (arith, over, behind, some)) (omega (arith, close, behind, some)))
   ]
 
+  host_place : (d : Core) (x : Register) → (number x ≡ 4 → ⊥) → d.registers (number x) ≡ value p g rs1 → Kept c d → address d (data_address x (word imm)) ≡ place
+  host_place d x index has kept = address_is d x (word imm) (origin p.data_base l) (value p g rs1) (kept.registers 15 (omega arith) ∙ is.origin_is) index has ∙ reach.place
+
+  abbrev Handled : ℕ → Type 0
+  Handled to = LiesIn (IsIn (guarded_data p.data_size l)) (Some (record { at = to; size = n }))
+
+  handled_there : Handled place
+  handled_there a from below =
+      (omega (arith, reach.from, from, layout.data_begins), omega (arith, reach.from, reach.below, below, layout.data_begins))
+
+  -- all of its bytes lie where faults are handled
+  pub handled : (d : Core) (x : Register) → (number x ≡ 4 → ⊥) → d.registers (number x) ≡ value p g rs1 → Kept c d → Handled (address d (data_address x (word imm)))
+  handled d x index has kept = subst Handled (sym (host_place d x index has kept)) handled_there
+
   -- whatever the other free registers have
   pub faults : (d : Core) (x : Register) → (number x ≡ 4 → ⊥) → d.registers (number x) ≡ value p g rs1 → Kept c d → loaded d n (address d (data_address x (word imm))) ≡ Err Fault
   faults d x index has kept =
-      let there : address d (data_address x (word imm)) ≡ place =
-      address_is d x (word imm) (origin p.data_base l) (value p g rs1) (kept.registers 15 (omega arith) ∙ is.origin_is) index has ∙ reach.place in
-      ap (loaded d n) there ∙ load_missing d n place (ap (λ m. number_at m n place) kept.memory ∙ missing)
+      ap (loaded d n) (host_place d x index has kept) ∙ load_missing d n place (ap (λ m. number_at m n place) kept.memory ∙ missing)
 
 -- ==== The instruction.
 
@@ -141,11 +153,31 @@ store_faults Sb a src after c is = rw is refl
 store_faults Sh a src after c is = rw is refl
 store_faults Sw a src after c is = rw is refl
 
+load_access : (kind : LoadKind) (dst : Register) (a : Address) (c : Core) → accessed (load_from kind dst a) c ≡ Some (record { at = address c a; size = load_size kind })
+unfolding accessed
+load_access Lb dst a c = refl
+load_access Lh dst a c = refl
+load_access Lw dst a c = refl
+load_access Lbu dst a c = refl
+load_access Lhu dst a c = refl
+
+store_access : (width : StoreWidth) (a : Address) (src : Register) (c : Core) → accessed (store_to width a src) c ≡ Some (record { at = address c a; size = store_size width })
+unfolding accessed
+store_access Sb a src c = refl
+store_access Sh a src c = refl
+store_access Sw a src c = refl
+
+-- an access that lies in data and guard zones is one of an instruction whose faults are handled
+handled_by : (p : Part) (l : Layout) (t : Text) (access : Native) (d : Core) (span : Span) → t.handled ≡ guarded_data p.data_size l → accessed access d ≡ Some span
+    → LiesIn (IsIn (guarded_data p.data_size l)) (Some span) → LiesIn (IsIn t.handled) (accessed access d)
+handled_by p l t access d span zones is lies =
+    subst (λ own. LiesIn (IsIn own) (accessed access d)) (sym zones) (subst (λ own. LiesIn (IsIn (guarded_data p.data_size l)) own) (sym is) lies)
+
 -- Behind code that only changes free registers, an instruction that faults goes on by its fixup.
 goes_on : (p : Part) (l : Layout) (t : Text) (at : ℕ) (front back : List Native) (access : Native) (f : Fixup) (g : Going) (address : ℕ) (c d : Core)
     → IsBefore (front ++ (access ∷ back)) t at p l g c → Runs front c d → Kept c d → ((after : ℕ) → effect access after d ≡ Err Fault)
-    → length front + 1 ≤ line_most → t.fixups (end_of at front) ≡ Some f → (it : LeadsTo t at f.to p l c (goes_with g Slow address)) × (it.after.registers 2 ≡ f.rdx)
-goes_on p l t at front back access f g address c d here runs kept faults few has =
+    → length front + 1 ≤ line_most → t.fixups (end_of at front) ≡ Some f → LiesIn (IsIn t.handled) (accessed access d) → (it : LeadsTo t at f.to p l c (goes_with g Slow address)) × (it.after.registers 2 ≡ f.rdx)
+goes_on p l t at front back access f g address c d here runs kept faults few has lies =
     let behind = access ∷ back in
     let own = has_front t (end_of at front) (spelling access) (spellings back) (back_stands t at front behind c d here.text_is_fixed here.text_is_low here.stands runs) in
     let fixed_here = back_fixed t at front behind c d here.text_is_fixed here.text_is_low here.stands runs in
@@ -154,7 +186,7 @@ goes_on p l t at front back access f g address c d here runs kept faults few has
       record {
         after = e;
         reached = in_more t _ line_most _ _ few (then_reaches t at front behind c d here.text_is_fixed here.text_is_low here.stands runs 1 (resumed f d)
-            (faults_resume t (end_of at front) access d f fixed_here own (faults _) has));
+            (faults_resume t (end_of at front) access d f fixed_here own (faults _) has lies));
         related = related_goes p l g e Slow address (related_kept p l here.layout g c e here.related all);
         others = others_kept p l c e all;
       },
@@ -177,7 +209,9 @@ faulting_lines_run target p code rest address size (Load kind rd rs1 imm) distan
     (goes_on p l t at front (settle l.registers place rd ++ count) load f g address c first.core stands
     (straight_runs front c first.core first.straight first.runs) first.kept
     (λ after. load_faults kind (result_in place) to after first.core
-    (faults p l here.layout g c here.related here.guards (load_size kind) (load_sized kind).some rs1 imm range.2 access first.core x index first.result first.kept)) (omega (arith, front_few l.registers (Load kind rd rs1 imm))) has)
+    (faults p l here.layout g c here.related here.guards (load_size kind) (load_sized kind).some rs1 imm range.2 access first.core x index first.result first.kept)) (omega (arith, front_few l.registers (Load kind rd rs1 imm))) has
+    (handled_by p l t load first.core _ here.faults_are_handled (load_access kind (result_in place) to first.core)
+    (handled p l here.layout g c here.related here.guards (load_size kind) (load_sized kind).some rs1 imm range.2 access first.core x index first.result first.kept)))
 faulting_lines_run target p code rest address size (Store width rs1 rs2 imm) distance out f l t at g c range access here has =
     let o1 = assigned l.registers rs1 in
     let o2 = assigned l.registers rs2 in
@@ -198,5 +232,7 @@ faulting_lines_run target p code rest address size (Store width rs1 rs2 imm) dis
     (goes_on p l t at (one ++ two) count (store_to width to y) f g address c d stands
     (runs_join one two c first.core d (straight_runs one c first.core first.straight first.runs) (straight_runs two first.core d second.straight second.runs)) kept
     (λ after. store_faults width to y after d
-    (faults p l here.layout g c here.related here.guards (store_size width) (store_sized width).some rs1 imm range.2 access d x index in_x kept)) (omega (arith, front_few l.registers (Store width rs1 rs2 imm))) has)
+    (faults p l here.layout g c here.related here.guards (store_size width) (store_sized width).some rs1 imm range.2 access d x index in_x kept)) (omega (arith, front_few l.registers (Store width rs1 rs2 imm))) has
+    (handled_by p l t (store_to width to y) d _ here.faults_are_handled (store_access width to y d)
+    (handled p l here.layout g c here.related here.guards (store_size width) (store_sized width).some rs1 imm range.2 access d x index in_x kept)))
 faulting_lines_run target p code rest address size i distance out f l t at g c range access here has = absurd access

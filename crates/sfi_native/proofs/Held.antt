@@ -11,7 +11,7 @@ use Rattle.x86_step.specs.Step.{unknown}
 use Rattle.x86_step.specs.Running.{spellings}
 use Rattle.sfi_native.specs.declared.layout.Layout.{Layout}
 use Rattle.sfi_native.specs.Laws.{EachCodeCanBeRun}
-use Rattle.sfi_native.specs.Layout.{DoNotMeet, GuardsAreEmpty, Holds, IsLayout, IsRelated, frame_size, origin, value}
+use Rattle.sfi_native.specs.Layout.{DoNotMeet, GuardsAreEmpty, Holds, IsLayout, IsRelated, frame_size, guarded_data, origin, value}
 use Rattle.sfi_native.specs.Registers.{IsRightMap, assigned}
 use Rattle.sfi_native.proofs.Assigned.{has_value, not_assigned, other_register, with_values}
 use Rattle.sfi_native.proofs.Memory.{number_of_bytes}
@@ -137,7 +137,7 @@ module _ (p : Part) (l : Layout) (g : Going) (layout : IsLayout p.data_size l) w
   beside at n b m a (inr after) low high = inr (omega (arith, after, low))
 
   fixed_is : (bytes : List ℕ) (fixups : ℕ → Option Fixup) (at : ℕ) → at + length bytes < 2 ^ 64 → DoNotMeet at (length bytes) l.frame frame_size → DoNotMeet at (length bytes) l.data_start p.data_size
-      → IsFixed (record { base = at; bytes = bytes; fixups = fixups }) held
+      → IsFixed (record { base = at; bytes = bytes; fixups = fixups; handled = guarded_data p.data_size l }) held
   fixed_is bytes fixups at ends frame data_apart = record {
     ends = ends;
     apart = λ a low high.
@@ -153,6 +153,7 @@ each_code_can_be_run is fixups at p l g layout count words few ends frame data_a
     layout = layout;
     text_is_fixed = fixed_is p l g layout (spellings is) fixups at (omega (arith, ends)) frame data_apart;
     text_is_low = ends;
+    faults_are_handled = refl;
     stands = record { before = []; after = []; bytes_are = sym (append-nil (spellings is)); at_is = omega arith };
     related = held_is p l g layout count words few;
     guards = held_guards p l g layout;

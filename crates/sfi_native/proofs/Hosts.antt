@@ -116,6 +116,7 @@ module _ (p : Part) (code : List Line) (l : Layout) (t : Text) (base : ℕ) (hos
                   ∙ here.stands.text_is_fixed.apart a from below;
             };
             text_is_low = here.stands.text_is_low;
+            faults_are_handled = here.stands.faults_are_handled;
             stands = here.stands.stands;
             related = it.related;
             guards = record {

@@ -108,6 +108,7 @@ module _ (p : Part) (code rest to : List Line) (l : Layout) (t : Text) (base : â
       layout = here.layout;
       text_is_fixed = here.text_is_fixed;
       text_is_low = here.text_is_low;
+      faults_are_handled = here.faults_are_handled;
       stands = line_stands l.registers t code base lines_stand line rest last;
       related = here.related;
       guards = here.guards;

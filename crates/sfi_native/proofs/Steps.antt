@@ -54,6 +54,7 @@ module _ (p : Part) (code : List Line) (l : Layout) (t : Text) (base : ℕ) (few
     layout = here.layout;
     text_is_fixed = fixed_stays t line_most m f.after f.reached;
     text_is_low = here.text_is_low;
+    faults_are_handled = here.faults_are_handled;
     stands = here.stands;
     related = f.alike.related;
     guards = guards_kept p l here.layout m.core f.after.core f.others here.guards;

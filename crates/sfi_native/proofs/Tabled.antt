@@ -128,6 +128,7 @@ each_table_can_be_held p l base code table at is t from g c entries few ends by_
         layout = before.layout;
         text_is_fixed = record { ends = before.text_is_fixed.ends; apart = before.text_is_fixed.apart };
         text_is_low = before.text_is_low;
+        faults_are_handled = before.faults_are_handled;
         stands = before.stands;
         related = tabled_related p l base table at c ends g before.layout by_frame by_data before.related;
         guards = guards_stay p l base table at c ends before.layout by_zones before.guards;

@@ -40,14 +40,14 @@ module _ (t : Text) where
   one_way : (a b : ℕ) (m n k : Machine) → Steps t a m n → Steps t b m k → n.rip ≡ out → k.rip ≡ out → n ≡ k
   one_way zero zero m n k (stay _) (stay _) at there = refl
   one_way zero (suc b) m n k (stay _) (go _ _ i _ does more) at there = absurd (not_both m i NoInstruction does (stops m at))
-  one_way zero (suc b) m n k (stay _) (resume _ _ _ f faults is more) at there = absurd (no_fault m (stops m at) faults)
+  one_way zero (suc b) m n k (stay _) (resume _ _ _ f faults is lies more) at there = absurd (no_fault m (stops m at) faults)
   one_way (suc a) zero m n k (go _ _ i _ does more) (stay _) at there = absurd (not_both m i NoInstruction does (stops m there))
-  one_way (suc a) zero m n k (resume _ _ _ f faults is more) (stay _) at there = absurd (no_fault m (stops m there) faults)
+  one_way (suc a) zero m n k (resume _ _ _ f faults is lies more) (stay _) at there = absurd (no_fault m (stops m there) faults)
   one_way (suc a) (suc b) m n k (go _ _ i _ does more) (go _ _ j _ too others) at there =
       one_way a b i n k more (subst (λ x. Steps t b x k) (same_next m j i too does) others) at there
-  one_way (suc a) (suc b) m n k (go _ _ i _ does more) (resume _ _ _ f faults is others) at there = absurd (not_both m i Fault does faults)
-  one_way (suc a) (suc b) m n k (resume _ _ _ f faults is more) (go _ _ j _ too others) at there = absurd (not_both m j Fault too faults)
-  one_way (suc a) (suc b) m n k (resume _ _ _ f faults is more) (resume _ _ _ h too was others) at there =
+  one_way (suc a) (suc b) m n k (go _ _ i _ does more) (resume _ _ _ f faults is lies others) at there = absurd (not_both m i Fault does faults)
+  one_way (suc a) (suc b) m n k (resume _ _ _ f faults is lies more) (go _ _ j _ too others) at there = absurd (not_both m j Fault too faults)
+  one_way (suc a) (suc b) m n k (resume _ _ _ f faults is lies more) (resume _ _ _ h too was lie others) at there =
       one_way a b (resumed f m.core) n k more (subst (λ x. Steps t b (resumed x m.core) k) (same_fixup m h f was is) others) at there
 
 pub one_way_out : OneWayOut

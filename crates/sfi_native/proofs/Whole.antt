@@ -20,7 +20,7 @@ use Rattle.x86_step.specs.Running.{spellings}
 use Rattle.x86_step.specs.Step.{Reaches}
 use Rattle.sfi_native.specs.declared.layout.Layout.{Layout}
 use Rattle.sfi_native.specs.Faults.{HasFixups, accesses_of, fixup_by}
-use Rattle.sfi_native.specs.Layout.{DoNotMeet, IsLayout, frame_size}
+use Rattle.sfi_native.specs.Layout.{DoNotMeet, IsLayout, frame_size, guarded_data}
 use Rattle.sfi_native.specs.Places.{IsAtPlace, end_address, exit_of, whole_code}
 use Rattle.sfi_native.specs.Table.{HasTable, LieInCode}
 use Rattle.sfi_native.specs.Whole.{AreApart, EachTurnCanBegin, EachTurnGoesOn, EndsAsImage, IsEntered, NativeTurnsEnd, begun, host_of}
@@ -199,6 +199,7 @@ with_pc_in_edx is t at p l g c pc here = record {
   layout = here.layout;
   text_is_fixed = record { ends = here.text_is_fixed.ends; apart = here.text_is_fixed.apart };
   text_is_low = here.text_is_low;
+  faults_are_handled = here.faults_are_handled;
   stands = here.stands;
   related = related_kept p l here.layout g c (with_register c 2 pc) here.related (kept_register c 2 pc (omega arith));
   guards = record { below = here.guards.below; above = here.guards.above };
@@ -236,7 +237,7 @@ module _ (sandbox : ℕ) (p : Part) (code : List Line) (l : Layout) (base : ℕ)
       let fits = each_code_fits l.registers sandbox p code clean.right are_lines in
       let same = reached_harts_are_fixed sandbox p first.state clean comes in
       let fixups = fixup_by (accesses_of l.registers code code) base (exit_of l.registers code) in
-      let text : Text = record { base = base; bytes = spellings is; fixups = fixups } in
+      let text : Text = record { base = base; bytes = spellings is; fixups = fixups; handled = guarded_data p.data_size l } in
       let it = each_code_can_be_run is fixups base p l first layout comes.state.hart.count
       (subst (λ (h : Hart). (r : ℕ) → register h r < 2 ^ 32) (sym same) comes.state.hart.words) first_few (omega (arith, low, size))
       (subst (λ n. DoNotMeet base n l.frame frame_size) (sym size) apart.text.from_frame) (subst (λ n. DoNotMeet base n l.data_start p.data_size) (sym size) (zones_and_data p l base (exit_of l.registers code) layout apart.text.from_zones)) in

@@ -21,7 +21,7 @@ use Rattle.x86_step.specs.Running.{HasAt, spellings}
 use Rattle.sfi_native.specs.declared.registers.RegisterMap.{RegisterMap}
 use Rattle.sfi_native.specs.declared.jump.Jump.{Jump}
 use Rattle.sfi_native.specs.declared.layout.Layout.{Layout}
-use Rattle.sfi_native.specs.Layout.{DoNotMeet, GuardsAreEmpty, IsLayout, IsRelated, OthersStay, frame_size, value}
+use Rattle.sfi_native.specs.Layout.{DoNotMeet, GuardsAreEmpty, IsLayout, IsRelated, OthersStay, frame_size, guarded_data, value}
 use Rattle.sfi_native.specs.Code.{branch_line, computing_line, does_compute, enter_size, has_test, jal_line, jalr_line, jump_size, load_line, start_size, store_line}
 use Rattle.sfi_native.specs.Faults.{HasFixups, front_of}
 use Rattle.sfi_native.specs.Places.{AreLast, IsAt, code_of, end_address, exit_of, instruction_code, placed, start, whole_code}
@@ -47,11 +47,12 @@ end_of at is = at + length (spellings is)
 abbrev pub IsLow : Text → Type 0
 IsLow t = t.base + length t.bytes < 2 ^ 47
 
--- The processor is before code that stands in a fixed text, and has the turn's state.
+-- The processor is before code that stands in a fixed text, and has the turn's state. Faults are handled in data and guard zones.
 pub record IsBefore (is : List Native) (t : Text) (at : ℕ) (p : Part) (l : Layout) (g : Going) (c : Core) : Type 0 where
   pub layout : IsLayout p.data_size l
   pub text_is_fixed : IsFixed t c
   pub text_is_low : IsLow t
+  pub faults_are_handled : t.handled ≡ guarded_data p.data_size l
   pub stands : HasAt t at (spellings is)
   pub related : IsRelated p l g c
   pub guards : GuardsAreEmpty p.data_size l c
@@ -64,7 +65,7 @@ EachCodeCanBeRun =
     → length g.state.hart.registers ≡ 32 → ((r : ℕ) → value p g r < 2 ^ 32) → g.left < 2 ^ 32
     → end_of at is < 2 ^ 47 → DoNotMeet at (length (spellings is)) l.frame frame_size
     → DoNotMeet at (length (spellings is)) l.data_start p.data_size
-    → (c : Core) × IsBefore is (record { base = at; bytes = spellings is; fixups = fixups }) at p l g c
+    → (c : Core) × IsBefore is (record { base = at; bytes = spellings is; fixups = fixups; handled = guarded_data p.data_size l }) at p l g c
 
 -- A processor that is before code can have each table of entries, anywhere apart from frame, data and guard zones.
 abbrev pub EachTableCanBeHeld : Type 0

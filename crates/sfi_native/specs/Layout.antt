@@ -5,7 +5,7 @@ use Rattle.rv_step.specs.State.{register}
 use Rattle.sfi_formats.specs.Limits.{guard}
 use Rattle.sfi_image.specs.Spelling.{Part}
 use Rattle.sfi_translate.specs.Machine.{Going, fixed}
-use Rattle.x86_step.specs.State.{Core, number_at}
+use Rattle.x86_step.specs.State.{Core, Span, number_at}
 use Rattle.x86_instr.specs.declared.operand.Register.{Register}
 use Rattle.x86_instr.specs.Spelling.{number}
 use Rattle.sfi_native.specs.declared.layout.Layout.{Layout}
@@ -33,6 +33,10 @@ pub record IsLayout (data_size : ℕ) (l : Layout) : Type 0 where
   pub is_page : l.data_start % page_size ≡ 0
   pub are_pages : data_size % page_size ≡ 0
   pub apart : DoNotMeet l.frame frame_size (l.data_start - guard) (data_size + 2 * guard)
+
+-- the data, with a guard zone on each side
+abbrev pub guarded_data : ℕ → Layout → Span
+guarded_data data_size l = record { at = l.data_start - guard; size = data_size + 2 * guard }
 
 -- the host's address of the sandbox's address 0, of which r15 holds 64 bits
 abbrev pub origin : ℕ → Layout → ℕ

@@ -16,11 +16,10 @@ use Rattle.x86_step.specs.declared.machine.Flags.{Flags}
 use Rattle.x86_step.specs.declared.machine.Computed.{Computed}
 use Rattle.x86_step.specs.declared.machine.Stop.{Stop}
 use Rattle.x86_step.specs.declared.machine.Stop.TheVariants.{Fault}
-unfoldable use Rattle.x86_step.specs.Accesses.{accessed}
-use Rattle.x86_step.specs.Accesses.{AccessesAreAll, Agree, ComeToTheSame, LiesIn, narrow_bytes, operand_access}
+use Rattle.x86_step.specs.Accesses.{AccessesAreAll, Agree, ComeToTheSame}
 use Rattle.x86_step.specs.State.{Core, may_write, joined, number_at, with_flags, with_memory, with_register, written}
-unfoldable use Rattle.x86_step.specs.Step.{computes}
-use Rattle.x86_step.specs.Step.{◌>>=◌, address, alu_finished, bytes_of, divided, effect, finished, found, goes_to, is_met, known, landed, loaded, narrow_value, put, rsp_plus, stored, value}
+unfoldable use Rattle.x86_step.specs.Step.{accessed, computes}
+use Rattle.x86_step.specs.Step.{◌>>=◌, LiesIn, address, alu_finished, bytes_of, divided, effect, finished, found, goes_to, is_met, known, landed, loaded, narrow_bytes, narrow_value, operand_access, put, rsp_plus, stored, value}
 
 -- ==== Numbers.
 

@@ -1,6 +1,6 @@
 -- What holds of every step: laws, for proofs in the crates above.
 use Rattle.x86_step.specs.Accesses.{AccessesAreAll}
-use Rattle.x86_step.specs.Laws.{FaultsResume, FixedStays, SpelledRun, SpelledSteps, StepsJoin}
+use Rattle.x86_step.specs.Laws.{FaultsResume, FixedStays, SpelledAccesses, SpelledRun, SpelledSteps, StepsJoin}
 use Rattle.x86_step.proofs.Accesses as accesses
 use Rattle.x86_step.proofs.Fixed as fixed
 use Rattle.x86_step.proofs.Running as running
@@ -13,6 +13,9 @@ steps_join = running.reaches_join
 
 pub spelled_steps : SpelledSteps
 spelled_steps = running.spelled_steps
+
+pub spelled_accesses : SpelledAccesses
+spelled_accesses = running.spelled_accesses
 
 pub faults_resume : FaultsResume
 faults_resume = running.faults_resume

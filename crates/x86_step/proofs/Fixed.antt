@@ -113,7 +113,7 @@ step_keeps t m =
 steps_keep : (t : Text) (steps : ℕ) (m k : Machine) → Steps t steps m k → k.core.writable ≡ m.core.writable
 steps_keep t zero m k (stay n) = refl
 steps_keep t (suc steps) m k (go _ a b z one more) = steps_keep t steps b z more ∙ subst (Leads a.core) one (step_keeps t a)
-steps_keep t (suc steps) m k (resume _ a z f faults has more) = steps_keep t steps (resumed f a.core) z more
+steps_keep t (suc steps) m k (resume _ a z f faults has lies more) = steps_keep t steps (resumed f a.core) z more
 
 pub fixed_stays : FixedStays
 fixed_stays t most m k reached = record {

@@ -8,10 +8,10 @@ use Rattle.x86_instr.specs.declared.instr.Instr.TheVariants.{Jcc, Jmp, JmpTo, Re
 use Rattle.x86_instr.specs.Spelling.{spelling}
 use Rattle.x86_instr.proofs.Facts.{spelling_decodes}
 use Rattle.x86_step.specs.declared.machine.Stop.{Stop}
-use Rattle.x86_step.specs.Laws.{FaultsResume, SpelledRun, SpelledSteps, StepsJoin}
+use Rattle.x86_step.specs.Laws.{FaultsResume, SpelledAccesses, SpelledRun, SpelledSteps, StepsJoin}
 use Rattle.x86_step.specs.Running.{HasAt, are_straight, exec, is_straight, spellings}
-use Rattle.x86_step.specs.State.{Core, IsFixed, Machine, Text}
-use Rattle.x86_step.specs.Step.{◌>>=◌, Reaches, Steps, stay, go, resume, computes, goes_to, resumed, step}
+use Rattle.x86_step.specs.State.{Core, IsFixed, IsIn, Machine, Text}
+use Rattle.x86_step.specs.Step.{◌>>=◌, LiesIn, Reaches, Steps, stay, go, resume, accessed, computes, goes_to, next_access, resumed, step}
 
 -- ==== Where bytes stand.
 
@@ -43,13 +43,23 @@ spelled_steps t at i c has =
     let size : length bytes - length has.after ≡ length (spelling i) = omega (arith, length-append (spelling i) has.after) in
     rw (low, there, spelling_decodes i has.after, size) refl
 
+pub spelled_accesses : SpelledAccesses
+unfolding next_access
+spelled_accesses t at i c has =
+    let bytes = spelling i ++ has.after in
+    let low : nat_le t.base at ≡ true = le-leb t.base at (omega (arith, has.at_is)) in
+    let gap : length has.before ≡ at - t.base = omega (arith, has.at_is) in
+    let there : drop (at - t.base) t.bytes ≡ bytes = ap (drop (at - t.base)) has.bytes_are ∙ drop_at has.before bytes (at - t.base) gap in
+    rw (low, there, spelling_decodes i has.after) refl
+
 pub faults_resume : FaultsResume
-faults_resume t at i c f fixed has faults there =
+faults_resume t at i c f fixed has faults there lies =
     record {
       fixed = fixed;
       count = 1;
       few = omega arith;
-      steps = resume 0 (record { rip = at; core = c }) (resumed f c) f (spelled_steps t at i c has ∙ faults) there (stay (resumed f c));
+      steps = resume 0 (record { rip = at; core = c }) (resumed f c) f (spelled_steps t at i c has ∙ faults) there
+          (subst (λ access. LiesIn (IsIn t.handled) access) (sym (spelled_accesses t at i c has)) lies) (stay (resumed f c));
     }
 
 -- ==== Several steps.
@@ -64,8 +74,8 @@ steps_join : (t : Text) (first more : ℕ) (m n k : Machine) → Steps t first m
 steps_join t zero more m n k (stay a) rest = subst (λ all. Steps t all m k) (none_more more) rest
 steps_join t (suc first) more m n k (go steps a b z one then) rest =
     subst (λ all. Steps t all m k) (one_more first more) (go (first + more) a b k one (steps_join t first more b z k then rest))
-steps_join t (suc first) more m n k (resume steps a z f faults has then) rest =
-    subst (λ all. Steps t all m k) (one_more first more) (resume (first + more) a k f faults has (steps_join t first more (resumed f a.core) z k then rest))
+steps_join t (suc first) more m n k (resume steps a z f faults has lies then) rest =
+    subst (λ all. Steps t all m k) (one_more first more) (resume (first + more) a k f faults has lies (steps_join t first more (resumed f a.core) z k then rest))
 
 pub reaches_join : StepsJoin
 reaches_join t first more m n k one then =

@@ -22,12 +22,21 @@ pub record Fixup : Type 0 where
   pub to : ℕ
   pub rdx : ℕ
 
+-- so many addresses from one on
+pub record Span : Type 0 where
+  pub at : ℕ
+  pub size : ℕ
+
+abbrev pub IsIn : Span → ℕ → Type 0
+IsIn span a = (span.at ≤ a) × (a < span.at + span.size)
+
 -- Code: bytes from an address on. By the addresses of instructions that access memory and don't jump, the fixups that the
--- host has for their faults.
+-- host has for their faults. It handles the faults of accesses that lie in that span, and no others.
 pub record Text : Type 0 where
   pub base : ℕ
   pub bytes : List ℕ
   pub fixups : ℕ → Option Fixup
+  pub handled : Span
 
 -- Code stays what it is: no byte of it may be written. A host maps its pages executable and not writable, none of them the
 -- last below 2^64. No step changes that (`Laws`), so that it is asked once, before the first.

@@ -1,7 +1,7 @@
 -- One step of a processor, at the instructions of `x86_instr`. Intel 64 and IA-32 Architectures Software Developer's
 -- Manual, volume 1, 3.4.1.1 (a result of 32 bits clears the upper half of a register), 3.4.3 and appendices A and B
 -- (flags and conditions); volume 2, the pages of the instructions.
-use Rattle.std.specs.Prelude.{zero, suc, ◌≤◌, ◌≡◌, ℕ, ◌+◌, ◌-◌, ◌*◌, ◌/◌, ◌%◌, ◌^◌, ◌==◌, nat_lt, nat_le, ◌&&◌, ◌||◌, not, Bool, true, false, ℤ, pos, neg_ℤ, ◌+ℤ◌, ◌-ℤ◌, ◌*ℤ◌, int_le, int_lt, int_div, int_rem, bit_and, bit_or, bit_xor, List, length, drop, Option, Some, None, Result, Ok, Err, if◌then◌else◌}
+use Rattle.std.specs.Prelude.{zero, suc, ◌<◌, ◌≤◌, ◌≡◌, ℕ, ◌+◌, ◌-◌, ◌*◌, ◌/◌, ◌%◌, ◌^◌, ◌==◌, nat_lt, nat_le, ◌&&◌, ◌||◌, not, Bool, true, false, ℤ, pos, neg_ℤ, ◌+ℤ◌, ◌-ℤ◌, ◌*ℤ◌, int_le, int_lt, int_div, int_rem, bit_and, bit_or, bit_xor, List, length, drop, Option, Some, None, Result, Ok, Err, if◌then◌else◌}
 use Rattle.std.specs.Int.{w32, w64, cast_signed, cast_unsigned, from_bool}
 use Rattle.std.specs.Option.{option_map}
 use Rattle.x86_instr.specs.declared.operand.Register.{Register}
@@ -32,7 +32,7 @@ use Rattle.x86_step.specs.declared.machine.Flags.{Flags}
 use Rattle.x86_step.specs.declared.machine.Computed.{Computed}
 use Rattle.x86_step.specs.declared.machine.Stop.{Stop}
 use Rattle.x86_step.specs.declared.machine.Stop.TheVariants.{Fault, DivideError, UnknownFlag, NoInstruction}
-use Rattle.x86_step.specs.State.{Core, Fixup, Machine, Text, IsFixed, with_register, with_flags, with_memory, number_at, may_write, written}
+use Rattle.x86_step.specs.State.{Core, Fixup, IsIn, Machine, Span, Text, IsFixed, with_register, with_flags, with_memory, number_at, may_write, written}
 
 -- what may stop, and then what comes next
 infixl 10 ◌>>=◌
@@ -319,6 +319,45 @@ goes_to i after c = Ok after
 abbrev pub effect : Instr → ℕ → Core → Result Machine Stop
 effect i after c = goes_to i after c >>= λ to. computes i c >>= λ d. Ok (record { rip = to; core = d })
 
+-- ==== What an instruction accesses in memory.
+
+-- an operand's
+abbrev pub operand_access : Core → ℕ → Operand → Option Span
+operand_access c n (Reg r) = None
+operand_access c n (Mem a) = Some (record { at = address c a; size = n })
+
+abbrev pub narrow_bytes : Narrow → ℕ
+narrow_bytes Byte = 1
+narrow_bytes Word = 2
+
+-- the access of an instruction, if it has one
+unfoldable pub accessed : Instr → Core → Option Span
+accessed (Mov w dst src) c = operand_access c (bytes_of w) src
+accessed (MovStore w dst src) c = operand_access c (bytes_of w) (Mem dst)
+accessed (MovStoreByte dst src) c = operand_access c 1 (Mem dst)
+accessed (MovStoreWord dst src) c = operand_access c 2 (Mem dst)
+accessed (MovImmStore dst imm) c = operand_access c 4 (Mem dst)
+accessed (MovImmStoreByte dst imm) c = operand_access c 1 (Mem dst)
+accessed (MovImmStoreWord dst imm) c = operand_access c 2 (Mem dst)
+accessed (MovExtended e from dst src) c = operand_access c (narrow_bytes from) src
+accessed (Movsxd dst src) c = operand_access c 4 src
+accessed (Alu op w dst src) c = operand_access c (bytes_of w) src
+accessed (AluStore op dst src) c = operand_access c 4 (Mem dst)
+accessed (AluImm op w dst imm) c = operand_access c (bytes_of w) dst
+accessed (Unary op dst) c = operand_access c 4 dst
+accessed (ShiftImm op w dst amount) c = operand_access c (bytes_of w) dst
+accessed (Imul w dst src) c = operand_access c (bytes_of w) src
+accessed (JmpTo target) c = operand_access c 8 target
+accessed (Push src) c = Some (record { at = rsp_plus c (2 ^ 64 - 8); size = 8 })
+accessed (Pop dst) c = Some (record { at = c.registers 4; size = 8 })
+accessed Ret c = Some (record { at = c.registers 4; size = 8 })
+accessed i c = None
+
+-- its addresses are among these
+abbrev pub LiesIn : (ℕ → Type 0) → Option Span → Type 0
+LiesIn there None = Unit {0}
+LiesIn there (Some access) = (a : ℕ) → access.at ≤ a → a < access.at + access.size → there a
+
 -- ==== A step.
 
 abbrev pub done : Option Decoded → ℕ → Machine → Result Machine Stop
@@ -332,17 +371,26 @@ stepped bytes m = done (decode bytes) (length bytes) m
 unfoldable pub step : Text → Machine → Result Machine Stop
 step t m = if nat_le t.base m.rip then stepped (drop (m.rip - t.base) t.bytes) m else Err NoInstruction
 
+-- the access of an instruction that was read
+abbrev pub access_of : Option Decoded → Core → Option Span
+access_of None c = None
+access_of (Some d) c = accessed d.instr c
+
+-- the access of the instruction at rip, which is the next step's
+unfoldable pub next_access : Text → Machine → Option Span
+next_access t m = if nat_le t.base m.rip then access_of (decode (drop (m.rip - t.base) t.bytes)) m.core else None
+
 -- A fault leaves all as it was before the instruction (volume 3A, 6.5), also where a part of what a store writes could be
 -- written, as is tested on processors; its fixup says where the host goes on.
 abbrev pub resumed : Fixup → Core → Machine
 resumed f c = record { rip = f.to; core = with_register c 2 f.rdx }
 
--- so many steps, one after another: instructions that are done, or that fault
+-- so many steps, one after another: instructions that are done, or whose fault the host handles
 pub data Steps (t : Text) : ℕ → Machine → Machine → Type 0 where
   stay : (m : Machine) → Steps t zero m m
   go : (steps : ℕ) (m n k : Machine) → step t m ≡ Ok n → Steps t steps n k → Steps t (suc steps) m k
-  resume : (steps : ℕ) (m k : Machine) (f : Fixup) → step t m ≡ Err Fault → t.fixups m.rip ≡ Some f → Steps t steps (resumed f m.core) k
-      → Steps t (suc steps) m k
+  resume : (steps : ℕ) (m k : Machine) (f : Fixup) → step t m ≡ Err Fault → t.fixups m.rip ≡ Some f → LiesIn (IsIn t.handled) (next_access t m)
+      → Steps t steps (resumed f m.core) k → Steps t (suc steps) m k
 
 -- at most so many steps of fixed code lead from one state to another
 pub record Reaches (t : Text) (most : ℕ) (m k : Machine) : Type 0 where
