@@ -26,6 +26,7 @@ use Rattle.x86_step.specs.Step.{LiesIn, address, effect, loaded, resumed, sign_e
 unfoldable use Rattle.x86_step.specs.Step.{accessed, computes}
 use Rattle.x86_step.specs.Running.{spellings}
 use Rattle.x86_step.proofs.Facts.{faults_resume}
+use Rattle.x86_step.proofs.Missing.{load_missing, number_missing}
 use Rattle.x86_step.proofs.Running.{has_front, in_more}
 use Rattle.sfi_native.specs.declared.layout.Layout.{Layout}
 use Rattle.sfi_native.specs.Layout.{GuardsAreEmpty, IsLayout, IsRelated, guarded_data, origin, value}
@@ -38,30 +39,6 @@ use Rattle.sfi_native.proofs.Fetching.{reads, related_goes, related_kept}
 use Rattle.sfi_native.proofs.Kept.{Kept, kept_join, kept_register, others_kept}
 use Rattle.sfi_native.proofs.Runs.{Runs, back_fixed, back_stands, runs_join, straight_runs, then_reaches}
 use Rattle.sfi_native.proofs.Lengths.{front_few}
-
--- ==== Bytes that aren't there.
-
-joined_none : (o : Option ℕ) → joined o None ≡ None
-joined_none None = refl
-joined_none (Some b) = refl
-
--- no number has a byte that is missing
-number_missing : (m : ℕ → Option ℕ) (n k at : ℕ) → k < n → m (at + k) ≡ None → number_at m n at ≡ None
-number_missing m zero k at small none = absurd (omega (arith, small))
-number_missing m (suc n) zero at small none =
-    let z : at + 0 ≡ at = omega arith in
-    let here : m at ≡ None = ap m (sym z) ∙ none in
-    rw here refl
-number_missing m (suc n) (suc k) at small none =
-    let next : at + suc k ≡ at + 1 + k = omega arith in
-    let rest : number_at m n (at + 1) ≡ None = number_missing m n k (at + 1) (omega (arith, small)) (ap m (sym next) ∙ none) in
-    rw rest (joined_none (m at))
-
-load_missing : (c : Core) (n at : ℕ) → number_at c.memory n at ≡ None → loaded c n at ≡ Err Fault
-load_missing c n at none = elim (cases_Bool (nat_le (at + n) (2 ^ 64))) [
-  | inl e ↦ rw (e, none) refl
-  | inr e ↦ rw e refl
-]
 
 -- ==== Where the access goes.
 

@@ -88,12 +88,13 @@ inside a from n low high (inr behind) = omega (arith, high, behind)
 
 -- ==== A processor in which the host has entered code.
 
-module _ (p : Part) (code : List Line) (l : Layout) (t : Text) (base : ℕ) (host : Host) where
+module _ (p : Part) (code : List Line) (l : Layout) (t : Text) (base table_at : ℕ) (host : Host) where
   -- it stands before code, with its table, and with what the host relies on
   pub record Ready (g : Going) (m : Machine) : Type 0 where
     pub is_at : IsAt l.registers base code g m
     pub stands : IsBefore (whole_code l.registers (end_address p) code) t base p l g m.core
     pub table : HasTable p l base code m.core
+    pub table_is : table.at ≡ table_at
     pub apart : AreApart p l base code table.at host.own
     pub relies : host.relies m.core
 
@@ -147,6 +148,7 @@ module _ (p : Part) (code : List Line) (l : Layout) (t : Text) (base : ℕ) (hos
             origin_is = spares.table_origin ∙ has.origin_is;
             code_is = spares.code_address ∙ has.code_is;
           };
+          table_is = here.table_is;
           apart = own;
           relies = relies;
         }

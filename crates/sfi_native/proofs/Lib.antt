@@ -37,7 +37,8 @@ pub mod Hosts
 pub mod Served
 pub mod Agreeing
 pub mod Turning
-pub mod Whole
+pub mod Bare
+mod Whole
 pub mod Compiled
 pub mod Entered
 pub mod Listed

@@ -7,23 +7,12 @@ use Rattle.x86_step.specs.declared.machine.Stop.TheVariants.{Fault, NoInstructio
 use Rattle.x86_step.specs.State.{Fixup, Machine, Text}
 use Rattle.x86_step.specs.Step.{Steps, go, resume, resumed, stay}
 unfoldable use Rattle.x86_step.specs.Step.{step}
+use Rattle.x86_step.proofs.Ways.{stops}
 use Rattle.sfi_native.specs.Host.{OneWayOut}
-
-drop_all : (bytes : List ℕ) → drop (length bytes) bytes ≡ []
-drop_all [] = refl
-drop_all (b ∷ bytes) = drop_all bytes
 
 module _ (t : Text) where
   abbrev out : ℕ
   out = t.base + length t.bytes
-
-  -- no instruction is there
-  stops : (m : Machine) → m.rip ≡ out → step t m ≡ Err NoInstruction
-  unfolding step
-  stops m at =
-      let low : nat_le t.base m.rip ≡ true = le-leb t.base m.rip (omega (arith, at)) in
-      let all : drop (m.rip - t.base) t.bytes ≡ [] = ap (λ n. drop n t.bytes) (omega (arith, at)) ∙ drop_all t.bytes in
-      rw (low, all) refl
 
   same_next : (m n k : Machine) → step t m ≡ Ok n → step t m ≡ Ok k → n ≡ k
   same_next m n k one two = let e : Ok n ≡ Ok k = sym one ∙ two in cc
@@ -39,10 +28,10 @@ module _ (t : Text) where
 
   one_way : (a b : ℕ) (m n k : Machine) → Steps t a m n → Steps t b m k → n.rip ≡ out → k.rip ≡ out → n ≡ k
   one_way zero zero m n k (stay _) (stay _) at there = refl
-  one_way zero (suc b) m n k (stay _) (go _ _ i _ does more) at there = absurd (not_both m i NoInstruction does (stops m at))
-  one_way zero (suc b) m n k (stay _) (resume _ _ _ f faults is lies more) at there = absurd (no_fault m (stops m at) faults)
-  one_way (suc a) zero m n k (go _ _ i _ does more) (stay _) at there = absurd (not_both m i NoInstruction does (stops m there))
-  one_way (suc a) zero m n k (resume _ _ _ f faults is lies more) (stay _) at there = absurd (no_fault m (stops m there) faults)
+  one_way zero (suc b) m n k (stay _) (go _ _ i _ does more) at there = absurd (not_both m i NoInstruction does (stops t m at))
+  one_way zero (suc b) m n k (stay _) (resume _ _ _ f faults is lies more) at there = absurd (no_fault m (stops t m at) faults)
+  one_way (suc a) zero m n k (go _ _ i _ does more) (stay _) at there = absurd (not_both m i NoInstruction does (stops t m there))
+  one_way (suc a) zero m n k (resume _ _ _ f faults is lies more) (stay _) at there = absurd (no_fault m (stops t m there) faults)
   one_way (suc a) (suc b) m n k (go _ _ i _ does more) (go _ _ j _ too others) at there =
       one_way a b i n k more (subst (λ x. Steps t b x k) (same_next m j i too does) others) at there
   one_way (suc a) (suc b) m n k (go _ _ i _ does more) (resume _ _ _ f faults is lies others) at there = absurd (not_both m i Fault does faults)

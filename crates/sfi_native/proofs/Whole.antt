@@ -15,15 +15,18 @@ use Rattle.sfi_translate.proofs.Facts.{each_turn_ends, reached_harts_are_fixed, 
 use Rattle.sfi_native.specs.Host.{EndsWithin, Host, HostMoves, IsHost, IsInCode, Serves, Spares, Works, answer_of}
 use Rattle.sfi_native.specs.Laws.{IsBefore, line_most}
 use Rattle.x86_instr.specs.declared.instr.Instr.{Instr as Native}
-use Rattle.x86_step.specs.State.{Core, Machine, Text, with_register}
+use Rattle.x86_step.specs.Accesses.{AccessesLieIn}
+use Rattle.x86_step.specs.State.{Core, IsIn, Machine, Text, with_register}
+use Rattle.x86_step.proofs.Facts.{ways_out_access_no_others}
 use Rattle.x86_step.specs.Running.{spellings}
 use Rattle.x86_step.specs.Step.{Reaches}
 use Rattle.sfi_native.specs.declared.layout.Layout.{Layout}
 use Rattle.sfi_native.specs.Faults.{HasFixups, accesses_of, fixup_by}
 use Rattle.sfi_native.specs.Layout.{DoNotMeet, IsLayout, frame_size, guarded_data}
-use Rattle.sfi_native.specs.Places.{IsAtPlace, end_address, exit_of, whole_code}
+use Rattle.sfi_native.specs.Places.{IsAt, IsAtPlace, end_address, exit_of, whole_code}
 use Rattle.sfi_native.specs.Table.{HasTable, LieInCode}
-use Rattle.sfi_native.specs.Whole.{AreApart, EachTurnCanBegin, EachTurnGoesOn, EndsAsImage, IsEntered, NativeTurnsEnd, begun, host_of}
+use Rattle.sfi_native.specs.Whole.{AreApart, EachTurnCanBegin, EachTurnGoesOn, EndsAsImage, IsAccessed, IsEntered, NativeTurnsEnd, begun, host_of}
+use Rattle.sfi_native.proofs.Bare.{agree, bare, bare_before, bare_table, has_no_others}
 use Rattle.sfi_native.proofs.Kept.{kept_register}
 use Rattle.sfi_native.proofs.Fetching.{related_kept}
 use Rattle.sfi_native.proofs.Held.{each_code_can_be_run}
@@ -38,7 +41,7 @@ use Rattle.sfi_native.proofs.Turning.{CodePart, HostPart, Turns, code_part, few_
 -- ==== Rounds.
 
 module _ (sandbox : ℕ) (p : Part) (code : List Line) (s : State) (left : ℕ) (l : Layout) (t : Text) (base : ℕ) (few : left < 2 ^ 31) (fits : exit_of l.registers code < 2 ^ 31) (fixups : HasFixups l.registers t base code) (lie : LieInCode p code)
-    (host : Host) (works : IsHost p l base code host) (begins : t.base ≡ base) (size : length t.bytes ≡ exit_of l.registers code) (entry : Machine) where
+    (host : Host) (works : IsHost p l base code host) (begins : t.base ≡ base) (size : length t.bytes ≡ exit_of l.registers code) (table_at : ℕ) (entry : Machine) where
   abbrev Ended : Outcome → Machine → Type 0
   Ended o n = EndsAsImage p code l base host s left entry o n
 
@@ -67,7 +70,7 @@ module _ (sandbox : ℕ) (p : Part) (code : List Line) (s : State) (left : ℕ) 
   before Lost is = absurd is
 
   -- code's part and the host's, from a state of the turn in which code has been entered
-  module _ (n moved : ℕ) (g last : Going) (m : Machine) (here : Ready p code l t base host g m) (inside : IsInCode g.place) (turn : Turns sandbox p code s left moved g) (steps : AreTranslatedSteps Assembly p code n g last) (over : IsOver last) where
+  module _ (n moved : ℕ) (g last : Going) (m : Machine) (here : Ready p code l t base table_at host g m) (inside : IsInCode g.place) (turn : Turns sandbox p code s left moved g) (steps : AreTranslatedSteps Assembly p code n g last) (over : IsOver last) where
     lines : (lines : List Line) × (g.place ≡ Before lines)
     lines = before g.place inside
 
@@ -93,11 +96,38 @@ module _ (sandbox : ℕ) (p : Part) (code : List Line) (s : State) (left : ℕ) 
       spares = spares_join p l host.own m.core code_does.out.core k.core (spares_others p l host.own here.stands.layout m.core code_does.out.core code_does.others) it.spares;
     }
 
-    is_out : code_does.out.rip ≡ t.base + length t.bytes
-    is_out =
-        let at = subst (λ q. IsAtPlace l.registers base code q code_does.slow.state.hart.pc code_does.out) code_does.is_slow code_does.alike.is_at in
+    comes_out : (k : Machine) (c : CodePart sandbox p code s left l t base few fits fixups lie n k last) → c.out.rip ≡ t.base + length t.bytes
+    comes_out k c =
+        let at = subst (λ q. IsAtPlace l.registers base code q c.slow.state.hart.pc c.out) c.is_slow c.alike.is_at in
         let rip = at.0 in
         omega (arith, rip, begins, size)
+
+    is_out : code_does.out.rip ≡ t.base + length t.bytes
+    is_out = comes_out m code_does
+
+    -- Code comes out, too, where memory has nothing but frame, table and data.
+    abbrev bare_machine : Machine
+    bare_machine = record { rip = m.rip; core = bare p l here.table.at m.core }
+
+    bare_at : IsAt l.registers base code g bare_machine
+    bare_at =
+        let at : IsAtPlace l.registers base code (Before lines.0) g.state.hart.pc m = subst (λ q. IsAtPlace l.registers base code q g.state.hart.pc m) lines.1 here.is_at in
+        subst (λ q. IsAtPlace l.registers base code q g.state.hart.pc bare_machine) (sym lines.1) at
+
+    bare_does : CodePart sandbox p code s left l t base few fits fixups lie n bare_machine last
+    bare_does =
+        code_part sandbox p code s left l t base few fits fixups lie n moved g last bare_machine
+        (bare_before p l here.table.at m.core (whole_code l.registers (end_address p) code) t base g here.stands)
+        (bare_table p l base code m.core here.table) bare_at lines.0 lines.1 turn steps over
+
+    accesses : AccessesLieIn (IsAccessed p l table_at) t m
+    accesses =
+        let zones = here.stands.layout.data_begins in
+        subst (λ at. AccessesLieIn (IsAccessed p l at) t m) here.table_is
+        (ways_out_access_no_others (IsAccessed p l here.table.at) t bare_does.made bare_machine bare_does.out m.core.memory bare_does.reached (comes_out bare_machine bare_does)
+        (has_no_others p l here.table.at m.core zones)
+        (λ a is. inr (inr (subst (λ span. IsIn span a) here.stands.faults_are_handled is)))
+        (agree p l here.table.at m.core here.stands.guards zones))
 
     only : (most : ℕ) (k : Machine) → Reaches t most m k → k.rip ≡ t.base + length t.bytes → k ≡ code_does.out
     only most k reached e = one_way_out t most code_does.made m k code_does.out reached code_does.reached e is_out
@@ -114,11 +144,11 @@ module _ (sandbox : ℕ) (p : Part) (code : List Line) (s : State) (left : ℕ) 
           relies = done.relies (Some o) k did;
         }
 
-    ready_again : (k : Machine) → host.does code_does.out None k → Ready p code l t base host host_does.next k
-    ready_again k did = ready_on p code l t base host begins size g host_does.next m k here (all k (done.serves None k did)) (done.relies None k did)
+    ready_again : (k : Machine) → host.does code_does.out None k → Ready p code l t base table_at host host_does.next k
+    ready_again k did = ready_on p code l t base table_at host begins size g host_does.next m k here (all k (done.serves None k did)) (done.relies None k did)
 
-  rounds : (room n moves : ℕ) (g last : Going) (m : Machine) → n ≤ room → Ready p code l t base host g m → Spares p l host.own entry.core m.core → IsInCode g.place → Turns sandbox p code s left moves g
-      → AreTranslatedSteps Assembly p code n g last → IsOver last → EndsWithin room (line_most * n) t p l host Ended m
+  rounds : (room n moves : ℕ) (g last : Going) (m : Machine) → n ≤ room → Ready p code l t base table_at host g m → Spares p l host.own entry.core m.core → IsInCode g.place → Turns sandbox p code s left moves g
+      → AreTranslatedSteps Assembly p code n g last → IsOver last → EndsWithin room (line_most * n) t p l (IsAccessed p l table_at) host Ended m
   rounds zero n moved g last m fits_in here spares inside turn steps over =
       let fewer = (code_does n moved g last m here inside turn steps over).fewer in
       absurd (omega (arith, fewer, fits_in))
@@ -136,6 +166,7 @@ module _ (sandbox : ℕ) (p : Part) (code : List Line) (s : State) (left : ℕ) 
         comes_out = c.reached;
         is_out = is_out n moved g last m here inside turn steps over;
         only = only n moved g last m here inside turn steps over;
+        accesses = accesses n moved g last m here inside turn steps over;
         others = c.others;
         answers = work.answers;
         ends = ends n moved g last m here inside turn steps over spares;
@@ -158,21 +189,21 @@ native_turns_end sandbox p code l t base host s left m works here =
     let same = one_way p code (begun s left) begins.next here.first begins.leads here.begins in
     let fewer = begins.fewer in
     let moves = turns_end Assembly sandbox p code s left end.0 end.1 end.2 in
-    let ready : Ready p code l t base host here.first m = record { is_at = here.is_at; stands = here.stands; table = here.table; apart = here.apart; relies = here.relies } in
+    let ready : Ready p code l t base here.table.at host here.first m = record { is_at = here.is_at; stands = here.stands; table = here.table; table_is = refl; apart = here.apart; relies = here.relies } in
     record {
       rounds = end.0;
       few = moves;
       instructions = line_most * begins.rest;
       as_many = omega (arith, moves, fewer);
       ends = rounds sandbox p code s left l t base few (each_code_fits l.registers sandbox p code here.clean.right here.lines) here.fixups (lines_lie_in_code sandbox p code here.clean here.lines)
-          host works here.text_begins here.text_size m end.0 begins.rest begins.moved here.first end.1 m (omega (arith, fewer)) ready (spares_same p l host.own m.core) here.in_code
+          host works here.text_begins here.text_size here.table.at m end.0 begins.rest begins.moved here.first end.1 m (omega (arith, fewer)) ready (spares_same p l host.own m.core) here.in_code
           (subst (IsTurnTo Assembly sandbox p code s left begins.moved) same begins.turn) (subst (λ x. AreTranslatedSteps Assembly p code begins.rest x end.1) same begins.steps) end.3;
     }
 
 pub each_turn_goes_on : EachTurnGoesOn
 each_turn_goes_on sandbox p code l t base host s u left next_left first m n here reached few begins inside it relies =
-    let ready : Ready p code l t base host here.first m = record { is_at = here.is_at; stands = here.stands; table = here.table; apart = here.apart; relies = here.relies } in
-    let next = ready_on p code l t base host here.text_begins here.text_size here.first first m n ready it relies in
+    let ready : Ready p code l t base here.table.at host here.first m = record { is_at = here.is_at; stands = here.stands; table = here.table; table_is = refl; apart = here.apart; relies = here.relies } in
+    let next = ready_on p code l t base here.table.at host here.text_begins here.text_size here.first first m n ready it relies in
     record {
       clean = here.clean;
       lines = here.lines;

@@ -9,6 +9,7 @@ use Rattle.sfi_image.specs.Spelling.{Part}
 use Rattle.sfi_translate.specs.Lines.{Line}
 use Rattle.sfi_translate.specs.Machine.{Assembly, Before, ControlPoint, Going, IsTranslatedStep, Loop, Slow, Stopped, fixed}
 use Rattle.sfi_translate.specs.Laws.{IsOver}
+use Rattle.x86_step.specs.Accesses.{AccessesLieIn}
 use Rattle.x86_step.specs.State.{Core, Machine, Text}
 use Rattle.x86_step.specs.Step.{Reaches}
 use Rattle.sfi_native.specs.declared.layout.Layout.{Layout}
@@ -118,9 +119,9 @@ OneWayOut =
     (t : Text) (a b : ℕ) (m n k : Machine) → let out = t.base + length t.bytes in
     Reaches t a m n → Reaches t b m k → n.rip ≡ out → k.rip ≡ out → n ≡ k
 
--- A round: code comes out at the end of its text, in one state, by some of the instructions that are left to the turn; there the
--- host does something; and whatever it does, its answer ends the turn as it has to, or it enters code anew, with the rest of them.
-pub record Round (t : Text) (p : Part) (l : Layout) (host : Host) (Ended : Outcome → Machine → Type 0)
+-- A round: code comes out at the end of its text, in one state, by some of the instructions that are left to the turn, which access
+-- memory at these addresses alone; there the host does something; and whatever it does, its answer ends the turn as it has to, or it enters code anew, with the rest of them.
+pub record Round (t : Text) (p : Part) (l : Layout) (there : ℕ → Type 0) (host : Host) (Ended : Outcome → Machine → Type 0)
     (Entered : ℕ → Machine → Type 0) (instructions : ℕ) (m : Machine) : Type 0 where
   pub out : Machine
   pub made : ℕ
@@ -129,13 +130,14 @@ pub record Round (t : Text) (p : Part) (l : Layout) (host : Host) (Ended : Outco
   pub comes_out : Reaches t made m out
   pub is_out : out.rip ≡ t.base + length t.bytes
   pub only : (most : ℕ) (n : Machine) → Reaches t most m n → n.rip ≡ t.base + length t.bytes → n ≡ out
+  pub accesses : AccessesLieIn there t m
   pub others : OthersStay p l m.core out.core
   pub answers : (a : Option Outcome) × (n : Machine) × host.does out a n
   pub ends : (o : Outcome) (n : Machine) → host.does out (Some o) n → Ended o n
   pub enters : (n : Machine) → host.does out None n → Entered rest n
 
 -- Fewer rounds than that, and at most so many instructions of code, whatever the host does, end the turn as it has to.
-abbrev pub EndsWithin : ℕ → ℕ → Text → Part → Layout → Host → (Outcome → Machine → Type 0) → Machine → Type 0
-EndsWithin zero instructions t p l host Ended m = ⊥
-EndsWithin (suc rounds) instructions t p l host Ended m =
-    Round t p l host Ended (λ rest n. EndsWithin rounds rest t p l host Ended n) instructions m
+abbrev pub EndsWithin : ℕ → ℕ → Text → Part → Layout → (ℕ → Type 0) → Host → (Outcome → Machine → Type 0) → Machine → Type 0
+EndsWithin zero instructions t p l there host Ended m = ⊥
+EndsWithin (suc rounds) instructions t p l there host Ended m =
+    Round t p l there host Ended (λ rest n. EndsWithin rounds rest t p l there host Ended n) instructions m

@@ -8,12 +8,12 @@ use Rattle.sfi_safety.specs.Places.{IsCleanPart}
 use Rattle.sfi_translate.specs.Lines.{Line, AreLines}
 use Rattle.sfi_translate.specs.Machine.{Going, Loop}
 use Rattle.sfi_translate.specs.Laws.{IsAsImage, IsOver, IsReached}
-use Rattle.x86_step.specs.State.{Machine, Text}
+use Rattle.x86_step.specs.State.{IsIn, Machine, Span, Text}
 use Rattle.sfi_native.specs.declared.layout.Layout.{Layout}
 use Rattle.sfi_native.specs.Entries.{AreEntries}
 use Rattle.sfi_native.specs.Faults.{HasFixups}
 use Rattle.sfi_native.specs.Host.{EndsWithin, Host, HostMoves, IsHost, IsInCode, Serves, answer_of}
-use Rattle.sfi_native.specs.Layout.{DoNotMeet, IsLayout, IsOutside, frame_size}
+use Rattle.sfi_native.specs.Layout.{DoNotMeet, IsLayout, IsOutside, frame_size, guarded_data}
 use Rattle.sfi_native.specs.Laws.{IsBefore, line_most}
 use Rattle.sfi_native.specs.Places.{IsAt, end_address, exit_of, whole_code}
 use Rattle.sfi_native.specs.Table.{HasTable}
@@ -36,6 +36,16 @@ pub record AreApart (p : Part) (l : Layout) (base : ℕ) (code : List Line) (tab
   pub own_from_frame : (a : ℕ) → own a → IsOutside a l.frame frame_size
   pub own_from_text : (a : ℕ) → own a → IsOutside a base (exit_of l.registers code)
   pub own_from_table : (a : ℕ) → own a → IsOutside a table_at (length p.code)
+
+abbrev pub frame_span : Layout → Span
+frame_span l = record { at = l.frame; size = frame_size }
+
+abbrev pub table_span : Part → ℕ → Span
+table_span p table_at = record { at = table_at; size = length p.code }
+
+-- Code accesses its frame, its table, and its data with their guard zones, where an access faults.
+abbrev pub IsAccessed : Part → Layout → ℕ → ℕ → Type 0
+IsAccessed p l table_at a = IsIn (frame_span l) a ⊎ (IsIn (table_span p table_at) a ⊎ IsIn (guarded_data p.data_size l) a)
 
 -- The code of a sandbox without a finding is a text, which ends at the way out, and has its table of entries and the host's fixups. A turn has begun, from a state that a run comes to and with so many steps left, fewer than 2^31; its host has made the
 -- first moves, and has entered code. (The host makes several turns of one with more: `TurnsAddUp`.)
@@ -68,20 +78,22 @@ pub record EndsAsImage (p : Part) (code : List Line) (l : Layout) (base : ℕ) (
   pub serves : Serves p l base code host.own last m n
   pub relies : host.relies n.core
 
--- Whatever the host does, the turn ends so, by so many instructions of code at most: five lines for each step left, and five.
-pub record TurnEnds (p : Part) (code : List Line) (l : Layout) (t : Text) (base : ℕ) (host : Host) (s : State) (left : ℕ)
+-- Whatever the host does, the turn ends so, by so many instructions of code at most: five lines for each step left, and five. All
+-- that these access lies in frame, table, data and guard zones.
+pub record TurnEnds (p : Part) (code : List Line) (l : Layout) (t : Text) (base table_at : ℕ) (host : Host) (s : State) (left : ℕ)
     (m : Machine) : Type 0 where
   pub rounds : ℕ
   pub few : rounds ≤ 5 * (left + 1)
   pub instructions : ℕ
   pub as_many : instructions ≤ line_most * (5 * (left + 1))
-  pub ends : EndsWithin rounds instructions t p l host (EndsAsImage p code l base host s left m) m
+  pub ends : EndsWithin rounds instructions t p l (IsAccessed p l table_at) host (EndsAsImage p code l base host s left m) m
 
 -- Each turn ends so.
 abbrev pub NativeTurnsEnd : Type 1
 NativeTurnsEnd =
     (sandbox : ℕ) (p : Part) (code : List Line) (l : Layout) (t : Text) (base : ℕ) (host : Host) (s : State) (left : ℕ) (m : Machine)
-    → IsHost p l base code host → IsEntered sandbox p code l t base host s left m → TurnEnds p code l t base host s left m
+    → IsHost p l base code host → (entered : IsEntered sandbox p code l t base host s left m)
+    → TurnEnds p code l t base entered.table.at host s left m
 
 -- Where a host enters code again, in a state that a run comes to and with steps left, a turn is entered: so each turn's end may
 -- lead to a next turn (`IsAsImage`), also after a reply (`ReachedGoOn`).

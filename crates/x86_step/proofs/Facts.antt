@@ -1,9 +1,10 @@
 -- What holds of every step: laws, for proofs in the crates above.
-use Rattle.x86_step.specs.Accesses.{AccessesAreAll}
+use Rattle.x86_step.specs.Accesses.{AccessesAreAll, WaysOutAccessNoOthers}
 use Rattle.x86_step.specs.Laws.{FaultsResume, FixedStays, SpelledAccesses, SpelledRun, SpelledSteps, StepsJoin}
 use Rattle.x86_step.proofs.Accesses as accesses
 use Rattle.x86_step.proofs.Fixed as fixed
 use Rattle.x86_step.proofs.Running as running
+use Rattle.x86_step.proofs.Ways as ways
 
 pub fixed_stays : FixedStays
 fixed_stays = fixed.fixed_stays
@@ -25,3 +26,6 @@ spelled_run = running.spelled_run
 
 pub accesses_are_all : AccessesAreAll
 accesses_are_all = accesses.accesses_are_all
+
+pub ways_out_access_no_others : WaysOutAccessNoOthers
+ways_out_access_no_others = ways.ways_out_access_no_others

@@ -104,7 +104,7 @@ at_text : (b : Bool) (c : Core) (r : Result Machine Stop) → Leads c r → Lead
 at_text true c r leads = leads
 at_text false c r leads = tt
 
-step_keeps : (t : Text) (m : Machine) → Leads m.core (step t m)
+pub step_keeps : (t : Text) (m : Machine) → Leads m.core (step t m)
 unfolding step
 step_keeps t m =
     let bytes = drop (m.rip - t.base) t.bytes in

@@ -11,7 +11,7 @@ use Rattle.x86_step.specs.declared.machine.Stop.{Stop}
 use Rattle.x86_step.specs.Laws.{FaultsResume, SpelledAccesses, SpelledRun, SpelledSteps, StepsJoin}
 use Rattle.x86_step.specs.Running.{HasAt, are_straight, exec, is_straight, spellings}
 use Rattle.x86_step.specs.State.{Core, IsFixed, IsIn, Machine, Text}
-use Rattle.x86_step.specs.Step.{◌>>=◌, LiesIn, Reaches, Steps, stay, go, resume, accessed, computes, goes_to, next_access, resumed, step}
+use Rattle.x86_step.specs.Step.{◌>>=◌, LiesIn, Reaches, Steps, stay, go, resume, computes, goes_to, next_access, resumed, step}
 
 -- ==== Where bytes stand.
 

@@ -1,9 +1,9 @@
 -- An instruction accesses no other addresses than its definition says.
-use Rattle.std.specs.Prelude.{◌≡◌, ℕ, Option, Result, Ok, Err}
+use Rattle.std.specs.Prelude.{◌≡◌, ◌⊎◌, ℕ, ◌+◌, length, Option, None, Result, Ok, Err}
 use Rattle.x86_instr.specs.declared.instr.Instr.{Instr}
 use Rattle.x86_step.specs.declared.machine.Stop.{Stop}
-use Rattle.x86_step.specs.State.{Core, Machine, with_memory}
-use Rattle.x86_step.specs.Step.{LiesIn, accessed, effect}
+use Rattle.x86_step.specs.State.{Core, IsIn, Machine, Text, with_memory}
+use Rattle.x86_step.specs.Step.{LiesIn, Reaches, accessed, effect, next_access}
 
 -- two memories have the same bytes at these addresses, or both none
 abbrev pub Agree : (ℕ → Type 0) → (ℕ → Option ℕ) → (ℕ → Option ℕ) → Type 0
@@ -30,3 +30,20 @@ AccessesAreAll =
     (there : ℕ → Type 0) (i : Instr) (after : ℕ) (c : Core) (memory : ℕ → Option ℕ)
     → LiesIn there (accessed i c) → Agree there c.memory memory
     → ComeToTheSame there c (with_memory c memory) (effect i after c) (effect i after (with_memory c memory))
+
+-- Wherever steps lead from there, what the next instruction accesses lies at these addresses.
+abbrev pub AccessesLieIn : (ℕ → Type 0) → Text → Machine → Type 0
+AccessesLieIn there t m = (most : ℕ) (k : Machine) → Reaches t most m k → LiesIn there (next_access t k)
+
+-- a memory has bytes at no other addresses
+abbrev pub HasNoOthers : (ℕ → Type 0) → (ℕ → Option ℕ) → Type 0
+HasNoOthers there memory = (a : ℕ) → there a ⊎ (memory a ≡ None)
+
+-- Code that comes out at the end of its text where memory has bytes at these addresses alone, among which are those where faults
+-- are handled, accesses no others, whatever memory has there.
+abbrev pub WaysOutAccessNoOthers : Type 1
+WaysOutAccessNoOthers =
+    (there : ℕ → Type 0) (t : Text) (most : ℕ) (m out : Machine) (memory : ℕ → Option ℕ)
+    → Reaches t most m out → out.rip ≡ t.base + length t.bytes
+    → HasNoOthers there m.core.memory → ((a : ℕ) → IsIn t.handled a → there a) → Agree there m.core.memory memory
+    → AccessesLieIn there t (record { rip = m.rip; core = with_memory m.core memory })
