@@ -26,7 +26,7 @@ use Rattle.sfi_native.specs.Registers.{assigned, is_fixed}
 use Rattle.sfi_native.specs.Laws.{line_most}
 use Rattle.sfi_native.specs.Faults.{front_of}
 unfoldable use Rattle.sfi_native.specs.Code.{computation, compute, compute_imm}
-use Rattle.sfi_native.specs.Code.{beside_code, bring, compare_code, computing_line, count, data_address, ecx_code, fetch, has_test, imm_code, is_commutative, lies_in, load_code, load_from, load_line, needs_ecx, number_code, op_code, operand_of, place_beside, place_code, read, register_or, result_in, settle, store_eax, store_line, store_to, target_code, test_code, tested_jump, unless, write}
+use Rattle.sfi_native.specs.Code.{are_exchanged, beside_code, bring, combine, compare_code, computing_line, count, data_address, ecx_code, fetch, has_test, imm_code, is_number, keeps_beside_zero, lies_in, load_code, load_from, load_line, needs_ecx, number_code, op_code, op_imm_code, operand_of, place_beside, place_code, read, register_or, result_in, settle, store_eax, store_line, store_to, target_code, test_code, tested_jump, unless, write}
 
 write_few : (registers : RegisterMap) (r : ℕ) → length (write registers r) ≤ 1
 write_few registers r = cond_both (is_fixed r) [] (store_eax (assigned registers r) r ∷ []) (λ (is : List Native). length is ≤ 1) (λ e. omega arith) (λ e. omega arith)
@@ -87,19 +87,23 @@ ecx_few registers op rd rs1 rs2 =
     let ecx = Reg Rcx in
     omega (arith, length-append (fetch registers Rax rs1) (fetch registers Rcx rs2 ++ (compute op Rax ecx ++ write registers rd)), length-append (fetch registers Rcx rs2) (compute op Rax ecx ++ write registers rd), length-append (compute op Rax ecx) (write registers rd), compute_few op Rax ecx, write_few registers rd)
 
+combine_few : (registers : RegisterMap) (op : RegOp) (dst : Register) (rs2 : ℕ) → length (combine registers op dst rs2) ≤ 10
+combine_few registers op dst rs2 =
+    let src = operand_of (assigned registers rs2) rs2 in
+    cond_both (keeps_beside_zero op && (rs2 == 0)) [] (compute op dst src) (λ (is : List Native). length is ≤ 10) (λ e. omega arith) (λ e. compute_few op dst src)
+
 place_few : (registers : RegisterMap) (place : Option Register) (op : RegOp) (rd rs1 rs2 : ℕ) → length (place_code registers place op rd rs1 rs2) ≤ 13
 place_few registers place op rd rs1 rs2 =
     let dst = result_in place in
-    let src = operand_of (assigned registers rs2) rs2 in
-    let computes = compute op dst src in
-    omega (arith, length-append (bring registers dst rs1) (computes ++ settle registers place rd), length-append computes (settle registers place rd), bring_few registers dst rs1, compute_few op dst src, settle_few registers place rd)
+    let computes = combine registers op dst rs2 in
+    omega (arith, length-append (bring registers dst rs1) (computes ++ settle registers place rd), length-append computes (settle registers place rd), bring_few registers dst rs1, combine_few registers op dst rs2, settle_few registers place rd)
 
 beside_few : (registers : RegisterMap) (op : RegOp) (rd rs1 rs2 : ℕ) → length (beside_code registers op rd rs1 rs2) ≤ 13
 beside_few registers op rd rs1 rs2 = place_few registers (place_beside registers rd rs2) op rd rs1 rs2
 
 op_few : (registers : RegisterMap) (op : RegOp) (rd rs1 rs2 : ℕ) → length (op_code registers op rd rs1 rs2) ≤ 13
 op_few registers op rd rs1 rs2 =
-    let exchanged = is_commutative op && (rd == rs2) in
+    let exchanged = are_exchanged op rd rs1 rs2 in
     let one = beside_code registers op rd rs2 rs1 in
     let other = beside_code registers op rd rs1 rs2 in
     let beside : List Native = if exchanged then one else other in
@@ -114,13 +118,18 @@ imm_few registers op rd rs1 n =
     let computes = compute_imm op dst n in
     omega (arith, length-append (bring registers dst rs1) (computes ++ settle registers place rd), length-append computes (settle registers place rd), bring_few registers dst rs1, compute_imm_few op dst n, settle_few registers place rd)
 
+op_imm_few : (registers : RegisterMap) (op : ImmOp) (rd rs1 n : ℕ) → length (op_imm_code registers op rd rs1 n) ≤ 5
+op_imm_few registers op rd rs1 n =
+    cond_both (is_number op rs1) (number_code registers rd n) (imm_code registers op rd rs1 n) (λ (is : List Native). length is ≤ 5)
+    (λ e. omega (arith, number_few registers rd n)) (λ e. imm_few registers op rd rs1 n)
+
 counted_few : (is : List Native) → length is ≤ 15 → length (is ++ count) ≤ line_most
 counted_few is few = omega (arith, length-append is count, few)
 
 pub computing_few : (registers : RegisterMap) (at : ℕ) (i : Instr) → length (computing_line registers at i) ≤ line_most
 unfolding computation
 computing_few registers at (Op op rd rs1 rs2) = counted_few (op_code registers op rd rs1 rs2) (omega (arith, op_few registers op rd rs1 rs2))
-computing_few registers at (OpImm op rd rs1 imm) = counted_few (imm_code registers op rd rs1 (word imm)) (omega (arith, imm_few registers op rd rs1 (word imm)))
+computing_few registers at (OpImm op rd rs1 imm) = counted_few (op_imm_code registers op rd rs1 (word imm)) (omega (arith, op_imm_few registers op rd rs1 (word imm)))
 computing_few registers at (Lui rd imm) = counted_few (number_code registers rd ((imm * 4096) % 2 ^ 32)) (omega (arith, number_few registers rd ((imm * 4096) % 2 ^ 32)))
 computing_few registers at (Auipc rd imm) = counted_few (number_code registers rd ((at + imm * 4096) % 2 ^ 32)) (omega (arith, number_few registers rd ((at + imm * 4096) % 2 ^ 32)))
 computing_few registers at (Fence imm rd rs1) = omega arith

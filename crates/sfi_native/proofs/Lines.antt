@@ -1,13 +1,15 @@
 -- The code of a computing line, from its first instruction to its last.
 use Rattle.std.proofs.Common.{◌≡◌, ℕ, ◌+◌, ◌*◌, ◌%◌, ◌^◌, ◌<◌, Bool, true, false, List, [], ◌∷◌, ◌++◌, ◌==◌, ◌∙◌, Option, Some, None, if◌then◌else◌, refl, sym, ap, subst, append_assoc, arith, inl, inr}
 use Rattle.std.specs.Prelude.{Ok, ℤ}
-use Rattle.std.proofs.lemmas.Bool.{cases_Bool, eq-eqb, false≢true}
+use Rattle.std.proofs.lemmas.Bool.{cases_Bool, eq-eqb, eqb-true, false≢true}
 use Rattle.std.proofs.lemmas.Nat.{and_comm, or_comm, xor_comm}
 use Rattle.std.proofs.Math.Nat.{add_comm, mul_comm}
-use Rattle.std.specs.Prelude.{◌&&◌}
+use Rattle.std.specs.Prelude.{◌&&◌, ◌||◌}
+use Rattle.std.specs.Int.Bits.{or_zero_r, xor_zero_r}
 use Rattle.rv_word.specs.declared.instr.RegOp.{RegOp}
 use Rattle.rv_word.specs.declared.instr.RegOp.TheVariants.{Add, Xor, Or, And, Mul}
 use Rattle.rv_word.specs.declared.instr.ImmOp.{ImmOp}
+use Rattle.rv_word.specs.declared.instr.ImmOp.TheVariants.{Addi}
 use Rattle.rv_word.specs.declared.instr.Instr.{Instr}
 use Rattle.rv_word.specs.declared.instr.Instr.TheVariants.{Op, OpImm, Lui, Auipc, Fence}
 unfoldable use Rattle.rv_word.specs.Spelling.{InRange}
@@ -33,13 +35,14 @@ use Rattle.sfi_native.specs.declared.registers.RegisterMap.{RegisterMap}
 use Rattle.sfi_native.specs.declared.layout.Layout.{Layout}
 use Rattle.sfi_native.specs.Layout.{IsLayout, IsRelated, OthersStay, value}
 use Rattle.sfi_native.specs.Laws.{ComputingLinesRun, line_most}
-use Rattle.sfi_native.specs.Code.{beside_code, is_commutative, bring, computing_line, count, does_compute, ecx_code, fetch, imm_code, needs_ecx, number_code, op_code, operand_of, place_beside, place_code, result_in, settle, store_eax, write}
+use Rattle.sfi_native.specs.Code.{are_exchanged, beside_code, combine, is_commutative, is_number, keeps_beside_zero, bring, computing_line, count, does_compute, ecx_code, fetch, imm_code, needs_ecx, number_code, op_code, op_imm_code, operand_of, place_beside, place_code, result_in, settle, store_eax, write}
 use Rattle.sfi_native.specs.Registers.{assigned, is_fixed}
 unfoldable use Rattle.sfi_native.specs.Code.{computation, compute, compute_imm}
 use Rattle.sfi_native.proofs.Assigned.{free, holds_on, same_register, updated_same}
 use Rattle.sfi_native.proofs.Computing.{computed, computed_imm, computed_there}
-use Rattle.sfi_native.proofs.Kept.{Computed, KeptBut, Leaves, behind, but_register, kept_register, leaves_in_eax, leaves_join, others_join, others_kept, others_same, updated_other}
+use Rattle.sfi_native.proofs.Kept.{Computed, KeptBut, Leaves, behind, but_register, but_same, kept_register, leaves_in_eax, leaves_join, others_join, others_kept, others_same, updated_other}
 use Rattle.sfi_native.proofs.Counting.{counted, counts}
+use Rattle.sfi_native.proofs.Fixed.{fixed_at}
 use Rattle.sfi_native.proofs.Runs.{Runs, runs_join, straight_runs}
 use Rattle.sfi_native.proofs.Fetching.{brought, fetched, hart_written, moved, moved_stay, operand_is, related_kept, unwritten, wrote}
 use Rattle.x86_step.proofs.Running.{in_more}
@@ -51,6 +54,14 @@ store_straight (Some q) rd = refl
 
 pub write_straight : (registers : RegisterMap) (rd : ℕ) → are_straight (write registers rd) ≡ true
 write_straight registers rd = elim (cases_Bool (is_fixed rd)) [ inl e ↦ rw e refl | inr e ↦ rw e (store_straight (assigned registers rd) rd) ]
+
+first_true : (a b : Bool) → a && b ≡ true → a ≡ true
+first_true true b both = refl
+first_true false b both = both
+
+second_true : (a b : Bool) → a && b ≡ true → b ≡ true
+second_true true b both = both
+second_true false b both = absurd (false≢true both)
 
 -- ==== What the instructions come to.
 
@@ -109,6 +120,36 @@ module _ (p : Part) (l : Layout) (layout : IsLayout p.data_size l) (g : Going) (
       let done = behind c c1 (fetch l.registers Rax rs1) (fetch l.registers Rcx rs2 ++ does) (result_of op a b) (straight_runs (fetch l.registers Rax rs1) c c1 refl (fetched p l layout g c Rax rs1 f1 is)) k1 second in
       finish (fetch l.registers Rax rs1 ++ (fetch l.registers Rcx rs2 ++ does)) rd (result_of op a b) fd (result_fits op a b (is.words rs1) (is.words rs2)) done
 
+  -- ---- x0
+
+  zero_is : (r : ℕ) → r == 0 ≡ true → value p g r ≡ 0
+  zero_is r e = ap (value p g) (eqb-true r 0 e) ∙ fixed_at p g.state.hart 0 is.register_count
+
+  keeps : (op : RegOp) (a : ℕ) → keeps_beside_zero op ≡ true → a < 2 ^ 32 → result_of op a 0 ≡ a
+  keeps Add a may fits = omega (arith, fits)
+  keeps Xor a may fits = xor_zero_r a
+  keeps Or a may fits = or_zero_r a
+  keeps op a may fits = absurd (false≢true may)
+
+  combined : (d : Register) (k : Core) (rs2 : ℕ) → k.registers (number d) < 2 ^ 32
+      → operand_value k Dword (operand_of (assigned l.registers rs2) rs2) ≡ Ok (value p g rs2) → (op : RegOp) → needs_ecx op ≡ false
+      → Leaves (number d) (combine l.registers op d rs2) k (result_of op (k.registers (number d)) (value p g rs2))
+  combined d k rs2 fits has op plain =
+      let a = k.registers (number d) in
+      let v = result_of op a (value p g rs2) in
+      let src = operand_of (assigned l.registers rs2) rs2 in
+      let none = keeps_beside_zero op && (rs2 == 0) in
+      elim (cases_Bool none) [
+        | inl e ↦ subst (λ t. Leaves (number d) (if t then [] else compute op d src) k v) (sym e) (record {
+          after = k;
+          runs = straight_runs [] k k refl refl;
+          result = sym (ap (result_of op a) (zero_is rs2 (second_true (keeps_beside_zero op) (rs2 == 0) e)) ∙ keeps op a (first_true (keeps_beside_zero op) (rs2 == 0) e) fits);
+          kept = but_same (number d) k;
+        })
+        | inr e ↦ subst (λ t. Leaves (number d) (if t then [] else compute op d src) k v) (sym e)
+            (computed_there d src k (value p g rs2) fits (is.words rs2) has op plain)
+      ]
+
   -- ---- an operation on rs2 where it lies, which isn't where the result is computed
 
   module _ (o : Option Register) (rd rs2 : ℕ) (f2 : rs2 < 32) (own : (q : Register) → o ≡ Some q → (assigned l.registers rd ≡ Some q) × (rd ≡ rs2 → ⊥)) where
@@ -133,14 +174,14 @@ module _ (p : Part) (l : Layout) (layout : IsLayout p.data_size l) (g : Going) (
         let d = result_in o in
         let a = value p g rs1 in
         let b = value p g rs2 in
-        let src = operand_of (assigned l.registers rs2) rs2 in
+        let does = combine l.registers op d rs2 in
         let first = brought p l layout g c d rs1 f1 is in
         let fits = subst (λ x. x < 2 ^ 32) (sym first.result) (is.words rs1) in
-        let next = subst (λ x. Leaves (number d) (compute op d src) first.after (result_of op x b)) first.result
-        (computed_there d src first.after b fits (is.words rs2) (operand_stays first.after first.kept) op plain) in
-        let both = leaves_join (number d) (bring l.registers d rs1) (compute op d src) c a (result_of op a b) first next in
-        subst (λ is. Comes is p l c (turn_with rd (result_of op a b) g.left)) (append_assoc (bring l.registers d rs1) (compute op d src) (settle l.registers o rd))
-        (settled (bring l.registers d rs1 ++ compute op d src) o rd (result_of op a b) fd (result_fits op a b (is.words rs1) (is.words rs2)) (λ q e. (own q e).0) both)
+        let next = subst (λ x. Leaves (number d) does first.after (result_of op x b)) first.result
+        (combined d first.after rs2 fits (operand_stays first.after first.kept) op plain) in
+        let both = leaves_join (number d) (bring l.registers d rs1) does c a (result_of op a b) first next in
+        subst (λ is. Comes is p l c (turn_with rd (result_of op a b) g.left)) (append_assoc (bring l.registers d rs1) does (settle l.registers o rd))
+        (settled (bring l.registers d rs1 ++ does) o rd (result_of op a b) fd (result_fits op a b (is.words rs1) (is.words rs2)) (λ q e. (own q e).0) both)
 
   -- nothing is written before rs2 is read where both are one
   beside_own : (rd rs2 : ℕ) (q : Register) → place_beside l.registers rd rs2 ≡ Some q → (assigned l.registers rd ≡ Some q) × (rd ≡ rs2 → ⊥)
@@ -170,20 +211,16 @@ module _ (p : Part) (l : Layout) (layout : IsLayout p.data_size l) (g : Going) (
       subst (λ v. Comes (beside_code l.registers op rd rs2 rs1) p l c (turn_with rd v g.left)) (commutes op (value p g rs2) (value p g rs1) (may refl)) (beside_comes op rd rs2 rs1 plain fd f2 f1)
   exchanged_comes op rd rs1 rs2 plain fd f1 f2 false may = beside_comes op rd rs1 rs2 plain fd f1 f2
 
-  first_true : (a b : Bool) → a && b ≡ true → a ≡ true
-  first_true true b both = refl
-  first_true false b both = both
-
   op_comes : (op : RegOp) (rd rs1 rs2 : ℕ) → rd < 32 → rs1 < 32 → rs2 < 32
       → Comes (op_code l.registers op rd rs1 rs2) p l c (turn_with rd (result_of op (value p g rs1) (value p g rs2)) g.left)
   op_comes op rd rs1 rs2 fd f1 f2 =
-      let exchanged = is_commutative op && (rd == rs2) in
+      let exchanged = are_exchanged op rd rs1 rs2 in
       let beside : List Native = if exchanged then beside_code l.registers op rd rs2 rs1 else beside_code l.registers op rd rs1 rs2 in
       let by : Bool → List Native = λ t. if t then ecx_code l.registers op rd rs1 rs2 else beside in
       elim (cases_Bool (needs_ecx op)) [
         | inl e ↦ subst (λ t. Comes (by t) p l c (turn_with rd (result_of op (value p g rs1) (value p g rs2)) g.left)) (sym e) (ecx_comes op rd rs1 rs2 e fd f1 f2)
         | inr e ↦ subst (λ t. Comes (by t) p l c (turn_with rd (result_of op (value p g rs1) (value p g rs2)) g.left)) (sym e)
-            (exchanged_comes op rd rs1 rs2 e fd f1 f2 exchanged (first_true (is_commutative op) (rd == rs2)))
+            (exchanged_comes op rd rs1 rs2 e fd f1 f2 exchanged (first_true (is_commutative op) ((rd == rs2) || (rs1 == 0))))
       ]
 
   imm_comes : (op : ImmOp) (rd rs1 : ℕ) (imm : ℤ) → rd < 32 → rs1 < 32
@@ -239,6 +276,22 @@ module _ (p : Part) (l : Layout) (layout : IsLayout p.data_size l) (g : Going) (
   pub number_comes : (rd v : ℕ) → rd < 32 → v < 2 ^ 32 → Comes (number_code l.registers rd v) p l c (turn_with rd v g.left)
   number_comes rd v small fits = (number_written rd v small fits).0
 
+  number_is : (op : ImmOp) (rs1 n : ℕ) → is_number op rs1 ≡ true → n < 2 ^ 32 → result_of (register_op op) (value p g rs1) n ≡ n
+  number_is Addi rs1 n added fits = omega (arith, zero_is rs1 added, fits)
+  number_is op rs1 n added fits = absurd (false≢true added)
+
+  op_imm_comes : (op : ImmOp) (rd rs1 : ℕ) (imm : ℤ) → rd < 32 → rs1 < 32
+      → Comes (op_imm_code l.registers op rd rs1 (word imm)) p l c (turn_with rd (result_of (register_op op) (value p g rs1) (word imm)) g.left)
+  op_imm_comes op rd rs1 imm fd f1 =
+      let n = word imm in
+      let v = result_of (register_op op) (value p g rs1) n in
+      let by : Bool → List Native = λ t. if t then number_code l.registers rd n else imm_code l.registers op rd rs1 n in
+      elim (cases_Bool (is_number op rs1)) [
+        | inl e ↦ subst (λ t. Comes (by t) p l c (turn_with rd v g.left)) (sym e)
+            (subst (λ x. Comes (number_code l.registers rd n) p l c (turn_with rd x g.left)) (sym (number_is op rs1 n e (word_fits imm))) (number_comes rd n fd (word_fits imm)))
+        | inr e ↦ subst (λ t. Comes (by t) p l c (turn_with rd v g.left)) (sym e) (imm_comes op rd rs1 imm fd f1)
+      ]
+
   -- no register changes
   pub none_comes : IsRelated p l (turn_with 0 0 g.left) c
   none_comes = unwritten p l layout g c place 0 0 (hart_with 0 0) is (hart_written p g is.register_count pc 0 0 (omega arith)) refl
@@ -249,7 +302,7 @@ module _ (target : Target) (p : Part) (code rest : List Line) (at n : ℕ) (l : 
   computation_comes (Op op rd rs1 rs2) has range =
       then_count p l layout c (op_code l.registers op rd rs1 rs2) _ (op_comes p l layout g c is (Before rest) (address_after at n) op rd rs1 rs2 range.0 range.1 range.2)
   computation_comes (OpImm op rd rs1 imm) has range =
-      then_count p l layout c (imm_code l.registers op rd rs1 (word imm)) _ (imm_comes p l layout g c is (Before rest) (address_after at n) op rd rs1 imm range.0 range.1)
+      then_count p l layout c (op_imm_code l.registers op rd rs1 (word imm)) _ (op_imm_comes p l layout g c is (Before rest) (address_after at n) op rd rs1 imm range.0 range.1)
   computation_comes (Lui rd imm) has range =
       let v = (imm * 4096) % 2 ^ 32 in
       then_count p l layout c (number_code l.registers rd v) _ (number_comes p l layout g c is (Before rest) (address_after at n) rd v range.0 (omega arith))

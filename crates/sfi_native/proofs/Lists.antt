@@ -22,7 +22,7 @@ use Rattle.sfi_native.specs.declared.registers.RegisterMap.{RegisterMap}
 use Rattle.sfi_native.specs.Places.{code_of, whole_code}
 use Rattle.sfi_native.specs.declared.jump.Jump.{Jump}
 use Rattle.sfi_native.specs.Registers.{assigned}
-use Rattle.sfi_native.specs.Code.{avoid_minus_one, avoid_zero, branch_line, bring, ecx_code, operand_of, place_code, read, register_or, result_in, settle, compare_code, compare_divisor, compute, compute_imm, count, data_address, divide_by_one, divide_signed, divide_unsigned, end_code, enter_code, enter_size, fetch, head_line, imm_code, indirect_jump, has_test, jal_line, jalr_line, jump_size, load_code, load_from, load_line, number_code, opposite, remainder, slot, start_code, start_size, steps_code, store_line, store_to, test_code, target_code, test_divisor, tested_jump, write}
+use Rattle.sfi_native.specs.Code.{avoid_minus_one, avoid_zero, branch_line, bring, combine, ecx_code, operand_of, place_code, read, register_or, result_in, settle, compare_code, compare_divisor, compute, compute_imm, count, data_address, divide_by_one, divide_signed, divide_unsigned, end_code, enter_code, enter_size, fetch, head_line, imm_code, indirect_jump, has_test, jal_line, jalr_line, jump_size, load_code, load_from, load_line, number_code, opposite, remainder, slot, start_code, start_size, steps_code, store_line, store_to, test_code, target_code, test_divisor, tested_jump, write}
 
 pub no_part : (old : List ℕ) → old ≡ old ++ spellings []
 no_part old = sym (append-nil old)
@@ -44,8 +44,8 @@ pub ecx_parts : (registers : RegisterMap) (old : List ℕ) (op : RegOp) (rd rs1 
 ecx_parts registers old op rd rs1 rs2 = four_parts old (fetch registers Rax rs1) (fetch registers Rcx rs2) (compute op Rax (Reg Rcx)) (write registers rd)
 
 pub place_parts : (registers : RegisterMap) (old : List ℕ) (o : Option Register) (op : RegOp) (rd rs1 rs2 : ℕ)
-    → ((old ++ spellings (bring registers (result_in o) rs1)) ++ spellings (compute op (result_in o) (operand_of (assigned registers rs2) rs2))) ++ spellings (settle registers o rd) ≡ old ++ spellings (place_code registers o op rd rs1 rs2)
-place_parts registers old o op rd rs1 rs2 = three_parts old (bring registers (result_in o) rs1) (compute op (result_in o) (operand_of (assigned registers rs2) rs2)) (settle registers o rd)
+    → ((old ++ spellings (bring registers (result_in o) rs1)) ++ spellings (combine registers op (result_in o) rs2)) ++ spellings (settle registers o rd) ≡ old ++ spellings (place_code registers o op rd rs1 rs2)
+place_parts registers old o op rd rs1 rs2 = three_parts old (bring registers (result_in o) rs1) (combine registers op (result_in o) rs2) (settle registers o rd)
 
 pub imm_parts : (registers : RegisterMap) (old : List ℕ) (op : ImmOp) (rd rs1 n : ℕ)
     → ((old ++ spellings (bring registers (result_in (assigned registers rd)) rs1)) ++ spellings (compute_imm op (result_in (assigned registers rd)) n)) ++ spellings (settle registers (assigned registers rd) rd) ≡ old ++ spellings (imm_code registers op rd rs1 n)

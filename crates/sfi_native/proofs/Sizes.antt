@@ -55,7 +55,7 @@ use Rattle.sfi_native.specs.declared.jump.Jump.{Jump}
 use Rattle.sfi_native.specs.Sizes.{CodeIsSmall, EachCodeFits}
 unfoldable use Rattle.sfi_native.specs.Code.{computation}
 use Rattle.sfi_native.specs.Places.{code_of, exit_of, jump_of, size_of, size_of_all, whole_code}
-use Rattle.sfi_native.specs.Code.{beside_code, branch_line, bring, is_commutative, compare_code, count, ecx_code, lies_in, needs_ecx, place_beside, place_code, read, register_or, result_in, settle, data_address, end_code, fetch, has_test, head_line, imm_code, indirect_jump, jal_line, jalr_line, leave_line, load_code, load_from, load_line, number_code, op_code, operand_of, opposite, set_if, slot, store_eax, store_line, store_to, target_code, tested_jump, unless, write}
+use Rattle.sfi_native.specs.Code.{are_exchanged, beside_code, branch_line, bring, combine, compare_code, is_number, keeps_beside_zero, count, ecx_code, lies_in, needs_ecx, place_beside, place_code, read, register_or, result_in, settle, data_address, end_code, fetch, has_test, head_line, imm_code, indirect_jump, jal_line, jalr_line, leave_line, load_code, load_from, load_line, number_code, op_code, op_imm_code, operand_of, opposite, set_if, slot, store_eax, store_line, store_to, target_code, tested_jump, unless, write}
 use Rattle.sfi_native.proofs.Places.{code_size, sizes_append}
 use Rattle.sfi_native.proofs.Lists.{indirect_size, tested_size}
 
@@ -269,15 +269,19 @@ ecx_code_most registers op rd rs1 rs2 d a b needs =
     let does = compute op Rax (Reg Rcx) in
     omega (arith, both (fetch registers Rax rs1) (fetch registers Rcx rs2 ++ (does ++ write registers rd)), both (fetch registers Rcx rs2) (does ++ write registers rd), both does (write registers rd), fetch_most registers Rax rs1 a, fetch_most registers Rcx rs2 b, ecx_most op needs Rax (Reg Rcx), write_most registers rd d)
 
+combine_most : (registers : RegisterMap) (op : RegOp) → needs_ecx op ≡ false → (d : Register) (rs2 : ℕ) → rs2 < 32 → bytes (combine registers op d rs2) ≤ 14
+combine_most registers op plain d rs2 below =
+    let place = assigned registers rs2 in
+    cond_both (keeps_beside_zero op && (rs2 == 0)) [] (compute op d (operand_of place rs2)) (λ (is : List Native). bytes is ≤ 14) (λ e. omega arith) (λ e. place_most op plain d place rs2 below)
+
 place_code_most : (registers : RegisterMap) (o : Option Register) (op : RegOp) (rd rs1 rs2 : ℕ) → rd < 32 → rs1 < 32 → rs2 < 32 → needs_ecx op ≡ false → bytes (place_code registers o op rd rs1 rs2) ≤ 51
 place_code_most registers o op rd rs1 rs2 d a b plain =
-    let src = operand_of (assigned registers rs2) rs2 in
-    let does = compute op (result_in o) src in
-    omega (arith, both (bring registers (result_in o) rs1) (does ++ settle registers o rd), both does (settle registers o rd), bring_most registers (result_in o) rs1 a, place_most op plain (result_in o) (assigned registers rs2) rs2 b, settle_most registers o rd d)
+    let does = combine registers op (result_in o) rs2 in
+    omega (arith, both (bring registers (result_in o) rs1) (does ++ settle registers o rd), both does (settle registers o rd), bring_most registers (result_in o) rs1 a, combine_most registers op plain (result_in o) rs2 b, settle_most registers o rd d)
 
 op_most : (registers : RegisterMap) (op : RegOp) (rd rs1 rs2 : ℕ) → rd < 32 → rs1 < 32 → rs2 < 32 → bytes (op_code registers op rd rs1 rs2 ++ count) ≤ 55
 op_most registers op rd rs1 rs2 d a b =
-    let exchanged = is_commutative op && (rd == rs2) in
+    let exchanged = are_exchanged op rd rs1 rs2 in
     let one = beside_code registers op rd rs2 rs1 in
     let other = beside_code registers op rd rs1 rs2 in
     omega (
@@ -295,6 +299,11 @@ imm_line_most registers op rd rs1 n d a =
     let o = assigned registers rd in
     let does = compute_imm op (result_in o) n in
     omega (arith, both (imm_code registers op rd rs1 n) count, count_is, both (bring registers (result_in o) rs1) (does ++ settle registers o rd), both does (settle registers o rd), bring_most registers (result_in o) rs1 a, compute_imm_most op (result_in o) n, settle_most registers o rd d)
+
+op_imm_most : (registers : RegisterMap) (op : ImmOp) (rd rs1 n : ℕ) → rd < 32 → rs1 < 32 → bytes (op_imm_code registers op rd rs1 n ++ count) ≤ 28
+op_imm_most registers op rd rs1 n d a =
+    cond_both (is_number op rs1) (number_code registers rd n) (imm_code registers op rd rs1 n) (λ (is : List Native). bytes (is ++ count) ≤ 28)
+    (λ e. omega (arith, both (number_code registers rd n) count, count_is, number_most registers rd n d)) (λ e. imm_line_most registers op rd rs1 n d a)
 
 tested_most : (j : Jump) → bytes (tested_jump j) ≤ 20
 tested_most j = elim (cases_Bool (has_test j)) [
@@ -406,7 +415,7 @@ end_is end = refl
 pub does_most : (registers : RegisterMap) (at n : ℕ) (i : Instr) → InRange i → size_of registers (Does at n i) ≤ 64
 unfolding InRange computation
 does_most registers at n (Op op rd rs1 rs2) (d, a, b) = omega (arith, op_most registers op rd rs1 rs2 d a b)
-does_most registers at n (OpImm op rd rs1 imm) (d, a, fits) = omega (arith, imm_line_most registers op rd rs1 (word imm) d a)
+does_most registers at n (OpImm op rd rs1 imm) (d, a, fits) = omega (arith, op_imm_most registers op rd rs1 (word imm) d a)
 does_most registers at n (Lui rd imm) (d, fits) = omega (arith, both (number_code registers rd ((imm * 4096) % 2 ^ 32)) count, number_most registers rd ((imm * 4096) % 2 ^ 32) d, count_is)
 does_most registers at n (Auipc rd imm) (d, fits) = omega (arith, both (number_code registers rd ((at + imm * 4096) % 2 ^ 32)) count, number_most registers rd ((at + imm * 4096) % 2 ^ 32) d, count_is)
 does_most registers at n (Fence imm rd rs1) range = omega (arith, count_is)

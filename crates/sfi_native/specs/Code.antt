@@ -155,6 +155,13 @@ is_commutative And = true
 is_commutative Mul = true
 is_commutative op = false
 
+-- 0 as the second operand leaves the first as it is
+abbrev pub keeps_beside_zero : RegOp → Bool
+keeps_beside_zero Add = true
+keeps_beside_zero Xor = true
+keeps_beside_zero Or = true
+keeps_beside_zero op = false
+
 unfoldable pub compute : RegOp → Register → Operand → List Native
 compute Add dst src = Alu alu.Add Dword dst src ∷ []
 compute Sub dst src = Alu alu.Sub Dword dst src ∷ []
@@ -210,19 +217,27 @@ ecx_code registers op rd rs1 rs2 = fetch registers Rax rs1 ++ (fetch registers R
 abbrev pub place_beside : RegisterMap → ℕ → ℕ → Option Register
 place_beside registers rd rs2 = if rd == rs2 then None else assigned registers rd
 
+-- a register gets the operation of it and of rs2 where that lies; nothing is to do where x0 leaves it as it is
+abbrev pub combine : RegisterMap → RegOp → Register → ℕ → List Native
+combine registers op dst rs2 =
+    if keeps_beside_zero op && (rs2 == 0) then [] else compute op dst (operand_of (assigned registers rs2) rs2)
+
 -- an operation where its result lies, on rs2 where that lies
 abbrev pub place_code : RegisterMap → Option Register → RegOp → ℕ → ℕ → ℕ → List Native
 place_code registers place op rd rs1 rs2 =
-    bring registers (result_in place) rs1
-    ++ (compute op (result_in place) (operand_of (assigned registers rs2) rs2) ++ settle registers place rd)
+    bring registers (result_in place) rs1 ++ (combine registers op (result_in place) rs2 ++ settle registers place rd)
 
 abbrev pub beside_code : RegisterMap → RegOp → ℕ → ℕ → ℕ → List Native
 beside_code registers op rd rs1 rs2 = place_code registers (place_beside registers rd rs2) op rd rs1 rs2
 
+-- the second operand comes first where it lies in the result's place, or the first is x0
+abbrev pub are_exchanged : RegOp → ℕ → ℕ → ℕ → Bool
+are_exchanged op rd rs1 rs2 = is_commutative op && ((rd == rs2) || (rs1 == 0))
+
 abbrev pub op_code : RegisterMap → RegOp → ℕ → ℕ → ℕ → List Native
 op_code registers op rd rs1 rs2 =
     if needs_ecx op then ecx_code registers op rd rs1 rs2
-    else if is_commutative op && (rd == rs2) then beside_code registers op rd rs2 rs1
+    else if are_exchanged op rd rs1 rs2 then beside_code registers op rd rs2 rs1
     else beside_code registers op rd rs1 rs2
 
 abbrev pub imm_code : RegisterMap → ImmOp → ℕ → ℕ → ℕ → List Native
@@ -230,10 +245,18 @@ imm_code registers op rd rs1 n =
     let place = assigned registers rd in
     bring registers (result_in place) rs1 ++ (compute_imm op (result_in place) n ++ settle registers place rd)
 
+-- the number itself is the result: it is added to x0
+abbrev pub is_number : ImmOp → ℕ → Bool
+is_number Addi rs1 = rs1 == 0
+is_number op rs1 = false
+
+abbrev pub op_imm_code : RegisterMap → ImmOp → ℕ → ℕ → ℕ → List Native
+op_imm_code registers op rd rs1 n = if is_number op rs1 then number_code registers rd n else imm_code registers op rd rs1 n
+
 -- what the instruction at that address computes
 unfoldable pub computation : RegisterMap → ℕ → Instr → List Native
 computation registers at (Op op rd rs1 rs2) = op_code registers op rd rs1 rs2
-computation registers at (OpImm op rd rs1 imm) = imm_code registers op rd rs1 (word imm)
+computation registers at (OpImm op rd rs1 imm) = op_imm_code registers op rd rs1 (word imm)
 computation registers at (Lui rd imm) = number_code registers rd ((imm * 4096) % 2 ^ 32)
 computation registers at (Auipc rd imm) = number_code registers rd ((at + imm * 4096) % 2 ^ 32)
 computation registers at i = []

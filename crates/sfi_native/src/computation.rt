@@ -1,10 +1,10 @@
 //! The bytes of a line that computes.
 ghost use Rattle.std.specs.Prelude.{◌≡◌, ◌++◌, ◌*◌, ◌%◌, ◌^◌, ◌+◌, IfOk, OnOk, true, if◌then◌else◌};
-ghost use Rattle.sfi_native.specs.Code.{beside_code, computation, computing_line, count, does_compute, ecx_code, imm_code, number_code, op_code, place_beside as place_beside_of, place_code};
+ghost use Rattle.sfi_native.specs.Code.{are_exchanged as are_exchanged_of, beside_code, combine, computation, computing_line, count, does_compute, ecx_code, imm_code, is_number as is_number_of, number_code, op_code, op_imm_code, place_beside as place_beside_of, place_code};
 ghost use Rattle.x86_step.specs.Running.{spellings};
 
 use crate::operation::{
-    is_commutative, needs_ecx, operand, put, put_bring, put_compute, put_compute_imm, put_fetch,
+    is_commutative, keeps_beside_zero, needs_ecx, operand, put, put_bring, put_compute, put_compute_imm, put_fetch,
     put_settle, put_write, result_in,
 };
 use crate::registers::RegisterMap;
@@ -62,6 +62,23 @@ fn place_beside(registers: &RegisterMap, rd: Reg, rs2: Reg) -> Option<Register>
     }
 }
 
+/// Writes the operation of a register and of `rs2`, unless that is x0 and leaves the register as it is.
+#[tactic(auto, using(crate::proofs::Lists::no_part))]
+fn put_combine(
+    out: &mut Vec<u8>,
+    registers: &RegisterMap,
+    op: RegOp,
+    dst: Register,
+    rs2: Reg,
+) -> Result<(), AllocError>
+    ensures { OnOk result (out.new.items ≡ out.old.items ++ spellings (combine registers.now op dst rs2)) }
+{
+    if keeps_beside_zero(op) && rs2.number() == 0 {
+        return Ok(());
+    }
+    put_compute(out, op, dst, operand(registers, rs2))
+}
+
 /// Writes an operation where its result lies.
 #[tactic(auto, using(crate::proofs::Lists::place_parts))]
 fn put_in_place(
@@ -76,7 +93,7 @@ fn put_in_place(
     ensures { OnOk result (out.new.items ≡ out.old.items ++ spellings (place_code registers.now place op rd rs1 rs2)) }
 {
     put_bring(out, registers, result_in(place), rs1)?;
-    put_compute(out, op, result_in(place), operand(registers, rs2))?;
+    put_combine(out, registers, op, result_in(place), rs2)?;
     put_settle(out, registers, place, rd)
 }
 
@@ -95,7 +112,14 @@ fn put_beside(
     put_in_place(out, registers, place, op, rd, rs1, rs2)
 }
 
-/// Writes an operation; the second operand is taken as the first where it lies in the result's place and may be.
+/// Whether the second operand comes first: where it lies in the result's place, or the first is x0.
+fn are_exchanged(op: RegOp, rd: Reg, rs1: Reg, rs2: Reg) -> bool
+    ensures { result ≡ are_exchanged_of op rd rs1 rs2 }
+{
+    is_commutative(op) && (rd.number() == rs2.number() || rs1.number() == 0)
+}
+
+/// Writes an operation, whose operands may be exchanged.
 fn put_op(
     out: &mut Vec<u8>,
     registers: &RegisterMap,
@@ -109,14 +133,15 @@ fn put_op(
     if needs_ecx(op) {
         return put_by_ecx(out, registers, op, rd, rs1, rs2);
     }
-    if is_commutative(op) && rd.number() == rs2.number() {
+    if are_exchanged(op, rd, rs1, rs2) {
         return put_beside(out, registers, op, rd, rs2, rs1);
     }
     put_beside(out, registers, op, rd, rs1, rs2)
 }
 
+/// Writes an operation on a number where its result lies.
 #[tactic(auto, using(crate::proofs::Lists::imm_parts))]
-fn put_op_imm(
+fn put_imm_in_place(
     out: &mut Vec<u8>,
     registers: &RegisterMap,
     op: ImmOp,
@@ -130,6 +155,33 @@ fn put_op_imm(
     put_bring(out, registers, result_in(place), rs1)?;
     put_compute_imm(out, op, result_in(place), imm)?;
     put_settle(out, registers, place, rd)
+}
+
+/// Whether the result is the number itself, added to x0.
+fn is_number(op: ImmOp, rs1: Reg) -> bool
+    ensures { result ≡ is_number_of op rs1 }
+{
+    match op {
+        ImmOp::Addi => rs1.number() == 0,
+        _ => false,
+    }
+}
+
+/// Writes an operation on a number.
+fn put_op_imm(
+    out: &mut Vec<u8>,
+    registers: &RegisterMap,
+    op: ImmOp,
+    rd: Reg,
+    rs1: Reg,
+    imm: u32,
+) -> Result<(), AllocError>
+    ensures { OnOk result (out.new.items ≡ out.old.items ++ spellings (op_imm_code registers.now op rd rs1 imm)) }
+{
+    if is_number(op, rs1) {
+        return put_number(out, registers, rd, imm);
+    }
+    put_imm_in_place(out, registers, op, rd, rs1, imm)
 }
 
 /// Writes what an instruction at that address computes.

@@ -1,6 +1,6 @@
 //! The instructions of one operation, and those that fetch and write the sandbox's registers.
 ghost use Rattle.std.specs.Prelude.{◌≡◌, ◌++◌, ◌∷◌, [], ◌%◌, OnOk};
-ghost use Rattle.sfi_native.specs.Code.{bring, compute, compute_imm, fetch, high_product, is_commutative as is_commutative_of, lies_in as lies_in_of, needs_ecx as needs_ecx_of, operand_of, read, register_or as register_or_of, result_in as result_in_of, set_if, settle, slot as slot_of, store_eax as store_eax_of, write};
+ghost use Rattle.sfi_native.specs.Code.{bring, compute, compute_imm, fetch, high_product, is_commutative as is_commutative_of, keeps_beside_zero as keeps_beside_zero_of, lies_in as lies_in_of, needs_ecx as needs_ecx_of, operand_of, read, register_or as register_or_of, result_in as result_in_of, set_if, settle, slot as slot_of, store_eax as store_eax_of, write};
 ghost use Rattle.sfi_native.specs.Registers.{assigned};
 ghost use Rattle.rv_word.specs.declared.instr.RegOp.TheVariants.{Mulh, Mulhsu};
 ghost use Rattle.rv_word.specs.declared.instr.ImmOp.TheVariants.{Addi};
@@ -305,6 +305,16 @@ pub(crate) fn is_commutative(op: RegOp) -> bool
 {
     match op {
         RegOp::Add | RegOp::Xor | RegOp::Or | RegOp::And | RegOp::Mul => true,
+        _ => false,
+    }
+}
+
+/// Whether 0 as the second operand leaves the first as it is.
+pub(crate) fn keeps_beside_zero(op: RegOp) -> bool
+    ensures { result ≡ keeps_beside_zero_of op }
+{
+    match op {
+        RegOp::Add | RegOp::Xor | RegOp::Or => true,
         _ => false,
     }
 }

@@ -16,7 +16,7 @@ fn some_registers() -> RegisterMap {
     registers
 }
 
-const BY_MAP: [u8; 72] = [
+const BY_MAP: [u8; 99] = [
     69, 139, 216, // {load} mov r11d, r8d
     68, 3, 219, // {load} add r11d, ebx
     65, 131, 238, 1, // sub r14d, 1
@@ -37,16 +37,29 @@ const BY_MAP: [u8; 72] = [
     65, 131, 238, 1, // sub r14d, 1
     187, 0, 176, 173, 222, // mov ebx, 0xdeadb000
     65, 131, 238, 1, // sub r14d, 1
+    187, 249, 255, 255, 255, // mov ebx, -7
+    65, 131, 238, 1, // sub r14d, 1
+    65, 139, 216, // {load} mov ebx, r8d
+    65, 131, 238, 1, // sub r14d, 1
+    65, 139, 216, // {load} mov ebx, r8d
+    65, 131, 238, 1, // sub r14d, 1
+    // none, as x5 stays
+    65, 131, 238, 1, // sub r14d, 1
 ];
 
-/// Sums, a difference into its second operand, a comparison, a move and a number.
-fn computations() -> [Instr; 7] {
-    let (x5, x6, x7) = (Reg::numbered(5), Reg::numbered(6), Reg::numbered(7));
+/// Sums, a difference into its second operand, a comparison, a move, numbers, and operations with x0.
+fn computations() -> [Instr; 11] {
+    let (x0, x5, x6, x7) = (
+        Reg::numbered(0),
+        Reg::numbered(5),
+        Reg::numbered(6),
+        Reg::numbered(7),
+    );
     let of = |op, rd, rs1, rs2| Instr::Op { op, rd, rs1, rs2 };
-    let add = |rd, imm| Instr::OpImm {
+    let add = |rd, rs1, imm| Instr::OpImm {
         op: ImmOp::Addi,
         rd,
-        rs1: x5,
+        rs1,
         imm,
     };
     [
@@ -54,12 +67,16 @@ fn computations() -> [Instr; 7] {
         of(RegOp::Sub, x6, x5, x6),
         of(RegOp::Add, x6, x5, x6),
         of(RegOp::Slt, x7, x5, Reg::numbered(10)),
-        add(x5, 5),
-        add(x6, 0),
+        add(x5, x5, 5),
+        add(x6, x5, 0),
         Instr::Lui {
             rd: x6,
             imm: 0xdeadb,
         },
+        add(x6, x0, -7),
+        of(RegOp::Add, x6, x0, x5),
+        of(RegOp::Xor, x6, x5, x0),
+        of(RegOp::Or, x5, x5, x0),
     ]
 }
 
