@@ -4,8 +4,8 @@ ghost use Rattle.sfi_native.specs.Code.{are_exchanged as are_exchanged_of, besid
 ghost use Rattle.x86_step.specs.Running.{spellings};
 
 use crate::operation::{
-    is_commutative, keeps_beside_zero, needs_ecx, operand, put, put_bring, put_compute, put_compute_imm, put_fetch,
-    put_settle, put_write, result_in,
+    is_commutative, keeps_beside_zero, needs_ecx, operand, put, put_bring, put_compute,
+    put_compute_imm, put_fetch, put_settle, put_write, result_in,
 };
 use crate::registers::RegisterMap;
 use rv_word::{ImmOp, Instr, Reg, RegOp};
