@@ -253,4 +253,4 @@ module _ (p : Part) (right : IsRightPart p) where
 
 pub there_is_a_host : ThereIsAHost
 there_is_a_host p l base code own right layout =
-    (host p right l base code own, refl, record { kept = λ c d stay relies. tt; works = λ g k m slow proper proper_then alike relies leads. works p right l base code own layout g k m slow proper proper_then alike leads })
+    (DoesWork p right l base code own, record { kept = λ c d stay relies. tt; works = λ g k m slow few proper whole proper_then alike relies leads. works p right l base code own layout g k m slow proper proper_then alike leads })

@@ -12,7 +12,7 @@ use Rattle.sfi_translate.specs.Lines.{AreLines}
 use Rattle.sfi_safety.specs.Places.{IsCleanPart}
 use Rattle.sfi_native.specs.Entries.{AreEntries}
 use Rattle.sfi_translate.proofs.Facts.{each_turn_ends, reached_harts_are_fixed, translated_runs_as_image, turns_end}
-use Rattle.sfi_native.specs.Host.{EndsWithin, Host, HostMoves, IsHost, IsInCode, Serves, Spares, Works, answer_of}
+use Rattle.sfi_native.specs.Host.{EndsWithin, Host, HostMoves, IsHost, IsInCode, Serves, Spares, Works, answer_of, host_of}
 use Rattle.sfi_native.specs.Laws.{IsBefore, line_most}
 use Rattle.x86_instr.specs.declared.instr.Instr.{Instr as Native}
 use Rattle.x86_step.specs.Accesses.{AccessesLieIn}
@@ -25,7 +25,7 @@ use Rattle.sfi_native.specs.Faults.{HasFixups, accesses_of, fixup_by}
 use Rattle.sfi_native.specs.Layout.{DoNotMeet, IsLayout, frame_size, guarded_data}
 use Rattle.sfi_native.specs.Places.{IsAt, IsAtPlace, end_address, exit_of, whole_code}
 use Rattle.sfi_native.specs.Table.{HasTable, LieInCode}
-use Rattle.sfi_native.specs.Whole.{AreApart, EachTurnCanBegin, EachTurnGoesOn, EndsAsImage, IsAccessed, IsEntered, NativeTurnsEnd, begun, host_of}
+use Rattle.sfi_native.specs.Whole.{AreApart, EachTurnCanBegin, EachTurnGoesOn, EndsAsImage, IsAccessed, IsEntered, NativeTurnsEnd, begun}
 use Rattle.sfi_native.proofs.Bare.{agree, bare, bare_before, bare_table, has_no_others}
 use Rattle.sfi_native.proofs.Kept.{kept_register}
 use Rattle.sfi_native.proofs.Fetching.{related_kept}
@@ -85,7 +85,8 @@ module _ (sandbox : ℕ) (p : Part) (code : List Line) (s : State) (left : ℕ) 
 
     done : Works p l base code host host_does.next code_does.out
     done =
-        works.works code_does.slow host_does.next code_does.out code_does.is_slow (proper sandbox p code s left code_does.moved code_does.slow code_does.turn) (proper sandbox p code s left host_does.moved host_does.next host_does.turn) code_does.alike
+        works.works code_does.slow host_does.next code_does.out code_does.is_slow (few_left sandbox p code s left code_does.moved code_does.slow few code_does.turn) (proper sandbox p code s left code_does.moved code_does.slow code_does.turn)
+        (translated_runs_as_image Assembly sandbox p code s left code_does.moved code_does.slow code_does.turn).reached.has_data (proper sandbox p code s left host_does.moved host_does.next host_does.turn) code_does.alike
         (works.kept m.core code_does.out.core code_does.others here.relies) host_does.leads
 
     -- from before code to behind the host's work

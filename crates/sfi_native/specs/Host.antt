@@ -1,5 +1,5 @@
 -- What a host does where code has come out: it makes the turn's moves of `Slow` and `Loop`, and enters code again.
-use Rattle.std.specs.Prelude.{◌≡◌, ◌⊎◌, ℕ, zero, suc, ◌+◌, ◌<◌, List, length, Option, Some, None, ◌≤◌}
+use Rattle.std.specs.Prelude.{◌≡◌, ◌⊎◌, ℕ, zero, suc, ◌+◌, ◌^◌, ◌<◌, List, length, Option, Some, None, ◌≤◌}
 use Rattle.rv_mem.specs.Bytes.{byte_at}
 use Rattle.rv_step.specs.declared.outcome.Outcome.{Outcome}
 use Rattle.rv_step.specs.declared.outcome.Outcome.TheVariants.{Next}
@@ -8,7 +8,7 @@ use Rattle.sfi_image.specs.Parts.{IsRightPart}
 use Rattle.sfi_image.specs.Spelling.{Part}
 use Rattle.sfi_translate.specs.Lines.{Line}
 use Rattle.sfi_translate.specs.Machine.{Assembly, Before, ControlPoint, Going, IsTranslatedStep, Loop, Slow, Stopped, fixed}
-use Rattle.sfi_translate.specs.Laws.{IsOver}
+use Rattle.sfi_translate.specs.Laws.{HasData, IsOver}
 use Rattle.x86_step.specs.Accesses.{AccessesLieIn}
 use Rattle.x86_step.specs.State.{Core, Machine, Text}
 use Rattle.x86_step.specs.Step.{Reaches}
@@ -91,12 +91,12 @@ pub record Works (p : Part) (l : Layout) (base : ℕ) (code : List Line) (host :
   pub serves : (a : Option Outcome) (n : Machine) → host.does m a n → Serves p l base code host.own k m n
   pub relies : (a : Option Outcome) (n : Machine) → host.does m a n → host.relies n.core
 
--- So a host works wherever code comes out for a slow step, between proper states, with what it relies on; code changes nothing of
--- that.
+-- So a host works wherever code comes out for a slow step, between proper states, of which the first has all bytes of the data
+-- and fewer steps left than 2^31, as each state of a turn has; with what it relies on, of which code changes nothing.
 pub record IsHost (p : Part) (l : Layout) (base : ℕ) (code : List Line) (host : Host) : Type 0 where
   pub kept : (c d : Core) → OthersStay p l c d → host.relies c → host.relies d
-  pub works : (g k : Going) (m : Machine) → g.place ≡ Slow → IsProper p g.state → IsProper p k.state → IsAlike p l base code g m
-      → host.relies m.core → HostMoves p code g k → Works p l base code host k m
+  pub works : (g k : Going) (m : Machine) → g.place ≡ Slow → g.left < 2 ^ 31 → IsProper p g.state → HasData p g.state.memory
+      → IsProper p k.state → IsAlike p l base code g m → host.relies m.core → HostMoves p code g k → Works p l base code host k m
 
 -- Wherever a host's moves lead, there is a state of the processor that serves.
 abbrev pub EachWorkCanBeDone : Type 1
@@ -105,11 +105,16 @@ EachWorkCanBeDone =
     → IsLayout p.data_size l → IsProper p k.state → IsHosts g.place → IsRelated p l g m.core → HostMoves p code g k
     → (n : Machine) × Serves p l base code own k m n
 
--- There is a host, whatever memory is its own: from states that the processor can't tell apart moves lead to such states.
+-- a host that relies on nothing
+abbrev pub host_of : (Machine → Option Outcome → Machine → Type 0) → (ℕ → Type 0) → Host
+host_of does own = record { does = does; own = own; relies = λ c. Unit {0} }
+
+-- There is such a host, whatever memory is its own: from states that the processor can't tell apart moves lead to such states. Its
+-- turns can begin (`EachTurnCanBegin`).
 abbrev pub ThereIsAHost : Type 1
 ThereIsAHost =
     (p : Part) (l : Layout) (base : ℕ) (code : List Line) (own : ℕ → Type 0) → IsRightPart p → IsLayout p.data_size l
-    → (host : Host) × (host.own ≡ own) × IsHost p l base code host
+    → (does : Machine → Option Outcome → Machine → Type 0) × IsHost p l base code (host_of does own)
 
 -- ==== Code and host by turns.
 

@@ -12,7 +12,7 @@ use Rattle.x86_step.specs.State.{IsIn, Machine, Span, Text}
 use Rattle.sfi_native.specs.declared.layout.Layout.{Layout}
 use Rattle.sfi_native.specs.Entries.{AreEntries}
 use Rattle.sfi_native.specs.Faults.{HasFixups}
-use Rattle.sfi_native.specs.Host.{EndsWithin, Host, HostMoves, IsHost, IsInCode, Serves, answer_of}
+use Rattle.sfi_native.specs.Host.{EndsWithin, Host, HostMoves, IsHost, IsInCode, Serves, answer_of, host_of}
 use Rattle.sfi_native.specs.Layout.{DoNotMeet, IsLayout, IsOutside, frame_size, guarded_data}
 use Rattle.sfi_native.specs.Laws.{IsBefore, line_most}
 use Rattle.sfi_native.specs.Places.{IsAt, end_address, exit_of, whole_code}
@@ -104,10 +104,6 @@ EachTurnGoesOn =
     → IsEntered sandbox p code l t base host s left m → IsReached p u → next_left < 2 ^ 31
     → HostMoves p code (begun u next_left) first → IsInCode first.place → Serves p l base code host.own first m n
     → host.relies n.core → IsEntered sandbox p code l t base host u next_left n
-
--- a host that relies on nothing
-abbrev pub host_of : (Machine → Option Outcome → Machine → Type 0) → (ℕ → Type 0) → Host
-host_of does own = record { does = does; own = own; relies = λ c. Unit {0} }
 
 -- After a host's first moves the turn is over, or there is a processor in which it has entered code.
 pub record CanBegin (sandbox : ℕ) (p : Part) (code : List Line) (l : Layout) (base : ℕ) (host : Host) (s : State) (left : ℕ) : Type 0
