@@ -1,5 +1,5 @@
 -- There is a host: states of a turn that a processor can't tell apart are led to such states.
-use Rattle.std.proofs.Common.{◌≡◌, ℕ, zero, suc, ◌+◌, ◌-◌, ◌%◌, ◌^◌, ◌<◌, ◌≤◌, ◌⊎◌, inl, inr, ◌==◌, Bool, true, false, cond, List, [], ◌∷◌, length, map, Option, Some, None, is_some, refl, sym, ap, ◌∙◌, subst, arith, if◌then◌else◌}
+use Rattle.std.proofs.Common.{◌≡◌, ℕ, zero, suc, ◌+◌, ◌-◌, ◌%◌, ◌^◌, ◌<◌, ◌≤◌, ◌⊎◌, inl, inr, ◌==◌, Bool, true, false, cond, List, [], ◌∷◌, length, map, Option, Some, None, is_some, refl, sym, ap, ◌∙◌, subst, arith, if◌then◌else◌, ⊎_elim}
 use Rattle.std.proofs.lemmas.Bool.{leb-true}
 use Rattle.std.proofs.lemmas.List.{ext_get_or}
 use Rattle.std.specs.FinMap.{insert}
@@ -23,17 +23,17 @@ use Rattle.sfi_image.specs.Parts.{IsRightPart}
 use Rattle.sfi_image.specs.Spelling.{Part}
 use Rattle.sfi_translate.specs.Lines.{Line, Function, End, Entry, Head, Does}
 use Rattle.sfi_translate.specs.Laws.{IsOver}
-use Rattle.sfi_translate.specs.Machine.{Assembly, ControlPoint, Going, IsTranslatedStepAt, Loop, Lost, Slow, fixed, from_loop, goes, is_tested, label, one_less, row_step, slow_step, step_done}
+use Rattle.sfi_translate.specs.Machine.{Assembly, Before, ControlPoint, Going, IsTranslatedStepAt, Loop, Lost, Slow, Stopped, fixed, from_loop, goes, is_tested, label, one_less, row_step, slow_step, step_done}
 use Rattle.x86_step.specs.State.{Core, Machine}
 use Rattle.sfi_native.specs.declared.layout.Layout.{Layout}
-use Rattle.sfi_native.specs.Host.{Host, HostMoves, IsHosts, IsInCode, IsProper, Serves, ThereIsAHost, Works, answer_of, arrives, makes}
+use Rattle.sfi_native.specs.Host.{Answers, Ending, Host, HostMoves, IsHosts, IsInCode, IsProper, Serves, ThereIsAHost, Works, answer_of, arrives, host_of, makes}
 use Rattle.sfi_native.specs.Laws.{IsAlike}
 use Rattle.x86_instr.specs.declared.operand.Register.{Register}
 use Rattle.sfi_native.specs.Registers.{assigned}
 use Rattle.sfi_native.specs.Layout.{Holds, IsLayout, IsRelated}
 use Rattle.sfi_native.specs.Places.{IsAt, IsAtPlace}
 use Rattle.sfi_native.proofs.Hosts.{stays_there}
-use Rattle.sfi_native.proofs.Served.{each_work_can_be_done}
+use Rattle.sfi_native.proofs.Served.{each_work_can_be_done, handed_over}
 
 -- ==== Reading and writing.
 
@@ -213,20 +213,19 @@ module _ (p : Part) (right : IsRightPart p) where
       at_slow g m slow at = (subst (λ q. IsAtPlace l.registers base code q g.state.hart.pc m) slow at).1
 
       -- a move of a host that does all that it may
-      record DoesWork (m : Machine) (a : Option Outcome) (n : Machine) : Type 0 where
+      record DoesWork (m : Machine) (a : Option Ending) (n : Machine) : Type 0 where
         from : Going
         to : Going
         slow : from.place ≡ Slow
         proper : IsProper p from.state
         alike : IsAlike p l base code from m
         leads : HostMoves p code from to
-        answer : a ≡ answer_of to.place
-        serves : Serves p l base code own to m n
+        answers : Answers p l base code own to m a n
 
       abbrev host : Host
-      host = record { does = DoesWork; own = own; relies = λ c. Unit {0} }
+      host = host_of DoesWork own
 
-      like : (g : Going) (m : Machine) (a : Option Outcome) (n : Machine) → g.place ≡ Slow → IsProper p g.state → IsAlike p l base code g m → (it : DoesWork m a n) → IsLike g it.from
+      like : (g : Going) (m : Machine) (a : Option Ending) (n : Machine) → g.place ≡ Slow → IsProper p g.state → IsAlike p l base code g m → (it : DoesWork m a n) → IsLike g it.from
       like g m a n slow proper alike it = record {
         place = it.slow ∙ sym slow;
         hart = hart_same g it.from m.core proper it.proper (sym (at_slow g m slow alike.is_at) ∙ at_slow it.from m it.slow it.alike.is_at) alike.related it.alike.related;
@@ -234,20 +233,47 @@ module _ (p : Part) (right : IsRightPart p) where
         bytes = λ k small. sym (it.alike.related.bytes k small) ∙ alike.related.bytes k small;
       }
 
+      -- what is right for one of two like states of a turn is for the other
+      answers_same : (k to : Going) (m : Machine) (a : Option Ending) (n : Machine) → IsLike k to → Answers p l base code own to m a n → Answers p l base code own k m a n
+      answers_same k to m None n same it = (
+        it.0 ∙ ap answer_of same.place,
+        record {
+          related = related_like k to n.core same it.1.related;
+          is_at = subst (λ q. IsAtPlace l.registers base code q k.state.hart.pc n) same.place (subst (λ (x : Hart). IsAtPlace l.registers base code to.place x.pc n) same.hart it.1.is_at);
+          spares = it.1.spares;
+        },
+      )
+      answers_same k to m (Some e) n same it = record {
+        outcome = it.outcome ∙ ap answer_of same.place;
+        hart = it.hart ∙ same.hart;
+        left = it.left ∙ same.left;
+        bytes = λ j small. it.bytes j small ∙ same.bytes j small;
+        spares = it.spares;
+      }
+
+      inside_answer : (place : ControlPoint) → IsInCode place → None ≡ answer_of place
+      inside_answer (Before lines) is = refl
+      inside_answer Slow is = absurd is
+      inside_answer Loop is = absurd is
+      inside_answer (Stopped o) is = absurd is
+      inside_answer Lost is = absurd is
+
+      -- what is done where a processor serves
+      served_answer : (k : Going) (m n : Machine) → Serves p l base code own k m n → IsInCode k.place ⊎ IsOver k → (a : Option Ending) × Answers p l base code own k m a n
+      served_answer k m n it (inl inside) = (None, (inside_answer k.place inside, it))
+      served_answer k m n it (inr over) =
+          let answer : (o : Outcome) × (Some o ≡ answer_of k.place) = ⊎_elim (λ one. (one.0, ap answer_of (sym one.1))) (λ one. (Next, ap answer_of (sym one.0))) over in (
+            Some (record { outcome = answer.0; hart = k.state.hart; left = k.left }),
+            record { outcome = answer.1; hart = refl; left = refl; bytes = it.related.bytes; spares = it.spares.memory },
+          )
+
       works : IsLayout p.data_size l → (g k : Going) (m : Machine) → g.place ≡ Slow → IsProper p g.state → IsProper p k.state → IsAlike p l base code g m → HostMoves p code g k → Works p l base code host k m
       works layout g k m slow proper proper_then alike leads =
           let n = each_work_can_be_done p l base code own g k m layout proper_then (subst IsHosts (sym slow) tt) alike.related leads in
-          let to : (a : Option Outcome) (o : Machine) (it : DoesWork m a o) → IsLike k it.to = λ a o it. moves_same code g it.from k it.to (like g m a o slow proper alike it) leads it.leads in
+          let answer = served_answer k m n.0 n.1 (handed_over p code g k leads) in
           record {
-            answers = (answer_of k.place, n.0, record { from = g; to = k; slow = slow; proper = proper; alike = alike; leads = leads; answer = refl; serves = n.1 });
-            right = λ a o it. it.answer ∙ ap answer_of (to a o it).place;
-            serves = λ a o it.
-                let same = to a o it in
-                record {
-                  related = related_like k it.to o.core same it.serves.related;
-                  is_at = subst (λ q. IsAtPlace l.registers base code q k.state.hart.pc o) same.place (subst (λ (x : Hart). IsAtPlace l.registers base code it.to.place x.pc o) same.hart it.serves.is_at);
-                  spares = it.serves.spares;
-                };
+            answers = (answer.0, n.0, record { from = g; to = k; slow = slow; proper = proper; alike = alike; leads = leads; answers = answer.1 });
+            right = λ a o it. answers_same k it.to m a o (moves_same code g it.from k it.to (like g m a o slow proper alike it) leads it.leads) it.answers;
             relies = λ a o it. tt;
           }
 

@@ -15,7 +15,7 @@ use Rattle.sfi_native.specs.declared.registers.RegisterMap.{RegisterMap}
 use Rattle.sfi_native.proofs.Assigned.{not_assigned}
 use Rattle.sfi_native.specs.Layout.{Holds, IsLayout, IsOutside, OthersStay, frame_size}
 use Rattle.sfi_native.specs.Laws.{IsBefore}
-use Rattle.sfi_native.specs.Host.{Host, HostMoves, HostReads, IsHosts, IsInCode, Serves, Spares, arrives, makes}
+use Rattle.sfi_native.specs.Host.{Host, HostMoves, HostReads, IsHosts, IsInCode, Serves, Spares, SparesMemory, arrives, makes}
 use Rattle.sfi_native.specs.Places.{IsAt, IsAtPlace, end_address, exit_of, whole_code}
 use Rattle.sfi_native.specs.Table.{HasTable}
 use Rattle.sfi_native.specs.Whole.{AreApart}
@@ -67,19 +67,23 @@ module _ (p : Part) (l : Layout) (own : ℕ → Type 0) where
   spares_others layout c d stay = record {
     table_origin = stay.others 12 (omega arith) (λ e. omega (arith, e)) (not_assigned l.registers layout.registers_are_right 12 (inr (inl (omega arith))));
     code_address = stay.others 13 (omega arith) (λ e. omega (arith, e)) (not_assigned l.registers layout.registers_are_right 13 (inr (inl (omega arith))));
-    elsewhere = λ a not_own by_frame by_data. stay.elsewhere a by_frame by_data;
-    writable = λ a not_own. ap (λ w. w a) stay.writable;
+    memory = record { elsewhere = λ a not_own by_frame by_data. stay.elsewhere a by_frame by_data; writable = λ a not_own. ap (λ w. w a) stay.writable };
   }
 
   pub spares_same : (c : Core) → Spares p l own c c
-  spares_same c = record { table_origin = refl; code_address = refl; elsewhere = λ a not_own by_frame by_data. refl; writable = λ a not_own. refl }
+  spares_same c = record { table_origin = refl; code_address = refl; memory = record { elsewhere = λ a not_own by_frame by_data. refl; writable = λ a not_own. refl } }
+
+  pub memory_join : (c d e : Core) → SparesMemory p l own c d → SparesMemory p l own d e → SparesMemory p l own c e
+  memory_join c d e a b = record {
+    elsewhere = λ at not_own by_frame by_data. b.elsewhere at not_own by_frame by_data ∙ a.elsewhere at not_own by_frame by_data;
+    writable = λ at not_own. b.writable at not_own ∙ a.writable at not_own;
+  }
 
   pub spares_join : (c d e : Core) → Spares p l own c d → Spares p l own d e → Spares p l own c e
   spares_join c d e a b = record {
     table_origin = b.table_origin ∙ a.table_origin;
     code_address = b.code_address ∙ a.code_address;
-    elsewhere = λ at not_own by_frame by_data. b.elsewhere at not_own by_frame by_data ∙ a.elsewhere at not_own by_frame by_data;
-    writable = λ at not_own. b.writable at not_own ∙ a.writable at not_own;
+    memory = memory_join c d e a.memory b.memory;
   }
 
 inside : (a from n : ℕ) → from ≤ a → a < from + n → IsOutside a from n → ⊥
@@ -113,7 +117,7 @@ module _ (p : Part) (code : List Line) (l : Layout) (t : Text) (base table_at : 
             text_is_fixed = record {
               ends = here.stands.text_is_fixed.ends;
               apart = λ a from below.
-                  spares.writable a (λ is. inside a base (exit_of l.registers code) (omega (arith, begins, from)) (omega (arith, begins, size, below)) (own.own_from_text a is))
+                  spares.memory.writable a (λ is. inside a base (exit_of l.registers code) (omega (arith, begins, from)) (omega (arith, begins, size, below)) (own.own_from_text a is))
                   ∙ here.stands.text_is_fixed.apart a from below;
             };
             text_is_low = here.stands.text_is_low;
@@ -122,10 +126,10 @@ module _ (p : Part) (code : List Line) (l : Layout) (t : Text) (base table_at : 
             related = it.related;
             guards = record {
               below = λ a from under.
-                  spares.elsewhere a (λ is. inside a (l.data_start - guard) (p.data_size + 2 * guard) (omega (arith, from, low)) (omega (arith, under, low)) (own.own_from_zones a is))
+                  spares.memory.elsewhere a (λ is. inside a (l.data_start - guard) (p.data_size + 2 * guard) (omega (arith, from, low)) (omega (arith, under, low)) (own.own_from_zones a is))
                   (beside_frame p l layout a from (omega (arith, under))) (inl under) ∙ here.stands.guards.below a from under;
               above = λ a from under.
-                  spares.elsewhere a (λ is. inside a (l.data_start - guard) (p.data_size + 2 * guard) (omega (arith, from, low)) (omega (arith, under, low)) (own.own_from_zones a is))
+                  spares.memory.elsewhere a (λ is. inside a (l.data_start - guard) (p.data_size + 2 * guard) (omega (arith, from, low)) (omega (arith, under, low)) (own.own_from_zones a is))
                   (beside_frame p l layout a (omega (arith, from)) under) (inr from) ∙ here.stands.guards.above a from under;
             };
           };
@@ -141,7 +145,7 @@ module _ (p : Part) (code : List Line) (l : Layout) (t : Text) (base table_at : 
                 number_same m.core.memory n.core.memory 4 (has.at + unit p.format * number) (λ j few.
                 let a = has.at + unit p.format * number + j in
                 let high : a < has.at + length p.code = omega (arith, within, few) in
-                spares.elsewhere a (λ is. inside a has.at (length p.code) (omega arith) high (own.own_from_table a is))
+                spares.memory.elsewhere a (λ is. inside a has.at (length p.code) (omega arith) high (own.own_from_table a is))
                 (outside has.at (length p.code) l.frame frame_size a has.frame_apart (omega arith) high)
                 (outside has.at (length p.code) l.data_start p.data_size a has.data_apart (omega arith) high))
                 ∙ has.holds number below;

@@ -102,8 +102,7 @@ module _ (p : Part) (l : Layout) (g k : Going) (layout : IsLayout p.data_size l)
   served_spares own = record {
     table_origin = other_register 12 (omega arith) (λ e. omega (arith, e)) (not_assigned l.registers right 12 (inr (inl (omega arith))));
     code_address = other_register 13 (omega arith) (λ e. omega (arith, e)) (not_assigned l.registers right 13 (inr (inl (omega arith))));
-    elsewhere = λ a not_own by_frame by_data. elsewhere a by_frame by_data;
-    writable = λ a not_own. refl;
+    memory = record { elsewhere = λ a not_own by_frame by_data. elsewhere a by_frame by_data; writable = λ a not_own. refl };
   }
 
 -- ==== The place.

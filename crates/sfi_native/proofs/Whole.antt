@@ -12,7 +12,7 @@ use Rattle.sfi_translate.specs.Lines.{AreLines}
 use Rattle.sfi_safety.specs.Places.{IsCleanPart}
 use Rattle.sfi_native.specs.Entries.{AreEntries}
 use Rattle.sfi_translate.proofs.Facts.{each_turn_ends, reached_harts_are_fixed, translated_runs_as_image, turns_end}
-use Rattle.sfi_native.specs.Host.{EndsWithin, Host, HostMoves, IsHost, IsInCode, Serves, Spares, Works, answer_of, host_of}
+use Rattle.sfi_native.specs.Host.{Answers, Ending, EndsWithin, Host, HostMoves, IsHost, IsInCode, Serves, Spares, Works, answer_of, host_of}
 use Rattle.sfi_native.specs.Laws.{IsBefore, line_most}
 use Rattle.x86_instr.specs.declared.instr.Instr.{Instr as Native}
 use Rattle.x86_step.specs.Accesses.{AccessesLieIn}
@@ -30,7 +30,7 @@ use Rattle.sfi_native.proofs.Bare.{agree, bare, bare_before, bare_table, has_no_
 use Rattle.sfi_native.proofs.Kept.{kept_register}
 use Rattle.sfi_native.proofs.Fetching.{related_kept}
 use Rattle.sfi_native.proofs.Held.{each_code_can_be_run}
-use Rattle.sfi_native.proofs.Hosts.{Ready, one_way, ready_on, spares_join, spares_others, spares_same}
+use Rattle.sfi_native.proofs.Hosts.{Ready, one_way, ready_on, memory_join, spares_join, spares_others, spares_same}
 use Rattle.sfi_native.proofs.Served.{all_made, handed_over, has_place, never_lost}
 use Rattle.sfi_native.proofs.Sizes.{each_code_fits, whole_size}
 use Rattle.sfi_native.proofs.Table.{lines_lie_in_code}
@@ -42,8 +42,8 @@ use Rattle.sfi_native.proofs.Turning.{CodePart, HostPart, Turns, code_part, few_
 
 module _ (sandbox : ℕ) (p : Part) (code : List Line) (s : State) (left : ℕ) (l : Layout) (t : Text) (base : ℕ) (few : left < 2 ^ 31) (fits : exit_of l.registers code < 2 ^ 31) (fixups : HasFixups l.registers t base code) (lie : LieInCode p code)
     (host : Host) (works : IsHost p l base code host) (begins : t.base ≡ base) (size : length t.bytes ≡ exit_of l.registers code) (table_at : ℕ) (entry : Machine) where
-  abbrev Ended : Outcome → Machine → Type 0
-  Ended o n = EndsAsImage p code l base host s left entry o n
+  abbrev Ended : Ending → Machine → Type 0
+  Ended e n = EndsAsImage p code l base host s left entry e n
 
   -- an answer ends the turn where it is over, and enters code elsewhere
   ended : (k : Going) (o : Outcome) → Some o ≡ answer_of k.place → IsInCode k.place ⊎ IsOver k → IsOver k
@@ -133,20 +133,29 @@ module _ (sandbox : ℕ) (p : Part) (code : List Line) (s : State) (left : ℕ) 
     only : (most : ℕ) (k : Machine) → Reaches t most m k → k.rip ≡ t.base + length t.bytes → k ≡ code_does.out
     only most k reached e = one_way_out t most code_does.made m k code_does.out reached code_does.reached e is_out
 
-    ends : Spares p l host.own entry.core m.core → (o : Outcome) (k : Machine) → host.does code_does.out (Some o) k → Ended o k
-    ends spares o k did =
-        let it = all k (done.serves (Some o) k did) in
+    ends : Spares p l host.own entry.core m.core → (e : Ending) (k : Machine) → host.does code_does.out (Some e) k → Ended e k
+    ends spares e k did =
+        let it : Answers p l base code host.own host_does.next code_does.out (Some e) k = done.right (Some e) k did in
+        let by_code = spares_others p l host.own here.stands.layout m.core code_does.out.core code_does.others in
         record {
           last = host_does.next;
-          is_over = ended host_does.next o (done.right (Some o) k did) handed;
+          is_over = ended host_does.next e.outcome it.outcome handed;
           as_image = translated_runs_as_image Assembly sandbox p code s left host_does.moved host_does.next host_does.turn;
-          answer = sym (done.right (Some o) k did);
-          serves = record { related = it.related; is_at = it.is_at; spares = spares_join p l host.own entry.core m.core k.core spares it.spares };
-          relies = done.relies (Some o) k did;
+          ends = record {
+            outcome = it.outcome;
+            hart = it.hart;
+            left = it.left;
+            bytes = it.bytes;
+            spares = memory_join p l host.own entry.core m.core k.core spares.memory (memory_join p l host.own m.core code_does.out.core k.core by_code.memory it.spares);
+          };
+          relies = done.relies (Some e) k did;
         }
 
+    right : (k : Machine) → host.does code_does.out None k → Answers p l base code host.own host_does.next code_does.out None k
+    right k did = done.right None k did
+
     ready_again : (k : Machine) → host.does code_does.out None k → Ready p code l t base table_at host host_does.next k
-    ready_again k did = ready_on p code l t base table_at host begins size g host_does.next m k here (all k (done.serves None k did)) (done.relies None k did)
+    ready_again k did = ready_on p code l t base table_at host begins size g host_does.next m k here (all k (right k did).1) (done.relies None k did)
 
   rounds : (room n moves : ℕ) (g last : Going) (m : Machine) → n ≤ room → Ready p code l t base table_at host g m → Spares p l host.own entry.core m.core → IsInCode g.place → Turns sandbox p code s left moves g
       → AreTranslatedSteps Assembly p code n g last → IsOver last → EndsWithin room (line_most * n) t p l (IsAccessed p l table_at) host Ended m
@@ -172,11 +181,12 @@ module _ (sandbox : ℕ) (p : Part) (code : List Line) (s : State) (left : ℕ) 
         answers = work.answers;
         ends = ends n moved g last m here inside turn steps over spares;
         enters = λ k did.
-            let it = all n moved g last m here inside turn steps over k (work.serves None k did) in
+            let as_asked = right n moved g last m here inside turn steps over k did in
+            let it = all n moved g last m here inside turn steps over k as_asked.1 in
             let less = c.fewer in
             let fewer = h.fewer in
             rounds room h.rest h.moved h.next last k (omega (arith, less, fewer, fits_in)) (ready_again n moved g last m here inside turn steps over k did)
-            (spares_join p l host.own entry.core m.core k.core spares it.spares) (entered h.next (work.right None k did) (handed n moved g last m here inside turn steps over)) h.turn h.steps over;
+            (spares_join p l host.own entry.core m.core k.core spares it.spares) (entered h.next as_asked.0 (handed n moved g last m here inside turn steps over)) h.turn h.steps over;
       }
 
 -- ==== The whole.

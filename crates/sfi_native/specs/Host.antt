@@ -3,7 +3,7 @@ use Rattle.std.specs.Prelude.{◌≡◌, ◌⊎◌, ℕ, zero, suc, ◌+◌, ◌
 use Rattle.rv_mem.specs.Bytes.{byte_at}
 use Rattle.rv_step.specs.declared.outcome.Outcome.{Outcome}
 use Rattle.rv_step.specs.declared.outcome.Outcome.TheVariants.{Next}
-use Rattle.rv_step.specs.State.{IsState, State, register}
+use Rattle.rv_step.specs.State.{Hart, IsState, State, register}
 use Rattle.sfi_image.specs.Parts.{IsRightPart}
 use Rattle.sfi_image.specs.Spelling.{Part}
 use Rattle.sfi_translate.specs.Lines.{Line}
@@ -56,40 +56,62 @@ pub data HostMoves (p : Part) (code : List Line) : Going → Going → Type 0 wh
   arrives : (g : Going) → IsInCode g.place ⊎ IsOver g → HostMoves p code g g
   makes : (g h k : Going) → IsHosts g.place → IsTranslatedStep Assembly p code g h → HostMoves p code h k → HostMoves p code g k
 
--- What a host does from one state of the processor to another, and its answer: none where it enters code, and where the turn is
--- over an outcome, `Next` where no step is left. The addresses of its own memory, as its stack; and what it relies on where code
--- comes out, of that memory and of registers.
+-- What a host hands over where a turn is over, beside the data, which lie where they lay: the outcome, `Next` where no step is left,
+-- the pc and registers, and the steps left.
+pub record Ending : Type 0 where
+  pub outcome : Outcome
+  pub hart : Hart
+  pub left : ℕ
+
 pub record Host : Type 1 where
-  pub does : Machine → Option Outcome → Machine → Type 0
+  -- what it may do from a state of the processor to another: it enters code there, or hands over an ending
+  pub does : Machine → Option Ending → Machine → Type 0
+  -- addresses it may also write, as its stack's
   pub own : ℕ → Type 0
+  -- what must hold where code comes out
   pub relies : Core → Type 0
 
--- the answer at that place
+-- the outcome of a turn that stands there; None where code is entered
 abbrev pub answer_of : ControlPoint → Option Outcome
 answer_of (Stopped o) = Some o
 answer_of Loop = Some Next
 answer_of place = None
 
--- Of memory a host changes frame, data and its own alone, and neither r12 (12) nor r13 (13).
-pub record Spares (p : Part) (l : Layout) (own : ℕ → Type 0) (c d : Core) : Type 0 where
-  pub table_origin : d.registers 12 ≡ c.registers 12
-  pub code_address : d.registers 13 ≡ c.registers 13
+-- Of memory a host changes frame, data and its own alone.
+pub record SparesMemory (p : Part) (l : Layout) (own : ℕ → Type 0) (c d : Core) : Type 0 where
   pub elsewhere : (a : ℕ) → (own a → ⊥) → IsOutside a l.frame frame_size → IsOutside a l.data_start p.data_size → d.memory a ≡ c.memory a
   pub writable : (a : ℕ) → (own a → ⊥) → d.writable a ≡ c.writable a
 
--- Registers, data and steps left are the turn's. The processor is where the turn goes on, before a line's code; where it is over,
--- at the way out, with the pc in edx.
+-- So it does where it enters code, with the same in r12 (12) and r13 (13) as where code was entered before.
+pub record Spares (p : Part) (l : Layout) (own : ℕ → Type 0) (c d : Core) : Type 0 where
+  pub table_origin : d.registers 12 ≡ c.registers 12
+  pub code_address : d.registers 13 ≡ c.registers 13
+  pub memory : SparesMemory p l own c d
+
+-- Registers, data and steps left are the turn's, and the processor is where it goes on.
 pub record Serves (p : Part) (l : Layout) (base : ℕ) (code : List Line) (own : ℕ → Type 0) (k : Going) (m n : Machine) : Type 0 where
   pub related : IsRelated p l k n.core
   pub is_at : IsAt l.registers base code k n
   pub spares : Spares p l own m.core n.core
 
--- Where code has come out the host does something, and all that it may do answers and makes what the turn comes to.
+-- The ending is that of a turn that stands there, and the processor has its data.
+pub record HandsOver (p : Part) (l : Layout) (own : ℕ → Type 0) (k : Going) (m : Machine) (e : Ending) (n : Machine) : Type 0 where
+  pub outcome : Some e.outcome ≡ answer_of k.place
+  pub hart : e.hart ≡ k.state.hart
+  pub left : e.left ≡ k.left
+  pub bytes : (j : ℕ) → j < p.data_size → n.core.memory (l.data_start + j) ≡ byte_at k.state.memory (p.data_base + j)
+  pub spares : SparesMemory p l own m.core n.core
+
+-- an answer and the state of the processor with it are right: code is entered where the turn goes on, or the turn's ending is given
+abbrev pub Answers : Part → Layout → ℕ → List Line → (ℕ → Type 0) → Going → Machine → Option Ending → Machine → Type 0
+Answers p l base code own k m None n = (None ≡ answer_of k.place) × Serves p l base code own k m n
+Answers p l base code own k m (Some e) n = HandsOver p l own k m e n
+
+-- Where code has come out the host does something, and all that it may do is right.
 pub record Works (p : Part) (l : Layout) (base : ℕ) (code : List Line) (host : Host) (k : Going) (m : Machine) : Type 0 where
-  pub answers : (a : Option Outcome) × (n : Machine) × host.does m a n
-  pub right : (a : Option Outcome) (n : Machine) → host.does m a n → a ≡ answer_of k.place
-  pub serves : (a : Option Outcome) (n : Machine) → host.does m a n → Serves p l base code host.own k m n
-  pub relies : (a : Option Outcome) (n : Machine) → host.does m a n → host.relies n.core
+  pub answers : (a : Option Ending) × (n : Machine) × host.does m a n
+  pub right : (a : Option Ending) (n : Machine) → host.does m a n → Answers p l base code host.own k m a n
+  pub relies : (a : Option Ending) (n : Machine) → host.does m a n → host.relies n.core
 
 -- So a host works wherever code comes out for a slow step, between proper states, of which the first has all bytes of the data
 -- and fewer steps left than 2^31, as each state of a turn has; with what it relies on, of which code changes nothing.
@@ -106,7 +128,7 @@ EachWorkCanBeDone =
     → (n : Machine) × Serves p l base code own k m n
 
 -- a host that relies on nothing
-abbrev pub host_of : (Machine → Option Outcome → Machine → Type 0) → (ℕ → Type 0) → Host
+abbrev pub host_of : (Machine → Option Ending → Machine → Type 0) → (ℕ → Type 0) → Host
 host_of does own = record { does = does; own = own; relies = λ c. Unit {0} }
 
 -- There is such a host, whatever memory is its own: from states that the processor can't tell apart moves lead to such states. Its
@@ -114,7 +136,7 @@ host_of does own = record { does = does; own = own; relies = λ c. Unit {0} }
 abbrev pub ThereIsAHost : Type 1
 ThereIsAHost =
     (p : Part) (l : Layout) (base : ℕ) (code : List Line) (own : ℕ → Type 0) → IsRightPart p → IsLayout p.data_size l
-    → (does : Machine → Option Outcome → Machine → Type 0) × IsHost p l base code (host_of does own)
+    → (does : Machine → Option Ending → Machine → Type 0) × IsHost p l base code (host_of does own)
 
 -- ==== Code and host by turns.
 
@@ -125,8 +147,9 @@ OneWayOut =
     Reaches t a m n → Reaches t b m k → n.rip ≡ out → k.rip ≡ out → n ≡ k
 
 -- A round: code comes out at the end of its text, in one state, by some of the instructions that are left to the turn, which access
--- memory at these addresses alone; there the host does something; and whatever it does, its answer ends the turn as it has to, or it enters code anew, with the rest of them.
-pub record Round (t : Text) (p : Part) (l : Layout) (there : ℕ → Type 0) (host : Host) (Ended : Outcome → Machine → Type 0)
+-- memory at these addresses alone; there the host does something; and whatever it does, its answer ends the turn as it has to, or
+-- it enters code anew, with the rest of them.
+pub record Round (t : Text) (p : Part) (l : Layout) (there : ℕ → Type 0) (host : Host) (Ended : Ending → Machine → Type 0)
     (Entered : ℕ → Machine → Type 0) (instructions : ℕ) (m : Machine) : Type 0 where
   pub out : Machine
   pub made : ℕ
@@ -137,12 +160,12 @@ pub record Round (t : Text) (p : Part) (l : Layout) (there : ℕ → Type 0) (ho
   pub only : (most : ℕ) (n : Machine) → Reaches t most m n → n.rip ≡ t.base + length t.bytes → n ≡ out
   pub accesses : AccessesLieIn there t m
   pub others : OthersStay p l m.core out.core
-  pub answers : (a : Option Outcome) × (n : Machine) × host.does out a n
-  pub ends : (o : Outcome) (n : Machine) → host.does out (Some o) n → Ended o n
+  pub answers : (a : Option Ending) × (n : Machine) × host.does out a n
+  pub ends : (e : Ending) (n : Machine) → host.does out (Some e) n → Ended e n
   pub enters : (n : Machine) → host.does out None n → Entered rest n
 
 -- Fewer rounds than that, and at most so many instructions of code, whatever the host does, end the turn as it has to.
-abbrev pub EndsWithin : ℕ → ℕ → Text → Part → Layout → (ℕ → Type 0) → Host → (Outcome → Machine → Type 0) → Machine → Type 0
+abbrev pub EndsWithin : ℕ → ℕ → Text → Part → Layout → (ℕ → Type 0) → Host → (Ending → Machine → Type 0) → Machine → Type 0
 EndsWithin zero instructions t p l there host Ended m = ⊥
 EndsWithin (suc rounds) instructions t p l there host Ended m =
     Round t p l there host Ended (λ rest n. EndsWithin rounds rest t p l there host Ended n) instructions m

@@ -1,6 +1,5 @@
 -- A turn of native code as a whole: code and host by turns come to its end, which is what the image's own steps come to.
 use Rattle.std.specs.Prelude.{◌≡◌, ◌⊎◌, ℕ, ◌+◌, ◌-◌, ◌*◌, ◌^◌, ◌<◌, ◌≤◌, List, length, Option, Some}
-use Rattle.rv_step.specs.declared.outcome.Outcome.{Outcome}
 use Rattle.rv_step.specs.State.{State}
 use Rattle.sfi_formats.specs.Limits.{guard}
 use Rattle.sfi_image.specs.Spelling.{Part}
@@ -12,7 +11,7 @@ use Rattle.x86_step.specs.State.{IsIn, Machine, Span, Text}
 use Rattle.sfi_native.specs.declared.layout.Layout.{Layout}
 use Rattle.sfi_native.specs.Entries.{AreEntries}
 use Rattle.sfi_native.specs.Faults.{HasFixups}
-use Rattle.sfi_native.specs.Host.{EndsWithin, Host, HostMoves, IsHost, IsInCode, Serves, answer_of, host_of}
+use Rattle.sfi_native.specs.Host.{Ending, EndsWithin, HandsOver, Host, HostMoves, IsHost, IsInCode, Serves, host_of}
 use Rattle.sfi_native.specs.Layout.{DoNotMeet, IsLayout, IsOutside, frame_size, guarded_data}
 use Rattle.sfi_native.specs.Laws.{IsBefore, line_most}
 use Rattle.sfi_native.specs.Places.{IsAt, end_address, exit_of, whole_code}
@@ -67,15 +66,14 @@ pub record IsEntered (sandbox : ℕ) (p : Part) (code : List Line) (l : Layout) 
   pub apart : AreApart p l base code table.at host.own
   pub relies : host.relies m.core
 
--- The host has ended the turn by an outcome as the image does: the state is what the image's own steps make of the first one,
--- up to where the next step has that outcome, or no step is left.
+-- The host has ended the turn as the image does: pc, registers and data are what the image's own steps make of the first state, up
+-- to where the next step has that outcome, or no step is left.
 pub record EndsAsImage (p : Part) (code : List Line) (l : Layout) (base : ℕ) (host : Host) (s : State) (left : ℕ) (m : Machine)
-    (o : Outcome) (n : Machine) : Type 0 where
+    (e : Ending) (n : Machine) : Type 0 where
   pub last : Going
   pub is_over : IsOver last
   pub as_image : IsAsImage p s left last
-  pub answer : answer_of last.place ≡ Some o
-  pub serves : Serves p l base code host.own last m n
+  pub ends : HandsOver p l host.own last m e n
   pub relies : host.relies n.core
 
 -- Whatever the host does, the turn ends so, by so many instructions of code at most: five lines for each step left, and five. All
@@ -116,7 +114,7 @@ pub record CanBegin (sandbox : ℕ) (p : Part) (code : List Line) (l : Layout) (
 abbrev pub EachTurnCanBegin : Type 1
 EachTurnCanBegin =
     (sandbox : ℕ) (p : Part) (code : List Line) (l : Layout) (base : ℕ) (table : List ℕ) (table_at : ℕ)
-    (does : Machine → Option Outcome → Machine → Type 0) (own : ℕ → Type 0) (s : State) (left : ℕ)
+    (does : Machine → Option Ending → Machine → Type 0) (own : ℕ → Type 0) (s : State) (left : ℕ)
     → IsCleanPart sandbox p → AreLines sandbox p code → AreEntries l.registers p code table → IsReached p s → left < 2 ^ 31
     → IsLayout p.data_size l → base + exit_of l.registers code < 2 ^ 47 → table_at + length p.code ≤ 2 ^ 47
     → AreApart p l base code table_at own → CanBegin sandbox p code l base (host_of does own) s left
