@@ -1,5 +1,6 @@
 """Tests of sfi-exec by native code, beside the same runs step by step: `tools/unit_tests.py tools test_exec.py`. They are skipped where
 this isn't Linux on x86-64, or a compiler or the program isn't there."""
+import glob
 import os
 import subprocess
 import unittest
@@ -82,6 +83,15 @@ class Natively(Folder):
         program = self.built(str(TOP / "examples" / "c" / "hello.c"))
         with open("/dev/full", "wb") as full:
             self.assertEqual(self.check_both([program], stdout=full)[0], 125)
+
+    def test_start(self):
+        """What Python compiles of the modules is kept in the user's folder, where the next start finds it, and not beside them."""
+        program = self.built(self.write("small.c", "int main(void) { return 5; }"))
+        for _ in range(2):
+            done = subprocess.run([SFI_EXEC, "--program", SFI, program], env={**os.environ, "XDG_CACHE_HOME": self.folder}, check=False)
+            self.assertEqual(done.returncode, 5)
+        self.assertEqual(len(glob.glob(self.path("sfi-cc/python/**/commands/exec.*.pyc"), recursive=True)), 1)
+        self.assertEqual(glob.glob(str(TOOLS / "suygapid" / "**" / "__pycache__"), recursive=True), [])
 
     def test_what_is_interpreted(self):
         program = self.built(str(TOP / "examples" / "c" / "hello.c"))

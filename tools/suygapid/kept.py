@@ -26,6 +26,17 @@ def root() -> str:
     return os.path.join(cache_home(), "sfi-cc")
 
 
+def bytecode() -> str:
+    """The folder where Python keeps what it compiles of modules that are read at each start."""
+    return os.path.join(root(), "python")
+
+
+def keep_bytecode() -> None:
+    """From here on Python keeps there what it compiles of the modules that are imported, and takes it at the next start."""
+    sys.pycache_prefix = sys.pycache_prefix or bytecode()
+    sys.dont_write_bytecode = False
+
+
 def kept(name: str, words: Iterable[str], make: Callable[[str], object], long: Optional[str] = None) -> str:
     """The folder of a name that `make` fills; `words` are all that it is made of, so that another goes by another name;
     `long` is what to tell where it isn't there, if that takes long, beside where it is kept. It is whole as soon as it is there:

@@ -17,7 +17,6 @@ import subprocess
 import sys
 import tempfile
 
-from sfi_run import frames
 from suygapid import native
 from suygapid.cc.compilers import Failed, tell
 from suygapid.commands.options import add_program
@@ -115,6 +114,7 @@ def registers_of(said):
 
 def told(programs, said):
     """The lines of what lies at the places of the traps that were told."""
+    from sfi_run import frames  # which takes long, and few programs trap
     places = {number: (int(pc, 16), registers_of(told)) for number, pc, told in PLACE.findall(said)}
     for number, cause, at in TRAP.findall(said):
         program = programs[int(number)]
@@ -156,8 +156,9 @@ def main():
         programs = [Elf(path) for path in options.programs]
         made = image(programs)
         status, said = run_natively(options, made) or (run_with_files if options.has_host else run)(options, made)
-        tell(said)
-        tell("".join(told(programs, said.decode("ascii", "replace"))).encode())
+        if said:
+            tell(said)
+            tell("".join(told(programs, said.decode("ascii", "replace"))).encode())
     except (Failed, Wrong, OSError) as error:
         reason = f"{error.filename}: {error.strerror}" if isinstance(error, OSError) and error.filename else error
         print(f"sfi-exec: {reason}", file=sys.stderr)

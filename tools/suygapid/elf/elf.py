@@ -1,7 +1,7 @@
 """Reads what an image needs of a linked ELF file of 32 bits: segments, sections and symbols."""
 import struct
 from dataclasses import dataclass
-from typing import Iterator, Optional
+from typing import Iterator, NamedTuple, Optional
 
 LOADED, EXECUTABLE = 1, 1  # a segment's kind, and its flag
 SYMBOLS = 2  # a section's kind
@@ -12,8 +12,7 @@ class Wrong(Exception):
     """What is wrong with a file, in one line."""
 
 
-@dataclass(frozen=True)
-class Symbol:
+class Symbol(NamedTuple):
     name: str
     value: int
     size: int

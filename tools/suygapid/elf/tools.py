@@ -9,11 +9,11 @@ from typing import Iterable, Optional, Sequence
 
 from suygapid import TOOLS, results
 from suygapid.cc.compilers import ran
-from suygapid.kept import root
+from suygapid.kept import bytecode
 
 BINUTILS = os.environ.get("SFI_BINUTILS", "riscv64-unknown-elf-")  # what the names of as, ar, ld begin with
 # Python keeps what it compiles of the modules, which takes longer than to rewrite a small file, and looks for no other packages.
-ASM2ELF = [sys.executable, "-S", f"-EXpycache_prefix={os.path.join(root(), 'python')}", os.path.join(TOOLS, "asm2elf")]
+ASM2ELF = [sys.executable, "-S", f"-EXpycache_prefix={bytecode()}", os.path.join(TOOLS, "asm2elf")]
 CONVERTER = ("suygapid/commands/asm2elf.py", "suygapid/passes/*.py")
 AS = ["-march=rv32imc", "-mabi=ilp32", "-mno-relax", "-mno-arch-attr"]
 
