@@ -16,6 +16,7 @@ import subprocess
 import sys
 import tempfile
 from dataclasses import dataclass
+from typing import NamedTuple
 
 HERE = os.path.dirname(os.path.abspath(__file__))
 TOP = os.path.dirname(os.path.dirname(HERE))
@@ -116,6 +117,12 @@ def missing(program, options):
     """The first of a program's packages whose sources aren't there, or None."""
     return next((package for package in program.package.split()
                  if not (GCC_SOURCE.where() if package == GCC_SOURCE.name else archive_of(package, options))), None)
+
+
+def reason(package):
+    """Why a program can't be tried for want of a package, and what helps."""
+    help_of = GCC_SOURCE.wanted() if package == GCC_SOURCE.name else "--fetch gets them"
+    return f"the sources of Debian's package {package} aren't there ({help_of})"
 
 
 def tree_of(program, options, folder):
@@ -222,6 +229,12 @@ class Results:
 
     def __init__(self):
         self.passed = self.failed = self.skipped = 0
+        self.rows = []
+
+    def tell_row(self, row):
+        """Prints a row at once, and again in the table at the end."""
+        self.rows.append(row)
+        print(row, flush=True)
 
     def compare(self, what, wanted, found):
         if isinstance(found, Found) and (found.code, found.output) == (wanted.code, wanted.output):
@@ -235,27 +248,41 @@ class Results:
 
     def skip(self, what, why):
         self.skipped += 1
-        print(f"skipped: {what}: {why}")
+        print(f"skipped: {what}: {why}", flush=True)
 
 
-def try_program(name, image_format, options, results, rows):
-    """Tries a program in a format, with each of its inputs."""
+class Unpacked(NamedTuple):
+    """A program, the folder of its sources, and one for what is made of them."""
+    name: str
+    tree: str
+    folder: str
+
+
+def try_format(place, image_format, native, options, results):
+    """Tries a program in a format, with each input of what it does natively."""
+    name, tree, _ = place
+    elf, image = built(*place, image_format, options)
+    if elf is None:
+        tell = results.skip if NO_ROOM in image else results.fail
+        return tell(f"{name}, format {image_format}", image.strip())
+    for given, wanted in native.items():
+        found = sandboxed(image, given_to(given, tree), options)
+        results.compare(f"{name}, {given}, format {image_format}", wanted, found)
+        if isinstance(found, Found):
+            results.tell_row(f"| {name}, {given} | {image_format} | {wanted.code}, {len(wanted.output):,} | {code_size(elf):,} | "
+                             f"{found.steps:,} | {found.seconds:.2f} |")
+    return None
+
+
+def try_program(name, options, results):
+    """Tries a program in each format that is wanted, beside one native program."""
     with tempfile.TemporaryDirectory() as folder:
         tree = tree_of(PROGRAMS[name], options, folder)
         if tree is None:
-            why = f"the sources of Debian's package {missing(PROGRAMS[name], options)} aren't there"
-            return results.skip(f"{name}, format {image_format}", why)
-        elf, image = built(name, tree, folder, image_format, options)
-        if elf is None:
-            tell = results.skip if NO_ROOM in image else results.fail
-            return tell(f"{name}, format {image_format}", image.strip())
-        for given, wanted in natively(name, tree, folder).items():
-            found = sandboxed(image, given_to(given, tree), options)
-            results.compare(f"{name}, {given}, format {image_format}", wanted, found)
-            if isinstance(found, Found):
-                rows.append(f"| {name}, {given} | {image_format} | {wanted.code}, {len(wanted.output):,} | {code_size(elf):,} | "
-                            f"{found.steps:,} | {found.seconds:.2f} |")
-                print(rows[-1], flush=True)
+            return results.skip(name, reason(missing(PROGRAMS[name], options)))
+        native = natively(name, tree, folder)
+        for image_format in options.format:
+            try_format(Unpacked(name, tree, folder), image_format, native, options, results)
     return None
 
 
@@ -278,12 +305,11 @@ def parsed(words):
 
 
 def main():
-    options, results, rows = parsed(sys.argv[1:]), Results(), []
+    options, results = parsed(sys.argv[1:]), Results()
     for name in options.names:
-        for image_format in options.format:
-            try_program(name, image_format, options, results, rows)
-    if rows:
-        print("\n".join(["", "| program, input | format | exit, bytes of output | bytes of code | steps | seconds |", "|---" * 6 + "|", *rows]))
+        try_program(name, options, results)
+    if results.rows:
+        print("\n".join(["", "| program, input | format | exit, bytes of output | bytes of code | steps | seconds |", "|---" * 6 + "|", *results.rows]))
     print(f"{results.passed} passed, {results.failed} failed" + (f", {results.skipped} skipped" if results.skipped else ""))
     return 1 if results.failed else 0
 
