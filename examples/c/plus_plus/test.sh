@@ -12,6 +12,7 @@ source ../../harness.sh
 
 options="-std=c++17 -Wall -Wextra -Werror"
 no_exceptions="sfi-cc: exceptions are those of --library c++, without -fno-exceptions and --movable"
+no_wide="--library c++ has streams of char alone, and no times and money of locales"
 
 # Exit code and output, which has standard error's at its place: so a native program, too, puts its output by lines.
 outcome() { # a command
@@ -57,6 +58,11 @@ else
     done
     try_refused "$no_exceptions" 'int main() { throw 1; }' -fno-exceptions
     try_refused "$no_exceptions" 'int main() { throw 1; }' --movable
-    try_refused "sfi-cc: std::cout: --library c++ has no streams and locales" $'#include <iostream>\nint main() { std::cout << 1; }'
+    for level in -O2 --debug; do
+        try_program streams $level -fexceptions empty prose
+    done
+    try_refused "sfi-cc: std::wcout: $no_wide" $'#include <iostream>\nint main() { std::wcout << 1; }'
+    try_refused "sfi-cc: std::time_put: $no_wide" \
+        $'#include <ctime>\n#include <iomanip>\n#include <iostream>\nint main() { std::tm tm{}; std::cout << std::put_time(&tm, "%Y"); }'
 fi
 finish

@@ -1,11 +1,12 @@
-"""C++'s library for sandboxes: GCC's libstdc++ over newlib, without threads, locales and streams, and GCC's unwinder. Its own
-configure and make make its headers; some of its files are compiled. In a program that catches nothing, what they throw ends it."""
+"""C++'s library for sandboxes: GCC's libstdc++ over newlib, without threads, with streams of char and the locale "C" alone, and
+GCC's unwinder. Its own configure and make make its headers; some of its files are compiled. In a program that catches nothing, what
+they throw ends it."""
 import glob
 import os
 import re
 import shutil
 import tempfile
-from typing import Iterable
+from typing import Iterable, NamedTuple, Sequence
 
 from suygapid.cc.compilers import GCC, WHOLE_PLUS_PLUS, WITH_FRAMES, key_of, ran, version
 from suygapid.elf.tools import binutil
@@ -26,25 +27,52 @@ CONFIGURED = [f"--host={MACHINE}", f"--target={MACHINE}", "--prefix=/", "--with-
     f"--disable-{name}" for name in ("multilib", "nls", "threads", "libstdcxx-threads", "shared", "libstdcxx-pch", "dependency-tracking",
                                      "libstdcxx-visibility", "libstdcxx-filesystem-ts", "libstdcxx-backtrace"))]
 INSTALLED = (("include", ["install"]), ("libsupc++", ["install-stdHEADERS", "install-bitsHEADERS"]))
-# The files of each folder that are compiled, and by which standard: as the folder's Makefile has it.
-SOURCES = {
-    ("libsupc++", "gnu++17"): "array_type_info bad_alloc bad_array_length bad_array_new bad_cast bad_typeid class_type_info "
-                              "del_op del_opa del_opant del_opnt del_ops del_opsa del_opv del_opva del_opvant del_opvnt del_opvs "
-                              "del_opvsa dyncast eh_alloc eh_aux_runtime eh_call eh_catch eh_exception eh_globals eh_personality "
-                              "eh_ptr eh_term_handler eh_terminate eh_throw eh_type eh_unex_handler enum_type_info "
-                              "function_type_info fundamental_type_info hash_bytes nested_exception new_handler new_op "
-                              "new_opa new_opv new_opva pbase_type_info pmem_type_info pointer_type_info pure si_class_type_info "
-                              "tinfo tinfo2 vmi_class_type_info",
-    ("src/c++98", "gnu++98"): "allocator-inst list stdexcept tree",
-    ("src/c++11", "gnu++11"): "cow-stdexcept cow-string-inst cxx11-stdexcept functexcept functional hash_c++0x hashtable_c++0x limits "
-                              "placeholders shared_ptr snprintf_lite string-inst system_error wstring-inst",
-    ("src/c++17", "gnu++17"): "string-inst",
-}
-OWN, OWN_STANDARD = ("ended", "nothrow", "terminating"), "gnu++17"  # of the files beside this one
+OF_PLUS_PLUS = ["-fno-implicit-templates"]
+OF_STREAMS = ["-include", "char_alone.h"]
+OF_STREAM_FILES = [*OF_PLUS_PLUS, *OF_STREAMS]
+
+
+class Sources(NamedTuple):
+    """Files of one of libstdc++'s folders that are compiled, and the standard and options for them."""
+    folder: str
+    standard: str
+    names: str
+    options: Sequence[str] = OF_PLUS_PLUS
+
+
+# By the standard that the folder's Makefile has.
+SOURCES = [
+    Sources("libsupc++", "gnu++17",
+            "array_type_info bad_alloc bad_array_length bad_array_new bad_cast bad_typeid class_type_info "
+            "del_op del_opa del_opant del_opnt del_ops del_opsa del_opv del_opva del_opvant del_opvnt del_opvs "
+            "del_opvsa dyncast eh_alloc eh_aux_runtime eh_call eh_catch eh_exception eh_globals eh_personality "
+            "eh_ptr eh_term_handler eh_terminate eh_throw eh_type eh_unex_handler enum_type_info "
+            "function_type_info fundamental_type_info hash_bytes nested_exception new_handler new_op "
+            "new_opa new_opv new_opva pbase_type_info pmem_type_info pointer_type_info pure si_class_type_info "
+            "tinfo tinfo2 vmi_class_type_info"),
+    Sources("src/c++98", "gnu++98", "allocator-inst list locale_facets stdexcept tree"),
+    Sources("src/c++98", "gnu++98", "codecvt globals_io ios_init ios_locale istream istream-string streambuf", OF_STREAM_FILES),
+    Sources("src/c++98", "gnu++11", "locale", OF_STREAM_FILES),
+    Sources("src/c++11", "gnu++11",
+            "cow-stdexcept cow-string-inst cxx11-stdexcept functexcept functional hash_c++0x hashtable_c++0x limits "
+            "placeholders regex shared_ptr snprintf_lite string-inst system_error wstring-inst"),
+    Sources("src/c++11", "gnu++11", "cxx11-ios_failure", ["-U__cpp_rtti"]),  # without the failures of another kind of std::string
+    Sources("src/c++11", "gnu++11",
+            "ctype fstream-inst ios ios-inst iostream-inst istream-inst ostream-inst sstream-inst streambuf-inst string-io-inst",
+            OF_STREAM_FILES),
+    Sources("src/c++17", "gnu++17", "ostream-inst", OF_STREAM_FILES),
+    Sources("src/c++17", "gnu++17", "string-inst"),
+    Sources("src/c++20", "gnu++20", "sstream-inst", OF_STREAM_FILES),
+    Sources("config/io", "gnu++98", "basic_file_stdio", OF_STREAM_FILES),
+    Sources("config/locale/generic", "gnu++98", "c_locale codecvt_members collate_members ctype_members numeric_members", OF_STREAMS),
+    Sources("config/os/newlib", "gnu++98", "ctype_configure_char", OF_STREAM_FILES),
+]
+# The files beside this one, and their options.
+OWN = {"classic": OF_STREAMS, "ended": [], "instances": OF_STREAMS, "nothrow": [], "terminating": []}
+OWN_STANDARD = "gnu++17"
 UNCAUGHT = "uncaught"  # the one for programs that catch nothing, and its folder
 UNWINDER = ("unwind-dw2", "frames")  # GCC's unwinder, and what finds frames for it
 OPTIONS = ["-w", WITH_FRAMES, WHOLE_PLUS_PLUS]
-OF_PLUS_PLUS = ["-fno-implicit-templates"]
 # What a compiler that builds libgcc has beside its options, and headers by what stands in them.
 OF_UNWINDER = ["-fbuilding-libgcc", "-DIN_LIBGCC2", "-include", "stddef.h", "-include", "stdlib.h", "-include", "string.h"]
 STUBS = {**dict.fromkeys(("tconfig.h", "coretypes.h", "libgcc_tm.h", "md-unwind-support.h"), ""),
@@ -54,18 +82,18 @@ STUBS = {**dict.fromkeys(("tconfig.h", "coretypes.h", "libgcc_tm.h", "md-unwind-
 THROWN = re.compile(rb"__gxx_personality_v0|__cxa_throw")  # what an object speaks of that catches exceptions, cleans up or throws
 NO_EXCEPTIONS = re.compile(rb"exception handling disabled|with exceptions disabled")  # what gcc and clang say of throw and try
 MISSING = re.compile(rb": fatal error: '?([a-z_]+)'?[: ]")  # a header without an ending that a compiler doesn't find
-STREAMS = re.compile(rb"undefined reference to `(std::(?:__cxx11::)?"
-                     rb"(?:locale|ios_base|c(?:in|out|err|log)|basic_[a-z]*(?:stream|buf|ios))\b)")
+STREAMS = re.compile(rb"undefined reference to `[^']*?\b(std::(?:__cxx11::)?"
+                     rb"(?:wc(?:in|out|err|log)\b|\w+(?=<wchar_t\b)|(?:time|money)\w*(?=<)|messages(?=<)))")
 
 
 def advice(told: bytes) -> bytes:
-    """A line for what a compiler or the linker complained of in C++: exceptions, a header of C++, or streams."""
+    """A line for what a compiler or the linker complained of in C++: exceptions, a header of C++, or streams that aren't there."""
     missing, stream = MISSING.search(told), STREAMS.search(told)
     if NO_EXCEPTIONS.search(told):
         return b"sfi-cc: exceptions are those of --library c++, without -fno-exceptions and --movable\n"
     if missing:
         return b"sfi-cc: " + missing[1] + b": the headers of C++ are those of --library c++\n"
-    return b"sfi-cc: " + stream[1] + b": --library c++ has no streams and locales\n" if stream else b""
+    return b"sfi-cc: " + stream[1] + b": --library c++ has streams of char alone, and no times and money of locales\n" if stream else b""
 
 
 def configured(tree: str, folder: str) -> None:
@@ -90,16 +118,17 @@ def headers_of(tree: str) -> str:
     return kept("plus_plus_headers", words, lambda folder: configured(tree, folder))
 
 
-def own(name: str) -> Job:
-    return os.path.join(GLUE, f"{name}.cc"), f"sandbox-{name}", [f"-std={OWN_STANDARD}"]
+def own(name: str, options: Iterable[str] = ()) -> Job:
+    return os.path.join(GLUE, f"{name}.cc"), f"sandbox-{name}", [f"-std={OWN_STANDARD}", *options]
 
 
 def jobs(tree: str) -> list[Job]:
     """The files of C++ to compile."""
-    found = [own(name) for name in OWN]
-    for (folder, standard), names in SOURCES.items():
-        found += [(f"{tree}/libstdc++-v3/{folder}/{name}.cc", f"{folder.replace('/', '-')}-{name}", [f"-std={standard}", *OF_PLUS_PLUS])
-                  for name in names.split()]
+    found = list(map(own, OWN, OWN.values()))
+    for sources in SOURCES:
+        folder, options = sources.folder, [f"-std={sources.standard}", *sources.options]
+        found += [(f"{tree}/libstdc++-v3/{folder}/{name}.cc", f"{folder.replace('/', '-')}-{name}", options)
+                  for name in sources.names.split()]
     return found
 
 
@@ -151,6 +180,6 @@ def folder_of(compiler: str) -> str:
         with open(path, encoding="utf-8") as file:
             glue.append(file.read())
     words = [*key_of(compiler), version(GCC), identity(GCC_SOURCE.path()), *glue, *PARTS, *CONFIGURED, str(INSTALLED), str(SOURCES),
-             OWN_STANDARD, *OPTIONS, *OF_PLUS_PLUS, *OF_UNWINDER, str(STUBS), os.path.basename(newlib.folder_of(compiler))]
+             str(OWN), OWN_STANDARD, *OPTIONS, *OF_UNWINDER, str(STUBS), os.path.basename(newlib.folder_of(compiler))]
     return kept("plus_plus", words, lambda folder: compile_all(compiler, folder),
                 "libstdc++ is compiled and converted, which takes some minutes; it is kept")
