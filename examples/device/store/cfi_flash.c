@@ -1,6 +1,8 @@
 /* The second flash of QEMU's `virt`: two chips of 16 bits side by side, with Intel's commands (JEDEC's Common Flash Interface,
    command set 1), so each command stands in both halves of a word. Its content outlives a reset. */
-#include "firmware.h"
+#include "cfi_flash.h"
+#include "bytes.h"
+#include "sfi_device.h"
 
 enum { FLASH = 0x22000000, SECTOR = 0x40000, FLASH_PAGE = 64 };
 enum { READ_ARRAY = 0x00ff00ff, PROGRAM = 0x00400040, ERASE = 0x00200020, CONFIRM = 0x00d000d0, READY = 0x00800080 };

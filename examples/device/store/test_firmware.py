@@ -1,5 +1,5 @@
 """Runs a firmware with a store on QEMU's `virt`, whose flash chips keep their bytes at a reset, and cuts its power at chosen writes.
-CHECKER in the environment, or ../out/checker.o if it is there, judges each version on the device."""
+The checker (checker.py) judges each version on the device."""
 import ctypes
 import hashlib
 import itertools
@@ -12,10 +12,10 @@ import tempfile
 import unittest
 
 sys.dont_write_bytecode = True
+import checker
 import walk
 
 HERE = pathlib.Path(__file__).resolve().parent
-CHECKER = pathlib.Path(os.environ.get("CHECKER", HERE.parent / "out" / "checker.o"))
 INBOX = 0x80300000  # of firmware.c
 CODE, DATA, DATA_SIZE = "0x80100000", "0x80402000", "256"
 EXITS = "exit: gate\n li a0, 0\n jal x1, exit"
@@ -61,13 +61,13 @@ class Firmware(unittest.TestCase):
         self.addCleanup(room.cleanup)
         self.room = room.name
 
-    def run_firmware(self, checker, images):
+    def run_firmware(self, judge, images):
         """The lines of all passages."""
-        subprocess.run(["make", "-s", "-C", HERE, f"OUT={self.room}/out", f"CHECKER={checker}"], check=True, stdout=subprocess.PIPE)
+        subprocess.run(["make", "-s", "-C", HERE, f"OUT={self.room}/out", f"CHECKER={judge}"], check=True, stdout=subprocess.PIPE)
         sent = pathlib.Path(self.room, "inbox")
         sent.write_bytes(inbox(images))
         command = ["qemu-system-riscv32", "-M", "virt", "-bios", "none", "-display", "none", "-monitor", "none", "-serial", "stdio",
-                   "-kernel", f"{self.room}/out/{'checked' if checker else 'unchecked'}",
+                   "-kernel", f"{self.room}/out/{'checked' if judge else 'unchecked'}",
                    "-device", f"loader,file={sent},addr={INBOX:#x},force-raw=on"]
         lines = []
         with subprocess.Popen(["timeout", str(SECONDS), *command], stdout=subprocess.PIPE, stdin=subprocess.DEVNULL,
@@ -79,9 +79,9 @@ class Firmware(unittest.TestCase):
                     qemu.terminate()
         return lines
 
-    def passages(self, checker, images, wanted, counter):
+    def passages(self, judge, images, wanted, counter):
         """In each passage the versions run in this order, each once or more often, and the counter ends at this number."""
-        *lines, status = self.run_firmware(checker, images)
+        *lines, status = self.run_firmware(judge, images)
         self.assertEqual(status, "status 0", lines[-1:])
         self.assertGreater(len(lines), 40)
         for number, line in enumerate(lines):
@@ -93,10 +93,9 @@ class Firmware(unittest.TestCase):
         """The first two versions work, and the third traps."""
         self.passages("", [image_of(self.room, it) for it in (EXITS, EXITS, TRAPS)], "1,2,3,2", 2)
 
-    @unittest.skipUnless(CHECKER.is_file(), f"{CHECKER} isn't there: device/checker.sh makes it")
     def test_cuts_where_versions_are_judged(self):
         """The second version isn't accepted, and the third works."""
-        self.passages(CHECKER, [image_of(self.room, it) for it in (EXITS, REFUSED, EXITS)], "1,2,1,3", 3)
+        self.passages(checker.made(), [image_of(self.room, it) for it in (EXITS, REFUSED, EXITS)], "1,2,1,3", 3)
 
 
 if __name__ == "__main__":
