@@ -1,6 +1,6 @@
 //! The declarations of sfi_device.h and sfi_device_store.h, which say what each is. tests/layouts.rs compares them.
 #![allow(missing_docs)]
-use core::ffi::{c_char, c_void};
+use core::ffi::c_void;
 
 macro_rules! numbers {
     ($name:ident: $($variant:ident = $number:literal),*) => {
@@ -26,7 +26,11 @@ macro_rules! structs {
         /// The size of each structure, and where its fields are.
         pub fn layouts(mut each: impl FnMut(&str, &str, usize)) {
             $(each(stringify!($name), "", core::mem::size_of::<$name>());
-            $(each(stringify!($name), stringify!($field), core::mem::offset_of!($name, $field));)*)*
+            $(each(stringify!($name), stringify!($field), {
+                let it = core::mem::MaybeUninit::<$name>::uninit();
+                // SAFETY: nothing is read.
+                unsafe { core::ptr::addr_of!((*it.as_ptr()).$field) as usize - it.as_ptr() as usize }
+            });)*)*
         }
     };
 }
@@ -44,7 +48,7 @@ structs! {
         last_gate: *const Gate,
         last_gate_number: u32 }
     Sandbox {
-        part: Part, frame: Frame, state: State, exit_code: u32, trap: *const c_char, trap_address: u32, steps: u64,
+        part: Part, frame: Frame, state: State, exit_code: u32, trap: *const u8, trap_address: u32, steps: u64,
     }
     Call { service: u32, a0: u32, a1: u32 }
     Firmware {
@@ -93,6 +97,8 @@ extern "C" {
     pub fn sfi_device_own_bytes(sandbox: *const Sandbox, address: u32, length: u32) -> *mut u8;
     pub fn sfi_device_close_guards(number: u32, part: *const Part) -> Fault;
     pub fn sfi_device_write_protection() -> Fault;
+    pub fn sfi_device_try_guards(firmware: *const Firmware, part: *const Part) -> Fault;
+    pub fn sfi_device_are_apart(one: *const Part, other: *const Part) -> bool;
     pub fn sfi_device_store_open(store: *mut Store) -> StoreStatus;
     pub fn sfi_device_store_choose(store: *mut Store, area: *mut u32) -> StoreStatus;
     pub fn sfi_device_store_keep(store: *mut Store) -> StoreStatus;

@@ -2,10 +2,11 @@
 //! keeps the versions of a plug-in in flash. The headers of the folder above say what each call does; docs/DEVICE.md, what the
 //! firmware owes the theorem. The firmware links libsfi_device.a: `RUSTFLAGS="-L native=FOLDER"`.
 #![no_std]
+#![deny(missing_docs, unsafe_op_in_unsafe_fn)]
 pub mod ffi;
 mod sandbox;
 mod store;
 
 pub use ffi::{Call, Claim, Outcome, Part, State, Status, StoreStatus, Verdict};
-pub use sandbox::{check, Accepted, Caller, Firmware, Refused, Sandbox, Service};
+pub use sandbox::{check, check_between, Accepted, Caller, Firmware, Refused, Sandbox, Service};
 pub use store::{digest, Device, Setup, Store};

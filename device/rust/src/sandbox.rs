@@ -23,12 +23,23 @@ fn length_of(bytes: &[u8]) -> u32 {
     u32::try_from(bytes.len()).unwrap_or(u32::MAX)
 }
 
+unsafe extern "C" fn between<F: FnMut()>(host: *mut c_void) {
+    // SAFETY: `check_between` has the library call it, with its function, which nothing else borrows then.
+    unsafe { (*host.cast::<F>())() }
+}
+
 /// Judges an image where it lies.
 pub fn check(image: &[u8]) -> Result<Accepted<'_>, Refused> {
+    check_between(image, || ())
+}
+
+/// Judges an image in pieces, and calls a function after each: in it sandboxes of other images may have turns.
+pub fn check_between<F: FnMut()>(image: &[u8], mut between_pieces: F) -> Result<Accepted<'_>, Refused> {
     let mut verdict = MaybeUninit::<Verdict>::zeroed();
+    let host = ptr::addr_of_mut!(between_pieces).cast();
     // SAFETY: the slice can be read, and zeros are a verdict.
     let (status, verdict) = unsafe {
-        let status = ffi::sfi_device_check(image.as_ptr(), length_of(image), None, ptr::null_mut(), verdict.as_mut_ptr());
+        let status = ffi::sfi_device_check(image.as_ptr(), length_of(image), Some(between::<F>), host, verdict.as_mut_ptr());
         (status, verdict.assume_init())
     };
     match status {
@@ -106,11 +117,20 @@ impl<'host, H> Firmware<'host, H> {
         let raw = ffi::Firmware {
             services: services.as_ptr(),
             service_count: length_in(services),
-            host: ptr::from_mut(host).cast(),
+            host: (host as *mut H).cast(),
             interrupt_after: Some(interrupt_after),
             answer_interrupt,
         };
         Firmware { raw, host: PhantomData }
+    }
+
+    /// Tries that loads in the part's guard zones trap, and none in its data.
+    ///
+    /// # Safety
+    /// As of `Sandbox::turn`, before any interrupt but the timer's is on.
+    pub unsafe fn try_guards(&mut self, part: &Part) -> Status {
+        // SAFETY: as the caller says.
+        unsafe { ffi::sfi_device_try_guards(&self.raw, part).status }
     }
 }
 

@@ -112,7 +112,7 @@ impl<D: Device> Store<D> {
     /// A call of the library. The store may have moved since the last.
     fn call(&mut self, call: impl FnOnce(*mut ffi::Store) -> StoreStatus) -> StoreStatus {
         self.raw.flash = &self.flash;
-        self.raw.host = ptr::from_mut(&mut self.device).cast();
+        self.raw.host = ptr::addr_of_mut!(self.device).cast();
         call(&mut self.raw)
     }
 
@@ -121,6 +121,16 @@ impl<D: Device> Store<D> {
         let mut area = 0;
         done(self.call(|raw| unsafe { ffi::sfi_device_store_choose(raw, &mut area) }))?;
         Ok(area)
+    }
+
+    /// What the vendor said of an area's version: its length, say.
+    pub fn claim(&self, area: u32) -> Claim {
+        self.raw.record.versions[area as usize].claim
+    }
+
+    /// The device, to read an image.
+    pub fn device(&mut self) -> &mut D {
+        &mut self.device
     }
 
     /// The chosen version works.

@@ -76,6 +76,10 @@ fn a_version_that_is_not_kept_gives_way() {
     assert_eq!(store.choose(), Err(StoreStatus::NoVersion));
     update(&mut store, 1, &[1; 700]).unwrap();
     let first = store.choose().unwrap();
+    let (claimed, mut image) = (store.claim(first), [0; 700]);
+    assert_eq!((claimed.sequence, claimed.length), (1, 700));
+    assert!(store.device().read(SETUP.areas[first as usize], &mut image));
+    assert_eq!(image, [1; 700]);
     store.keep().unwrap();
     assert_eq!(update(&mut store, 1, &[2; 700]), Err(StoreStatus::TooOld));
     let (forged, signature) = (claim(2, &[2; 700]).0, [0; 64]);

@@ -2,7 +2,7 @@ OUTPUT_ARCH(riscv)
 ENTRY(start)
 SECTIONS {
     . = 0x80000000;
-    .text : { *(.init) *(.text .text.*) *(.rodata .rodata.* .srodata .srodata.*) *(.data .data.* .sdata .sdata.*) }
+    .text : { KEEP(*(.init)) *(.text .text.*) *(.rodata .rodata.* .srodata .srodata.*) *(.data .data.* .sdata .sdata.*) }
     .bss (NOLOAD) : ALIGN(16) { bss_start = .; *(.bss .bss.* .sbss .sbss.* COMMON) . = ALIGN(16); bss_end = .; }
     . += 0x8000;
     stack_top = .;

@@ -14,11 +14,12 @@ import unittest
 
 sys.dont_write_bytecode = True
 HERE = pathlib.Path(__file__).resolve().parent
-sys.path.append(str(HERE.parent / "store"))
+TOP = HERE.parents[2]
+sys.path += [str(HERE.parent / "store"), str(TOP / "examples" / "rust")]
 import checker
+import rust_target
 import walk
 
-TOP = HERE.parents[2]
 SFI = pathlib.Path(os.environ.get("SFI", TOP / "crates" / "sfi" / "out" / "sfi"))
 FLASH_SIZE = 1 << 25
 PLACES = ("80100000:80404000", "80110000:80408000")     # of board.h, and so are these
@@ -80,13 +81,18 @@ def of(plugin, lines):
 class Firmwares(unittest.TestCase):
     language = "c"
 
+    @staticmethod
+    def compiler():
+        """Words of make."""
+        return []
+
     @classmethod
     def setUpClass(cls):
         room = tempfile.TemporaryDirectory()
         cls.addClassCleanup(room.cleanup)
         cls.room = pathlib.Path(room.name)
-        subprocess.run(["make", "-s", "-C", HERE, f"OUT={cls.room}", f"CHECKER={checker.made()}", cls.language], check=True,
-                       stdout=subprocess.PIPE)
+        subprocess.run(["make", "-s", "-C", HERE, f"OUT={cls.room}", f"CHECKER={checker.made()}", *cls.compiler(), cls.language],
+                       check=True, stdout=subprocess.PIPE)
 
     def setUp(self):
         with open(self.room / "flash", "wb") as file:
@@ -160,6 +166,18 @@ class Firmwares(unittest.TestCase):
 
 class FirmwaresInCpp(Firmwares):
     language = "cpp"
+
+
+class FirmwaresInRust(Firmwares):
+    language = "rust"
+
+    @staticmethod
+    def compiler():
+        try:
+            tools = rust_target.toolchain()
+        except rust_target.Failed as why:
+            raise unittest.SkipTest(str(why)) from why
+        return [f"RUSTC={tools.rustc}", f"SYSROOT={rust_target.sysroot_of(tools)}"]
 
 
 if __name__ == "__main__":
