@@ -41,11 +41,11 @@ label_far registers code rest bytes labels to left all end measured all_is end_i
 -- a line's bytes, by the numbers that it is written with
 pub line_placed : (registers : RegisterMap) (code rest : List Line) (line : Line) (old : List ℕ) (size n all end : ℕ) → all ≡ size_of_all registers code → AreLast code (line ∷ rest) → length old ≡ start registers code (line ∷ rest)
     → size ≡ size_of registers line → end ≡ length old + size → (end ≡ start registers code rest → (to : ℕ) → target_of line ≡ Some to → n ≡ distances registers code rest to)
-    → old ++ spellings (line_code registers (λ to. n) (distance end ((all + 5) % 2 ^ 32)) line) ≡ old ++ spellings (placed registers code rest line)
+    → old ++ spellings (line_code registers (λ to. n) (distance end ((all + 47) % 2 ^ 32)) line) ≡ old ++ spellings (placed registers code rest line)
 line_placed registers code rest line old size n all end all_is last old_is size_is end_is far =
     let here : end ≡ start registers code rest = omega (arith, end_is, old_is, size_is, last_below registers code (line ∷ rest) last) in
-    let out : distance end ((all + 5) % 2 ^ 32) ≡ distance_out registers code rest = ap (λ x. distance x ((all + 5) % 2 ^ 32)) here ∙ ap (λ x. distance (start registers code rest) ((x + 5) % 2 ^ 32)) all_is ∙ omega arith in
-    ap (λ is. old ++ spellings is) (line_same registers (distances registers code rest) n (distance end ((all + 5) % 2 ^ 32)) line (far here) ∙ ap (λ x. line_code registers (distances registers code rest) x line) out)
+    let out : distance end ((all + 47) % 2 ^ 32) ≡ distance_out registers code rest = ap (λ x. distance x ((all + 47) % 2 ^ 32)) here ∙ ap (λ x. distance (start registers code rest) ((x + 47) % 2 ^ 32)) all_is ∙ omega arith in
+    ap (λ is. old ++ spellings is) (line_same registers (distances registers code rest) n (distance end ((all + 47) % 2 ^ 32)) line (far here) ∙ ap (λ x. line_code registers (distances registers code rest) x line) out)
 
 -- A line behind those before it.
 pub next_placed : (registers : RegisterMap) (code rest : List Line) (line : Line) (out more all_bytes : List ℕ) → AreLast code (line ∷ rest) → out ++ spellings (code_of registers code (line ∷ rest)) ≡ all_bytes

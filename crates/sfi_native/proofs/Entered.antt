@@ -23,7 +23,7 @@ of_label registers code to left all (Some rest) is e all_is few =
     omega (arith, last_below registers code rest (label_last to code rest is), same, all_is, few)
 
 of_none : (registers : RegisterMap) (code : List Line) (all : ℕ) (o : Option (List Line)) → option_map (size_of_all registers) o ≡ None → all ≡ size_of_all registers code → size_of_all registers code < 2 ^ 31
-    → (all + 5) % 2 ^ 32 ≡ entry_of registers code o
+    → (all + 47) % 2 ^ 32 ≡ entry_of registers code o
 of_none registers code all None e all_is few = omega (arith, all_is, few)
 of_none registers code all (Some rest) e all_is few = absurd (cc)
 
@@ -34,7 +34,7 @@ entered registers code bytes labels to left all measured all_is held = of_label 
 
 -- and the way out, where there is none
 pub not_entered : (registers : RegisterMap) (code : List Line) (bytes : List ℕ) (labels : BTreeMap ℕ ℕ) (to all : ℕ) → AreMeasured registers code bytes labels → all ≡ size_of_all registers code → get nat_cmp labels to ≡ None
-    → (all + 5) % 2 ^ 32 ≡ entry_of registers code (label to code)
+    → (all + 47) % 2 ^ 32 ≡ entry_of registers code (label to code)
 not_entered registers code bytes labels to all measured all_is held = of_none registers code all (label to code) (sym (measured.left to) ∙ held) all_is measured.few
 
 -- each place of a table is that of its unit

@@ -14,7 +14,7 @@ use Rattle.sfi_native.proofs.Lines as lines
 use Rattle.sfi_native.proofs.Loads as loads
 use Rattle.sfi_native.proofs.Placed as placed
 use Rattle.sfi_native.proofs.Places as places
-use Rattle.sfi_native.proofs.Sizes as sizes
+use Rattle.sfi_native.proofs.CodeSizes as sizes
 use Rattle.sfi_native.proofs.Served as served
 use Rattle.sfi_native.proofs.Steps as steps
 use Rattle.sfi_native.proofs.Table as table

@@ -14,7 +14,7 @@ use Rattle.x86_instr.specs.declared.operand.Register.TheVariants.{Rdx}
 use Rattle.x86_instr.specs.declared.operand.Operand.TheVariants.{Reg}
 use Rattle.x86_instr.specs.declared.instr.AluOp.TheVariants as alu
 use Rattle.x86_instr.specs.declared.instr.Width.TheVariants.{Dword}
-use Rattle.x86_instr.specs.declared.instr.Instr.TheVariants.{AluImm}
+use Rattle.x86_instr.specs.declared.instr.Instr.TheVariants.{AluImm, Jmp}
 use Rattle.x86_step.specs.State.{Core, IsFixed, Text, with_flags, with_register}
 use Rattle.x86_step.specs.Step.{Reaches, is_canonical, jumped, logical, low, sum}
 unfoldable use Rattle.x86_step.specs.Step.{computes}
@@ -35,7 +35,7 @@ use Rattle.sfi_native.proofs.Fetching.{fetched, related_kept}
 use Rattle.sfi_native.proofs.Kept.{Kept, kept_join, kept_register, kept_result, others_join, others_kept}
 use Rattle.sfi_native.proofs.Lines.{number_written}
 use Rattle.sfi_native.proofs.Lists.{enter_bytes, start_bytes}
-use Rattle.sfi_native.proofs.Runs.{back_fixed, back_stands, end_append, runs_join, straight_runs, then_reaches}
+use Rattle.sfi_native.proofs.Runs.{end_append, jal_effect, jumps_to, runs_join, straight_runs}
 use Rattle.sfi_native.proofs.Table.{table_kept, table_stays}
 use Rattle.sfi_native.proofs.Lengths.{jalr_front_few}
 
@@ -160,7 +160,7 @@ module _ (p : Part) (l : Layout) (layout : IsLayout p.data_size l) (base : ℕ) 
 
 pub jalr_lines_run : JalrLinesRun
 unfolding InRange computes
-jalr_lines_run target p code rest address size rd rs1 imm distance base l t at g c range few ahead canonical in_reach lie has here =
+jalr_lines_run target p code rest address size rd rs1 imm distance base shared l t at g c range few arrives near stands canonical in_reach lie has here =
     let v = address_after address size in
     let to = even_of (offset_by (value p g rs1) imm) in
     let left = one_less g.left in
@@ -177,17 +177,16 @@ jalr_lines_run target p code rest address size rd rs1 imm distance base l t at g
     let runs = runs_join (target_code l.registers rs1 (word imm)) (number_code l.registers rd v ++ count) c k last.core target_runs count_runs in
     let edx : last.core.registers 2 ≡ to = last.others 2 (λ e. omega (arith, e)) ∙ number.1 ∙ first.edx in
     let stay = others_join p l c k last.core (others_kept p l c k first.kept) (others_join p l k w.core last.core w.others last.stay) in
-    let from = end_of at front in
-    let end : end_of from (indirect_jump distance) ≡ end_of at (jalr_line l.registers rd rs1 (word imm) v distance) = end_append at front (indirect_jump distance) in
-    let it = goes_on p l here.layout base code lie t here.text_is_low in_reach _ few last.core last.related (table_stays p l here.layout base code c last.core stay has) to edx (target_fits (value p g rs1) imm) from distance ahead
-    (back_fixed t at front (indirect_jump distance) c last.core here.text_is_fixed here.text_is_low here.stands runs)
-    (back_stands t at front (indirect_jump distance) c last.core here.text_is_fixed here.text_is_low here.stands runs)
-    (ap (λ a. is_canonical (jumped a distance)) end ∙ canonical) in (
+    let end = end_of at (jalr_line l.registers rd rs1 (word imm) v distance) in
+    let jump = jumps_to t at front (Jmp distance) c last.core here.text_is_fixed here.text_is_low here.stands runs (jumped end distance)
+    (λ after e. jal_effect distance after end last.core e (ap is_canonical arrives ∙ near)) in
+    let jumps : Reaches t (length front + 1) (record { rip = at; core = c }) (record { rip = shared; core = last.core }) =
+    subst (λ a. Reaches t (length front + 1) (record { rip = at; core = c }) (record { rip = a; core = last.core })) arrives jump in
+    let it = goes_on p l here.layout base code lie t here.text_is_low in_reach _ few last.core last.related (table_stays p l here.layout base code c last.core stay has) to edx (target_fits (value p g rs1) imm) shared 0 (omega arith)
+    (fixed_stays t _ _ _ jumps) stands canonical in (
       record {
         after = it.after;
-        reached = in_more t (length front + 10) line_most _ _ (omega (arith, jalr_front_few l.registers rd rs1 (word imm) v)) (then_reaches t at front (indirect_jump distance) c last.core here.text_is_fixed here.text_is_low here.stands runs 10
-            (record { rip = jalr_place l.registers p code base (end_of at (jalr_line l.registers rd rs1 (word imm) v distance)) distance to left; core = it.after })
-            (subst (λ a. Reaches t 10 (record { rip = from; core = last.core }) (record { rip = jalr_place l.registers p code base a distance to left; core = it.after })) end it.reached));
+        reached = in_more t (length front + 1 + 10) line_most _ _ (omega (arith, jalr_front_few l.registers rd rs1 (word imm) v)) (steps_join t (length front + 1) 10 _ _ _ jumps it.reached);
         related = related_kept p l here.layout _ last.core it.after last.related it.kept;
         others = others_join p l c last.core it.after stay (others_kept p l last.core it.after it.kept);
       },

@@ -8,6 +8,7 @@ pub mod Kept
 pub mod Assigned
 pub mod Places
 pub mod Sizes
+pub mod CodeSizes
 pub mod Divisions
 pub mod Computing
 pub mod Fetching

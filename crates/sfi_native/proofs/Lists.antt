@@ -22,7 +22,7 @@ use Rattle.sfi_native.specs.declared.registers.RegisterMap.{RegisterMap}
 use Rattle.sfi_native.specs.Places.{code_of, whole_code}
 use Rattle.sfi_native.specs.declared.jump.Jump.{Jump}
 use Rattle.sfi_native.specs.Registers.{assigned}
-use Rattle.sfi_native.specs.Code.{avoid_minus_one, avoid_zero, branch_line, bring, combine, ecx_code, operand_of, place_code, read, register_or, result_in, settle, compare_code, compare_divisor, compute, compute_imm, count, data_address, divide_by_one, divide_signed, divide_unsigned, end_code, enter_code, enter_size, fetch, head_line, imm_code, indirect_jump, has_test, jal_line, jalr_line, jump_size, load_code, load_from, load_line, number_code, opposite, remainder, slot, start_code, start_size, steps_code, store_line, store_to, test_code, target_code, test_divisor, tested_jump, write}
+use Rattle.sfi_native.specs.Code.{avoid_minus_one, avoid_zero, branch_line, bring, combine, ecx_code, operand_of, place_code, read, register_or, result_in, settle, compare_code, compare_divisor, compute, compute_imm, count, data_address, divide_by_one, divide_signed, divide_unsigned, end_code, enter_code, enter_size, fetch, head_line, imm_code, indirect_jump, indirect_jump_size, has_test, jal_line, jalr_line, jump_size, load_code, load_from, load_line, number_code, opposite, remainder, slot, start_code, start_size, steps_code, store_line, store_to, test_code, target_code, test_divisor, tested_jump, write}
 
 pub no_part : (old : List ℕ) → old ≡ old ++ spellings []
 no_part old = sym (append-nil old)
@@ -75,7 +75,7 @@ pub start_bytes : (distance : ℕ) → length (spellings (start_code distance)) 
 unfolding spelling rex memory
 start_bytes distance = refl
 
-pub indirect_size : (distance : ℕ) → length (spellings (indirect_jump distance)) ≡ 37
+pub indirect_size : (distance : ℕ) → length (spellings (indirect_jump distance)) ≡ indirect_jump_size
 unfolding spelling rex memory
 indirect_size distance = refl
 
@@ -115,10 +115,10 @@ pub indirect_parts : (old : List ℕ) (distance : ℕ)
 indirect_parts old distance = three_parts old (steps_code distance) (start_code distance) enter_code
 
 pub jalr_parts : (registers : RegisterMap) (old : List ℕ) (rd rs1 displacement next distance : ℕ)
-    → (((old ++ spellings (target_code registers rs1 displacement)) ++ spellings (number_code registers rd next)) ++ spellings count) ++ spellings (indirect_jump distance) ≡ old ++ spellings (jalr_line registers rd rs1 displacement next distance)
+    → (((old ++ spellings (target_code registers rs1 displacement)) ++ spellings (number_code registers rd next)) ++ spellings count) ++ spellings (Jmp distance ∷ []) ≡ old ++ spellings (jalr_line registers rd rs1 displacement next distance)
 jalr_parts registers old rd rs1 displacement next distance =
-    ap (λ x. x ++ spellings (indirect_jump distance)) (three_parts old (target_code registers rs1 displacement) (number_code registers rd next) count)
-    ∙ two_parts old (target_code registers rs1 displacement ++ (number_code registers rd next ++ count)) (indirect_jump distance)
+    ap (λ x. x ++ spellings (Jmp distance ∷ [])) (three_parts old (target_code registers rs1 displacement) (number_code registers rd next) count)
+    ∙ two_parts old (target_code registers rs1 displacement ++ (number_code registers rd next ++ count)) (Jmp distance ∷ [])
 
 pub whole_parts : (registers : RegisterMap) (code : List Line) (end : ℕ) → spellings (code_of registers code code) ++ spellings (end_code end) ≡ spellings (whole_code registers end code)
 whole_parts registers code end = sym (spellings_append (code_of registers code code) (end_code end))

@@ -12,13 +12,12 @@ use Rattle.sfi_formats.specs.Formats.{unit}
 use Rattle.sfi_image.specs.Spelling.{Part}
 use Rattle.sfi_translate.specs.Lines.{Line, Function, End, Entry, Head, Does}
 use Rattle.sfi_translate.specs.Machine.{Assembly, Before, ControlPoint, Going, Loop, fixed, Slow, at_head, enters, goes, goes_with, is_short, jumps, label, line_step, one_less}
-use Rattle.x86_step.specs.State.{Core, Fixup, Machine, Text, with_register}
+use Rattle.x86_step.specs.State.{Core, Fixup, Machine, Text}
 use Rattle.x86_instr.specs.declared.instr.Instr.{Instr as Native}
 use Rattle.x86_instr.specs.declared.instr.Instr.TheVariants.{Jcc}
 use Rattle.x86_instr.specs.declared.instr.Width.TheVariants.{Dword}
 use Rattle.x86_step.proofs.Running.{has_back, has_front, spellings_append, in_more, stays}
 unfoldable use Rattle.x86_instr.specs.Spelling.{rex, spelling}
-unfoldable use Rattle.x86_step.specs.Step.{computes}
 use Rattle.x86_step.specs.Step.{low, Reaches, is_canonical, jumped}
 use Rattle.x86_step.specs.Running.{HasAt, spellings}
 use Rattle.sfi_native.specs.declared.registers.RegisterMap.{RegisterMap}
@@ -31,26 +30,31 @@ use Rattle.sfi_native.specs.Faults.{HasFixups, access_in, front_of}
 use Rattle.sfi_native.specs.declared.faults.Access.{Access}
 use Rattle.sfi_native.proofs.Fixups.{access_found, access_offset, within_line}
 use Rattle.sfi_native.proofs.Guarding.{faulting_lines_run}
-use Rattle.sfi_native.specs.Places.{AreLast, IsAt, IsAtPlace, code_of, distance_out, distances, end_address, exit_of, jump_of, placed, size_of, size_of_all, start, start_or_end, whole_code}
-use Rattle.sfi_native.specs.Code.{branch_line, compare_code, count, end_code, end_size, enter_size, has_test, head_line, indirect_jump, jal_line, jalr_line, jump_size, leave_line, number_code, opposite, start_size, target_code, tested_jump, unless}
+use Rattle.sfi_native.specs.Places.{AreLast, IsAt, IsAtPlace, code_of, distance_out, distances, end_address, exit_of, jump_of, placed, shared_jump, size_of, size_of_all, start, start_or_end, whole_code}
+use Rattle.sfi_native.specs.Code.{branch_line, compare_code, count, end_code, end_size, has_test, head_line, indirect_jump, indirect_jump_size, jal_line, jump_size, leave_line, leave_size, number_code, opposite, tested_jump, unless}
 use Rattle.sfi_native.proofs.Heads.{Tests, head_tests, leaves}
 use Rattle.sfi_native.proofs.Indirect.{jalr_lines_run}
 use Rattle.sfi_native.proofs.Jumps.{branch_lines_run, jal_lines_run}
-use Rattle.sfi_native.proofs.Kept.{kept_register, others_kept, others_same}
+use Rattle.sfi_native.proofs.Kept.{others_kept, others_same}
 use Rattle.sfi_native.proofs.Fetching.{related_goes, related_kept}
 use Rattle.sfi_native.proofs.Lists.{indirect_size, tested_size}
 use Rattle.sfi_native.proofs.Lines.{computing_lines_run}
 use Rattle.sfi_native.proofs.Loads.{load_lines_run}
-use Rattle.sfi_native.proofs.Places.{code_size, label_canonical, exit_reached, label_last, label_reached, last_below, line_size, line_ends, line_stands}
-use Rattle.sfi_native.proofs.Runs.{bytes_end, low_canonical, straight_runs}
+use Rattle.sfi_native.proofs.Places.{code_size, label_canonical, exit_reached, label_last, label_reached, shared_reached, last_below, line_size, line_ends, line_stands}
+use Rattle.sfi_native.proofs.Runs.{bytes_end, low_canonical}
 use Rattle.sfi_native.proofs.Stores.{store_lines_run}
 use Rattle.sfi_native.proofs.Arriving.{same_lines, jump_at, entered_at, of_done, not_before, not_slow, is_jump_line, slow_result, no_loop, tail_last}
 
 -- ==== A line.
 
-end_length : (n : ℕ) → length (spellings (end_code n)) ≡ end_size
+leave_length : (at distance : ℕ) → length (spellings (leave_line at distance)) ≡ leave_size
 unfolding spelling rex
-end_length n = refl
+leave_length at distance = refl
+
+end_length : (at : ℕ) → length (spellings (end_code at)) ≡ end_size
+end_length at =
+    let line = leave_line at indirect_jump_size in
+    omega (arith, leave_length at indirect_jump_size, indirect_size 0, ap length (spellings_append line (indirect_jump 0)), length-append (spellings line) (spellings (indirect_jump 0)))
 
 long_behind : (front back : List Native) → jump_size ≤ length (spellings back) → jump_size ≤ length (spellings (front ++ back))
 long_behind front back long = omega (arith, long, ap length (spellings_append front back), length-append (spellings front) (spellings back))
@@ -64,11 +68,6 @@ tested_long j = elim (cases_Bool (has_test j)) [
 branch_long : (registers : RegisterMap) (cond : Cond) (rs1 rs2 : ℕ) (j : Jump) → jump_size ≤ length (spellings (branch_line registers cond rs1 rs2 j))
 branch_long registers cond rs1 rs2 j =
     long_behind (compare_code registers rs1 rs2) (unless (opposite cond) (tested_jump j)) (long_behind (Jcc (opposite cond) (length (spellings (tested_jump j))) ∷ []) (tested_jump j) (tested_long j))
-
-jalr_long : (registers : RegisterMap) (rd rs1 displacement next distance : ℕ) → start_size + enter_size ≤ length (spellings (jalr_line registers rd rs1 displacement next distance))
-jalr_long registers rd rs1 displacement next distance =
-    let front = target_code registers rs1 displacement ++ (number_code registers rd next ++ count) in
-    omega (arith, indirect_size distance, ap length (spellings_append front (indirect_jump distance)), length-append (spellings front) (spellings (indirect_jump distance)))
 
 jal_long : (registers : RegisterMap) (rd next : ℕ) (j : Jump) → jump_size ≤ length (spellings (jal_line registers rd next j))
 jal_long registers rd next j = long_behind (number_code registers rd next ++ count) (tested_jump j) (tested_long j)
@@ -87,6 +86,26 @@ module _ (p : Part) (code rest to : List Line) (l : Layout) (t : Text) (base : �
   parts : HasAt t base (spellings (code_of l.registers code code) ++ spellings (end_code (end_address p)))
   parts = subst (λ bytes. HasAt t base bytes) (spellings_append (code_of l.registers code code) (end_code (end_address p))) here.stands
 
+  -- the end's code, which begins there
+  abbrev behind : ℕ
+  behind = base + size_of_all l.registers code
+
+  abbrev leave : List Native
+  leave = leave_line (end_address p) indirect_jump_size
+
+  end_stands : HasAt t behind (spellings leave ++ spellings (indirect_jump 0))
+  end_stands =
+      let from : base + length (spellings (code_of l.registers code code)) ≡ behind = ap (λ n. base + n) (code_size l.registers code code) in
+      subst (λ bytes. HasAt t behind bytes) (spellings_append leave (indirect_jump 0))
+      (subst (λ a. HasAt t a (spellings (end_code (end_address p)))) from (has_back t base (spellings (code_of l.registers code code)) (spellings (end_code (end_address p))) parts))
+
+  -- the indirect jump that lines share
+  abbrev shared : ℕ
+  shared = behind + leave_size
+
+  shared_stands : HasAt t shared (spellings (indirect_jump 0))
+  shared_stands = subst (λ n. HasAt t (behind + n) (spellings (indirect_jump 0))) (leave_length (end_address p) indirect_jump_size) (has_back t behind (spellings leave) (spellings (indirect_jump 0)) end_stands)
+
   lines_stand : HasAt t base (spellings (code_of l.registers code code))
   lines_stand = has_front t base (spellings (code_of l.registers code code)) (spellings (end_code (end_address p))) parts
 
@@ -95,6 +114,10 @@ module _ (p : Part) (code rest to : List Line) (l : Layout) (t : Text) (base : �
 
   low_end : base + exit_of l.registers code < 2 ^ 47
   low_end = omega (arith, here.text_is_low, bytes_end t base (spellings (whole_code l.registers (end_address p) code)) here.stands, whole_size)
+
+  -- its end is the way out
+  shared_out : jumped (end_of shared (indirect_jump 0)) 0 ≡ base + exit_of l.registers code
+  shared_out = omega (arith, low_end, indirect_size 0)
 
   low_lines : base + size_of_all l.registers code < 2 ^ 47
   low_lines = omega (arith, low_end)
@@ -161,9 +184,9 @@ module _ (p : Part) (code rest to : List Line) (l : Layout) (t : Text) (base : �
     -- a jalr, to its entry or out
     jalr_arrives : (address to left : ℕ) (after : Core) → after.registers 2 ≡ to → LieInCode p code
         → IsAtPlace l.registers base code (at_head Assembly left (enters Assembly p code address to)) to
-        (record { rip = jalr_place l.registers p code base line_end (distance_out l.registers code rest) to left; core = after })
-    jalr_arrives address to left after edx lie = entered_at l.registers base code to (record { rip = jalr_place l.registers p code base line_end (distance_out l.registers code rest) to left; core = after }) line_end (distance_out l.registers code rest) (is_short Assembly left) (to % unit p.format == 0) (is_unit_start p to) (label to code)
-        (λ lines e. label_last to code lines e) exit_is refl edx
+        (record { rip = jalr_place l.registers p code base (end_of shared (indirect_jump 0)) 0 to left; core = after })
+    jalr_arrives address to left after edx lie = entered_at l.registers base code to (record { rip = jalr_place l.registers p code base (end_of shared (indirect_jump 0)) 0 to left; core = after }) (end_of shared (indirect_jump 0)) 0 (is_short Assembly left) (to % unit p.format == 0) (is_unit_start p to) (label to code)
+        (λ lines e. label_last to code lines e) shared_out refl edx
         (λ is. (and_parts _ _ (and_parts _ _ is).1).1)
         (λ whole other lines e. let at = lie.labels to lines e in false≢true (sym other ∙ (rw (le-leb p.code_base to at.0, lt-ltb to (p.code_base + length p.code) at.1, whole) refl)))
 
@@ -179,22 +202,24 @@ module _ (p : Part) (code rest to : List Line) (l : Layout) (t : Text) (base : �
         })) e
 
   -- the end's code
-  end_runs : Follows t line_most p l base code (record { rip = base + size_of_all l.registers code; core = c }) (goes_with g Loop (end_address p))
-  unfolding computes
+  end_runs : Follows t line_most p l base code (record { rip = behind; core = c }) (goes_with g Loop (end_address p))
   end_runs =
-      let d = with_register c 2 (end_address p) in
-      let at = base + size_of_all l.registers code in
-      let from : base + length (spellings (code_of l.registers code code)) ≡ at = ap (λ n. base + n) (code_size l.registers code code) in
-      let own = subst (λ a. HasAt t a (spellings (end_code (end_address p)))) from (has_back t base (spellings (code_of l.registers code code)) (spellings (end_code (end_address p))) parts) in
-      let runs = straight_runs (end_code (end_address p)) c d refl refl t at here.text_is_fixed here.text_is_low own in
+      let before : IsBefore leave t behind p l g c = record {
+        layout = here.layout;
+        text_is_fixed = here.text_is_fixed;
+        text_is_low = here.text_is_low;
+        stands = has_front t behind (spellings leave) (spellings (indirect_jump 0)) end_stands;
+        related = here.related;
+        guards = here.guards;
+        faults_are_handled = here.faults_are_handled;
+      } in
+      let out : jumped (end_of behind leave) indirect_jump_size ≡ base + exit_of l.registers code = omega (arith, low_end, leave_length (end_address p) indirect_jump_size) in
+      let it = leaves p l t behind (end_address p) indirect_jump_size g c before (ap is_canonical out ∙ low_canonical (base + exit_of l.registers code) low_end) in
       record {
-        after = record { rip = end_of at (end_code (end_address p)); core = d };
-        reached = in_more t _ line_most _ _ (omega arith) runs;
-        alike = record {
-          related = related_goes p l g d Loop (end_address p) (related_kept p l here.layout g c d here.related (kept_register c 2 (end_address p) (omega arith)));
-          is_at = (ap (λ n. at + n) (end_length (end_address p)) ∙ omega arith, refl);
-        };
-        others = others_kept p l c d (kept_register c 2 (end_address p) (omega arith));
+        after = record { rip = jumped (end_of behind leave) indirect_jump_size; core = it.after };
+        reached = in_more t 2 line_most _ _ (omega arith) it.reached;
+        alike = record { related = related_goes p l g it.after Loop (end_address p) it.related; is_at = (out, it.edx) };
+        others = it.others;
       }
 
   instruction : (address n : ℕ) (i : Instr) → AreLast code (Does address n i ∷ rest) → InRange i → Accesses p g i → is_jump_line i ≡ false
@@ -258,10 +283,10 @@ module _ (p : Part) (code rest to : List Line) (l : Layout) (t : Text) (base : �
   jump_runs address n (Jalr rd rs1 imm) last range few_left is covered =
       let line = Does address n (Jalr rd rs1 imm) in
       let to = even_of (offset_by (value p g rs1) imm) in
-      let out = distance_out l.registers code rest in
-      let ahead = out_ahead l.registers code rest line (start_size + enter_size) last few (jalr_long l.registers rd rs1 (word imm) (address_after address n) out) in
-      let canonical : is_canonical (jumped (line_end line last) out) ≡ true = ap is_canonical (exit_is line last) ∙ low_canonical (base + exit_of l.registers code) low_end in
-      let leads = jalr_lines_run Assembly p code rest address n rd rs1 imm out base l t _ g c range few_left ahead canonical low_end lie has (own line last) in
+      let distance = shared_jump (distance_out l.registers code rest) in
+      let arrives : jumped (line_end line last) distance ≡ shared = ap (λ a. jumped a distance) (ends line last) ∙ shared_reached l.registers base code rest few low_end in
+      let canonical : is_canonical (jumped (end_of shared (indirect_jump 0)) 0) ≡ true = ap is_canonical shared_out ∙ low_canonical (base + exit_of l.registers code) low_end in
+      let leads = jalr_lines_run Assembly p code rest address n rd rs1 imm distance base shared l t _ g c range few_left arrives (low_canonical shared (omega (arith, low_end))) shared_stands canonical low_end lie has (own line last) in
       record {
         after = record { rip = _; core = leads.0.after };
         reached = leads.0.reached;

@@ -23,10 +23,10 @@ use Rattle.x86_step.specs.Running.{HasAt, spellings}
 use Rattle.x86_step.proofs.Running.{has_back, has_front, spellings_append}
 use Rattle.sfi_native.specs.declared.registers.RegisterMap.{RegisterMap}
 use Rattle.sfi_native.specs.declared.jump.Jump.{Jump}
-use Rattle.sfi_native.proofs.Lists.{indirect_size, tested_size}
+use Rattle.sfi_native.proofs.Lists.{tested_size}
 use Rattle.sfi_native.proofs.Runs.{low_canonical}
-use Rattle.sfi_native.specs.Code.{compare_code, count, has_test, indirect_jump, number_code, opposite, target_code, tested_jump, unless}
-use Rattle.sfi_native.specs.Places.{AreLast, code_of, distance, distance_out, distances, exit_of, jump_of, line_code, placed, size_of, size_of_all, start, start_or_end}
+use Rattle.sfi_native.specs.Code.{compare_code, count, has_test, leave_size, number_code, opposite, target_code, tested_jump, unless}
+use Rattle.sfi_native.specs.Places.{AreLast, code_of, distance, distance_out, distances, exit_of, jump_of, line_code, placed, shared_jump, size_of, size_of_all, start, start_or_end}
 
 -- ==== Sizes.
 
@@ -56,7 +56,7 @@ line_size registers d out (Does at n (Jal rd offset)) =
     let k = jump_of (λ to. 0) 0 at to in
     behind_size (number_code registers rd (address_after at n) ++ count) (tested_jump j) (tested_jump k) (jump_same j k refl)
 line_size registers d out (Does at n (Jalr rd rs1 imm)) =
-    behind_size (target_code registers rs1 (word imm) ++ (number_code registers rd (address_after at n) ++ count)) (indirect_jump out) (indirect_jump 0) (indirect_size out ∙ sym (indirect_size 0))
+    behind_size (target_code registers rs1 (word imm) ++ (number_code registers rd (address_after at n) ++ count)) (Jmp (shared_jump out) ∷ []) (Jmp (shared_jump 0) ∷ []) refl
 line_size registers d out (Does at n Ecall) = behind_size (MovImm Rdx at ∷ []) (Jmp out ∷ []) (Jmp 0 ∷ []) refl
 line_size registers d out (Does at n Ebreak) = behind_size (MovImm Rdx at ∷ []) (Jmp out ∷ []) (Jmp 0 ∷ []) refl
 line_size registers d out (Does at n i) = refl
@@ -157,3 +157,12 @@ label_canonical registers base code rest to few low =
 pub exit_reached : (registers : RegisterMap) (base : ℕ) (code rest : List Line) → exit_of registers code < 2 ^ 31 → base + exit_of registers code < 2 ^ 47
     → jumped (base + start registers code rest) (distance_out registers code rest) ≡ base + exit_of registers code
 exit_reached registers base code rest few low = far base (start registers code rest) (exit_of registers code) (omega (arith, few)) few (omega (arith, low))
+
+-- the same to the indirect jump before it
+pub shared_reached : (registers : RegisterMap) (base : ℕ) (code rest : List Line) → exit_of registers code < 2 ^ 31 → base + exit_of registers code < 2 ^ 47
+    → jumped (base + start registers code rest) (shared_jump (distance_out registers code rest)) ≡ base + size_of_all registers code + leave_size
+shared_reached registers base code rest few low =
+    let to = size_of_all registers code + leave_size in
+    let from = start registers code rest in
+    let same : shared_jump (distance_out registers code rest) ≡ distance from to = omega (arith, few) in
+    ap (jumped (base + from)) same ∙ (far base from to (omega (arith, few)) (omega (arith, few)) (omega (arith, low)) ∙ omega arith)

@@ -1,5 +1,5 @@
 -- How many bytes lines have.
-use Rattle.std.proofs.Common.{◌≡◌, ℕ, suc, zero, ◌+◌, ◌-◌, ◌*◌, ◌%◌, ◌^◌, ◌<◌, ◌≤◌, ◌⊎◌, Bool, true, false, List, [], ◌∷◌, ◌++◌, length, drop, take, refl, sym, ap, ◌∙◌, subst, arith, inl, inr, if◌then◌else◌, length-append, length-drop, cond, Option, Some, None, ◌/◌}
+use Rattle.std.proofs.Common.{◌≡◌, ℕ, ◌+◌, ◌-◌, ◌*◌, ◌%◌, ◌^◌, ◌<◌, ◌≤◌, Bool, true, false, List, [], ◌∷◌, ◌++◌, length, refl, sym, ap, ◌∙◌, subst, arith, inl, inr, if◌then◌else◌, length-append, cond, Option, Some, None, ◌/◌}
 use Rattle.std.specs.Prelude.{◌==◌, nat_lt, ◌&&◌, not}
 use Rattle.std.proofs.lemmas.Bool.{cases_Bool, cond_both, eq-eqb, false≢true, lt-ltb}
 use Rattle.rv_word.specs.declared.instr.RegOp.{RegOp}
@@ -19,15 +19,10 @@ use Rattle.rv_mem.specs.Bytes.{address_after}
 use Rattle.rv_step.specs.Step.{word}
 use Rattle.rv_comp.specs.Fronts.{Spells}
 use Rattle.rv_comp.proofs.Facts.{spelled_in_range}
-use Rattle.sfi_formats.specs.declared.format.Format.{Format}
-use Rattle.sfi_formats.specs.declared.format.Format.TheVariants.{Sfi1, Sfi2, Sfiw}
-use Rattle.sfi_formats.specs.Formats.{code_most, unit}
-use Rattle.sfi_image.specs.Spelling.{Part}
-use Rattle.sfi_rules.specs.Readings.{Piece, IsReading}
-use Rattle.sfi_rules.proofs.OneList.{spelled_within}
-use Rattle.sfi_report.specs.Listing.{unit_bytes}
-use Rattle.sfi_translate.specs.Lines.{Line, Does, AreLinesOfFirst, AreUnitLines, entry_lines, function_lines, function_most, head_bytes, head_lines, reading_lines}
-use Rattle.sfi_translate.proofs.LinesStand.{unit_length, units}
+use Rattle.rv_comp.specs.Table.{expansion}
+use Rattle.rv_comp.specs.declared.form.Form16.{Form16}
+use Rattle.rv_comp.specs.declared.form.Form16.TheVariants.{CSub}
+use Rattle.sfi_translate.specs.Lines.{Does}
 use Rattle.x86_instr.specs.declared.operand.Register.TheVariants.{Rax, Rcx, Rdx}
 use Rattle.x86_instr.specs.declared.operand.Address.{Address}
 use Rattle.x86_instr.specs.declared.operand.Operand.{Operand}
@@ -35,7 +30,7 @@ use Rattle.x86_instr.specs.declared.operand.Operand.TheVariants.{Mem, Reg}
 use Rattle.x86_instr.specs.declared.instr.Width.TheVariants.{Dword}
 use Rattle.x86_instr.specs.declared.instr.AluOp.{AluOp}
 use Rattle.x86_instr.specs.declared.instr.AluOp.TheVariants as alu
-use Rattle.x86_instr.specs.declared.instr.Instr.TheVariants.{Alu, AluImm, Imul, Jcc, MovExtended, MovImm, Setcc, ShiftImm, Mov}
+use Rattle.x86_instr.specs.declared.instr.Instr.TheVariants.{Alu, AluImm, Imul, Jcc, Jmp, MovExtended, MovImm, Setcc, ShiftImm, Mov}
 use Rattle.x86_instr.specs.declared.instr.ShiftOp.{ShiftOp}
 use Rattle.x86_instr.specs.declared.instr.ShiftOp.TheVariants.{Shl, Shr, Sar}
 use Rattle.x86_instr.specs.declared.instr.Narrow.TheVariants.{Byte}
@@ -52,11 +47,9 @@ use Rattle.sfi_native.specs.declared.registers.RegisterMap.{RegisterMap}
 use Rattle.sfi_native.specs.Registers.{assigned, is_fixed}
 unfoldable use Rattle.sfi_native.specs.Code.{compute, compute_imm}
 use Rattle.sfi_native.specs.declared.jump.Jump.{Jump}
-use Rattle.sfi_native.specs.Sizes.{CodeIsSmall, EachCodeFits}
 unfoldable use Rattle.sfi_native.specs.Code.{computation}
-use Rattle.sfi_native.specs.Places.{code_of, exit_of, jump_of, size_of, size_of_all, whole_code}
-use Rattle.sfi_native.specs.Code.{are_exchanged, beside_code, branch_line, bring, combine, compare_code, is_number, keeps_beside_zero, count, ecx_code, lies_in, needs_ecx, place_beside, place_code, read, register_or, result_in, settle, data_address, end_code, fetch, has_test, head_line, imm_code, indirect_jump, jal_line, jalr_line, leave_line, load_code, load_from, load_line, number_code, op_code, op_imm_code, operand_of, opposite, set_if, slot, store_eax, store_line, store_to, target_code, tested_jump, unless, write}
-use Rattle.sfi_native.proofs.Places.{code_size, sizes_append}
+use Rattle.sfi_native.specs.Places.{jump_of, shared_jump, size_of}
+use Rattle.sfi_native.specs.Code.{are_exchanged, beside_code, branch_line, bring, combine, compare_code, is_number, keeps_beside_zero, count, ecx_code, lies_in, needs_ecx, place_beside, place_code, read, register_or, result_in, settle, data_address, end_code, end_size, fetch, has_test, head_line, imm_code, indirect_jump, indirect_jump_size, jal_line, jalr_line, leave_line, load_code, load_from, load_line, number_code, op_code, op_imm_code, operand_of, opposite, set_if, slot, store_eax, store_line, store_to, target_code, tested_jump, unless, write}
 use Rattle.sfi_native.proofs.Lists.{indirect_size, tested_size}
 
 -- ==== Operands.
@@ -274,25 +267,26 @@ combine_most registers op plain d rs2 below =
     let place = assigned registers rs2 in
     cond_both (keeps_beside_zero op && (rs2 == 0)) [] (compute op d (operand_of place rs2)) (λ (is : List Native). bytes is ≤ 14) (λ e. omega arith) (λ e. place_most op plain d place rs2 below)
 
-place_code_most : (registers : RegisterMap) (o : Option Register) (op : RegOp) (rd rs1 rs2 : ℕ) → rd < 32 → rs1 < 32 → rs2 < 32 → needs_ecx op ≡ false → bytes (place_code registers o op rd rs1 rs2) ≤ 51
+place_code_most : (registers : RegisterMap) (o : Option Register) (op : RegOp) (rd rs1 rs2 : ℕ) → rd < 32 → rs1 < 32 → rs2 < 32 → needs_ecx op ≡ false → bytes (place_code registers o op rd rs1 rs2) ≤ 23
 place_code_most registers o op rd rs1 rs2 d a b plain =
     let does = combine registers op (result_in o) rs2 in
     omega (arith, both (bring registers (result_in o) rs1) (does ++ settle registers o rd), both does (settle registers o rd), bring_most registers (result_in o) rs1 a, combine_most registers op plain (result_in o) rs2 b, settle_most registers o rd d)
 
-op_most : (registers : RegisterMap) (op : RegOp) (rd rs1 rs2 : ℕ) → rd < 32 → rs1 < 32 → rs2 < 32 → bytes (op_code registers op rd rs1 rs2 ++ count) ≤ 55
-op_most registers op rd rs1 rs2 d a b =
-    let exchanged = are_exchanged op rd rs1 rs2 in
-    let one = beside_code registers op rd rs2 rs1 in
-    let other = beside_code registers op rd rs1 rs2 in
-    omega (
-      arith,
-      both (op_code registers op rd rs1 rs2) count,
-      count_is,
-      cond_both (needs_ecx op) (ecx_code registers op rd rs1 rs2) (if exchanged then one else other) (λ (is : List Native). bytes is ≤ 51)
-          (ecx_code_most registers op rd rs1 rs2 d a b)
-          (λ e. cond_both exchanged one other (λ (is : List Native). bytes is ≤ 51)
-          (λ x. place_code_most registers (place_beside registers rd rs1) op rd rs2 rs1 d b a e) (λ x. place_code_most registers (place_beside registers rd rs2) op rd rs1 rs2 d a b e)),
-    )
+module _ (registers : RegisterMap) (op : RegOp) (rd rs1 rs2 : ℕ) (d : rd < 32) (a : rs1 < 32) (b : rs2 < 32) where
+  abbrev in_place : List Native
+  in_place = if are_exchanged op rd rs1 rs2 then beside_code registers op rd rs2 rs1 else beside_code registers op rd rs1 rs2
+
+  in_place_most : needs_ecx op ≡ false → bytes in_place ≤ 23
+  in_place_most plain =
+      cond_both (are_exchanged op rd rs1 rs2) (beside_code registers op rd rs2 rs1) (beside_code registers op rd rs1 rs2) (λ (is : List Native). bytes is ≤ 23)
+      (λ x. place_code_most registers (place_beside registers rd rs1) op rd rs2 rs1 d b a plain) (λ x. place_code_most registers (place_beside registers rd rs2) op rd rs1 rs2 d a b plain)
+
+  op_by : (t : Bool) → needs_ecx op ≡ t → bytes ((if t then ecx_code registers op rd rs1 rs2 else in_place) ++ count) ≤ (if t then 55 else 40)
+  op_by true e = omega (arith, both (ecx_code registers op rd rs1 rs2) count, count_is, ecx_code_most registers op rd rs1 rs2 d a b e)
+  op_by false e = omega (arith, both in_place count, count_is, in_place_most e)
+
+  op_most : bytes (op_code registers op rd rs1 rs2 ++ count) ≤ (if needs_ecx op then 55 else 40)
+  op_most = op_by (needs_ecx op) refl
 
 imm_line_most : (registers : RegisterMap) (op : ImmOp) (rd rs1 n : ℕ) → rd < 32 → rs1 < 32 → bytes (imm_code registers op rd rs1 n ++ count) ≤ 28
 imm_line_most registers op rd rs1 n d a =
@@ -337,17 +331,21 @@ branch_most registers cond rs1 rs2 j a b =
 jal_most : (registers : RegisterMap) (rd next : ℕ) (j : Jump) → rd < 32 → bytes (jal_line registers rd next j) ≤ 33
 jal_most registers rd next j d = omega (arith, both (number_code registers rd next ++ count) (tested_jump j), both (number_code registers rd next) count, number_most registers rd next d, count_is, tested_most j)
 
+jmp_is : (n : ℕ) → bytes (Jmp n ∷ []) ≡ 5
+unfolding spelling
+jmp_is n = refl
+
 and_is : bytes (AluImm alu.And Dword (Reg Rdx) (2 ^ 32 - 2) ∷ []) ≡ 3
 unfolding spelling rex
 and_is = refl
 
-jalr_most : (registers : RegisterMap) (rd rs1 displacement next distance : ℕ) → rd < 32 → rs1 < 32 → bytes (jalr_line registers rd rs1 displacement next distance) ≤ 64
+jalr_most : (registers : RegisterMap) (rd rs1 displacement next distance : ℕ) → rd < 32 → rs1 < 32 → bytes (jalr_line registers rd rs1 displacement next distance) ≤ 40
 jalr_most registers rd rs1 displacement next distance d a =
     let sum = AluImm alu.Add Dword (Reg Rdx) displacement in
     let even = AluImm alu.And Dword (Reg Rdx) (2 ^ 32 - 2) in
     omega (
       arith,
-      both (target_code registers rs1 displacement ++ (number_code registers rd next ++ count)) (indirect_jump distance),
+      both (target_code registers rs1 displacement ++ (number_code registers rd next ++ count)) (Jmp distance ∷ []),
       both (target_code registers rs1 displacement) (number_code registers rd next ++ count),
       both (number_code registers rd next) count,
       both (fetch registers Rdx rs1) (sum ∷ even ∷ []),
@@ -357,7 +355,7 @@ jalr_most registers rd rs1 displacement next distance d a =
       and_is,
       number_most registers rd next d,
       count_is,
-      indirect_size distance,
+      jmp_is distance,
     )
 
 from_most : (kind : LoadKind) (dst : Register) (a : Address) → bytes (load_from kind dst a ∷ []) ≤ 9
@@ -398,7 +396,7 @@ store_most registers width rs1 rs2 n a b =
     let access = store_to width to (register_or stored Rcx) ∷ [] in
     omega (arith, both (read base Rax rs1) (read stored Rcx rs2 ++ (access ++ count)), both (read stored Rcx rs2) (access ++ count), both access count, read_most base Rax rs1 a, read_most stored Rcx rs2 b, to_most width to (register_or stored Rcx), count_is)
 
-head_is : (at distance : ℕ) → bytes (head_line at distance) ≡ 15
+pub head_is : (at distance : ℕ) → bytes (head_line at distance) ≡ 15
 unfolding spelling rex
 head_is at distance = refl
 
@@ -406,104 +404,49 @@ leave_is : (at distance : ℕ) → bytes (leave_line at distance) ≡ 10
 unfolding spelling rex
 leave_is at distance = refl
 
-end_is : (end : ℕ) → bytes (end_code end) ≡ 5
-unfolding spelling rex
-end_is end = refl
+pub end_is : (end : ℕ) → bytes (end_code end) ≡ end_size
+end_is end = omega (arith, both (leave_line end indirect_jump_size) (indirect_jump 0), leave_is end indirect_jump_size, indirect_size 0)
 
 -- ==== An instruction.
 
-pub does_most : (registers : RegisterMap) (at n : ℕ) (i : Instr) → InRange i → size_of registers (Does at n i) ≤ 64
+-- it takes ecx as an operand
+abbrev takes_ecx : Instr → Bool
+takes_ecx (Op op rd rs1 rs2) = needs_ecx op
+takes_ecx i = false
+
+does_most : (registers : RegisterMap) (at n : ℕ) (i : Instr) → InRange i → size_of registers (Does at n i) ≤ (if takes_ecx i then 55 else 40)
 unfolding InRange computation
-does_most registers at n (Op op rd rs1 rs2) (d, a, b) = omega (arith, op_most registers op rd rs1 rs2 d a b)
+does_most registers at n (Op op rd rs1 rs2) (d, a, b) = op_most registers op rd rs1 rs2 d a b
 does_most registers at n (OpImm op rd rs1 imm) (d, a, fits) = omega (arith, op_imm_most registers op rd rs1 (word imm) d a)
 does_most registers at n (Lui rd imm) (d, fits) = omega (arith, both (number_code registers rd ((imm * 4096) % 2 ^ 32)) count, number_most registers rd ((imm * 4096) % 2 ^ 32) d, count_is)
 does_most registers at n (Auipc rd imm) (d, fits) = omega (arith, both (number_code registers rd ((at + imm * 4096) % 2 ^ 32)) count, number_most registers rd ((at + imm * 4096) % 2 ^ 32) d, count_is)
 does_most registers at n (Fence imm rd rs1) range = omega (arith, count_is)
 does_most registers at n (Branch c rs1 rs2 offset) (a, b, fits) = omega (arith, branch_most registers c rs1 rs2 (jump_of (λ to. 0) 0 at (offset_by at offset)) a b)
 does_most registers at n (Jal rd offset) (d, fits) = omega (arith, jal_most registers rd (address_after at n) (jump_of (λ to. 0) 0 at (offset_by at offset)) d)
-does_most registers at n (Jalr rd rs1 imm) (d, a, fits) = omega (arith, jalr_most registers rd rs1 (word imm) (address_after at n) 0 d a)
+does_most registers at n (Jalr rd rs1 imm) (d, a, fits) = omega (arith, jalr_most registers rd rs1 (word imm) (address_after at n) (shared_jump 0) d a)
 does_most registers at n (Load kind rd rs1 imm) (d, a, fits) = omega (arith, load_most registers kind rd rs1 (word imm) d a)
 does_most registers at n (Store width rs1 rs2 imm) (a, b, fits) = omega (arith, store_most registers width rs1 rs2 (word imm) a b)
 does_most registers at n Ecall range = omega (arith, leave_is at 0)
 does_most registers at n Ebreak range = omega (arith, leave_is at 0)
 
--- at most 32 for each of its own
-piece_most : (registers : RegisterMap) (at n : ℕ) (i : Instr) (spelled : List ℕ) → Spells spelled i n → size_of registers (Does at n i) ≤ 32 * n
+-- none of two bytes does
+short_plain : (f : Form16) → takes_ecx (expansion f) ≡ false
+short_plain (CSub d t) = refl
+short_plain f = refl
+
+wide_most : (t : Bool) (size : ℕ) → size ≤ (if t then 55 else 40) → size ≤ 55
+wide_most true size most = most
+wide_most false size most = omega (arith, most)
+
+-- at most 20 for each of its own
+pub piece_most : (registers : RegisterMap) (at n : ℕ) (i : Instr) (spelled : List ℕ) → Spells spelled i n → size_of registers (Does at n i) ≤ 20 * n
 piece_most registers at n i spelled spells = by spells
   where
-    most : size_of registers (Does at n i) ≤ 64
+    most : size_of registers (Does at n i) ≤ (if takes_ecx i then 55 else 40)
     most = does_most registers at n i (spelled_in_range spelled i n spells)
 
-    by : Spells spelled i n → size_of registers (Does at n i) ≤ 32 * n
-    by (inl short) = omega (arith, most, short.size)
-    by (inr wide) = omega (arith, most, wide.size)
-
--- ==== A sandbox's code.
-
-reading_most : (registers : RegisterMap) (at : ℕ) (own : List ℕ) (reading : List Piece) → IsReading own reading → size_of_all registers (reading_lines at reading) ≤ 32 * length own
-reading_most registers at own [] is = omega arith
-reading_most registers at own (x ∷ reading) is =
-    let within = spelled_within own x.instr x.size is.0 in
-    omega (arith, within.1, length-drop x.size own, piece_most registers at x.size x.instr (take x.size own) is.0, reading_most registers (at + x.size) (drop x.size own) reading is.1)
-
-function_none : (registers : RegisterMap) (sandbox offset at : ℕ) → size_of_all registers (function_lines sandbox offset at) ≡ 0
-function_none registers sandbox offset at =
-    cond_both (offset == 0) _ _ (λ (l : List Line). size_of_all registers l ≡ 0) (λ e. refl) (λ e. cond_both (offset % function_most == 0) _ _ (λ (l : List Line). size_of_all registers l ≡ 0) (λ f. refl) (λ f. refl))
-
-entry_none : (registers : RegisterMap) (chosen : Bool) (at : ℕ) → size_of_all registers (entry_lines chosen at) ≡ 0
-entry_none registers true at = refl
-entry_none registers false at = refl
-
-head_most : (registers : RegisterMap) (at : ℕ) → size_of_all registers (head_lines at) ≤ 15
-head_most registers at = cond_both (at % head_bytes == 0) _ _ (λ (l : List Line). size_of_all registers l ≤ 15) (λ e. omega (arith, head_is at 0)) (λ e. omega arith)
-
-unit_most : (registers : RegisterMap) (sandbox offset at : ℕ) (own : List ℕ) (lines : List Line) → AreUnitLines sandbox offset at own lines → size_of_all registers lines ≤ 15 + 32 * length own
-unit_most registers sandbox offset at own lines are =
-    let before = function_lines sandbox offset at in
-    let entry = entry_lines are.chosen at in
-    let head = head_lines at in
-    let reading = reading_lines at are.reading in
-    omega (
-      arith,
-      ap (size_of_all registers) are.lines_are,
-      sizes_append registers ((before ++ entry) ++ head) reading,
-      sizes_append registers (before ++ entry) head,
-      sizes_append registers before entry,
-      function_none registers sandbox offset at,
-      entry_none registers are.chosen at,
-      head_most registers at,
-      reading_most registers at own are.reading are.longest.is_reading,
-    )
-
-one_more : (u n size front last : ℕ) → (u ≡ 16) ⊎ (u ≡ 4) → size ≡ front + last → front ≤ 36 * (u * n) → last ≤ 15 + 32 * u → size ≤ 36 * (u * suc n)
-one_more u n size front last (inl e) sum a b =
-    subst (λ v. size ≤ 36 * (v * suc n)) (sym e) (omega (arith, sum, subst (λ v. front ≤ 36 * (v * n)) e a, subst (λ v. last ≤ 15 + 32 * v) e b))
-one_more u n size front last (inr e) sum a b =
-    subst (λ v. size ≤ 36 * (v * suc n)) (sym e) (omega (arith, sum, subst (λ v. front ≤ 36 * (v * n)) e a, subst (λ v. last ≤ 15 + 32 * v) e b))
-
-first_most : (registers : RegisterMap) (sandbox : ℕ) (p : Part) (n : ℕ) (lines : List Line) → AreLinesOfFirst sandbox p n lines → unit p.format * n ≤ length p.code → size_of_all registers lines ≤ 36 * (unit p.format * n)
-first_most registers sandbox p zero lines are within = omega (arith, ap (size_of_all registers) are)
-first_most registers sandbox p (suc n) lines are within =
-    let u = unit p.format in
-    let fewer : u * n + u ≤ length p.code = omega (arith, within) in
-    let last : size_of_all registers are.1 ≤ 15 + 32 * u =
-    omega (arith, unit_most registers sandbox (u * n) (p.code_base + u * n) (unit_bytes p n) are.1 are.3, unit_length p n fewer) in
-    one_more u n (size_of_all registers lines) (size_of_all registers are.0) (size_of_all registers are.1) (units p.format)
-    (ap (size_of_all registers) are.4 ∙ sizes_append registers are.0 are.1) (first_most registers sandbox p n are.0 are.2 (omega (arith, fewer))) last
-
-pub code_is_small : CodeIsSmall
-code_is_small registers sandbox p code are =
-    let e = are.whole in
-    omega (arith, e, first_most registers sandbox p are.units code are.lines_are (omega (arith, e)))
-
-most_code : (f : Format) → code_most f ≤ 1048576
-most_code Sfi1 = omega arith
-most_code Sfi2 = omega arith
-most_code Sfiw = omega arith
-
-pub each_code_fits : EachCodeFits
-each_code_fits registers sandbox p code right are = omega (arith, code_is_small registers sandbox p code are, right.code_placed.at_most, most_code p.format)
-
--- with the end's code
-pub whole_size : (registers : RegisterMap) (end : ℕ) (code : List Line) → bytes (whole_code registers end code) ≡ exit_of registers code
-whole_size registers end code = omega (arith, both (code_of registers code code) (end_code end), code_size registers code code, end_is end)
+    by : Spells spelled i n → size_of registers (Does at n i) ≤ 20 * n
+    by (inl short) =
+        let plain : takes_ecx i ≡ false = ap takes_ecx (sym short.spelled.expands) ∙ short_plain short.spelled.form in
+        omega (arith, subst (λ t. size_of registers (Does at n i) ≤ (if t then 55 else 40)) plain most, short.size)
+    by (inr wide) = omega (arith, wide_most (takes_ecx i) _ most, wide.size)

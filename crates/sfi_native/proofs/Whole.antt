@@ -32,7 +32,7 @@ use Rattle.sfi_native.proofs.Fetching.{related_kept}
 use Rattle.sfi_native.proofs.Held.{each_code_can_be_run}
 use Rattle.sfi_native.proofs.Hosts.{Ready, one_way, ready_on, memory_join, spares_join, spares_others, spares_same}
 use Rattle.sfi_native.proofs.Served.{all_made, handed_over, has_place, never_lost}
-use Rattle.sfi_native.proofs.Sizes.{each_code_fits, whole_size}
+use Rattle.sfi_native.proofs.CodeSizes.{each_code_fits, whole_size}
 use Rattle.sfi_native.proofs.Table.{lines_lie_in_code}
 use Rattle.sfi_native.proofs.Tabled.{each_table_can_be_held}
 use Rattle.sfi_native.proofs.Ways.{one_way_out}

@@ -279,13 +279,9 @@ head_line at distance = MovImm Rdx at ∷ AluImm alu.Cmp Dword (Reg R14) most �
 abbrev pub leave_line : ℕ → ℕ → List Native
 leave_line at distance = MovImm Rdx at ∷ Jmp distance ∷ []
 
--- behind the last line, at the end of the sandbox's code
-abbrev pub end_code : ℕ → List Native
-end_code at = MovImm Rdx at ∷ []
-
 -- its bytes
-abbrev pub end_size : ℕ
-end_size = 5
+abbrev pub leave_size : ℕ
+leave_size = 10
 
 -- ==== Jumps. Their step is counted before, as that changes flags; distances are from the line's end.
 
@@ -366,10 +362,22 @@ steps_code distance = AluImm alu.Cmp Dword (Reg R14) most ∷ Jcc Below ((distan
 abbrev pub indirect_jump : ℕ → List Native
 indirect_jump distance = steps_code distance ++ (start_code distance ++ enter_code)
 
--- the line of a jalr, behind which the address `next` comes
+-- its bytes
+abbrev pub indirect_jump_size : ℕ
+indirect_jump_size = 37
+
+-- the line of a jalr, behind which the address `next` comes: to the indirect jump that all such lines share
 abbrev pub jalr_line : RegisterMap → ℕ → ℕ → ℕ → ℕ → ℕ → List Native
 jalr_line registers rd rs1 displacement next distance =
-    (target_code registers rs1 displacement ++ (number_code registers rd next ++ count)) ++ indirect_jump distance
+    (target_code registers rs1 displacement ++ (number_code registers rd next ++ count)) ++ (Jmp distance ∷ [])
+
+-- Behind the last line, at the end of the sandbox's code: out, over that indirect jump, behind which the way out is.
+abbrev pub end_code : ℕ → List Native
+end_code at = leave_line at indirect_jump_size ++ indirect_jump 0
+
+-- its bytes
+abbrev pub end_size : ℕ
+end_size = leave_size + indirect_jump_size
 
 -- ==== Accesses: rs1 lies in a register or is read into eax, rs2 likewise into ecx; r15 has the origin of the data.
 

@@ -22,7 +22,7 @@ use Rattle.sfi_native.specs.declared.registers.RegisterMap.{RegisterMap}
 use Rattle.sfi_native.specs.declared.jump.Jump.{Jump}
 use Rattle.sfi_native.specs.declared.layout.Layout.{Layout}
 use Rattle.sfi_native.specs.Layout.{DoNotMeet, GuardsAreEmpty, IsLayout, IsRelated, OthersStay, frame_size, guarded_data, value}
-use Rattle.sfi_native.specs.Code.{branch_line, computing_line, does_compute, enter_size, has_test, jal_line, jalr_line, jump_size, load_line, start_size, store_line}
+use Rattle.sfi_native.specs.Code.{branch_line, computing_line, does_compute, has_test, indirect_jump, jal_line, jalr_line, jump_size, load_line, store_line}
 use Rattle.sfi_native.specs.Faults.{HasFixups, front_of}
 use Rattle.sfi_native.specs.Places.{AreLast, IsAt, code_of, end_address, exit_of, instruction_code, placed, start, whole_code}
 use Rattle.sfi_native.specs.Entries.{AreEntries, entry_of}
@@ -30,7 +30,7 @@ use Rattle.sfi_native.specs.Table.{HasTable, LieInCode, is_unit_start}
 
 -- the most instructions that a line makes
 abbrev pub line_most : ℕ
-line_most = 16
+line_most = 17
 
 -- From a state of the processor at an address, a line's code leads to another address, and to the state of the next turn.
 pub record LeadsTo (t : Text) (at to : ℕ) (p : Part) (l : Layout) (c : Core) (next : Going) : Type 0 where
@@ -137,26 +137,26 @@ JalLinesRun =
     → (it : LeadsTo t at (jump_place (end_of at line) j left) p l c (line_step target p code (Does address size (Jal rd offset) ∷ rest) g))
     × (is_slow j left ≡ true → it.after.registers 2 ≡ j.to)
 
--- From that end of its line a jalr goes to its target's entry, or out.
+-- From the indirect jump, which ends there, a jalr goes to its target's entry, or out.
 abbrev pub jalr_place : RegisterMap → Part → List Line → ℕ → ℕ → ℕ → ℕ → ℕ → ℕ
 jalr_place registers p code base end distance to left =
     if is_short Assembly left then jumped end distance
     else if is_unit_start p to then base + entry_of registers code (label to code)
     else jumped end distance
 
--- a jalr jumps so, with its target in edx
+-- Over the distance a jalr goes to the indirect jump, and jumps so, with its target in edx.
 abbrev pub JalrLinesRun : Type 0
 JalrLinesRun =
-    (target : Target) (p : Part) (code rest : List Line) (address size rd rs1 : ℕ) (imm : ℤ) (distance base : ℕ) (l : Layout)
-    (t : Text) (at : ℕ) (g : Going) (c : Core)
+    (target : Target) (p : Part) (code rest : List Line) (address size rd rs1 : ℕ) (imm : ℤ) (distance base shared : ℕ)
+    (l : Layout) (t : Text) (at : ℕ) (g : Going) (c : Core)
     → let line = jalr_line l.registers rd rs1 (word imm) (address_after address size) distance in
-    let end = end_of at line in
+    let end = end_of shared (indirect_jump 0) in
     let to = even_of (offset_by (value p g rs1) imm) in
     let left = one_less g.left in
-    InRange (Jalr rd rs1 imm) → left < 2 ^ 31 → distance + (start_size + enter_size) < 2 ^ 31
-    → is_canonical (jumped end distance) ≡ true → base + exit_of l.registers code < 2 ^ 47 → LieInCode p code → HasTable p l base code c
-    → IsBefore line t at p l g c
-    → (it : LeadsTo t at (jalr_place l.registers p code base end distance to left) p l c
+    InRange (Jalr rd rs1 imm) → left < 2 ^ 31 → jumped (end_of at line) distance ≡ shared → is_canonical shared ≡ true
+    → HasAt t shared (spellings (indirect_jump 0)) → is_canonical (jumped end 0) ≡ true → base + exit_of l.registers code < 2 ^ 47
+    → LieInCode p code → HasTable p l base code c → IsBefore line t at p l g c
+    → (it : LeadsTo t at (jalr_place l.registers p code base end 0 to left) p l c
     (line_step target p code (Does address size (Jalr rd rs1 imm) ∷ rest) g))
     × (it.after.registers 2 ≡ to)
 

@@ -13,11 +13,15 @@ use Rattle.x86_step.specs.State.{Machine}
 use Rattle.x86_step.specs.Running.{spellings}
 use Rattle.sfi_native.specs.declared.registers.RegisterMap.{RegisterMap}
 use Rattle.sfi_native.specs.declared.jump.Jump.{Jump}
-use Rattle.sfi_native.specs.Code.{branch_line, computing_line, end_code, end_size, head_line, jal_line, jalr_line, leave_line, load_line, store_line}
+use Rattle.sfi_native.specs.Code.{branch_line, computing_line, end_code, end_size, head_line, indirect_jump_size, jal_line, jalr_line, leave_line, load_line, store_line}
 
 -- a jump between two addresses
 abbrev pub jump_of : (ℕ → ℕ) → ℕ → ℕ → ℕ → Jump
 jump_of distance out at to = record { from = at; to = to; label = distance to; exit = out }
+
+-- how far the indirect jump is, which stands before the way out
+abbrev pub shared_jump : ℕ → ℕ
+shared_jump out = (out + (2 ^ 32 - indirect_jump_size)) % 2 ^ 32
 
 -- The instruction of n bytes at that address: `distance` tells how far labels are from the line's end, `out` how far the
 -- way out is.
@@ -26,7 +30,7 @@ instruction_code registers distance out at n (Branch cond rs1 rs2 offset) = bran
 instruction_code registers distance out at n (Jal rd offset) = jal_line registers rd (address_after at n) (jump_of distance out at (offset_by at offset))
 instruction_code registers distance out at n (Load kind rd rs1 imm) = load_line registers kind rd rs1 (word imm)
 instruction_code registers distance out at n (Store width rs1 rs2 imm) = store_line registers width rs1 rs2 (word imm)
-instruction_code registers distance out at n (Jalr rd rs1 imm) = jalr_line registers rd rs1 (word imm) (address_after at n) out
+instruction_code registers distance out at n (Jalr rd rs1 imm) = jalr_line registers rd rs1 (word imm) (address_after at n) (shared_jump out)
 instruction_code registers distance out at n Ecall = leave_line at out
 instruction_code registers distance out at n Ebreak = leave_line at out
 instruction_code registers distance out at n i = computing_line registers at i

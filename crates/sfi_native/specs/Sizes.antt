@@ -8,7 +8,7 @@ use Rattle.sfi_native.specs.Places.{exit_of, size_of_all}
 
 -- the most bytes for one of the sandbox's
 abbrev pub bytes_most : ℕ
-bytes_most = 36
+bytes_most = 24
 
 -- So many bytes the lines of a sandbox's code have at most, whatever the map.
 abbrev pub CodeIsSmall : Type 0

@@ -124,7 +124,7 @@ fn place_line(
         registers,
         line,
         label,
-        distance(end, all.wrapping_add(5)),
+        distance(end, all.wrapping_add(47)),
     )?;
     Ok(())
 }
@@ -195,7 +195,7 @@ pub fn compile(
 {
     let mut draft = Vec::new(alloc);
     let mut labels = BTreeMap::new(alloc);
-    if !measure(&mut draft, registers, &mut labels, lines)? || draft.len() >= 0x7fff_fffb {
+    if !measure(&mut draft, registers, &mut labels, lines)? || draft.len() >= 0x7fff_ffd1 {
         return Ok(None);
     }
     let all = draft.len() as u32;

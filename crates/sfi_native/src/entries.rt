@@ -20,7 +20,7 @@ fn entry(labels: &BTreeMap<u32, u32>, all: u32, at: u32) -> u32
 {
     match labels.get(&at) {
         Some(left) => all.wrapping_sub(*left),
-        None => all.wrapping_add(5),
+        None => all.wrapping_add(47),
     }
 }
 

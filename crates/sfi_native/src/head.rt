@@ -4,6 +4,7 @@ ghost use Rattle.sfi_native.specs.Code.{end_code, head_line, leave_line};
 ghost use Rattle.x86_step.specs.Running.{spellings};
 
 use crate::operation::put;
+use crate::register_jump::put_indirect_jump;
 use std::alloc::AllocError;
 use x86_instr::{AluOp, Condition, Instr, Operand, Register, Width};
 
@@ -54,14 +55,10 @@ pub fn push_leave_line(out: &mut Vec<u8>, at: u32, distance: u32) -> Result<(), 
 }
 
 /// Writes what comes behind the last line, where the sandbox's code ends at that address.
+#[tactic(auto, using(crate::proofs::Lists::two_parts))]
 pub(crate) fn put_end(out: &mut Vec<u8>, at: u32) -> Result<(), AllocError>
     ensures { OnOk result (out.new.items ≡ out.old.items ++ spellings (end_code at)) }
 {
-    put(
-        out,
-        Instr::MovImm {
-            dst: Register::Rdx,
-            imm: at,
-        },
-    )
+    push_leave_line(out, at, 37)?;
+    put_indirect_jump(out, 0)
 }

@@ -94,7 +94,7 @@ fn put_instruction(
             rs1,
             imm.cast_unsigned(),
             at.wrapping_add(size),
-            exit,
+            exit.wrapping_sub(37),
         ),
         _ => {
             push_computing_line(out, registers, at, instr)?;

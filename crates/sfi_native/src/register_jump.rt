@@ -1,4 +1,4 @@
-//! The bytes of a jalr.
+//! The bytes of a jalr, and of the indirect jump that all of them share.
 ghost use Rattle.std.specs.Prelude.{◌≡◌, ◌++◌, OnOk};
 ghost use Rattle.sfi_native.specs.Code.{enter_code, indirect_jump, jalr_line, start_code, steps_code, table_entry as table_entry_of, target_code};
 ghost use Rattle.x86_instr.specs.declared.instr.Instr.TheVariants.{Alu, AluImm};
@@ -151,7 +151,7 @@ fn put_enter(out: &mut Vec<u8>) -> Result<(), AllocError>
 
 /// Writes a jump to the address in edx, or out.
 #[tactic(auto, using(crate::proofs::Lists::indirect_parts))]
-fn put_indirect_jump(out: &mut Vec<u8>, distance: u32) -> Result<(), AllocError>
+pub(crate) fn put_indirect_jump(out: &mut Vec<u8>, distance: u32) -> Result<(), AllocError>
     ensures { OnOk result (out.new.items ≡ out.old.items ++ spellings (indirect_jump distance)) }
 {
     put_steps(out, distance)?;
@@ -160,7 +160,7 @@ fn put_indirect_jump(out: &mut Vec<u8>, distance: u32) -> Result<(), AllocError>
 }
 
 /// Writes the line of a jalr behind what is there; `next` is the address of what follows it in the sandbox. The
-/// displacement and the distance are in two's complement, the distance in bytes, from the line's end to the way out.
+/// displacement and the distance are in two's complement, the distance in bytes, from the line's end to the indirect jump.
 #[tactic(auto, using(crate::proofs::Lists::jalr_parts))]
 pub fn push_jalr_line(
     out: &mut Vec<u8>,
@@ -176,5 +176,5 @@ pub fn push_jalr_line(
     put_target(out, registers, rs1, displacement)?;
     put_number(out, registers, rd, next)?;
     put_count(out)?;
-    put_indirect_jump(out, distance)
+    put(out, Instr::Jmp { distance })
 }

@@ -53,7 +53,7 @@ fn lines_are_spelled(rt: HostRuntime) -> Result<(), Fail> {
     Ok(())
 }
 
-const JUMPS: [u8; 126] = [
+const JUMPS: [u8; 94] = [
     139, 68, 36, 20, // mov eax, [rsp+20]
     65, 131, 238, 1, // sub r14d, 1
     59, 68, 36, 24, // cmp eax, [rsp+24]
@@ -74,16 +74,7 @@ const JUMPS: [u8; 126] = [
     184, 4, 0, 0, 1, // mov eax, 0x1000004
     137, 68, 36, 4, // mov [rsp+4], eax
     65, 131, 238, 1, // sub r14d, 1
-    65, 131, 254, 65, // cmp r14d, 65
-    15, 130, 27, 16, 0, 0, // jb .+4129
-    139, 194, // {load} mov eax, edx
-    35, 68, 36, 100, // and eax, [rsp+100]
-    11, 68, 36, 96, // or eax, [rsp+96]
-    59, 194, // {load} cmp eax, edx
-    15, 133, 9, 16, 0, 0, // jne .+4111
-    65, 139, 4, 20, // mov eax, [r12+rdx]
-    73, 3, 197, // {load} add rax, r13
-    255, 224, // jmp rax
+    233, 219, 15, 0, 0, // {disp32} jmp .+4064
 ];
 
 #[test]
@@ -123,7 +114,7 @@ fn jumps_are_spelled(rt: HostRuntime) -> Result<(), Fail> {
         Reg::numbered(5),
         4,
         0x0100_0004,
-        4096,
+        4059,
     )?;
     assert!(rt; out.as_slice() == JUMPS.as_slice());
     Ok(())
@@ -302,10 +293,10 @@ fn each_kind_of_line_is_spelled(rt: HostRuntime) -> Result<(), Fail> {
     Ok(())
 }
 
-const COMPILED: [u8; 85] = [
+const COMPILED: [u8; 127] = [
     186, 0, 0, 0, 1, // mov edx, 0x1000000
     65, 131, 254, 65, // cmp r14d, 65
-    15, 130, 70, 0, 0, 0, // {disp32} jb 9f
+    15, 130, 112, 0, 0, 0, // {disp32} jb 9f
     139, 68, 36, 20, // 1: mov eax, [rsp+20]
     65, 131, 238, 1, // sub r14d, 1
     59, 68, 36, 24, // cmp eax, [rsp+24]
@@ -318,9 +309,20 @@ const COMPILED: [u8; 85] = [
     65, 131, 238, 1, // sub r14d, 1
     186, 0, 0, 0, 1, // mov edx, 0x1000000
     65, 131, 254, 65, // cmp r14d, 65
-    15, 130, 10, 0, 0, 0, // {disp32} jb 9f
+    15, 130, 52, 0, 0, 0, // {disp32} jb 9f
     233, 191, 255, 255, 255, // {disp32} jmp 1b
-    186, 12, 0, 0, 1, // mov edx, 0x100000c; 9:
+    186, 12, 0, 0, 1, // mov edx, 0x100000c
+    233, 37, 0, 0, 0, // {disp32} jmp 9f
+    65, 131, 254, 65, // cmp r14d, 65
+    15, 130, 27, 0, 0, 0, // {disp32} jb 9f
+    139, 194, // {load} mov eax, edx
+    35, 68, 36, 100, // and eax, [rsp+100]
+    11, 68, 36, 96, // or eax, [rsp+96]
+    59, 194, // {load} cmp eax, edx
+    15, 133, 9, 0, 0, 0, // {disp32} jne 9f
+    65, 139, 4, 20, // mov eax, [r12+rdx]
+    73, 3, 197, // {load} add rax, r13
+    255, 224, // jmp rax; 9:
 ];
 
 // 1, 3 and 2 above
