@@ -147,7 +147,7 @@ OneWayOut =
     Reaches t a m n → Reaches t b m k → n.rip ≡ out → k.rip ≡ out → n ≡ k
 
 -- A round: code comes out at the end of its text, in one state, by some of the instructions that are left to the turn, which access
--- memory at these addresses alone; there the host does something; and whatever it does, its answer ends the turn as it has to, or
+-- memory at some addresses alone; there the host does something; and whatever it does, its answer ends the turn as it has to, or
 -- it enters code anew, with the rest of them.
 pub record Round (t : Text) (p : Part) (l : Layout) (there : ℕ → Type 0) (host : Host) (Ended : Ending → Machine → Type 0)
     (Entered : ℕ → Machine → Type 0) (instructions : ℕ) (m : Machine) : Type 0 where

@@ -36,9 +36,11 @@ pub record AreApart (p : Part) (l : Layout) (base : ℕ) (code : List Line) (tab
   pub own_from_text : (a : ℕ) → own a → IsOutside a base (exit_of l.registers code)
   pub own_from_table : (a : ℕ) → own a → IsOutside a table_at (length p.code)
 
+-- where the frame lies
 abbrev pub frame_span : Layout → Span
 frame_span l = record { at = l.frame; size = frame_size }
 
+-- where the table of entries lies
 abbrev pub table_span : Part → ℕ → Span
 table_span p table_at = record { at = table_at; size = length p.code }
 

@@ -1,4 +1,4 @@
--- An instruction accesses no other addresses than its definition says.
+-- An instruction accesses no other addresses than its definition says, and code on its way out only such as it needs.
 use Rattle.std.specs.Prelude.{◌≡◌, ◌⊎◌, ℕ, ◌+◌, length, Option, None, Result, Ok, Err}
 use Rattle.x86_instr.specs.declared.instr.Instr.{Instr}
 use Rattle.x86_step.specs.declared.machine.Stop.{Stop}
@@ -39,8 +39,8 @@ AccessesLieIn there t m = (most : ℕ) (k : Machine) → Reaches t most m k → 
 abbrev pub HasNoOthers : (ℕ → Type 0) → (ℕ → Option ℕ) → Type 0
 HasNoOthers there memory = (a : ℕ) → there a ⊎ (memory a ≡ None)
 
--- Code that comes out at the end of its text where memory has bytes at these addresses alone, among which are those where faults
--- are handled, accesses no others, whatever memory has there.
+-- Code that comes out at the end of its text where memory has bytes at some addresses alone accesses no others, whatever bytes are
+-- there. Those where faults are handled are among them.
 abbrev pub WaysOutAccessNoOthers : Type 1
 WaysOutAccessNoOthers =
     (there : ℕ → Type 0) (t : Text) (most : ℕ) (m out : Machine) (memory : ℕ → Option ℕ)

@@ -21,7 +21,7 @@ SpelledSteps =
     (t : Text) (at : ℕ) (i : Instr) (c : Core) → HasAt t at (spelling i)
     → step t (record { rip = at; core = c }) ≡ effect i (at + length (spelling i)) c
 
--- and its access is the next
+-- and accesses what it does
 abbrev pub SpelledAccesses : Type 0
 SpelledAccesses =
     (t : Text) (at : ℕ) (i : Instr) (c : Core) → HasAt t at (spelling i) → next_access t (record { rip = at; core = c }) ≡ accessed i c

@@ -27,11 +27,12 @@ pub record Span : Type 0 where
   pub at : ℕ
   pub size : ℕ
 
+-- the address is one of them
 abbrev pub IsIn : Span → ℕ → Type 0
 IsIn span a = (span.at ≤ a) × (a < span.at + span.size)
 
 -- Code: bytes from an address on. By the addresses of instructions that access memory and don't jump, the fixups that the
--- host has for their faults. It handles the faults of accesses that lie in that span, and no others.
+-- host has for their faults; it handles faults of accesses that lie in a span, and no others.
 pub record Text : Type 0 where
   pub base : ℕ
   pub bytes : List ℕ
