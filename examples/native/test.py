@@ -1,7 +1,7 @@
 #!/usr/bin/env python3
 """Makes native code of images, and compares what it prints in a host with what `sfi run` does, traps and steps included: the
 examples in each format, and random accepted images with accesses to guard zones, in turns of several lengths. The checksum of
-each file is that of zlib; a file with a byte changed or missing is refused. Then hostile.py.
+each file is that of zlib; files with bytes changed or missing are refused, also by a right checksum. Then hostile.py.
 
     examples/native/test.py [--program SFI] [--images N] [--seed SEED]
 """
@@ -30,6 +30,8 @@ COMPILERS = (("gcc", "-O1"), ("clang", "-O1"))
 TURNS = (("2", "2000"), ("50", "13"), ("1", "64"), ("1", "128"), ("3", "100000"))
 PAGE = 4096  # the least data that guard zones lie beside
 OTHER_FILE = 2
+FRONT = 24  # bytes of a file before its first sandbox
+SIZES = FRONT + 28 + 32  # where the sizes of its code and accesses are, behind its fields and the places of registers
 
 
 def printed(words, text=b""):
@@ -68,16 +70,31 @@ def try_image(sfi, compiler, folder, image):
         yield f"{image.hex()[:80]}.. {options}\n  wanted {wanted[:200]}\n  found  {found[:200]}", wanted == found
 
 
+def closed(content):
+    """The file of these bytes, with its length and the checksum."""
+    counted = content + struct.pack("<I", len(content))
+    return counted + struct.pack("<I", zlib.crc32(counted))
+
+
+def other_files(file):
+    """By what they have, files that are none of this one's image: changed, cut short, and so with a right checksum."""
+    for place in (0, 4, FRONT, len(file) // 2, len(file) - 1):
+        yield f"a byte changed at {place}", file[:place] + bytes([file[place] ^ 1]) + file[place + 1:]
+        yield f"{place} bytes", file[:place]
+    for place in (FRONT, FRONT + 1, SIZES - 1, SIZES + 7, SIZES + 8, len(file) // 2, len(file) - 9):
+        yield f"{place} bytes and a checksum", closed(file[:place])
+    for place in (SIZES, SIZES + 4):
+        for size in (0, 2 ** 31, 2 ** 32 - 1):
+            yield f"size {size} at {place}", closed(file[:place] + struct.pack("<I", size) + file[place + 4:-8])
+
+
 def try_refusals(sfi, compiler, folder, image):
     """Whether the host refuses files that aren't whole."""
     program = host(compiler, folder, sfi, image)
-    file = printed([sfi, "native"], image)
-    for place in (0, 4, 24, len(file) // 2, len(file) - 1):
-        changed = file[:place] + bytes([file[place] ^ 1]) + file[place + 1:]
-        for other in (changed, file[:place]):
-            path = written(os.path.join(folder, "other.native"), other)
-            status = subprocess.run([program, path], stdout=subprocess.DEVNULL, stderr=subprocess.DEVNULL).returncode
-            yield f"a file that differs at {place}: status {status}", status == OTHER_FILE
+    for what, other in other_files(printed([sfi, "native"], image)):
+        path = written(os.path.join(folder, "other.native"), other)
+        status = subprocess.run([program, path], stdout=subprocess.DEVNULL, stderr=subprocess.DEVNULL).returncode
+        yield f"a file with {what}: status {status}", status == OTHER_FILE
 
 
 def main():

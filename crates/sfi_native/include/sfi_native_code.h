@@ -1,7 +1,8 @@
-/* Runs the native code of an accepted image, the file that `sfi native` writes, on x86-64 Linux: for hosts in C11 that define
-   _GNU_SOURCE before the first header. The image's translation (sfi_native.h) has its sandboxes, and the steps that code leaves to
-   the host. A thread that takes turns doesn't block SIGSEGV and SIGBUS, nor leave a turn by longjmp. Nothing of this file is
-   proved: what it has to keep is crates/sfi_native/specs (File, Layout, Table, Faults, Host, Whole). */
+/* Runs the native code of an accepted image on x86-64 Linux: for hosts in C11 that define _GNU_SOURCE before the first header. The
+   file must be what `sfi native` wrote of this image, kept with it: only its checksum and the sandboxes' fields are compared. The
+   image's translation (sfi_native.h) has the sandboxes, and the steps that code leaves to the host. A thread that takes turns doesn't
+   block SIGSEGV and SIGBUS, nor leave a turn by longjmp. A typed register with what its type forbids reaches 4 GiB off the data
+   (docs/IMAGE.md). Not proved: that this file keeps crates/sfi_native/specs (File, Layout, Table, Faults, Host, Whole). */
 #ifndef SFI_NATIVE_CODE_H
 #define SFI_NATIVE_CODE_H
 #include "sfi_native_guards.h"
@@ -35,8 +36,8 @@ static sfi_u32 sfi_crc32(const uint8_t *bytes, size_t length) {
     return ~crc;
 }
 
-/* Enters the code at `at`. Its frame, to which rsp leads, is copied from x and back; behind it are where the way out leads, x and
-   kept: by number what registers have, of which those of the sandbox and r14 come back. Returns edx, the pc. */
+/* Enters the code at `at`. x is copied into the frame (128 bytes at rsp) and back. Above it lie the way out's target, x and kept.
+   kept[n] is register n at entry; the map's registers and r14 are written back. Returns edx, the pc. */
 sfi_u32 sfi_enter_code(sfi_u32 x[32], uintptr_t kept[16], sfi_u32 pc, const uint8_t *at) __attribute__((visibility("hidden")));
 __asm__(".pushsection .text\nsfi_enter_code:\n push %rbx; push %rbp; push %r12; push %r13; push %r14; push %r15; sub $152,%rsp\n"
         " lea 1f(%rip),%rax; mov %rax,128(%rsp); mov %rdi,136(%rsp); mov %rsi,144(%rsp); mov %rsi,%rax\n"
@@ -51,20 +52,19 @@ __asm__(".pushsection .text\nsfi_enter_code:\n push %rbx; push %rbp; push %r12; 
 /* The turn that a thread is in. */
 static _Thread_local struct { const struct sfi_code *code; const uint8_t *data; } sfi_running __attribute__((tls_model("initial-exec")));
 
-/* A sandbox's: by an access of its table, at an address in a zone. It goes out. */
+/* Takes a fault if rip is one of the running code's accesses and the address in a guard zone; goes on at the way out, the pc in edx. */
 static int sfi_takes_fault(uintptr_t address, greg_t registers[]) {
     const struct sfi_code *const code = sfi_running.code;
     const uintptr_t place = address - (uintptr_t)sfi_running.data;
     if (code == NULL || (place + SFI_ZONE >= SFI_ZONE && place - code->sandbox->data_size >= SFI_ZONE))
         return 0;
-    const uint8_t *at = code->access, *const end = at + SFI_ACCESS * code->accesses;
-    while (at < end && (uintptr_t)registers[REG_RIP] != (uintptr_t)code->text + sfi_number(at))
-        at += SFI_ACCESS;
-    if (at < end) {
-        registers[REG_RDX] = sfi_number(at + 4);
-        registers[REG_RIP] = (greg_t)(uintptr_t)(code->text + code->exit);
-    }
-    return at < end;
+    for (const uint8_t *at = code->access; at < code->access + SFI_ACCESS * code->accesses; at += SFI_ACCESS)
+        if ((uintptr_t)registers[REG_RIP] == (uintptr_t)code->text + sfi_number(at)) {
+            registers[REG_RDX] = sfi_number(at + 4);
+            registers[REG_RIP] = (greg_t)(uintptr_t)(code->text + code->exit);
+            return 1;
+        }
+    return 0;
 }
 
 static void sfi_unmap_code(struct sfi_code codes[], size_t count) {
@@ -73,13 +73,14 @@ static void sfi_unmap_code(struct sfi_code codes[], size_t count) {
             munmap(codes[count - 1].text, codes[count - 1].size);
 }
 
-/* Maps a sandbox's code, of which places, sizes, entries, accesses and text begin there in the file. Returns where it ends, or NULL. */
-static const uint8_t *sfi_map_sandbox(const uint8_t *at, const struct sfi_sandbox *s, struct sfi_code *code) {
+/* Maps a sandbox's code: places, sizes (both before `end`), entries, accesses and text, from `at`. Returns where it ends, or NULL. */
+static const uint8_t *sfi_map_sandbox(const uint8_t *at, const uint8_t *end, const struct sfi_sandbox *s, struct sfi_code *code) {
     const size_t exit = sfi_number(at + SFI_PLACES), accesses = sfi_number(at + SFI_PLACES + 4), units = s->code_size / s->unit;
     const size_t text = (exit + sizeof sfi_way_out + SFI_ZONE - 1) / SFI_ZONE * SFI_ZONE, listed = SFI_ACCESS * accesses;
     const uint8_t *const entry = at + SFI_PLACES + 8, *const access = entry + 4 * units;
     const size_t size = text + s->code_size + SFI_PLACES + listed;
-    uint8_t *const map = mmap(NULL, size, PROT_READ | PROT_WRITE, MAP_PRIVATE | MAP_ANONYMOUS, -1, 0);
+    const int is_there = (size_t)(end - entry) >= 4 * units + listed + exit;
+    uint8_t *const map = is_there ? mmap(NULL, size, PROT_READ | PROT_WRITE, MAP_PRIVATE | MAP_ANONYMOUS, -1, 0) : MAP_FAILED;
     if (map == MAP_FAILED)
         return NULL;
     *code = (struct sfi_code){ s, map, map + text, map + text + s->code_size, map + text + s->code_size + SFI_PLACES, size, exit, accesses };
@@ -95,27 +96,27 @@ static const uint8_t *sfi_map_sandbox(const uint8_t *at, const struct sfi_sandbo
     return mprotect(map, size, PROT_READ) || mprotect(map, text, PROT_READ | PROT_EXEC) ? NULL : access + listed + exit;
 }
 
-/* Whether the file is whole, and of so many sandboxes. */
+/* Whether the file has its checksum, and so many sandboxes. */
 static int sfi_is_native_file(const uint8_t *file, size_t length, size_t count) {
     return length >= SFI_FRONT + SFI_BACK && memcmp(file, "SFIN\2\0\0", 8) == 0 && sfi_number(file + SFI_FRONT - 4) == count &&
         sfi_number(file + length - 8) == (sfi_u32)(length - 8) && sfi_number(file + length - 4) == sfi_crc32(file, length - 4);
 }
 
-/* Maps the code of each sandbox, whose data have to be whole pages. 0 where the file isn't that of these, or memory ran out. */
+/* Maps the code of each sandbox, whose data have to be whole pages. 0 where the file isn't whole, has other fields, or memory ran out. */
 static int sfi_map_code(const uint8_t *file, size_t length, const struct sfi_sandbox sandboxes[], size_t count, struct sfi_code codes[]) {
-    const uint8_t *at = sfi_is_native_file(file, length, count) ? file + SFI_FRONT : NULL;
+    const uint8_t *at = sfi_is_native_file(file, length, count) ? file + SFI_FRONT : NULL, *const end = at ? file + length - SFI_BACK : NULL;
     memset(codes, 0, count * sizeof *codes);
     for (const struct sfi_sandbox *s = sandboxes; at != NULL && s < sandboxes + count; s++) {
-        const int is_of_it = memcmp(at, &s->code, SFI_FIELDS) == 0 && s->unit == (file[19] == 'W' ? 4 : 16) && s->data_size % SFI_ZONE == 0;
-        at = is_of_it ? sfi_map_sandbox(at + SFI_FIELDS, s, &codes[s - sandboxes]) : NULL;
+        const int is_of_it = end - at >= SFI_FIELDS + SFI_PLACES + 8 && memcmp(at, &s->code, SFI_FIELDS) == 0 && s->data_size % SFI_ZONE == 0;
+        at = is_of_it && s->unit == (file[19] == 'W' ? 4 : 16) ? sfi_map_sandbox(at + SFI_FIELDS, end, s, &codes[s - sandboxes]) : NULL;
     }
-    const int is_whole = at != NULL && at == file + length - SFI_BACK;
+    const int is_whole = at != NULL && at == end;
     sfi_unmap_code(codes, is_whole ? 0 : count);
     return is_whole;
 }
 
-/* Runs the code from an entry on, which counts without bit 31. It comes out before a step that it leaves to the host. */
-static void sfi_run_code(const struct sfi_code *code, struct sfi_hart *h, sfi_u32 entry) {
+/* Runs code from that entry with the low 31 bits of `left`; returns with pc at the next step. Not inlined: one frame for all rounds. */
+__attribute__((noinline)) static void sfi_run_code(const struct sfi_code *code, struct sfi_hart *h, sfi_u32 entry) {
     const sfi_u32 before = h->left & SFI_COUNTED;
     uintptr_t kept[16] = { [12] = (uintptr_t)code->table - code->sandbox->code, [13] = (uintptr_t)code->text, [14] = before,
         [15] = (uintptr_t)h->data - code->sandbox->data };
@@ -135,8 +136,7 @@ static int sfi_native_turn(const struct sfi_code *code, struct sfi_hart *h, sfi_
     const struct sfi_sandbox *const s = code->sandbox;
     const __typeof__(sfi_running) outer = sfi_running;
     int how = SFI_NEXT;
-    sfi_running.code = code;
-    sfi_running.data = h->data;
+    sfi_running = (__typeof__(sfi_running)){ code, h->data };
     while (how == SFI_NEXT && h->left != 0) {
         const sfi_u32 offset = h->pc - s->code;
         const size_t entry = offset < s->code_size && offset % s->unit == 0 ? sfi_number(code->table + offset) : code->exit;
