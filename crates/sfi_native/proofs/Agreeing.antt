@@ -274,7 +274,7 @@ module _ (p : Part) (right : IsRightPart p) where
           record {
             answers = (answer.0, n.0, record { from = g; to = k; slow = slow; proper = proper; alike = alike; leads = leads; answers = answer.1 });
             right = λ a o it. answers_same k it.to m a o (moves_same code g it.from k it.to (like g m a o slow proper alike it) leads it.leads) it.answers;
-            relies = λ a o it. tt;
+            relies = λ o it. tt;
           }
 
 pub there_is_a_host : ThereIsAHost

@@ -148,14 +148,13 @@ module _ (sandbox : ℕ) (p : Part) (code : List Line) (s : State) (left : ℕ) 
             bytes = it.bytes;
             spares = memory_join p l host.own entry.core m.core k.core spares.memory (memory_join p l host.own m.core code_does.out.core k.core by_code.memory it.spares);
           };
-          relies = done.relies (Some e) k did;
         }
 
     right : (k : Machine) → host.does code_does.out None k → Answers p l base code host.own host_does.next code_does.out None k
     right k did = done.right None k did
 
     ready_again : (k : Machine) → host.does code_does.out None k → Ready p code l t base table_at host host_does.next k
-    ready_again k did = ready_on p code l t base table_at host begins size g host_does.next m k here (all k (right k did).1) (done.relies None k did)
+    ready_again k did = ready_on p code l t base table_at host begins size g host_does.next m k here (all k (right k did).1) (done.relies k did)
 
   rounds : (room n moves : ℕ) (g last : Going) (m : Machine) → n ≤ room → Ready p code l t base table_at host g m → Spares p l host.own entry.core m.core → IsInCode g.place → Turns sandbox p code s left moves g
       → AreTranslatedSteps Assembly p code n g last → IsOver last → EndsWithin room (line_most * n) t p l (IsAccessed p l table_at) host Ended m

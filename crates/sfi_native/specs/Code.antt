@@ -47,7 +47,7 @@ abbrev pub operand_of : Option Register → ℕ → Operand
 operand_of (Some q) r = Reg q
 operand_of None r = Mem (slot r)
 
--- register r into that one
+-- register r into that one, always
 abbrev pub fetch : RegisterMap → Register → ℕ → List Native
 fetch registers dst r = Mov Dword dst (operand_of (assigned registers r) r) ∷ []
 
@@ -56,7 +56,7 @@ abbrev pub store_eax : Option Register → ℕ → Native
 store_eax (Some q) r = Mov Dword q (Reg Rax)
 store_eax None r = MovStore Dword (slot r) Rax
 
--- eax into register r
+-- moves a result from eax to register r's place
 abbrev pub write : RegisterMap → ℕ → List Native
 write registers r = if is_fixed r then [] else store_eax (assigned registers r) r ∷ []
 
@@ -76,7 +76,7 @@ read None free r = Mov Dword free (Mem (slot r)) ∷ []
 abbrev pub result_in : Option Register → Register
 result_in place = register_or place Rax
 
--- rd gets the result
+-- moves a result from eax to rd's place, unless it was computed there
 abbrev pub settle : RegisterMap → Option Register → ℕ → List Native
 settle registers (Some q) rd = []
 settle registers None rd = write registers rd

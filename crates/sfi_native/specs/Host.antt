@@ -107,11 +107,11 @@ abbrev pub Answers : Part → Layout → ℕ → List Line → (ℕ → Type 0) 
 Answers p l base code own k m None n = (None ≡ answer_of k.place) × Serves p l base code own k m n
 Answers p l base code own k m (Some e) n = HandsOver p l own k m e n
 
--- Where code has come out the host does something, and all that it may do is right.
+-- Where code has come out the host does something, and all that it may do is right. Where it enters code, what it relies on holds.
 pub record Works (p : Part) (l : Layout) (base : ℕ) (code : List Line) (host : Host) (k : Going) (m : Machine) : Type 0 where
   pub answers : (a : Option Ending) × (n : Machine) × host.does m a n
   pub right : (a : Option Ending) (n : Machine) → host.does m a n → Answers p l base code host.own k m a n
-  pub relies : (a : Option Ending) (n : Machine) → host.does m a n → host.relies n.core
+  pub relies : (n : Machine) → host.does m None n → host.relies n.core
 
 -- So a host works wherever code comes out for a slow step, between proper states, of which the first has all bytes of the data
 -- and fewer steps left than 2^31, as each state of a turn has; with what it relies on, of which code changes nothing.

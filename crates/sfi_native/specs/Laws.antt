@@ -32,7 +32,7 @@ use Rattle.sfi_native.specs.Table.{HasTable, LieInCode, is_unit_start}
 abbrev pub line_most : ℕ
 line_most = 17
 
--- From a state of the processor at an address, a line's code leads to another address, and to the state of the next turn.
+-- From a state of the processor at an address, a line's code leads to another address, and to the turn's next state.
 pub record LeadsTo (t : Text) (at to : ℕ) (p : Part) (l : Layout) (c : Core) (next : Going) : Type 0 where
   pub after : Core
   pub reached : Reaches t line_most (record { rip = at; core = c }) (record { rip = to; core = after })
@@ -227,7 +227,7 @@ abbrev pub IsReady : Part → Going → Line → Type 0
 IsReady p g (Does at n i) = InRange i × Accesses p g i
 IsReady p g line = Unit {0}
 
--- where lines lead so far
+-- the places a line leads to: other lines, a slow step, the loop
 abbrev pub IsCovered : ControlPoint → Type 0
 IsCovered (Before to) = Unit {0}
 IsCovered Slow = Unit {0}
@@ -239,7 +239,7 @@ pub record IsAlike (p : Part) (l : Layout) (base : ℕ) (code : List Line) (g : 
   pub related : IsRelated p l g m.core
   pub is_at : IsAt l.registers base code g m
 
--- From there the processor leads to where the next turn is, by at most so many instructions.
+-- From there the processor leads to the turn's next state, by at most so many instructions.
 pub record Follows (t : Text) (most : ℕ) (p : Part) (l : Layout) (base : ℕ) (code : List Line) (m : Machine) (next : Going) : Type 0 where
   pub after : Machine
   pub reached : Reaches t most m after

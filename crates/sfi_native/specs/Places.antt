@@ -61,7 +61,7 @@ start_or_end registers code None = size_of_all registers code
 abbrev pub distance : ℕ → ℕ → ℕ
 distance from to = (to + (2 ^ 32 - from)) % 2 ^ 32
 
--- to labels, from where the rest begins
+-- from where the rest begins to the label of an address
 abbrev pub distances : RegisterMap → List Line → List Line → ℕ → ℕ
 distances registers code rest to = distance (start registers code rest) (start_or_end registers code (label to code))
 

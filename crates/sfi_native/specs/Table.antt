@@ -30,7 +30,7 @@ LinesLieInCode = (sandbox : ℕ) (p : Part) (code : List Line) → IsCleanPart s
 -- sandbox's address 0, r13 (13) that of the code.
 pub record HasTable (p : Part) (l : Layout) (base : ℕ) (code : List Line) (c : Core) : Type 0 where
   pub table : List ℕ
-  pub entries : (AreEntries l.registers) p code table
+  pub entries : AreEntries l.registers p code table
   pub at : ℕ
   pub ends : at + length p.code ≤ 2 ^ 64
   pub frame_apart : DoNotMeet at (length p.code) l.frame frame_size

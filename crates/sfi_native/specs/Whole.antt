@@ -76,7 +76,6 @@ pub record EndsAsImage (p : Part) (code : List Line) (l : Layout) (base : ℕ) (
   pub is_over : IsOver last
   pub as_image : IsAsImage p s left last
   pub ends : HandsOver p l host.own last m e n
-  pub relies : host.relies n.core
 
 -- Whatever the host does, the turn ends so, by so many instructions of code at most: five lines for each step left, and five. All
 -- that these access lies in frame, table, data and guard zones.
@@ -95,7 +94,7 @@ NativeTurnsEnd =
     → IsHost p l base code host → (entered : IsEntered sandbox p code l t base host s left m)
     → TurnEnds p code l t base entered.table.at host s left m
 
--- Where a host enters code again, in a state that a run comes to and with steps left, a turn is entered: so each turn's end may
+-- Where a host enters code again, with its frame where it was, in a state that a run comes to and with steps left, a turn is entered: so each turn's end may
 -- lead to a next turn (`IsAsImage`), also after a reply (`ReachedGoOn`).
 abbrev pub EachTurnGoesOn : Type 1
 EachTurnGoesOn =
