@@ -81,7 +81,10 @@ def row(name, folder):
 
 
 SECTIONS = {
-    "a `put` of no byte": ".sandbox 256\n.gate exit 0\n.gate put 1\n" + " li a1, 0\n call put\n" * 3 + " ebreak\n",
+    "a `put` of no byte, by the gate called last": ".sandbox 256\n.gate exit 0\n.gate put 1\n"
+                                                   + " li a1, 0\n call put\n" * 3 + " ebreak\n",
+    "by the other of two": ".sandbox 256\n.gate exit 0\n.gate put 1\n.gate other 1\n"
+                           + " li a1, 0\n call put\n li a1, 0\n call other\n" * 3 + " ebreak\n",
     "a yield, and the neighbour's entry": (".sandbox 256\n.gate yield 3\n" + " call yield\n" * 4 + " ebreak\n") * 2}
 
 
