@@ -176,7 +176,8 @@ bool sfi_device_function_at(const struct sfi_device_part *part, uint32_t address
 
 /* ---- Ports: pmp.c, for code in M-mode; none.c, for a chip without physical memory protection; sv32.c has a header */
 
-/* Closes the guard zones of the sandbox of that number, once sfi_device_write_protection is called. DONE, NO_GUARDS or NO_ENTRY. */
+/* Closes the guard zones of the sandbox of that number, once sfi_device_write_protection is called. DONE, NO_GUARDS or NO_ENTRY.
+   pmp.c looks at the part's data_base and data_size alone: they may be a place in which each version of a plug-in has to lie. */
 struct sfi_device_fault sfi_device_close_guards(uint32_t number, const struct sfi_device_part *part);
 /* Writes all SFI_DEVICE_PMP_ENTRIES entries: those that nobody asked for are turned off, where they aren't locked. Called with
    interrupts off. DONE, OTHER_RULES or ENTRY_DIFFERS. */
@@ -198,8 +199,8 @@ struct sfi_device_span {
    closed. A mirror behind a data cache can't be seen so. DONE or IS_MIRRORED. */
 struct sfi_device_fault sfi_device_try_mirrors(const struct sfi_device_part *part, const struct sfi_device_span spans[],
                                                uint32_t count, uint32_t (*host_address)(uint32_t address));
-/* Tries that loads at both ends of each guard zone trap, and none at the ends of the data. When all is as sandboxes will
-   find it, before an interrupt is on but the timer's. DONE, GUARD_IS_OPEN or DATA_IS_CLOSED. */
+/* Tries that loads at both ends of each guard zone trap, and none at the ends of the data; of the part it looks at data_base and
+   data_size alone. When all is as sandboxes will find it, before an interrupt is on but the timer's. DONE, GUARD_IS_OPEN or DATA_IS_CLOSED. */
 struct sfi_device_fault sfi_device_try_guards(const struct sfi_device_firmware *firmware, const struct sfi_device_part *part);
 
 /* ---- What the firmware may define: weak names, which are called where they are there. For the sake of a weak name a linker

@@ -110,7 +110,8 @@ enum sfi_device_store_status {
 enum sfi_device_store_status sfi_device_store_open(struct sfi_device_store *store);
 /* Tells the area of the version to start: a new one, or one on trial, with one start more; else the latest good one. Before
    that it marks each bad that comes before it and can't be started: on trial too often, or not as its claim says. Where the
-   flash can't be written, a good version is told all the same. DONE or NO_VERSION. */
+   flash can't be written, a good version is told all the same. Its image has record.versions[area].claim.length bytes. DONE or
+   NO_VERSION. */
 enum sfi_device_store_status sfi_device_store_choose(struct sfi_device_store *store, uint32_t *area);
 /* The chosen version works: its trial ends, and older ones than its claim's least sequence number never run again. To be called
    at each start: of a version that is kept it writes nothing, unless power was cut before the counter was raised. */
