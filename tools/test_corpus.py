@@ -116,6 +116,12 @@ class Files(Corpus):
             self.assertEqual((status, lines), (3, []))
             self.assertIn("usage: sfi-check", said)
 
+    def test_hexadecimal_text(self):
+        name = self.image("smallest.hex", SMALLEST.hex().encode())
+        status, lines, said = self.check(name)
+        self.assertEqual((status, said), (2, f"sfi-check: {name} is hexadecimal text, which `sfi check` reads\n"))
+        self.assertTrue(lines[0].startswith("layout fault 1 Magic "), lines)
+
     def test_json(self):
         name = self.image("a\nb", BROKEN)
         told = json.loads(self.check("--json", name)[1][0])

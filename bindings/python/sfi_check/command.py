@@ -17,6 +17,7 @@ from typing import NoReturn, Optional
 from . import built_words, check_file
 
 WRONG_WORDS = 3
+DIGITS = b"534649"  # with which an image begins in hexadecimal text
 
 
 class Parser(argparse.ArgumentParser):
@@ -45,6 +46,15 @@ def parsed(words: Optional[Sequence[str]]) -> argparse.Namespace:
     return parser.parse_args(words)
 
 
+def is_text(file: str) -> bool:
+    """Whether a file begins as an image in hexadecimal text."""
+    try:
+        with open(file, "rb") as opened:
+            return opened.read(len(DIGITS)) == DIGITS
+    except OSError:
+        return False
+
+
 def main(words: Optional[Sequence[str]] = None) -> int:
     status = 0
     try:
@@ -52,6 +62,8 @@ def main(words: Optional[Sequence[str]] = None) -> int:
         for file in options.files:
             judged = check_file(file)
             print(judged.json() if options.json else judged, flush=True)
+            if is_text(file):
+                print(f"sfi-check: {file} is hexadecimal text, which `sfi check` reads", file=sys.stderr)
             status = max(status, judged.status)
     except BrokenPipeError:
         os.dup2(os.open(os.devnull, os.O_WRONLY), sys.stdout.fileno())  # nothing is left to be written at the end
