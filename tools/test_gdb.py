@@ -1,9 +1,11 @@
 """Tests of what sfi-gdb answers gdb: `tools/unit_tests.py tools`. Sessions of gdb itself are in examples/c/elf/test.sh."""
+import subprocess
 import unittest
 
 from suygapid.gdb.machine import End
 from suygapid.gdb.stub import DONE, FEATURES, WRONG, Stub
 from sfi_run import OutsideData  # which the package finds
+from testing import TOOLS
 
 
 class Machine:
@@ -42,6 +44,13 @@ class Packets(unittest.TestCase):
         for end, told in ((End(0), "W00"), (End(105), "W69"), (End(0xffffffff), "Wffffffff"), (End(11, True), "X0b")):
             stub.stop = end
             self.assertEqual([stub.answer(text) for text in ("?", "qfThreadInfo")], [told, "l"])
+
+
+class Words(unittest.TestCase):
+    def test_a_program_alone_is_wanted(self):
+        done = subprocess.run([TOOLS / "sfi-gdb"], capture_output=True, text=True, check=False)
+        self.assertEqual(done.returncode, 2)
+        self.assertTrue(done.stderr.endswith("required: PROGRAM.elf\n"), done.stderr)
 
 
 if __name__ == "__main__":

@@ -31,7 +31,8 @@ def parsed(words):
     how.add_argument("--pipe", action="store_true", help="starts no gdb, and speaks with the one that started it")
     parser.add_argument("--input", type=digits, default=b"", metavar="HEX", help="what the program reads")
     parser.add_argument("program", metavar="PROGRAM.elf", help="a linked program, compiled with -g")
-    parser.add_argument("words", nargs=argparse.REMAINDER, metavar="OPTIONS OF GDB", help="such as -x FILE")
+    of_gdb = parser.add_argument("words", nargs=argparse.REMAINDER, metavar="OPTIONS OF GDB", help="such as -x FILE")
+    of_gdb.required = False  # else argparse asks for them where no program is named
     return parser.parse_args(words)
 
 
