@@ -68,7 +68,7 @@ SOURCES = [
     Sources("config/os/newlib", "gnu++98", "ctype_configure_char", OF_STREAM_FILES),
 ]
 # The files beside this one, and their options.
-OWN = {"classic": OF_STREAMS, "ended": [], "instances": OF_STREAMS, "nothrow": [], "terminating": []}
+OWN: dict[str, list[str]] = {"classic": OF_STREAMS, "ended": [], "instances": OF_STREAMS, "nothrow": [], "terminating": []}
 OWN_STANDARD = "gnu++17"
 UNCAUGHT = "uncaught"  # the one for programs that catch nothing, and its folder
 UNWINDER = ("unwind-dw2", "frames")  # GCC's unwinder, and what finds frames for it
@@ -124,7 +124,7 @@ def own(name: str, options: Iterable[str] = ()) -> Job:
 
 def jobs(tree: str) -> list[Job]:
     """The files of C++ to compile."""
-    found = list(map(own, OWN, OWN.values()))
+    found = [own(name, options) for name, options in OWN.items()]
     for sources in SOURCES:
         folder, options = sources.folder, [f"-std={sources.standard}", *sources.options]
         found += [(f"{tree}/libstdc++-v3/{folder}/{name}.cc", f"{folder.replace('/', '-')}-{name}", options)
