@@ -4,8 +4,8 @@
        exec IMAGE FILE.native TOLD BUDGET SERVES [--dir HOST GUEST rw|ro].. [--env NAME=VALUE].. -- [WORD]..
 
    IMAGE has an accepted image's bytes, and FILE.native what `sfi native` wrote of it. TOLD is the descriptor to which it writes
-   `loaded`, unless this image can't be run so, and then how a run ended that didn't exit. BUDGET is a number of steps, SERVES `files`
-   or `console`. It ends as `sfi exec` does. */
+   `loaded`, unless this can't be run so (sfi-exec then goes by steps, and says what is wrong), and how a run ended that didn't exit.
+   BUDGET is a number of steps, SERVES `files` or `console`. It ends as `sfi exec` does. */
 #define _GNU_SOURCE
 #include <errno.h>
 #include <inttypes.h>
@@ -202,7 +202,7 @@ static int end_run(struct sfi_run_world *world, const struct sfi_run_event *even
     return event->kind == SFI_RUN_TRAPPED ? TRAPPED : USED;
 }
 
-/* Opens the folders for the sandbox's gate, and has the words ready. Whether it could, else why not. */
+/* Opens the folders for the sandbox's gate, and has the words ready. Whether it could. */
 static bool open_files(struct host *host, char **words, int count, bool has_files) {
     static struct sfi_run_folder folders[SFI_RUN_FOLDERS_MOST + 1];
     uint32_t gate = UINT32_MAX, folder_count = 0;
@@ -219,11 +219,9 @@ static bool open_files(struct host *host, char **words, int count, bool has_file
     }
     if (has_files)
         sfi_run_import(image_bytes, image_size, 0, "sfi_system", 10, &gate);
-    const int why = sfi_run_files_open(&host->files, gate, folders, folder_count);
-    if (why != 0)
-        fprintf(stderr, "sfi-exec: a folder can't be opened: %s\n", strerror(why));
+    const bool is_open = sfi_run_files_open(&host->files, gate, folders, folder_count) == 0;
     host->files.words = packed(words + k + 1, (uint32_t)(count - k - 1), variables, (uint32_t)variable_count, &host->files.words_size);
-    return why == 0 && host->files.words != NULL;
+    return is_open && host->files.words != NULL;
 }
 
 int main(int count, char **words) {
@@ -232,11 +230,10 @@ int main(int count, char **words) {
     struct sfi_run_event event;
     const struct sfi_run_watch watch = { STEPS_BETWEEN, goes_on, &host };
     FILE *const told = count > WORDS ? fdopen(atoi(words[3]), "w") : NULL;
-    if (told == NULL || !load(words[1], words[2], &world))
+    if (told == NULL || !load(words[1], words[2], &world) ||
+        !open_files(&host, words + WORDS + 1, count - WORDS - 1, strcmp(words[WORDS], "files") == 0))
         return FAULT;
     fprintf(told, "loaded\n");
-    if (!open_files(&host, words + WORDS + 1, count - WORDS - 1, strcmp(words[WORDS], "files") == 0))
-        return FAULT;
     if (isatty(STDOUT_FILENO))
         setvbuf(stdout, NULL, _IONBF, 0);
     sfi_run_serve_watched(&world, 0, strtoull(words[4], NULL, 10), serve, &host, &watch, &event);
