@@ -77,13 +77,20 @@ class Results(Folder):
         first = tools.rewritten(path, Target("words"))
         with mock.patch("suygapid.elf.tools.ran", self.fail):
             self.assertEqual(tools.rewritten(path, Target("words")), first)
-        with mock.patch("suygapid.elf.tools.ran", lambda words: (b"anew", b"")):
-            self.assertEqual(tools.rewritten(path, Target("words"), is_kept=False), b"anew")
+        with mock.patch("suygapid.elf.tools.run_converter", self.converts_anew):
+            self.assertEqual(tools.rewritten_each([path], Target("words"), is_kept=False), [b"anew"])
             self.assertEqual(tools.rewritten(path, Target("2")), b"anew")
             self.assertEqual(tools.rewritten(path, Target("words", is_checking=True)), b"anew")
-            self.assertEqual(tools.rewritten(path, Target("words"), "known"), b"anew")
+            self.assertEqual(tools.rewritten_each([path], Target("words"), "known"), [b"anew"])
             with mock.patch("suygapid.elf.tools.converter", lambda: b"another"):
                 self.assertEqual(tools.rewritten(path, Target("words")), b"anew")
+
+    def converts_anew(self, folder, assemblies, _words):
+        """In place of a converter, whose result for each file is another."""
+        made = [os.path.join(folder, os.path.basename(it)) for it in assemblies]
+        for path in made:
+            pathlib.Path(path).write_bytes(b"anew")
+        return made
 
     def test_converter(self):
         """The converter is files that are installed: what a release keeps by them is found after an installation."""
