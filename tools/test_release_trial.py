@@ -24,6 +24,7 @@ import release_trial
 import runtime_file
 import test_evidence
 import verify_evidence
+from suygapid import native
 from testing import TOP, Folder, needs
 
 SAYS = "#!/bin/sh\necho accepted sandboxes=1 bundles=16\n"
@@ -107,13 +108,16 @@ class Whole(Folder):
             (self.top / path).parent.mkdir(parents=True, exist_ok=True)
             (self.top / path).write_bytes(data)
             (self.top / path).chmod(0o755)
-        (self.top / ".gitignore").write_text("\n".join(built), encoding="utf-8")
+        host = self.top / "tools" / "exec"
+        host.parent.mkdir(exist_ok=True)
+        host.write_bytes(b"a host of native code")
+        (self.top / ".gitignore").write_text("\n".join((*built, "tools/exec")), encoding="utf-8")
         for words in (["init", "-q"], ["add", "-A"], ["-c", "user.name=a", "-c", "user.email=a@b", "commit", "-qm", "all"]):
             subprocess.run(["git", "-C", self.top, *words], check=True)
         first, *pages, checker, runtime = (self.top / it for it in built)
         for where, what, how in ((release, "TOP", self.top), (release, "MADE", pages), (release, "stale", list), (libraries, "HEADERS", {}),
                                  (installed, "built", lambda: [first]), (checker_file, "missing", list), (checker_file, "make", lambda: checker),
-                                 (runtime_file, "missing", list), (runtime_file, "make", lambda: runtime), (converted, "files", dict)):
+                                 (runtime_file, "missing", list), (runtime_file, "make", lambda: runtime), (native, "make", lambda: host), (converted, "files", dict)):
             patched = mock.patch.object(where, what, how)
             patched.start()
             self.addCleanup(patched.stop)
@@ -132,7 +136,7 @@ class Whole(Folder):
         made, said = self.release()
         with tarfile.open(made) as tar:
             names = sorted(it.partition("/")[2] for it in tar.getnames())
-        self.assertEqual(names, sorted([*FILES, ".gitignore", "SHA256SUMS", "built.json"]))
+        self.assertEqual(names, sorted([*FILES, ".gitignore", "SHA256SUMS", "built.json", "tools/exec"]))
         self.assertIn("no evidence is in it", said)
 
     def test_the_same_files_make_the_same_bytes(self):
