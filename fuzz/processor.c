@@ -19,9 +19,9 @@
 #include <ucontext.h>
 #include <unistd.h>
 
-enum { PAGE = 4096, HLT = 0xF4, FORMS = 29, OPERATIONS = 180, SHOWN = 3, SECONDS = 600 };
+enum { PAGE = 4096, HLT = 0xF4, FORMS = 21, OPERATIONS = 180, SHOWN = 3, SECONDS = 600 };
 enum stop { DONE, FAULT, DIVIDE_ERROR, UNKNOWN_FLAG };
-enum form { MOV_STORE_BYTE = 2, MOVSXD = 9, ALU = 11, SHIFT_IMM = 16, DIVIDE = 19, JCC = 22, PUSH = 25, POP = 26 };
+enum form { MOV_STORE_BYTE = 2, MOVSXD = 6, ALU = 7, SHIFT_IMM = 11, DIVIDE = 14, SETCC = 16, JCC = 17 };
 #define UNKNOWN 2
 #define RIP 16 /* beside the registers, by number */
 
@@ -115,8 +115,8 @@ struct trial {
 };
 
 /* Mistakes in what is expected, each as of a definition that errs. */
-static const char *const PLANTS[] = {"carry", "upper-half", "sign", "condition", "wide-store", "shift-count", "quotient", "push"};
-enum plant { CARRY, UPPER_HALF, SIGN, CONDITION, WIDE_STORE, SHIFT_COUNT, QUOTIENT, PUSH_ORDER, NO_PLANT };
+static const char *const PLANTS[] = {"carry", "upper-half", "sign", "condition", "wide-store", "shift-count", "quotient", "set-byte"};
+enum plant { CARRY, UPPER_HALF, SIGN, CONDITION, WIDE_STORE, SHIFT_COUNT, QUOTIENT, SET_BYTE, NO_PLANT };
 
 /* Of each register that the instruction changes, these bits of the expected value stay, and these of the old one come back. */
 static void change_results(struct x86_trial_case *c, uint64_t kept_of_value, uint64_t kept_of_old) {
@@ -154,8 +154,8 @@ static void plant_mistake(struct trial *t, enum plant plant, const uint8_t *memo
         change_results(c, 0, 0);
     if (plant == QUOTIENT && c->form == DIVIDE && c->stop == DIVIDE_ERROR) /* that doesn't fit loses its high bits */
         c->stop = DONE, c->expected_next = t->after;
-    if (plant == PUSH_ORDER && c->form == PUSH && c->stop == DONE && c->code[0] == 0x54) /* rsp is moved before it is stored */
-        memcpy(t->expected_memory + (c->expected_registers[4] - DATA), &c->expected_registers[4], 8);
+    if (plant == SET_BYTE && c->form == SETCC) /* clears the rest of the register */
+        change_results(c, 0xFF, 0);
 }
 
 /* Makes the case of a seed, in the pages. */

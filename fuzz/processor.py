@@ -36,12 +36,11 @@ def each(names, others):
 
 # The operations of each form, in the order of `Instr` and of crates/x86_trial/src/instrs.rt.
 FORMS = {
-    "Mov": WIDTHS, "MovStore": WIDTHS, "MovStoreByte": [""], "MovStoreWord": [""], "MovImm": [""], "MovImmStore": [""],
-    "MovImmStoreByte": [""], "MovImmStoreWord": [""], "MovExtended": each(["movzx", "movsx"], ["8", "16"]), "Movsxd": [""],
-    "Lea": [""], "Alu": each(ALU, WIDTHS), "AluStore": ALU, "AluImm": each(ALU, WIDTHS), "Test": [""], "Unary": ["not", "neg"],
+    "Mov": WIDTHS, "MovStore": WIDTHS, "MovStoreByte": [""], "MovStoreWord": [""], "MovImm": [""],
+    "MovExtended": each(["movzx", "movsx"], ["8", "16"]), "Movsxd": [""],
+    "Alu": each(ALU, WIDTHS), "AluImm": each(ALU, WIDTHS), "Test": [""], "Unary": ["neg"],
     "ShiftImm": each(SHIFTS, WIDTHS), "ShiftCl": SHIFTS, "Imul": WIDTHS, "Divide": ["div", "idiv"], "Cdq": [""],
-    "Setcc": CONDITIONS, "Jcc": CONDITIONS, "Jmp": [""], "JmpTo": [""], "Push": [""], "Pop": [""], "Ret": [""],
-    "Nop": [str(size) for size in range(1, 10)],
+    "Setcc": CONDITIONS, "Jcc": CONDITIONS, "Jmp": [""], "JmpTo": [""], "Nop": [str(size) for size in range(1, 10)],
 }
 SHARES, PLANTS = "each operation has its share of the cases", "planted mistakes"
 NAMES = [*FORMS, SHARES, PLANTS]
@@ -83,7 +82,7 @@ def see_counts(tally, counts, cases):
         if count["compared"]:
             tally.compared[form] = tally.compared.get(form, 0) + count["compared"]
             tally.wrong[form] += count["differ"]
-    least = cases // 500  # the rarest operations have one case in 348
+    least = cases // 350  # the rarest operations have one case in 252
     rare = [f"{form} {operation}" for (form, operation), count in counts.items() if count["compared"] < least]
     tally.see(SHARES, [], rare)
     total = collections.Counter()

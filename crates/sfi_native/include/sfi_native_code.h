@@ -9,11 +9,11 @@
 #if !defined(__x86_64__) || !defined(__LP64__) || !defined(__linux__)
 #error "native code wants Linux on x86-64, with pointers of 64 bits"
 #endif
-enum { SFI_IN_FRAME = 255, SFI_ASSIGNABLE = 0xfe8, SFI_COUNTED = 0x7fffffff };  /* places: rbx, rbp, rsi, rdi, r8 to r11; steps */
-enum { SFI_FRONT = 24, SFI_FIELDS = 28, SFI_PLACES = 32, SFI_ACCESS = 8, SFI_BACK = 8 };  /* in the file: specs/File.antt */
+enum { SFI_ASSIGNABLE = 0xfe8, SFI_FIXED = 0xf000001, SFI_COUNTED = 0x7fffffff };  /* rbx, rbp, rsi, rdi, r8 to r11; x0, x24 to x27 */
+enum { SFI_FRONT = 24, SFI_FIELDS = 28, SFI_PLACES = 32, SFI_ACCESS = 12, SFI_BACK = 8, SFI_IN_FRAME = 255 };  /* in the file: specs/File.antt */
 
-/* A sandbox's code in a map of its own: the text, which ends with the way out; behind it, not to be executed, the table, which has
-   at each unit's offset the one at which it is entered (specs/Table.antt), the registers' places, and the accesses. */
+/* A sandbox's code in a map of its own: the text, up to the way out; behind it, not to be executed, the table, which has each unit's
+   entry and the steps owed there at twice its offset (specs/Table.antt), the registers' places, and the accesses. */
 struct sfi_code {
     const struct sfi_sandbox *sandbox;
     uint8_t *text, *table, *places, *access;
@@ -37,10 +37,10 @@ static sfi_u32 sfi_crc32(const uint8_t *bytes, size_t length) {
 }
 
 /* Enters the code at `at`. x is copied into the frame (128 bytes at rsp) and back. Above it lie the way out's target, x and kept.
-   kept[n] is register n at entry; the map's registers and r14 are written back. Returns edx, the pc. */
+   kept[n] is register n at entry; the plan's registers and r14 are written back. Returns edx, the pc. */
 sfi_u32 sfi_enter_code(sfi_u32 x[32], uintptr_t kept[16], sfi_u32 pc, const uint8_t *at) __attribute__((visibility("hidden")));
-__asm__(".pushsection .text\nsfi_enter_code:\n push %rbx; push %rbp; push %r12; push %r13; push %r14; push %r15; sub $152,%rsp\n"
-        " lea 1f(%rip),%rax; mov %rax,128(%rsp); mov %rdi,136(%rsp); mov %rsi,144(%rsp); mov %rsi,%rax\n"
+__asm__(".pushsection .text\n.weak sfi_enter_code; .hidden sfi_enter_code\nsfi_enter_code:\n push %rbx; push %rbp; push %r12; push %r13\n"
+        " push %r14; push %r15; sub $152,%rsp; lea 1f(%rip),%rax; mov %rax,128(%rsp); mov %rdi,136(%rsp); mov %rsi,144(%rsp); mov %rsi,%rax\n"
         " .irp k,0,1,2,3,4,5,6,7\n movups 16*\\k(%rdi),%xmm0; movups %xmm0,16*\\k(%rsp)\n .endr\n"
         " mov 24(%rax),%rbx; mov 40(%rax),%rbp; mov 48(%rax),%rsi; mov 56(%rax),%rdi\n"
         " .irp r,8,9,10,11,12,13,14,15\n mov 8*\\r(%rax),%r\\r\n .endr\n jmp *%rcx\n"
@@ -52,7 +52,7 @@ __asm__(".pushsection .text\nsfi_enter_code:\n push %rbx; push %rbp; push %r12; 
 /* The turn that a thread is in. */
 static _Thread_local struct { const struct sfi_code *code; const uint8_t *data; } sfi_running __attribute__((tls_model("initial-exec")));
 
-/* Takes a fault if rip is one of the running code's accesses and the address in a guard zone; goes on at the way out, the pc in edx. */
+/* Takes a fault if rip is an access of the running code and the address in a guard zone: goes out, the pc in edx and nothing owed. */
 static int sfi_takes_fault(uintptr_t address, greg_t registers[]) {
     const struct sfi_code *const code = sfi_running.code;
     const uintptr_t place = address - (uintptr_t)sfi_running.data;
@@ -61,33 +61,34 @@ static int sfi_takes_fault(uintptr_t address, greg_t registers[]) {
     for (const uint8_t *at = code->access; at < code->access + SFI_ACCESS * code->accesses; at += SFI_ACCESS)
         if ((uintptr_t)registers[REG_RIP] == (uintptr_t)code->text + sfi_number(at)) {
             registers[REG_RDX] = sfi_number(at + 4);
+            registers[REG_R14] = (sfi_u32)registers[REG_R14] - sfi_number(at + 8);
             registers[REG_RIP] = (greg_t)(uintptr_t)(code->text + code->exit);
             return 1;
         }
     return 0;
 }
 
-static void sfi_unmap_code(struct sfi_code codes[], size_t count) {
-    for (; count; count--)
-        if (codes[count - 1].text != NULL)
-            munmap(codes[count - 1].text, codes[count - 1].size);
+static void sfi_unmap_code(struct sfi_code codes[], size_t count) {  /* while no turn of them is under way */
+    while (count-- != 0)
+        munmap(codes[count].text, codes[count].size);  /* fails where nothing was mapped */
 }
 
-/* Maps a sandbox's code: places, sizes (both before `end`), entries, accesses and text, from `at`. Returns where it ends, or NULL. */
+/* Maps a sandbox's code: places, sizes (both before `end`), rows of the table, accesses and text, from `at`. Returns where it ends, or NULL. */
 static const uint8_t *sfi_map_sandbox(const uint8_t *at, const uint8_t *end, const struct sfi_sandbox *s, struct sfi_code *code) {
     const size_t exit = sfi_number(at + SFI_PLACES), accesses = sfi_number(at + SFI_PLACES + 4), units = s->code_size / s->unit;
     const size_t text = (exit + sizeof sfi_way_out + SFI_ZONE - 1) / SFI_ZONE * SFI_ZONE, listed = SFI_ACCESS * accesses;
-    const uint8_t *const entry = at + SFI_PLACES + 8, *const access = entry + 4 * units;
-    const size_t size = text + s->code_size + SFI_PLACES + listed;
-    const int is_there = (size_t)(end - entry) >= 4 * units + listed + exit;
+    const uint8_t *const entry = at + SFI_PLACES + 8, *const access = entry + 8 * units;
+    const size_t places = text + 2 * (size_t)s->code_size, size = places + SFI_PLACES + listed;
+    const int is_there = (size_t)(end - entry) >= 8 * units + listed + exit;
     uint8_t *const map = is_there ? mmap(NULL, size, PROT_READ | PROT_WRITE, MAP_PRIVATE | MAP_ANONYMOUS, -1, 0) : MAP_FAILED;
     if (map == MAP_FAILED)
         return NULL;
-    *code = (struct sfi_code){ s, map, map + text, map + text + s->code_size, map + text + s->code_size + SFI_PLACES, size, exit, accesses };
+    *code = (struct sfi_code){ s, map, map + text, map + places, map + places + SFI_PLACES, size, exit, accesses };
     for (size_t unit = 0; unit < units; unit++)
-        memcpy(code->table + s->unit * unit, entry + 4 * unit, 4);
-    for (int r = 0; r < SFI_PLACES; r++)
-        if (at[r] != SFI_IN_FRAME && (at[r] > 11 || !(SFI_ASSIGNABLE >> at[r] & 1)))
+        memcpy(code->table + 2 * s->unit * unit, entry + 8 * unit, 8);
+    sfi_u32 free = SFI_ASSIGNABLE;
+    for (int r = 0; r < SFI_PLACES; free &= at[r] < 32 ? ~(1u << at[r]) : free, r++)  /* no two registers in one */
+        if (at[r] != SFI_IN_FRAME && (at[r] > 11 || !(free >> at[r] & 1) || SFI_FIXED >> r & 1))
             return NULL;
     memcpy(code->places, at, SFI_PLACES);
     memcpy(code->access, access, listed);
@@ -96,13 +97,12 @@ static const uint8_t *sfi_map_sandbox(const uint8_t *at, const uint8_t *end, con
     return mprotect(map, size, PROT_READ) || mprotect(map, text, PROT_READ | PROT_EXEC) ? NULL : access + listed + exit;
 }
 
-/* Whether the file has its checksum, and so many sandboxes. */
 static int sfi_is_native_file(const uint8_t *file, size_t length, size_t count) {
-    return length >= SFI_FRONT + SFI_BACK && memcmp(file, "SFIN\2\0\0", 8) == 0 && sfi_number(file + SFI_FRONT - 4) == count &&
+    return length >= SFI_FRONT + SFI_BACK && memcmp(file, "SFIN\4\0\0", 8) == 0 && sfi_number(file + SFI_FRONT - 4) == count &&
         sfi_number(file + length - 8) == (sfi_u32)(length - 8) && sfi_number(file + length - 4) == sfi_crc32(file, length - 4);
 }
 
-/* Maps the code of each sandbox, whose data have to be whole pages. 0 where the file isn't whole, has other fields, or memory ran out. */
+/* Maps the code of each sandbox, whose data are whole pages. 0 where the file isn't whole, has other fields, or memory isn't to be had. */
 static int sfi_map_code(const uint8_t *file, size_t length, const struct sfi_sandbox sandboxes[], size_t count, struct sfi_code codes[]) {
     const uint8_t *at = sfi_is_native_file(file, length, count) ? file + SFI_FRONT : NULL, *const end = at ? file + length - SFI_BACK : NULL;
     memset(codes, 0, count * sizeof *codes);
@@ -110,20 +110,20 @@ static int sfi_map_code(const uint8_t *file, size_t length, const struct sfi_san
         const int is_of_it = end - at >= SFI_FIELDS + SFI_PLACES + 8 && memcmp(at, &s->code, SFI_FIELDS) == 0 && s->data_size % SFI_ZONE == 0;
         at = is_of_it && s->unit == (file[19] == 'W' ? 4 : 16) ? sfi_map_sandbox(at + SFI_FIELDS, end, s, &codes[s - sandboxes]) : NULL;
     }
-    const int is_whole = at != NULL && at == end;
-    sfi_unmap_code(codes, is_whole ? 0 : count);
-    return is_whole;
+    sfi_unmap_code(codes, at != NULL && at == end ? 0 : count);
+    return at != NULL && at == end;
 }
 
-/* Runs code from that entry with the low 31 bits of `left`; returns with pc at the next step. Not inlined: one frame for all rounds. */
-__attribute__((noinline)) static void sfi_run_code(const struct sfi_code *code, struct sfi_hart *h, sfi_u32 entry) {
+/* Runs code from that row of the table with the low 31 bits of `left`; returns with pc at the next step. Not inlined: one frame for all
+   rounds. It relies on what lies above the frame, on kept, the callers' stack and the table (`relies`, specs/Host.antt). */
+__attribute__((noinline)) static void sfi_run_code(const struct sfi_code *code, struct sfi_hart *h, const uint8_t *row) {
     const sfi_u32 before = h->left & SFI_COUNTED;
-    uintptr_t kept[16] = { [12] = (uintptr_t)code->table - code->sandbox->code, [13] = (uintptr_t)code->text, [14] = before,
-        [15] = (uintptr_t)h->data - code->sandbox->data };
+    uintptr_t kept[16] = { [12] = (uintptr_t)code->table - 2 * (uintptr_t)code->sandbox->code, [13] = (uintptr_t)code->text,
+        [14] = before + sfi_number(row + 4), [15] = (uintptr_t)h->data - code->sandbox->data };
     for (int r = 0; r < SFI_PLACES; r++)
         if (code->places[r] != SFI_IN_FRAME)
             kept[code->places[r]] = h->x[r];
-    h->pc = sfi_enter_code(h->x, kept, h->pc, code->text + entry);
+    h->pc = sfi_enter_code(h->x, kept, h->pc, code->text + sfi_number(row));
     for (int r = 0; r < SFI_PLACES; r++)
         if (code->places[r] != SFI_IN_FRAME)
             h->x[r] = (sfi_u32)kept[code->places[r]];
@@ -139,9 +139,9 @@ static int sfi_native_turn(const struct sfi_code *code, struct sfi_hart *h, sfi_
     sfi_running = (__typeof__(sfi_running)){ code, h->data };
     while (how == SFI_NEXT && h->left != 0) {
         const sfi_u32 offset = h->pc - s->code;
-        const size_t entry = offset < s->code_size && offset % s->unit == 0 ? sfi_number(code->table + offset) : code->exit;
-        if ((h->left & SFI_COUNTED) >= SFI_MOST && entry < code->exit)
-            sfi_run_code(code, h, (sfi_u32)entry);
+        const uint8_t *const row = offset < s->code_size && offset % s->unit == 0 ? code->table + 2 * (size_t)offset : NULL;
+        if ((h->left & SFI_COUNTED) >= SFI_MOST && row != NULL && sfi_number(row) < code->exit)
+            sfi_run_code(code, h, row);
         how = sfi_step(s, h, at);
     }
     sfi_running = outer;

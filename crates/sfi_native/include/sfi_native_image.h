@@ -49,7 +49,7 @@ static int sfi_read_image(const uint8_t *bytes, size_t length, struct sfi_image 
         image->sandboxes[k].unit = bytes[3] == 'W' ? 4 : 16;
         at = sfi_read_sandbox(at, end, &image->sandboxes[k], image->gates[k]);
     }
-    return at == end;
+    return count <= SFI_SANDBOXES_MOST && at == end;
 }
 
 /* As that of sfi_native.h. An instruction of accepted code lies whole in its unit. */

@@ -30,8 +30,9 @@ use Rattle.sfi_native.specs.Host.{Answers, Ending, Host, HostMoves, IsHosts, IsI
 use Rattle.sfi_native.specs.Laws.{IsAlike}
 use Rattle.x86_instr.specs.declared.operand.Register.{Register}
 use Rattle.sfi_native.specs.Registers.{assigned}
-use Rattle.sfi_native.specs.Layout.{Holds, IsLayout, IsRelated}
-use Rattle.sfi_native.specs.Places.{IsAt, IsAtPlace}
+use Rattle.sfi_native.specs.Layout.{Holds, IsLayout, IsRelated, owing}
+use Rattle.sfi_native.specs.Places.{IsAt, IsAtPlace, owed_there, with_owed}
+use Rattle.sfi_native.proofs.Counting.{related_as}
 use Rattle.sfi_native.proofs.Hosts.{stays_there}
 use Rattle.sfi_native.proofs.Served.{each_work_can_be_done, handed_over}
 
@@ -187,9 +188,9 @@ module _ (p : Part) (right : IsRightPart p) where
     hart_same : (g h : Going) (c : Core) → IsProper p g.state → IsProper p h.state → g.state.hart.pc ≡ h.state.hart.pc → IsRelated p l g c → IsRelated p l h c → h.state.hart ≡ g.state.hart
     hart_same g h c one two pc first second =
         let register_is : (r : ℕ) → r < 32 → register h.state.hart r ≡ register g.state.hart r = λ r small.
-        let a = subst (λ (x : Hart). Holds l c r (assigned l.registers r) (register x r)) one.fixed_is (first.registers r small) in
-        let b = subst (λ (x : Hart). Holds l c r (assigned l.registers r) (register x r)) two.fixed_is (second.registers r small) in
-        one_value l c r (assigned l.registers r) (register h.state.hart r) (register g.state.hart r) b a in
+        let a = subst (λ (x : Hart). Holds l c r (assigned l.plan r) (register x r)) one.fixed_is (first.registers r small) in
+        let b = subst (λ (x : Hart). Holds l c r (assigned l.plan r) (register x r)) two.fixed_is (second.registers r small) in
+        one_value l c r (assigned l.plan r) (register h.state.hart r) (register g.state.hart r) b a in
         let count = second.register_count in
         let registers : h.state.hart.registers ≡ g.state.hart.registers = ext_get_or 0 _ _ (count ∙ sym first.register_count) (λ r small. register_is r (omega (arith, small, count))) in
         λ i. record { pc = (sym pc) i; registers = registers i }
@@ -198,7 +199,7 @@ module _ (p : Part) (right : IsRightPart p) where
     related_like g h c like is = record {
       register_count = subst (λ (x : Hart). length x.registers ≡ 32) like.hart is.register_count;
       words = subst (λ (x : Hart). (r : ℕ) → register (fixed p x) r < 2 ^ 32) like.hart is.words;
-      registers = subst (λ (x : Hart). (r : ℕ) → r < 32 → Holds l c r (assigned l.registers r) (register (fixed p x) r)) like.hart is.registers;
+      registers = subst (λ (x : Hart). (r : ℕ) → r < 32 → Holds l c r (assigned l.plan r) (register (fixed p x) r)) like.hart is.registers;
       frame = is.frame;
       frame_is_written = is.frame_is_written;
       few = subst (λ n. n < 2 ^ 32) like.left is.few;
@@ -209,8 +210,21 @@ module _ (p : Part) (right : IsRightPart p) where
     }
 
     module _ (base : ℕ) (code : List Line) (own : ℕ → Type 0) where
-      at_slow : (g : Going) (m : Machine) → g.place ≡ Slow → IsAt l.registers base code g m → m.core.registers 2 ≡ g.state.hart.pc
-      at_slow g m slow at = (subst (λ q. IsAtPlace l.registers base code q g.state.hart.pc m) slow at).1
+      at_slow : (g : Going) (m : Machine) → g.place ≡ Slow → IsAt l.plan base code g m → m.core.registers 2 ≡ g.state.hart.pc
+      at_slow g m slow at = (subst (λ q. IsAtPlace l.plan base code q g.state.hart.pc m) slow at).1
+
+      -- nothing is owed there
+      slow_related : (g : Going) (m : Machine) → g.place ≡ Slow → IsAlike p l base code g m → IsRelated p l g m.core
+      slow_related g m slow alike =
+          related_as p l (owing 0 g) m.core g.place g.left (subst (λ q. IsRelated p l (owing (owed_there l.plan p q) g) m.core) slow alike.related) (omega arith)
+
+      like_owed : (k to : Going) → IsLike k to → IsLike (with_owed l.plan p k) (with_owed l.plan p to)
+      like_owed k to same = record {
+        place = same.place;
+        hart = same.hart;
+        left = ap (λ n. n + owed_there l.plan p to.place) same.left ∙ ap (λ q. k.left + owed_there l.plan p q) same.place;
+        bytes = same.bytes;
+      }
 
       -- a move of a host that does all that it may
       record DoesWork (m : Machine) (a : Option Ending) (n : Machine) : Type 0 where
@@ -228,8 +242,8 @@ module _ (p : Part) (right : IsRightPart p) where
       like : (g : Going) (m : Machine) (a : Option Ending) (n : Machine) → g.place ≡ Slow → IsProper p g.state → IsAlike p l base code g m → (it : DoesWork m a n) → IsLike g it.from
       like g m a n slow proper alike it = record {
         place = it.slow ∙ sym slow;
-        hart = hart_same g it.from m.core proper it.proper (sym (at_slow g m slow alike.is_at) ∙ at_slow it.from m it.slow it.alike.is_at) alike.related it.alike.related;
-        left = sym it.alike.related.left ∙ alike.related.left;
+        hart = hart_same g it.from m.core proper it.proper (sym (at_slow g m slow alike.is_at) ∙ at_slow it.from m it.slow it.alike.is_at) (slow_related g m slow alike) (slow_related it.from m it.slow it.alike);
+        left = sym (slow_related it.from m it.slow it.alike).left ∙ (slow_related g m slow alike).left;
         bytes = λ k small. sym (it.alike.related.bytes k small) ∙ alike.related.bytes k small;
       }
 
@@ -238,8 +252,8 @@ module _ (p : Part) (right : IsRightPart p) where
       answers_same k to m None n same it = (
         it.0 ∙ ap answer_of same.place,
         record {
-          related = related_like k to n.core same it.1.related;
-          is_at = subst (λ q. IsAtPlace l.registers base code q k.state.hart.pc n) same.place (subst (λ (x : Hart). IsAtPlace l.registers base code to.place x.pc n) same.hart it.1.is_at);
+          related = related_like (with_owed l.plan p k) (with_owed l.plan p to) n.core (like_owed k to same) it.1.related;
+          is_at = subst (λ q. IsAtPlace l.plan base code q k.state.hart.pc n) same.place (subst (λ (x : Hart). IsAtPlace l.plan base code to.place x.pc n) same.hart it.1.is_at);
           spares = it.1.spares;
         },
       )
@@ -267,9 +281,9 @@ module _ (p : Part) (right : IsRightPart p) where
             record { outcome = answer.1; hart = refl; left = refl; bytes = it.related.bytes; spares = it.spares.memory },
           )
 
-      works : IsLayout p.data_size l → (g k : Going) (m : Machine) → g.place ≡ Slow → IsProper p g.state → IsProper p k.state → IsAlike p l base code g m → HostMoves p code g k → Works p l base code host k m
-      works layout g k m slow proper proper_then alike leads =
-          let n = each_work_can_be_done p l base code own g k m layout proper_then (subst IsHosts (sym slow) tt) alike.related leads in
+      works : IsLayout p.data_size l → (g k : Going) (m : Machine) → g.place ≡ Slow → g.left < 2 ^ 31 → IsProper p g.state → IsProper p k.state → IsAlike p l base code g m → HostMoves p code g k → Works p l base code host k m
+      works layout g k m slow few proper proper_then alike leads =
+          let n = each_work_can_be_done p l base code own g k m layout proper_then (subst IsHosts (sym slow) tt) few (slow_related g m slow alike) leads in
           let answer = served_answer k m n.0 n.1 (handed_over p code g k leads) in
           record {
             answers = (answer.0, n.0, record { from = g; to = k; slow = slow; proper = proper; alike = alike; leads = leads; answers = answer.1 });
@@ -279,4 +293,4 @@ module _ (p : Part) (right : IsRightPart p) where
 
 pub there_is_a_host : ThereIsAHost
 there_is_a_host p l base code own right layout =
-    (DoesWork p right l base code own, record { kept = λ c d stay relies. tt; works = λ g k m slow few proper whole proper_then alike relies leads. works p right l base code own layout g k m slow proper proper_then alike leads })
+    (DoesWork p right l base code own, record { kept = λ c d stay relies. tt; works = λ g k m slow few proper whole proper_then alike relies leads. works p right l base code own layout g k m slow few proper proper_then alike leads })

@@ -13,7 +13,7 @@ use Rattle.x86_instr.specs.declared.instr.Width.TheVariants.{Dword, Qword}
 use Rattle.x86_instr.specs.declared.instr.ShiftOp.TheVariants.{Shl, Shr, Sar}
 use Rattle.x86_step.specs.declared.machine.Flags.{Flags}
 use Rattle.x86_step.specs.Step.{difference, fits, is_met, is_negative, low, same, shift, shifted, signed as signed_of}
-use Rattle.sfi_native.specs.Code.{opposite}
+use Rattle.sfi_native.specs.Code.{met_by, opposite}
 use Rattle.x86_step.proofs.Shifts.{complement_shifted}
 
 pub low_is : (v : ℕ) → v < 2 ^ 32 → low Dword v ≡ v
@@ -34,6 +34,14 @@ equal_is a b fa fb = grind arith
 twice : (t : Bool) → not (not t) ≡ t
 twice true = refl
 twice false = refl
+
+pub met_is : (cond : Cond) (a b : ℕ) → a < 2 ^ 32 → b < 2 ^ 32 → is_met (met_by cond) (difference Dword a b).flags ≡ Some (is_taken cond a b)
+met_is Beq a b fa fb = ap Some (equal_is a b fa fb)
+met_is Bne a b fa fb = ap (λ t. Some (not t)) (equal_is a b fa fb)
+met_is Blt a b fa fb = ap Some (less_is a b fa fb)
+met_is Bge a b fa fb = ap (λ t. Some (not t)) (less_is a b fa fb)
+met_is Bltu a b fa fb = refl
+met_is Bgeu a b fa fb = refl
 
 pub unmet_is : (cond : Cond) (a b : ℕ) → a < 2 ^ 32 → b < 2 ^ 32 → is_met (opposite cond) (difference Dword a b).flags ≡ Some (not (is_taken cond a b))
 unmet_is Beq a b fa fb = ap (λ t. Some (not t)) (equal_is a b fa fb)

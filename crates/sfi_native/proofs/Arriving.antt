@@ -8,7 +8,7 @@ use Rattle.sfi_translate.specs.Lines.{Line, Does}
 use Rattle.sfi_translate.specs.Machine.{Assembly, Before, Going, Loop, Lost, Slow, before_or, label, line_step}
 use Rattle.x86_step.specs.State.{Machine}
 use Rattle.x86_step.specs.Step.{jumped}
-use Rattle.sfi_native.specs.declared.registers.RegisterMap.{RegisterMap}
+use Rattle.sfi_native.specs.declared.plan.Plan.{Plan}
 use Rattle.sfi_native.specs.Entries.{entry_of}
 use Rattle.sfi_native.specs.Laws.{IsCovered}
 use Rattle.sfi_native.specs.Places.{AreLast, IsAtPlace, exit_of, start, start_or_end}
@@ -17,31 +17,31 @@ pub same_lines : (rest to : List Line) → Before rest ≡ Before to → to ≡ 
 same_lines rest to e = cc
 
 -- where a processor is after a jump
-pub jump_at : (registers : RegisterMap) (base : ℕ) (code : List Line) (pc : ℕ) (m : Machine) (end exit label : ℕ) (tested short : Bool) (o : Option (List Line)) (to : ℕ)
+pub jump_at : (plan : Plan) (base : ℕ) (code : List Line) (pc : ℕ) (m : Machine) (end exit label : ℕ) (tested short : Bool) (o : Option (List Line)) (to : ℕ)
     → ((rest : List Line) → o ≡ Some rest → AreLast code rest)
-    → jumped end label ≡ base + start_or_end registers code o → jumped end exit ≡ base + exit_of registers code
+    → jumped end label ≡ base + start_or_end plan code o → jumped end exit ≡ base + exit_of plan code
     → m.rip ≡ jumped end (if tested && short then exit else label) → (tested && short ≡ true → m.core.registers 2 ≡ to) → to ≡ pc
     → IsCovered (if tested then (if short then Slow else before_or Lost o) else before_or Lost o)
-    → IsAtPlace registers base code (if tested then (if short then Slow else before_or Lost o) else before_or Lost o) pc m
-jump_at registers base code pc m end exit label true true o to last near out rip edx pc_is covered = (rip ∙ out, edx refl ∙ pc_is)
-jump_at registers base code pc m end exit label true false (Some rest) to last near out rip edx pc_is covered = (rip ∙ near, last rest refl)
-jump_at registers base code pc m end exit label false short (Some rest) to last near out rip edx pc_is covered = (rip ∙ near, last rest refl)
-jump_at registers base code pc m end exit label true false None to last near out rip edx pc_is covered = absurd covered
-jump_at registers base code pc m end exit label false short None to last near out rip edx pc_is covered = absurd covered
+    → IsAtPlace plan base code (if tested then (if short then Slow else before_or Lost o) else before_or Lost o) pc m
+jump_at plan base code pc m end exit label true true o to last near out rip edx pc_is covered = (rip ∙ out, edx refl ∙ pc_is)
+jump_at plan base code pc m end exit label true false (Some rest) to last near out rip edx pc_is covered = (rip ∙ near, last rest refl)
+jump_at plan base code pc m end exit label false short (Some rest) to last near out rip edx pc_is covered = (rip ∙ near, last rest refl)
+jump_at plan base code pc m end exit label true false None to last near out rip edx pc_is covered = absurd covered
+jump_at plan base code pc m end exit label false short None to last near out rip edx pc_is covered = absurd covered
 
 -- where it is after a jump to an address in edx
-pub entered_at : (registers : RegisterMap) (base : ℕ) (code : List Line) (to : ℕ) (m : Machine) (end exit : ℕ) (short whole start : Bool) (o : Option (List Line))
-    → ((rest : List Line) → o ≡ Some rest → AreLast code rest) → jumped end exit ≡ base + exit_of registers code
-    → m.rip ≡ (if short then jumped end exit else if start then base + entry_of registers code o else jumped end exit) → m.core.registers 2 ≡ to
+pub entered_at : (plan : Plan) (base : ℕ) (code : List Line) (to : ℕ) (m : Machine) (end exit : ℕ) (short whole start : Bool) (o : Option (List Line))
+    → ((rest : List Line) → o ≡ Some rest → AreLast code rest) → jumped end exit ≡ base + exit_of plan code
+    → m.rip ≡ (if short then jumped end exit else if start then base + entry_of plan code o else jumped end exit) → m.core.registers 2 ≡ to
     → (start ≡ true → whole ≡ true) → (whole ≡ true → start ≡ false → (rest : List Line) → o ≡ Some rest → ⊥)
-    → IsAtPlace registers base code (if short then Slow else (if not whole then Slow else before_or Slow o)) to m
-entered_at registers base code to m end exit true whole start o last out rip edx starts within = (rip ∙ out, edx)
-entered_at registers base code to m end exit false true true (Some rest) last out rip edx starts within = (rip, last rest refl)
-entered_at registers base code to m end exit false true true None last out rip edx starts within = (rip, edx)
-entered_at registers base code to m end exit false true false (Some rest) last out rip edx starts within = absurd (within refl refl rest refl)
-entered_at registers base code to m end exit false true false None last out rip edx starts within = (rip ∙ out, edx)
-entered_at registers base code to m end exit false false true o last out rip edx starts within = absurd (false≢true (starts refl))
-entered_at registers base code to m end exit false false false o last out rip edx starts within = (rip ∙ out, edx)
+    → IsAtPlace plan base code (if short then Slow else (if not whole then Slow else before_or Slow o)) to m
+entered_at plan base code to m end exit true whole start o last out rip edx starts within = (rip ∙ out, edx)
+entered_at plan base code to m end exit false true true (Some rest) last out rip edx starts within = (rip, last rest refl)
+entered_at plan base code to m end exit false true true None last out rip edx starts within = (rip, edx)
+entered_at plan base code to m end exit false true false (Some rest) last out rip edx starts within = absurd (within refl refl rest refl)
+entered_at plan base code to m end exit false true false None last out rip edx starts within = (rip ∙ out, edx)
+entered_at plan base code to m end exit false false true o last out rip edx starts within = absurd (false≢true (starts refl))
+entered_at plan base code to m end exit false false false o last out rip edx starts within = (rip ∙ out, edx)
 
 pub of_done : (done : Bool) (one other : Going) (to : List Line) → done ≡ true → (if done then one else other).place ≡ Before to → one.place ≡ Before to
 of_done true one other to is e = e

@@ -8,9 +8,9 @@ use Rattle.x86_instr.specs.declared.operand.Register.TheVariants.{Rax, Rcx, Rdx,
 use Rattle.x86_instr.specs.Spelling.{number}
 use Rattle.x86_step.specs.State.{Core, number_at, updated}
 use Rattle.sfi_native.specs.declared.layout.Layout.{Layout}
-use Rattle.sfi_native.specs.declared.registers.RegisterMap.{RegisterMap}
+use Rattle.sfi_native.specs.declared.plan.Plan.{Plan}
 use Rattle.sfi_native.specs.Layout.{Holds}
-use Rattle.sfi_native.specs.Registers.{IsAssigned, IsRightMap, assigned, is_assignable, is_fixed}
+use Rattle.sfi_native.specs.Registers.{IsAssigned, IsRightPlan, assigned, is_assignable, is_fixed}
 use Rattle.sfi_native.specs.Code.{register_or}
 use Rattle.sfi_native.specs.private.{IsRightAt}
 use Rattle.sfi_native.proofs.Kept.{Kept, updated_other}
@@ -77,47 +77,47 @@ passes None v f k apart = refl
 passes (Some q) v f k apart = updated_other f (number q) v k (apart q refl)
 
 -- the first n of the sandbox's registers, where they lie in the processor's
-abbrev pub with_values : RegisterMap → (ℕ → ℕ) → ℕ → (ℕ → ℕ) → ℕ → ℕ
-with_values registers values zero f = f
-with_values registers values (suc n) f = put_in (assigned registers n) (values n) (with_values registers values n f)
+abbrev pub with_values : Plan → (ℕ → ℕ) → ℕ → (ℕ → ℕ) → ℕ → ℕ
+with_values plan values zero f = f
+with_values plan values (suc n) f = put_in (assigned plan n) (values n) (with_values plan values n f)
 
-module _ (registers : RegisterMap) (right : IsRightMap registers) where
-  pub free : (r : ℕ) (q : Register) → assigned registers r ≡ Some q → Free (number q)
+module _ (plan : Plan) (right : IsRightPlan plan) where
+  pub free : (r : ℕ) (q : Register) → assigned plan r ≡ Some q → Free (number q)
   free r q is = assignable_free q (right.assignable r q is)
 
   -- what code takes for itself
-  pub not_assigned : (k : ℕ) → (k < 3) ⊎ ((11 < k) ⊎ (k ≡ 4)) → IsAssigned registers k → ⊥
+  pub not_assigned : (k : ℕ) → (k < 3) ⊎ ((11 < k) ⊎ (k ≡ 4)) → IsAssigned plan k → ⊥
   not_assigned k (inl low) (r, q, is, same) = let f = free r q is in omega (arith, low, f.above, same)
   not_assigned k (inr (inl high)) (r, q, is, same) = let f = free r q is in omega (arith, high, f.below, same)
   not_assigned k (inr (inr frame)) (r, q, is, same) = let f = free r q is in f.no_frame (same ∙ frame)
 
   -- where a register is read from, or a result is computed
-  pub not_frame : (r : ℕ) (o : Option Register) → assigned registers r ≡ o → (x : Register) → number x ≤ 2 → number (register_or o x) ≡ 4 → ⊥
+  pub not_frame : (r : ℕ) (o : Option Register) → assigned plan r ≡ o → (x : Register) → number x ≤ 2 → number (register_or o x) ≡ 4 → ⊥
   not_frame r None own x low same = omega (arith, low, same)
   not_frame r (Some q) own x low same = (free r q own).no_frame same
 
-  pub not_free : (r : ℕ) (o : Option Register) → assigned registers r ≡ o → (x : Register) (k : ℕ) → k ≤ 2 → (number x ≡ k → ⊥) → number (register_or o x) ≡ k → ⊥
+  pub not_free : (r : ℕ) (o : Option Register) → assigned plan r ≡ o → (x : Register) (k : ℕ) → k ≤ 2 → (number x ≡ k → ⊥) → number (register_or o x) ≡ k → ⊥
   not_free r None own x k low other same = other same
   not_free r (Some q) own x k low other same = omega (arith, low, same, (free r q own).above)
 
-  pub not_left : (r : ℕ) (o : Option Register) → assigned registers r ≡ o → (x : Register) → number x ≤ 2 → number (register_or o x) ≡ 14 → ⊥
+  pub not_left : (r : ℕ) (o : Option Register) → assigned plan r ≡ o → (x : Register) → number x ≤ 2 → number (register_or o x) ≡ 14 → ⊥
   not_left r None own x low same = omega (arith, low, same)
   not_left r (Some q) own x low same = omega (arith, same, (free r q own).below)
 
   module _ (values : ℕ → ℕ) (f : ℕ → ℕ) where
-    pub other_register : (n k : ℕ) → (IsAssigned registers k → ⊥) → with_values registers values n f k ≡ f k
+    pub other_register : (n k : ℕ) → (IsAssigned plan k → ⊥) → with_values plan values n f k ≡ f k
     other_register zero k none = refl
     other_register (suc n) k none =
-        passes (assigned registers n) (values n) (with_values registers values n f) k (λ q is same. none (n, q, is, sym same)) ∙ other_register n k none
+        passes (assigned plan n) (values n) (with_values plan values n f) k (λ q is same. none (n, q, is, sym same)) ∙ other_register n k none
 
-    pub has_value : (n r : ℕ) (q : Register) → r < n → assigned registers r ≡ Some q → with_values registers values n f (number q) ≡ values r
+    pub has_value : (n r : ℕ) (q : Register) → r < n → assigned plan r ≡ Some q → with_values plan values n f (number q) ≡ values r
     has_value zero r q below is = absurd (omega (arith, below))
     has_value (suc n) r q below is = elim (cases_eq r n) [
       | inl same ↦
-          ap (λ o. put_in o (values n) (with_values registers values n f) (number q)) (ap (assigned registers) (sym same) ∙ is)
-          ∙ updated_same (with_values registers values n f) (number q) (values n) ∙ ap values (sym same)
+          ap (λ o. put_in o (values n) (with_values plan values n f) (number q)) (ap (assigned plan) (sym same) ∙ is)
+          ∙ updated_same (with_values plan values n f) (number q) (values n) ∙ ap values (sym same)
       | inr other ↦
-          passes (assigned registers n) (values n) (with_values registers values n f) (number q)
+          passes (assigned plan n) (values n) (with_values plan values n f) (number q)
           (λ k own same. other (right.apart r n q is (own ∙ ap Some (sym (same_register q k same)))))
           ∙ has_value n r q (omega (arith, below, other)) is
     ]
@@ -132,12 +132,12 @@ holds_on l c d r v None memory own has = memory refl ∙ has
 holds_on l c d r v (Some q) memory own has = own q refl ∙ has
 
 -- free registers may have anything
-pub holds_kept : (l : Layout) → IsRightMap l.registers → (c d : Core) (r v : ℕ) → Kept c d → Holds l c r (assigned l.registers r) v → Holds l d r (assigned l.registers r) v
+pub holds_kept : (l : Layout) → IsRightPlan l.plan → (c d : Core) (r v : ℕ) → Kept c d → Holds l c r (assigned l.plan r) v → Holds l d r (assigned l.plan r) v
 holds_kept l right c d r v k has =
-    holds_on l c d r v (assigned l.registers r) (λ e. ap (λ m. number_at m 4 (l.frame + 4 * r)) k.memory)
-    (λ q is. k.registers (number q) (free l.registers right r q is).above) has
+    holds_on l c d r v (assigned l.plan r) (λ e. ap (λ m. number_at m 4 (l.frame + 4 * r)) k.memory)
+    (λ q is. k.registers (number q) (free l.plan right r q is).above) has
 
--- ==== The test of a map.
+-- ==== The test of a plan.
 
 abbrev nothing : Option Register
 nothing = None
@@ -148,22 +148,26 @@ none_assigned r = elim (cases_lt r 32) [
   | inr past ↦ get_or_past (replicate 32 nothing) r nothing (omega (arith, past, length-replicate 32 nothing))
 ]
 
-pub none_right : (registers : RegisterMap) → ((r : ℕ) → assigned registers r ≡ None) → IsRightMap registers
-none_right registers none = record {
+pub none_count : length (replicate 32 nothing) ≡ 32
+none_count = length-replicate 32 nothing
+
+pub none_right : (plan : Plan) → length plan.assigned ≡ 32 → ((r : ℕ) → assigned plan r ≡ None) → IsRightPlan plan
+none_right plan count none = record {
+  count = count;
   in_frame = λ r held. none r;
   assignable = λ r q own. let clash : None ≡ Some q = sym (none r) ∙ own in cc;
   apart = λ r s q one other. let clash : None ≡ Some q = sym (none r) ∙ one in cc;
 }
 
-pub none_more : (registers : RegisterMap) (n : ℕ) (q : Register) → ((r : ℕ) → r < n → assigned registers r ≡ Some q → ⊥) → (assigned registers n ≡ Some q → ⊥)
-    → (r : ℕ) → r < n + 1 → assigned registers r ≡ Some q → ⊥
-none_more registers n q first last r below own = elim (cases_eq r n) [
-  | inl same ↦ last (ap (assigned registers) (sym same) ∙ own)
+pub none_more : (plan : Plan) (n : ℕ) (q : Register) → ((r : ℕ) → r < n → assigned plan r ≡ Some q → ⊥) → (assigned plan n ≡ Some q → ⊥)
+    → (r : ℕ) → r < n + 1 → assigned plan r ≡ Some q → ⊥
+none_more plan n q first last r below own = elim (cases_eq r n) [
+  | inl same ↦ last (ap (assigned plan) (sym same) ∙ own)
   | inr other ↦ first r (omega (arith, below, other)) own
 ]
 
-module _ (registers : RegisterMap) where
-  pub right_at : IsRightMap registers → (n : ℕ) → IsRightAt registers n
+module _ (plan : Plan) where
+  pub right_at : IsRightPlan plan → (n : ℕ) → IsRightAt plan n
   right_at right n q own = (
     right.assignable n q own,
     elim (cases_Bool (is_fixed n)) [
@@ -173,26 +177,27 @@ module _ (registers : RegisterMap) where
     λ r before other. omega (arith, before, right.apart r n q other own),
   )
 
-  pub one_more_right : (n : ℕ) → ((r : ℕ) → r < n → IsRightAt registers r) → IsRightAt registers n → (r : ℕ) → r < n + 1 → IsRightAt registers r
+  pub one_more_right : (n : ℕ) → ((r : ℕ) → r < n → IsRightAt plan r) → IsRightAt plan n → (r : ℕ) → r < n + 1 → IsRightAt plan r
   one_more_right n first last r below = elim (cases_eq r n) [
-    | inl same ↦ subst (λ k. IsRightAt registers k) (sym same) last
+    | inl same ↦ subst (λ k. IsRightAt plan k) (sym same) last
     | inr other ↦ first r (omega (arith, below, other))
   ]
 
-  module _ (count : length registers.assigned ≡ 32) (each : (r : ℕ) → r < 32 → IsRightAt registers r) where
-    within : (r : ℕ) (q : Register) → assigned registers r ≡ Some q → r < 32
+  module _ (count : length plan.assigned ≡ 32) (each : (r : ℕ) → r < 32 → IsRightAt plan r) where
+    within : (r : ℕ) (q : Register) → assigned plan r ≡ Some q → r < 32
     within r q own = elim (cases_lt r 32) [
       | inl below ↦ below
-      | inr past ↦ let clash : None ≡ Some q = sym (get_or_past registers.assigned r None (omega (arith, past, count))) ∙ own in cc
+      | inr past ↦ let clash : None ≡ Some q = sym (get_or_past plan.assigned r None (omega (arith, past, count))) ∙ own in cc
     ]
 
-    in_frame : (r : ℕ) → is_fixed r ≡ true → (o : Option Register) → assigned registers r ≡ o → o ≡ None
+    in_frame : (r : ℕ) → is_fixed r ≡ true → (o : Option Register) → assigned plan r ≡ o → o ≡ None
     in_frame r held None own = refl
     in_frame r held (Some q) own = absurd (false≢true (sym (each r (within r q own) q own).1 ∙ held))
 
-    pub right_from : IsRightMap registers
+    pub right_from : IsRightPlan plan
     right_from = record {
-      in_frame = λ r held. in_frame r held (assigned registers r) refl;
+      count = count;
+      in_frame = λ r held. in_frame r held (assigned plan r) refl;
       assignable = λ r q own. (each r (within r q own) q own).0;
       apart = λ r s q one other. elim (cases_lt r s) [
         | inl before ↦ absurd ((each s (within s q other) q other).2 r before one)

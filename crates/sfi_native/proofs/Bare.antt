@@ -1,5 +1,5 @@
 -- A processor that has the bytes of frame, table and data alone.
-use Rattle.std.proofs.Common.{◌≡◌, ℕ, ◌+◌, ◌-◌, ◌*◌, ◌<◌, ◌≤◌, ◌&&◌, ◌⊎◌, inl, inr, ⊎_elim, Bool, true, false, List, length, Option, Some, None, refl, sym, ap, ◌∙◌, subst, arith, nat_lt}
+use Rattle.std.proofs.Common.{◌/◌, ◌≡◌, ℕ, ◌+◌, ◌*◌, ◌<◌, ◌≤◌, ◌&&◌, ◌⊎◌, inl, inr, Bool, true, false, List, length, Option, None, refl, sym, ap, ◌∙◌, subst, arith, nat_lt}
 use Rattle.std.specs.Prelude.{nat_le}
 use Rattle.std.proofs.lemmas.Bool.{and_parts, cases_lt, le-leb, leb-true, lt-ltb, ltb-true}
 use Rattle.sfi_formats.specs.Formats.{unit}
@@ -10,12 +10,12 @@ use Rattle.sfi_translate.specs.Machine.{Going}
 use Rattle.sfi_translate.proofs.LinesStand.{units}
 use Rattle.x86_instr.specs.declared.instr.Instr.{Instr as Native}
 use Rattle.x86_step.specs.Accesses.{Agree, HasNoOthers}
-use Rattle.x86_step.specs.State.{Core, IsIn, Span, Text, with_memory}
+use Rattle.x86_step.specs.State.{Core, IsIn, Span, Text, number_at, with_memory}
 use Rattle.sfi_native.specs.declared.layout.Layout.{Layout}
 use Rattle.sfi_native.specs.Registers.{assigned}
 use Rattle.sfi_native.specs.Laws.{IsBefore}
-use Rattle.sfi_native.specs.Layout.{GuardsAreEmpty, IsLayout, IsRelated, frame_size, guarded_data, value}
-use Rattle.sfi_native.specs.Table.{HasTable}
+use Rattle.sfi_native.specs.Layout.{GuardsAreEmpty, IsRelated, guarded_data, value}
+use Rattle.sfi_native.specs.Table.{HasTable, table_size}
 use Rattle.sfi_native.specs.Whole.{IsAccessed, frame_span, table_span}
 use Rattle.sfi_native.proofs.Assigned.{holds_on}
 use Rattle.sfi_native.proofs.Table.{number_same, unit_within}
@@ -126,7 +126,7 @@ module _ (p : Part) (l : Layout) (table_at : ℕ) (c : Core) where
   bare_related g is = record {
     register_count = is.register_count;
     words = is.words;
-    registers = λ r small. holds_on l c bare r (value p g r) (assigned l.registers r)
+    registers = λ r small. holds_on l c bare r (value p g r) (assigned l.plan r)
         (λ none. number_same c.memory bytes 4 (l.frame + 4 * r) (λ j few. in_frame (l.frame + 4 * r + j) (omega arith, omega (arith, small, few))))
         (λ q own. refl) (is.registers r small);
     frame = is.frame;
@@ -153,18 +153,21 @@ module _ (p : Part) (l : Layout) (table_at : ℕ) (c : Core) where
   }
 
 pub bare_table : (p : Part) (l : Layout) (base : ℕ) (code : List Line) (c : Core) (has : HasTable p l base code c) → HasTable p l base code (bare p l has.at c)
-bare_table p l base code c has = record {
-  table = has.table;
-  entries = has.entries;
-  at = has.at;
-  ends = has.ends;
-  frame_apart = has.frame_apart;
-  data_apart = has.data_apart;
-  holds = λ number below.
-      let within = unit_within (unit p.format) (length p.code) number (units p.format) (subst (λ n. number < n) has.entries.count below) in
-      number_same c.memory (bytes p l has.at c) 4 (has.at + unit p.format * number)
-      (λ j few. in_table p l has.at c (has.at + unit p.format * number + j) (omega arith, omega (arith, within, few)))
-      ∙ has.holds number below;
-  origin_is = has.origin_is;
-  code_is = has.code_is;
-}
+bare_table p l base code c has =
+    let same_there = λ (n : ℕ) (fits : n + 4 ≤ table_size p). number_same c.memory (bytes p l has.at c) 4 (has.at + n)
+    (λ j few. in_table p l has.at c (has.at + n + j) (omega arith, omega (arith, fits, few))) in
+    let within = λ (number : ℕ) (below : number < length p.code / unit p.format). unit_within (unit p.format) (length p.code) number (units p.format) below in
+    record {
+      table = has.table;
+      entries = has.entries;
+      at = has.at;
+      ends = has.ends;
+      frame_apart = has.frame_apart;
+      data_apart = has.data_apart;
+      holds = λ number below. same_there (2 * (unit p.format * number)) (omega (arith, within number below)) ∙ has.holds number below;
+      holds_owed = λ number below.
+          let at : has.at + (2 * (unit p.format * number) + 4) ≡ has.at + 2 * (unit p.format * number) + 4 = omega arith in
+          subst (λ a. number_at (bytes p l has.at c) 4 a ≡ number_at c.memory 4 a) at (same_there (2 * (unit p.format * number) + 4) (omega (arith, within number below))) ∙ has.holds_owed number below;
+      origin_is = has.origin_is;
+      code_is = has.code_is;
+    }

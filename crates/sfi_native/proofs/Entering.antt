@@ -1,5 +1,5 @@
 -- Jumps to an address in edx, from their first instruction to an entry or out.
-use Rattle.std.proofs.Common.{◌≡◌, ℕ, ◌+◌, ◌-◌, ◌*◌, ◌/◌, ◌%◌, ◌^◌, ◌<◌, ◌≤◌, ◌==◌, ◌⊎◌, inl, inr, true, List, [], ◌∷◌, length, Some, refl, sym, ap, ◌∙◌, subst, arith, if◌then◌else◌, nat_lt, not}
+use Rattle.std.proofs.Common.{◌≡◌, ℕ, ◌+◌, ◌-◌, ◌*◌, ◌/◌, ◌%◌, ◌^◌, ◌<◌, ◌≤◌, ◌==◌, ◌⊎◌, inl, inr, true, List, [], ◌∷◌, length, Option, Some, None, refl, sym, ap, ◌∙◌, subst, arith, if◌then◌else◌, nat_lt, not}
 use Rattle.std.specs.Prelude.{Ok, bit_and, bit_or, slice_index}
 use Rattle.std.proofs.lemmas.Nat.{and_le_l}
 use Rattle.std.proofs.lemmas.Bool.{cases_Bool, and_parts, lt-ltb, le-leb, leb-true, ltb-true, eqb-true, eq-eqb, ne_eqb, eqb-false}
@@ -21,15 +21,17 @@ use Rattle.x86_step.specs.Step.{Reaches, address, difference, is_canonical, is_m
 unfoldable use Rattle.x86_step.specs.Step.{computes}
 use Rattle.x86_step.specs.Running.{HasAt, spellings}
 use Rattle.sfi_native.specs.declared.layout.Layout.{Layout}
-use Rattle.sfi_native.specs.Layout.{IsLayout, IsRelated}
+use Rattle.sfi_native.specs.declared.plan.Plan.{Plan}
+use Rattle.sfi_native.specs.Layout.{IsLayout, IsRelated, OthersStay, owing}
 use Rattle.sfi_native.specs.Laws.{IsLow, end_of}
-use Rattle.sfi_native.specs.Code.{enter_code, enter_size, slot, start_code, start_size, steps_code, table_entry}
-use Rattle.sfi_native.specs.Entries.{entry_of}
+use Rattle.sfi_native.specs.Code.{enter_code, enter_size, slot, start_code, start_size, steps_code, table_entry, table_owed}
+use Rattle.sfi_native.specs.Entries.{entry_of, owed_at_entry, unit_address}
 use Rattle.sfi_native.specs.Places.{exit_of}
 use Rattle.sfi_native.specs.Table.{HasTable, LieInCode, is_unit_start}
 use Rattle.sfi_native.proofs.Fetching.{fixed_loaded, related_kept}
 use Rattle.sfi_native.proofs.Fixed.{fixed_at}
-use Rattle.sfi_native.proofs.Kept.{Kept, kept_flags, kept_join, kept_register, kept_result}
+use Rattle.sfi_native.proofs.Counting.{counted_core, counted_related, counted_stay}
+use Rattle.sfi_native.proofs.Kept.{Kept, kept_flags, kept_join, kept_register, kept_result, others_join, others_kept}
 use Rattle.sfi_native.proofs.Memory.{load_there}
 use Rattle.sfi_native.proofs.Table.{entry_below}
 use Rattle.sfi_native.proofs.Runs.{branch_effect, jumps_to, low_canonical, straight_runs}
@@ -101,59 +103,97 @@ unit_is u base len m n at (inr e) base_is len_is from below aligned =
 
 -- ==== To an entry.
 
-module _ (p : Part) (l : Layout) (base : ℕ) (code : List Line) (lie : LieInCode p code) (t : Text) (low_text : IsLow t) (in_reach : base + exit_of l.registers code < 2 ^ 47) where
-  -- the entry of an address, as the processor reads it
+-- few steps are owed at an entry
+pub entry_few : (plan : Plan) (p : Part) (o : Option (List Line)) → owed_at_entry plan p o < 63
+entry_few plan p None = omega arith
+entry_few plan p (Some []) = omega arith
+entry_few plan p (Some (line ∷ rest)) = omega arith
+
+module _ (p : Part) (l : Layout) (layout : IsLayout p.data_size l) (base : ℕ) (code : List Line) (lie : LieInCode p code) (t : Text) (low_text : IsLow t) (in_reach : base + exit_of l.plan code < 2 ^ 47) where
+  -- the row of an address, as the processor reads it
   module _ (d : Core) (has : HasTable p l base code d) (to : ℕ) (edx : d.registers 2 ≡ to) (starts : is_unit_start p to ≡ true) where
     abbrev entry : ℕ
-    entry = entry_of l.registers code (label to code)
+    entry = entry_of l.plan code (label to code)
 
-    read : loaded d 4 (address d table_entry) ≡ Ok entry
-    read =
+    abbrev owed_there : ℕ
+    owed_there = owed_at_entry l.plan p (label to code)
+
+    record Row : Type 0 where
+      number : ℕ
+      few : number < length p.code / unit p.format
+      within : unit p.format * number + 4 ≤ length p.code
+      address_is : to ≡ p.code_base + unit p.format * number
+      unit_is : unit_address p number ≡ to
+
+    row : Row
+    row =
         let parts = and_parts _ _ starts in
         let more = and_parts _ _ parts.1 in
         let from : p.code_base ≤ to = leb-true _ _ parts.0 in
         let within : to < p.code_base + length p.code = ltb-true _ _ more.0 in
         let whole = whole_bundles p.format p.code_base (length p.code) (omega (arith, from, within, lie.ends)) lie.region in
         let it = unit_is (unit p.format) p.code_base (length p.code) whole.1 whole.0 to (units p.format) whole.3 whole.2 from within (eqb-true _ _ more.1) in
-        let few : it.0 < length has.table = subst (λ n. it.0 < n) (sym has.entries.count) it.1 in
-        let is : slice_index has.table it.0 ≡ entry =
-        has.entries.entries it.0 few ∙ ap (λ a. entry_of l.registers code (label a code)) (ap (λ a. a % 2 ^ 32) (sym it.2) ∙ omega (arith, within, lie.ends)) in
-        let place : address d table_entry ≡ has.at + unit p.format * it.0 =
-        ap (λ r. (d.registers 12 + r * 1 + 0) % 2 ^ 64) edx ∙ omega (arith, has.origin_is, has.ends, it.2, it.3, lie.ends, from, within) in
-        ap (loaded d 4) place ∙ load_there d 4 (has.at + unit p.format * it.0) entry (omega (arith, has.ends, it.3)) (has.holds it.0 few ∙ ap Some is)
-
-    pub record Enters (at : ℕ) : Type 0 where
-      pub after : Core
-      pub reached : Reaches t 3 (record { rip = at; core = d }) (record { rip = base + entry; core = after })
-      pub kept : Kept d after
-      pub target : after.registers 2 ≡ to
-
-    pub enters : (at : ℕ) → IsFixed t d → HasAt t at (spellings enter_code) → Enters at
-    unfolding computes
-    enters at fixed_text stands =
-        let c1 = with_register d 0 entry in
-        let r = sum Qword (low Qword entry) (low Qword (d.registers 13)) in
-        let e = with_flags (with_register c1 0 r.result) r.flags in
-        let front = Mov Dword Rax (Mem table_entry) ∷ Alu alu.Add Qword Rax (Reg R13) ∷ [] in
-        let below : base + entry < 2 ^ 47 = omega (arith, in_reach, entry_below l.registers code (label to code)) in
-        let place : low Qword r.result ≡ base + entry = omega (arith, has.code_is, below) in
         record {
-          after = e;
-          reached = jumps_to t at front (JmpTo (Reg Rax)) d e fixed_text low_text stands (straight_runs front d e refl (rw read refl)) (base + entry)
-              (λ after e. rw (place, low_canonical (base + entry) below) refl);
-          kept = kept_join d c1 e (kept_register d 0 entry (omega arith)) (kept_result c1 0 r.result r.flags (omega arith));
-          target = edx;
+          number = it.0;
+          few = it.1;
+          within = it.3;
+          address_is = it.2;
+          unit_is = ap (λ a. a % 2 ^ 32) (sym it.2) ∙ omega (arith, within, lie.ends);
         }
 
--- ==== Out.
+    -- where a row's number is, so many bytes on
+    place_is : (n : ℕ) → n ≤ 4 → (d.registers 12 + to * 2 + n) % 2 ^ 64 ≡ has.at + 2 * (unit p.format * row.number) + n
+    place_is n small = omega (arith, has.origin_is, has.ends, row.address_is, row.within, lie.ends, small)
 
--- out over a distance from an end that is so many bytes on
-pub out_over : (from end more distance : ℕ) → end ≡ from + more → distance + more < 2 ^ 31 → jumped from ((distance + more) % 2 ^ 32) ≡ jumped end distance
-out_over from end more distance is ahead =
-    let small : (distance + more) % 2 ^ 32 ≡ distance + more = omega (arith, ahead) in
-    let near : nat_lt (distance + more) (2 ^ 31) ≡ true = lt-ltb (distance + more) (2 ^ 31) ahead in
-    let nearer : nat_lt distance (2 ^ 31) ≡ true = lt-ltb distance (2 ^ 31) (omega (arith, ahead)) in
-    ap (jumped from) small ∙ (rw (near, nearer) (omega (arith, is)))
+    read : loaded d 4 (address d table_entry) ≡ Ok entry
+    read =
+        let is : slice_index has.table (2 * row.number) ≡ entry =
+        has.entries.entries row.number row.few ∙ ap (λ a. entry_of l.plan code (label a code)) row.unit_is in
+        let at = has.at + 2 * (unit p.format * row.number) in
+        let place : address d table_entry ≡ at = ap (λ r. (d.registers 12 + r * 2 + 0) % 2 ^ 64) edx ∙ place_is 0 (omega arith) ∙ omega arith in
+        ap (loaded d 4) place ∙ load_there d 4 at entry (omega (arith, has.ends, row.within)) (has.holds row.number row.few ∙ ap Some is)
+
+    read_owed : loaded d 4 (address d table_owed) ≡ Ok owed_there
+    read_owed =
+        let is : slice_index has.table (2 * row.number + 1) ≡ owed_there =
+        has.entries.owed row.number row.few ∙ ap (λ a. owed_at_entry l.plan p (label a code)) row.unit_is in
+        let at = has.at + 2 * (unit p.format * row.number) + 4 in
+        let place : address d table_owed ≡ at = ap (λ r. (d.registers 12 + r * 2 + 4) % 2 ^ 64) edx ∙ place_is 4 (omega arith) in
+        ap (loaded d 4) place ∙ load_there d 4 at owed_there (omega (arith, has.ends, row.within)) (has.holds_owed row.number row.few ∙ ap Some is)
+
+    module _ (k : Going) (few : k.left < 2 ^ 31) (is : IsRelated p l (owing 0 k) d) where
+      pub record Enters (at : ℕ) : Type 0 where
+        pub after : Core
+        pub reached : Reaches t 4 (record { rip = at; core = d }) (record { rip = base + entry; core = after })
+        pub related : IsRelated p l (owing owed_there k) after
+        pub others : OthersStay p l d after
+        pub target : after.registers 2 ≡ to
+
+      pub enters : (at : ℕ) → IsFixed t d → HasAt t at (spellings enter_code) → Enters at
+      unfolding computes
+      enters at fixed_text stands =
+          let s = sum Dword (low Dword (d.registers 14)) owed_there in
+          let less = entry_few l.plan p (label to code) in
+          let counted : s.result ≡ k.left + owed_there = omega (arith, is.left, few, less) in
+          let fits : k.left + owed_there < 2 ^ 32 = omega (arith, few, less) in
+          let c0 = counted_core d s.result s.flags in
+          let related = counted_related p l layout (owing 0 k) d is (k.left + owed_there) s.result s.flags counted fits in
+          let stay = counted_stay p l layout (owing 0 k) d is (k.left + owed_there) s.result s.flags counted fits in
+          let c1 = with_register c0 0 entry in
+          let r = sum Qword (low Qword entry) (low Qword (d.registers 13)) in
+          let e = with_flags (with_register c1 0 r.result) r.flags in
+          let kept = kept_join c0 c1 e (kept_register c0 0 entry (omega arith)) (kept_result c1 0 r.result r.flags (omega arith)) in
+          let front = Alu alu.Add Dword R14 (Mem table_owed) ∷ Mov Dword Rax (Mem table_entry) ∷ Alu alu.Add Qword Rax (Reg R13) ∷ [] in
+          let below : base + entry < 2 ^ 47 = omega (arith, in_reach, entry_below l.plan code (label to code)) in
+          let place : low Qword r.result ≡ base + entry = omega (arith, has.code_is, below) in
+          record {
+            after = e;
+            reached = jumps_to t at front (JmpTo (Reg Rax)) d e fixed_text low_text stands (straight_runs front d e refl (rw (read_owed, read) refl)) (base + entry)
+                (λ after e. rw (place, low_canonical (base + entry) below) refl);
+            related = related_kept p l layout (owing owed_there k) c0 e related kept;
+            others = others_join p l d c0 e stay (others_kept p l c0 e kept);
+            target = edx;
+          }
 
 -- two numbers of 32 bits have no difference where they are one
 no_difference : (a b : ℕ) → a < 2 ^ 32 → b < 2 ^ 32 → low Dword (a + (2 ^ 32 - b)) == 0 ≡ (a == b)
@@ -218,30 +258,30 @@ module _ (p : Part) (l : Layout) (layout : IsLayout p.data_size l) (code : List 
           target = edx;
         }
 
-    -- too few steps are left, or not
-    pub record HasSteps (at distance : ℕ) : Type 0 where
-      pub after : Core
-      pub reached : Reaches t 2 (record { rip = at; core = d })
-          (record { rip = if is_short Assembly k.left then jumped (end_of at (steps_code distance)) ((distance + (start_size + enter_size)) % 2 ^ 32) else end_of at (steps_code distance); core = after })
-      pub kept : Kept d after
-      pub target : after.registers 2 ≡ to
+-- too few steps are left, or not
+module _ (t : Text) (low_text : IsLow t) (d : Core) (to : ℕ) (edx : d.registers 2 ≡ to) (left : ℕ) (same : low Dword (d.registers 14) ≡ left % 2 ^ 31) where
+  pub record HasSteps (at distance : ℕ) : Type 0 where
+    pub after : Core
+    pub reached : Reaches t 2 (record { rip = at; core = d })
+        (record { rip = if is_short Assembly left then jumped (end_of at (steps_code distance)) ((distance + (start_size + enter_size)) % 2 ^ 32) else end_of at (steps_code distance); core = after })
+    pub kept : Kept d after
+    pub target : after.registers 2 ≡ to
 
-    pub has_steps : (at distance : ℕ) → IsFixed t d → HasAt t at (spellings (steps_code distance)) → k.left < 2 ^ 31
-        → is_canonical (jumped (end_of at (steps_code distance)) ((distance + (start_size + enter_size)) % 2 ^ 32)) ≡ true → HasSteps at distance
-    unfolding computes
-    has_steps at distance fixed_text stands few canonical =
-        let out = (distance + (start_size + enter_size)) % 2 ^ 32 in
-        let f = (difference Dword (low Dword (d.registers 14)) most).flags in
-        let e = with_flags d f in
-        let same : low Dword (d.registers 14) ≡ k.left % 2 ^ 31 = omega (arith, is.left, few) in
-        let met : is_met Below f ≡ Some (is_short Assembly k.left) = ap (λ x. Some (nat_lt x most)) same in
-        let front = AluImm alu.Cmp Dword (Reg R14) most ∷ [] in
-        let end = end_of at (steps_code distance) in
-        record {
-          after = e;
-          reached = jumps_to t at front (Jcc Below out) d e fixed_text low_text stands (straight_runs front d e refl refl)
-              (if is_short Assembly k.left then jumped end out else end)
-              (λ after is. branch_effect Below out after end e (is_short Assembly k.left) is met canonical);
-          kept = kept_flags d f;
-          target = edx;
-        }
+  pub has_steps : (at distance : ℕ) → IsFixed t d → HasAt t at (spellings (steps_code distance))
+      → is_canonical (jumped (end_of at (steps_code distance)) ((distance + (start_size + enter_size)) % 2 ^ 32)) ≡ true → HasSteps at distance
+  unfolding computes
+  has_steps at distance fixed_text stands canonical =
+      let out = (distance + (start_size + enter_size)) % 2 ^ 32 in
+      let f = (difference Dword (low Dword (d.registers 14)) most).flags in
+      let e = with_flags d f in
+      let met : is_met Below f ≡ Some (is_short Assembly left) = ap (λ x. Some (nat_lt x most)) same in
+      let front = AluImm alu.Cmp Dword (Reg R14) most ∷ [] in
+      let end = end_of at (steps_code distance) in
+      record {
+        after = e;
+        reached = jumps_to t at front (Jcc Below out) d e fixed_text low_text stands (straight_runs front d e refl refl)
+            (if is_short Assembly left then jumped end out else end)
+            (λ after is. branch_effect Below out after end e (is_short Assembly left) is met canonical);
+        kept = kept_flags d f;
+        target = edx;
+      }

@@ -1,6 +1,6 @@
 -- What holds of the code of lines: laws, for proofs in the crates above.
 use Rattle.sfi_native.specs.Laws.{BranchLinesRun, ComputingLinesRun, EachCodeCanBeRun, EachTableCanBeHeld, FaultingLinesRun, JalLinesRun, JalrLinesRun, LinesStand, LoadLinesRun, PlacedLinesRun, PlacedStepsRun, StoreLinesRun}
-use Rattle.sfi_native.specs.Sizes.{CodeIsSmall, EachCodeFits}
+use Rattle.sfi_native.specs.Sizes.{CodeHasItsSize, CodeIsSmall, EachCodeFits}
 use Rattle.sfi_native.proofs.Guarding as guarding
 use Rattle.sfi_native.specs.Host.{EachWorkCanBeDone, HostReads, OneWayOut, ThereIsAHost}
 use Rattle.sfi_native.specs.Table.{LinesLieInCode}
@@ -54,7 +54,7 @@ pub faulting_lines_run : FaultingLinesRun
 faulting_lines_run = guarding.faulting_lines_run
 
 pub lines_stand : LinesStand
-lines_stand registers t base code rest line stands last = places.line_stands registers t code base stands line rest last
+lines_stand plan t base code rest line stands last = places.line_stands plan t code base stands line rest last
 
 pub lines_lie_in_code : LinesLieInCode
 lines_lie_in_code = table.lines_lie_in_code
@@ -67,6 +67,9 @@ placed_steps_run = steps.placed_steps_run
 
 pub code_is_small : CodeIsSmall
 code_is_small = sizes.code_is_small
+
+pub code_has_its_size : CodeHasItsSize
+code_has_its_size = sizes.whole_size
 
 pub each_code_fits : EachCodeFits
 each_code_fits = sizes.each_code_fits

@@ -18,7 +18,7 @@ use Rattle.x86_step.specs.Running.{are_straight, exec}
 use Rattle.sfi_native.specs.declared.layout.Layout.{Layout}
 use Rattle.sfi_native.specs.Layout.{Holds, IsLayout, IsRelated, OthersStay, value}
 use Rattle.sfi_native.specs.Code.{bring, fetch, lies_in, operand_of, read, register_or, slot, store_eax, write}
-use Rattle.sfi_native.specs.Registers.{IsRightMap, assigned, is_fixed}
+use Rattle.sfi_native.specs.Registers.{IsRightPlan, assigned, is_fixed}
 use Rattle.sfi_native.proofs.Arithmetic.{low_is}
 use Rattle.sfi_native.proofs.Assigned.{Free, free as free_register, holds_kept, holds_on, same_register, updated_same}
 use Rattle.sfi_native.proofs.Kept.{Kept, KeptBut, Leaves, but_register, but_same, kept_register, others_same, updated_other}
@@ -87,7 +87,7 @@ module _ (p : Part) (l : Layout) (layout : IsLayout p.data_size l) where
   related_kept g c d is k = record {
     register_count = is.register_count;
     words = is.words;
-    registers = λ r small. holds_kept l layout.registers_are_right c d r (value p g r) k (is.registers r small);
+    registers = λ r small. holds_kept l layout.plan_is_right c d r (value p g r) k (is.registers r small);
     frame = k.registers 4 (omega arith) ∙ is.frame;
     frame_is_written = λ j small. ap (λ w. w (l.frame + j)) k.writable ∙ is.frame_is_written j small;
     few = is.few;
@@ -120,7 +120,7 @@ module _ (p : Part) (l : Layout) (layout : IsLayout p.data_size l) where
 
   pub fixed_loaded : (g : Going) (c : Core) (r : ℕ) → r < 32 → is_fixed r ≡ true → IsRelated p l g c → loaded c 4 (address c (slot r)) ≡ Ok (value p g r)
   fixed_loaded g c r small held is =
-      slot_loaded g c r small is (subst (λ o. Holds l c r o (value p g r)) (layout.registers_are_right.in_frame r held) (is.registers r small))
+      slot_loaded g c r small is (subst (λ o. Holds l c r o (value p g r)) (layout.plan_is_right.in_frame r held) (is.registers r small))
 
   fetched_from : (g : Going) (c : Core) (dst : Register) (r : ℕ) → r < 32 → IsRelated p l g c → (o : Option Register) → Holds l c r o (value p g r)
       → exec (Mov Dword dst (operand_of o r) ∷ []) c ≡ Ok (with_register c (number dst) (value p g r))
@@ -130,8 +130,8 @@ module _ (p : Part) (l : Layout) (layout : IsLayout p.data_size l) where
       ap (λ v. Ok (with_register c (number dst) v)) (ap (low Dword) has ∙ low_is (value p g r) (is.words r))
 
   -- a register's value in a free one
-  pub fetched : (g : Going) (c : Core) (dst : Register) (r : ℕ) → r < 32 → IsRelated p l g c → exec (fetch l.registers dst r) c ≡ Ok (with_register c (number dst) (value p g r))
-  fetched g c dst r small is = fetched_from g c dst r small is (assigned l.registers r) (is.registers r small)
+  pub fetched : (g : Going) (c : Core) (dst : Register) (r : ℕ) → r < 32 → IsRelated p l g c → exec (fetch l.plan dst r) c ≡ Ok (with_register c (number dst) (value p g r))
+  fetched g c dst r small is = fetched_from g c dst r small is (assigned l.plan r) (is.registers r small)
 
   -- register r in the register that it lies in, or read into that free one
   pub record Reads (c : Core) (o : Option Register) (x : Register) (r v : ℕ) : Type 0 where
@@ -161,8 +161,8 @@ module _ (p : Part) (l : Layout) (layout : IsLayout p.data_size l) where
     kept = record { registers = λ k more. refl; memory = refl; writable = refl };
   }
 
-  pub reads : (g : Going) (c : Core) (x : Register) → number x ≤ 2 → (r : ℕ) → r < 32 → IsRelated p l g c → Reads c (assigned l.registers r) x r (value p g r)
-  reads g c x low r small is = reads_from g c x low r small is (assigned l.registers r) (is.registers r small)
+  pub reads : (g : Going) (c : Core) (x : Register) → number x ≤ 2 → (r : ℕ) → r < 32 → IsRelated p l g c → Reads c (assigned l.plan r) x r (value p g r)
+  reads g c x low r small is = reads_from g c x low r small is (assigned l.plan r) (is.registers r small)
 
   brought_from : (g : Going) (c : Core) (dst : Register) (r : ℕ) → r < 32 → IsRelated p l g c → (o : Option Register) → Holds l c r o (value p g r)
       → Leaves (number dst) (if lies_in o dst then [] else Mov Dword dst (operand_of o r) ∷ []) c (value p g r)
@@ -191,8 +191,8 @@ module _ (p : Part) (l : Layout) (layout : IsLayout p.data_size l) where
       ]
 
   -- a register's value into that one, unless it lies there
-  pub brought : (g : Going) (c : Core) (dst : Register) (r : ℕ) → r < 32 → IsRelated p l g c → Leaves (number dst) (bring l.registers dst r) c (value p g r)
-  brought g c dst r small is = brought_from g c dst r small is (assigned l.registers r) (is.registers r small)
+  pub brought : (g : Going) (c : Core) (dst : Register) (r : ℕ) → r < 32 → IsRelated p l g c → Leaves (number dst) (bring l.plan dst r) c (value p g r)
+  brought g c dst r small is = brought_from g c dst r small is (assigned l.plan r) (is.registers r small)
 
   -- a fixed register isn't written
   pub unwritten : (g : Going) (c : Core) (place : ControlPoint) (rd v : ℕ) (k : Hart) → IsRelated p l g c → IsWritten p g rd v k → is_fixed rd ≡ true
@@ -200,7 +200,7 @@ module _ (p : Part) (l : Layout) (layout : IsLayout p.data_size l) where
   unwritten g c place rd v k is w held = record {
     register_count = w.count;
     words = λ r. subst (λ x. x < 2 ^ 32) (sym (w.old r (inl held))) (is.words r);
-    registers = λ r small. subst (λ x. Holds l c r (assigned l.registers r) x) (sym (w.old r (inl held))) (is.registers r small);
+    registers = λ r small. subst (λ x. Holds l c r (assigned l.plan r) x) (sym (w.old r (inl held))) (is.registers r small);
     frame = is.frame;
     frame_is_written = is.frame_is_written;
     few = is.few;
@@ -244,24 +244,24 @@ module _ (p : Part) (l : Layout) (layout : IsLayout p.data_size l) where
     ]
 
     -- where the value is in its place and the others are as before
-    related_to : (e : Core) → is_fixed rd ≡ false → Holds l e rd (assigned l.registers rd) v
-        → ((r : ℕ) → r < 32 → (r ≡ rd → ⊥) → Holds l c r (assigned l.registers r) (value p g r) → Holds l e r (assigned l.registers r) (value p g r))
-        → (r : ℕ) → r < 32 → Holds l e r (assigned l.registers r) (value p turned r)
+    related_to : (e : Core) → is_fixed rd ≡ false → Holds l e rd (assigned l.plan rd) v
+        → ((r : ℕ) → r < 32 → (r ≡ rd → ⊥) → Holds l c r (assigned l.plan r) (value p g r) → Holds l e r (assigned l.plan r) (value p g r))
+        → (r : ℕ) → r < 32 → Holds l e r (assigned l.plan r) (value p turned r)
     related_to e free new old r below = elim (cases_eq r rd) [
       | inl same ↦
-          subst (λ x. Holds l e x (assigned l.registers x) (value p turned x)) (sym same)
-          (subst (λ x. Holds l e rd (assigned l.registers rd) x) (sym (w.new free)) new)
-      | inr other ↦ subst (λ x. Holds l e r (assigned l.registers r) x) (sym (w.old r (inr other))) (old r below other (is.registers r below))
+          subst (λ x. Holds l e x (assigned l.plan x) (value p turned x)) (sym same)
+          (subst (λ x. Holds l e rd (assigned l.plan rd) x) (sym (w.new free)) new)
+      | inr other ↦ subst (λ x. Holds l e r (assigned l.plan r) x) (sym (w.old r (inr other))) (old r below other (is.registers r below))
     ]
 
-    right : IsRightMap l.registers
-    right = layout.registers_are_right
+    right : IsRightPlan l.plan
+    right = layout.plan_is_right
 
     -- ---- in a register of the processor
 
-    module _ (q : Register) (own : assigned l.registers rd ≡ Some q) (e : Core) (has : e.registers (number q) ≡ v) (kept : KeptBut (number q) c e) where
+    module _ (q : Register) (own : assigned l.plan rd ≡ Some q) (e : Core) (has : e.registers (number q) ≡ v) (kept : KeptBut (number q) c e) where
       numbered : Free (number q)
-      numbered = free_register l.registers right rd q own
+      numbered = free_register l.plan right rd q own
 
       not_fixed : is_fixed rd ≡ false
       not_fixed = elim (cases_Bool (is_fixed rd)) [
@@ -277,8 +277,8 @@ module _ (p : Part) (l : Layout) (layout : IsLayout p.data_size l) where
         register_count = w.count;
         words = word_is;
         registers = related_to e not_fixed (subst (λ o. Holds l e rd o v) (sym own) has)
-            (λ r below other had. holds_on l c e r (value p g r) (assigned l.registers r) (λ x. ap (λ m. number_at m 4 (l.frame + 4 * r)) kept.memory)
-            (λ k x. stays (number k) (free_register l.registers right r k x).above (λ same. other (right.apart r rd q (x ∙ ap Some (same_register k q same)) own))) had);
+            (λ r below other had. holds_on l c e r (value p g r) (assigned l.plan r) (λ x. ap (λ m. number_at m 4 (l.frame + 4 * r)) kept.memory)
+            (λ k x. stays (number k) (free_register l.plan right r k x).above (λ same. other (right.apart r rd q (x ∙ ap Some (same_register k q same)) own))) had);
         frame = stays 4 (omega arith) (λ x. numbered.no_frame (sym x)) ∙ is.frame;
         frame_is_written = λ j below. ap (λ f. f (l.frame + j)) kept.writable ∙ is.frame_is_written j below;
         few = is.few;
@@ -307,7 +307,7 @@ module _ (p : Part) (l : Layout) (layout : IsLayout p.data_size l) where
 
       -- ---- in the frame
 
-      module _ (free : is_fixed rd ≡ false) (none : assigned l.registers rd ≡ None) where
+      module _ (free : is_fixed rd ≡ false) (none : assigned l.plan rd ≡ None) where
         was : Holds l c rd None (value p g rd)
         was = subst (λ o. Holds l c rd o (value p g rd)) none (is.registers rd small)
 
@@ -316,7 +316,7 @@ module _ (p : Part) (l : Layout) (layout : IsLayout p.data_size l) where
           register_count = w.count;
           words = word_is;
           registers = related_to stored_core free (subst (λ o. Holds l stored_core rd o v) (sym none) (number_written c.memory at v fits))
-              (λ r below other has. holds_on l c stored_core r (value p g r) (assigned l.registers r)
+              (λ r below other has. holds_on l c stored_core r (value p g r) (assigned l.plan r)
               (λ e. number_elsewhere c.memory 4 at v 4 (l.frame + 4 * r) (beside r other)) (λ q e. refl) has);
           frame = is.frame;
           frame_is_written = is.frame_is_written;
@@ -351,7 +351,7 @@ module _ (p : Part) (l : Layout) (layout : IsLayout p.data_size l) where
         unfolding computes
         wrote_frame = (stored_core, rw store refl, rewritten, stay, λ k low. refl)
 
-      module _ (q : Register) (own : assigned l.registers rd ≡ Some q) where
+      module _ (q : Register) (own : assigned l.plan rd ≡ Some q) where
         abbrev moved_core : Core
         moved_core = with_register c (number q) v
 
@@ -368,17 +368,17 @@ module _ (p : Part) (l : Layout) (layout : IsLayout p.data_size l) where
           ap (λ x. Ok (with_register c (number q) x)) (ap (low Dword) in_eax ∙ low_is v fits),
           moved q own moved_core there but,
           moved_stay q own moved_core there but,
-          λ k low. updated_other c.registers (number q) v k (λ e. omega (arith, e, low, (free_register l.registers right rd q own).above)),
+          λ k low. updated_other c.registers (number q) v k (λ e. omega (arith, e, low, (free_register l.plan right rd q own).above)),
         )
 
-      wrote_free : is_fixed rd ≡ false → (o : Option Register) → assigned l.registers rd ≡ o → Wrote (store_eax o rd ∷ [])
+      wrote_free : is_fixed rd ≡ false → (o : Option Register) → assigned l.plan rd ≡ o → Wrote (store_eax o rd ∷ [])
       wrote_free free None e = wrote_frame free e
       wrote_free free (Some q) e = wrote_register q e
 
-      pub wrote : Wrote (write l.registers rd)
+      pub wrote : Wrote (write l.plan rd)
       wrote = elim (cases_Bool (is_fixed rd)) [
         | inl held ↦ (c, rw held refl, unwritten g c place rd v k is w held, others_same p l c, λ k low. refl)
-        | inr free ↦ subst (λ t. Wrote (if t then [] else store_eax (assigned l.registers rd) rd ∷ [])) (sym free) (wrote_free free (assigned l.registers rd) refl)
+        | inr free ↦ subst (λ t. Wrote (if t then [] else store_eax (assigned l.plan rd) rd ∷ [])) (sym free) (wrote_free free (assigned l.plan rd) refl)
       ]
 
 -- where the turn is doesn't matter

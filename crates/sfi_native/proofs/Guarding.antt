@@ -1,7 +1,7 @@
 -- The code of accesses that touch a guard zone.
-use Rattle.std.proofs.Common.{◌≡◌, ℕ, zero, suc, ◌+◌, ◌-◌, ◌*◌, ◌%◌, ◌^◌, ◌<◌, ◌≤◌, true, Option, Some, None, List, ◌∷◌, ◌++◌, [], refl, ap, ◌∙◌, sym, subst, append_assoc, arith, inl, inr, length}
-use Rattle.std.specs.Prelude.{Err, ℤ, pos, negsuc, int_le, ◌+ℤ◌, nat_le}
-use Rattle.std.proofs.lemmas.Bool.{cases_Bool, cases_lt, leb-false, le-ltb, lt-ltb}
+use Rattle.std.proofs.Common.{◌≡◌, ℕ, ◌+◌, ◌-◌, ◌*◌, ◌%◌, ◌^◌, ◌<◌, ◌≤◌, true, Option, Some, None, List, ◌∷◌, ◌++◌, refl, ap, ◌∙◌, sym, subst, append_assoc, arith, inl, inr, length}
+use Rattle.std.specs.Prelude.{Err, ℤ, pos, negsuc, int_le, ◌+ℤ◌}
+use Rattle.std.proofs.lemmas.Bool.{cases_lt, leb-false, le-ltb, lt-ltb}
 use Rattle.std.proofs.lemmas.Int.{ints}
 use Rattle.rv_word.specs.declared.instr.Instr.TheVariants.{Load, Store}
 use Rattle.rv_word.specs.declared.instr.LoadKind.{LoadKind}
@@ -21,24 +21,26 @@ use Rattle.x86_instr.specs.declared.operand.Address.{Address}
 use Rattle.x86_instr.specs.declared.instr.Instr.{Instr as Native}
 use Rattle.x86_instr.specs.Spelling.{spelling}
 use Rattle.x86_step.specs.declared.machine.Stop.TheVariants.{Fault}
-use Rattle.x86_step.specs.State.{Core, Fixup, IsIn, Span, Text, joined, number_at, with_register}
-use Rattle.x86_step.specs.Step.{LiesIn, address, effect, loaded, resumed, sign_extended}
+use Rattle.x86_step.specs.State.{Core, Fixup, IsIn, Span, Text, number_at, with_register}
+use Rattle.x86_step.specs.Step.{IsHandled, LiesIn, address, effect, loaded, resumed, sign_extended}
 unfoldable use Rattle.x86_step.specs.Step.{accessed, computes}
 use Rattle.x86_step.specs.Running.{spellings}
 use Rattle.x86_step.proofs.Facts.{faults_resume}
 use Rattle.x86_step.proofs.Missing.{load_missing, number_missing}
 use Rattle.x86_step.proofs.Running.{has_front, in_more}
 use Rattle.sfi_native.specs.declared.layout.Layout.{Layout}
-use Rattle.sfi_native.specs.Layout.{GuardsAreEmpty, IsLayout, IsRelated, guarded_data, origin, value}
-use Rattle.sfi_native.specs.Laws.{FaultingLinesRun, IsBefore, TouchesGuards, LeadsTo, end_of, line_most}
+use Rattle.sfi_native.specs.Layout.{GuardsAreEmpty, IsLayout, IsRelated, guarded_data, origin, owing, value}
+use Rattle.sfi_native.specs.Laws.{CountsBelow, FaultingLinesRun, IsBefore, TouchesGuards, LeadsTo, end_of, line_most}
 use Rattle.sfi_native.specs.Code.{count, data_address, load_from, read, register_or, result_in, settle, store_to}
-use Rattle.sfi_native.specs.Registers.{assigned}
+use Rattle.sfi_native.specs.Registers.{assigned, owed}
+use Rattle.sfi_native.specs.Places.{owed_behind}
 use Rattle.sfi_native.proofs.Accessing.{address_is, negative_small, positive_small}
 use Rattle.sfi_native.proofs.Assigned.{not_frame, not_free}
 use Rattle.sfi_native.proofs.Fetching.{reads, related_goes, related_kept}
-use Rattle.sfi_native.proofs.Kept.{Kept, kept_join, kept_register, others_kept}
+use Rattle.sfi_native.proofs.Counting.{counted_core, counted_related, counted_stay, having}
+use Rattle.sfi_native.proofs.Fronts.{store_parts}
+use Rattle.sfi_native.proofs.Kept.{Kept, kept_join, kept_register, others_join, others_kept}
 use Rattle.sfi_native.proofs.Runs.{Runs, back_fixed, back_stands, runs_join, straight_runs, then_reaches}
-use Rattle.sfi_native.proofs.Lengths.{front_few}
 
 -- ==== Where the access goes.
 
@@ -144,72 +146,103 @@ store_access Sb a src c = refl
 store_access Sh a src c = refl
 store_access Sw a src c = refl
 
+-- at most one instruction reads a register
+read_few : (o : Option Register) (r : ℕ) → length (read o Rax r) ≤ 2
+read_few None r = omega arith
+read_few (Some q) r = omega arith
+
+two_few : (o1 o2 : Option Register) (r1 r2 : ℕ) → length (read o1 Rax r1 ++ read o2 Rcx r2) ≤ 2
+two_few None None r1 r2 = omega arith
+two_few None (Some k) r1 r2 = omega arith
+two_few (Some q) None r1 r2 = omega arith
+two_few (Some q) (Some k) r1 r2 = omega arith
+
 -- an access that lies in data and guard zones is one of an instruction whose faults are handled
 handled_by : (p : Part) (l : Layout) (t : Text) (access : Native) (d : Core) (span : Span) → t.handled ≡ guarded_data p.data_size l → accessed access d ≡ Some span
-    → LiesIn (IsIn (guarded_data p.data_size l)) (Some span) → LiesIn (IsIn t.handled) (accessed access d)
+    → LiesIn (IsIn (guarded_data p.data_size l)) (Some span) → IsHandled t.handled (accessed access d)
 handled_by p l t access d span zones is lies =
-    subst (λ own. LiesIn (IsIn own) (accessed access d)) (sym zones) (subst (λ own. LiesIn (IsIn (guarded_data p.data_size l)) own) (sym is) lies)
+    subst (λ own. IsHandled own (accessed access d)) (sym zones) (subst (λ own. IsHandled (guarded_data p.data_size l) own) (sym is) lies)
 
--- Behind code that only changes free registers, an instruction that faults goes on by its fixup.
-goes_on : (p : Part) (l : Layout) (t : Text) (at : ℕ) (front back : List Native) (access : Native) (f : Fixup) (g : Going) (address : ℕ) (c d : Core)
-    → IsBefore (front ++ (access ∷ back)) t at p l g c → Runs front c d → Kept c d → ((after : ℕ) → effect access after d ≡ Err Fault)
-    → length front + 1 ≤ line_most → t.fixups (end_of at front) ≡ Some f → LiesIn (IsIn t.handled) (accessed access d) → (it : LeadsTo t at f.to p l c (goes_with g Slow address)) × (it.after.registers 2 ≡ f.rdx)
-goes_on p l t at front back access f g address c d here runs kept faults few has lies =
-    let behind = access ∷ back in
-    let own = has_front t (end_of at front) (spelling access) (spellings back) (back_stands t at front behind c d here.text_is_fixed here.text_is_low here.stands runs) in
-    let fixed_here = back_fixed t at front behind c d here.text_is_fixed here.text_is_low here.stands runs in
-    let e = with_register d 2 f.rdx in
-    let all = kept_join c d e kept (kept_register d 2 f.rdx (omega arith)) in (
+-- Behind code that only changes free registers, an instruction that faults goes on by its fixup, which subtracts what is owed.
+module _ (p : Part) (l : Layout) (t : Text) (at : ℕ) (f : Fixup) (g : Going) (owed address : ℕ) (below : CountsBelow g owed 0) (subtracts : f.subtracted ≡ owed) where
+  pub record Resumes (c : Core) : Type 0 where
+    pub leads : LeadsTo t at f.to p l c (goes_with g Slow address)
+    pub edx : leads.after.registers 2 ≡ f.rdx
+
+  goes_on : (front back : List Native) (access : Native) (c d : Core)
+      → IsBefore (front ++ (access ∷ back)) t at p l (owing owed g) c → Runs front c d → Kept c d → ((after : ℕ) → effect access after d ≡ Err Fault)
+      → length front ≤ 2 → t.fixups (end_of at front) ≡ Some f → IsHandled t.handled (accessed access d) → Resumes c
+  goes_on front back access c d here runs kept faults few has lies =
+      let behind = access ∷ back in
+      let own = has_front t (end_of at front) (spelling access) (spellings back) (back_stands t at front behind c d here.text_is_fixed here.text_is_low here.stands runs) in
+      let fixed_here = back_fixed t at front behind c d here.text_is_fixed here.text_is_low here.stands runs in
+      let k = with_register d 2 f.rdx in
+      let all = kept_join c d k kept (kept_register d 2 f.rdx (omega arith)) in
+      let related = related_kept p l here.layout (owing owed g) c k here.related all in
+      let less = (d.registers 14 + (2 ^ 32 - f.subtracted)) % 2 ^ 32 in
+      let less_is : less ≡ g.left = omega (arith, related.left, subtracts, below.left, below.few) in
+      let fits : g.left < 2 ^ 32 = omega (arith, below.left) in
+      let counted = counted_related p l here.layout (owing owed g) k related g.left less k.flags less_is fits in
+      let stay = counted_stay p l here.layout (owing owed g) k related g.left less k.flags less_is fits in
       record {
-        after = e;
-        reached = in_more t _ line_most _ _ few (then_reaches t at front behind c d here.text_is_fixed here.text_is_low here.stands runs 1 (resumed f d)
-            (faults_resume t (end_of at front) access d f fixed_here own (faults _) has lies));
-        related = related_goes p l g e Slow address (related_kept p l here.layout g c e here.related all);
-        others = others_kept p l c e all;
-      },
-      refl,
-    )
+        leads = record {
+          after = counted_core k less k.flags;
+          reached = in_more t _ line_most _ _ (omega (arith, few)) (then_reaches t at front behind c d here.text_is_fixed here.text_is_low here.stands runs 1 (resumed f d)
+              (faults_resume t (end_of at front) access d f fixed_here own (faults _) has lies));
+          related = related_goes p l (having g.left (owing owed g)) (counted_core k less k.flags) Slow address counted;
+          others = others_join p l c k (counted_core k less k.flags) (others_kept p l c k all) stay;
+        };
+        edx = refl;
+      }
 
 pub faulting_lines_run : FaultingLinesRun
 unfolding InRange
-faulting_lines_run target p code rest address size (Load kind rd rs1 imm) distance out f l t at g c range access here has =
-    let o = assigned l.registers rs1 in
-    let place = assigned l.registers rd in
+faulting_lines_run target p code rest address size (Load kind rd rs1 imm) distance out f l t at g c range below access here has subtracts =
+    let o = assigned l.plan rs1 in
+    let place = assigned l.plan rd in
     let x = register_or o Rax in
     let to = data_address x (word imm) in
     let load = load_from kind (result_in place) to in
     let front = read o Rax rs1 in
-    let first = reads p l here.layout g c Rax (omega arith) rs1 range.1 here.related in
-    let index = not_frame l.registers here.layout.registers_are_right rs1 o refl Rax (omega arith) in
-    let stands = subst (λ is. IsBefore is t at p l g c) (append_assoc front (load ∷ settle l.registers place rd) count) here in
-    rw access.tested
-    (goes_on p l t at front (settle l.registers place rd ++ count) load f g address c first.core stands
+    let n = owed l.plan address in
+    let last = count (n + 1) (owed_behind l.plan address size) in
+    let back = settle l.plan place rd ++ last in
+    let stands = subst (λ is. IsBefore is t at p l (owing n g) c) (append_assoc front (load ∷ settle l.plan place rd) last) here in
+    let first = reads p l here.layout (owing n g) c Rax (omega arith) rs1 range.1 here.related in
+    let index = not_frame l.plan here.layout.plan_is_right rs1 o refl Rax (omega arith) in
+    let it = goes_on p l t at f g n address below subtracts front back load c first.core stands
     (straight_runs front c first.core first.straight first.runs) first.kept
     (λ after. load_faults kind (result_in place) to after first.core
-    (faults p l here.layout g c here.related here.guards (load_size kind) (load_sized kind).some rs1 imm range.2 access first.core x index first.result first.kept)) (omega (arith, front_few l.registers (Load kind rd rs1 imm))) has
+    (faults p l here.layout (owing n g) c here.related here.guards (load_size kind) (load_sized kind).some rs1 imm range.2 access first.core x index first.result first.kept))
+    (read_few o rs1) has
     (handled_by p l t load first.core _ here.faults_are_handled (load_access kind (result_in place) to first.core)
-    (handled p l here.layout g c here.related here.guards (load_size kind) (load_sized kind).some rs1 imm range.2 access first.core x index first.result first.kept)))
-faulting_lines_run target p code rest address size (Store width rs1 rs2 imm) distance out f l t at g c range access here has =
-    let o1 = assigned l.registers rs1 in
-    let o2 = assigned l.registers rs2 in
+    (handled p l here.layout (owing n g) c here.related here.guards (load_size kind) (load_sized kind).some rs1 imm range.2 access first.core x index first.result first.kept)) in
+    rw access.tested (it.leads, it.edx)
+faulting_lines_run target p code rest address size (Store width rs1 rs2 imm) distance out f l t at g c range below access here has subtracts =
+    let o1 = assigned l.plan rs1 in
+    let o2 = assigned l.plan rs2 in
     let x = register_or o1 Rax in
     let y = register_or o2 Rcx in
     let to = data_address x (word imm) in
-    let right = here.layout.registers_are_right in
+    let store = store_to width to y in
+    let right = here.layout.plan_is_right in
     let one = read o1 Rax rs1 in
     let two = read o2 Rcx rs2 in
-    let first = reads p l here.layout g c Rax (omega arith) rs1 range.0 here.related in
-    let second = reads p l here.layout g first.core Rcx (omega arith) rs2 range.1 (related_kept p l here.layout g c first.core here.related first.kept) in
+    let n = owed l.plan address in
+    let last = count (n + 1) (owed_behind l.plan address size) in
+    let stands = subst (λ is. IsBefore is t at p l (owing n g) c) (sym (store_parts one two last store)) here in
+    let first = reads p l here.layout (owing n g) c Rax (omega arith) rs1 range.0 here.related in
+    let second = reads p l here.layout (owing n g) first.core Rcx (omega arith) rs2 range.1 (related_kept p l here.layout (owing n g) c first.core here.related first.kept) in
     let d = second.core in
     let kept = kept_join c first.core d first.kept second.kept in
-    let in_x = second.others (number x) (not_free l.registers right rs1 o1 refl Rax 1 (omega arith) (λ e. omega (arith, e))) ∙ first.result in
-    let index = not_frame l.registers right rs1 o1 refl Rax (omega arith) in
-    let stands = subst (λ is. IsBefore is t at p l g c) (sym (append_assoc one two (store_to width to y ∷ count))) here in
-    rw access.tested
-    (goes_on p l t at (one ++ two) count (store_to width to y) f g address c d stands
+    let in_x = second.others (number x) (not_free l.plan right rs1 o1 refl Rax 1 (omega arith) (λ e. omega (arith, e))) ∙ first.result in
+    let index = not_frame l.plan right rs1 o1 refl Rax (omega arith) in
+    let it = goes_on p l t at f g n address below subtracts (one ++ two) last store c d stands
     (runs_join one two c first.core d (straight_runs one c first.core first.straight first.runs) (straight_runs two first.core d second.straight second.runs)) kept
     (λ after. store_faults width to y after d
-    (faults p l here.layout g c here.related here.guards (store_size width) (store_sized width).some rs1 imm range.2 access d x index in_x kept)) (omega (arith, front_few l.registers (Store width rs1 rs2 imm))) has
-    (handled_by p l t (store_to width to y) d _ here.faults_are_handled (store_access width to y d)
-    (handled p l here.layout g c here.related here.guards (store_size width) (store_sized width).some rs1 imm range.2 access d x index in_x kept)))
-faulting_lines_run target p code rest address size i distance out f l t at g c range access here has = absurd access
+    (faults p l here.layout (owing n g) c here.related here.guards (store_size width) (store_sized width).some rs1 imm range.2 access d x index in_x kept))
+    (two_few o1 o2 rs1 rs2) has
+    (handled_by p l t store d _ here.faults_are_handled (store_access width to y d)
+    (handled p l here.layout (owing n g) c here.related here.guards (store_size width) (store_sized width).some rs1 imm range.2 access d x index in_x kept)) in
+    rw access.tested (it.leads, it.edx)
+faulting_lines_run target p code rest address size i distance out f l t at g c range below access here has subtracts = absurd access

@@ -12,7 +12,7 @@ use Rattle.x86_step.specs.Running.{spellings}
 use Rattle.sfi_native.specs.declared.layout.Layout.{Layout}
 use Rattle.sfi_native.specs.Laws.{EachCodeCanBeRun}
 use Rattle.sfi_native.specs.Layout.{DoNotMeet, GuardsAreEmpty, Holds, IsLayout, IsRelated, frame_size, guarded_data, origin, value}
-use Rattle.sfi_native.specs.Registers.{IsRightMap, assigned}
+use Rattle.sfi_native.specs.Registers.{IsRightPlan, assigned}
 use Rattle.sfi_native.proofs.Assigned.{has_value, not_assigned, other_register, with_values}
 use Rattle.sfi_native.proofs.Memory.{number_of_bytes}
 
@@ -36,7 +36,7 @@ module _ (p : Part) (l : Layout) (g : Going) (layout : IsLayout p.data_size l) w
   base_registers r = if r == 4 then l.frame else if r == 14 then g.left else origin p.data_base l
 
   abbrev registers : ℕ → ℕ
-  registers = with_values l.registers (value p g) 32 base_registers
+  registers = with_values l.plan (value p g) 32 base_registers
 
   abbrev held : Core
   held = record { registers = registers; flags = unknown; memory = bytes; writable = λ a. in_frame a || in_data a }
@@ -82,15 +82,15 @@ module _ (p : Part) (l : Layout) (g : Going) (layout : IsLayout p.data_size l) w
   slot_holds : (r : ℕ) → r < 32 → value p g r < 2 ^ 32 → number_at bytes 4 (l.frame + 4 * r) ≡ Some (value p g r)
   slot_holds r small fits = number_of_bytes bytes (l.frame + 4 * r) (value p g r) fits (λ j few. slot_byte r j small few)
 
-  right : IsRightMap l.registers
-  right = layout.registers_are_right
+  right : IsRightPlan l.plan
+  right = layout.plan_is_right
 
-  holds : (r : ℕ) → r < 32 → value p g r < 2 ^ 32 → (o : Option Register) → assigned l.registers r ≡ o → Holds l held r o (value p g r)
+  holds : (r : ℕ) → r < 32 → value p g r < 2 ^ 32 → (o : Option Register) → assigned l.plan r ≡ o → Holds l held r o (value p g r)
   holds r small fits None e = slot_holds r small fits
-  holds r small fits (Some q) e = has_value l.registers right (value p g) base_registers 32 r q small e
+  holds r small fits (Some q) e = has_value l.plan right (value p g) base_registers 32 r q small e
 
   own_register : (k : ℕ) → (k < 3) ⊎ ((11 < k) ⊎ (k ≡ 4)) → registers k ≡ base_registers k
-  own_register k own = other_register l.registers right (value p g) base_registers 32 k (not_assigned l.registers right k own)
+  own_register k own = other_register l.plan right (value p g) base_registers 32 k (not_assigned l.plan right k own)
 
   data_is : (k : ℕ) → k < p.data_size → bytes (l.data_start + k) ≡ byte_at g.state.memory (p.data_base + k)
   data_is k small =
@@ -101,7 +101,7 @@ module _ (p : Part) (l : Layout) (g : Going) (layout : IsLayout p.data_size l) w
   held_is count words few = record {
     register_count = count;
     words = words;
-    registers = λ r small. holds r small (words r) (assigned l.registers r) refl;
+    registers = λ r small. holds r small (words r) (assigned l.plan r) refl;
     frame = own_register 4 (inr (inr refl));
     frame_is_written = λ k small. rw (frame_has k small) refl;
     few = few;

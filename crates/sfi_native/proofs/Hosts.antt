@@ -1,5 +1,5 @@
 -- What a host reads, and what stays where it works.
-use Rattle.std.proofs.Common.{◌≡◌, ℕ, ◌+◌, ◌-◌, ◌*◌, ◌<◌, ◌≤◌, ◌⊎◌, inl, inr, List, length, refl, sym, ap, ◌∙◌, subst, arith, ⊎_elim}
+use Rattle.std.proofs.Common.{◌/◌, ◌≡◌, ℕ, ◌+◌, ◌-◌, ◌*◌, ◌<◌, ◌≤◌, ◌⊎◌, inl, inr, List, length, refl, sym, ap, ◌∙◌, subst, arith, ⊎_elim}
 use Rattle.rv_step.specs.State.{register}
 use Rattle.sfi_formats.specs.Formats.{unit}
 use Rattle.sfi_formats.specs.Limits.{guard}
@@ -8,33 +8,41 @@ use Rattle.sfi_translate.specs.Lines.{Line}
 use Rattle.sfi_translate.specs.Machine.{Assembly, Before, ControlPoint, Going, IsTranslatedStepAt, Lost, Loop, Slow, Stopped}
 use Rattle.sfi_translate.specs.Laws.{IsOver}
 use Rattle.sfi_translate.proofs.LinesStand.{units}
-use Rattle.x86_step.specs.State.{Core, Machine, Text}
+use Rattle.x86_step.specs.State.{Core, number_at, Machine, Text}
 use Rattle.sfi_native.specs.declared.layout.Layout.{Layout}
 use Rattle.sfi_native.specs.Registers.{assigned}
-use Rattle.sfi_native.specs.declared.registers.RegisterMap.{RegisterMap}
+use Rattle.sfi_native.specs.declared.plan.Plan.{Plan}
 use Rattle.sfi_native.proofs.Assigned.{not_assigned}
 use Rattle.sfi_native.specs.Layout.{Holds, IsLayout, IsOutside, OthersStay, frame_size}
 use Rattle.sfi_native.specs.Laws.{IsBefore}
 use Rattle.sfi_native.specs.Host.{Host, HostMoves, HostReads, IsHosts, IsInCode, Serves, Spares, SparesMemory, arrives, makes}
-use Rattle.sfi_native.specs.Places.{IsAt, IsAtPlace, end_address, exit_of, whole_code}
-use Rattle.sfi_native.specs.Table.{HasTable}
+use Rattle.sfi_native.specs.Places.{IsAt, IsAtPlace, end_address, exit_of, owed_there, whole_code, with_owed}
+use Rattle.sfi_native.specs.Table.{HasTable, table_size}
 use Rattle.sfi_native.specs.Whole.{AreApart}
 use Rattle.sfi_native.proofs.Kept.{beside_frame}
 use Rattle.sfi_native.proofs.Table.{number_same, outside, unit_within}
 
 -- ==== What a host reads.
 
-out_with_pc : (registers : RegisterMap) (base : ℕ) (code : List Line) (place : ControlPoint) (pc : ℕ) (m : Machine) → IsHosts place → IsAtPlace registers base code place pc m → m.core.registers 2 ≡ pc
-out_with_pc registers base code Slow pc m is at = at.1
-out_with_pc registers base code Loop pc m is at = at.1
-out_with_pc registers base code place pc m is at = absurd is
+out_with_pc : (plan : Plan) (base : ℕ) (code : List Line) (place : ControlPoint) (pc : ℕ) (m : Machine) → IsHosts place → IsAtPlace plan base code place pc m → m.core.registers 2 ≡ pc
+out_with_pc plan base code Slow pc m is at = at.1
+out_with_pc plan base code Loop pc m is at = at.1
+out_with_pc plan base code place pc m is at = absurd is
+
+host_owes : (p : Part) (l : Layout) (place : ControlPoint) → IsHosts place → owed_there l.plan p place ≡ 0
+host_owes p l Slow is = refl
+host_owes p l Loop is = refl
+host_owes p l place is = absurd is
 
 pub host_reads : HostReads
-host_reads p l base code g m is proper alike = record {
-  pc = out_with_pc l.registers base code g.place g.state.hart.pc m is alike.is_at;
-  registers = λ r small. subst (λ h. Holds l m.core r (assigned l.registers r) (register h r)) proper.fixed_is (alike.related.registers r small);
-  bytes = alike.related.bytes;
-}
+host_reads p l base code g m is proper alike = (
+  record {
+    pc = out_with_pc l.plan base code g.place g.state.hart.pc m is alike.is_at;
+    registers = λ r small. subst (λ h. Holds l m.core r (assigned l.plan r) (register h r)) proper.fixed_is (alike.related.registers r small);
+    bytes = alike.related.bytes;
+  },
+  omega (arith, alike.related.left, host_owes p l g.place is),
+)
 
 -- ==== A host's moves lead one way.
 
@@ -65,8 +73,8 @@ one_way p code g h k (makes _ a _ is step more) (makes _ b _ too other others) =
 module _ (p : Part) (l : Layout) (own : ℕ → Type 0) where
   pub spares_others : IsLayout p.data_size l → (c d : Core) → OthersStay p l c d → Spares p l own c d
   spares_others layout c d stay = record {
-    table_origin = stay.others 12 (omega arith) (λ e. omega (arith, e)) (not_assigned l.registers layout.registers_are_right 12 (inr (inl (omega arith))));
-    code_address = stay.others 13 (omega arith) (λ e. omega (arith, e)) (not_assigned l.registers layout.registers_are_right 13 (inr (inl (omega arith))));
+    table_origin = stay.others 12 (omega arith) (λ e. omega (arith, e)) (not_assigned l.plan layout.plan_is_right 12 (inr (inl (omega arith))));
+    code_address = stay.others 13 (omega arith) (λ e. omega (arith, e)) (not_assigned l.plan layout.plan_is_right 13 (inr (inl (omega arith))));
     memory = record { elsewhere = λ a not_own by_frame by_data. stay.elsewhere a by_frame by_data; writable = λ a not_own. ap (λ w. w a) stay.writable };
   }
 
@@ -95,14 +103,14 @@ inside a from n low high (inr behind) = omega (arith, high, behind)
 module _ (p : Part) (code : List Line) (l : Layout) (t : Text) (base table_at : ℕ) (host : Host) where
   -- it stands before code, with its table, and with what the host relies on
   pub record Ready (g : Going) (m : Machine) : Type 0 where
-    pub is_at : IsAt l.registers base code g m
-    pub stands : IsBefore (whole_code l.registers (end_address p) code) t base p l g m.core
+    pub is_at : IsAt l.plan base code g m
+    pub stands : IsBefore (whole_code l.plan (end_address p) code) t base p l (with_owed l.plan p g) m.core
     pub table : HasTable p l base code m.core
     pub table_is : table.at ≡ table_at
     pub apart : AreApart p l base code table.at host.own
     pub relies : host.relies m.core
 
-  module _ (begins : t.base ≡ base) (size : length t.bytes ≡ exit_of l.registers code) where
+  module _ (begins : t.base ≡ base) (size : length t.bytes ≡ exit_of l.plan code) where
     pub ready_on : (g k : Going) (m n : Machine) → Ready g m → Serves p l base code host.own k m n → host.relies n.core → Ready k n
     ready_on g k m n here it relies =
         let layout = here.stands.layout in
@@ -110,6 +118,13 @@ module _ (p : Part) (code : List Line) (l : Layout) (t : Text) (base table_at : 
         let spares = it.spares in
         let own = here.apart in
         let has = here.table in
+        let same_there = λ (from : ℕ) (fits : from + 4 ≤ table_size p). number_same m.core.memory n.core.memory 4 (has.at + from) (λ j few.
+        let a = has.at + from + j in
+        let high : a < has.at + table_size p = omega (arith, fits, few) in
+        spares.memory.elsewhere a (λ is. inside a has.at (table_size p) (omega arith) high (own.own_from_table a is))
+        (outside has.at (table_size p) l.frame frame_size a has.frame_apart (omega arith) high)
+        (outside has.at (table_size p) l.data_start p.data_size a has.data_apart (omega arith) high)) in
+        let within = λ (number : ℕ) (below : number < length p.code / unit p.format). unit_within (unit p.format) (length p.code) number (units p.format) below in
         record {
           is_at = it.is_at;
           stands = record {
@@ -117,7 +132,7 @@ module _ (p : Part) (code : List Line) (l : Layout) (t : Text) (base table_at : 
             text_is_fixed = record {
               ends = here.stands.text_is_fixed.ends;
               apart = λ a from below.
-                  spares.memory.writable a (λ is. inside a base (exit_of l.registers code) (omega (arith, begins, from)) (omega (arith, begins, size, below)) (own.own_from_text a is))
+                  spares.memory.writable a (λ is. inside a base (exit_of l.plan code) (omega (arith, begins, from)) (omega (arith, begins, size, below)) (own.own_from_text a is))
                   ∙ here.stands.text_is_fixed.apart a from below;
             };
             text_is_low = here.stands.text_is_low;
@@ -140,15 +155,10 @@ module _ (p : Part) (code : List Line) (l : Layout) (t : Text) (base table_at : 
             ends = has.ends;
             frame_apart = has.frame_apart;
             data_apart = has.data_apart;
-            holds = λ number below.
-                let within = unit_within (unit p.format) (length p.code) number (units p.format) (subst (λ n. number < n) has.entries.count below) in
-                number_same m.core.memory n.core.memory 4 (has.at + unit p.format * number) (λ j few.
-                let a = has.at + unit p.format * number + j in
-                let high : a < has.at + length p.code = omega (arith, within, few) in
-                spares.memory.elsewhere a (λ is. inside a has.at (length p.code) (omega arith) high (own.own_from_table a is))
-                (outside has.at (length p.code) l.frame frame_size a has.frame_apart (omega arith) high)
-                (outside has.at (length p.code) l.data_start p.data_size a has.data_apart (omega arith) high))
-                ∙ has.holds number below;
+            holds = λ number below. same_there (2 * (unit p.format * number)) (omega (arith, within number below)) ∙ has.holds number below;
+            holds_owed = λ number below.
+                let at : has.at + (2 * (unit p.format * number) + 4) ≡ has.at + 2 * (unit p.format * number) + 4 = omega arith in
+                subst (λ a. number_at n.core.memory 4 a ≡ number_at m.core.memory 4 a) at (same_there (2 * (unit p.format * number) + 4) (omega (arith, within number below))) ∙ has.holds_owed number below;
             origin_is = spares.table_origin ∙ has.origin_is;
             code_is = spares.code_address ∙ has.code_is;
           };

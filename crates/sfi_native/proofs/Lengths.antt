@@ -1,5 +1,5 @@
 -- How many instructions the code of lines has.
-use Rattle.std.proofs.Common.{◌≡◌, ℕ, suc, ◌+◌, ◌*◌, ◌%◌, ◌^◌, ◌≤◌, ◌==◌, Bool, Option, Some, None, true, false, List, [], ◌∷◌, ◌++◌, length, if◌then◌else◌, refl, arith, length-append}
+use Rattle.std.proofs.Common.{◌≡◌, ℕ, suc, ◌+◌, ◌*◌, ◌-◌, ◌%◌, ◌^◌, ◌≤◌, ◌==◌, Bool, Option, Some, None, true, false, List, [], ◌∷◌, ◌++◌, length, if◌then◌else◌, refl, arith, length-append}
 use Rattle.std.proofs.lemmas.Bool.{cond_both}
 use Rattle.std.specs.Prelude.{◌&&◌}
 use Rattle.rv_word.specs.declared.instr.RegOp.{RegOp}
@@ -12,40 +12,39 @@ use Rattle.rv_word.specs.declared.instr.Instr.{Instr}
 use Rattle.rv_word.specs.declared.instr.Instr.TheVariants.{Op, OpImm, Load, Store, Branch, Jal, Jalr, Lui, Auipc, Fence, Ecall, Ebreak}
 use Rattle.rv_step.specs.Step.{word}
 use Rattle.x86_instr.specs.declared.operand.Register.{Register}
-use Rattle.x86_instr.specs.declared.operand.Register.TheVariants.{Rax, Rcx}
+use Rattle.x86_instr.specs.declared.operand.Register.TheVariants.{Rax, Rcx, R14}
 use Rattle.x86_instr.specs.declared.operand.Operand.{Operand}
 use Rattle.x86_instr.specs.declared.operand.Operand.TheVariants.{Reg}
 use Rattle.x86_instr.specs.declared.instr.Condition.{Condition}
 use Rattle.x86_instr.specs.declared.instr.Instr.{Instr as Native}
-use Rattle.x86_instr.specs.declared.instr.Instr.TheVariants.{Alu, AluImm, Jmp, MovImm}
+use Rattle.x86_instr.specs.declared.instr.Instr.TheVariants.{Alu, AluImm, MovImm}
 use Rattle.x86_instr.specs.declared.instr.AluOp.TheVariants as alu
 use Rattle.x86_instr.specs.declared.instr.Width.TheVariants.{Dword}
-use Rattle.sfi_native.specs.declared.registers.RegisterMap.{RegisterMap}
+use Rattle.sfi_native.specs.declared.plan.Plan.{Plan}
 use Rattle.sfi_native.specs.declared.jump.Jump.{Jump}
 use Rattle.sfi_native.specs.Registers.{assigned, is_fixed}
 use Rattle.sfi_native.specs.Laws.{line_most}
-use Rattle.sfi_native.specs.Faults.{front_of}
-unfoldable use Rattle.sfi_native.specs.Code.{computation, compute, compute_imm}
-use Rattle.sfi_native.specs.Code.{are_exchanged, beside_code, bring, combine, compare_code, computing_line, count, data_address, ecx_code, fetch, has_test, imm_code, is_number, keeps_beside_zero, lies_in, load_code, load_from, load_line, needs_ecx, number_code, op_code, op_imm_code, operand_of, place_beside, place_code, read, register_or, result_in, settle, store_eax, store_line, store_to, target_code, test_code, tested_jump, unless, write}
+unfoldable use Rattle.sfi_native.specs.Code.{computation, compute, compute_imm, leap, leave_code, leave_line, test_code}
+use Rattle.sfi_native.specs.Code.{are_exchanged, beside_code, bring, combine, compare_code, computing_line, count, data_address, ecx_code, fetch, has_test, imm_code, is_number, keeps_beside_zero, lies_in, load_code, load_from, load_line, needs_ecx, number_code, op_code, op_imm_code, operand_of, place_beside, place_code, read, register_or, result_in, settle, store_code, store_eax, store_line, store_to, target_code, test_code, tested_jump, unless, write}
 
-write_few : (registers : RegisterMap) (r : ℕ) → length (write registers r) ≤ 1
-write_few registers r = cond_both (is_fixed r) [] (store_eax (assigned registers r) r ∷ []) (λ (is : List Native). length is ≤ 1) (λ e. omega arith) (λ e. omega arith)
+write_few : (plan : Plan) (r : ℕ) → length (write plan r) ≤ 1
+write_few plan r = cond_both (is_fixed r) [] (store_eax (assigned plan r) r ∷ []) (λ (is : List Native). length is ≤ 1) (λ e. omega arith) (λ e. omega arith)
 
-settle_few : (registers : RegisterMap) (place : Option Register) (rd : ℕ) → length (settle registers place rd) ≤ 1
-settle_few registers (Some q) rd = omega arith
-settle_few registers None rd = write_few registers rd
+settle_few : (plan : Plan) (place : Option Register) (rd : ℕ) → length (settle plan place rd) ≤ 1
+settle_few plan (Some q) rd = omega arith
+settle_few plan None rd = write_few plan rd
 
 read_few : (place : Option Register) (free : Register) (r : ℕ) → length (read place free r) ≤ 1
 read_few (Some q) free r = omega arith
 read_few None free r = omega arith
 
-bring_few : (registers : RegisterMap) (dst : Register) (r : ℕ) → length (bring registers dst r) ≤ 1
-bring_few registers dst r = cond_both (lies_in (assigned registers r) dst) [] (fetch registers dst r) (λ (is : List Native). length is ≤ 1) (λ e. omega arith) (λ e. omega arith)
+bring_few : (plan : Plan) (dst : Register) (r : ℕ) → length (bring plan dst r) ≤ 1
+bring_few plan dst r = cond_both (lies_in (assigned plan r) dst) [] (fetch plan dst r) (λ (is : List Native). length is ≤ 1) (λ e. omega arith) (λ e. omega arith)
 
-number_few : (registers : RegisterMap) (rd n : ℕ) → length (number_code registers rd n) ≤ 2
-number_few registers rd n =
-    let place = assigned registers rd in
-    omega (arith, length-append (MovImm (result_in place) n ∷ []) (settle registers place rd), settle_few registers place rd)
+pub number_few : (plan : Plan) (rd n : ℕ) → length (number_code plan rd n) ≤ 2
+number_few plan rd n =
+    let place = assigned plan rd in
+    omega (arith, length-append (MovImm (result_in place) n ∷ []) (settle plan place rd), settle_few plan place rd)
 
 -- ==== Computations.
 
@@ -82,123 +81,120 @@ compute_imm_few Slli dst n = omega arith
 compute_imm_few Srli dst n = omega arith
 compute_imm_few Srai dst n = omega arith
 
-ecx_few : (registers : RegisterMap) (op : RegOp) (rd rs1 rs2 : ℕ) → length (ecx_code registers op rd rs1 rs2) ≤ 13
-ecx_few registers op rd rs1 rs2 =
+ecx_few : (plan : Plan) (op : RegOp) (rd rs1 rs2 : ℕ) → length (ecx_code plan op rd rs1 rs2) ≤ 13
+ecx_few plan op rd rs1 rs2 =
     let ecx = Reg Rcx in
-    omega (arith, length-append (fetch registers Rax rs1) (fetch registers Rcx rs2 ++ (compute op Rax ecx ++ write registers rd)), length-append (fetch registers Rcx rs2) (compute op Rax ecx ++ write registers rd), length-append (compute op Rax ecx) (write registers rd), compute_few op Rax ecx, write_few registers rd)
+    omega (arith, length-append (fetch plan Rax rs1) (fetch plan Rcx rs2 ++ (compute op Rax ecx ++ write plan rd)), length-append (fetch plan Rcx rs2) (compute op Rax ecx ++ write plan rd), length-append (compute op Rax ecx) (write plan rd), compute_few op Rax ecx, write_few plan rd)
 
-combine_few : (registers : RegisterMap) (op : RegOp) (dst : Register) (rs2 : ℕ) → length (combine registers op dst rs2) ≤ 10
-combine_few registers op dst rs2 =
-    let src = operand_of (assigned registers rs2) rs2 in
+combine_few : (plan : Plan) (op : RegOp) (dst : Register) (rs2 : ℕ) → length (combine plan op dst rs2) ≤ 10
+combine_few plan op dst rs2 =
+    let src = operand_of (assigned plan rs2) rs2 in
     cond_both (keeps_beside_zero op && (rs2 == 0)) [] (compute op dst src) (λ (is : List Native). length is ≤ 10) (λ e. omega arith) (λ e. compute_few op dst src)
 
-place_few : (registers : RegisterMap) (place : Option Register) (op : RegOp) (rd rs1 rs2 : ℕ) → length (place_code registers place op rd rs1 rs2) ≤ 13
-place_few registers place op rd rs1 rs2 =
+place_few : (plan : Plan) (place : Option Register) (op : RegOp) (rd rs1 rs2 : ℕ) → length (place_code plan place op rd rs1 rs2) ≤ 13
+place_few plan place op rd rs1 rs2 =
     let dst = result_in place in
-    let computes = combine registers op dst rs2 in
-    omega (arith, length-append (bring registers dst rs1) (computes ++ settle registers place rd), length-append computes (settle registers place rd), bring_few registers dst rs1, combine_few registers op dst rs2, settle_few registers place rd)
+    let computes = combine plan op dst rs2 in
+    omega (arith, length-append (bring plan dst rs1) (computes ++ settle plan place rd), length-append computes (settle plan place rd), bring_few plan dst rs1, combine_few plan op dst rs2, settle_few plan place rd)
 
-beside_few : (registers : RegisterMap) (op : RegOp) (rd rs1 rs2 : ℕ) → length (beside_code registers op rd rs1 rs2) ≤ 13
-beside_few registers op rd rs1 rs2 = place_few registers (place_beside registers rd rs2) op rd rs1 rs2
+beside_few : (plan : Plan) (op : RegOp) (rd rs1 rs2 : ℕ) → length (beside_code plan op rd rs1 rs2) ≤ 13
+beside_few plan op rd rs1 rs2 = place_few plan (place_beside plan rd rs2) op rd rs1 rs2
 
-op_few : (registers : RegisterMap) (op : RegOp) (rd rs1 rs2 : ℕ) → length (op_code registers op rd rs1 rs2) ≤ 13
-op_few registers op rd rs1 rs2 =
+op_few : (plan : Plan) (op : RegOp) (rd rs1 rs2 : ℕ) → length (op_code plan op rd rs1 rs2) ≤ 13
+op_few plan op rd rs1 rs2 =
     let exchanged = are_exchanged op rd rs1 rs2 in
-    let one = beside_code registers op rd rs2 rs1 in
-    let other = beside_code registers op rd rs1 rs2 in
+    let one = beside_code plan op rd rs2 rs1 in
+    let other = beside_code plan op rd rs1 rs2 in
     let beside : List Native = if exchanged then one else other in
-    cond_both (needs_ecx op) (ecx_code registers op rd rs1 rs2) beside (λ (is : List Native). length is ≤ 13)
-    (λ e. ecx_few registers op rd rs1 rs2)
-    (λ e. cond_both exchanged one other (λ (is : List Native). length is ≤ 13) (λ h. beside_few registers op rd rs2 rs1) (λ h. beside_few registers op rd rs1 rs2))
+    cond_both (needs_ecx op) (ecx_code plan op rd rs1 rs2) beside (λ (is : List Native). length is ≤ 13)
+    (λ e. ecx_few plan op rd rs1 rs2)
+    (λ e. cond_both exchanged one other (λ (is : List Native). length is ≤ 13) (λ h. beside_few plan op rd rs2 rs1) (λ h. beside_few plan op rd rs1 rs2))
 
-imm_few : (registers : RegisterMap) (op : ImmOp) (rd rs1 n : ℕ) → length (imm_code registers op rd rs1 n) ≤ 5
-imm_few registers op rd rs1 n =
-    let place = assigned registers rd in
+imm_few : (plan : Plan) (op : ImmOp) (rd rs1 n : ℕ) → length (imm_code plan op rd rs1 n) ≤ 5
+imm_few plan op rd rs1 n =
+    let place = assigned plan rd in
     let dst = result_in place in
     let computes = compute_imm op dst n in
-    omega (arith, length-append (bring registers dst rs1) (computes ++ settle registers place rd), length-append computes (settle registers place rd), bring_few registers dst rs1, compute_imm_few op dst n, settle_few registers place rd)
+    omega (arith, length-append (bring plan dst rs1) (computes ++ settle plan place rd), length-append computes (settle plan place rd), bring_few plan dst rs1, compute_imm_few op dst n, settle_few plan place rd)
 
-op_imm_few : (registers : RegisterMap) (op : ImmOp) (rd rs1 n : ℕ) → length (op_imm_code registers op rd rs1 n) ≤ 5
-op_imm_few registers op rd rs1 n =
-    cond_both (is_number op rs1) (number_code registers rd n) (imm_code registers op rd rs1 n) (λ (is : List Native). length is ≤ 5)
-    (λ e. omega (arith, number_few registers rd n)) (λ e. imm_few registers op rd rs1 n)
+op_imm_few : (plan : Plan) (op : ImmOp) (rd rs1 n : ℕ) → length (op_imm_code plan op rd rs1 n) ≤ 5
+op_imm_few plan op rd rs1 n =
+    cond_both (is_number op rs1) (number_code plan rd n) (imm_code plan op rd rs1 n) (λ (is : List Native). length is ≤ 5)
+    (λ e. omega (arith, number_few plan rd n)) (λ e. imm_few plan op rd rs1 n)
 
-counted_few : (is : List Native) → length is ≤ 15 → length (is ++ count) ≤ line_most
-counted_few is few = omega (arith, length-append is count, few)
+pub count_few : (owed next : ℕ) → length (count owed next) ≤ 1
+count_few owed next =
+    let counted : List Native = AluImm alu.Sub Dword (Reg R14) ((owed + (2 ^ 32 - next)) % 2 ^ 32) ∷ [] in
+    cond_both (owed == next) [] counted (λ (is : List Native). length is ≤ 1) (λ e. omega arith) (λ e. omega arith)
 
-pub computing_few : (registers : RegisterMap) (at : ℕ) (i : Instr) → length (computing_line registers at i) ≤ line_most
+computation_few : (plan : Plan) (at : ℕ) (i : Instr) → length (computation plan at i) ≤ 15
 unfolding computation
-computing_few registers at (Op op rd rs1 rs2) = counted_few (op_code registers op rd rs1 rs2) (omega (arith, op_few registers op rd rs1 rs2))
-computing_few registers at (OpImm op rd rs1 imm) = counted_few (op_imm_code registers op rd rs1 (word imm)) (omega (arith, op_imm_few registers op rd rs1 (word imm)))
-computing_few registers at (Lui rd imm) = counted_few (number_code registers rd ((imm * 4096) % 2 ^ 32)) (omega (arith, number_few registers rd ((imm * 4096) % 2 ^ 32)))
-computing_few registers at (Auipc rd imm) = counted_few (number_code registers rd ((at + imm * 4096) % 2 ^ 32)) (omega (arith, number_few registers rd ((at + imm * 4096) % 2 ^ 32)))
-computing_few registers at (Fence imm rd rs1) = omega arith
-computing_few registers at (Load kind rd rs1 imm) = omega arith
-computing_few registers at (Store width rs1 rs2 imm) = omega arith
-computing_few registers at (Branch cond rs1 rs2 offset) = omega arith
-computing_few registers at (Jal rd offset) = omega arith
-computing_few registers at (Jalr rd rs1 imm) = omega arith
-computing_few registers at Ecall = omega arith
-computing_few registers at Ebreak = omega arith
+computation_few plan at (Op op rd rs1 rs2) = omega (arith, op_few plan op rd rs1 rs2)
+computation_few plan at (OpImm op rd rs1 imm) = omega (arith, op_imm_few plan op rd rs1 (word imm))
+computation_few plan at (Lui rd imm) = omega (arith, number_few plan rd ((imm * 4096) % 2 ^ 32))
+computation_few plan at (Auipc rd imm) = omega (arith, number_few plan rd ((at + imm * 4096) % 2 ^ 32))
+computation_few plan at (Fence imm rd rs1) = omega arith
+computation_few plan at (Load kind rd rs1 imm) = omega arith
+computation_few plan at (Store width rs1 rs2 imm) = omega arith
+computation_few plan at (Branch cond rs1 rs2 offset) = omega arith
+computation_few plan at (Jal rd offset) = omega arith
+computation_few plan at (Jalr rd rs1 imm) = omega arith
+computation_few plan at Ecall = omega arith
+computation_few plan at Ebreak = omega arith
+
+counted_few : (is : List Native) (owed next : ℕ) → length is ≤ 15 → length (is ++ count owed next) ≤ line_most
+counted_few is owed next few = omega (arith, length-append is (count owed next), few, count_few owed next)
+
+pub computing_few : (plan : Plan) (at owed next : ℕ) (i : Instr) → length (computing_line plan at owed next i) ≤ line_most
+computing_few plan at owed next i = counted_few (computation plan at i) (owed + 1) next (computation_few plan at i)
 
 -- ==== Accesses.
 
-pub load_few : (registers : RegisterMap) (kind : LoadKind) (rd rs1 displacement : ℕ) → length (load_line registers kind rd rs1 displacement) ≤ line_most
-load_few registers kind rd rs1 displacement =
-    let base = assigned registers rs1 in
-    let place = assigned registers rd in
+pub load_few : (plan : Plan) (owed next : ℕ) (kind : LoadKind) (rd rs1 displacement : ℕ) → length (load_line plan owed next kind rd rs1 displacement) ≤ line_most
+load_few plan owed next kind rd rs1 displacement =
+    let base = assigned plan rs1 in
+    let place = assigned plan rd in
     let front = read base Rax rs1 in
-    let back = load_from kind (result_in place) (data_address (register_or base Rax) displacement) ∷ settle registers place rd in
-    let back_few : length back ≤ 2 = omega (arith, settle_few registers place rd) in
-    counted_few (load_code registers kind rd rs1 displacement) (omega (arith, length-append front back, read_few base Rax rs1, back_few))
+    let back = load_from kind (result_in place) (data_address (register_or base Rax) displacement) ∷ settle plan place rd in
+    let back_few : length back ≤ 2 = omega (arith, settle_few plan place rd) in
+    counted_few (load_code plan kind rd rs1 displacement) (owed + 1) next (omega (arith, length-append front back, read_few base Rax rs1, back_few))
 
-pub store_few : (registers : RegisterMap) (width : StoreWidth) (rs1 rs2 displacement : ℕ) → length (store_line registers width rs1 rs2 displacement) ≤ line_most
-store_few registers width rs1 rs2 displacement =
-    let base = assigned registers rs1 in
-    let stored = assigned registers rs2 in
-    let back = store_to width (data_address (register_or base Rax) displacement) (register_or stored Rcx) ∷ count in
-    omega (arith, length-append (read base Rax rs1) (read stored Rcx rs2 ++ back), length-append (read stored Rcx rs2) back, read_few base Rax rs1, read_few stored Rcx rs2)
-
--- what stands before an access
-pub front_few : (registers : RegisterMap) (i : Instr) → length (front_of registers i) ≤ 2
-front_few registers (Load kind rd rs1 imm) = omega (arith, read_few (assigned registers rs1) Rax rs1)
-front_few registers (Store width rs1 rs2 imm) =
-    let one = read (assigned registers rs1) Rax rs1 in
-    let two = read (assigned registers rs2) Rcx rs2 in
-    omega (arith, length-append one two, read_few (assigned registers rs1) Rax rs1, read_few (assigned registers rs2) Rcx rs2)
-front_few registers (Op op rd rs1 rs2) = omega arith
-front_few registers (OpImm op rd rs1 imm) = omega arith
-front_few registers (Lui rd imm) = omega arith
-front_few registers (Auipc rd imm) = omega arith
-front_few registers (Fence imm rd rs1) = omega arith
-front_few registers (Branch cond rs1 rs2 offset) = omega arith
-front_few registers (Jal rd offset) = omega arith
-front_few registers (Jalr rd rs1 imm) = omega arith
-front_few registers Ecall = omega arith
-front_few registers Ebreak = omega arith
+pub store_few : (plan : Plan) (owed next : ℕ) (width : StoreWidth) (rs1 rs2 displacement : ℕ) → length (store_line plan owed next width rs1 rs2 displacement) ≤ line_most
+store_few plan owed next width rs1 rs2 displacement =
+    let base = assigned plan rs1 in
+    let stored = assigned plan rs2 in
+    let back = store_to width (data_address (register_or base Rax) displacement) (register_or stored Rcx) ∷ [] in
+    counted_few (store_code plan width rs1 rs2 displacement) (owed + 1) next
+    (omega (arith, length-append (read base Rax rs1) (read stored Rcx rs2 ++ back), length-append (read stored Rcx rs2) back, read_few base Rax rs1, read_few stored Rcx rs2))
 
 -- ==== Jumps.
 
-pub compare_few : (registers : RegisterMap) (rs1 rs2 : ℕ) → length (compare_code registers rs1 rs2) ≤ 4
-compare_few registers rs1 rs2 =
-    let first = assigned registers rs1 in
-    let back = count ++ (Alu alu.Cmp Dword (register_or first Rax) (operand_of (assigned registers rs2) rs2) ∷ []) in
-    omega (arith, length-append (read first Rax rs1) back, read_few first Rax rs1)
+pub compare_few : (plan : Plan) (owed next rs1 rs2 : ℕ) → length (compare_code plan owed next rs1 rs2) ≤ 3
+compare_few plan owed next rs1 rs2 =
+    let first = assigned plan rs1 in
+    let compare = Alu alu.Cmp Dword (register_or first Rax) (operand_of (assigned plan rs2) rs2) ∷ [] in
+    let counted = count (owed + 1) next in
+    omega (arith, length-append (read first Rax rs1) (counted ++ compare), length-append counted compare, count_few (owed + 1) next, read_few first Rax rs1)
 
-pub number_counted_few : (registers : RegisterMap) (rd n : ℕ) → length (number_code registers rd n ++ count) ≤ 3
-number_counted_few registers rd n = omega (arith, length-append (number_code registers rd n) count, number_few registers rd n)
+pub number_counted_few : (plan : Plan) (rd n owed next : ℕ) → length (number_code plan rd n ++ count owed next) ≤ 3
+number_counted_few plan rd n owed next = omega (arith, length-append (number_code plan rd n) (count owed next), number_few plan rd n, count_few owed next)
 
 -- what stands before the jump of a jalr
-pub jalr_front_few : (registers : RegisterMap) (rd rs1 displacement next : ℕ) → length (target_code registers rs1 displacement ++ (number_code registers rd next ++ count)) ≤ 6
-jalr_front_few registers rd rs1 displacement next =
-    let target : length (target_code registers rs1 displacement) ≡ 3 = refl in
-    omega (arith, target, length-append (target_code registers rs1 displacement) (number_code registers rd next ++ count), number_counted_few registers rd next)
+pub jalr_front_few : (plan : Plan) (owed rd rs1 displacement behind : ℕ) → length (target_code plan rs1 displacement ++ (number_code plan rd behind ++ count (owed + 1) 0)) ≤ 6
+jalr_front_few plan owed rd rs1 displacement behind =
+    let target : length (target_code plan rs1 displacement) ≡ 3 = refl in
+    let back = number_code plan rd behind ++ count (owed + 1) 0 in
+    omega (arith, target, length-append (target_code plan rs1 displacement) back, number_counted_few plan rd behind (owed + 1) 0)
 
-test_few : (tested : Bool) (j : Jump) → length (test_code tested j ++ (Jmp j.label ∷ [])) ≤ 4
-test_few true j = omega arith
-test_few false j = omega arith
+leap_few : (tested : Bool) (j : Jump) → length (leap tested j) ≤ 5
+leap_few true j =
+    omega (arith, length-append (test_code j.label_owed j.label) (leave_line j.to j.label_owed j.exit), length-append (count j.label_owed 0) (leave_code j.to j.exit), count_few j.label_owed 0)
+leap_few false j = omega arith
 
-pub branch_few : (front : List Native) (condition : Condition) (j : Jump) → length (front ++ unless condition (tested_jump j)) ≤ length front + 5
-branch_few front condition j =
-    let all : length (front ++ unless condition (tested_jump j)) ≡ length front + suc (length (tested_jump j)) = length-append front (unless condition (tested_jump j)) in
-    omega (arith, all, test_few (has_test j) j)
+pub tested_few : (owed : ℕ) (j : Jump) → length (tested_jump owed j) ≤ 6
+tested_few owed j = omega (arith, length-append (count owed j.label_owed) (leap (has_test j) j), count_few owed j.label_owed, leap_few (has_test j) j)
+
+pub branch_few : (front : List Native) (condition : Condition) (owed : ℕ) (j : Jump) → length (front ++ unless condition (tested_jump owed j)) ≤ length front + 7
+branch_few front condition owed j =
+    let all : length (front ++ unless condition (tested_jump owed j)) ≡ length front + suc (length (tested_jump owed j)) = length-append front (unless condition (tested_jump owed j)) in
+    omega (arith, all, tested_few owed j)

@@ -20,6 +20,7 @@ pub mod Lists
 pub mod Tested
 pub mod Jumps
 pub mod Accessing
+pub mod Following
 pub mod Table
 pub mod Tabled
 pub mod Entering
@@ -29,6 +30,9 @@ pub mod Stores
 pub mod Guarding
 pub mod Ready
 pub mod Fixups
+pub mod Counted
+pub mod Fronts
+pub mod OwedSteps
 pub mod Heads
 pub mod Arriving
 pub mod Placed

@@ -25,7 +25,7 @@ use Rattle.x86_step.specs.Step.{address, loaded, extended as extended_by}
 unfoldable use Rattle.x86_step.specs.Step.{computes}
 use Rattle.x86_step.specs.Running.{are_straight, exec}
 use Rattle.sfi_native.specs.declared.layout.Layout.{Layout}
-use Rattle.sfi_native.specs.Layout.{IsLayout, IsRelated, value}
+use Rattle.sfi_native.specs.Layout.{IsLayout, IsRelated, owing, value}
 use Rattle.sfi_native.specs.Laws.{LoadLinesRun, line_most}
 use Rattle.sfi_native.specs.Code.{data_address, load_code, load_from, read, register_or, result_in, settle}
 use Rattle.sfi_native.specs.Registers.{assigned}
@@ -34,7 +34,7 @@ use Rattle.sfi_native.proofs.Accessing.{number_is, place_is, some_number, within
 use Rattle.sfi_native.proofs.Runs.{runs_join, straight_runs}
 use Rattle.sfi_native.proofs.Kept.{Leaves, but_join, but_register, kept_but}
 use Rattle.sfi_native.proofs.Fetching.{reads}
-use Rattle.sfi_native.proofs.Lines.{Comes, settled, then_count, turn_with}
+use Rattle.sfi_native.proofs.Lines.{Comes, settled, then_counted, turn_with}
 use Rattle.sfi_native.proofs.Memory.{load_there}
 use Rattle.x86_step.proofs.Running.{in_more}
 use Rattle.sfi_native.proofs.Lengths.{load_few}
@@ -74,7 +74,7 @@ module _ (p : Part) (l : Layout) (layout : IsLayout p.data_size l) (g : Going) (
   fits = loaded_fits g.state.memory at v kind memory reads_it
 
   abbrev base : Option Register
-  base = assigned l.registers rs1
+  base = assigned l.plan rs1
 
   abbrev pub load_in : Register → Native
   load_in dst = load_from kind dst (data_address (register_or base Rax) (word imm))
@@ -86,7 +86,7 @@ module _ (p : Part) (l : Layout) (layout : IsLayout p.data_size l) (g : Going) (
       let to = data_address x (word imm) in
       let first = reads p l layout g c Rax (omega arith) rs1 small is in
       let d = first.core in
-      let place = place_is p l layout g c is room n (load_sized kind).some few rs1 imm range tested d x first.kept (not_frame l.registers layout.registers_are_right rs1 base refl Rax (omega arith)) first.result in
+      let place = place_is p l layout g c is room n (load_sized kind).some few rs1 imm range tested d x first.kept (not_frame l.plan layout.plan_is_right rs1 base refl Rax (omega arith)) first.result in
       let load : loaded d n (address d to) ≡ Ok v =
       ap (loaded d n) place
       ∙ load_there d n (l.data_start + (at - p.data_base)) v (omega (arith, inside.1, layout.data_ends)) (ap (λ m. number_at m n (l.data_start + (at - p.data_base))) first.kept.memory ∙ there) in
@@ -101,23 +101,24 @@ module _ (p : Part) (l : Layout) (layout : IsLayout p.data_size l) (g : Going) (
 
 pub load_lines_run : LoadLinesRun
 unfolding InRange
-load_lines_run target p code rest address size kind rd rs1 imm l t at g c range in_data memory there here =
+load_lines_run target p code rest address size owed next kind rd rs1 imm l t at g c range below in_data memory there here =
     let found = some_number (bytes_at g.state.memory (addresses (offset_by (value p g rs1) imm) (load_size kind))) there in
     let v = found.0 in
     let has : read_at g.state.memory (offset_by (value p g rs1) imm) (load_size kind) ≡ Some v = found.1 in
     let value_fits = extended_fits kind v (loaded_fits g.state.memory (offset_by (value p g rs1) imm) v kind memory has) in
-    let place = assigned l.registers rd in
+    let place = assigned l.plan rd in
     let dst = result_in place in
-    let front = read (assigned l.registers rs1) Rax rs1 in
-    let load = load_from kind dst (data_address (register_or (assigned l.registers rs1) Rax) (word imm)) in
-    let leaves = load_leaves p l here.layout g c here.related in_data.room memory kind in_data.fits rs1 imm v range.1 range.2 in_data.tested has dst in
-    let written = settled p l here.layout g c here.related (Before rest) (address_after address size) (front ++ (load ∷ [])) place rd (extended kind v) range.0 value_fits (λ q e. e) leaves in
-    let turn = turn_with p l here.layout g c here.related (Before rest) (address_after address size) rd (extended kind v) g.left in
-    let whole = subst (λ is. Comes is p l c turn) (append_assoc front (load ∷ []) (settle l.registers place rd)) written in
-    let done = then_count p l here.layout c (load_code l.registers kind rd rs1 (word imm)) _ whole in
+    let front = read (assigned l.plan rs1) Rax rs1 in
+    let load = load_from kind dst (data_address (register_or (assigned l.plan rs1) Rax) (word imm)) in
+    let k = owing owed g in
+    let leaves = load_leaves p l here.layout k c here.related in_data.room memory kind in_data.fits rs1 imm v range.1 range.2 in_data.tested has dst in
+    let written = settled p l here.layout k c here.related (Before rest) (address_after address size) (front ++ (load ∷ [])) place rd (extended kind v) range.0 value_fits (λ q e. e) leaves in
+    let turn = turn_with p l here.layout k c here.related (Before rest) (address_after address size) rd (extended kind v) k.left in
+    let whole = subst (λ is. Comes is p l c turn) (append_assoc front (load ∷ []) (settle l.plan place rd)) written in
+    let done = then_counted target p code rest address size owed next l here.layout g below c here.related (load_code l.plan kind rd rs1 (word imm)) turn refl whole in
     rw (in_data.tested, has) (record {
       after = done.core;
-      reached = in_more t _ line_most _ _ (load_few l.registers kind rd rs1 (word imm)) (done.runs t at here.text_is_fixed here.text_is_low here.stands);
+      reached = in_more t _ line_most _ _ (load_few l.plan owed next kind rd rs1 (word imm)) (done.runs t at here.text_is_fixed here.text_is_low here.stands);
       related = done.related;
       others = done.others;
     })

@@ -1,5 +1,5 @@
 -- Code with jumps within it, from its start to its end.
-use Rattle.std.proofs.Common.{suc, ◌≡◌, ℕ, ◌+◌, ◌^◌, ◌<◌, ◌≤◌, true, false, Bool, Some, List, [], ◌∷◌, ◌++◌, length, refl, ap, ◌∙◌, subst, arith, if◌then◌else◌, append-nil, length-append, nat_lt}
+use Rattle.std.proofs.Common.{suc, ◌≡◌, ℕ, ◌+◌, ◌%◌, ◌^◌, ◌<◌, ◌≤◌, true, false, Bool, Some, List, [], ◌∷◌, ◌++◌, length, refl, ap, ◌∙◌, subst, arith, if◌then◌else◌, append-nil, length-append, nat_lt}
 use Rattle.std.specs.Prelude.{Ok}
 use Rattle.std.proofs.lemmas.Bool.{lt-ltb}
 use Rattle.x86_instr.specs.declared.instr.Condition.{Condition}
@@ -43,6 +43,14 @@ bytes_end t at bytes has =
 
 pub low_canonical : (a : ℕ) → a < 2 ^ 47 → is_canonical a ≡ true
 low_canonical a low = rw (lt-ltb a (2 ^ 47) low) refl
+
+-- out over a distance from an end that is so many bytes on
+pub out_over : (from end more distance : ℕ) → end ≡ from + more → distance + more < 2 ^ 31 → jumped from ((distance + more) % 2 ^ 32) ≡ jumped end distance
+out_over from end more distance is ahead =
+    let small : (distance + more) % 2 ^ 32 ≡ distance + more = omega (arith, ahead) in
+    let near : nat_lt (distance + more) (2 ^ 31) ≡ true = lt-ltb (distance + more) (2 ^ 31) ahead in
+    let nearer : nat_lt distance (2 ^ 31) ≡ true = lt-ltb distance (2 ^ 31) (omega (arith, ahead)) in
+    ap (jumped from) small ∙ (rw (near, nearer) (omega (arith, is)))
 
 pub branch_effect : (condition : Condition) (distance after end : ℕ) (d : Core) (t : Bool) → after ≡ end → is_met condition d.flags ≡ Some t → is_canonical (jumped end distance) ≡ true
     → effect (Jcc condition distance) after d ≡ Ok (record { rip = if t then jumped end distance else end; core = d })

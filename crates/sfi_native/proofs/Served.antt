@@ -13,14 +13,15 @@ use Rattle.sfi_native.specs.declared.layout.Layout.{Layout}
 use Rattle.sfi_translate.specs.Laws.{IsOver}
 use Rattle.sfi_native.specs.Host.{EachWorkCanBeDone, HostMoves, IsHosts, IsInCode, IsProper, Spares, arrives, makes}
 use Rattle.sfi_native.specs.Layout.{Holds, IsLayout, IsOutside, IsRelated, frame_size, value}
-use Rattle.sfi_native.specs.Places.{AreLast, IsAtPlace, exit_of, start}
+use Rattle.sfi_native.specs.Places.{AreLast, IsAtPlace, exit_of, start, with_owed}
+use Rattle.sfi_native.proofs.OwedSteps.{there_few}
 use Rattle.sfi_native.proofs.Held.{apart, data_has, data_lacks, frame_byte, frame_has, frame_lacks, in_data, in_frame}
 use Rattle.sfi_native.proofs.Kept.{updated_other}
 use Rattle.sfi_native.proofs.Memory.{number_of_bytes}
 use Rattle.sfi_native.proofs.Places.{label_last}
 use Rattle.x86_instr.specs.declared.operand.Register.{Register}
-use Rattle.sfi_native.specs.declared.registers.RegisterMap.{RegisterMap}
-use Rattle.sfi_native.specs.Registers.{IsAssigned, IsRightMap, assigned}
+use Rattle.sfi_native.specs.declared.plan.Plan.{Plan}
+use Rattle.sfi_native.specs.Registers.{IsAssigned, IsRightPlan, assigned}
 use Rattle.sfi_native.proofs.Assigned.{has_value, not_assigned, other_register as unassigned, with_values}
 
 -- ==== The state.
@@ -37,7 +38,7 @@ module _ (p : Part) (l : Layout) (g k : Going) (layout : IsLayout p.data_size l)
   base_registers = updated (updated c.registers 2 k.state.hart.pc) 14 k.left
 
   abbrev registers : ℕ → ℕ
-  registers = with_values l.registers (value p k) 32 base_registers
+  registers = with_values l.plan (value p k) 32 base_registers
 
   abbrev served : Core
   served = record { registers = registers; flags = c.flags; memory = bytes; writable = c.writable }
@@ -58,15 +59,15 @@ module _ (p : Part) (l : Layout) (g k : Going) (layout : IsLayout p.data_size l)
       byte_is (4 * r + j) (l.frame + 4 * r + j) (omega (arith, small, less)) (omega arith)
       ∙ ap (λ q. Some (value p k q / 256 ^ ((4 * r + j) % 4) % 256)) quotient ∙ ap (λ i. Some (value p k r / 256 ^ i % 256)) rest
 
-  right : IsRightMap l.registers
-  right = layout.registers_are_right
+  right : IsRightPlan l.plan
+  right = layout.plan_is_right
 
-  holds : (r : ℕ) → r < 32 → (o : Option Register) → assigned l.registers r ≡ o → Holds l served r o (value p k r)
+  holds : (r : ℕ) → r < 32 → (o : Option Register) → assigned l.plan r ≡ o → Holds l served r o (value p k r)
   holds r small None e = number_of_bytes bytes (l.frame + 4 * r) (value p k r) (word_is r) (λ j less. slot_byte r j small less)
-  holds r small (Some q) e = has_value l.registers right (value p k) base_registers 32 r q small e
+  holds r small (Some q) e = has_value l.plan right (value p k) base_registers 32 r q small e
 
   own_register : (r : ℕ) → (r < 3) ⊎ ((11 < r) ⊎ (r ≡ 4)) → registers r ≡ base_registers r
-  own_register r own = unassigned l.registers right (value p k) base_registers 32 r (not_assigned l.registers right r own)
+  own_register r own = unassigned l.plan right (value p k) base_registers 32 r (not_assigned l.plan right r own)
 
   pub pc_is : registers 2 ≡ k.state.hart.pc
   pc_is = own_register 2 (inl (omega arith))
@@ -80,7 +81,7 @@ module _ (p : Part) (l : Layout) (g k : Going) (layout : IsLayout p.data_size l)
   served_related = record {
     register_count = proper.state.hart.count;
     words = word_is;
-    registers = λ r small. holds r small (assigned l.registers r) refl;
+    registers = λ r small. holds r small (assigned l.plan r) refl;
     frame = own_register 4 (inr (inr refl)) ∙ was.frame;
     frame_is_written = was.frame_is_written;
     few = few;
@@ -93,32 +94,32 @@ module _ (p : Part) (l : Layout) (g k : Going) (layout : IsLayout p.data_size l)
   elsewhere : (a : ℕ) → IsOutside a l.frame frame_size → IsOutside a l.data_start p.data_size → bytes a ≡ c.memory a
   elsewhere a by_frame by_data = rw (frame_lacks p l k layout a by_frame, data_lacks p l k layout a by_data) refl
 
-  other_register : (r : ℕ) → 2 < r → (r ≡ 14 → ⊥) → (IsAssigned l.registers r → ⊥) → registers r ≡ c.registers r
+  other_register : (r : ℕ) → 2 < r → (r ≡ 14 → ⊥) → (IsAssigned l.plan r → ⊥) → registers r ≡ c.registers r
   other_register r more other none =
-      unassigned l.registers right (value p k) base_registers 32 r none
+      unassigned l.plan right (value p k) base_registers 32 r none
       ∙ updated_other (updated c.registers 2 k.state.hart.pc) 14 k.left r other ∙ updated_other c.registers 2 k.state.hart.pc r (λ e. omega (arith, e, more))
 
   pub served_spares : (own : ℕ → Type 0) → Spares p l own c served
   served_spares own = record {
-    table_origin = other_register 12 (omega arith) (λ e. omega (arith, e)) (not_assigned l.registers right 12 (inr (inl (omega arith))));
-    code_address = other_register 13 (omega arith) (λ e. omega (arith, e)) (not_assigned l.registers right 13 (inr (inl (omega arith))));
+    table_origin = other_register 12 (omega arith) (λ e. omega (arith, e)) (not_assigned l.plan right 12 (inr (inl (omega arith))));
+    code_address = other_register 13 (omega arith) (λ e. omega (arith, e)) (not_assigned l.plan right 13 (inr (inl (omega arith))));
     memory = record { elsewhere = λ a not_own by_frame by_data. elsewhere a by_frame by_data; writable = λ a not_own. refl };
   }
 
 -- ==== The place.
 
 -- a processor may be there
-pub record HasPlace (registers : RegisterMap) (base : ℕ) (code : List Line) (place : ControlPoint) (pc : ℕ) : Type 0 where
+pub record HasPlace (plan : Plan) (base : ℕ) (code : List Line) (place : ControlPoint) (pc : ℕ) : Type 0 where
   pub rip : ℕ
-  pub is_there : (c : Core) → c.registers 2 ≡ pc → IsAtPlace registers base code place pc (record { rip = rip; core = c })
+  pub is_there : (c : Core) → c.registers 2 ≡ pc → IsAtPlace plan base code place pc (record { rip = rip; core = c })
 
 -- before lines, if these are last ones of the code; a turn is never lost
-pub has_place : (registers : RegisterMap) (base : ℕ) (code : List Line) (place : ControlPoint) (pc : ℕ) → ((rest : List Line) → place ≡ Before rest → AreLast code rest) → (place ≡ Lost → ⊥) → HasPlace registers base code place pc
-has_place registers base code (Before rest) pc last found = record { rip = base + start registers code rest; is_there = λ c edx. (refl, last rest refl) }
-has_place registers base code Slow pc last found = record { rip = base + exit_of registers code; is_there = λ c edx. (refl, edx) }
-has_place registers base code Loop pc last found = record { rip = base + exit_of registers code; is_there = λ c edx. (refl, edx) }
-has_place registers base code (Stopped o) pc last found = record { rip = base + exit_of registers code; is_there = λ c edx. (refl, edx) }
-has_place registers base code Lost pc last found = absurd (found refl)
+pub has_place : (plan : Plan) (base : ℕ) (code : List Line) (place : ControlPoint) (pc : ℕ) → ((rest : List Line) → place ≡ Before rest → AreLast code rest) → (place ≡ Lost → ⊥) → HasPlace plan base code place pc
+has_place plan base code (Before rest) pc last found = record { rip = base + start plan code rest; is_there = λ c edx. (refl, last rest refl) }
+has_place plan base code Slow pc last found = record { rip = base + exit_of plan code; is_there = λ c edx. (refl, edx) }
+has_place plan base code Loop pc last found = record { rip = base + exit_of plan code; is_there = λ c edx. (refl, edx) }
+has_place plan base code (Stopped o) pc last found = record { rip = base + exit_of plan code; is_there = λ c edx. (refl, edx) }
+has_place plan base code Lost pc last found = absurd (found refl)
 
 done_not_before : (o : Outcome) (s : State) (left : ℕ) (rest : List Line) → (step_done o s left).place ≡ Before rest → ⊥
 done_not_before Next s left rest e = cc
@@ -153,7 +154,7 @@ entered_last false whole short code pc rest e = absurd (cc)
 
 pub record IsMade (p : Part) (code : List Line) (k : Going) : Type 0 where
   pub last : (rest : List Line) → k.place ≡ Before rest → AreLast code rest
-  pub few : k.left < 2 ^ 32
+  pub few : k.left < 2 ^ 31
 
 done_left : (most : ℕ) → most ≤ 2 ^ 32 → (o : Outcome) (s : State) (left : ℕ) → 0 < left → left < most → (step_done o s left).left < most
 done_left most fits Next s left some below = omega (arith, fits, some, below)
@@ -170,11 +171,11 @@ slow_left most fits p (Some (End at ∷ more)) g some below = below
 slow_left most fits p (Some (Entry at ∷ more)) g some below = below
 slow_left most fits p (Some (Head at ∷ more)) g some below = below
 
-made : (p : Part) (code : List Line) (g k : Going) (place : ControlPoint) → IsHosts place → g.left < 2 ^ 32 → IsTranslatedStepAt place Assembly p code g k → IsMade p code k
+made : (p : Part) (code : List Line) (g k : Going) (place : ControlPoint) → IsHosts place → g.left < 2 ^ 31 → IsTranslatedStepAt place Assembly p code g k → IsMade p code k
 made p code g k Slow is below step =
     subst (λ x. IsMade p code x) (sym step.1) (record {
       last = λ rest e. absurd (slow_not_before p (label g.state.hart.pc code) g rest e);
-      few = slow_left (2 ^ 32) (omega arith) p (label g.state.hart.pc code) g step.0 below;
+      few = slow_left (2 ^ 31) (omega arith) p (label g.state.hart.pc code) g step.0 below;
     })
 made p code g k Loop is below step =
     let pc = g.state.hart.pc in
@@ -186,7 +187,7 @@ made p code g k place is below step = absurd is
 
 -- ==== All moves.
 
-pub all_made : (p : Part) (code : List Line) (g k : Going) → HostMoves p code g k → ((rest : List Line) → g.place ≡ Before rest → AreLast code rest) → g.left < 2 ^ 32 → IsMade p code k
+pub all_made : (p : Part) (code : List Line) (g k : Going) → HostMoves p code g k → ((rest : List Line) → g.place ≡ Before rest → AreLast code rest) → g.left < 2 ^ 31 → IsMade p code k
 all_made p code g k (arrives _ handed) last few = record { last = last; few = few }
 all_made p code g k (makes _ h _ is step more) last few =
     let it = made p code g h g.place is few step in
@@ -208,14 +209,16 @@ pub never_lost : (p : Part) (code : List Line) (g k : Going) → HostMoves p cod
 never_lost p code g k leads e = not_lost k.place k refl (handed_over p code g k leads) e
 
 pub each_work_can_be_done : EachWorkCanBeDone
-each_work_can_be_done p l base code own g k m layout proper is related leads =
-    let it = all_made p code g k leads (λ rest e. absurd (subst IsHosts e is)) related.few in
-    let place = has_place l.registers base code k.place k.state.hart.pc it.last (never_lost p code g k leads) in
-    let core = served p l g k layout m.core related proper it.few in (
+each_work_can_be_done p l base code own g k m layout proper is below related leads =
+    let it = all_made p code g k leads (λ rest e. absurd (subst IsHosts e is)) below in
+    let place = has_place l.plan base code k.place k.state.hart.pc it.last (never_lost p code g k leads) in
+    let owes = with_owed l.plan p k in
+    let fits : owes.left < 2 ^ 32 = omega (arith, it.few, there_few l.plan p k.place) in
+    let core = served p l g owes layout m.core related proper fits in (
       record { rip = place.rip; core = core },
       record {
-        related = served_related p l g k layout m.core related proper it.few;
-        is_at = place.is_there core (pc_is p l g k layout m.core related proper it.few);
-        spares = served_spares p l g k layout m.core related proper it.few own;
+        related = served_related p l g owes layout m.core related proper fits;
+        is_at = place.is_there core (pc_is p l g owes layout m.core related proper fits);
+        spares = served_spares p l g owes layout m.core related proper fits own;
       },
     )

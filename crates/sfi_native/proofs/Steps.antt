@@ -7,10 +7,10 @@ use Rattle.sfi_translate.specs.Machine.{Assembly, Before, ControlPoint, Going, I
 use Rattle.x86_step.specs.State.{Machine, Text}
 use Rattle.x86_step.proofs.Facts.{fixed_stays, steps_join}
 use Rattle.sfi_native.specs.declared.layout.Layout.{Layout}
-use Rattle.sfi_native.specs.Laws.{ArePlacedSteps, Follows, IsBefore, IsCovered, IsReadyAt, PlacedStepsRun, line_most}
+use Rattle.sfi_native.specs.Laws.{ArePlacedSteps, Follows, IsBefore, IsCovered, IsReadyAt, PlacedStepsRun, placed_most}
 use Rattle.sfi_native.specs.Faults.{HasFixups}
 use Rattle.sfi_native.specs.Table.{HasTable, LieInCode}
-use Rattle.sfi_native.specs.Places.{IsAt, end_address, exit_of, whole_code}
+use Rattle.sfi_native.specs.Places.{IsAt, end_address, exit_of, whole_code, with_owed}
 use Rattle.sfi_native.proofs.Kept.{guards_kept, others_join, others_same}
 use Rattle.sfi_native.proofs.Placed.{placed_lines_run}
 use Rattle.sfi_native.proofs.Table.{table_stays}
@@ -29,30 +29,30 @@ left_below p code rest g line some below = below
 
 -- ==== Steps.
 
-module _ (p : Part) (code : List Line) (l : Layout) (t : Text) (base : ℕ) (few : exit_of l.registers code < 2 ^ 31) (fixups : HasFixups l.registers t base code) (lie : LieInCode p code) where
+module _ (p : Part) (code : List Line) (l : Layout) (t : Text) (base : ℕ) (few : exit_of l.plan code < 2 ^ 31) (fixups : HasFixups l.plan t base code) (lie : LieInCode p code) where
   abbrev pub Stands : Going → Machine → Type 0
-  Stands g m = IsBefore (whole_code l.registers (end_address p) code) t base p l g m.core
+  Stands g m = IsBefore (whole_code l.plan (end_address p) code) t base p l (with_owed l.plan p g) m.core
 
-  pub one : (g k : Going) (m : Machine) → Stands g m → HasTable p l base code m.core → IsAt l.registers base code g m → g.left < 2 ^ 31 → (place : ControlPoint) → g.place ≡ place
-      → IsTranslatedStepAt place Assembly p code g k → IsReadyAt p g place → IsCovered k.place → Follows t line_most p l base code m k × (k.left < 2 ^ 31)
+  pub one : (g k : Going) (m : Machine) → Stands g m → HasTable p l base code m.core → IsAt l.plan base code g m → g.left < 2 ^ 31 → (place : ControlPoint) → g.place ≡ place
+      → IsTranslatedStepAt place Assembly p code g k → IsReadyAt p g place → IsCovered k.place → Follows t placed_most p l base code m k × (k.left < 2 ^ 31)
   one g k m here has at below (Before (line ∷ rest)) place step ready covered =
       let some : 0 < g.left = omega (arith, step.0, below) in
       let next = line_step Assembly p code (line ∷ rest) g in
       let follows = placed_lines_run p code (line ∷ rest) l t base g m here few fixups lie has place at some below ready (subst (λ x. IsCovered x.place) step.1 covered) in
-      (subst (λ x. Follows t line_most p l base code m x) (sym step.1) follows, subst (λ x. x.left < 2 ^ 31) (sym step.1) (left_below p code rest g line some below))
+      (subst (λ x. Follows t placed_most p l base code m x) (sym step.1) follows, subst (λ x. x.left < 2 ^ 31) (sym step.1) (left_below p code rest g line some below))
   one g k m here has at below (Before []) place step ready covered =
       let some : 0 < g.left = omega (arith, step.0, below) in
       let follows = placed_lines_run p code [] l t base g m here few fixups lie has place at some below ready (subst (λ x. IsCovered x.place) step.1 covered) in
-      (subst (λ x. Follows t line_most p l base code m x) (sym step.1) follows, subst (λ x. x.left < 2 ^ 31) (sym step.1) below)
+      (subst (λ x. Follows t placed_most p l base code m x) (sym step.1) follows, subst (λ x. x.left < 2 ^ 31) (sym step.1) below)
   one g k m here has at below Slow place step ready covered = absurd ready
   one g k m here has at below Loop place step ready covered = absurd ready
   one g k m here has at below (Stopped o) place step ready covered = absurd ready
   one g k m here has at below Lost place step ready covered = absurd ready
 
-  pub stands_on : (g k : Going) (m : Machine) → Stands g m → (f : Follows t line_most p l base code m k) → Stands k f.after
+  pub stands_on : (g k : Going) (m : Machine) → Stands g m → (f : Follows t placed_most p l base code m k) → Stands k f.after
   stands_on g k m here f = record {
     layout = here.layout;
-    text_is_fixed = fixed_stays t line_most m f.after f.reached;
+    text_is_fixed = fixed_stays t placed_most m f.after f.reached;
     text_is_low = here.text_is_low;
     faults_are_handled = here.faults_are_handled;
     stands = here.stands;
@@ -60,8 +60,8 @@ module _ (p : Part) (code : List Line) (l : Layout) (t : Text) (base : ℕ) (few
     guards = guards_kept p l here.layout m.core f.after.core f.others here.guards;
   }
 
-  many : (n : ℕ) (g k : Going) (m : Machine) → Stands g m → HasTable p l base code m.core → IsAt l.registers base code g m → g.left < 2 ^ 31 → ArePlacedSteps p code n g k → Follows t (line_most * n) p l base code m k
-  many zero g k m here has at below same = subst (λ x. Follows t (line_most * zero) p l base code m x) (sym same) (record {
+  many : (n : ℕ) (g k : Going) (m : Machine) → Stands g m → HasTable p l base code m.core → IsAt l.plan base code g m → g.left < 2 ^ 31 → ArePlacedSteps p code n g k → Follows t (placed_most * n) p l base code m k
+  many zero g k m here has at below same = subst (λ x. Follows t (placed_most * zero) p l base code m x) (sym same) (record {
     after = m;
     reached = stays t m here.text_is_fixed;
     alike = record { related = here.related; is_at = at };
@@ -73,7 +73,7 @@ module _ (p : Part) (code : List Line) (l : Layout) (t : Text) (base : ℕ) (few
       let rest = many n between k f.after (stands_on g between m here f) (table_stays p l here.layout base code m.core f.after.core f.others has) f.alike.is_at first.1 more in
       record {
         after = rest.after;
-        reached = in_more t (line_most + line_most * n) (line_most * suc n) m rest.after (omega arith) (steps_join t line_most (line_most * n) m f.after rest.after f.reached rest.reached);
+        reached = in_more t (placed_most + placed_most * n) (placed_most * suc n) m rest.after (omega arith) (steps_join t placed_most (placed_most * n) m f.after rest.after f.reached rest.reached);
         alike = rest.alike;
         others = others_join p l m.core f.after.core rest.after.core f.others rest.others;
       }

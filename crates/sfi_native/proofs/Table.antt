@@ -8,13 +8,14 @@ use Rattle.sfi_translate.proofs.Facts.{units_are_whole}
 use Rattle.sfi_translate.proofs.Following.{Follow, code_follows, label_follows}
 use Rattle.sfi_translate.proofs.LinesStand.{fits, line_some, units}
 use Rattle.x86_step.specs.State.{Core, number_at}
-use Rattle.sfi_native.specs.declared.registers.RegisterMap.{RegisterMap}
+use Rattle.sfi_native.specs.declared.plan.Plan.{Plan}
 use Rattle.sfi_native.specs.declared.layout.Layout.{Layout}
 use Rattle.sfi_native.specs.Layout.{IsLayout, DoNotMeet, IsOutside, OthersStay, frame_size}
 use Rattle.sfi_native.specs.Entries.{entry_of}
 use Rattle.sfi_native.specs.Places.{exit_of}
-use Rattle.sfi_native.specs.Table.{HasTable, LinesLieInCode}
+use Rattle.sfi_native.specs.Table.{HasTable, LinesLieInCode, table_size}
 use Rattle.sfi_native.proofs.Assigned.{not_assigned}
+use Rattle.sfi_native.proofs.Following.{lines_follow_on}
 use Rattle.sfi_native.proofs.Kept.{Kept, others_kept}
 
 -- ==== The table stays.
@@ -43,32 +44,35 @@ outside at n b m a (inr after) low high = inr (omega (arith, after, low))
 
 module _ (p : Part) (l : Layout) (layout : IsLayout p.data_size l) (base : ℕ) (code : List Line) (c d : Core) where
   pub table_stays : OthersStay p l c d → HasTable p l base code c → HasTable p l base code d
-  table_stays stay has = record {
-    table = has.table;
-    entries = has.entries;
-    at = has.at;
-    ends = has.ends;
-    frame_apart = has.frame_apart;
-    data_apart = has.data_apart;
-    holds = λ number below.
-        let within = unit_within (unit p.format) (length p.code) number (units p.format) (subst (λ n. number < n) has.entries.count below) in
-        number_same c.memory d.memory 4 (has.at + unit p.format * number) (λ j few.
-        let a = has.at + unit p.format * number + j in
-        stay.elsewhere a (outside has.at (length p.code) l.frame frame_size a has.frame_apart (omega arith) (omega (arith, within, few)))
-        (outside has.at (length p.code) l.data_start p.data_size a has.data_apart (omega arith) (omega (arith, within, few))))
-        ∙ has.holds number below;
-    origin_is = stay.others 12 (omega arith) (λ e. omega (arith, e)) (not_assigned l.registers layout.registers_are_right 12 (inr (inl (omega arith)))) ∙ has.origin_is;
-    code_is = stay.others 13 (omega arith) (λ e. omega (arith, e)) (not_assigned l.registers layout.registers_are_right 13 (inr (inl (omega arith)))) ∙ has.code_is;
-  }
+  table_stays stay has =
+      let same_there = λ (n : ℕ) (fits : n + 4 ≤ table_size p). number_same c.memory d.memory 4 (has.at + n) (λ j few.
+      let a = has.at + n + j in
+      stay.elsewhere a (outside has.at (table_size p) l.frame frame_size a has.frame_apart (omega arith) (omega (arith, fits, few)))
+      (outside has.at (table_size p) l.data_start p.data_size a has.data_apart (omega arith) (omega (arith, fits, few)))) in
+      let within = λ (number : ℕ) (below : number < length p.code / unit p.format). unit_within (unit p.format) (length p.code) number (units p.format) below in
+      record {
+        table = has.table;
+        entries = has.entries;
+        at = has.at;
+        ends = has.ends;
+        frame_apart = has.frame_apart;
+        data_apart = has.data_apart;
+        holds = λ number below. same_there (2 * (unit p.format * number)) (omega (arith, within number below)) ∙ has.holds number below;
+        holds_owed = λ number below.
+            let at : has.at + (2 * (unit p.format * number) + 4) ≡ has.at + 2 * (unit p.format * number) + 4 = omega arith in
+            subst (λ a. number_at d.memory 4 a ≡ number_at c.memory 4 a) at (same_there (2 * (unit p.format * number) + 4) (omega (arith, within number below))) ∙ has.holds_owed number below;
+        origin_is = stay.others 12 (omega arith) (λ e. omega (arith, e)) (not_assigned l.plan layout.plan_is_right 12 (inr (inl (omega arith)))) ∙ has.origin_is;
+        code_is = stay.others 13 (omega arith) (λ e. omega (arith, e)) (not_assigned l.plan layout.plan_is_right 13 (inr (inl (omega arith)))) ∙ has.code_is;
+      }
 
   pub table_kept : Kept c d → HasTable p l base code c → HasTable p l base code d
   table_kept k has = table_stays (others_kept p l c d k) has
 
 -- ==== Entries and labels.
 
-pub entry_below : (registers : RegisterMap) (code : List Line) (o : Option (List Line)) → entry_of registers code o ≤ exit_of registers code
-entry_below registers code None = omega arith
-entry_below registers code (Some rest) = omega arith
+pub entry_below : (plan : Plan) (code : List Line) (o : Option (List Line)) → entry_of plan code o ≤ exit_of plan code
+entry_below plan code None = omega arith
+entry_below plan code (Some rest) = omega arith
 
 followed : (p : Part) (at : ℕ) (rest : List Line) → Follow p 4 at rest → (p.code_base ≤ at) × (at < p.code_base + length p.code)
 followed p at [] f = absurd (omega (arith, f.0))
@@ -87,4 +91,5 @@ lines_lie_in_code sandbox p code clean lines =
       region = clean.right.code_placed;
       ends = code_ends p clean.right;
       labels = λ at rest is. followed p at rest (label_follows p at code rest 0 p.code_base follow is);
+      follow = lines_follow_on sandbox p code clean lines;
     }

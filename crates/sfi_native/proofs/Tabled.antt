@@ -17,65 +17,81 @@ use Rattle.sfi_native.specs.Entries.{AreEntries, unit_address}
 use Rattle.sfi_native.specs.Laws.{EachTableCanBeHeld}
 use Rattle.sfi_native.specs.Layout.{DoNotMeet, GuardsAreEmpty, IsLayout, IsRelated, frame_size, value}
 use Rattle.sfi_native.specs.Places.{exit_of}
-use Rattle.sfi_native.specs.Table.{HasTable}
+use Rattle.sfi_native.specs.Table.{HasTable, table_size}
 use Rattle.sfi_native.proofs.Kept.{updated_other}
 use Rattle.sfi_native.proofs.Memory.{number_of_bytes}
+use Rattle.sfi_native.proofs.Entering.{entry_few}
 use Rattle.sfi_native.proofs.Table.{entry_below, number_same, unit_within}
 
--- the byte at an offset of a table that has so many bytes for a unit
+-- the byte at an offset of a table that has two numbers, and so many bytes, for a unit
 abbrev table_byte : ℕ → List ℕ → ℕ → ℕ
-table_byte size table offset = slice_index table (offset / size) / 256 ^ (offset % size) % 256
+table_byte size table offset =
+    let place = offset % (2 * size) in
+    slice_index table (2 * (offset / (2 * size)) + place / 4) / 256 ^ (place % 4) % 256
 
-offset_is : (size number j : ℕ) → (size ≡ 16) ⊎ (size ≡ 4) → j < 4 → ((size * number + j) / size ≡ number) × ((size * number + j) % size ≡ j)
-offset_is size number j (inl e) few = (subst (λ s. (s * number + j) / s ≡ number) (sym e) (omega (arith, few)), subst (λ s. (s * number + j) % s ≡ j) (sym e) (omega (arith, few)))
-offset_is size number j (inr e) few = (subst (λ s. (s * number + j) / s ≡ number) (sym e) (omega (arith, few)), subst (λ s. (s * number + j) % s ≡ j) (sym e) (omega (arith, few)))
+offset_is : (size number j : ℕ) → (size ≡ 16) ⊎ (size ≡ 4) → j < 8 → ((2 * (size * number) + j) / (2 * size) ≡ number) × ((2 * (size * number) + j) % (2 * size) ≡ j)
+offset_is size number j (inl e) few =
+    (subst (λ s. (2 * (s * number) + j) / (2 * s) ≡ number) (sym e) (omega (arith, few)), subst (λ s. (2 * (s * number) + j) % (2 * s) ≡ j) (sym e) (omega (arith, few)))
+offset_is size number j (inr e) few =
+    (subst (λ s. (2 * (s * number) + j) / (2 * s) ≡ number) (sym e) (omega (arith, few)), subst (λ s. (2 * (s * number) + j) % (2 * s) ≡ j) (sym e) (omega (arith, few)))
+
+row_byte : (size : ℕ) (table : List ℕ) (number c j : ℕ) → (size ≡ 16) ⊎ (size ≡ 4) → c < 2 → j < 4
+    → table_byte size table (2 * (size * number) + (4 * c + j)) ≡ slice_index table (2 * number + c) / 256 ^ j % 256
+row_byte size table number c j units one few =
+    let parts = offset_is size number (4 * c + j) units (omega (arith, one, few)) in
+    let column : (4 * c + j) / 4 ≡ c = omega (arith, few) in
+    let byte : (4 * c + j) % 4 ≡ j = omega (arith, few) in
+    ap (λ n. slice_index table (2 * n + (2 * (size * number) + (4 * c + j)) % (2 * size) / 4) / 256 ^ ((2 * (size * number) + (4 * c + j)) % (2 * size) % 4) % 256) parts.0
+    ∙ ap (λ n. slice_index table (2 * number + n / 4) / 256 ^ (n % 4) % 256) parts.1
+    ∙ ap (λ n. slice_index table (2 * number + n) / 256 ^ ((4 * c + j) % 4) % 256) column
+    ∙ ap (λ n. slice_index table (2 * number + c) / 256 ^ n % 256) byte
 
 beside : (at n b m a : ℕ) → DoNotMeet at n b m → b ≤ a → a < b + m → (a < at) ⊎ (at + n ≤ a)
 beside at n b m a (inl before) low high = inr (omega (arith, before, low))
 beside at n b m a (inr after) low high = inl (omega (arith, after, high))
 
-module _ (p : Part) (l : Layout) (base : ℕ) (table : List ℕ) (at : ℕ) (c : Core) (ends : at + length p.code ≤ 2 ^ 64) where
+module _ (p : Part) (l : Layout) (base : ℕ) (table : List ℕ) (at : ℕ) (c : Core) (ends : at + table_size p ≤ 2 ^ 64) where
   abbrev in_table : ℕ → Bool
-  in_table a = nat_le at a && nat_lt a (at + length p.code)
+  in_table a = nat_le at a && nat_lt a (at + table_size p)
 
   abbrev memory : ℕ → Option ℕ
   memory a = if in_table a then Some (table_byte (unit p.format) table (a - at)) else c.memory a
 
   abbrev tabled : Core
-  tabled = record { registers = updated (updated c.registers 12 ((at + (2 ^ 64 - p.code_base)) % 2 ^ 64)) 13 base; flags = c.flags; memory = memory; writable = c.writable }
+  tabled = record { registers = updated (updated c.registers 12 ((at + (2 ^ 64 - 2 * p.code_base)) % 2 ^ 64)) 13 base; flags = c.flags; memory = memory; writable = c.writable }
 
-  table_lacks : (a : ℕ) → (a < at) ⊎ (at + length p.code ≤ a) → memory a ≡ c.memory a
+  table_lacks : (a : ℕ) → (a < at) ⊎ (at + table_size p ≤ a) → memory a ≡ c.memory a
   table_lacks a (inl below) = rw (lt-leb at a below) refl
   table_lacks a (inr above) = elim (cases_Bool (nat_le at a)) [
-    | inl e ↦ rw (e, le-ltb a (at + length p.code) above) refl
+    | inl e ↦ rw (e, le-ltb a (at + table_size p) above) refl
     | inr e ↦ rw e refl
   ]
 
-  table_has : (offset : ℕ) → offset < length p.code → memory (at + offset) ≡ Some (table_byte (unit p.format) table offset)
+  table_has : (offset : ℕ) → offset < table_size p → memory (at + offset) ≡ Some (table_byte (unit p.format) table offset)
   table_has offset small =
       let low : nat_le at (at + offset) ≡ true = le-leb at (at + offset) (omega arith) in
-      let high : nat_lt (at + offset) (at + length p.code) ≡ true = lt-ltb (at + offset) (at + length p.code) (omega (arith, small)) in
+      let high : nat_lt (at + offset) (at + table_size p) ≡ true = lt-ltb (at + offset) (at + table_size p) (omega (arith, small)) in
       let place : at + offset - at ≡ offset = omega arith in
       rw (low, high, place) refl
 
   other : (k : ℕ) → (k ≡ 12 → ⊥) → (k ≡ 13 → ⊥) → tabled.registers k ≡ c.registers k
   other k not_table not_code =
-      updated_other (updated c.registers 12 ((at + (2 ^ 64 - p.code_base)) % 2 ^ 64)) 13 base k not_code ∙ updated_other c.registers 12 ((at + (2 ^ 64 - p.code_base)) % 2 ^ 64) k not_table
+      updated_other (updated c.registers 12 ((at + (2 ^ 64 - 2 * p.code_base)) % 2 ^ 64)) 13 base k not_code ∙ updated_other c.registers 12 ((at + (2 ^ 64 - 2 * p.code_base)) % 2 ^ 64) k not_table
 
-  apart : (b n : ℕ) → DoNotMeet at (length p.code) b n → (j : ℕ) → j < n → memory (b + j) ≡ c.memory (b + j)
+  apart : (b n : ℕ) → DoNotMeet at (table_size p) b n → (j : ℕ) → j < n → memory (b + j) ≡ c.memory (b + j)
   apart b n (inl before) j small = table_lacks (b + j) (inr (omega (arith, before)))
   apart b n (inr after) j small = table_lacks (b + j) (inl (omega (arith, after, small)))
 
-  tabled_related : (g : Going) → IsLayout p.data_size l → DoNotMeet at (length p.code) l.frame frame_size → DoNotMeet at (length p.code) l.data_start p.data_size → IsRelated p l g c → IsRelated p l g tabled
+  tabled_related : (g : Going) → IsLayout p.data_size l → DoNotMeet at (table_size p) l.frame frame_size → DoNotMeet at (table_size p) l.data_start p.data_size → IsRelated p l g c → IsRelated p l g tabled
   tabled_related g layout by_frame by_data is = record {
     register_count = is.register_count;
     words = is.words;
-    registers = λ r small. holds_on l c tabled r (value p g r) (assigned l.registers r)
+    registers = λ r small. holds_on l c tabled r (value p g r) (assigned l.plan r)
         (λ none. number_same c.memory memory 4 (l.frame + 4 * r) (λ j few.
         let e : l.frame + (4 * r + j) ≡ l.frame + 4 * r + j = omega arith in
         subst (λ a. memory a ≡ c.memory a) e (apart l.frame frame_size by_frame (4 * r + j) (omega (arith, small, few)))))
         (λ q own.
-        let below = (free l.registers layout.registers_are_right r q own).below in
+        let below = (free l.plan layout.plan_is_right r q own).below in
         other (number q) (λ e. omega (arith, e, below)) (λ e. omega (arith, e, below)))
         (is.registers r small);
     frame = other 4 (λ e. omega (arith, e)) (λ e. omega (arith, e)) ∙ is.frame;
@@ -87,13 +103,20 @@ module _ (p : Part) (l : Layout) (base : ℕ) (table : List ℕ) (at : ℕ) (c :
     origin_is = other 15 (λ e. omega (arith, e)) (λ e. omega (arith, e)) ∙ is.origin_is;
   }
 
-  guards_stay : IsLayout p.data_size l → DoNotMeet at (length p.code) (l.data_start - guard) (p.data_size + 2 * guard) → GuardsAreEmpty p.data_size l c → GuardsAreEmpty p.data_size l tabled
+  guards_stay : IsLayout p.data_size l → DoNotMeet at (table_size p) (l.data_start - guard) (p.data_size + 2 * guard) → GuardsAreEmpty p.data_size l c → GuardsAreEmpty p.data_size l tabled
   guards_stay layout by_zones empty = record {
-    below = λ a from under. table_lacks a (beside at (length p.code) (l.data_start - guard) (p.data_size + 2 * guard) a by_zones (omega (arith, from, layout.data_begins)) (omega (arith, under, layout.data_begins))) ∙ empty.below a from under;
-    above = λ a from under. table_lacks a (beside at (length p.code) (l.data_start - guard) (p.data_size + 2 * guard) a by_zones (omega (arith, from)) (omega (arith, under, layout.data_begins))) ∙ empty.above a from under;
+    below = λ a from under. table_lacks a (beside at (table_size p) (l.data_start - guard) (p.data_size + 2 * guard) a by_zones (omega (arith, from, layout.data_begins)) (omega (arith, under, layout.data_begins))) ∙ empty.below a from under;
+    above = λ a from under. table_lacks a (beside at (table_size p) (l.data_start - guard) (p.data_size + 2 * guard) a by_zones (omega (arith, from)) (omega (arith, under, layout.data_begins))) ∙ empty.above a from under;
   }
 
-  abbrev has_table : (code : List Line) → AreEntries l.registers p code table → exit_of l.registers code < 2 ^ 32 → DoNotMeet at (length p.code) l.frame frame_size → DoNotMeet at (length p.code) l.data_start p.data_size
+  -- a row's number
+  row_there : (number c j place : ℕ) → place ≡ at + (2 * (unit p.format * number) + (4 * c + j)) → number < length p.code / unit p.format → c < 2 → j < 4
+      → memory place ≡ Some (slice_index table (2 * number + c) / 256 ^ j % 256)
+  row_there number c j place is below one less =
+      let within = unit_within (unit p.format) (length p.code) number (units p.format) below in
+      ap memory is ∙ table_has (2 * (unit p.format * number) + (4 * c + j)) (omega (arith, within, one, less)) ∙ ap Some (row_byte (unit p.format) table number c j (units p.format) one less)
+
+  abbrev has_table : (code : List Line) → AreEntries l.plan p code table → exit_of l.plan code < 2 ^ 32 → DoNotMeet at (table_size p) l.frame frame_size → DoNotMeet at (table_size p) l.data_start p.data_size
       → HasTable p l base code tabled
   has_table code entries few by_frame by_data = record {
     table = table;
@@ -103,20 +126,20 @@ module _ (p : Part) (l : Layout) (base : ℕ) (table : List ℕ) (at : ℕ) (c :
     frame_apart = by_frame;
     data_apart = by_data;
     holds = λ number below.
-        let size = unit p.format in
-        let within = unit_within size (length p.code) number (units p.format) (subst (λ n. number < n) entries.count below) in
-        let v = slice_index table number in
-        let fits : v < 2 ^ 32 = omega (arith, entries.entries number below, entry_below l.registers code (label (unit_address p number) code), few) in
-        number_of_bytes memory (at + size * number) v fits (λ j less.
-        let parts = offset_is size number j (units p.format) less in
-        let e : at + size * number + j ≡ at + (size * number + j) = omega arith in
-        ap memory e ∙ table_has (size * number + j) (omega (arith, within, less))
-        ∙ ap (λ n. Some (slice_index table n / 256 ^ ((size * number + j) % size) % 256)) parts.0 ∙ ap (λ n. Some (v / 256 ^ n % 256)) parts.1);
+        let v = slice_index table (2 * number) in
+        let fits : v < 2 ^ 32 = omega (arith, entries.entries number below, entry_below l.plan code (label (unit_address p number) code), few) in
+        let none : 2 * number + 0 ≡ 2 * number = omega arith in
+        number_of_bytes memory (at + 2 * (unit p.format * number)) v fits (λ j less.
+        row_there number 0 j (at + 2 * (unit p.format * number) + j) (omega arith) below (omega arith) less ∙ ap (λ n. Some (slice_index table n / 256 ^ j % 256)) none);
+    holds_owed = λ number below.
+        let v = slice_index table (2 * number + 1) in
+        let fits : v < 2 ^ 32 = omega (arith, entries.owed number below, entry_few l.plan p (label (unit_address p number) code)) in
+        number_of_bytes memory (at + 2 * (unit p.format * number) + 4) v fits (λ j less. row_there number 1 j (at + 2 * (unit p.format * number) + 4 + j) (omega arith) below (omega arith) less);
     origin_is = refl;
     code_is = refl;
   }
 
-of_zones : (p : Part) (l : Layout) (at : ℕ) → IsLayout p.data_size l → DoNotMeet at (length p.code) (l.data_start - guard) (p.data_size + 2 * guard) → DoNotMeet at (length p.code) l.data_start p.data_size
+of_zones : (p : Part) (l : Layout) (at : ℕ) → IsLayout p.data_size l → DoNotMeet at (table_size p) (l.data_start - guard) (p.data_size + 2 * guard) → DoNotMeet at (table_size p) l.data_start p.data_size
 of_zones p l at layout (inl before) = inl (omega (arith, before))
 of_zones p l at layout (inr after) = inr (omega (arith, after, layout.data_begins))
 

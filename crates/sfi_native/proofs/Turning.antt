@@ -16,16 +16,16 @@ use Rattle.sfi_translate.specs.Laws.{IsOver, IsTurnTo}
 use Rattle.sfi_translate.proofs.Facts.{reached_harts_are_fixed, translated_runs_as_image, turns_are_ready, turns_go_on}
 use Rattle.sfi_translate.proofs.Turns.{turn_more}
 use Rattle.sfi_native.specs.Host.{HostMoves, IsHosts, IsInCode, IsProper, arrives, makes}
-use Rattle.sfi_native.specs.Laws.{Follows, IsAlike, IsBefore, IsCovered, IsReadyAt, line_most}
+use Rattle.sfi_native.specs.Laws.{Follows, IsAlike, IsBefore, IsCovered, IsReadyAt, placed_most}
 use Rattle.x86_step.specs.State.{Machine, Text}
 use Rattle.x86_step.specs.Step.{Reaches}
 use Rattle.x86_step.proofs.Facts.{steps_join}
 use Rattle.sfi_native.specs.declared.layout.Layout.{Layout}
 use Rattle.sfi_native.specs.Faults.{HasFixups}
-use Rattle.sfi_native.specs.Layout.{OthersStay}
-use Rattle.sfi_native.specs.Places.{IsAt, IsAtPlace, end_address, exit_of, whole_code}
+use Rattle.sfi_native.specs.Layout.{IsRelated, OthersStay, owing}
+use Rattle.sfi_native.specs.Places.{IsAt, IsAtPlace, end_address, exit_of, owed_there, whole_code, with_owed}
 use Rattle.sfi_native.specs.Table.{HasTable, LieInCode}
-use Rattle.sfi_native.proofs.Fetching.{related_goes}
+use Rattle.sfi_native.proofs.Counting.{related_as}
 use Rattle.sfi_native.proofs.Kept.{others_join}
 use Rattle.sfi_native.proofs.Ready.{accesses}
 use Rattle.sfi_native.proofs.Steps.{one, stands_on}
@@ -198,9 +198,9 @@ module _ (sandbox : ℕ) (p : Part) (code : List Line) (s : State) (left : ℕ) 
 
   -- ==== Code's part of a round.
 
-  module _ (l : Layout) (t : Text) (base : ℕ) (few : left < 2 ^ 31) (fits : exit_of l.registers code < 2 ^ 31) (fixups : HasFixups l.registers t base code) (lie : LieInCode p code) where
+  module _ (l : Layout) (t : Text) (base : ℕ) (few : left < 2 ^ 31) (fits : exit_of l.plan code < 2 ^ 31) (fixups : HasFixups l.plan t base code) (lie : LieInCode p code) where
     abbrev Stands : Going → Machine → Type 0
-    Stands g m = IsBefore (whole_code l.registers (end_address p) code) t base p l g m.core
+    Stands g m = IsBefore (whole_code l.plan (end_address p) code) t base p l (with_owed l.plan p g) m.core
 
     pub record CodePart (n : ℕ) (m : Machine) (last : Going) : Type 0 where
       pub slow : Going
@@ -212,13 +212,13 @@ module _ (sandbox : ℕ) (p : Part) (code : List Line) (s : State) (left : ℕ) 
       pub others : OthersStay p l m.core out.core
       pub rest : ℕ
       pub fewer : rest < n
-      pub as_many : made + line_most * rest ≤ line_most * n
+      pub as_many : made + placed_most * rest ≤ placed_most * n
       pub moved : ℕ
       pub turn : Turns moved slow
       pub steps : AreTranslatedSteps Assembly p code rest slow last
 
     -- after a line
-    behind : (n all : ℕ) (m k : Machine) (last : Going) → n < all → Reaches t line_most m k → OthersStay p l m.core k.core → CodePart n k last → CodePart all m last
+    behind : (n all : ℕ) (m k : Machine) (last : Going) → n < all → Reaches t placed_most m k → OthersStay p l m.core k.core → CodePart n k last → CodePart all m last
     behind n all m k last more reached others it =
         let less = it.fewer in
         let as_many = it.as_many in
@@ -226,8 +226,8 @@ module _ (sandbox : ℕ) (p : Part) (code : List Line) (s : State) (left : ℕ) 
           slow = it.slow;
           is_slow = it.is_slow;
           out = it.out;
-          made = line_most + it.made;
-          reached = steps_join t line_most it.made m k it.out reached it.reached;
+          made = placed_most + it.made;
+          reached = steps_join t placed_most it.made m k it.out reached it.reached;
           alike = it.alike;
           others = others_join p l m.core k.core it.out.core others it.others;
           rest = it.rest;
@@ -239,12 +239,12 @@ module _ (sandbox : ℕ) (p : Part) (code : List Line) (s : State) (left : ℕ) 
         }
 
     -- where a line has led to a slow step, or the end's code into the loop, code has come out
-    at_slow : (n all moves : ℕ) (g last : Going) (m k : Machine) → n < all → Reaches t line_most m k → OthersStay p l m.core k.core → Turns moves g → g.place ≡ Slow → IsAlike p l base code g k → AreTranslatedSteps Assembly p code n g last → CodePart all m last
+    at_slow : (n all moves : ℕ) (g last : Going) (m k : Machine) → n < all → Reaches t placed_most m k → OthersStay p l m.core k.core → Turns moves g → g.place ≡ Slow → IsAlike p l base code g k → AreTranslatedSteps Assembly p code n g last → CodePart all m last
     at_slow n all moves g last m k fewer reached others turn e alike steps = record {
       slow = g;
       is_slow = e;
       out = k;
-      made = line_most;
+      made = placed_most;
       reached = reached;
       alike = alike;
       others = others;
@@ -256,7 +256,7 @@ module _ (sandbox : ℕ) (p : Part) (code : List Line) (s : State) (left : ℕ) 
       steps = steps;
     }
 
-    at_loop : (n all moves : ℕ) (g last : Going) (m k : Machine) → n < all → Reaches t line_most m k → OthersStay p l m.core k.core → Turns moves g → g.place ≡ Loop → g.state.hart.pc ≡ end_address p → 0 < g.left → IsAlike p l base code g k → AreTranslatedSteps Assembly p code n g last → IsOver last → CodePart all m last
+    at_loop : (n all moves : ℕ) (g last : Going) (m k : Machine) → n < all → Reaches t placed_most m k → OthersStay p l m.core k.core → Turns moves g → g.place ≡ Loop → g.state.hart.pc ≡ end_address p → 0 < g.left → IsAlike p l base code g k → AreTranslatedSteps Assembly p code n g last → IsOver last → CodePart all m last
     at_loop zero all moves g last m k fewer reached others turn e pc some alike steps over =
         absurd (⊎_elim (λ one. let clash : Loop ≡ Stopped one.0 = sym e ∙ one.1 in cc) (λ one. let none = one.1 in omega (arith, none, some)) (subst IsOver steps over))
     at_loop (suc n) all moves g last m k fewer reached others turn e pc some alike (between, step, more) over =
@@ -264,13 +264,13 @@ module _ (sandbox : ℕ) (p : Part) (code : List Line) (s : State) (left : ℕ) 
         let place : from_loop Assembly p code g.state.hart.pc g.left ≡ Slow = ap (λ a. from_loop Assembly p code a g.left) pc ∙ end_goes p code g.left lie in
         let is : between ≡ goes g Slow = own.1 ∙ ap (goes g) place in
         let next = turn_more Assembly sandbox p code s left moves g between turn step in
-        let out = subst (λ q. IsAtPlace l.registers base code q g.state.hart.pc k) e alike.is_at in
+        let out = subst (λ q. IsAtPlace l.plan base code q g.state.hart.pc k) e alike.is_at in
         at_slow n all (suc moves) (goes g Slow) last m k (omega (arith, fewer)) reached others (subst (Turns (suc moves)) is next) refl
-        (record { related = related_goes p l g k.core Slow g.state.hart.pc alike.related; is_at = out })
+        (record { related = related_as p l (owing 0 g) k.core Slow (g.left + 0) (subst (λ q. IsRelated p l (owing (owed_there l.plan p q) g) k.core) e alike.related) refl; is_at = out })
         (subst (λ x. AreTranslatedSteps Assembly p code n x last) is more)
 
     -- a line's step leads to lines or out
-    pub code_part : (n moves : ℕ) (g last : Going) (m : Machine) → Stands g m → HasTable p l base code m.core → IsAt l.registers base code g m → (lines : List Line) → g.place ≡ Before lines → Turns moves g
+    pub code_part : (n moves : ℕ) (g last : Going) (m : Machine) → Stands g m → HasTable p l base code m.core → IsAt l.plan base code g m → (lines : List Line) → g.place ≡ Before lines → Turns moves g
         → AreTranslatedSteps Assembly p code n g last → IsOver last → CodePart n m last
     code_part zero moves g last m here has at lines e turn steps over = absurd (not_over g (Before lines) e (inl tt) (subst IsOver steps over))
     code_part (suc n) moves g last m here has at [] e turn (between, step, more) over =
@@ -292,10 +292,10 @@ module _ (sandbox : ℕ) (p : Part) (code : List Line) (s : State) (left : ℕ) 
         next : Turns (suc moves) between
         next = turn_more Assembly sandbox p code s left moves g between turn step
 
-        followed : IsCovered between.place → Follows t line_most p l base code m between
+        followed : IsCovered between.place → Follows t placed_most p l base code m between
         followed covered = (one p code l t base fits fixups lie g between m here has at (few_left moves g few turn) (Before (line ∷ rest)) e own (ready moves g turn (line ∷ rest) e) covered).0
 
-        by : ((lines : List Line) → between.place ≡ Before lines → (f : Follows t line_most p l base code m between) → CodePart n f.after last) → (place : ControlPoint) → between.place ≡ place → IsNoEnd place → CodePart (suc n) m last
+        by : ((lines : List Line) → between.place ≡ Before lines → (f : Follows t placed_most p l base code m between) → CodePart n f.after last) → (place : ControlPoint) → between.place ≡ place → IsNoEnd place → CodePart (suc n) m last
         by on (Before lines) is goes_on =
             let f = followed (subst IsCovered (sym is) tt) in
             behind n (suc n) m f.after last (omega arith) f.reached f.others (on lines is f)

@@ -13,7 +13,7 @@ use Rattle.sfi_safety.specs.Places.{IsCleanPart}
 use Rattle.sfi_native.specs.Entries.{AreEntries}
 use Rattle.sfi_translate.proofs.Facts.{each_turn_ends, reached_harts_are_fixed, translated_runs_as_image, turns_end}
 use Rattle.sfi_native.specs.Host.{Answers, Ending, EndsWithin, Host, HostMoves, IsHost, IsInCode, Serves, Spares, Works, answer_of, host_of}
-use Rattle.sfi_native.specs.Laws.{IsBefore, line_most}
+use Rattle.sfi_native.specs.Laws.{IsBefore, placed_most}
 use Rattle.x86_instr.specs.declared.instr.Instr.{Instr as Native}
 use Rattle.x86_step.specs.Accesses.{AccessesLieIn}
 use Rattle.x86_step.specs.State.{Core, IsIn, Machine, Text, with_register}
@@ -23,8 +23,9 @@ use Rattle.x86_step.specs.Step.{Reaches}
 use Rattle.sfi_native.specs.declared.layout.Layout.{Layout}
 use Rattle.sfi_native.specs.Faults.{HasFixups, accesses_of, fixup_by}
 use Rattle.sfi_native.specs.Layout.{DoNotMeet, IsLayout, frame_size, guarded_data}
-use Rattle.sfi_native.specs.Places.{IsAt, IsAtPlace, end_address, exit_of, whole_code}
-use Rattle.sfi_native.specs.Table.{HasTable, LieInCode}
+use Rattle.sfi_native.specs.Places.{IsAt, IsAtPlace, end_address, exit_of, whole_code, with_owed}
+use Rattle.sfi_native.specs.Table.{HasTable, LieInCode, table_size}
+use Rattle.sfi_native.proofs.OwedSteps.{there_few}
 use Rattle.sfi_native.specs.Whole.{AreApart, EachTurnCanBegin, EachTurnGoesOn, EndsAsImage, IsAccessed, IsEntered, NativeTurnsEnd, begun}
 use Rattle.sfi_native.proofs.Bare.{agree, bare, bare_before, bare_table, has_no_others}
 use Rattle.sfi_native.proofs.Kept.{kept_register}
@@ -40,8 +41,8 @@ use Rattle.sfi_native.proofs.Turning.{CodePart, HostPart, Turns, code_part, few_
 
 -- ==== Rounds.
 
-module _ (sandbox : ℕ) (p : Part) (code : List Line) (s : State) (left : ℕ) (l : Layout) (t : Text) (base : ℕ) (few : left < 2 ^ 31) (fits : exit_of l.registers code < 2 ^ 31) (fixups : HasFixups l.registers t base code) (lie : LieInCode p code)
-    (host : Host) (works : IsHost p l base code host) (begins : t.base ≡ base) (size : length t.bytes ≡ exit_of l.registers code) (table_at : ℕ) (entry : Machine) where
+module _ (sandbox : ℕ) (p : Part) (code : List Line) (s : State) (left : ℕ) (l : Layout) (t : Text) (base : ℕ) (few : left < 2 ^ 31) (fits : exit_of l.plan code < 2 ^ 31) (fixups : HasFixups l.plan t base code) (lie : LieInCode p code)
+    (host : Host) (works : IsHost p l base code host) (begins : t.base ≡ base) (size : length t.bytes ≡ exit_of l.plan code) (table_at : ℕ) (entry : Machine) where
   abbrev Ended : Ending → Machine → Type 0
   Ended e n = EndsAsImage p code l base host s left entry e n
 
@@ -99,7 +100,7 @@ module _ (sandbox : ℕ) (p : Part) (code : List Line) (s : State) (left : ℕ) 
 
     comes_out : (k : Machine) (c : CodePart sandbox p code s left l t base few fits fixups lie n k last) → c.out.rip ≡ t.base + length t.bytes
     comes_out k c =
-        let at = subst (λ q. IsAtPlace l.registers base code q c.slow.state.hart.pc c.out) c.is_slow c.alike.is_at in
+        let at = subst (λ q. IsAtPlace l.plan base code q c.slow.state.hart.pc c.out) c.is_slow c.alike.is_at in
         let rip = at.0 in
         omega (arith, rip, begins, size)
 
@@ -110,15 +111,15 @@ module _ (sandbox : ℕ) (p : Part) (code : List Line) (s : State) (left : ℕ) 
     abbrev bare_machine : Machine
     bare_machine = record { rip = m.rip; core = bare p l here.table.at m.core }
 
-    bare_at : IsAt l.registers base code g bare_machine
+    bare_at : IsAt l.plan base code g bare_machine
     bare_at =
-        let at : IsAtPlace l.registers base code (Before lines.0) g.state.hart.pc m = subst (λ q. IsAtPlace l.registers base code q g.state.hart.pc m) lines.1 here.is_at in
-        subst (λ q. IsAtPlace l.registers base code q g.state.hart.pc bare_machine) (sym lines.1) at
+        let at : IsAtPlace l.plan base code (Before lines.0) g.state.hart.pc m = subst (λ q. IsAtPlace l.plan base code q g.state.hart.pc m) lines.1 here.is_at in
+        subst (λ q. IsAtPlace l.plan base code q g.state.hart.pc bare_machine) (sym lines.1) at
 
     bare_does : CodePart sandbox p code s left l t base few fits fixups lie n bare_machine last
     bare_does =
         code_part sandbox p code s left l t base few fits fixups lie n moved g last bare_machine
-        (bare_before p l here.table.at m.core (whole_code l.registers (end_address p) code) t base g here.stands)
+        (bare_before p l here.table.at m.core (whole_code l.plan (end_address p) code) t base (with_owed l.plan p g) here.stands)
         (bare_table p l base code m.core here.table) bare_at lines.0 lines.1 turn steps over
 
     accesses : AccessesLieIn (IsAccessed p l table_at) t m
@@ -157,7 +158,7 @@ module _ (sandbox : ℕ) (p : Part) (code : List Line) (s : State) (left : ℕ) 
     ready_again k did = ready_on p code l t base table_at host begins size g host_does.next m k here (all k (right k did).1) (done.relies k did)
 
   rounds : (room n moves : ℕ) (g last : Going) (m : Machine) → n ≤ room → Ready p code l t base table_at host g m → Spares p l host.own entry.core m.core → IsInCode g.place → Turns sandbox p code s left moves g
-      → AreTranslatedSteps Assembly p code n g last → IsOver last → EndsWithin room (line_most * n) t p l (IsAccessed p l table_at) host Ended m
+      → AreTranslatedSteps Assembly p code n g last → IsOver last → EndsWithin room (placed_most * n) t p l (IsAccessed p l table_at) host Ended m
   rounds zero n moved g last m fits_in here spares inside turn steps over =
       let fewer = (code_does n moved g last m here inside turn steps over).fewer in
       absurd (omega (arith, fewer, fits_in))
@@ -170,7 +171,7 @@ module _ (sandbox : ℕ) (p : Part) (code : List Line) (s : State) (left : ℕ) 
       record {
         out = c.out;
         made = c.made;
-        rest = line_most * h.rest;
+        rest = placed_most * h.rest;
         as_many = omega (arith, as_many, later);
         comes_out = c.reached;
         is_out = is_out n moved g last m here inside turn steps over;
@@ -203,9 +204,9 @@ native_turns_end sandbox p code l t base host s left m works here =
     record {
       rounds = end.0;
       few = moves;
-      instructions = line_most * begins.rest;
+      instructions = placed_most * begins.rest;
       as_many = omega (arith, moves, fewer);
-      ends = rounds sandbox p code s left l t base few (each_code_fits l.registers sandbox p code here.clean.right here.lines) here.fixups (lines_lie_in_code sandbox p code here.clean here.lines)
+      ends = rounds sandbox p code s left l t base few (each_code_fits l.plan sandbox p code here.clean.right here.lines) here.fixups (lines_lie_in_code sandbox p code here.clean here.lines)
           host works here.text_begins here.text_size here.table.at m end.0 begins.rest begins.moved here.first end.1 m (omega (arith, fewer)) ready (spares_same p l host.own m.core) here.in_code
           (subst (IsTurnTo Assembly sandbox p code s left begins.moved) same begins.turn) (subst (λ x. AreTranslatedSteps Assembly p code begins.rest x end.1) same begins.steps) end.3;
     }
@@ -257,6 +258,7 @@ table_with_pc p l base code c pc has = (
     frame_apart = has.frame_apart;
     data_apart = has.data_apart;
     holds = has.holds;
+    holds_owed = has.holds_owed;
     origin_is = has.origin_is;
     code_is = has.code_is;
   },
@@ -269,22 +271,24 @@ zones_and_data p l from n layout (inr after) = inr (omega (arith, after, layout.
 
 module _ (sandbox : ℕ) (p : Part) (code : List Line) (l : Layout) (base : ℕ) (table : List ℕ) (table_at : ℕ) (host : Host) (s : State) (left : ℕ) where
   -- a processor before that line
-  entered_there : IsCleanPart sandbox p → AreLines sandbox p code → AreEntries l.registers p code table → IsReached p s → left < 2 ^ 31 → IsLayout p.data_size l → base + exit_of l.registers code < 2 ^ 47 → table_at + length p.code ≤ 2 ^ 47
-      → AreApart p l base code table_at host.own → ((c : Core) → host.relies c) → (first : Going) → HostMoves p code (begun s left) first → IsInCode first.place → IsReached p first.state → first.left < 2 ^ 32
+  entered_there : IsCleanPart sandbox p → AreLines sandbox p code → AreEntries l.plan p code table → IsReached p s → left < 2 ^ 31 → IsLayout p.data_size l → base + exit_of l.plan code < 2 ^ 47 → table_at + table_size p ≤ 2 ^ 47
+      → AreApart p l base code table_at host.own → ((c : Core) → host.relies c) → (first : Going) → HostMoves p code (begun s left) first → IsInCode first.place → IsReached p first.state → first.left < 2 ^ 31
       → (t : Text) × (m : Machine) × IsEntered sandbox p code l t base host s left m
   entered_there clean are_lines entries reached few layout low table_low apart relies first begins inside comes first_few =
-      let is = whole_code l.registers (end_address p) code in
-      let size = whole_size l.registers (end_address p) code in
-      let fits = each_code_fits l.registers sandbox p code clean.right are_lines in
+      let is = whole_code l.plan (end_address p) code in
+      let size = whole_size l.plan (end_address p) code in
+      let fits = each_code_fits l.plan sandbox p code clean.right are_lines in
       let same = reached_harts_are_fixed sandbox p first.state clean comes in
-      let fixups = fixup_by (accesses_of l.registers code code) base (exit_of l.registers code) in
+      let fixups = fixup_by (accesses_of l.plan code code) base (exit_of l.plan code) in
       let text : Text = record { base = base; bytes = spellings is; fixups = fixups; handled = guarded_data p.data_size l } in
-      let it = each_code_can_be_run is fixups base p l first layout comes.state.hart.count
-      (subst (λ (h : Hart). (r : ℕ) → register h r < 2 ^ 32) (sym same) comes.state.hart.words) first_few (omega (arith, low, size))
-      (subst (λ n. DoNotMeet base n l.frame frame_size) (sym size) apart.text.from_frame) (subst (λ n. DoNotMeet base n l.data_start p.data_size) (sym size) (zones_and_data p l base (exit_of l.registers code) layout apart.text.from_zones)) in
-      let held = each_table_can_be_held p l base code table table_at is text base first it.0 entries (omega (arith, fits)) (omega (arith, table_low)) apart.table.from_frame apart.table.from_zones it.1 in
+      let owes = with_owed l.plan p first in
+      let owes_fit : owes.left < 2 ^ 32 = omega (arith, first_few, there_few l.plan p first.place) in
+      let it = each_code_can_be_run is fixups base p l owes layout comes.state.hart.count
+      (subst (λ (h : Hart). (r : ℕ) → register h r < 2 ^ 32) (sym same) comes.state.hart.words) owes_fit (omega (arith, low, size))
+      (subst (λ n. DoNotMeet base n l.frame frame_size) (sym size) apart.text.from_frame) (subst (λ n. DoNotMeet base n l.data_start p.data_size) (sym size) (zones_and_data p l base (exit_of l.plan code) layout apart.text.from_zones)) in
+      let held = each_table_can_be_held p l base code table table_at is text base owes it.0 entries (omega (arith, fits)) (omega (arith, table_low)) apart.table.from_frame apart.table.from_zones it.1 in
       let made = all_made p code (begun s left) first begins (λ rest e. let clash : Loop ≡ Before rest = e in cc) (omega (arith, few)) in
-      let place = has_place l.registers base code first.place first.state.hart.pc made.last (never_lost p code (begun s left) first begins) in
+      let place = has_place l.plan base code first.place first.state.hart.pc made.last (never_lost p code (begun s left) first begins) in
       let core = with_register held.0 2 first.state.hart.pc in
       let tabled = table_with_pc p l base code held.0 first.state.hart.pc held.2 in (
         text,
@@ -298,7 +302,7 @@ module _ (sandbox : ℕ) (p : Part) (code : List Line) (l : Layout) (base : ℕ)
           begins = begins;
           in_code = inside;
           is_at = place.is_there core refl;
-          stands = with_pc_in_edx is text base p l first held.0 first.state.hart.pc held.1;
+          stands = with_pc_in_edx is text base p l owes held.0 first.state.hart.pc held.1;
           text_begins = refl;
           text_size = size;
           fixups = λ at from below. refl;
@@ -320,7 +324,7 @@ each_turn_can_begin sandbox p code l base table table_at does own s left clean l
       leads = ⊎_elim
           (λ (inside : IsInCode it.next.place).
           inr (entered_there sandbox p code l base table table_at (host_of does own) s left clean lines entries reached few layout low table_low apart (λ c. tt) it.next it.leads inside
-          (translated_runs_as_image Assembly sandbox p code s left it.moved it.next it.turn).reached (omega (arith, below))))
+          (translated_runs_as_image Assembly sandbox p code s left it.moved it.next it.turn).reached below))
           (λ (over : IsOver it.next). inl over)
           (handed_over p code (begun s left) it.next it.leads);
     }

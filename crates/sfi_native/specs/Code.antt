@@ -18,7 +18,7 @@ use Rattle.sfi_translate.specs.Machine.{most}
 use Rattle.x86_instr.specs.Spelling.{number}
 use Rattle.x86_instr.specs.declared.operand.Register.{Register}
 use Rattle.x86_instr.specs.declared.operand.Register.TheVariants.{Rax, Rcx, Rdx, Rsp, R12, R13, R14, R15}
-use Rattle.x86_instr.specs.declared.operand.Scale.TheVariants.{One}
+use Rattle.x86_instr.specs.declared.operand.Scale.TheVariants.{One, Two}
 use Rattle.x86_instr.specs.declared.operand.Address.{Address}
 use Rattle.x86_instr.specs.declared.operand.Operand.{Operand}
 use Rattle.x86_instr.specs.declared.operand.Operand.TheVariants.{Reg, Mem}
@@ -34,7 +34,7 @@ use Rattle.x86_instr.specs.declared.instr.Condition.TheVariants.{AboveOrEqual, B
 use Rattle.x86_instr.specs.declared.instr.Instr.{Instr as Native}
 use Rattle.x86_instr.specs.declared.instr.Instr.TheVariants.{Mov, MovStore, MovStoreByte, MovStoreWord, MovImm, MovExtended, Movsxd, Alu, AluImm, Test, Unary, ShiftImm, ShiftCl, Imul, Divide, Cdq, Setcc, Jcc, Jmp, JmpTo}
 use Rattle.x86_step.specs.Running.{spellings}
-use Rattle.sfi_native.specs.declared.registers.RegisterMap.{RegisterMap}
+use Rattle.sfi_native.specs.declared.plan.Plan.{Plan}
 use Rattle.sfi_native.specs.declared.jump.Jump.{Jump}
 use Rattle.sfi_native.specs.Registers.{assigned, is_fixed}
 
@@ -48,8 +48,8 @@ operand_of (Some q) r = Reg q
 operand_of None r = Mem (slot r)
 
 -- register r into that one, always
-abbrev pub fetch : RegisterMap → Register → ℕ → List Native
-fetch registers dst r = Mov Dword dst (operand_of (assigned registers r) r) ∷ []
+abbrev pub fetch : Plan → Register → ℕ → List Native
+fetch plan dst r = Mov Dword dst (operand_of (assigned plan r) r) ∷ []
 
 -- eax there
 abbrev pub store_eax : Option Register → ℕ → Native
@@ -57,8 +57,8 @@ store_eax (Some q) r = Mov Dword q (Reg Rax)
 store_eax None r = MovStore Dword (slot r) Rax
 
 -- moves a result from eax to register r's place
-abbrev pub write : RegisterMap → ℕ → List Native
-write registers r = if is_fixed r then [] else store_eax (assigned registers r) r ∷ []
+abbrev pub write : Plan → ℕ → List Native
+write plan r = if is_fixed r then [] else store_eax (assigned plan r) r ∷ []
 
 -- ==== Values where they lie.
 
@@ -77,9 +77,9 @@ abbrev pub result_in : Option Register → Register
 result_in place = register_or place Rax
 
 -- moves a result from eax to rd's place, unless it was computed there
-abbrev pub settle : RegisterMap → Option Register → ℕ → List Native
-settle registers (Some q) rd = []
-settle registers None rd = write registers rd
+abbrev pub settle : Plan → Option Register → ℕ → List Native
+settle plan (Some q) rd = []
+settle plan None rd = write plan rd
 
 -- a register of the sandbox lies in that one
 abbrev pub lies_in : Option Register → Register → Bool
@@ -87,8 +87,8 @@ lies_in (Some q) dst = number q == number dst
 lies_in None dst = false
 
 -- register r into that one, unless it lies there
-abbrev pub bring : RegisterMap → Register → ℕ → List Native
-bring registers dst r = if lies_in (assigned registers r) dst then [] else fetch registers dst r
+abbrev pub bring : Plan → Register → ℕ → List Native
+bring plan dst r = if lies_in (assigned plan r) dst then [] else fetch plan dst r
 
 -- ==== Computations: of a register and an operand, into the register; eax, ecx, edx and the flags may change.
 
@@ -196,7 +196,7 @@ compute_imm Srai dst n = ShiftImm Sar Dword (Reg dst) (n % 256) ∷ []
 
 -- ==== Lines.
 
--- a line of these sets rd, if it has one, and counts its step
+-- a line of these sets rd, if it has one, and counts or owes its step
 abbrev pub does_compute : Instr → Bool
 does_compute (Op op rd rs1 rs2) = true
 does_compute (OpImm op rd rs1 imm) = true
@@ -206,101 +206,120 @@ does_compute (Fence imm rd rs1) = true
 does_compute i = false
 
 -- a number into rd
-abbrev pub number_code : RegisterMap → ℕ → ℕ → List Native
-number_code registers rd n = MovImm (result_in (assigned registers rd)) n ∷ settle registers (assigned registers rd) rd
+abbrev pub number_code : Plan → ℕ → ℕ → List Native
+number_code plan rd n = MovImm (result_in (assigned plan rd)) n ∷ settle plan (assigned plan rd) rd
 
 -- an operation on eax and ecx
-abbrev pub ecx_code : RegisterMap → RegOp → ℕ → ℕ → ℕ → List Native
-ecx_code registers op rd rs1 rs2 = fetch registers Rax rs1 ++ (fetch registers Rcx rs2 ++ (compute op Rax (Reg Rcx) ++ write registers rd))
+abbrev pub ecx_code : Plan → RegOp → ℕ → ℕ → ℕ → List Native
+ecx_code plan op rd rs1 rs2 = fetch plan Rax rs1 ++ (fetch plan Rcx rs2 ++ (compute op Rax (Reg Rcx) ++ write plan rd))
 
 -- where a result for rd is computed that needs rs2 up to its end: where rd lies, unless rs2 lies there, too
-abbrev pub place_beside : RegisterMap → ℕ → ℕ → Option Register
-place_beside registers rd rs2 = if rd == rs2 then None else assigned registers rd
+abbrev pub place_beside : Plan → ℕ → ℕ → Option Register
+place_beside plan rd rs2 = if rd == rs2 then None else assigned plan rd
 
 -- a register gets the operation of it and of rs2 where that lies; nothing is to do where x0 leaves it as it is
-abbrev pub combine : RegisterMap → RegOp → Register → ℕ → List Native
-combine registers op dst rs2 =
-    if keeps_beside_zero op && (rs2 == 0) then [] else compute op dst (operand_of (assigned registers rs2) rs2)
+abbrev pub combine : Plan → RegOp → Register → ℕ → List Native
+combine plan op dst rs2 =
+    if keeps_beside_zero op && (rs2 == 0) then [] else compute op dst (operand_of (assigned plan rs2) rs2)
 
 -- an operation where its result lies, on rs2 where that lies
-abbrev pub place_code : RegisterMap → Option Register → RegOp → ℕ → ℕ → ℕ → List Native
-place_code registers place op rd rs1 rs2 =
-    bring registers (result_in place) rs1 ++ (combine registers op (result_in place) rs2 ++ settle registers place rd)
+abbrev pub place_code : Plan → Option Register → RegOp → ℕ → ℕ → ℕ → List Native
+place_code plan place op rd rs1 rs2 =
+    bring plan (result_in place) rs1 ++ (combine plan op (result_in place) rs2 ++ settle plan place rd)
 
-abbrev pub beside_code : RegisterMap → RegOp → ℕ → ℕ → ℕ → List Native
-beside_code registers op rd rs1 rs2 = place_code registers (place_beside registers rd rs2) op rd rs1 rs2
+abbrev pub beside_code : Plan → RegOp → ℕ → ℕ → ℕ → List Native
+beside_code plan op rd rs1 rs2 = place_code plan (place_beside plan rd rs2) op rd rs1 rs2
 
 -- the second operand comes first where it lies in the result's place, or the first is x0
 abbrev pub are_exchanged : RegOp → ℕ → ℕ → ℕ → Bool
 are_exchanged op rd rs1 rs2 = is_commutative op && ((rd == rs2) || (rs1 == 0))
 
-abbrev pub op_code : RegisterMap → RegOp → ℕ → ℕ → ℕ → List Native
-op_code registers op rd rs1 rs2 =
-    if needs_ecx op then ecx_code registers op rd rs1 rs2
-    else if are_exchanged op rd rs1 rs2 then beside_code registers op rd rs2 rs1
-    else beside_code registers op rd rs1 rs2
+abbrev pub op_code : Plan → RegOp → ℕ → ℕ → ℕ → List Native
+op_code plan op rd rs1 rs2 =
+    if needs_ecx op then ecx_code plan op rd rs1 rs2
+    else if are_exchanged op rd rs1 rs2 then beside_code plan op rd rs2 rs1
+    else beside_code plan op rd rs1 rs2
 
-abbrev pub imm_code : RegisterMap → ImmOp → ℕ → ℕ → ℕ → List Native
-imm_code registers op rd rs1 n =
-    let place = assigned registers rd in
-    bring registers (result_in place) rs1 ++ (compute_imm op (result_in place) n ++ settle registers place rd)
+abbrev pub imm_code : Plan → ImmOp → ℕ → ℕ → ℕ → List Native
+imm_code plan op rd rs1 n =
+    let place = assigned plan rd in
+    bring plan (result_in place) rs1 ++ (compute_imm op (result_in place) n ++ settle plan place rd)
 
 -- the number itself is the result: it is added to x0
 abbrev pub is_number : ImmOp → ℕ → Bool
 is_number Addi rs1 = rs1 == 0
 is_number op rs1 = false
 
-abbrev pub op_imm_code : RegisterMap → ImmOp → ℕ → ℕ → ℕ → List Native
-op_imm_code registers op rd rs1 n = if is_number op rs1 then number_code registers rd n else imm_code registers op rd rs1 n
+abbrev pub op_imm_code : Plan → ImmOp → ℕ → ℕ → ℕ → List Native
+op_imm_code plan op rd rs1 n = if is_number op rs1 then number_code plan rd n else imm_code plan op rd rs1 n
 
 -- what the instruction at that address computes
-unfoldable pub computation : RegisterMap → ℕ → Instr → List Native
-computation registers at (Op op rd rs1 rs2) = op_code registers op rd rs1 rs2
-computation registers at (OpImm op rd rs1 imm) = op_imm_code registers op rd rs1 (word imm)
-computation registers at (Lui rd imm) = number_code registers rd ((imm * 4096) % 2 ^ 32)
-computation registers at (Auipc rd imm) = number_code registers rd ((at + imm * 4096) % 2 ^ 32)
-computation registers at i = []
+unfoldable pub computation : Plan → ℕ → Instr → List Native
+computation plan at (Op op rd rs1 rs2) = op_code plan op rd rs1 rs2
+computation plan at (OpImm op rd rs1 imm) = op_imm_code plan op rd rs1 (word imm)
+computation plan at (Lui rd imm) = number_code plan rd ((imm * 4096) % 2 ^ 32)
+computation plan at (Auipc rd imm) = number_code plan rd ((at + imm * 4096) % 2 ^ 32)
+computation plan at i = []
 
--- a step less is left
-abbrev pub count : List Native
-count = AluImm alu.Sub Dword (Reg R14) 1 ∷ []
+-- r14 has the steps left plus those that are owed: done, and not yet subtracted. From owing `owed` to owing `next`:
+abbrev pub count : ℕ → ℕ → List Native
+count owed next = if owed == next then [] else AluImm alu.Sub Dword (Reg R14) ((owed + (2 ^ 32 - next)) % 2 ^ 32) ∷ []
 
--- the line of an instruction that computes
-abbrev pub computing_line : RegisterMap → ℕ → Instr → List Native
-computing_line registers at i = computation registers at i ++ count
+-- its bytes, where fewer than 128 are owed
+abbrev pub count_size : ℕ → ℕ → ℕ
+count_size owed next = if owed == next then 0 else 4
+
+-- the line of an instruction that computes; so many steps are owed before it and behind it
+abbrev pub computing_line : Plan → ℕ → ℕ → ℕ → Instr → List Native
+computing_line plan at owed next i = computation plan at i ++ count (owed + 1) next
 
 -- ==== Slow steps: edx has the address of the line.
 
--- the line of a head, which goes over the distance where too few steps are left
-abbrev pub head_line : ℕ → ℕ → List Native
-head_line at distance = MovImm Rdx at ∷ AluImm alu.Cmp Dword (Reg R14) most ∷ Jcc Below distance ∷ []
-
--- the line of an ecall or an ebreak, over the distance
-abbrev pub leave_line : ℕ → ℕ → List Native
-leave_line at distance = MovImm Rdx at ∷ Jmp distance ∷ []
+-- out over the distance
+abbrev pub leave_code : ℕ → ℕ → List Native
+leave_code at distance = MovImm Rdx at ∷ Jmp distance ∷ []
 
 -- its bytes
 abbrev pub leave_size : ℕ
 leave_size = 10
 
--- ==== Jumps. Their step is counted before, as that changes flags; distances are from the line's end.
+-- The line of an ecall or an ebreak. Where code goes out it owes nothing.
+abbrev pub leave_line : ℕ → ℕ → ℕ → List Native
+leave_line at owed distance = count owed 0 ++ leave_code at distance
+
+-- its bytes
+abbrev pub leave_line_size : ℕ → ℕ
+leave_line_size owed = count_size owed 0 + leave_size
+
+-- ==== Tests of the steps left. Distances are from their end; so many steps are owed before them and at their label, and none where they
+-- go out.
+
+-- over the way out and that distance, where enough steps are left
+abbrev pub test_code : ℕ → ℕ → List Native
+test_code owed label = AluImm alu.Cmp Dword (Reg R14) (most + owed) ∷ Jcc AboveOrEqual ((label + leave_line_size owed) % 2 ^ 32) ∷ []
+
+-- to the label, where enough steps are left, or else out over the exit's distance, with that address in edx
+abbrev pub tested : ℕ → ℕ → ℕ → ℕ → List Native
+tested at owed label exit = test_code owed label ++ leave_line at owed exit
+
+-- the line of a head, whose label is its end
+abbrev pub head_line : ℕ → ℕ → ℕ → List Native
+head_line at owed distance = tested at owed 0 distance
+
+-- ==== Jumps. Distances are from the line's end.
 
 -- it goes backwards, or past a head
 abbrev pub has_test : Jump → Bool
 has_test j = nat_le j.to j.from || not ((j.from / head_bytes) == (j.to / head_bytes))
 
--- the bytes of a jmp
-abbrev pub jump_size : ℕ
-jump_size = 5
+-- to the label, with a test or without one, where as many are owed as at the label
+abbrev pub leap : Bool → Jump → List Native
+leap true j = tested j.to j.label_owed j.label j.exit
+leap false j = Jmp j.label ∷ []
 
--- a head's test, before the jump
-abbrev pub test_code : Bool → Jump → List Native
-test_code true j = head_line j.to ((j.exit + jump_size) % 2 ^ 32)
-test_code false j = []
-
--- a jump, with its test
-abbrev pub tested_jump : Jump → List Native
-tested_jump j = test_code (has_test j) j ++ (Jmp j.label ∷ [])
+-- a jump, with its test; so many steps are owed before it, its own among them
+abbrev pub tested_jump : ℕ → Jump → List Native
+tested_jump owed j = count owed j.label_owed ++ leap (has_test j) j
 
 -- where the branch isn't taken
 abbrev pub opposite : Cond → Condition
@@ -311,37 +330,60 @@ opposite Bge = Less
 opposite Bltu = AboveOrEqual
 opposite Bgeu = Below
 
-abbrev pub compare_code : RegisterMap → ℕ → ℕ → List Native
-compare_code registers rs1 rs2 =
-    let first = assigned registers rs1 in
-    read first Rax rs1 ++ (count ++ (Alu alu.Cmp Dword (register_or first Rax) (operand_of (assigned registers rs2) rs2) ∷ []))
+-- where it is
+abbrev pub met_by : Cond → Condition
+met_by Beq = Equal
+met_by Bne = NotEqual
+met_by Blt = Less
+met_by Bge = GreaterOrEqual
+met_by Bltu = Below
+met_by Bgeu = AboveOrEqual
 
--- the line of a branch
-abbrev pub branch_line : RegisterMap → Cond → ℕ → ℕ → Jump → List Native
-branch_line registers cond rs1 rs2 j = compare_code registers rs1 rs2 ++ unless (opposite cond) (tested_jump j)
+-- one instruction is enough for a jump without a test, where as many are owed before it as at its label
+abbrev pub is_bare : ℕ → Jump → Bool
+is_bare owed j = not (has_test j) && (owed == j.label_owed)
 
--- the line of a jal, behind which the address `next` comes
-abbrev pub jal_line : RegisterMap → ℕ → ℕ → Jump → List Native
-jal_line registers rd next j = (number_code registers rd next ++ count) ++ tested_jump j
+-- the jump of a branch, behind its comparison
+abbrev pub branch_jump : Bool → Cond → ℕ → Jump → List Native
+branch_jump true cond owed j = Jcc (met_by cond) j.label ∷ []
+branch_jump false cond owed j = unless (opposite cond) (tested_jump owed j)
+
+-- steps are counted before flags are set
+abbrev pub compare_code : Plan → ℕ → ℕ → ℕ → ℕ → List Native
+compare_code plan owed next rs1 rs2 =
+    let first = assigned plan rs1 in
+    read first Rax rs1 ++ (count (owed + 1) next ++ (Alu alu.Cmp Dword (register_or first Rax) (operand_of (assigned plan rs2) rs2) ∷ []))
+
+-- the line of a branch; so many steps are owed before it, and behind it where it isn't taken
+abbrev pub branch_line : Plan → ℕ → ℕ → Cond → ℕ → ℕ → Jump → List Native
+branch_line plan owed next cond rs1 rs2 j = compare_code plan owed next rs1 rs2 ++ branch_jump (is_bare next j) cond next j
+
+-- the line of a jal, behind which the address `behind` comes
+abbrev pub jal_line : Plan → ℕ → ℕ → ℕ → Jump → List Native
+jal_line plan owed rd behind j = number_code plan rd behind ++ tested_jump (owed + 1) j
 
 -- the target of a jalr into edx
-abbrev pub target_code : RegisterMap → ℕ → ℕ → List Native
-target_code registers rs1 displacement =
-    fetch registers Rdx rs1 ++ (AluImm alu.Add Dword (Reg Rdx) displacement ∷ AluImm alu.And Dword (Reg Rdx) (2 ^ 32 - 2) ∷ [])
+abbrev pub target_code : Plan → ℕ → ℕ → List Native
+target_code plan rs1 displacement =
+    fetch plan Rdx rs1 ++ (AluImm alu.Add Dword (Reg Rdx) displacement ∷ AluImm alu.And Dword (Reg Rdx) (2 ^ 32 - 2) ∷ [])
 
 -- ==== Jumps to an address in edx: r12 has the origin of the table, r13 the code's address.
 
 -- where the table has the entry of the unit at that address
 abbrev pub table_entry : Address
-table_entry = record { base = R12; index = Rdx; scale = One; displacement = 0 }
+table_entry = record { base = R12; index = Rdx; scale = Two; displacement = 0 }
+
+-- and how many steps are owed there
+abbrev pub table_owed : Address
+table_owed = record { base = R12; index = Rdx; scale = Two; displacement = 4 }
 
 -- to that entry
 abbrev pub enter_code : List Native
-enter_code = Mov Dword Rax (Mem table_entry) ∷ Alu alu.Add Qword Rax (Reg R13) ∷ JmpTo (Reg Rax) ∷ []
+enter_code = Alu alu.Add Dword R14 (Mem table_owed) ∷ Mov Dword Rax (Mem table_entry) ∷ Alu alu.Add Qword Rax (Reg R13) ∷ JmpTo (Reg Rax) ∷ []
 
 -- its bytes
 abbrev pub enter_size : ℕ
-enter_size = 9
+enter_size = 14
 
 -- Out over the distance from the line's end, where no unit of the sandbox's code starts at that address: its mask (x25) and
 -- base (x24) make another address of it.
@@ -364,20 +406,21 @@ indirect_jump distance = steps_code distance ++ (start_code distance ++ enter_co
 
 -- its bytes
 abbrev pub indirect_jump_size : ℕ
-indirect_jump_size = 37
+indirect_jump_size = 42
 
--- the line of a jalr, behind which the address `next` comes: to the indirect jump that all such lines share
-abbrev pub jalr_line : RegisterMap → ℕ → ℕ → ℕ → ℕ → ℕ → List Native
-jalr_line registers rd rs1 displacement next distance =
-    (target_code registers rs1 displacement ++ (number_code registers rd next ++ count)) ++ (Jmp distance ∷ [])
+-- the line of a jalr, behind which the address `behind` comes: to the indirect jump that all such lines share
+abbrev pub jalr_line : Plan → ℕ → ℕ → ℕ → ℕ → ℕ → ℕ → List Native
+jalr_line plan owed rd rs1 displacement behind distance =
+    (target_code plan rs1 displacement ++ (number_code plan rd behind ++ count (owed + 1) 0)) ++ (Jmp distance ∷ [])
 
--- Behind the last line, at the end of the sandbox's code: out, over that indirect jump, behind which the way out is.
-abbrev pub end_code : ℕ → List Native
-end_code at = leave_line at indirect_jump_size ++ indirect_jump 0
+-- Behind the last line, at the end of the sandbox's code: out, over that indirect jump, behind which the way out is. What is
+-- owed is subtracted even where it is 0, so that the size is always the same.
+abbrev pub end_code : ℕ → ℕ → List Native
+end_code at owed = (AluImm alu.Sub Dword (Reg R14) owed ∷ leave_code at indirect_jump_size) ++ indirect_jump 0
 
 -- its bytes
 abbrev pub end_size : ℕ
-end_size = leave_size + indirect_jump_size
+end_size = 4 + leave_size + indirect_jump_size
 
 -- ==== Accesses: rs1 lies in a register or is read into eax, rs2 likewise into ecx; r15 has the origin of the data.
 
@@ -392,25 +435,29 @@ load_from Lw dst a = Mov Dword dst (Mem a)
 load_from Lbu dst a = MovExtended Zero Byte dst (Mem a)
 load_from Lhu dst a = MovExtended Zero Word dst (Mem a)
 
-abbrev pub load_code : RegisterMap → LoadKind → ℕ → ℕ → ℕ → List Native
-load_code registers kind rd rs1 displacement =
-    let base = assigned registers rs1 in
-    let place = assigned registers rd in
-    read base Rax rs1 ++ (load_from kind (result_in place) (data_address (register_or base Rax) displacement) ∷ settle registers place rd)
+abbrev pub load_code : Plan → LoadKind → ℕ → ℕ → ℕ → List Native
+load_code plan kind rd rs1 displacement =
+    let base = assigned plan rs1 in
+    let place = assigned plan rd in
+    read base Rax rs1 ++ (load_from kind (result_in place) (data_address (register_or base Rax) displacement) ∷ settle plan place rd)
 
--- the line of a load: its step is counted last, as it isn't done where the access faults
-abbrev pub load_line : RegisterMap → LoadKind → ℕ → ℕ → ℕ → List Native
-load_line registers kind rd rs1 displacement = load_code registers kind rd rs1 displacement ++ count
+-- The line of a load. Where the access faults, its own step isn't owed yet.
+abbrev pub load_line : Plan → ℕ → ℕ → LoadKind → ℕ → ℕ → ℕ → List Native
+load_line plan owed next kind rd rs1 displacement = load_code plan kind rd rs1 displacement ++ count (owed + 1) next
 
 abbrev pub store_to : StoreWidth → Address → Register → Native
 store_to Sb a src = MovStoreByte a src
 store_to Sh a src = MovStoreWord a src
 store_to Sw a src = MovStore Dword a src
 
--- the line of a store
-abbrev pub store_line : RegisterMap → StoreWidth → ℕ → ℕ → ℕ → List Native
-store_line registers width rs1 rs2 displacement =
-    let base = assigned registers rs1 in
-    let stored = assigned registers rs2 in
+-- a store
+abbrev pub store_code : Plan → StoreWidth → ℕ → ℕ → ℕ → List Native
+store_code plan width rs1 rs2 displacement =
+    let base = assigned plan rs1 in
+    let stored = assigned plan rs2 in
     read base Rax rs1
-    ++ (read stored Rcx rs2 ++ ((store_to width (data_address (register_or base Rax) displacement) (register_or stored Rcx) ∷ []) ++ count))
+    ++ (read stored Rcx rs2 ++ (store_to width (data_address (register_or base Rax) displacement) (register_or stored Rcx) ∷ []))
+
+-- the line of a store
+abbrev pub store_line : Plan → ℕ → ℕ → StoreWidth → ℕ → ℕ → ℕ → List Native
+store_line plan owed next width rs1 rs2 displacement = store_code plan width rs1 rs2 displacement ++ count (owed + 1) next

@@ -16,7 +16,7 @@ use Rattle.sfi_native.specs.declared.layout.Layout.{Layout}
 use Rattle.sfi_native.specs.Registers.{assigned}
 use Rattle.sfi_native.specs.Layout.{Holds, IsLayout, IsOutside, IsRelated, OthersStay, frame_size}
 use Rattle.sfi_native.specs.Laws.{IsAlike}
-use Rattle.sfi_native.specs.Places.{IsAt}
+use Rattle.sfi_native.specs.Places.{IsAt, with_owed}
 
 -- moves from these places are the host's, all others the code's
 abbrev pub IsHosts : ControlPoint → Type 0
@@ -29,7 +29,7 @@ IsHosts place = ⊥
 -- A host reads this state: pc from edx (2), registers from where they lie, and data.
 pub record Reads (p : Part) (l : Layout) (c : Core) (s : State) : Type 0 where
   pub pc : c.registers 2 ≡ s.hart.pc
-  pub registers : (r : ℕ) → r < 32 → Holds l c r (assigned l.registers r) (register s.hart r)
+  pub registers : (r : ℕ) → r < 32 → Holds l c r (assigned l.plan r) (register s.hart r)
   pub bytes : (k : ℕ) → k < p.data_size → c.memory (l.data_start + k) ≡ byte_at s.memory (p.data_base + k)
 
 -- The state is one of a machine, in which x0 and x24 to x27 have the values that lines take them to have. All states that a
@@ -38,11 +38,12 @@ pub record IsProper (p : Part) (s : State) : Type 0 where
   pub state : IsState s
   pub fixed_is : fixed p s.hart ≡ s.hart
 
--- So the state that a host reads there is the turn's.
+-- So the state that a host reads there is the turn's, and r14 (14) has the steps left: nothing is owed.
 abbrev pub HostReads : Type 0
 HostReads =
     (p : Part) (l : Layout) (base : ℕ) (code : List Line) (g : Going) (m : Machine)
-    → IsHosts g.place → IsProper p g.state → IsAlike p l base code g m → Reads p l m.core g.state
+    → IsHosts g.place → IsProper p g.state → IsAlike p l base code g m
+    → Reads p l m.core g.state × (m.core.registers 14 ≡ g.left)
 
 -- ==== What it does.
 
@@ -90,8 +91,8 @@ pub record Spares (p : Part) (l : Layout) (own : ℕ → Type 0) (c d : Core) : 
 
 -- Registers, data and steps left are the turn's, and the processor is where it goes on.
 pub record Serves (p : Part) (l : Layout) (base : ℕ) (code : List Line) (own : ℕ → Type 0) (k : Going) (m n : Machine) : Type 0 where
-  pub related : IsRelated p l k n.core
-  pub is_at : IsAt l.registers base code k n
+  pub related : IsRelated p l (with_owed l.plan p k) n.core
+  pub is_at : IsAt l.plan base code k n
   pub spares : Spares p l own m.core n.core
 
 -- The ending is that of a turn that stands there, and the processor has its data.
@@ -120,11 +121,11 @@ pub record IsHost (p : Part) (l : Layout) (base : ℕ) (code : List Line) (host 
   pub works : (g k : Going) (m : Machine) → g.place ≡ Slow → g.left < 2 ^ 31 → IsProper p g.state → HasData p g.state.memory
       → IsProper p k.state → IsAlike p l base code g m → host.relies m.core → HostMoves p code g k → Works p l base code host k m
 
--- Wherever a host's moves lead, there is a state of the processor that serves.
+-- Wherever a host's moves lead, where fewer than 2^31 steps are left, there is a state of the processor that serves.
 abbrev pub EachWorkCanBeDone : Type 1
 EachWorkCanBeDone =
     (p : Part) (l : Layout) (base : ℕ) (code : List Line) (own : ℕ → Type 0) (g k : Going) (m : Machine)
-    → IsLayout p.data_size l → IsProper p k.state → IsHosts g.place → IsRelated p l g m.core → HostMoves p code g k
+    → IsLayout p.data_size l → IsProper p k.state → IsHosts g.place → g.left < 2 ^ 31 → IsRelated p l g m.core → HostMoves p code g k
     → (n : Machine) × Serves p l base code own k m n
 
 -- a host that relies on nothing
@@ -164,7 +165,7 @@ pub record Round (t : Text) (p : Part) (l : Layout) (there : ℕ → Type 0) (ho
   pub ends : (e : Ending) (n : Machine) → host.does out (Some e) n → Ended e n
   pub enters : (n : Machine) → host.does out None n → Entered rest n
 
--- Fewer rounds than that, and at most so many instructions of code, whatever the host does, end the turn as it has to.
+-- At most so many rounds, and so many instructions of code, end the turn as it has to, whatever the host does.
 abbrev pub EndsWithin : ℕ → ℕ → Text → Part → Layout → (ℕ → Type 0) → Host → (Ending → Machine → Type 0) → Machine → Type 0
 EndsWithin zero instructions t p l there host Ended m = ⊥
 EndsWithin (suc rounds) instructions t p l there host Ended m =

@@ -9,7 +9,7 @@ use Rattle.x86_step.specs.State.{Core, Span, number_at}
 use Rattle.x86_instr.specs.declared.operand.Register.{Register}
 use Rattle.x86_instr.specs.Spelling.{number}
 use Rattle.sfi_native.specs.declared.layout.Layout.{Layout}
-use Rattle.sfi_native.specs.Registers.{IsAssigned, IsRightMap, assigned}
+use Rattle.sfi_native.specs.Registers.{IsAssigned, IsRightPlan, assigned}
 
 -- the frame has four bytes for each of the 32 registers
 abbrev pub frame_size : ℕ
@@ -23,10 +23,10 @@ DoNotMeet a m b n = (a + m ≤ b) ⊎ (b + n ≤ a)
 abbrev pub page_size : ℕ
 page_size = 4096
 
--- The map of registers is right. A guard zone lies on each side of the data. A host can leave it unmapped, since the data are
+-- The plan is right. A guard zone lies on each side of the data. A host can leave it unmapped, since the data are
 -- whole pages. These and the frame don't meet, and lie below 2^47, where a process has its memory.
 pub record IsLayout (data_size : ℕ) (l : Layout) : Type 0 where
-  pub registers_are_right : IsRightMap l.registers
+  pub plan_is_right : IsRightPlan l.plan
   pub frame_ends : l.frame + frame_size ≤ 2 ^ 47
   pub data_begins : guard ≤ l.data_start
   pub data_ends : l.data_start + data_size + guard ≤ 2 ^ 47
@@ -51,12 +51,16 @@ abbrev pub Holds : Layout → Core → ℕ → Option Register → ℕ → Type 
 Holds l c r (Some q) v = c.registers (number q) ≡ v
 Holds l c r None v = number_at c.memory 4 (l.frame + 4 * r) ≡ Some v
 
--- The processor has the turn's state: rsp (4) leads to the frame, r14 (14) has the steps left, r15 (15) the origin of
+-- the turn with n more steps left, as r14 has it where n are owed
+abbrev pub owing : ℕ → Going → Going
+owing n g = record { place = g.place; state = g.state; left = g.left + n }
+
+-- The processor has the turn's state: rsp (4) leads to the frame, r14 (14) has the turn's `left` (in code with what is owed: `with_owed`), r15 (15) the origin of
 -- the data. Where the turn is, rip says, which isn't part of it.
 pub record IsRelated (p : Part) (l : Layout) (g : Going) (c : Core) : Type 0 where
   pub register_count : length g.state.hart.registers ≡ 32
   pub words : (r : ℕ) → value p g r < 2 ^ 32
-  pub registers : (r : ℕ) → r < 32 → Holds l c r (assigned l.registers r) (value p g r)
+  pub registers : (r : ℕ) → r < 32 → Holds l c r (assigned l.plan r) (value p g r)
   pub frame : c.registers 4 ≡ l.frame
   pub frame_is_written : (k : ℕ) → k < frame_size → c.writable (l.frame + k) ≡ true
   pub few : g.left < 2 ^ 32
@@ -77,6 +81,6 @@ IsOutside at a n = (at < a) ⊎ (a + n ≤ at)
 -- From one state of the processor to the other, eax, ecx, edx (0 to 2), r14 (14), registers in which the sandbox's lie, and
 -- flags may change, and memory in frame and data; all else stays.
 pub record OthersStay (p : Part) (l : Layout) (c d : Core) : Type 0 where
-  pub others : (k : ℕ) → 2 < k → (k ≡ 14 → ⊥) → (IsAssigned l.registers k → ⊥) → d.registers k ≡ c.registers k
+  pub others : (k : ℕ) → 2 < k → (k ≡ 14 → ⊥) → (IsAssigned l.plan k → ⊥) → d.registers k ≡ c.registers k
   pub elsewhere : (a : ℕ) → IsOutside a l.frame frame_size → IsOutside a l.data_start p.data_size → d.memory a ≡ c.memory a
   pub writable : d.writable ≡ c.writable

@@ -3,6 +3,7 @@ pub mod Layout
 pub mod Code
 pub mod Places
 pub mod Lines
+pub mod Following
 pub mod Entries
 pub mod Faults
 pub mod Table

@@ -7,7 +7,7 @@ use Rattle.rv_word.specs.declared.instr.Instr.TheVariants.{Branch, Jal}
 use Rattle.rv_word.specs.Spelling.{offset_by}
 use Rattle.sfi_translate.specs.Lines.{Line, Function, End, Entry, Head, Does}
 use Rattle.sfi_translate.specs.Machine.{label}
-use Rattle.sfi_native.specs.declared.registers.RegisterMap.{RegisterMap}
+use Rattle.sfi_native.specs.declared.plan.Plan.{Plan}
 use Rattle.sfi_native.specs.declared.line.Line.{Line as Held}
 use Rattle.sfi_native.specs.declared.line.Line.TheVariants as held
 use Rattle.sfi_native.specs.Places.{size_of_all}
@@ -26,7 +26,7 @@ target_of (Does at n (Jal rd offset)) = Some (offset_by at offset)
 target_of line = None
 
 -- How many bytes these lines have, below 2^31, and they have from each label on.
-pub record AreMeasured (registers : RegisterMap) (lines : List Line) (bytes : List ℕ) (labels : BTreeMap ℕ ℕ) : Type 0 where
-  pub size : length bytes ≡ size_of_all registers lines
-  pub few : size_of_all registers lines < 2 ^ 31
-  pub left : (to : ℕ) → get nat_cmp labels to ≡ option_map (size_of_all registers) (label to lines)
+pub record AreMeasured (plan : Plan) (lines : List Line) (bytes : List ℕ) (labels : BTreeMap ℕ ℕ) : Type 0 where
+  pub size : length bytes ≡ size_of_all plan lines
+  pub few : size_of_all plan lines < 2 ^ 31
+  pub left : (to : ℕ) → get nat_cmp labels to ≡ option_map (size_of_all plan) (label to lines)

@@ -1,9 +1,11 @@
--- Which of the sandbox's registers lie in registers of the processor. The others lie in a frame in memory.
-use Rattle.std.specs.Prelude.{◌≡◌, ℕ, ◌==◌, ◌||◌, Bool, true, false, get_or, Option, Some, None}
+-- Which of the sandbox's registers lie in registers of the processor, the others in a frame in memory; how many steps code owes
+-- where; and where nops stand.
+use Rattle.std.specs.Prelude.{[], ◌≡◌, ℕ, ◌+◌, ◌-◌, ◌/◌, ◌%◌, ◌^◌, ◌==◌, ◌||◌, Bool, true, false, get_or, length, Option, Some, None}
 use Rattle.x86_instr.specs.declared.operand.Register.{Register}
 use Rattle.x86_instr.specs.declared.operand.Register.TheVariants.{Rbx, Rbp, Rsi, Rdi, R8, R9, R10, R11}
 use Rattle.x86_instr.specs.Spelling.{number}
-use Rattle.sfi_native.specs.declared.registers.RegisterMap.{RegisterMap}
+use Rattle.x86_instr.specs.declared.instr.NopSize.{NopSize}
+use Rattle.sfi_native.specs.declared.plan.Plan.{Plan}
 
 -- x0 and x24 to x27 have one value for lines, so that none writes them
 abbrev pub is_fixed : ℕ → Bool
@@ -22,15 +24,33 @@ is_assignable R11 = true
 is_assignable q = false
 
 -- the register of the processor that register r lies in, if it lies in one
-abbrev pub assigned : RegisterMap → ℕ → Option Register
-assigned registers r = get_or registers.assigned r None
+abbrev pub assigned : Plan → ℕ → Option Register
+assigned plan r = get_or plan.assigned r None
 
--- Each lies in one that code has no other use for, and no two in the same; those that none writes lie in the frame.
-pub record IsRightMap (registers : RegisterMap) : Type 0 where
-  pub in_frame : (r : ℕ) → is_fixed r ≡ true → assigned registers r ≡ None
-  pub assignable : (r : ℕ) (q : Register) → assigned registers r ≡ Some q → is_assignable q ≡ true
-  pub apart : (r s : ℕ) (q : Register) → assigned registers r ≡ Some q → assigned registers s ≡ Some q → r ≡ s
+-- Each lies in one that code has no other use for, and no two in the same; those that none writes lie in the frame. What is owed
+-- and padded is free.
+pub record IsRightPlan (plan : Plan) : Type 0 where
+  pub count : length plan.assigned ≡ 32
+  pub in_frame : (r : ℕ) → is_fixed r ≡ true → assigned plan r ≡ None
+  pub assignable : (r : ℕ) (q : Register) → assigned plan r ≡ Some q → is_assignable q ≡ true
+  pub apart : (r s : ℕ) (q : Register) → assigned plan r ≡ Some q → assigned plan s ≡ Some q → r ≡ s
+
+-- the place of an address in the lists of a plan, which have something for each two bytes
+abbrev pub half_word : Plan → ℕ → ℕ
+half_word plan at = (at + (2 ^ 32 - plan.code_base)) % 2 ^ 32 / 2
+
+-- how many steps, below 63, are done and not yet counted before the instruction at that address
+abbrev pub owed : Plan → ℕ → ℕ
+owed plan at = get_or plan.owed.items (half_word plan at) 0 % 63
+
+-- the nop before it, if one stands there
+abbrev pub nop : Plan → ℕ → Option NopSize
+nop plan at = get_or plan.padding.items (half_word plan at) None
+
+-- no nops stand anywhere
+abbrev pub IsUnpadded : Plan → Type 0
+IsUnpadded plan = plan.padding.items ≡ []
 
 -- a register of the processor, by its number, in which one of the sandbox's lies
-abbrev pub IsAssigned : RegisterMap → ℕ → Type 0
-IsAssigned registers k = (r : ℕ) × (q : Register) × (assigned registers r ≡ Some q) × (number q ≡ k)
+abbrev pub IsAssigned : Plan → ℕ → Type 0
+IsAssigned plan k = (r : ℕ) × (q : Register) × (assigned plan r ≡ Some q) × (number q ≡ k)

@@ -1,5 +1,5 @@
 -- A turn of native code as a whole: code and host by turns come to its end, which is what the image's own steps come to.
-use Rattle.std.specs.Prelude.{◌≡◌, ◌⊎◌, ℕ, ◌+◌, ◌-◌, ◌*◌, ◌^◌, ◌<◌, ◌≤◌, List, length, Option, Some}
+use Rattle.std.specs.Prelude.{◌≡◌, ◌⊎◌, ℕ, ◌+◌, ◌-◌, ◌*◌, ◌^◌, ◌<◌, ◌≤◌, List, length, Option}
 use Rattle.rv_step.specs.State.{State}
 use Rattle.sfi_formats.specs.Limits.{guard}
 use Rattle.sfi_image.specs.Spelling.{Part}
@@ -13,9 +13,9 @@ use Rattle.sfi_native.specs.Entries.{AreEntries}
 use Rattle.sfi_native.specs.Faults.{HasFixups}
 use Rattle.sfi_native.specs.Host.{Ending, EndsWithin, HandsOver, Host, HostMoves, IsHost, IsInCode, Serves, host_of}
 use Rattle.sfi_native.specs.Layout.{DoNotMeet, IsLayout, IsOutside, frame_size, guarded_data}
-use Rattle.sfi_native.specs.Laws.{IsBefore, line_most}
-use Rattle.sfi_native.specs.Places.{IsAt, end_address, exit_of, whole_code}
-use Rattle.sfi_native.specs.Table.{HasTable}
+use Rattle.sfi_native.specs.Laws.{IsBefore, placed_most}
+use Rattle.sfi_native.specs.Places.{IsAt, end_address, exit_of, whole_code, with_owed}
+use Rattle.sfi_native.specs.Table.{HasTable, table_size}
 
 -- the turn from that state begins in the host's loop
 abbrev pub begun : State → ℕ → Going
@@ -28,13 +28,13 @@ pub record LieApart (p : Part) (l : Layout) (from n : ℕ) : Type 0 where
 
 -- So lie the text, the table and the host's own memory, and apart from one another.
 pub record AreApart (p : Part) (l : Layout) (base : ℕ) (code : List Line) (table_at : ℕ) (own : ℕ → Type 0) : Type 0 where
-  pub text : LieApart p l base (exit_of l.registers code)
-  pub table : LieApart p l table_at (length p.code)
-  pub table_from_text : DoNotMeet table_at (length p.code) base (exit_of l.registers code)
+  pub text : LieApart p l base (exit_of l.plan code)
+  pub table : LieApart p l table_at (table_size p)
+  pub table_from_text : DoNotMeet table_at (table_size p) base (exit_of l.plan code)
   pub own_from_zones : (a : ℕ) → own a → IsOutside a (l.data_start - guard) (p.data_size + 2 * guard)
   pub own_from_frame : (a : ℕ) → own a → IsOutside a l.frame frame_size
-  pub own_from_text : (a : ℕ) → own a → IsOutside a base (exit_of l.registers code)
-  pub own_from_table : (a : ℕ) → own a → IsOutside a table_at (length p.code)
+  pub own_from_text : (a : ℕ) → own a → IsOutside a base (exit_of l.plan code)
+  pub own_from_table : (a : ℕ) → own a → IsOutside a table_at (table_size p)
 
 -- where the frame lies
 abbrev pub frame_span : Layout → Span
@@ -42,7 +42,7 @@ frame_span l = record { at = l.frame; size = frame_size }
 
 -- where the table of entries lies
 abbrev pub table_span : Part → ℕ → Span
-table_span p table_at = record { at = table_at; size = length p.code }
+table_span p table_at = record { at = table_at; size = table_size p }
 
 -- Code accesses its frame, its table, and its data with their guard zones, where an access faults.
 abbrev pub IsAccessed : Part → Layout → ℕ → ℕ → Type 0
@@ -59,11 +59,11 @@ pub record IsEntered (sandbox : ℕ) (p : Part) (code : List Line) (l : Layout) 
   pub first : Going
   pub begins : HostMoves p code (begun s left) first
   pub in_code : IsInCode first.place
-  pub is_at : IsAt l.registers base code first m
-  pub stands : IsBefore (whole_code l.registers (end_address p) code) t base p l first m.core
+  pub is_at : IsAt l.plan base code first m
+  pub stands : IsBefore (whole_code l.plan (end_address p) code) t base p l (with_owed l.plan p first) m.core
   pub text_begins : t.base ≡ base
-  pub text_size : length t.bytes ≡ exit_of l.registers code
-  pub fixups : HasFixups l.registers t base code
+  pub text_size : length t.bytes ≡ exit_of l.plan code
+  pub fixups : HasFixups l.plan t base code
   pub table : HasTable p l base code m.core
   pub apart : AreApart p l base code table.at host.own
   pub relies : host.relies m.core
@@ -84,7 +84,7 @@ pub record TurnEnds (p : Part) (code : List Line) (l : Layout) (t : Text) (base 
   pub rounds : ℕ
   pub few : rounds ≤ 5 * (left + 1)
   pub instructions : ℕ
-  pub as_many : instructions ≤ line_most * (5 * (left + 1))
+  pub as_many : instructions ≤ placed_most * (5 * (left + 1))
   pub ends : EndsWithin rounds instructions t p l (IsAccessed p l table_at) host (EndsAsImage p code l base host s left m) m
 
 -- Each turn ends so.
@@ -116,6 +116,6 @@ abbrev pub EachTurnCanBegin : Type 1
 EachTurnCanBegin =
     (sandbox : ℕ) (p : Part) (code : List Line) (l : Layout) (base : ℕ) (table : List ℕ) (table_at : ℕ)
     (does : Machine → Option Ending → Machine → Type 0) (own : ℕ → Type 0) (s : State) (left : ℕ)
-    → IsCleanPart sandbox p → AreLines sandbox p code → AreEntries l.registers p code table → IsReached p s → left < 2 ^ 31
-    → IsLayout p.data_size l → base + exit_of l.registers code < 2 ^ 47 → table_at + length p.code ≤ 2 ^ 47
+    → IsCleanPart sandbox p → AreLines sandbox p code → AreEntries l.plan p code table → IsReached p s → left < 2 ^ 31
+    → IsLayout p.data_size l → base + exit_of l.plan code < 2 ^ 47 → table_at + table_size p ≤ 2 ^ 47
     → AreApart p l base code table_at own → CanBegin sandbox p code l base (host_of does own) s left

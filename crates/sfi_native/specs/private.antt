@@ -4,7 +4,7 @@ use Rattle.sfi_rules.specs.Readings.{Piece, IsLongestReading}
 use Rattle.sfi_translate.specs.Lines.{Line, reading_lines}
 use Rattle.x86_instr.specs.declared.operand.Register.{Register}
 use Rattle.sfi_native.specs.declared.line.Line.{Line as Held}
-use Rattle.sfi_native.specs.declared.registers.RegisterMap.{RegisterMap}
+use Rattle.sfi_native.specs.declared.plan.Plan.{Plan}
 use Rattle.sfi_native.specs.Registers.{assigned, is_assignable, is_fixed}
 use Rattle.sfi_native.specs.Lines.{line_of}
 
@@ -21,7 +21,7 @@ pub record AddsLines (old new : List Held) (holds : List Line → Type 0) : Type
   pub new_is : map line_of new ≡ map line_of old ++ lines
 
 -- register n lies in the frame, or in one that code has no other use for and none before it lies in
-abbrev pub IsRightAt : RegisterMap → ℕ → Type 0
-IsRightAt registers n =
-    (q : Register) → assigned registers n ≡ Some q
-    → (is_assignable q ≡ true) × (is_fixed n ≡ false) × ((r : ℕ) → r < n → assigned registers r ≡ Some q → ⊥)
+abbrev pub IsRightAt : Plan → ℕ → Type 0
+IsRightAt plan n =
+    (q : Register) → assigned plan n ≡ Some q
+    → (is_assignable q ≡ true) × (is_fixed n ≡ false) × ((r : ℕ) → r < n → assigned plan r ≡ Some q → ⊥)

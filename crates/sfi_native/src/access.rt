@@ -1,13 +1,13 @@
 //! The bytes of a load or a store.
-ghost use Rattle.std.specs.Prelude.{◌≡◌, ◌++◌, OnOk};
-ghost use Rattle.sfi_native.specs.Code.{data_address as data_address_at, load_from as load_of, load_line, store_line, store_to as store_of};
+ghost use Rattle.std.specs.Prelude.{◌≡◌, ◌<◌, ◌++◌, OnOk};
+ghost use Rattle.sfi_native.specs.Code.{data_address as data_address_at, load_code, load_from as load_of, load_line, store_code, store_line, store_to as store_of};
 ghost use Rattle.x86_instr.specs.declared.instr.Instr.TheVariants.{MovExtended};
 ghost use Rattle.x86_instr.specs.declared.operand.Operand.TheVariants.{Mem};
 ghost use Rattle.x86_step.specs.Running.{spellings};
 
 use crate::computation::put_count;
 use crate::operation::{put, put_read, put_settle, register_or, result_in};
-use crate::registers::RegisterMap;
+use crate::plan::Plan;
 use rv_word::{LoadKind, Reg, StoreWidth};
 use std::alloc::AllocError;
 use x86_instr::{Address, Extension, Instr, Narrow, Operand, Register, Scale, Width};
@@ -53,25 +53,44 @@ fn load_from(kind: LoadKind, dst: Register, place: Address) -> Instr
     }
 }
 
-/// Writes the line of a load behind what is there. The displacement is the immediate, in two's complement.
+/// Writes a load.
 #[tactic(auto, using(crate::proofs::Lists::load_parts))]
-pub fn push_load_line(
+fn put_load(
     out: &mut Vec<u8>,
-    registers: &RegisterMap,
+    plan: &Plan,
     kind: LoadKind,
     rd: Reg,
     rs1: Reg,
     displacement: u32,
 ) -> Result<(), AllocError>
-    ensures { OnOk result (out.new.items ≡ out.old.items ++ spellings (load_line registers.now kind rd rs1 displacement)) }
+    ensures { OnOk result (out.new.items ≡ out.old.items ++ spellings (load_code plan.now kind rd rs1 displacement)) }
 {
-    let base = registers.of(rs1);
-    let place = registers.of(rd);
+    let base = plan.of(rs1);
+    let place = plan.of(rd);
     put_read(out, base, Register::Rax, rs1)?;
     let from = data_address(register_or(base, Register::Rax), displacement);
     put(out, load_from(kind, result_in(place), from))?;
-    put_settle(out, registers, place, rd)?;
-    put_count(out)
+    put_settle(out, plan, place, rd)
+}
+
+/// Writes the line of a load behind what is there; so many steps are owed before and behind it, fewer than 63. The displacement is the
+/// immediate, in two's complement.
+#[tactic(auto, using(crate::proofs::Lists::two_parts))]
+pub fn push_load_line(
+    out: &mut Vec<u8>,
+    plan: &Plan,
+    owed: u32,
+    next: u32,
+    kind: LoadKind,
+    rd: Reg,
+    rs1: Reg,
+    displacement: u32,
+) -> Result<(), AllocError>
+    requires { owed < 63 }
+    ensures { OnOk result (out.new.items ≡ out.old.items ++ spellings (load_line plan.now owed next kind rd rs1 displacement)) }
+{
+    put_load(out, plan, kind, rd, rs1, displacement)?;
+    put_count(out, owed + 1, next)
 }
 
 /// A store of a register.
@@ -89,23 +108,42 @@ fn store_to(width: StoreWidth, place: Address, src: Register) -> Instr
     }
 }
 
-/// Writes the line of a store of `rs2` behind what is there. The displacement is the immediate, in two's complement.
+/// Writes a store of `rs2`.
 #[tactic(auto, using(crate::proofs::Lists::store_parts))]
-pub fn push_store_line(
+fn put_store(
     out: &mut Vec<u8>,
-    registers: &RegisterMap,
+    plan: &Plan,
     width: StoreWidth,
     rs1: Reg,
     rs2: Reg,
     displacement: u32,
 ) -> Result<(), AllocError>
-    ensures { OnOk result (out.new.items ≡ out.old.items ++ spellings (store_line registers.now width rs1 rs2 displacement)) }
+    ensures { OnOk result (out.new.items ≡ out.old.items ++ spellings (store_code plan.now width rs1 rs2 displacement)) }
 {
-    let base = registers.of(rs1);
-    let stored = registers.of(rs2);
+    let base = plan.of(rs1);
+    let stored = plan.of(rs2);
     put_read(out, base, Register::Rax, rs1)?;
     put_read(out, stored, Register::Rcx, rs2)?;
     let to = data_address(register_or(base, Register::Rax), displacement);
-    put(out, store_to(width, to, register_or(stored, Register::Rcx)))?;
-    put_count(out)
+    put(out, store_to(width, to, register_or(stored, Register::Rcx)))
+}
+
+/// Writes the line of a store of `rs2` behind what is there; so many steps are owed before and behind it, fewer than 63. The displacement is the
+/// immediate, in two's complement.
+#[tactic(auto, using(crate::proofs::Lists::two_parts))]
+pub fn push_store_line(
+    out: &mut Vec<u8>,
+    plan: &Plan,
+    owed: u32,
+    next: u32,
+    width: StoreWidth,
+    rs1: Reg,
+    rs2: Reg,
+    displacement: u32,
+) -> Result<(), AllocError>
+    requires { owed < 63 }
+    ensures { OnOk result (out.new.items ≡ out.old.items ++ spellings (store_line plan.now owed next width rs1 rs2 displacement)) }
+{
+    put_store(out, plan, width, rs1, rs2, displacement)?;
+    put_count(out, owed + 1, next)
 }

@@ -13,7 +13,7 @@ use crate::entries::entries;
 use crate::faults::{Access, push_access};
 use crate::head::put_end;
 use crate::line::{Line, push_line};
-use crate::registers::RegisterMap;
+use crate::plan::Plan;
 use rv_word::Instr;
 use sfi_formats::Format;
 use sfi_image::SandboxPart;
@@ -21,7 +21,7 @@ use std::alloc::{AllocError, Global};
 use std::collections::BTreeMap;
 
 /// Where a line jumps to over a distance, if it does.
-fn target(line: &Line) -> Option<u32>
+pub(crate) fn target(line: &Line) -> Option<u32>
     ensures { result ≡ target_of (line_of line.now) }
 {
     let Line::Does { at, instr, .. } = *line else {
@@ -37,16 +37,16 @@ fn target(line: &Line) -> Option<u32>
 /// Measures a line in front of those that are, unless all have 2^31 bytes or more.
 fn measure_line(
     draft: &mut Vec<u8>,
-    registers: &RegisterMap,
+    plan: &Plan,
     labels: &mut BTreeMap<u32, u32>,
     line: Line,
 ) -> Result<bool, AllocError>
     ensures few { IfOk result (λ ok. ok ≡ true → (rest : List CodeLine)
-        → AreMeasured registers.now rest draft.old.items labels.old → AreMeasured registers.now (line_of line ∷ rest) draft.new.items labels.new) }
+        → AreMeasured plan.now rest draft.old.items labels.old → AreMeasured plan.now (line_of line ∷ rest) draft.new.items labels.new) }
     ensures many { IfOk result (λ ok. ok ≡ false → (rest : List CodeLine)
-        → AreMeasured registers.now rest draft.old.items labels.old → 2 ^ 31 ≤ size_of_all registers.now (line_of line ∷ rest)) }
+        → AreMeasured plan.now rest draft.old.items labels.old → 2 ^ 31 ≤ size_of_all plan.now (line_of line ∷ rest)) }
 {
-    push_line(draft, registers, line, 0, 0)?;
+    push_line(draft, plan, line, 0, 0)?;
     let size = draft.len();
     if size >= 0x8000_0000 {
         return Ok(false);
@@ -60,18 +60,18 @@ fn measure_line(
 /// Measures all lines, the last first, unless they have 2^31 bytes or more.
 fn measure(
     draft: &mut Vec<u8>,
-    registers: &RegisterMap,
+    plan: &Plan,
     labels: &mut BTreeMap<u32, u32>,
     lines: &[Line],
 ) -> Result<bool, AllocError>
-    requires { AreMeasured registers.now [] draft.old.items labels.old }
-    ensures few { IfOk result (λ ok. ok ≡ true → AreMeasured registers.now (map line_of lines.now) draft.new.items labels.new) }
-    ensures many { IfOk result (λ ok. ok ≡ false → 2 ^ 31 ≤ size_of_all registers.now (map line_of lines.now)) }
+    requires { AreMeasured plan.now [] draft.old.items labels.old }
+    ensures few { IfOk result (λ ok. ok ≡ true → AreMeasured plan.now (map line_of lines.now) draft.new.items labels.new) }
+    ensures many { IfOk result (λ ok. ok ≡ false → 2 ^ 31 ≤ size_of_all plan.now (map line_of lines.now)) }
 {
     let mut n = lines.len();
     while n > 0 {
         n -= 1;
-        if !measure_line(draft, registers, labels, lines[n])? {
+        if !measure_line(draft, plan, labels, lines[n])? {
             return Ok(false);
         }
     }
@@ -87,9 +87,9 @@ fn distance(from: u32, to: u32) -> u32
 
 /// How far the label of a line that ends at `end` is, where all lines have `all` bytes; where no line has it, the end.
 fn label_distance(labels: &BTreeMap<u32, u32>, all: u32, end: u32, line: &Line) -> u32
-    ensures { (registers : RegisterMap) (code rest : List CodeLine) (bytes : List ℕ) (to : ℕ) → AreMeasured registers code bytes labels.now
-        → all ≡ size_of_all registers code → end ≡ start registers code rest → target_of (line_of line.now) ≡ Some to
-        → result ≡ distances registers code rest to }
+    ensures { (plan : Plan) (code rest : List CodeLine) (bytes : List ℕ) (to : ℕ) → AreMeasured plan code bytes labels.now
+        → all ≡ size_of_all plan code → end ≡ start plan code rest → target_of (line_of line.now) ≡ Some to
+        → result ≡ distances plan code rest to }
 {
     let Some(to) = target(line) else {
         return 0;
@@ -103,55 +103,49 @@ fn label_distance(labels: &BTreeMap<u32, u32>, all: u32, end: u32, line: &Line) 
 /// Writes a line behind those before it, where all lines have `all` bytes.
 fn place_line(
     out: &mut Vec<u8>,
-    registers: &RegisterMap,
+    plan: &Plan,
     draft: &mut Vec<u8>,
     labels: &BTreeMap<u32, u32>,
     all: u32,
     line: Line,
 ) -> Result<(), AllocError>
-    requires fits { length out.old.items + size_of registers.now (line_of line) < 2 ^ 31 }
+    requires fits { length out.old.items + size_of plan.now (line_of line) < 2 ^ 31 }
     ensures { OnOk result ((code rest : List CodeLine) (bytes : List ℕ)
-        → AreMeasured registers.now code bytes labels.now → all ≡ size_of_all registers.now code → AreLast code (line_of line ∷ rest)
-        → length out.old.items ≡ start registers.now code (line_of line ∷ rest)
-        → out.new.items ≡ out.old.items ++ spellings (placed registers.now code rest (line_of line))) }
+        → AreMeasured plan.now code bytes labels.now → all ≡ size_of_all plan.now code → AreLast code (line_of line ∷ rest)
+        → length out.old.items ≡ start plan.now code (line_of line ∷ rest)
+        → out.new.items ≡ out.old.items ++ spellings (placed plan.now code rest (line_of line))) }
 {
     draft.clear();
-    push_line(draft, registers, line, 0, 0)?;
+    push_line(draft, plan, line, 0, 0)?;
     let end = (out.len() + draft.len()) as u32;
     let label = label_distance(labels, all, end, &line);
-    push_line(
-        out,
-        registers,
-        line,
-        label,
-        distance(end, all.wrapping_add(47)),
-    )?;
+    push_line(out, plan, line, label, distance(end, all.wrapping_add(56)))?;
     Ok(())
 }
 
 /// Writes all lines, which have `all` bytes, and their accesses.
 fn place(
     out: &mut Vec<u8>,
-    registers: &RegisterMap,
+    plan: &Plan,
     accesses: &mut Vec<Access>,
     draft: &mut Vec<u8>,
     labels: &BTreeMap<u32, u32>,
     all: u32,
     lines: &[Line],
 ) -> Result<(), AllocError>
-    requires measured { (bytes : List ℕ) × AreMeasured registers.now (map line_of lines.now) bytes labels.now }
-    requires all { all ≡ size_of_all registers.now (map line_of lines.now) }
+    requires measured { (bytes : List ℕ) × AreMeasured plan.now (map line_of lines.now) bytes labels.now }
+    requires all { all ≡ size_of_all plan.now (map line_of lines.now) }
     requires none { out.old.items ≡ [] }
     requires no_access { accesses.old.items ≡ [] }
     ensures bytes { OnOk result
-        (out.new.items ≡ spellings (code_of registers.now (map line_of lines.now) (map line_of lines.now))) }
+        (out.new.items ≡ spellings (code_of plan.now (map line_of lines.now) (map line_of lines.now))) }
     ensures accesses { OnOk result
-        (accesses.new.items ≡ accesses_of registers.now (map line_of lines.now) (map line_of lines.now)) }
+        (accesses.new.items ≡ accesses_of plan.now (map line_of lines.now) (map line_of lines.now)) }
 {
     for n in 0..lines.len() {
         let line = lines[n];
-        push_access(accesses, registers, &line, out.len())?;
-        place_line(out, registers, draft, labels, all, line)?;
+        push_access(accesses, plan, &line, out.len())?;
+        place_line(out, plan, draft, labels, all, line)?;
     }
     Ok(())
 }
@@ -169,33 +163,33 @@ fn end_of(part: &SandboxPart<'_>) -> u32
 pub struct CompiledCode {
     /// Its bytes, which may stand anywhere.
     pub bytes: Vec<u8>,
-    /// For each unit of the sandbox's code, in order, the offset of its code.
+    /// For each unit of the sandbox's code, in order, the offset of its code, and then how many steps are owed there.
     pub entries: Vec<u32>,
     /// Where the bytes may fault, the first one first.
     pub accesses: Vec<Access>,
 }
 
-/// The code of a sandbox with these lines, by that map of its registers. It goes on at its end, with the pc in edx, where a slow step comes, or behind
+/// The code of a sandbox with these lines, by that plan. It goes on at its end, with the pc in edx, where a slow step comes, or behind
 /// the last line, where a jump to no line goes, too. None where it has 2^31 bytes or more.
 pub fn compile(
     alloc: Global,
     format: Format,
     part: &SandboxPart<'_>,
-    registers: &RegisterMap,
+    plan: &Plan,
     lines: &[Line],
 ) -> Result<Option<CompiledCode>, AllocError>
     ensures bytes { IfOk result (λ code. IfSome code (λ it. it.bytes.items
-        ≡ spellings (whole_code registers.now (end_address (view format part.now)) (map line_of lines.now)))) }
-    ensures few { IfOk result (λ code. IfSome code (λ it. exit_of registers.now (map line_of lines.now) < 2 ^ 31)) }
-    ensures many { IfOk result (λ code. IfNone code (2 ^ 31 ≤ exit_of registers.now (map line_of lines.now))) }
+        ≡ spellings (whole_code plan.now (end_address (view format part.now)) (map line_of lines.now)))) }
+    ensures few { IfOk result (λ code. IfSome code (λ it. exit_of plan.now (map line_of lines.now) < 2 ^ 31)) }
+    ensures many { IfOk result (λ code. IfNone code (2 ^ 31 ≤ exit_of plan.now (map line_of lines.now))) }
     ensures entries { IfOk result (λ code. IfSome code (λ it.
-        AreEntries registers.now (view format part.now) (map line_of lines.now) it.entries.items)) }
+        AreEntries plan.now (view format part.now) (map line_of lines.now) it.entries.items)) }
     ensures accesses { IfOk result (λ code. IfSome code (λ it.
-        it.accesses.items ≡ accesses_of registers.now (map line_of lines.now) (map line_of lines.now))) }
+        it.accesses.items ≡ accesses_of plan.now (map line_of lines.now) (map line_of lines.now))) }
 {
     let mut draft = Vec::new(alloc);
     let mut labels = BTreeMap::new(alloc);
-    if !measure(&mut draft, registers, &mut labels, lines)? || draft.len() >= 0x7fff_ffd1 {
+    if !measure(&mut draft, plan, &mut labels, lines)? || draft.len() >= 0x7fff_ffc8 {
         return Ok(None);
     }
     let all = draft.len() as u32;
@@ -203,15 +197,16 @@ pub fn compile(
     let mut accesses = Vec::new(alloc);
     place(
         &mut bytes,
-        registers,
+        plan,
         &mut accesses,
         &mut draft,
         &labels,
         all,
         lines,
     )?;
-    put_end(&mut bytes, end_of(part))?;
-    let entries = entries(alloc, format, part, &labels, all)?;
+    let end = end_of(part);
+    put_end(&mut bytes, end, plan.owed(end))?;
+    let entries = entries(alloc, format, part, plan, &labels, all)?;
     Ok(Some(CompiledCode {
         bytes,
         entries,

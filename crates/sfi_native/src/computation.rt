@@ -1,13 +1,13 @@
 //! The bytes of a line that computes.
-ghost use Rattle.std.specs.Prelude.{◌≡◌, ◌++◌, ◌*◌, ◌%◌, ◌^◌, ◌+◌, IfOk, OnOk, true, if◌then◌else◌};
-ghost use Rattle.sfi_native.specs.Code.{are_exchanged as are_exchanged_of, beside_code, combine, computation, computing_line, count, does_compute, ecx_code, imm_code, is_number as is_number_of, number_code, op_code, op_imm_code, place_beside as place_beside_of, place_code};
+ghost use Rattle.std.specs.Prelude.{◌≡◌, ◌++◌, ◌*◌, ◌%◌, ◌^◌, ◌+◌, ◌<◌, ◌≤◌, IfOk, OnOk, true, if◌then◌else◌};
+ghost use Rattle.sfi_native.specs.Code.{are_exchanged as are_exchanged_of, beside_code, combine, computation, computing_line, count, count_size as count_size_of, does_compute, ecx_code, imm_code, is_number as is_number_of, number_code, op_code, op_imm_code, place_beside as place_beside_of, place_code};
 ghost use Rattle.x86_step.specs.Running.{spellings};
 
 use crate::operation::{
     is_commutative, keeps_beside_zero, needs_ecx, operand, put, put_bring, put_compute,
     put_compute_imm, put_fetch, put_settle, put_write, result_in,
 };
-use crate::registers::RegisterMap;
+use crate::plan::Plan;
 use rv_word::{ImmOp, Instr, Reg, RegOp};
 use std::alloc::AllocError;
 use x86_instr::{AluOp, Instr as Native, Operand, Register, Width};
@@ -16,13 +16,13 @@ use x86_instr::{AluOp, Instr as Native, Operand, Register, Width};
 #[tactic(auto, using(crate::proofs::Lists::two_parts))]
 pub(crate) fn put_number(
     out: &mut Vec<u8>,
-    registers: &RegisterMap,
+    plan: &Plan,
     rd: Reg,
     number: u32,
 ) -> Result<(), AllocError>
-    ensures { OnOk result (out.new.items ≡ out.old.items ++ spellings (number_code registers.now rd number)) }
+    ensures { OnOk result (out.new.items ≡ out.old.items ++ spellings (number_code plan.now rd number)) }
 {
-    let place = registers.of(rd);
+    let place = plan.of(rd);
     put(
         out,
         Native::MovImm {
@@ -30,35 +30,35 @@ pub(crate) fn put_number(
             imm: number,
         },
     )?;
-    put_settle(out, registers, place, rd)
+    put_settle(out, plan, place, rd)
 }
 
 /// Writes an operation on eax and ecx.
 #[tactic(auto, using(crate::proofs::Lists::ecx_parts))]
 fn put_by_ecx(
     out: &mut Vec<u8>,
-    registers: &RegisterMap,
+    plan: &Plan,
     op: RegOp,
     rd: Reg,
     rs1: Reg,
     rs2: Reg,
 ) -> Result<(), AllocError>
-    ensures { OnOk result (out.new.items ≡ out.old.items ++ spellings (ecx_code registers.now op rd rs1 rs2)) }
+    ensures { OnOk result (out.new.items ≡ out.old.items ++ spellings (ecx_code plan.now op rd rs1 rs2)) }
 {
-    put_fetch(out, registers, Register::Rax, rs1)?;
-    put_fetch(out, registers, Register::Rcx, rs2)?;
+    put_fetch(out, plan, Register::Rax, rs1)?;
+    put_fetch(out, plan, Register::Rcx, rs2)?;
     put_compute(out, op, Register::Rax, Operand::Reg(Register::Rcx))?;
-    put_write(out, registers, rd)
+    put_write(out, plan, rd)
 }
 
 /// Where `rd` lies, if it may be written there before `rs2` is read.
-fn place_beside(registers: &RegisterMap, rd: Reg, rs2: Reg) -> Option<Register>
-    ensures { result ≡ place_beside_of registers.now rd rs2 }
+fn place_beside(plan: &Plan, rd: Reg, rs2: Reg) -> Option<Register>
+    ensures { result ≡ place_beside_of plan.now rd rs2 }
 {
     if rd.number() == rs2.number() {
         None
     } else {
-        registers.of(rd)
+        plan.of(rd)
     }
 }
 
@@ -66,50 +66,50 @@ fn place_beside(registers: &RegisterMap, rd: Reg, rs2: Reg) -> Option<Register>
 #[tactic(auto, using(crate::proofs::Lists::no_part))]
 fn put_combine(
     out: &mut Vec<u8>,
-    registers: &RegisterMap,
+    plan: &Plan,
     op: RegOp,
     dst: Register,
     rs2: Reg,
 ) -> Result<(), AllocError>
-    ensures { OnOk result (out.new.items ≡ out.old.items ++ spellings (combine registers.now op dst rs2)) }
+    ensures { OnOk result (out.new.items ≡ out.old.items ++ spellings (combine plan.now op dst rs2)) }
 {
     if keeps_beside_zero(op) && rs2.number() == 0 {
         return Ok(());
     }
-    put_compute(out, op, dst, operand(registers, rs2))
+    put_compute(out, op, dst, operand(plan, rs2))
 }
 
 /// Writes an operation where its result lies.
 #[tactic(auto, using(crate::proofs::Lists::place_parts))]
 fn put_in_place(
     out: &mut Vec<u8>,
-    registers: &RegisterMap,
+    plan: &Plan,
     place: Option<Register>,
     op: RegOp,
     rd: Reg,
     rs1: Reg,
     rs2: Reg,
 ) -> Result<(), AllocError>
-    ensures { OnOk result (out.new.items ≡ out.old.items ++ spellings (place_code registers.now place op rd rs1 rs2)) }
+    ensures { OnOk result (out.new.items ≡ out.old.items ++ spellings (place_code plan.now place op rd rs1 rs2)) }
 {
-    put_bring(out, registers, result_in(place), rs1)?;
-    put_combine(out, registers, op, result_in(place), rs2)?;
-    put_settle(out, registers, place, rd)
+    put_bring(out, plan, result_in(place), rs1)?;
+    put_combine(out, plan, op, result_in(place), rs2)?;
+    put_settle(out, plan, place, rd)
 }
 
 /// Writes an operation where its result lies, or in eax where `rs2` lies there, too.
 fn put_beside(
     out: &mut Vec<u8>,
-    registers: &RegisterMap,
+    plan: &Plan,
     op: RegOp,
     rd: Reg,
     rs1: Reg,
     rs2: Reg,
 ) -> Result<(), AllocError>
-    ensures { OnOk result (out.new.items ≡ out.old.items ++ spellings (beside_code registers.now op rd rs1 rs2)) }
+    ensures { OnOk result (out.new.items ≡ out.old.items ++ spellings (beside_code plan.now op rd rs1 rs2)) }
 {
-    let place = place_beside(registers, rd, rs2);
-    put_in_place(out, registers, place, op, rd, rs1, rs2)
+    let place = place_beside(plan, rd, rs2);
+    put_in_place(out, plan, place, op, rd, rs1, rs2)
 }
 
 /// Whether the second operand comes first: where it lies in the result's place, or the first is x0.
@@ -122,39 +122,39 @@ fn are_exchanged(op: RegOp, rd: Reg, rs1: Reg, rs2: Reg) -> bool
 /// Writes an operation, whose operands may be exchanged.
 fn put_op(
     out: &mut Vec<u8>,
-    registers: &RegisterMap,
+    plan: &Plan,
     op: RegOp,
     rd: Reg,
     rs1: Reg,
     rs2: Reg,
 ) -> Result<(), AllocError>
-    ensures { OnOk result (out.new.items ≡ out.old.items ++ spellings (op_code registers.now op rd rs1 rs2)) }
+    ensures { OnOk result (out.new.items ≡ out.old.items ++ spellings (op_code plan.now op rd rs1 rs2)) }
 {
     if needs_ecx(op) {
-        return put_by_ecx(out, registers, op, rd, rs1, rs2);
+        return put_by_ecx(out, plan, op, rd, rs1, rs2);
     }
     if are_exchanged(op, rd, rs1, rs2) {
-        return put_beside(out, registers, op, rd, rs2, rs1);
+        return put_beside(out, plan, op, rd, rs2, rs1);
     }
-    put_beside(out, registers, op, rd, rs1, rs2)
+    put_beside(out, plan, op, rd, rs1, rs2)
 }
 
 /// Writes an operation on a number where its result lies.
 #[tactic(auto, using(crate::proofs::Lists::imm_parts))]
 fn put_imm_in_place(
     out: &mut Vec<u8>,
-    registers: &RegisterMap,
+    plan: &Plan,
     op: ImmOp,
     rd: Reg,
     rs1: Reg,
     imm: u32,
 ) -> Result<(), AllocError>
-    ensures { OnOk result (out.new.items ≡ out.old.items ++ spellings (imm_code registers.now op rd rs1 imm)) }
+    ensures { OnOk result (out.new.items ≡ out.old.items ++ spellings (imm_code plan.now op rd rs1 imm)) }
 {
-    let place = registers.of(rd);
-    put_bring(out, registers, result_in(place), rs1)?;
+    let place = plan.of(rd);
+    put_bring(out, plan, result_in(place), rs1)?;
     put_compute_imm(out, op, result_in(place), imm)?;
-    put_settle(out, registers, place, rd)
+    put_settle(out, plan, place, rd)
 }
 
 /// Whether the result is the number itself, added to x0.
@@ -170,45 +170,40 @@ fn is_number(op: ImmOp, rs1: Reg) -> bool
 /// Writes an operation on a number.
 fn put_op_imm(
     out: &mut Vec<u8>,
-    registers: &RegisterMap,
+    plan: &Plan,
     op: ImmOp,
     rd: Reg,
     rs1: Reg,
     imm: u32,
 ) -> Result<(), AllocError>
-    ensures { OnOk result (out.new.items ≡ out.old.items ++ spellings (op_imm_code registers.now op rd rs1 imm)) }
+    ensures { OnOk result (out.new.items ≡ out.old.items ++ spellings (op_imm_code plan.now op rd rs1 imm)) }
 {
     if is_number(op, rs1) {
-        return put_number(out, registers, rd, imm);
+        return put_number(out, plan, rd, imm);
     }
-    put_imm_in_place(out, registers, op, rd, rs1, imm)
+    put_imm_in_place(out, plan, op, rd, rs1, imm)
 }
 
 /// Writes what an instruction at that address computes.
 #[tactic(auto, unfolding(crate::specs::Code::computation))]
-fn put_computation(
-    out: &mut Vec<u8>,
-    registers: &RegisterMap,
-    at: u32,
-    instr: &Instr,
-) -> Result<(), AllocError>
+fn put_computation(out: &mut Vec<u8>, plan: &Plan, at: u32, instr: &Instr) -> Result<(), AllocError>
     requires { does_compute instr.now ≡ true }
-    ensures { OnOk result (out.new.items ≡ out.old.items ++ spellings (computation registers.now at instr.now)) }
+    ensures { OnOk result (out.new.items ≡ out.old.items ++ spellings (computation plan.now at instr.now)) }
 {
     match *instr {
-        Instr::Op { op, rd, rs1, rs2 } => put_op(out, registers, op, rd, rs1, rs2),
+        Instr::Op { op, rd, rs1, rs2 } => put_op(out, plan, op, rd, rs1, rs2),
         Instr::OpImm { op, rd, rs1, imm } => put_op_imm(
             out,
-            registers,
+            plan,
             op,
             rd,
             rs1,
             imm.cast_unsigned(),
         ),
-        Instr::Lui { rd, imm } => put_number(out, registers, rd, imm.wrapping_mul(4096)),
+        Instr::Lui { rd, imm } => put_number(out, plan, rd, imm.wrapping_mul(4096)),
         Instr::Auipc { rd, imm } => put_number(
             out,
-            registers,
+            plan,
             rd,
             at.wrapping_add(imm.wrapping_mul(4096)),
         ),
@@ -216,19 +211,31 @@ fn put_computation(
     }
 }
 
-/// Writes that a step less is left.
-pub(crate) fn put_count(out: &mut Vec<u8>) -> Result<(), AllocError>
-    ensures { OnOk result (out.new.items ≡ out.old.items ++ spellings count) }
+/// Writes what counts steps, where `owed` are owed before it and `next` behind it.
+#[tactic(auto, using(crate::proofs::Lists::nothing_counted, crate::proofs::Lists::steps_counted))]
+pub(crate) fn put_count(out: &mut Vec<u8>, owed: u32, next: u32) -> Result<(), AllocError>
+    ensures { OnOk result (out.new.items ≡ out.old.items ++ spellings (count owed next)) }
 {
+    if owed == next {
+        return Ok(());
+    }
     put(
         out,
         Native::AluImm {
             op: AluOp::Sub,
             width: Width::Dword,
             dst: Operand::Reg(Register::R14),
-            imm: 1,
+            imm: owed.wrapping_sub(next),
         },
     )
+}
+
+/// How many bytes that has, where fewer than 128 steps are owed.
+pub(crate) fn count_size(owed: u32, next: u32) -> u32
+    ensures is { result ≡ count_size_of owed next }
+    ensures few { result ≤ 4 }
+{
+    if owed == next { 0 } else { 4 }
 }
 
 /// Whether the line of an instruction is one that computes.
@@ -258,21 +265,25 @@ fn computes(instr: &Instr) -> bool
     }
 }
 
-/// Writes the line of an instruction at that address behind what is there, if it computes; tells whether.
+/// Writes the line of an instruction at that address behind what is there, if it computes; tells whether. So many steps are owed
+/// before it, fewer than 63, and behind it.
 #[tactic(auto, using(crate::proofs::Lists::two_parts))]
 pub fn push_computing_line(
     out: &mut Vec<u8>,
-    registers: &RegisterMap,
+    plan: &Plan,
     at: u32,
+    owed: u32,
+    next: u32,
     instr: Instr,
 ) -> Result<bool, AllocError>
+    requires { owed < 63 }
     ensures computes { IfOk result (λ written. written ≡ does_compute instr) }
-    ensures bytes { OnOk result (out.new.items ≡ (if does_compute instr then out.old.items ++ spellings (computing_line registers.now at instr) else out.old.items)) }
+    ensures bytes { OnOk result (out.new.items ≡ (if does_compute instr then out.old.items ++ spellings (computing_line plan.now at owed next instr) else out.old.items)) }
 {
     if !computes(&instr) {
         return Ok(false);
     }
-    put_computation(out, registers, at, &instr)?;
-    put_count(out)?;
+    put_computation(out, plan, at, &instr)?;
+    put_count(out, owed + 1, next)?;
     Ok(true)
 }

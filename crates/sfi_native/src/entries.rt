@@ -1,45 +1,68 @@
 //! Where the units of a sandbox's code are entered.
 ghost use Rattle.std.specs.Prelude.{◌≡◌, ℕ, ◌*◌, ◌/◌, IfOk, List, length};
+ghost use Rattle.sfi_image.specs.Spelling.{Part};
 ghost use Rattle.sfi_image.specs.Spelling.{view};
 ghost use Rattle.sfi_translate.specs.Lines.{Line as CodeLine};
 ghost use Rattle.sfi_translate.specs.Machine.{label};
-ghost use Rattle.sfi_native.specs.Entries.{AreEntries, entry_of, unit_address};
-ghost use Rattle.sfi_native.specs.declared.registers.RegisterMap.{RegisterMap};
+ghost use Rattle.sfi_native.specs.Entries.{AreEntries, entry_of, owed_at_entry, unit_address};
+ghost use Rattle.sfi_native.specs.declared.plan.Plan.{Plan as TheMap};
 ghost use Rattle.sfi_native.specs.Lines.{AreMeasured};
 ghost use Rattle.sfi_native.specs.Places.{size_of_all};
 
+use crate::plan::Plan;
 use sfi_formats::Format;
 use sfi_image::SandboxPart;
 use std::alloc::{AllocError, Global};
 use std::collections::BTreeMap;
 
-/// Where the unit at that address is entered, where all lines have `all` bytes.
-fn entry(labels: &BTreeMap<u32, u32>, all: u32, at: u32) -> u32
-    ensures { (registers : RegisterMap) (code : List CodeLine) (bytes : List ℕ) → AreMeasured registers code bytes labels.now → all ≡ size_of_all registers code
-        → result ≡ entry_of registers code (label at code) }
+/// A row of the table.
+#[derive(Clone, Copy)]
+struct Row {
+    /// Where a unit is entered.
+    entry: u32,
+    /// How many steps are owed there.
+    owed: u32,
+}
+
+/// The row of the unit at that address, where all lines have `all` bytes.
+fn row_at(plan: &Plan, labels: &BTreeMap<u32, u32>, all: u32, at: u32) -> Row
+    ensures entry { (code : List CodeLine) (bytes : List ℕ) → AreMeasured plan.now code bytes labels.now → all ≡ size_of_all plan.now code
+        → result.entry ≡ entry_of plan.now code (label at code) }
+    ensures owed { (p : Part) (code : List CodeLine) (bytes : List ℕ) → AreMeasured plan.now code bytes labels.now
+        → result.owed ≡ owed_at_entry plan.now p (label at code) }
 {
     match labels.get(&at) {
-        Some(left) => all.wrapping_sub(*left),
-        None => all.wrapping_add(47),
+        Some(left) => Row {
+            entry: all.wrapping_sub(*left),
+            owed: plan.owed(at),
+        },
+        None => Row {
+            entry: all.wrapping_add(56),
+            owed: 0,
+        },
     }
 }
 
-/// Where each unit of a sandbox's code is entered, in order.
+/// Where each unit of a sandbox's code is entered, and how many steps are owed there, by turns.
+#[tactic(auto, using(crate::proofs::Entered::no_entries))]
 pub(crate) fn entries(
     alloc: Global,
     format: Format,
     part: &SandboxPart<'_>,
+    plan: &Plan,
     labels: &BTreeMap<u32, u32>,
     all: u32,
 ) -> Result<Vec<u32>, AllocError>
-    ensures { IfOk result (λ table. (registers : RegisterMap) (code : List CodeLine) (bytes : List ℕ) → AreMeasured registers code bytes labels.now → all ≡ size_of_all registers code
-        → AreEntries registers (view format part.now) code table.items) }
+    ensures { IfOk result (λ table. (code : List CodeLine) (bytes : List ℕ) → AreMeasured plan.now code bytes labels.now → all ≡ size_of_all plan.now code
+        → AreEntries plan.now (view format part.now) code table.items) }
 {
     let unit = format.unit();
     let mut at = part.code_base;
     let mut table = Vec::new(alloc);
     for _ in 0..part.code.len() / unit as usize {
-        table.push(entry(labels, all, at))?;
+        let row = row_at(plan, labels, all, at);
+        table.push(row.entry)?;
+        table.push(row.owed)?;
         at = at.wrapping_add(unit);
     }
     Ok(table)

@@ -1,17 +1,24 @@
 //! The file of an image's native code.
-ghost use Rattle.std.specs.Prelude.{◌≡◌, ℕ, ◌++◌, ◌<◌, List, OnOk, IfOk, IfSome, length, true};
+ghost use Rattle.std.specs.Prelude.{◌≡◌, ℕ, ◌++◌, ◌<◌, List, OnOk, IfOk, IfNone, IfSome, length, map, true, false, ◌+◌, ◌*◌};
 ghost use Rattle.std.specs.List.{flat_map};
 ghost use Rattle.sfi_image.specs.Spelling.{fields, fields_of, number, view};
 ghost use Rattle.sfi_image.specs.Parts.{IsRightPart};
 ghost use Rattle.sfi_report.specs.private.{Adds};
+ghost use Rattle.sfi_translate.specs.Lines.{AreLines};
+ghost use Rattle.sfi_native.specs.Code.{end_size};
+ghost use Rattle.sfi_native.specs.Lines.{line_of};
+ghost use Rattle.sfi_native.specs.Places.{exit_of};
+ghost use Rattle.sfi_native.specs.Registers.{IsRightPlan};
+ghost use Rattle.sfi_native.specs.Sizes.{bytes_most};
 ghost use Rattle.sfi_native.specs.File.{AreSandboxFiles, IsNativeFile, IsSandboxFile, access_bytes, closed, count, front, place_bytes, sandbox_bytes};
 
 use crate::checksum::crc32;
 use crate::compilation::{CompiledCode, compile};
 use crate::faults::Access;
+use crate::line::Line;
 use crate::listing::lines_of;
-use crate::registers::RegisterMap;
-use crate::uses::map_of;
+use crate::plan::Plan;
+use crate::uses::plan_of;
 use sfi_formats::Format;
 use sfi_image::{Image, SandboxPart};
 use std::alloc::{AllocError, Global};
@@ -49,7 +56,8 @@ fn push_access(out: &mut Vec<u8>, one: Access) -> Result<(), AllocError>
     ensures { OnOk result (out.new.items ≡ out.old.items ++ access_bytes one) }
 {
     push_number(out, one.offset)?;
-    push_number(out, one.pc)
+    push_number(out, one.pc)?;
+    push_number(out, one.owed)
 }
 
 /// Appends all of them.
@@ -98,20 +106,20 @@ fn push_places(out: &mut Vec<u8>, places: &[Option<Register>]) -> Result<(), All
     Ok(())
 }
 
-/// Appends a sandbox that has this code, by that map.
+/// Appends a sandbox that has this code, by that plan.
 #[tactic(auto, using(std::proofs::Common::append_assoc))]
 fn push_code(
     out: &mut Vec<u8>,
     part: &SandboxPart<'_>,
-    registers: &RegisterMap,
+    plan: &Plan,
     code: &CompiledCode,
 ) -> Result<(), AllocError>
     requires { (format : Format) × IsRightPart (view format part.now) }
     ensures { (format : Format) → OnOk result (out.new.items
-        ≡ out.old.items ++ sandbox_bytes registers.now (view format part.now) code.now.entries.items code.now.accesses.items code.now.bytes.items) }
+        ≡ out.old.items ++ sandbox_bytes plan.now (view format part.now) code.now.entries.items code.now.accesses.items code.now.bytes.items) }
 {
     push_fields(out, part)?;
-    push_places(out, &registers.assigned)?;
+    push_places(out, &plan.assigned)?;
     push_count(out, code.bytes.len())?;
     push_count(out, code.accesses.len())?;
     push_numbers(out, &code.entries)?;
@@ -120,7 +128,37 @@ fn push_code(
     Ok(())
 }
 
-/// Appends the sandbox of that number. False where it has no code.
+/// Appends the sandbox of that number, by that plan. False where that makes more than 24 bytes for one of the sandbox's, the end's code
+/// aside: then nothing is appended.
+#[tactic(auto, using(crate::proofs::CodeSizes::code_few))]
+fn push_by(
+    out: &mut Vec<u8>,
+    alloc: Global,
+    format: Format,
+    sandbox: u32,
+    part: &SandboxPart<'_>,
+    plan: &Plan,
+    lines: &[Line],
+) -> Result<bool, AllocError>
+    requires part { IsRightPart (view format part.now) }
+    requires plan { IsRightPlan plan.now }
+    requires lines { AreLines sandbox (view format part.now) (map line_of lines.now) }
+    ensures many { IfOk result (λ ok. ok ≡ false
+        → (bytes_most * length (view format part.now).code + end_size < exit_of plan.now (map line_of lines.now)) × (out.new.items ≡ out.old.items)) }
+    ensures adds { IfOk result (λ ok. ok ≡ true
+        → Adds out.old.items out.new.items (IsSandboxFile sandbox (view format part.now))) }
+{
+    let Some(code) = compile(alloc, format, part, plan, lines)? else {
+        return Ok(false);
+    };
+    if code.bytes.len() > 24 * part.code.len() + 56 {
+        return Ok(false);
+    }
+    push_code(out, part, plan, &code)?;
+    Ok(true)
+}
+
+/// Appends the sandbox of that number, without nops if code with them is too large. False where that is, too, which never is.
 fn push_sandbox(
     out: &mut Vec<u8>,
     alloc: Global,
@@ -129,21 +167,24 @@ fn push_sandbox(
     part: &SandboxPart<'_>,
 ) -> Result<bool, AllocError>
     requires { IsRightPart (view format part.now) }
-    ensures { IfOk result (λ ok. ok ≡ true
+    ensures always { IfOk result (λ ok. ok ≡ true) }
+    ensures adds { IfOk result (λ ok. ok ≡ true
         → Adds out.old.items out.new.items (IsSandboxFile sandbox (view format part.now))) }
 {
     let lines = lines_of(alloc, format, sandbox, part)?;
-    let registers = map_of(alloc, &lines)?;
-    let Some(code) = compile(alloc, format, part, &registers, &lines)? else {
-        return Ok(false);
-    };
-    push_code(out, part, &registers, &code)?;
-    Ok(true)
+    let mut plan = plan_of(alloc, part, &lines)?;
+    if push_by(out, alloc, format, sandbox, part, &plan, &lines)? {
+        return Ok(true);
+    }
+    plan.padding.clear();
+    let small = push_by(out, alloc, format, sandbox, part, &plan, &lines)?;
+    Ok(small)
 }
 
-/// Appends the sandboxes of an image. False where one has no code.
+/// Appends the sandboxes of an image. False where one has no code, which never is.
 fn push_sandboxes(out: &mut Vec<u8>, alloc: Global, image: &Image<'_>) -> Result<bool, AllocError>
-    ensures { IfOk result (λ ok. ok ≡ true → Adds out.old.items out.new.items (AreSandboxFiles 0 image.now)) }
+    ensures always { IfOk result (λ ok. ok ≡ true) }
+    ensures adds { IfOk result (λ ok. ok ≡ true → Adds out.old.items out.new.items (AreSandboxFiles 0 image.now)) }
 {
     let format = image.format();
     for (sandbox, part) in image.parts().iter().enumerate() {
@@ -159,7 +200,7 @@ fn push_front(out: &mut Vec<u8>, image: &Image<'_>, bytes: &[u8]) -> Result<(), 
     ensures { OnOk result (out.new.items ≡ out.old.items ++ front bytes.now image.now) }
 {
     out.extend_from_slice(b"SFIN")?;
-    push_number(out, 2)?;
+    push_number(out, 4)?;
     push_count(out, bytes.len())?;
     push_number(out, crc32(bytes))?;
     out.extend_from_slice(&image.format().magic())?;
@@ -180,7 +221,8 @@ pub fn native_file(
     image: &Image<'_>,
     bytes: &[u8],
 ) -> Result<Option<Vec<u8>>, AllocError>
-    ensures { IfOk result (λ file. IfSome file (λ it. IsNativeFile bytes.now image.now it.items)) }
+    ensures file { IfOk result (λ file. IfSome file (λ it. IsNativeFile bytes.now image.now it.items)) }
+    ensures always { IfOk result (λ file. IfNone file ⊥) }
 {
     let mut out = Vec::new(alloc);
     push_front(&mut out, image, bytes)?;

@@ -1,48 +1,18 @@
-//! The bytes of lines that lead to a slow step.
-ghost use Rattle.std.specs.Prelude.{◌≡◌, ◌++◌, OnOk};
-ghost use Rattle.sfi_native.specs.Code.{end_code, head_line, leave_line};
+//! The bytes of lines that lead to a slow step, and of tests of the steps left.
+ghost use Rattle.std.specs.Prelude.{◌≡◌, ◌<◌, ◌++◌, OnOk};
+ghost use Rattle.sfi_native.specs.Code.{end_code, head_line, leave_code, leave_line, leave_line_size as leave_line_size_of, test_code, tested};
 ghost use Rattle.x86_step.specs.Running.{spellings};
 
+use crate::computation::{count_size, put_count};
 use crate::operation::put;
 use crate::register_jump::put_indirect_jump;
 use std::alloc::AllocError;
 use x86_instr::{AluOp, Condition, Instr, Operand, Register, Width};
 
-/// Writes the line of a head at that address behind what is there. The distance is in bytes, from the line's end, in
-/// two's complement.
-#[tactic(auto, using(crate::proofs::Lists::three_parts))]
-pub fn push_head_line(out: &mut Vec<u8>, at: u32, distance: u32) -> Result<(), AllocError>
-    ensures { OnOk result (out.new.items ≡ out.old.items ++ spellings (head_line at distance)) }
-{
-    put(
-        out,
-        Instr::MovImm {
-            dst: Register::Rdx,
-            imm: at,
-        },
-    )?;
-    put(
-        out,
-        Instr::AluImm {
-            op: AluOp::Cmp,
-            width: Width::Dword,
-            dst: Operand::Reg(Register::R14),
-            imm: 65,
-        },
-    )?;
-    put(
-        out,
-        Instr::Jcc {
-            condition: Condition::Below,
-            distance,
-        },
-    )
-}
-
-/// Writes the line of an ecall or ebreak at that address behind what is there. The distance is as above.
+/// Writes a jump out over the distance, with that address in edx.
 #[tactic(auto, using(crate::proofs::Lists::two_parts))]
-pub fn push_leave_line(out: &mut Vec<u8>, at: u32, distance: u32) -> Result<(), AllocError>
-    ensures { OnOk result (out.new.items ≡ out.old.items ++ spellings (leave_line at distance)) }
+fn put_leave(out: &mut Vec<u8>, at: u32, distance: u32) -> Result<(), AllocError>
+    ensures { OnOk result (out.new.items ≡ out.old.items ++ spellings (leave_code at distance)) }
 {
     put(
         out,
@@ -54,11 +24,98 @@ pub fn push_leave_line(out: &mut Vec<u8>, at: u32, distance: u32) -> Result<(), 
     put(out, Instr::Jmp { distance })
 }
 
-/// Writes what comes behind the last line, where the sandbox's code ends at that address.
+/// Writes the line of an ecall or ebreak at that address behind what is there, where so many steps are owed, fewer than 63. The
+/// distance is in bytes, from the line's end, in two's complement.
 #[tactic(auto, using(crate::proofs::Lists::two_parts))]
-pub(crate) fn put_end(out: &mut Vec<u8>, at: u32) -> Result<(), AllocError>
-    ensures { OnOk result (out.new.items ≡ out.old.items ++ spellings (end_code at)) }
+pub fn push_leave_line(
+    out: &mut Vec<u8>,
+    at: u32,
+    owed: u32,
+    distance: u32,
+) -> Result<(), AllocError>
+    ensures { OnOk result (out.new.items ≡ out.old.items ++ spellings (leave_line at owed distance)) }
 {
-    push_leave_line(out, at, 37)?;
+    put_count(out, owed, 0)?;
+    put_leave(out, at, distance)
+}
+
+/// How many bytes that has.
+pub(crate) fn leave_line_size(owed: u32) -> u32
+    ensures is { result ≡ leave_line_size_of owed }
+    ensures few { result < 15 }
+{
+    count_size(owed, 0) + 10
+}
+
+/// Writes a test that leads over the way out and the distance, where enough steps are left and so many are owed.
+#[tactic(auto, using(crate::proofs::Lists::two_parts))]
+fn put_test(out: &mut Vec<u8>, owed: u32, label: u32) -> Result<(), AllocError>
+    requires { owed < 63 }
+    ensures { OnOk result (out.new.items ≡ out.old.items ++ spellings (test_code owed label)) }
+{
+    put(
+        out,
+        Instr::AluImm {
+            op: AluOp::Cmp,
+            width: Width::Dword,
+            dst: Operand::Reg(Register::R14),
+            imm: 65 + owed,
+        },
+    )?;
+    put(
+        out,
+        Instr::Jcc {
+            condition: Condition::AboveOrEqual,
+            distance: label.wrapping_add(leave_line_size(owed)),
+        },
+    )
+}
+
+/// Writes a test that leads to a label, where enough steps are left, or else out, with that address in edx. So many steps are owed,
+/// fewer than 63, there and at the label.
+#[tactic(auto, using(crate::proofs::Lists::two_parts))]
+pub(crate) fn put_tested(
+    out: &mut Vec<u8>,
+    at: u32,
+    owed: u32,
+    label: u32,
+    exit: u32,
+) -> Result<(), AllocError>
+    requires { owed < 63 }
+    ensures { OnOk result (out.new.items ≡ out.old.items ++ spellings (tested at owed label exit)) }
+{
+    put_test(out, owed, label)?;
+    push_leave_line(out, at, owed, exit)
+}
+
+/// Writes the line of a head at that address behind what is there, where so many steps are owed, fewer than 63. The distance is in
+/// bytes, from the line's end, in two's complement.
+pub fn push_head_line(
+    out: &mut Vec<u8>,
+    at: u32,
+    owed: u32,
+    distance: u32,
+) -> Result<(), AllocError>
+    requires { owed < 63 }
+    ensures { OnOk result (out.new.items ≡ out.old.items ++ spellings (head_line at owed distance)) }
+{
+    put_tested(out, at, owed, 0, distance)
+}
+
+/// Writes what comes behind the last line, where the sandbox's code ends at that address and so many steps are owed.
+#[tactic(auto, using(crate::proofs::Lists::end_parts))]
+pub(crate) fn put_end(out: &mut Vec<u8>, at: u32, owed: u32) -> Result<(), AllocError>
+    ensures { OnOk result (out.new.items ≡ out.old.items ++ spellings (end_code at owed)) }
+{
+    put(
+        out,
+        Instr::AluImm {
+            op: AluOp::Sub,
+            width: Width::Dword,
+            dst: Operand::Reg(Register::R14),
+            imm: owed,
+        },
+    )?;
+    put_leave(out, at, 42)?;
     put_indirect_jump(out, 0)
 }

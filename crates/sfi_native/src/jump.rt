@@ -1,12 +1,12 @@
 //! The bytes of a branch or a jal.
-ghost use Rattle.std.specs.Prelude.{◌≡◌, ◌++◌, length, OnOk};
-ghost use Rattle.sfi_native.specs.Code.{branch_line, compare_code, has_test as has_head_test, jal_line, opposite as opposite_of, tested_jump};
+ghost use Rattle.std.specs.Prelude.{◌≡◌, ◌++◌, ◌<◌, length, OnOk};
+ghost use Rattle.sfi_native.specs.Code.{branch_line, compare_code, has_test as has_head_test, jal_line, leap, is_bare as is_bare_jump, met_by as met_by_of, opposite as opposite_of, tested_jump};
 ghost use Rattle.x86_step.specs.Running.{spellings};
 
-use crate::computation::{put_count, put_number};
-use crate::head::push_head_line;
+use crate::computation::{count_size, put_count, put_number};
+use crate::head::{leave_line_size, put_tested};
 use crate::operation::{operand, put, put_read, register_or, with_operand};
-use crate::registers::RegisterMap;
+use crate::plan::Plan;
 use rv_word::{Cond, Reg};
 use std::alloc::AllocError;
 use x86_instr::{AluOp, Condition, Instr, Register};
@@ -22,6 +22,8 @@ pub struct Jump {
     pub label: u32,
     /// The distance out, where too few steps are left.
     pub exit: u32,
+    /// How many steps are owed at that line, fewer than 63.
+    pub label_owed: u32,
 }
 
 impl Jump {
@@ -32,29 +34,49 @@ impl Jump {
         self.to <= self.from || self.from / 128 != self.to / 128
     }
 
-    /// How many bytes it has, with its test.
-    #[tactic(auto, using(crate::proofs::Lists::tested_size))]
-    fn size(&self) -> u32
-        ensures { result ≡ length (spellings (tested_jump self.now)) }
+    /// Whether one instruction is enough for it, where so many steps are owed before it: it has no test, and nothing is to count.
+    fn is_bare(&self, owed: u32) -> bool
+        ensures { result ≡ is_bare_jump owed self.now }
     {
-        if self.has_test() { 20 } else { 5 }
+        !self.has_test() && owed == self.label_owed
+    }
+
+    /// How many bytes it has, with its test, where so many steps are owed before it.
+    fn size(&self, owed: u32) -> u32
+        requires few { owed < 128 }
+        requires few_at_label { self.now.label_owed < 63 }
+        ensures { result ≡ length (spellings (tested_jump owed self.now)) }
+    {
+        let counted = count_size(owed, self.label_owed);
+        if self.has_test() {
+            counted + 10 + leave_line_size(self.label_owed)
+        } else {
+            counted + 5
+        }
     }
 }
 
-/// Writes a jump, with its test.
-#[tactic(auto, using(crate::proofs::Lists::tested_parts, crate::proofs::Lists::untested_parts))]
-fn put_jump(out: &mut Vec<u8>, jump: &Jump) -> Result<(), AllocError>
-    ensures { OnOk result (out.new.items ≡ out.old.items ++ spellings (tested_jump jump.now)) }
+/// Writes a jump to its label, where as many steps are owed.
+#[tactic(auto, using(crate::proofs::Lists::with_test, crate::proofs::Lists::without_test))]
+fn put_leap(out: &mut Vec<u8>, jump: &Jump) -> Result<(), AllocError>
+    requires { jump.now.label_owed < 63 }
+    ensures { OnOk result (out.new.items ≡ out.old.items ++ spellings (leap (has_head_test jump.now) jump.now)) }
 {
-    if jump.has_test() {
-        push_head_line(out, jump.to, jump.exit.wrapping_add(5))?;
+    if !jump.has_test() {
+        let distance = jump.label;
+        return put(out, Instr::Jmp { distance });
     }
-    put(
-        out,
-        Instr::Jmp {
-            distance: jump.label,
-        },
-    )
+    put_tested(out, jump.to, jump.label_owed, jump.label, jump.exit)
+}
+
+/// Writes a jump, with its test, where so many steps are owed.
+#[tactic(auto, using(crate::proofs::Lists::two_parts))]
+fn put_jump(out: &mut Vec<u8>, owed: u32, jump: &Jump) -> Result<(), AllocError>
+    requires { jump.now.label_owed < 63 }
+    ensures { OnOk result (out.new.items ≡ out.old.items ++ spellings (tested_jump owed jump.now)) }
+{
+    put_count(out, owed, jump.label_owed)?;
+    put_leap(out, jump)
 }
 
 /// The condition on which a branch isn't taken.
@@ -71,64 +93,101 @@ fn opposite(cond: Cond) -> Condition
     }
 }
 
-/// Writes the comparison of two registers.
+/// The condition on which a branch is taken.
+fn met_by(cond: Cond) -> Condition
+    ensures { result ≡ met_by_of cond }
+{
+    match cond {
+        Cond::Beq => Condition::Equal,
+        Cond::Bne => Condition::NotEqual,
+        Cond::Blt => Condition::Less,
+        Cond::Bge => Condition::GreaterOrEqual,
+        Cond::Bltu => Condition::Below,
+        Cond::Bgeu => Condition::AboveOrEqual,
+    }
+}
+
+/// Writes the comparison of two registers; so many steps are owed before it, and behind the branch.
 #[tactic(auto, using(crate::proofs::Lists::compare_parts))]
 fn put_compare(
     out: &mut Vec<u8>,
-    registers: &RegisterMap,
+    plan: &Plan,
+    owed: u32,
+    next: u32,
     rs1: Reg,
     rs2: Reg,
 ) -> Result<(), AllocError>
-    ensures { OnOk result (out.new.items ≡ out.old.items ++ spellings (compare_code registers.now rs1 rs2)) }
+    requires { owed < 63 }
+    ensures { OnOk result (out.new.items ≡ out.old.items ++ spellings (compare_code plan.now owed next rs1 rs2)) }
 {
-    let first = registers.of(rs1);
+    let first = plan.of(rs1);
     put_read(out, first, Register::Rax, rs1)?;
-    put_count(out)?;
+    put_count(out, owed + 1, next)?;
     put(
         out,
         with_operand(
             AluOp::Cmp,
             register_or(first, Register::Rax),
-            operand(registers, rs2),
+            operand(plan, rs2),
         ),
     )
 }
 
-/// Writes the line of a branch behind what is there.
-#[tactic(auto, using(crate::proofs::Lists::branch_parts))]
+/// Writes the line of a branch behind what is there. So many steps are owed before it, and behind it where it isn't taken, fewer
+/// than 63.
+#[tactic(auto, using(crate::proofs::Lists::bare_parts, crate::proofs::Lists::branch_parts))]
 pub fn push_branch_line(
     out: &mut Vec<u8>,
-    registers: &RegisterMap,
+    plan: &Plan,
+    owed: u32,
+    next: u32,
     cond: Cond,
     rs1: Reg,
     rs2: Reg,
     jump: Jump,
 ) -> Result<(), AllocError>
-    ensures { OnOk result (out.new.items ≡ out.old.items ++ spellings (branch_line registers.now cond rs1 rs2 jump)) }
+    requires few { owed < 63 }
+    requires few_behind { next < 63 }
+    requires few_at_label { jump.label_owed < 63 }
+    ensures { OnOk result (out.new.items ≡ out.old.items ++ spellings (branch_line plan.now owed next cond rs1 rs2 jump)) }
 {
-    put_compare(out, registers, rs1, rs2)?;
+    put_compare(out, plan, owed, next, rs1, rs2)?;
+    if jump.is_bare(next) {
+        let condition = met_by(cond);
+        let distance = jump.label;
+        return put(
+            out,
+            Instr::Jcc {
+                condition,
+                distance,
+            },
+        );
+    }
     put(
         out,
         Instr::Jcc {
             condition: opposite(cond),
-            distance: jump.size(),
+            distance: jump.size(next),
         },
     )?;
-    put_jump(out, &jump)
+    put_jump(out, next, &jump)
 }
 
-/// Writes the line of a jal behind what is there; `next` is the address of what follows it in the sandbox.
-#[tactic(auto, using(crate::proofs::Lists::jal_parts))]
+/// Writes the line of a jal behind what is there; `behind` is the address of what follows it in the sandbox. So many steps are
+/// owed before it, fewer than 63.
+#[tactic(auto, using(crate::proofs::Lists::two_parts))]
 pub fn push_jal_line(
     out: &mut Vec<u8>,
-    registers: &RegisterMap,
+    plan: &Plan,
+    owed: u32,
     rd: Reg,
-    next: u32,
+    behind: u32,
     jump: Jump,
 ) -> Result<(), AllocError>
-    ensures { OnOk result (out.new.items ≡ out.old.items ++ spellings (jal_line registers.now rd next jump)) }
+    requires few { owed < 63 }
+    requires few_at_label { jump.label_owed < 63 }
+    ensures { OnOk result (out.new.items ≡ out.old.items ++ spellings (jal_line plan.now owed rd behind jump)) }
 {
-    put_number(out, registers, rd, next)?;
-    put_count(out)?;
-    put_jump(out, &jump)
+    put_number(out, plan, rd, behind)?;
+    put_jump(out, owed + 1, &jump)
 }

@@ -1,14 +1,15 @@
 //! Machine code of x86-64 for the lines of an accepted sandbox.
 //!
-//! Each of the sandbox's 32 registers lies in a register of the processor, as a map says (`specs/Registers.antt`), or has
-//! four bytes in a frame; r14 has the steps left, r15 the host's address of the sandbox's address 0, r13 that of the code,
-//! r12 that of a table of entries (`specs/Table.antt`); eax, ecx and edx are free between lines. `specs/Code.antt` says
-//! which instructions a line becomes, `specs/Layout.antt` when a processor has the state of a turn. Laws say that the bytes of lines then do what these do: `Facts::computing_lines_run`,
-//! `branch_lines_run`, `jal_lines_run`, `jalr_lines_run`, `load_lines_run`, `store_lines_run`, `faulting_lines_run`;
-//! `lines_stand`, `placed_lines_run`, `placed_steps_run` of all that [`compile`] writes (`specs/Places.antt`). An access to
-//! a guard zone faults: the host then goes out by the table of accesses that [`compile`] makes, too (`specs/Faults.antt`).
-//! `native_turns_end` speaks of that code and a host (`specs/Host.antt`), in a whole turn of an accepted sandbox, and of how many
-//! instructions it takes at most (`specs/Whole.antt`).
+//! Each of the sandbox's 32 registers lies in a register of the processor, as a plan says (`specs/Registers.antt`), or has
+//! four bytes in a frame; r14 has the steps left and those that are done and not counted yet, which code owes; r15 the host's
+//! address of the sandbox's address 0, r13 that of the code, r12 that of a table of entries (`specs/Table.antt`); eax, ecx and edx
+//! are free between lines. `specs/Code.antt` says which instructions a line becomes, `specs/Layout.antt` when a processor has the
+//! state of a turn. Laws say that the bytes of lines then do what these do: `Facts::computing_lines_run`, `branch_lines_run`,
+//! `jal_lines_run`, `jalr_lines_run`, `load_lines_run`, `store_lines_run`, `faulting_lines_run`; `lines_stand`,
+//! `placed_lines_run`, `placed_steps_run` of all that [`compile`] writes (`specs/Places.antt`). An access to a guard zone faults:
+//! the host then goes out by the table of accesses that [`compile`] makes, too (`specs/Faults.antt`). `native_turns_end` speaks
+//! of that code and a host (`specs/Host.antt`), in a whole turn of an accepted sandbox, and of how many instructions it takes at
+//! most (`specs/Whole.antt`).
 #![tactic(auto)]
 
 mod access;
@@ -26,13 +27,20 @@ pub mod layout;
 pub mod line;
 mod listing;
 mod operation;
+mod owed;
+#[cfg(test)]
+mod owed_tests;
+mod padding;
+#[cfg(test)]
+mod padding_tests;
+pub mod plan;
 mod register_jump;
 #[cfg(test)]
 mod register_tests;
-pub mod registers;
 #[cfg(test)]
 mod tests;
 mod uses;
+mod weights;
 
 pub use access::{push_load_line, push_store_line};
 pub use compilation::{CompiledCode, compile};
@@ -45,6 +53,6 @@ pub use jump::{Jump, push_branch_line, push_jal_line};
 pub use layout::Layout;
 pub use line::{Line, push_line};
 pub use listing::lines_of;
+pub use plan::Plan;
 pub use register_jump::push_jalr_line;
-pub use registers::RegisterMap;
-pub use uses::map_of;
+pub use uses::plan_of;

@@ -1,18 +1,20 @@
 //! The bytes of a line.
-ghost use Rattle.std.specs.Prelude.{◌≡◌, ◌++◌, OnOk};
+ghost use Rattle.std.specs.Prelude.{◌≡◌, ◌<◌, ◌++◌, OnOk};
 ghost use Rattle.rv_word.specs.Spelling.{offset_by};
 ghost use Rattle.sfi_native.specs.Lines.{line_of};
-ghost use Rattle.sfi_native.specs.Places.{instruction_code, jump_of, line_code};
+ghost use Rattle.sfi_native.specs.Places.{instruction_code, jump_of, line_code, nop_code};
 ghost use Rattle.x86_step.specs.Running.{spellings};
 
 use crate::access::{push_load_line, push_store_line};
 use crate::computation::push_computing_line;
 use crate::head::{push_head_line, push_leave_line};
 use crate::jump::{Jump, push_branch_line, push_jal_line};
+use crate::operation::put;
+use crate::plan::Plan;
 use crate::register_jump::push_jalr_line;
-use crate::registers::RegisterMap;
 use rv_word::Instr;
 use std::alloc::AllocError;
+use x86_instr::NopSize;
 
 /// A line of a sandbox's code. Addresses are the sandbox's.
 #[derive(Clone, Copy)]
@@ -30,14 +32,17 @@ pub enum Line {
 }
 
 /// The jump of a line to an address at an offset.
-fn jump(at: u32, offset: i32, label: u32, exit: u32) -> Jump
-    ensures { result ≡ jump_of (λ to. label) exit at (offset_by at offset) }
+fn jump(plan: &Plan, at: u32, offset: i32, label: u32, exit: u32) -> Jump
+    ensures is { result ≡ jump_of plan.now (λ to. label) exit at (offset_by at offset) }
+    ensures few { result.label_owed < 63 }
 {
+    let to = at.wrapping_add_signed(offset);
     Jump {
         from: at,
-        to: at.wrapping_add_signed(offset),
+        to,
         label,
         exit,
+        label_owed: plan.owed(to),
     }
 }
 
@@ -45,81 +50,92 @@ fn jump(at: u32, offset: i32, label: u32, exit: u32) -> Jump
 #[tactic(auto, using(crate::proofs::Lists::no_part))]
 fn put_instruction(
     out: &mut Vec<u8>,
-    registers: &RegisterMap,
+    plan: &Plan,
     at: u32,
     size: u32,
     instr: Instr,
     label: u32,
     exit: u32,
 ) -> Result<(), AllocError>
-    ensures { OnOk result (out.new.items ≡ out.old.items ++ spellings (instruction_code registers.now (λ to. label) exit at size instr)) }
+    ensures { OnOk result (out.new.items ≡ out.old.items ++ spellings (instruction_code plan.now (λ to. label) exit at size instr)) }
 {
+    let owed = plan.owed(at);
+    let behind = at.wrapping_add(size);
+    let next = plan.owed(behind);
     match instr {
         Instr::Branch {
             cond,
             rs1,
             rs2,
             offset,
-        } => push_branch_line(
-            out,
-            registers,
-            cond,
-            rs1,
-            rs2,
-            jump(at, offset, label, exit),
-        ),
+        } => {
+            let jump = jump(plan, at, offset, label, exit);
+            push_branch_line(out, plan, owed, next, cond, rs1, rs2, jump)
+        }
         Instr::Jal { rd, offset } => {
-            push_jal_line(
-                out,
-                registers,
-                rd,
-                at.wrapping_add(size),
-                jump(at, offset, label, exit),
-            )
+            let jump = jump(plan, at, offset, label, exit);
+            push_jal_line(out, plan, owed, rd, behind, jump)
         }
         Instr::Load { kind, rd, rs1, imm } => {
-            push_load_line(out, registers, kind, rd, rs1, imm.cast_unsigned())
+            let displacement = imm.cast_unsigned();
+            push_load_line(out, plan, owed, next, kind, rd, rs1, displacement)
         }
         Instr::Store {
             width,
             rs1,
             rs2,
             imm,
-        } => push_store_line(out, registers, width, rs1, rs2, imm.cast_unsigned()),
-        Instr::Ecall | Instr::Ebreak => push_leave_line(out, at, exit),
+        } => {
+            let displacement = imm.cast_unsigned();
+            push_store_line(out, plan, owed, next, width, rs1, rs2, displacement)
+        }
+        Instr::Ecall | Instr::Ebreak => push_leave_line(out, at, owed, exit),
         Instr::Jalr { rd, rs1, imm } => push_jalr_line(
             out,
-            registers,
+            plan,
+            owed,
             rd,
             rs1,
             imm.cast_unsigned(),
-            at.wrapping_add(size),
-            exit.wrapping_sub(37),
+            behind,
+            exit.wrapping_sub(42),
         ),
         _ => {
-            push_computing_line(out, registers, at, instr)?;
+            push_computing_line(out, plan, at, owed, next, instr)?;
             Ok(())
         }
     }
 }
 
+/// Writes a nop, if there is one.
+#[tactic(auto, using(crate::proofs::Lists::no_part))]
+fn put_nop(out: &mut Vec<u8>, nop: Option<NopSize>) -> Result<(), AllocError>
+    ensures { OnOk result (out.new.items ≡ out.old.items ++ spellings (nop_code nop)) }
+{
+    match nop {
+        Some(size) => put(out, x86_instr::Instr::Nop { size }),
+        None => Ok(()),
+    }
+}
+
 /// Writes a line behind what is there. Distances are in bytes, from the line's end, in two's complement: `label` to where
 /// it jumps, `exit` to the way out.
-#[tactic(auto, using(crate::proofs::Lists::no_part))]
+#[tactic(auto, using(crate::proofs::Lists::no_part, crate::proofs::Lists::two_parts))]
 pub fn push_line(
     out: &mut Vec<u8>,
-    registers: &RegisterMap,
+    plan: &Plan,
     line: Line,
     label: u32,
     exit: u32,
 ) -> Result<(), AllocError>
-    ensures { OnOk result (out.new.items ≡ out.old.items ++ spellings (line_code registers.now (λ to. label) exit (line_of line))) }
+    ensures { OnOk result (out.new.items ≡ out.old.items ++ spellings (line_code plan.now (λ to. label) exit (line_of line))) }
 {
     match line {
         Line::Function { .. } | Line::End { .. } | Line::Entry { .. } => Ok(()),
-        Line::Head { at } => push_head_line(out, at, exit),
-        Line::Does { at, size, instr } => put_instruction(
-            out, registers, at, size, instr, label, exit,
-        ),
+        Line::Head { at } => push_head_line(out, at, plan.owed(at), exit),
+        Line::Does { at, size, instr } => {
+            put_nop(out, plan.nop(at))?;
+            put_instruction(out, plan, at, size, instr, label, exit)
+        }
     }
 }

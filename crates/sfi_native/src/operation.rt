@@ -13,7 +13,7 @@ ghost use Rattle.x86_step.specs.Running.{spellings};
 use crate::division::{
     put_signed_quotient, put_signed_remainder, put_unsigned_quotient, put_unsigned_remainder,
 };
-use crate::registers::{RegisterMap, is_fixed};
+use crate::plan::{Plan, is_fixed};
 use rv_word::{ImmOp, Reg, RegOp};
 use std::alloc::AllocError;
 use x86_instr::{
@@ -42,10 +42,10 @@ pub(crate) fn slot(r: Reg) -> Address
 }
 
 /// The place of a register.
-pub(crate) fn operand(registers: &RegisterMap, r: Reg) -> Operand
-    ensures { result ≡ operand_of (assigned registers.now r) r }
+pub(crate) fn operand(plan: &Plan, r: Reg) -> Operand
+    ensures { result ≡ operand_of (assigned plan.now r) r }
 {
-    match registers.of(r) {
+    match plan.of(r) {
         Some(q) => Operand::Reg(q),
         None => Operand::Mem(slot(r)),
     }
@@ -54,27 +54,27 @@ pub(crate) fn operand(registers: &RegisterMap, r: Reg) -> Operand
 /// Fetches a register into a free one.
 pub(crate) fn put_fetch(
     out: &mut Vec<u8>,
-    registers: &RegisterMap,
+    plan: &Plan,
     dst: Register,
     r: Reg,
 ) -> Result<(), AllocError>
-    ensures { OnOk result (out.new.items ≡ out.old.items ++ spellings (fetch registers.now dst r)) }
+    ensures { OnOk result (out.new.items ≡ out.old.items ++ spellings (fetch plan.now dst r)) }
 {
     put(
         out,
         Instr::Mov {
             width: Width::Dword,
             dst,
-            src: operand(registers, r),
+            src: operand(plan, r),
         },
     )
 }
 
 /// Eax into the place of a register.
-fn store_eax(registers: &RegisterMap, r: Reg) -> Instr
-    ensures { result ≡ store_eax_of (assigned registers.now r) r }
+fn store_eax(plan: &Plan, r: Reg) -> Instr
+    ensures { result ≡ store_eax_of (assigned plan.now r) r }
 {
-    match registers.of(r) {
+    match plan.of(r) {
         Some(q) => Instr::Mov {
             width: Width::Dword,
             dst: q,
@@ -89,17 +89,13 @@ fn store_eax(registers: &RegisterMap, r: Reg) -> Instr
 }
 
 /// Writes eax into a register.
-pub(crate) fn put_write(
-    out: &mut Vec<u8>,
-    registers: &RegisterMap,
-    r: Reg,
-) -> Result<(), AllocError>
-    ensures { OnOk result (out.new.items ≡ out.old.items ++ spellings (write registers.now r)) }
+pub(crate) fn put_write(out: &mut Vec<u8>, plan: &Plan, r: Reg) -> Result<(), AllocError>
+    ensures { OnOk result (out.new.items ≡ out.old.items ++ spellings (write plan.now r)) }
 {
     if is_fixed(r.number()) {
         return Ok(());
     }
-    put(out, store_eax(registers, r))
+    put(out, store_eax(plan, r))
 }
 
 /// The register that one of the sandbox's lies in, or else that free one.
@@ -146,15 +142,15 @@ pub(crate) fn result_in(place: Option<Register>) -> Register
 #[tactic(auto, using(crate::proofs::Lists::no_part))]
 pub(crate) fn put_settle(
     out: &mut Vec<u8>,
-    registers: &RegisterMap,
+    plan: &Plan,
     place: Option<Register>,
     rd: Reg,
 ) -> Result<(), AllocError>
-    ensures { OnOk result (out.new.items ≡ out.old.items ++ spellings (settle registers.now place rd)) }
+    ensures { OnOk result (out.new.items ≡ out.old.items ++ spellings (settle plan.now place rd)) }
 {
     match place {
         Some(_) => Ok(()),
-        None => put_write(out, registers, rd),
+        None => put_write(out, plan, rd),
     }
 }
 
@@ -172,16 +168,16 @@ fn lies_in(place: Option<Register>, dst: Register) -> bool
 #[tactic(auto, using(crate::proofs::Lists::no_part))]
 pub(crate) fn put_bring(
     out: &mut Vec<u8>,
-    registers: &RegisterMap,
+    plan: &Plan,
     dst: Register,
     r: Reg,
 ) -> Result<(), AllocError>
-    ensures { OnOk result (out.new.items ≡ out.old.items ++ spellings (bring registers.now dst r)) }
+    ensures { OnOk result (out.new.items ≡ out.old.items ++ spellings (bring plan.now dst r)) }
 {
-    if lies_in(registers.of(r), dst) {
+    if lies_in(plan.of(r), dst) {
         return Ok(());
     }
-    put_fetch(out, registers, dst, r)
+    put_fetch(out, plan, dst, r)
 }
 
 /// Writes a comparison, and its outcome into a register.

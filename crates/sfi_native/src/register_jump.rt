@@ -1,15 +1,16 @@
 //! The bytes of a jalr, and of the indirect jump that all of them share.
-ghost use Rattle.std.specs.Prelude.{◌≡◌, ◌++◌, OnOk};
-ghost use Rattle.sfi_native.specs.Code.{enter_code, indirect_jump, jalr_line, start_code, steps_code, table_entry as table_entry_of, target_code};
+ghost use Rattle.std.specs.Prelude.{◌≡◌, ◌++◌, ◌<◌, OnOk};
+ghost use Rattle.sfi_native.specs.Code.{enter_code, indirect_jump, jalr_line, start_code, steps_code, target_code};
 ghost use Rattle.x86_instr.specs.declared.instr.Instr.TheVariants.{Alu, AluImm};
+ghost use Rattle.x86_instr.specs.declared.operand.Scale.TheVariants.{Two};
 ghost use Rattle.x86_instr.specs.declared.instr.Width.TheVariants.{Dword};
 ghost use Rattle.x86_instr.specs.declared.operand.Operand.TheVariants.{Reg as InRegister};
-ghost use Rattle.x86_instr.specs.declared.operand.Register.TheVariants.{Rax, Rdx};
+ghost use Rattle.x86_instr.specs.declared.operand.Register.TheVariants.{R12, Rax, Rdx};
 ghost use Rattle.x86_step.specs.Running.{spellings};
 
 use crate::computation::{put_count, put_number};
 use crate::operation::{put, put_fetch, slot};
-use crate::registers::RegisterMap;
+use crate::plan::Plan;
 use rv_word::Reg;
 use std::alloc::AllocError;
 use x86_instr::{Address, AluOp, Condition, Instr, Operand, Register, Scale, Width};
@@ -28,15 +29,10 @@ fn with_edx(op: AluOp, imm: u32) -> Instr
 
 /// Writes the target of a jalr into edx.
 #[tactic(auto, using(crate::proofs::Lists::target_parts))]
-fn put_target(
-    out: &mut Vec<u8>,
-    registers: &RegisterMap,
-    rs1: Reg,
-    displacement: u32,
-) -> Result<(), AllocError>
-    ensures { OnOk result (out.new.items ≡ out.old.items ++ spellings (target_code registers.now rs1 displacement)) }
+fn put_target(out: &mut Vec<u8>, plan: &Plan, rs1: Reg, displacement: u32) -> Result<(), AllocError>
+    ensures { OnOk result (out.new.items ≡ out.old.items ++ spellings (target_code plan.now rs1 displacement)) }
 {
-    put_fetch(out, registers, Register::Rdx, rs1)?;
+    put_fetch(out, plan, Register::Rdx, rs1)?;
     put(out, with_edx(AluOp::Add, displacement))?;
     put(out, with_edx(AluOp::And, 0xffff_fffe))
 }
@@ -71,7 +67,7 @@ fn put_steps(out: &mut Vec<u8>, distance: u32) -> Result<(), AllocError>
         out,
         Instr::Jcc {
             condition: Condition::Below,
-            distance: distance.wrapping_add(27),
+            distance: distance.wrapping_add(32),
         },
     )
 }
@@ -102,34 +98,43 @@ fn put_start(out: &mut Vec<u8>, distance: u32) -> Result<(), AllocError>
         out,
         Instr::Jcc {
             condition: Condition::NotEqual,
-            distance: distance.wrapping_add(9),
+            distance: distance.wrapping_add(14),
         },
     )
 }
 
-/// Where the table has the entry of the unit at the address in edx.
-fn table_entry() -> Address
-    ensures { result ≡ table_entry_of }
+/// So many bytes behind where the table has the entry of the unit at the address in edx.
+fn in_table(displacement: u32) -> Address
+    ensures { result ≡ record { base = R12; index = Rdx; scale = Two; displacement = displacement } }
 {
     Address {
         base: Register::R12,
         index: Register::Rdx,
-        scale: Scale::One,
-        displacement: 0,
+        scale: Scale::Two,
+        displacement,
     }
 }
 
-/// Writes a jump to that entry.
-#[tactic(auto, using(crate::proofs::Lists::three_parts))]
+/// Writes a jump to that entry. Code owes there as many steps as the table has behind the entry.
+#[tactic(auto, using(crate::proofs::Lists::four_parts))]
 fn put_enter(out: &mut Vec<u8>) -> Result<(), AllocError>
     ensures { OnOk result (out.new.items ≡ out.old.items ++ spellings enter_code) }
 {
     put(
         out,
+        Instr::Alu {
+            op: AluOp::Add,
+            width: Width::Dword,
+            dst: Register::R14,
+            src: Operand::Mem(in_table(4)),
+        },
+    )?;
+    put(
+        out,
         Instr::Mov {
             width: Width::Dword,
             dst: Register::Rax,
-            src: Operand::Mem(table_entry()),
+            src: Operand::Mem(in_table(0)),
         },
     )?;
     put(
@@ -159,22 +164,25 @@ pub(crate) fn put_indirect_jump(out: &mut Vec<u8>, distance: u32) -> Result<(), 
     put_enter(out)
 }
 
-/// Writes the line of a jalr behind what is there; `next` is the address of what follows it in the sandbox. The
-/// displacement and the distance are in two's complement, the distance in bytes, from the line's end to the indirect jump.
+/// Writes the line of a jalr behind what is there; `behind` is the address of what follows it in the sandbox. So many steps are
+/// owed before it, fewer than 63. The displacement and the distance are in two's complement, the distance in bytes, from the
+/// line's end to the indirect jump.
 #[tactic(auto, using(crate::proofs::Lists::jalr_parts))]
 pub fn push_jalr_line(
     out: &mut Vec<u8>,
-    registers: &RegisterMap,
+    plan: &Plan,
+    owed: u32,
     rd: Reg,
     rs1: Reg,
     displacement: u32,
-    next: u32,
+    behind: u32,
     distance: u32,
 ) -> Result<(), AllocError>
-    ensures { OnOk result (out.new.items ≡ out.old.items ++ spellings (jalr_line registers.now rd rs1 displacement next distance)) }
+    requires { owed < 63 }
+    ensures { OnOk result (out.new.items ≡ out.old.items ++ spellings (jalr_line plan.now owed rd rs1 displacement behind distance)) }
 {
-    put_target(out, registers, rs1, displacement)?;
-    put_number(out, registers, rd, next)?;
-    put_count(out)?;
+    put_target(out, plan, rs1, displacement)?;
+    put_number(out, plan, rd, behind)?;
+    put_count(out, owed + 1, 0)?;
     put(out, Instr::Jmp { distance })
 }

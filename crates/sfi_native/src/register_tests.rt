@@ -1,19 +1,22 @@
-//! Lines by a map of registers, as the GNU assembler spells their instructions, and maps that aren't right.
+//! Lines by a map of registers, as the GNU assembler spells their instructions, maps that aren't right, and those that are chosen.
+use crate::owed_tests::line;
+use crate::tests::part_of;
 use crate::{
-    Jump, RegisterMap, push_branch_line, push_computing_line, push_load_line, push_store_line,
+    Jump, Plan, plan_of, push_branch_line, push_computing_line, push_load_line, push_store_line,
 };
 use rv_word::{Cond, ImmOp, Instr, LoadKind, Reg, RegOp, StoreWidth};
+use std::alloc::Global;
 use std::test::Fail;
 use x86_instr::Register;
 
 /// x2 in rsi, x5 in r8, x6 in rbx, x7 in r11.
-fn some_registers() -> RegisterMap {
-    let mut registers = RegisterMap::in_frame();
-    registers.assigned[2] = Some(Register::Rsi);
-    registers.assigned[5] = Some(Register::R8);
-    registers.assigned[6] = Some(Register::Rbx);
-    registers.assigned[7] = Some(Register::R11);
-    registers
+fn some_registers(alloc: Global) -> Plan {
+    let mut plan = Plan::in_frame(alloc);
+    plan.assigned[2] = Some(Register::Rsi);
+    plan.assigned[5] = Some(Register::R8);
+    plan.assigned[6] = Some(Register::Rbx);
+    plan.assigned[7] = Some(Register::R11);
+    plan
 }
 
 const BY_MAP: [u8; 99] = [
@@ -83,10 +86,10 @@ fn computations() -> [Instr; 11] {
 #[test]
 fn computations_are_spelled_by_a_map(rt: HostRuntime) -> Result<(), Fail> {
     let mut out = Vec::new(rt.alloc());
-    let registers = some_registers();
-    assert!(rt; registers.is_right());
+    let plan = some_registers(rt.alloc());
+    assert!(rt; plan.is_right());
     for instr in computations() {
-        assert!(rt; push_computing_line(&mut out, &registers, 0, instr)?);
+        assert!(rt; push_computing_line(&mut out, &plan, 0, 0, 0, instr)?);
     }
     assert!(rt; out.as_slice() == BY_MAP.as_slice());
     Ok(())
@@ -108,28 +111,29 @@ const ACCESSES_BY_MAP: [u8; 44] = [
 #[test]
 fn accesses_are_spelled_by_a_map(rt: HostRuntime) -> Result<(), Fail> {
     let mut out = Vec::new(rt.alloc());
-    let registers = some_registers();
+    let plan = some_registers(rt.alloc());
     let (x2, x10) = (Reg::numbered(2), Reg::numbered(10));
-    push_load_line(&mut out, &registers, LoadKind::Lb, x10, x2, 0xffff_fffc)?;
-    push_load_line(&mut out, &registers, LoadKind::Lw, Reg::numbered(6), x2, 8)?;
+    push_load_line(&mut out, &plan, 0, 0, LoadKind::Lb, x10, x2, 0xffff_fffc)?;
+    push_load_line(&mut out, &plan, 0, 0, LoadKind::Lw, Reg::numbered(6), x2, 8)?;
     push_store_line(
         &mut out,
-        &registers,
+        &plan,
+        0,
+        0,
         StoreWidth::Sb,
         x2,
         Reg::numbered(7),
         0,
     )?;
-    push_store_line(&mut out, &registers, StoreWidth::Sw, x10, x2, 4)?;
+    push_store_line(&mut out, &plan, 0, 0, StoreWidth::Sw, x10, x2, 4)?;
     assert!(rt; out.as_slice() == ACCESSES_BY_MAP.as_slice());
     Ok(())
 }
 
-const BRANCH_BY_MAP: [u8; 19] = [
+const BRANCH_BY_MAP: [u8; 14] = [
     65, 131, 238, 1, // sub r14d, 1
     68, 59, 4, 36, // cmp r8d, [rsp]
-    15, 130, 5, 0, 0, 0, // {disp32} jb .+11
-    233, 0, 1, 0, 0, // {disp32} jmp .+261
+    15, 131, 0, 1, 0, 0, // {disp32} jae .+262
 ];
 
 #[test]
@@ -140,10 +144,13 @@ fn branches_are_spelled_by_a_map(rt: HostRuntime) -> Result<(), Fail> {
         to: 0x0100_0040,
         label: 256,
         exit: 4096,
+        label_owed: 0,
     };
     push_branch_line(
         &mut out,
-        &some_registers(),
+        &some_registers(rt.alloc()),
+        0,
+        0,
         Cond::Bgeu,
         Reg::numbered(5),
         Reg::numbered(0),
@@ -155,14 +162,56 @@ fn branches_are_spelled_by_a_map(rt: HostRuntime) -> Result<(), Fail> {
 
 #[test]
 fn wrong_maps_are_told(rt: HostRuntime) -> Result<(), Fail> {
-    let mut shared = some_registers();
+    let mut shared = some_registers(rt.alloc());
     shared.assigned[31] = Some(Register::R8);
     assert!(rt; !shared.is_right());
-    let mut fixed = some_registers();
+    let mut fixed = some_registers(rt.alloc());
     fixed.assigned[26] = Some(Register::R9);
     assert!(rt; !fixed.is_right());
-    let mut taken = some_registers();
+    let mut taken = some_registers(rt.alloc());
     taken.assigned[31] = Some(Register::R12);
     assert!(rt; !taken.is_right());
+    Ok(())
+}
+
+/// In a loop a function is called that uses x5 once; outside x6 is used three times.
+#[test]
+fn registers_of_called_functions_come_first(rt: HostRuntime) -> Result<(), Fail> {
+    let (x0, x1) = (Reg::numbered(0), Reg::numbered(1));
+    let double = |r| Instr::Op {
+        op: RegOp::Add,
+        rd: Reg::numbered(r),
+        rs1: Reg::numbered(r),
+        rs2: Reg::numbered(r),
+    };
+    let call = Instr::Jal { rd: x1, offset: 12 };
+    let back = Instr::Branch {
+        cond: Cond::Beq,
+        rs1: x0,
+        rs2: x0,
+        offset: -4,
+    };
+    let ret = Instr::Jalr {
+        rd: x0,
+        rs1: x1,
+        imm: 0,
+    };
+    let lines = [
+        line(0, 4, double(6)),
+        line(4, 4, call),
+        line(8, 4, back),
+        line(12, 4, Instr::Ebreak),
+        line(16, 4, double(5)),
+        line(20, 4, ret),
+    ];
+    let part = part_of(rt.alloc(), &[0; 24]);
+    let plan = plan_of(rt.alloc(), &part, lines.as_slice())?;
+    for (r, wanted) in [(5_usize, 3_u8), (1, 5), (6, 6)] {
+        let found = match plan.assigned[r] {
+            Some(q) => q.number(),
+            None => 255,
+        };
+        assert!(rt; found == wanted);
+    }
     Ok(())
 }

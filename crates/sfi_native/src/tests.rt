@@ -1,6 +1,6 @@
 //! Lines of code, as the GNU assembler spells their instructions.
 use crate::{
-    Jump, Line, RegisterMap, compile, push_branch_line, push_computing_line, push_head_line,
+    Jump, Line, Plan, compile, push_branch_line, push_computing_line, push_head_line,
     push_jal_line, push_jalr_line, push_leave_line, push_line, push_load_line, push_store_line,
 };
 use rv_word::{Cond, ImmOp, Instr, LoadKind, Reg, RegOp, StoreWidth};
@@ -27,6 +27,7 @@ const BYTES: [u8; 48] = [
 
 #[test]
 fn lines_are_spelled(rt: HostRuntime) -> Result<(), Fail> {
+    let plan = Plan::in_frame(rt.alloc());
     let mut out = Vec::new(rt.alloc());
     let (x5, x6, x7) = (Reg::numbered(5), Reg::numbered(6), Reg::numbered(7));
     let add = Instr::Op {
@@ -35,20 +36,20 @@ fn lines_are_spelled(rt: HostRuntime) -> Result<(), Fail> {
         rs1: x5,
         rs2: x6,
     };
-    assert!(rt; push_computing_line(&mut out, &RegisterMap::in_frame(), 0, add)?);
+    assert!(rt; push_computing_line(&mut out, &plan, 0, 0, 0, add)?);
     let slti = Instr::OpImm {
         op: ImmOp::Slti,
         rd: Reg::numbered(31),
         rs1: x5,
         imm: -5,
     };
-    assert!(rt; push_computing_line(&mut out, &RegisterMap::in_frame(), 4, slti)?);
+    assert!(rt; push_computing_line(&mut out, &plan, 4, 0, 0, slti)?);
     let lui = Instr::Lui {
         rd: Reg::numbered(24),
         imm: 0xdeadb,
     };
-    assert!(rt; push_computing_line(&mut out, &RegisterMap::in_frame(), 8, lui)?);
-    assert!(rt; !push_computing_line(&mut out, &RegisterMap::in_frame(), 12, Instr::Ecall)?);
+    assert!(rt; push_computing_line(&mut out, &plan, 8, 0, 0, lui)?);
+    assert!(rt; !push_computing_line(&mut out, &plan, 12, 0, 0, Instr::Ecall)?);
     assert!(rt; out.as_slice() == BYTES.as_slice());
     Ok(())
 }
@@ -57,15 +58,15 @@ const JUMPS: [u8; 94] = [
     139, 68, 36, 20, // mov eax, [rsp+20]
     65, 131, 238, 1, // sub r14d, 1
     59, 68, 36, 24, // cmp eax, [rsp+24]
-    15, 130, 5, 0, 0, 0, // {disp32} jb 1f
-    233, 0, 1, 0, 0, // {disp32} jmp .+261
-    184, 4, 0, 0, 1, // 1: mov eax, 0x1000004
+    15, 131, 0, 1, 0, 0, // {disp32} jae .+262
+    184, 4, 0, 0, 1, // mov eax, 0x1000004
     137, 68, 36, 4, // mov [rsp+4], eax
     65, 131, 238, 1, // sub r14d, 1
     233, 240, 255, 255, 255, // jmp .-11
-    186, 128, 0, 0, 1, // mov edx, 0x1000080
     65, 131, 254, 65, // cmp r14d, 65
-    15, 130, 0, 16, 0, 0, // jb .+4102
+    15, 131, 10, 0, 0, 0, // {disp32} jae .+16
+    186, 128, 0, 0, 1, // mov edx, 0x1000080
+    233, 0, 16, 0, 0, // jmp .+4101
     186, 132, 0, 0, 1, // mov edx, 0x1000084
     233, 0, 16, 0, 0, // jmp .+4101
     139, 84, 36, 20, // mov edx, [rsp+20]
@@ -74,21 +75,25 @@ const JUMPS: [u8; 94] = [
     184, 4, 0, 0, 1, // mov eax, 0x1000004
     137, 68, 36, 4, // mov [rsp+4], eax
     65, 131, 238, 1, // sub r14d, 1
-    233, 219, 15, 0, 0, // {disp32} jmp .+4064
+    233, 214, 15, 0, 0, // {disp32} jmp .+4059
 ];
 
 #[test]
 fn jumps_are_spelled(rt: HostRuntime) -> Result<(), Fail> {
+    let plan = Plan::in_frame(rt.alloc());
     let mut out = Vec::new(rt.alloc());
     let ahead = Jump {
         from: 0x0100_0000,
         to: 0x0100_0040,
         label: 256,
         exit: 4096,
+        label_owed: 0,
     };
     push_branch_line(
         &mut out,
-        &RegisterMap::in_frame(),
+        &plan,
+        0,
+        0,
         Cond::Bgeu,
         Reg::numbered(5),
         Reg::numbered(6),
@@ -98,23 +103,18 @@ fn jumps_are_spelled(rt: HostRuntime) -> Result<(), Fail> {
         label: 0xffff_fff0,
         ..ahead
     };
-    push_jal_line(
-        &mut out,
-        &RegisterMap::in_frame(),
-        Reg::numbered(1),
-        0x0100_0004,
-        near,
-    )?;
-    push_head_line(&mut out, 0x0100_0080, 4096)?;
-    push_leave_line(&mut out, 0x0100_0084, 4096)?;
+    push_jal_line(&mut out, &plan, 0, Reg::numbered(1), 0x0100_0004, near)?;
+    push_head_line(&mut out, 0x0100_0080, 0, 4096)?;
+    push_leave_line(&mut out, 0x0100_0084, 0, 4096)?;
     push_jalr_line(
         &mut out,
-        &RegisterMap::in_frame(),
+        &plan,
+        0,
         Reg::numbered(1),
         Reg::numbered(5),
         4,
         0x0100_0004,
-        4059,
+        4054,
     )?;
     assert!(rt; out.as_slice() == JUMPS.as_slice());
     Ok(())
@@ -133,10 +133,13 @@ const ACCESSES: [u8; 38] = [
 
 #[test]
 fn accesses_are_spelled(rt: HostRuntime) -> Result<(), Fail> {
+    let plan = Plan::in_frame(rt.alloc());
     let mut out = Vec::new(rt.alloc());
     push_load_line(
         &mut out,
-        &RegisterMap::in_frame(),
+        &plan,
+        0,
+        0,
         LoadKind::Lb,
         Reg::numbered(10),
         Reg::numbered(2),
@@ -144,7 +147,9 @@ fn accesses_are_spelled(rt: HostRuntime) -> Result<(), Fail> {
     )?;
     push_store_line(
         &mut out,
-        &RegisterMap::in_frame(),
+        &plan,
+        0,
+        0,
         StoreWidth::Sw,
         Reg::numbered(2),
         Reg::numbered(11),
@@ -205,6 +210,7 @@ const DIVISIONS: [u8; 170] = [
 
 #[test]
 fn divisions_are_spelled(rt: HostRuntime) -> Result<(), Fail> {
+    let plan = Plan::in_frame(rt.alloc());
     let mut out = Vec::new(rt.alloc());
     for op in [RegOp::Div, RegOp::Remu, RegOp::Rem, RegOp::Divu] {
         let division = Instr::Op {
@@ -213,7 +219,7 @@ fn divisions_are_spelled(rt: HostRuntime) -> Result<(), Fail> {
             rs1: Reg::numbered(5),
             rs2: Reg::numbered(6),
         };
-        assert!(rt; push_computing_line(&mut out, &RegisterMap::in_frame(), 0, division)?);
+        assert!(rt; push_computing_line(&mut out, &plan, 0, 0, 0, division)?);
     }
     assert!(rt; out.as_slice() == DIVISIONS.as_slice());
     Ok(())
@@ -229,6 +235,7 @@ fn jump_register() -> Instr {
 
 #[test]
 fn each_kind_of_line_is_spelled(rt: HostRuntime) -> Result<(), Fail> {
+    let plan = Plan::in_frame(rt.alloc());
     let mut out = Vec::new(rt.alloc());
     let branch = Instr::Branch {
         cond: Cond::Bgeu,
@@ -241,16 +248,10 @@ fn each_kind_of_line_is_spelled(rt: HostRuntime) -> Result<(), Fail> {
         offset: 64,
     };
     let (at, size) = (0x0100_0000, 4);
+    push_line(&mut out, &plan, Line::Function { sandbox: 0, at }, 0, 0)?;
     push_line(
         &mut out,
-        &RegisterMap::in_frame(),
-        Line::Function { sandbox: 0, at },
-        0,
-        0,
-    )?;
-    push_line(
-        &mut out,
-        &RegisterMap::in_frame(),
+        &plan,
         Line::Does {
             at,
             size,
@@ -261,7 +262,7 @@ fn each_kind_of_line_is_spelled(rt: HostRuntime) -> Result<(), Fail> {
     )?;
     push_line(
         &mut out,
-        &RegisterMap::in_frame(),
+        &plan,
         Line::Does {
             at,
             size,
@@ -270,66 +271,62 @@ fn each_kind_of_line_is_spelled(rt: HostRuntime) -> Result<(), Fail> {
         0xffff_fff0,
         0,
     )?;
-    push_line(
-        &mut out,
-        &RegisterMap::in_frame(),
-        Line::Head { at: at + 128 },
-        0,
-        4096,
-    )?;
+    push_line(&mut out, &plan, Line::Head { at: at + 128 }, 0, 4096)?;
     let ecall = Line::Does {
         at: at + 132,
         size,
         instr: Instr::Ecall,
     };
-    push_line(&mut out, &RegisterMap::in_frame(), ecall, 0, 4096)?;
+    push_line(&mut out, &plan, ecall, 0, 4096)?;
     let jalr = Line::Does {
         at,
         size,
         instr: jump_register(),
     };
-    push_line(&mut out, &RegisterMap::in_frame(), jalr, 0, 4096)?;
+    push_line(&mut out, &plan, jalr, 0, 4096)?;
     assert!(rt; out.as_slice() == JUMPS.as_slice());
     Ok(())
 }
 
-const COMPILED: [u8; 127] = [
-    186, 0, 0, 0, 1, // mov edx, 0x1000000
+const COMPILED: [u8; 136] = [
     65, 131, 254, 65, // cmp r14d, 65
-    15, 130, 112, 0, 0, 0, // {disp32} jb 9f
+    15, 131, 10, 0, 0, 0, // {disp32} jae 1f
+    186, 0, 0, 0, 1, // mov edx, 0x1000000
+    233, 116, 0, 0, 0, // {disp32} jmp 9f
     139, 68, 36, 20, // 1: mov eax, [rsp+20]
     65, 131, 238, 1, // sub r14d, 1
     59, 68, 36, 24, // cmp eax, [rsp+24]
-    15, 130, 5, 0, 0, 0, // {disp32} jb 3f
-    233, 9, 0, 0, 0, // {disp32} jmp 2f
+    15, 131, 9, 0, 0, 0, // {disp32} jae 2f
     184, 0, 176, 173, 222, // 3: mov eax, 0xdeadb000
     65, 131, 238, 1, // sub r14d, 1
     184, 12, 0, 0, 1, // 2: mov eax, 0x100000c
     137, 68, 36, 4, // mov [rsp+4], eax
     65, 131, 238, 1, // sub r14d, 1
+    65, 131, 254, 65, // cmp r14d, 65
+    15, 131, 206, 255, 255, 255, // {disp32} jae 1b
     186, 0, 0, 0, 1, // mov edx, 0x1000000
-    65, 131, 254, 65, // cmp r14d, 65
-    15, 130, 52, 0, 0, 0, // {disp32} jb 9f
-    233, 191, 255, 255, 255, // {disp32} jmp 1b
+    233, 56, 0, 0, 0, // {disp32} jmp 9f
+    65, 131, 238, 0, // sub r14d, 0
     186, 12, 0, 0, 1, // mov edx, 0x100000c
-    233, 37, 0, 0, 0, // {disp32} jmp 9f
+    233, 42, 0, 0, 0, // {disp32} jmp 9f
     65, 131, 254, 65, // cmp r14d, 65
-    15, 130, 27, 0, 0, 0, // {disp32} jb 9f
+    15, 130, 32, 0, 0, 0, // {disp32} jb 9f
     139, 194, // {load} mov eax, edx
     35, 68, 36, 100, // and eax, [rsp+100]
     11, 68, 36, 96, // or eax, [rsp+96]
     59, 194, // {load} cmp eax, edx
-    15, 133, 9, 0, 0, 0, // {disp32} jne 9f
-    65, 139, 4, 20, // mov eax, [r12+rdx]
+    15, 133, 14, 0, 0, 0, // {disp32} jne 9f
+    69, 3, 116, 84, 4, // add r14d, [r12+rdx*2+4]
+    65, 139, 4, 84, // mov eax, [r12+rdx*2]
     73, 3, 197, // {load} add rax, r13
     255, 224, // jmp rax; 9:
 ];
 
-// 1, 3 and 2 above
-const ENTRIES: [u32; 3] = [15, 38, 47];
+// 1, 3 and 2 above, where nothing is owed
+const ENTRIES: [u32; 6] = [20, 0, 38, 0, 47, 0];
 
 /// A sandbox of that code, at 0x01000000.
-fn part_of(alloc: Global, code: &[u8]) -> SandboxPart<'_> {
+pub(crate) fn part_of(alloc: Global, code: &[u8]) -> SandboxPart<'_> {
     SandboxPart {
         code_base: 0x0100_0000,
         data_base: 0x0200_0000,
@@ -343,6 +340,7 @@ fn part_of(alloc: Global, code: &[u8]) -> SandboxPart<'_> {
 
 #[test]
 fn code_is_compiled(rt: HostRuntime) -> Result<(), Fail> {
+    let plan = Plan::in_frame(rt.alloc());
     let at = 0x0100_0000;
     let branch = Instr::Branch {
         cond: Cond::Bgeu,
@@ -378,14 +376,7 @@ fn code_is_compiled(rt: HostRuntime) -> Result<(), Fail> {
         },
     ];
     let part = part_of(rt.alloc(), &[0; 12]);
-    let Some(compiled) = compile(
-        rt.alloc(),
-        Format::Sfiw,
-        &part,
-        &RegisterMap::in_frame(),
-        lines.as_slice(),
-    )?
-    else {
+    let Some(compiled) = compile(rt.alloc(), Format::Sfiw, &part, &plan, lines.as_slice())? else {
         panic!(rt; "no code");
     };
     assert!(rt; compiled.bytes.as_slice() == COMPILED.as_slice());
@@ -402,6 +393,7 @@ const STORE_OFFSET: u32 = 4 + 5 + 4 + 4 + 3 + 4;
 
 #[test]
 fn accesses_are_told(rt: HostRuntime) -> Result<(), Fail> {
+    let plan = Plan::in_frame(rt.alloc());
     let at = 0x0100_0000;
     let load = Instr::Load {
         kind: LoadKind::Lw,
@@ -429,14 +421,7 @@ fn accesses_are_told(rt: HostRuntime) -> Result<(), Fail> {
         },
     ];
     let part = part_of(rt.alloc(), &[0; 8]);
-    let Some(compiled) = compile(
-        rt.alloc(),
-        Format::Sfiw,
-        &part,
-        &RegisterMap::in_frame(),
-        lines.as_slice(),
-    )?
-    else {
+    let Some(compiled) = compile(rt.alloc(), Format::Sfiw, &part, &plan, lines.as_slice())? else {
         panic!(rt; "no code");
     };
     let accesses = compiled.accesses.as_slice();

@@ -1,12 +1,15 @@
-//! How often lines use registers, and a map of registers by that.
+//! How often lines use registers, and a plan by that.
 ghost use Rattle.std.specs.Prelude.{◌<◌, IfOk, IfSome};
-ghost use Rattle.sfi_native.specs.Registers.{IsRightMap};
+ghost use Rattle.sfi_native.specs.Registers.{IsRightPlan};
 
 use crate::line::Line;
-use crate::registers::{RegisterMap, is_fixed};
+use crate::owed::owed_of;
+use crate::padding::padding_of;
+use crate::plan::{Plan, is_fixed};
+use crate::weights::weights_of;
 use rv_word::{Instr, Reg};
+use sfi_image::SandboxPart;
 use std::alloc::{AllocError, Global};
-use std::collections::BTreeMap;
 use x86_instr::Register;
 
 /// The registers of the processor that may be assigned.
@@ -20,9 +23,6 @@ const ASSIGNABLE: [Register; 8] = [
     Register::R10,
     Register::R11,
 ];
-
-/// Of so many loops around one another, each makes a use count eight times; more count as these.
-const DEPTH_MOST: u32 = 6;
 
 /// How often each register is used.
 #[derive(Drop)]
@@ -62,13 +62,13 @@ impl Uses {
     }
 
     /// Of the registers that lie in the frame so far and aren't fixed the one that is used most, if one is used.
-    fn busiest(&self, registers: &RegisterMap) -> Option<usize>
+    fn busiest(&self, plan: &Plan) -> Option<usize>
         ensures { IfSome result (λ r. r < 32) }
     {
         let mut most = 0;
         let mut found = None;
         for r in 0..32 {
-            let free = registers.assigned[r].is_none() && !is_fixed(r as u8);
+            let free = plan.assigned[r].is_none() && !is_fixed(r as u8);
             if free && self.counts[r] > most {
                 most = self.counts[r];
                 found = Some(r);
@@ -78,58 +78,41 @@ impl Uses {
     }
 }
 
-/// The address that a jump over a distance goes to, where it goes back.
-fn loop_start(at: u32, instr: &Instr) -> Option<u32> {
-    let to = match *instr {
-        Instr::Branch { offset, .. } | Instr::Jal { offset, .. } => at.wrapping_add_signed(offset),
-        _ => return None,
-    };
-    if to <= at { Some(to) } else { None }
-}
-
-/// How often lines use each register, where a use counts eight times for each loop around it: what lies between a jump
-/// back and its target, once for each target.
+/// How often lines use each register.
 fn uses_of(alloc: Global, lines: &[Line]) -> Result<Uses, AllocError> {
     let mut uses = Uses { counts: [0; 32] };
-    let mut starts = BTreeMap::new(alloc);
-    let mut n = lines.len();
-    let mut depth = 0_u32;
-    while n > 0 {
-        n -= 1;
-        if let Line::Does { at, instr, .. } = lines[n] {
-            if let Some(to) = loop_start(at, &instr) {
-                if starts.insert(to, ())?.is_none() {
-                    depth = depth.saturating_add(1);
-                }
-            }
-            uses.add_of(&instr, 1 << (3 * depth.min(DEPTH_MOST)));
-            if starts.remove(&at).is_some() {
-                depth = depth.saturating_sub(1);
-            }
+    let weights = weights_of(alloc, lines)?;
+    for (line, weight) in lines.iter().zip(weights.iter()) {
+        if let Line::Does { instr, .. } = line {
+            uses.add_of(instr, *weight);
         }
     }
     Ok(uses)
 }
 
-/// The map that has the most used registers in the processor's.
-fn map_by(uses: &Uses) -> RegisterMap {
-    let mut registers = RegisterMap::in_frame();
+/// The plan that has the most used registers in the processor's, counts each step at once, and has no nops.
+fn plan_by(alloc: Global, uses: &Uses) -> Plan {
+    let mut plan = Plan::in_frame(alloc);
     for k in 0..8 {
-        if let Some(r) = uses.busiest(&registers) {
-            registers.assigned[r] = Some(ASSIGNABLE[k]);
+        if let Some(r) = uses.busiest(&plan) {
+            plan.assigned[r] = Some(ASSIGNABLE[k]);
         }
     }
-    registers
+    plan
 }
 
-/// A map for these lines, in which the registers that they use most, above all in loops, lie in the processor's.
-pub fn map_of(alloc: Global, lines: &[Line]) -> Result<RegisterMap, AllocError>
-    ensures { IfOk result (λ registers. IsRightMap registers) }
+/// A plan for these lines of a sandbox, in which the registers that they use most, above all in loops, lie in the processor's,
+/// steps are counted as late as [`owed_of`] says, and nops stand where [`padding_of`] says.
+pub fn plan_of(alloc: Global, part: &SandboxPart<'_>, lines: &[Line]) -> Result<Plan, AllocError>
+    ensures { IfOk result (λ plan. IsRightPlan plan) }
 {
-    let registers = map_by(&uses_of(alloc, lines)?);
-    if registers.is_right() {
-        Ok(registers)
+    let mut plan = plan_by(alloc, &uses_of(alloc, lines)?);
+    plan.code_base = part.code_base;
+    plan.owed = owed_of(alloc, part, lines)?;
+    plan.padding = padding_of(alloc, part, &plan, lines)?;
+    if plan.is_right() {
+        Ok(plan)
     } else {
-        Ok(RegisterMap::in_frame())
+        Ok(Plan::in_frame(alloc))
     }
 }

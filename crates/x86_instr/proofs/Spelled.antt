@@ -18,7 +18,7 @@ use Rattle.x86_instr.specs.declared.instr.Extension.TheVariants.{Zero, Sign}
 use Rattle.x86_instr.specs.declared.instr.AluOp.{AluOp}
 use Rattle.x86_instr.specs.declared.instr.AluOp.TheVariants.{Add}
 use Rattle.x86_instr.specs.declared.instr.UnaryOp.{UnaryOp}
-use Rattle.x86_instr.specs.declared.instr.UnaryOp.TheVariants.{Not, Neg}
+use Rattle.x86_instr.specs.declared.instr.UnaryOp.TheVariants.{Neg}
 use Rattle.x86_instr.specs.declared.instr.ShiftOp.{ShiftOp}
 use Rattle.x86_instr.specs.declared.instr.ShiftOp.TheVariants.{Shl}
 use Rattle.x86_instr.specs.declared.instr.DivideOp.{DivideOp}
@@ -27,8 +27,8 @@ use Rattle.x86_instr.specs.declared.instr.Condition.{Condition}
 use Rattle.x86_instr.specs.declared.instr.Condition.TheVariants.{Below}
 use Rattle.x86_instr.specs.declared.instr.NopSize.{NopSize}
 use Rattle.x86_instr.specs.declared.instr.NopSize.TheVariants as nop
-use Rattle.x86_instr.specs.declared.instr.Instr.TheVariants.{Mov, MovStore, MovStoreByte, MovStoreWord, MovImm, MovImmStore, MovImmStoreByte, MovImmStoreWord, MovExtended, Movsxd, Lea, Alu, AluStore, AluImm, Test, Unary, ShiftImm, ShiftCl, Imul, Divide, Cdq, Setcc, Jcc, Jmp, JmpTo, Push, Pop, Ret, Nop}
-use Rattle.x86_instr.specs.Spelling.{word_bytes, dword_bytes, byte_extended, is_short, number, scale_number, alu_number, unary_number, divide_number, shift_number, condition_number, extension_opcode, modrm, sib, operands, rex_w, rex_xb, rex_bits, coded, coded_0f, coded_byte_0f, coded_register, nop_bytes}
+use Rattle.x86_instr.specs.declared.instr.Instr.TheVariants.{Mov, MovStore, MovStoreByte, MovStoreWord, MovImm, MovExtended, Movsxd, Alu, AluImm, Test, Unary, ShiftImm, ShiftCl, Imul, Divide, Cdq, Setcc, Jcc, Jmp, JmpTo, Nop}
+use Rattle.x86_instr.specs.Spelling.{dword_bytes, byte_extended, is_short, number, scale_number, alu_number, unary_number, divide_number, shift_number, condition_number, extension_opcode, modrm, sib, operands, rex_w, rex_xb, rex_bits, coded, coded_0f, coded_byte_0f, coded_register, nop_bytes}
 unfoldable use Rattle.x86_instr.specs.Spelling.{memory, rex, spelling}
 use Rattle.x86_instr.specs.Decoding.{read, numbered, scale_at, width_at, alu_at, shift_at, Maker, at_address, displaced, with_modrm, one_byte, form_0f, store_byte, after_rex, plain, word_form, decode}
 use Rattle.x86_instr.specs.Laws.{SpellingDecodes}
@@ -74,9 +74,6 @@ shift_digit _ = (omega arith, refl)
 
 dword_again : (n : ℕ) → n % 256 + n / 256 % 256 * 256 + n / 65536 % 256 * 65536 + n / 16777216 * 16777216 ≡ n
 dword_again n = omega arith
-
-word_again : (n : ℕ) → n % 256 + n / 256 * 256 ≡ n
-word_again n = omega arith
 
 -- W, R, X and B out of their sum
 w_of : (w r xb : ℕ) → r < 16 → xb < 4 → (w * 8 + r / 8 * 4 + xb) / 8 ≡ w
@@ -237,15 +234,6 @@ op_C1 = record { opcode = record { not_66 = refl; not_rex = refl; plain_is = λ 
 op_63 : HasOperands 0x63
 op_63 = record { opcode = record { not_66 = refl; not_rex = refl; plain_is = λ bs. refl }; one_byte_is = λ bits bs. refl }
 
-op_8D : HasOperands 0x8D
-op_8D = record { opcode = record { not_66 = refl; not_rex = refl; plain_is = λ bs. refl }; one_byte_is = λ bits bs. refl }
-
-op_C6 : HasOperands 0xC6
-op_C6 = record { opcode = record { not_66 = refl; not_rex = refl; plain_is = λ bs. refl }; one_byte_is = λ bits bs. refl }
-
-op_C7 : HasOperands 0xC7
-op_C7 = record { opcode = record { not_66 = refl; not_rex = refl; plain_is = λ bs. refl }; one_byte_is = λ bits bs. refl }
-
 op_85 : HasOperands 0x85
 op_85 = record { opcode = record { not_66 = refl; not_rex = refl; plain_is = λ bs. refl }; one_byte_is = λ bits bs. refl }
 
@@ -262,21 +250,12 @@ alu_load : (op : AluOp) → HasOperands (alu_number op * 8 + 3)
 alu_load Add = record { opcode = record { not_66 = refl; not_rex = refl; plain_is = λ bs. refl }; one_byte_is = λ bits bs. refl }
 alu_load _ = record { opcode = record { not_66 = refl; not_rex = refl; plain_is = λ bs. refl }; one_byte_is = λ bits bs. refl }
 
-alu_store : (op : AluOp) → HasOperands (alu_number op * 8 + 1)
-alu_store Add = record { opcode = record { not_66 = refl; not_rex = refl; plain_is = λ bs. refl }; one_byte_is = λ bits bs. refl }
-alu_store _ = record { opcode = record { not_66 = refl; not_rex = refl; plain_is = λ bs. refl }; one_byte_is = λ bits bs. refl }
-
 -- what they say
 alu_load_is : (op : AluOp) (w : Width) (dst : Register) (m : Operand) (rest : List ℕ) → one_byte (alu_number op * 8 + 3) w (number dst) m rest ≡ read (Alu op w dst m) rest
 alu_load_is Add w dst m rest = rw (numbered_is dst) refl
 alu_load_is _ w dst m rest = rw (numbered_is dst) refl
 
-alu_store_is : (op : AluOp) (a : Address) (src : Register) (rest : List ℕ) → one_byte (alu_number op * 8 + 1) Dword (number src) (Mem a) rest ≡ read (AluStore op a src) rest
-alu_store_is Add a src rest = rw (numbered_is src) refl
-alu_store_is _ a src rest = rw (numbered_is src) refl
-
 unary_read : (op : UnaryOp) (m : Operand) (rest : List ℕ) → decode (coded Dword 0xF7 (unary_number op) m ++ rest) ≡ read (Unary op m) rest
-unary_read Not m rest = coded_read Dword 0xF7 2 m rest (omega arith) op_F7
 unary_read Neg m rest = coded_read Dword 0xF7 3 m rest (omega arith) op_F7
 
 divide_read : (op : DivideOp) (r : Register) (rest : List ℕ) → decode (coded Dword 0xF7 (divide_number op) (Reg r) ++ rest) ≡ read (Divide op r) rest
@@ -302,21 +281,13 @@ nop_is nop.One rest = refl
 nop_is _ rest = refl
 
 -- opcodes with a register
-low_opcode : (r : Register) → IsOpcode (0xB8 + number r % 8) × IsOpcode (0x50 + number r % 8) × IsOpcode (0x58 + number r % 8)
-low_opcode Rax = (record { not_66 = refl; not_rex = refl; plain_is = λ bs. refl }, record { not_66 = refl; not_rex = refl; plain_is = λ bs. refl }, record { not_66 = refl; not_rex = refl; plain_is = λ bs. refl })
-low_opcode _ = (record { not_66 = refl; not_rex = refl; plain_is = λ bs. refl }, record { not_66 = refl; not_rex = refl; plain_is = λ bs. refl }, record { not_66 = refl; not_rex = refl; plain_is = λ bs. refl })
+low_opcode : (r : Register) → IsOpcode (0xB8 + number r % 8)
+low_opcode Rax = record { not_66 = refl; not_rex = refl; plain_is = λ bs. refl }
+low_opcode _ = record { not_66 = refl; not_rex = refl; plain_is = λ bs. refl }
 
 mov_imm_is : (r : Register) (n : ℕ) (rest : List ℕ) → after_rex (number r / 8) (0xB8 + number r % 8) (dword_bytes n ++ rest) ≡ read (MovImm r n) rest
 mov_imm_is Rax n rest = rw (dword_again n) refl
 mov_imm_is _ n rest = rw (dword_again n) refl
-
-push_is : (r : Register) (rest : List ℕ) → after_rex (number r / 8) (0x50 + number r % 8) rest ≡ read (Push r) rest
-push_is Rax rest = refl
-push_is _ rest = refl
-
-pop_is : (r : Register) (rest : List ℕ) → after_rex (number r / 8) (0x58 + number r % 8) rest ≡ read (Pop r) rest
-pop_is Rax rest = refl
-pop_is _ rest = refl
 
 -- ==== Stores of 16 bits.
 
@@ -365,17 +336,10 @@ spelling_decodes (MovStoreByte dst src) rest =
 spelling_decodes (MovStoreWord dst src) rest = word_read 0x89 (number src) (Mem dst) rest (number_small src) (record { not_90 = refl; not_0f = refl; not_rex = refl }) ∙ rw (numbered_is src) refl
 spelling_decodes (MovImm dst imm) rest =
     ap decode (append_assoc (coded_register 0xB8 dst) (dword_bytes imm) rest)
-    ∙ register_read 0xB8 dst (dword_bytes imm ++ rest) (low_opcode dst).0 ∙ mov_imm_is dst imm rest
-spelling_decodes (MovImmStore dst imm) rest = coded_read_with Dword 0xC7 0 (Mem dst) (dword_bytes imm) rest (omega arith) op_C7 ∙ rw (dword_again imm) refl
-spelling_decodes (MovImmStoreByte dst imm) rest = coded_read_with Dword 0xC6 0 (Mem dst) (imm ∷ []) rest (omega arith) op_C6
-spelling_decodes (MovImmStoreWord dst imm) rest =
-    ap (λ bs. decode (0x66 ∷ bs)) (append_assoc (coded Dword 0xC7 0 (Mem dst)) (word_bytes imm) rest)
-    ∙ word_read 0xC7 0 (Mem dst) (word_bytes imm ++ rest) (omega arith) (record { not_90 = refl; not_0f = refl; not_rex = refl }) ∙ rw (word_again imm) refl
+    ∙ register_read 0xB8 dst (dword_bytes imm ++ rest) (low_opcode dst) ∙ mov_imm_is dst imm rest
 spelling_decodes (MovExtended e from dst src) rest = coded_byte_0f_read (extension_opcode e from) (number dst) src rest (number_small dst) ∙ extended_is e from dst src rest
 spelling_decodes (Movsxd dst src) rest = coded_read Qword 0x63 (number dst) src rest (number_small dst) op_63 ∙ rw (numbered_is dst) refl
-spelling_decodes (Lea dst src) rest = coded_read Dword 0x8D (number dst) (Mem src) rest (number_small dst) op_8D ∙ rw (numbered_is dst) refl
 spelling_decodes (Alu op w dst src) rest = coded_read w (alu_number op * 8 + 3) (number dst) src rest (number_small dst) (alu_load op) ∙ alu_load_is op w dst src rest
-spelling_decodes (AluStore op dst src) rest = coded_read Dword (alu_number op * 8 + 1) (number src) (Mem dst) rest (number_small src) (alu_store op) ∙ alu_store_is op dst src rest
 spelling_decodes (AluImm op w dst imm) rest = alu_imm_read op w dst imm rest
 spelling_decodes (Test a b) rest = coded_read Dword 0x85 (number b) (Reg a) rest (number_small b) op_85 ∙ rw (numbered_is b) refl
 spelling_decodes (Unary op dst) rest = unary_read op dst rest
@@ -388,7 +352,4 @@ spelling_decodes (Setcc c dst) rest = coded_byte_0f_read (0x90 + condition_numbe
 spelling_decodes (Jcc c d) rest = jump_is c d rest
 spelling_decodes (Jmp d) rest = rw (dword_again d) refl
 spelling_decodes (JmpTo target) rest = coded_read Dword 0xFF 4 target rest (omega arith) op_FF
-spelling_decodes (Push src) rest = register_read 0x50 src rest (low_opcode src).1 ∙ push_is src rest
-spelling_decodes (Pop dst) rest = register_read 0x58 dst rest (low_opcode dst).2 ∙ pop_is dst rest
-spelling_decodes Ret rest = refl
 spelling_decodes (Nop n) rest = nop_is n rest

@@ -1,7 +1,6 @@
 -- What bytes say as an instruction: the forms of specs/Spelling and no others, also where a displacement or an immediate has
--- more bytes than it needs, or a REX stands that isn't needed before push, pop, mov or an instruction with ModRM. Before
--- others, as ret, cdq and jmp, a REX makes none of these forms. The manual's volume 2, chapter 2, and the pages of the
--- instructions.
+-- more bytes than it needs, a nop has another SIB or displacement, or a REX stands that isn't needed before mov or an instruction
+-- with ModRM. Before others, as cdq and jmp, a REX makes none of these forms. The manual's volume 2, "Instruction Format", and the pages of the instructions.
 use Rattle.std.specs.Prelude.{ℕ, zero, suc, ◌+◌, ◌*◌, ◌/◌, ◌%◌, ◌==◌, nat_lt, ◌&&◌, List, [], ◌∷◌, Option, Some, None, if◌then◌else◌}
 use Rattle.x86_instr.specs.declared.operand.Register.{Register}
 use Rattle.x86_instr.specs.declared.operand.Register.TheVariants.{Rax, Rcx, Rdx, Rbx, Rsp, Rbp, Rsi, Rdi, R8, R9, R10, R11, R12, R13, R14, R15}
@@ -16,7 +15,7 @@ use Rattle.x86_instr.specs.declared.instr.Narrow.TheVariants.{Byte, Word}
 use Rattle.x86_instr.specs.declared.instr.Extension.TheVariants.{Zero, Sign}
 use Rattle.x86_instr.specs.declared.instr.AluOp.{AluOp}
 use Rattle.x86_instr.specs.declared.instr.AluOp.TheVariants.{Add, Or, And, Sub, Xor, Cmp}
-use Rattle.x86_instr.specs.declared.instr.UnaryOp.TheVariants.{Not, Neg}
+use Rattle.x86_instr.specs.declared.instr.UnaryOp.TheVariants.{Neg}
 use Rattle.x86_instr.specs.declared.instr.ShiftOp.{ShiftOp}
 use Rattle.x86_instr.specs.declared.instr.ShiftOp.TheVariants.{Shl, Shr, Sar}
 use Rattle.x86_instr.specs.declared.instr.DivideOp.TheVariants.{Div, Idiv}
@@ -24,7 +23,7 @@ use Rattle.x86_instr.specs.declared.instr.Condition.{Condition}
 use Rattle.x86_instr.specs.declared.instr.Condition.TheVariants.{Below, AboveOrEqual, Equal, NotEqual, BelowOrEqual, Above, Less, GreaterOrEqual, LessOrEqual, Greater}
 use Rattle.x86_instr.specs.declared.instr.NopSize.TheVariants as nop
 use Rattle.x86_instr.specs.declared.instr.Instr.{Instr}
-use Rattle.x86_instr.specs.declared.instr.Instr.TheVariants.{Mov, MovStore, MovStoreByte, MovStoreWord, MovImm, MovImmStore, MovImmStoreByte, MovImmStoreWord, MovExtended, Movsxd, Lea, Alu, AluStore, AluImm, Test, Unary, ShiftImm, ShiftCl, Imul, Divide, Cdq, Setcc, Jcc, Jmp, JmpTo, Push, Pop, Ret, Nop}
+use Rattle.x86_instr.specs.declared.instr.Instr.TheVariants.{Mov, MovStore, MovStoreByte, MovStoreWord, MovImm, MovExtended, Movsxd, Alu, AluImm, Test, Unary, ShiftImm, ShiftCl, Imul, Divide, Cdq, Setcc, Jcc, Jmp, JmpTo, Nop}
 use Rattle.x86_instr.specs.Spelling.{byte_extended, number}
 
 -- an instruction, and the bytes after it
@@ -106,10 +105,6 @@ abbrev pub with_byte : List ℕ → (ℕ → List ℕ → Option Decoded) → Op
 with_byte (a ∷ bs) make = make a bs
 with_byte [] make = None
 
-abbrev pub with_word : List ℕ → (ℕ → List ℕ → Option Decoded) → Option Decoded
-with_word (a ∷ b ∷ bs) make = make (a + b * 256) bs
-with_word _ make = None
-
 abbrev pub with_dword : List ℕ → (ℕ → List ℕ → Option Decoded) → Option Decoded
 with_dword (a ∷ b ∷ c ∷ d ∷ bs) make = make (a + b * 256 + c * 65536 + d * 16777216) bs
 with_dword _ make = None
@@ -162,19 +157,15 @@ on_register (Mem a) make = None
 -- of one byte, with operands of 32 bits alone
 abbrev pub dword_form : ℕ → ℕ → Operand → List ℕ → Option Decoded
 dword_form o reg m bs =
-    if o == 0x8D then on_memory m (λ a. read (Lea (numbered reg) a) bs)
-    else if o == 0xC6 then on_memory m (λ a. if reg == 0 then with_byte bs (λ n rest. read (MovImmStoreByte a n) rest) else None)
-    else if o == 0xC7 then on_memory m (λ a. if reg == 0 then with_dword bs (λ n rest. read (MovImmStore a n) rest) else None)
-    else if o == 0x85 then on_register m (λ r. read (Test r (numbered reg)) bs)
+    if o == 0x85 then on_register m (λ r. read (Test r (numbered reg)) bs)
     else if o == 0xD3 then on_register m (λ r. shift_at reg >>= λ op. read (ShiftCl op r) bs)
     else if o == 0xF7
     then (
-    if reg == 2 then read (Unary Not m) bs else if reg == 3 then read (Unary Neg m) bs
+    if reg == 3 then read (Unary Neg m) bs
     else if reg == 6 then on_register m (λ r. read (Divide Div r) bs)
     else if reg == 7 then on_register m (λ r. read (Divide Idiv r) bs)
     else None)
     else if o == 0xFF then (if reg == 4 then read (JmpTo m) bs else None)
-    else if (o % 8 == 1) && nat_lt o 64 then on_memory m (λ a. alu_at (o / 8) >>= λ op. read (AluStore op a (numbered reg)) bs)
     else None
 
 abbrev pub by_width : Width → ℕ → ℕ → Operand → List ℕ → Option Decoded
@@ -195,9 +186,7 @@ one_byte o w reg m bs =
 -- an opcode, with what may follow a REX prefix or stand without one
 abbrev pub form : ℕ → ℕ → List ℕ → Option Decoded
 form bits o bs =
-    if o / 8 == 10 then read (Push (numbered (bits % 2 * 8 + o % 8))) bs
-    else if o / 8 == 11 then read (Pop (numbered (bits % 2 * 8 + o % 8))) bs
-    else if (o / 8 == 23) && nat_lt bits 8 then with_dword bs (λ n rest. read (MovImm (numbered (bits % 2 * 8 + o % 8)) n) rest)
+    if (o / 8 == 23) && nat_lt bits 8 then with_dword bs (λ n rest. read (MovImm (numbered (bits % 2 * 8 + o % 8)) n) rest)
     else with_modrm (one_byte o) bits bs
 
 -- after 0F, with REX
@@ -250,16 +239,12 @@ plain o bs =
     if o == 0x0F then with_byte bs plain_0f
     else if o == 0x90 then read (Nop nop.One) bs
     else if o == 0x99 then read Cdq bs
-    else if o == 0xC3 then read Ret bs
     else if o == 0xE9 then with_dword bs (λ n rest. read (Jmp n) rest)
     else form 0 o bs
 
 -- after the prefix 66: stores of 16 bits, and nops
 abbrev pub word_form : ℕ → Width → ℕ → Operand → List ℕ → Option Decoded
-word_form o Dword reg m bs =
-    if o == 0x89 then on_memory m (λ a. read (MovStoreWord a (numbered reg)) bs)
-    else if (o == 0xC7) && (reg == 0) then on_memory m (λ a. with_word bs (λ n rest. read (MovImmStoreWord a n) rest))
-    else None
+word_form o Dword reg m bs = if o == 0x89 then on_memory m (λ a. read (MovStoreWord a (numbered reg)) bs) else None
 word_form o Qword reg m bs = None
 
 abbrev pub word_nop : ℕ → List ℕ → Option Decoded

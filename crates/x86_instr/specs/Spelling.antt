@@ -1,5 +1,5 @@
 -- The bytes that spell an instruction. Intel 64 and IA-32 Architectures Software Developer's Manual, volume 2,
--- chapter 2, "Instruction Format": prefixes, REX, opcode, ModRM, SIB, displacement, immediate, in this order.
+-- "Instruction Format": prefixes, REX, opcode, ModRM, SIB, displacement, immediate, in this order.
 use Rattle.std.specs.Prelude.{ℕ, ◌+◌, ◌-◌, ◌*◌, ◌/◌, ◌%◌, ◌^◌, ◌==◌, nat_lt, ◌&&◌, not, Bool, List, [], ◌∷◌, ◌++◌, if◌then◌else◌}
 use Rattle.x86_instr.specs.declared.operand.Register.{Register}
 use Rattle.x86_instr.specs.declared.operand.Register.TheVariants.{Rax, Rcx, Rdx, Rbx, Rsp, Rbp, Rsi, Rdi, R8, R9, R10, R11, R12, R13, R14, R15}
@@ -17,7 +17,7 @@ use Rattle.x86_instr.specs.declared.instr.Extension.TheVariants.{Zero, Sign}
 use Rattle.x86_instr.specs.declared.instr.AluOp.{AluOp}
 use Rattle.x86_instr.specs.declared.instr.AluOp.TheVariants.{Add, Or, And, Sub, Xor, Cmp}
 use Rattle.x86_instr.specs.declared.instr.UnaryOp.{UnaryOp}
-use Rattle.x86_instr.specs.declared.instr.UnaryOp.TheVariants.{Not, Neg}
+use Rattle.x86_instr.specs.declared.instr.UnaryOp.TheVariants.{Neg}
 use Rattle.x86_instr.specs.declared.instr.ShiftOp.{ShiftOp}
 use Rattle.x86_instr.specs.declared.instr.ShiftOp.TheVariants.{Shl, Shr, Sar}
 use Rattle.x86_instr.specs.declared.instr.DivideOp.{DivideOp}
@@ -27,12 +27,9 @@ use Rattle.x86_instr.specs.declared.instr.Condition.TheVariants.{Below, AboveOrE
 use Rattle.x86_instr.specs.declared.instr.NopSize.{NopSize}
 use Rattle.x86_instr.specs.declared.instr.NopSize.TheVariants as nop
 use Rattle.x86_instr.specs.declared.instr.Instr.{Instr}
-use Rattle.x86_instr.specs.declared.instr.Instr.TheVariants.{Mov, MovStore, MovStoreByte, MovStoreWord, MovImm, MovImmStore, MovImmStoreByte, MovImmStoreWord, MovExtended, Movsxd, Lea, Alu, AluStore, AluImm, Test, Unary, ShiftImm, ShiftCl, Imul, Divide, Cdq, Setcc, Jcc, Jmp, JmpTo, Push, Pop, Ret, Nop}
+use Rattle.x86_instr.specs.declared.instr.Instr.TheVariants.{Mov, MovStore, MovStoreByte, MovStoreWord, MovImm, MovExtended, Movsxd, Alu, AluImm, Test, Unary, ShiftImm, ShiftCl, Imul, Divide, Cdq, Setcc, Jcc, Jmp, JmpTo, Nop}
 
--- ==== Numbers, the lowest byte first (volume 1, 1.3.1).
-
-abbrev pub word_bytes : ℕ → List ℕ
-word_bytes n = (n % 256) ∷ (n / 256) ∷ []
+-- ==== Numbers, the lowest byte first (volume 1, "Bit and Byte Order").
 
 abbrev pub dword_bytes : ℕ → List ℕ
 dword_bytes n = (n % 256) ∷ (n / 256 % 256) ∷ (n / 65536 % 256) ∷ (n / 16777216) ∷ []
@@ -47,7 +44,8 @@ is_short n = byte_extended (n % 256) == n
 
 -- ==== Fields.
 
--- a register: bit 3 is in REX, bits 2:0 in ModRM, SIB or the opcode (volume 2, 3.1.1.1, table 3-1)
+-- a register: bit 3 is in REX, bits 2:0 in ModRM, SIB or the opcode (volume 2, "Register Codes Associated With +rb, +rw,
+-- +rd, +ro")
 abbrev pub number : Register → ℕ
 number Rax = 0
 number Rcx = 1
@@ -66,7 +64,7 @@ number R13 = 13
 number R14 = 14
 number R15 = 15
 
--- SIB.scale (table 2-3)
+-- SIB.scale ("32-Bit Addressing Forms with the SIB Byte")
 abbrev pub scale_number : Scale → ℕ
 scale_number scale.One = 0
 scale_number scale.Two = 1
@@ -84,7 +82,6 @@ alu_number Cmp = 7
 
 -- ModRM.reg of opcode F7
 abbrev pub unary_number : UnaryOp → ℕ
-unary_number Not = 2
 unary_number Neg = 3
 
 abbrev pub divide_number : DivideOp → ℕ
@@ -97,7 +94,7 @@ shift_number Shl = 4
 shift_number Shr = 5
 shift_number Sar = 7
 
--- the low four bits of the opcodes of jcc and setcc (volume 1, appendix B)
+-- the low four bits of the opcodes of jcc and setcc (volume 1, "EFLAGS Condition Codes")
 abbrev pub condition_number : Condition → ℕ
 condition_number Below = 2
 condition_number AboveOrEqual = 3
@@ -117,7 +114,7 @@ extension_opcode Zero Word = 0xB7
 extension_opcode Sign Byte = 0xBE
 extension_opcode Sign Word = 0xBF
 
--- ==== ModRM, SIB and displacement (2.1.3, 2.1.5 and tables 2-2 and 2-3).
+-- ==== ModRM, SIB and displacement ("ModR/M and SIB Bytes", "Addressing-Mode Encoding of ModR/M and SIB Bytes").
 
 -- mod in bits 7:6, reg in 5:3, r/m in 2:0
 abbrev pub modrm : ℕ → ℕ → ℕ → ℕ
@@ -140,7 +137,7 @@ abbrev pub operands : ℕ → Operand → List ℕ
 operands reg (Reg r) = modrm 3 reg (number r) ∷ []
 operands reg (Mem a) = memory reg a
 
--- ==== Prefixes: REX is 0100WRXB (2.2.1.2, table 2-4).
+-- ==== Prefixes: REX is 0100WRXB ("More on REX Prefix Fields").
 
 abbrev pub rex_w : Width → ℕ
 rex_w Dword = 0
@@ -167,7 +164,7 @@ coded w opcode reg m = rex (rex_bits w reg m) ++ opcode ∷ operands reg m
 abbrev pub coded_0f : Width → ℕ → ℕ → Operand → List ℕ
 coded_0f w opcode reg m = rex (rex_bits w reg m) ++ 0x0F ∷ opcode ∷ operands reg m
 
--- REX always, with which registers 4 to 7 of 8 bits are the low bytes of rsp to rdi (table 3-1)
+-- REX always, with which registers 4 to 7 of 8 bits are the low bytes of rsp to rdi (the same table)
 abbrev pub coded_byte : ℕ → ℕ → Operand → List ℕ
 coded_byte opcode reg m = (64 + rex_bits Dword reg m) ∷ opcode ∷ operands reg m
 
@@ -178,7 +175,7 @@ coded_byte_0f opcode reg m = (64 + rex_bits Dword reg m) ∷ 0x0F ∷ opcode ∷
 abbrev pub coded_register : ℕ → Register → List ℕ
 coded_register opcode r = rex (number r / 8) ++ (opcode + number r % 8) ∷ []
 
--- the manual's page of NOP: recommended sequences of several bytes
+-- the manual's page of NOP: its one byte, and the recommended sequences of two to nine
 abbrev pub nop_bytes : NopSize → List ℕ
 nop_bytes nop.One = 0x90 ∷ []
 nop_bytes nop.Two = 0x66 ∷ 0x90 ∷ []
@@ -190,7 +187,7 @@ nop_bytes nop.Seven = 0x0F ∷ 0x1F ∷ 0x80 ∷ 0 ∷ 0 ∷ 0 ∷ 0 ∷ []
 nop_bytes nop.Eight = 0x0F ∷ 0x1F ∷ 0x84 ∷ 0 ∷ 0 ∷ 0 ∷ 0 ∷ 0 ∷ []
 nop_bytes nop.Nine = 0x66 ∷ 0x0F ∷ 0x1F ∷ 0x84 ∷ 0 ∷ 0 ∷ 0 ∷ 0 ∷ 0 ∷ []
 
--- ==== Instructions, each by its page in volume 2, chapters 3 to 5.
+-- ==== Instructions, each by its page in volume 2, "Instruction Set Reference".
 
 unfoldable pub spelling : Instr → List ℕ
 spelling (Mov w dst src) = coded w 0x8B (number dst) src
@@ -198,14 +195,9 @@ spelling (MovStore w dst src) = coded w 0x89 (number src) (Mem dst)
 spelling (MovStoreByte dst src) = coded_byte 0x88 (number src) (Mem dst)
 spelling (MovStoreWord dst src) = 0x66 ∷ coded Dword 0x89 (number src) (Mem dst)
 spelling (MovImm dst imm) = coded_register 0xB8 dst ++ dword_bytes imm
-spelling (MovImmStore dst imm) = coded Dword 0xC7 0 (Mem dst) ++ dword_bytes imm
-spelling (MovImmStoreByte dst imm) = coded Dword 0xC6 0 (Mem dst) ++ imm ∷ []
-spelling (MovImmStoreWord dst imm) = 0x66 ∷ coded Dword 0xC7 0 (Mem dst) ++ word_bytes imm
 spelling (MovExtended e from dst src) = coded_byte_0f (extension_opcode e from) (number dst) src
 spelling (Movsxd dst src) = coded Qword 0x63 (number dst) src
-spelling (Lea dst src) = coded Dword 0x8D (number dst) (Mem src)
 spelling (Alu op w dst src) = coded w (alu_number op * 8 + 3) (number dst) src
-spelling (AluStore op dst src) = coded Dword (alu_number op * 8 + 1) (number src) (Mem dst)
 spelling (AluImm op w dst imm) =
     if is_short imm then coded w 0x83 (alu_number op) dst ++ (imm % 256) ∷ []
     else coded w 0x81 (alu_number op) dst ++ dword_bytes imm
@@ -220,7 +212,4 @@ spelling (Setcc c dst) = coded_byte_0f (0x90 + condition_number c) 0 (Reg dst)
 spelling (Jcc c distance) = 0x0F ∷ (0x80 + condition_number c) ∷ dword_bytes distance
 spelling (Jmp distance) = 0xE9 ∷ dword_bytes distance
 spelling (JmpTo target) = coded Dword 0xFF 4 target
-spelling (Push src) = coded_register 0x50 src
-spelling (Pop dst) = coded_register 0x58 dst
-spelling Ret = 0xC3 ∷ []
 spelling (Nop size) = nop_bytes size

@@ -8,7 +8,7 @@ use crate::fields::{
 };
 use crate::format::{
     put_0f_form, put_byte, put_byte_0f_form, put_byte_form, put_dword, put_form, put_pair,
-    put_register_form, put_word,
+    put_register_form,
 };
 use crate::instr::{AluOp, Instr, Width};
 use crate::nop::put_nop;
@@ -36,19 +36,6 @@ pub fn encode(out: &mut Vec<u8>, instr: Instr) -> Result<(), AllocError>
             put_register_form(out, 0xB8, dst)?;
             put_dword(out, imm)
         }
-        Instr::MovImmStore { dst, imm } => {
-            put_form(out, Width::Dword, 0xC7, 0, Operand::Mem(dst))?;
-            put_dword(out, imm)
-        }
-        Instr::MovImmStoreByte { dst, imm } => {
-            put_form(out, Width::Dword, 0xC6, 0, Operand::Mem(dst))?;
-            put_byte(out, imm)
-        }
-        Instr::MovImmStoreWord { dst, imm } => {
-            put_byte(out, 0x66)?;
-            put_form(out, Width::Dword, 0xC7, 0, Operand::Mem(dst))?;
-            put_word(out, imm)
-        }
         Instr::MovExtended {
             extension,
             from,
@@ -56,19 +43,12 @@ pub fn encode(out: &mut Vec<u8>, instr: Instr) -> Result<(), AllocError>
             src,
         } => put_byte_0f_form(out, extended_opcode(extension, from), dst.number(), src),
         Instr::Movsxd { dst, src } => put_form(out, Width::Qword, 0x63, dst.number(), src),
-        Instr::Lea { dst, src } => {
-            put_form(out, Width::Dword, 0x8D, dst.number(), Operand::Mem(src))
-        }
         Instr::Alu {
             op,
             width,
             dst,
             src,
         } => put_form(out, width, alu_digit(op) * 8 + 3, dst.number(), src),
-        Instr::AluStore { op, dst, src } => {
-            let opcode = alu_digit(op) * 8 + 1;
-            put_form(out, Width::Dword, opcode, src.number(), Operand::Mem(dst))
-        }
         Instr::AluImm {
             op,
             width,
@@ -118,9 +98,6 @@ pub fn encode(out: &mut Vec<u8>, instr: Instr) -> Result<(), AllocError>
             put_dword(out, distance)
         }
         Instr::JmpTo { target } => put_form(out, Width::Dword, 0xFF, 4, target),
-        Instr::Push { src } => put_register_form(out, 0x50, src),
-        Instr::Pop { dst } => put_register_form(out, 0x58, dst),
-        Instr::Ret => put_byte(out, 0xC3),
         Instr::Nop { size } => put_nop(out, size),
     }
 }

@@ -36,7 +36,6 @@ pub(crate) fn unary_digit(op: UnaryOp) -> u8
     ensures in_range { result < 8 }
 {
     match op {
-        UnaryOp::Not => 2,
         UnaryOp::Neg => 3,
     }
 }

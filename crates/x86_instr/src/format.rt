@@ -1,7 +1,7 @@
 //! Prefixes, opcode, ModRM, SIB, displacement, and the numbers behind them.
 ghost use Rattle.std.specs.Prelude.{◌≡◌, ◌<◌, ◌+◌, ◌%◌, ◌++◌, ◌∷◌, [], OnOk};
 ghost use Rattle.x86_instr.specs.declared.operand.Operand.TheVariants.{Mem};
-ghost use Rattle.x86_instr.specs.Spelling.{coded, coded_0f, coded_byte, coded_byte_0f, coded_register, dword_bytes, memory, modrm, number, operands, rex, rex_bits, rex_xb, sib, word_bytes};
+ghost use Rattle.x86_instr.specs.Spelling.{coded, coded_0f, coded_byte, coded_byte_0f, coded_register, dword_bytes, memory, modrm, number, operands, rex, rex_bits, rex_xb, sib};
 
 use crate::fields::{is_byte, width_bit};
 use crate::instr::Width;
@@ -20,12 +20,6 @@ pub(crate) fn put_pair(out: &mut Vec<u8>, first: u8, second: u8) -> Result<(), A
 {
     put_byte(out, first)?;
     put_byte(out, second)
-}
-
-pub(crate) fn put_word(out: &mut Vec<u8>, n: u16) -> Result<(), AllocError>
-    ensures { OnOk result (out.new.items ≡ out.old.items ++ word_bytes n) }
-{
-    put_pair(out, (n % 256) as u8, (n / 256) as u8)
 }
 
 pub(crate) fn put_dword(out: &mut Vec<u8>, n: u32) -> Result<(), AllocError>

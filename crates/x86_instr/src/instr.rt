@@ -44,7 +44,6 @@ pub enum AluOp {
 /// An operation of one operand.
 #[derive(Clone, Copy)]
 pub enum UnaryOp {
-    Not,
     Neg,
 }
 
@@ -123,18 +122,6 @@ pub enum Instr {
         dst: Register,
         imm: u32,
     },
-    MovImmStore {
-        dst: Address,
-        imm: u32,
-    },
-    MovImmStoreByte {
-        dst: Address,
-        imm: u8,
-    },
-    MovImmStoreWord {
-        dst: Address,
-        imm: u16,
-    },
     /// movzx and movsx.
     MovExtended {
         extension: Extension,
@@ -147,22 +134,11 @@ pub enum Instr {
         dst: Register,
         src: Operand,
     },
-    /// The low half of an address.
-    Lea {
-        dst: Register,
-        src: Address,
-    },
     Alu {
         op: AluOp,
         width: Width,
         dst: Register,
         src: Operand,
-    },
-    /// With cmp it stores nothing.
-    AluStore {
-        op: AluOp,
-        dst: Address,
-        src: Register,
     },
     /// With 64 bits, `imm` is 32 bits with their sign.
     AluImm {
@@ -221,15 +197,6 @@ pub enum Instr {
     JmpTo {
         target: Operand,
     },
-    /// 64 bits.
-    Push {
-        src: Register,
-    },
-    /// 64 bits.
-    Pop {
-        dst: Register,
-    },
-    Ret,
     Nop {
         size: NopSize,
     },

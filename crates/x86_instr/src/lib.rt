@@ -1,6 +1,6 @@
 //! The instructions of x86-64 that a generator of native code writes, and no others, and the bytes
 //! that spell them, by Intel 64 and IA-32 Architectures Software Developer's Manual, volume 2,
-//! chapters 2 "Instruction Format" and 3 to 5 "Instruction Set Reference".
+//! "Instruction Format" and "Instruction Set Reference".
 //!
 //! [`encode`] writes an instruction's spelling, `specs/Spelling.antt`, a line a form. A decoder is
 //! given as a definition, `specs/Decoding.antt`: what is written decodes to itself, whatever

@@ -1,10 +1,11 @@
-//! Writing a nop of one to nine bytes.
-ghost use Rattle.std.specs.Prelude.{◌≡◌, ◌++◌, OnOk};
+//! Nops of one to nine bytes.
+ghost use Rattle.std.specs.Prelude.{◌≡◌, ◌≤◌, ◌++◌, length, OnOk};
 ghost use Rattle.x86_instr.specs.Spelling.{nop_bytes};
 
 use crate::instr::NopSize;
 use std::alloc::AllocError;
 
+/// Writes a nop.
 pub(crate) fn put_nop(out: &mut Vec<u8>, size: NopSize) -> Result<(), AllocError>
     ensures { OnOk result (out.new.items ≡ out.old.items ++ nop_bytes size) }
 {
@@ -20,4 +21,24 @@ pub(crate) fn put_nop(out: &mut Vec<u8>, size: NopSize) -> Result<(), AllocError
         NopSize::Nine => out.extend_from_slice(&[0x66, 0x0F, 0x1F, 0x84, 0, 0, 0, 0, 0])?,
     }
     Ok(())
+}
+
+impl NopSize {
+    /// How many bytes it has.
+    pub fn bytes(self) -> u32
+        ensures is { result ≡ length (nop_bytes self) }
+        ensures few { result ≤ 9 }
+    {
+        match self {
+            NopSize::One => 1,
+            NopSize::Two => 2,
+            NopSize::Three => 3,
+            NopSize::Four => 4,
+            NopSize::Five => 5,
+            NopSize::Six => 6,
+            NopSize::Seven => 7,
+            NopSize::Eight => 8,
+            NopSize::Nine => 9,
+        }
+    }
 }

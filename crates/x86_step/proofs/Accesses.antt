@@ -11,7 +11,7 @@ use Rattle.x86_instr.specs.declared.instr.Width.TheVariants.{Dword, Qword}
 use Rattle.x86_instr.specs.declared.instr.AluOp.{AluOp}
 use Rattle.x86_instr.specs.declared.instr.AluOp.TheVariants.{Add, Or, And, Sub, Xor, Cmp}
 use Rattle.x86_instr.specs.declared.instr.Instr.{Instr}
-use Rattle.x86_instr.specs.declared.instr.Instr.TheVariants.{Mov, MovStore, MovStoreByte, MovStoreWord, MovImm, MovImmStore, MovImmStoreByte, MovImmStoreWord, MovExtended, Movsxd, Lea, Alu, AluStore, AluImm, Test, Unary, ShiftImm, ShiftCl, Imul, Divide, Cdq, Setcc, Jcc, Jmp, JmpTo, Push, Pop, Ret, Nop}
+use Rattle.x86_instr.specs.declared.instr.Instr.TheVariants.{Mov, MovStore, MovStoreByte, MovStoreWord, MovImm, MovExtended, Movsxd, Alu, AluImm, Test, Unary, ShiftImm, ShiftCl, Imul, Divide, Cdq, Setcc, Jcc, Jmp, JmpTo, Nop}
 use Rattle.x86_step.specs.declared.machine.Flags.{Flags}
 use Rattle.x86_step.specs.declared.machine.Computed.{Computed}
 use Rattle.x86_step.specs.declared.machine.Stop.{Stop}
@@ -19,7 +19,7 @@ use Rattle.x86_step.specs.declared.machine.Stop.TheVariants.{Fault}
 use Rattle.x86_step.specs.Accesses.{AccessesAreAll, Agree, ComeToTheSame}
 use Rattle.x86_step.specs.State.{Core, may_write, joined, number_at, with_flags, with_memory, with_register, written}
 unfoldable use Rattle.x86_step.specs.Step.{accessed, computes}
-use Rattle.x86_step.specs.Step.{◌>>=◌, LiesIn, address, alu_finished, bytes_of, divided, effect, finished, found, goes_to, is_met, known, landed, loaded, narrow_bytes, narrow_value, operand_access, put, rsp_plus, stored, value}
+use Rattle.x86_step.specs.Step.{◌>>=◌, LiesIn, address, alu_finished, bytes_of, divided, effect, finished, found, goes_to, is_met, known, landed, loaded, narrow_bytes, narrow_value, operand_access, put, stored, value}
 
 -- ==== Numbers.
 
@@ -120,14 +120,9 @@ module _ (there : ℕ → Type 0) (memory : ℕ → Option ℕ) where
   computes_same (MovStoreByte dst src) c lies agree = stored_same c _ _ _ lies agree
   computes_same (MovStoreWord dst src) c lies agree = stored_same c _ _ _ lies agree
   computes_same (MovImm dst imm) c lies agree = unwritten (with_register c _ imm) agree
-  computes_same (MovImmStore dst imm) c lies agree = stored_same c _ _ _ lies agree
-  computes_same (MovImmStoreByte dst imm) c lies agree = stored_same c _ _ _ lies agree
-  computes_same (MovImmStoreWord dst imm) c lies agree = stored_same c _ _ _ lies agree
   computes_same (MovExtended e from dst src) c lies agree = after_same c.memory (narrow_value c from src) _ _ _ (narrow_same c from src lies agree) (λ v. unwritten (with_register c _ _) agree)
   computes_same (Movsxd dst src) c lies agree = after_same c.memory (value c Dword src) _ _ _ (value_same c Dword src lies agree) (λ v. unwritten (with_register c _ _) agree)
-  computes_same (Lea dst src) c lies agree = unwritten (with_register c _ _) agree
   computes_same (Alu op w dst src) c lies agree = after_same c.memory (value c w src) _ _ _ (value_same c w src lies agree) (λ b. alu_same op c w (Reg dst) _ tt agree)
-  computes_same (AluStore op dst src) c lies agree = after_same c.memory (value c Dword (Mem dst)) _ _ _ (value_same c Dword (Mem dst) lies agree) (λ a. alu_same op c Dword (Mem dst) _ lies agree)
   computes_same (AluImm op w dst imm) c lies agree = after_same c.memory (value c w dst) _ _ _ (value_same c w dst lies agree) (λ a. alu_same op c w dst _ lies agree)
   computes_same (Test a b) c lies agree = unwritten (with_flags c _) agree
   computes_same (Unary op dst) c lies agree = after_same c.memory (value c Dword dst) _ _ _ (value_same c Dword dst lies agree) (λ a. finished_same c Dword dst _ lies agree)
@@ -137,9 +132,6 @@ module _ (there : ℕ → Type 0) (memory : ℕ → Option ℕ) where
   computes_same (Divide op src) c lies agree = divided_same c _ agree
   computes_same Cdq c lies agree = unwritten (with_register c 2 _) agree
   computes_same (Setcc condition dst) c lies agree = after_same c.memory (known (is_met condition c.flags)) _ _ _ refl (λ b. unwritten (with_register c _ _) agree)
-  computes_same (Push src) c lies agree = stored_same (with_register c 4 (rsp_plus c (2 ^ 64 - 8))) _ _ _ lies agree
-  computes_same (Pop dst) c lies agree = after_same c.memory (loaded c 8 (c.registers 4)) _ _ _ (loaded_same c 8 (c.registers 4) lies agree) (λ v. unwritten _ agree)
-  computes_same Ret c lies agree = unwritten (with_register c 4 _) agree
   computes_same (Jcc condition distance) c lies agree = unwritten c agree
   computes_same (Jmp distance) c lies agree = unwritten c agree
   computes_same (JmpTo target) c lies agree = unwritten c agree
@@ -150,7 +142,6 @@ module _ (there : ℕ → Type 0) (memory : ℕ → Option ℕ) where
   goes_same : (i : Instr) (after : ℕ) (c : Core) → LiesIn there (accessed i c) → Agree there c.memory memory → goes_to i after (with_memory c memory) ≡ goes_to i after c
   unfolding accessed
   goes_same (JmpTo target) after c lies agree = ap (λ r. r >>= landed) (value_same c Qword target lies agree)
-  goes_same Ret after c lies agree = ap (λ r. r >>= landed) (loaded_same c 8 (c.registers 4) lies agree)
   goes_same i after c lies agree = refl
 
   joined_same : (c : Core) (to : Result ℕ Stop) (r q : Result Core Stop) → Both c.memory r q

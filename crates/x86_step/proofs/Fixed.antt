@@ -1,5 +1,5 @@
 -- No step changes what may be written, so that fixed code stays fixed.
-use Rattle.std.proofs.Common.{zero, suc, ◌≡◌, ℕ, ◌+◌, ◌-◌, ◌^◌, Bool, true, false, Option, Some, None, length, drop, refl, ap, ◌∙◌, subst, if◌then◌else◌}
+use Rattle.std.proofs.Common.{zero, suc, ◌≡◌, ℕ, ◌+◌, ◌-◌, Bool, true, false, Option, Some, None, length, drop, refl, ap, ◌∙◌, subst, if◌then◌else◌}
 use Rattle.std.specs.Prelude.{Result, Ok, Err, IfOk, nat_le}
 use Rattle.x86_instr.specs.declared.operand.Operand.{Operand}
 use Rattle.x86_instr.specs.declared.operand.Operand.TheVariants.{Reg, Mem}
@@ -8,15 +8,15 @@ use Rattle.x86_instr.specs.declared.instr.Width.TheVariants.{Dword}
 use Rattle.x86_instr.specs.declared.instr.AluOp.{AluOp}
 use Rattle.x86_instr.specs.declared.instr.AluOp.TheVariants.{Add, Or, And, Sub, Xor, Cmp}
 use Rattle.x86_instr.specs.declared.instr.Instr.{Instr}
-use Rattle.x86_instr.specs.declared.instr.Instr.TheVariants.{Mov, MovStore, MovStoreByte, MovStoreWord, MovImm, MovImmStore, MovImmStoreByte, MovImmStoreWord, MovExtended, Movsxd, Lea, Alu, AluStore, AluImm, Test, Unary, ShiftImm, ShiftCl, Imul, Divide, Cdq, Setcc, Jcc, Jmp, JmpTo, Push, Pop, Ret, Nop}
+use Rattle.x86_instr.specs.declared.instr.Instr.TheVariants.{Mov, MovStore, MovStoreByte, MovStoreWord, MovImm, MovExtended, Movsxd, Alu, AluImm, Test, Unary, ShiftImm, ShiftCl, Imul, Divide, Cdq, Setcc, Jcc, Jmp, JmpTo, Nop}
 use Rattle.x86_instr.specs.Decoding.{Decoded, decode}
 use Rattle.x86_step.specs.declared.machine.Flags.{Flags}
 use Rattle.x86_step.specs.declared.machine.Computed.{Computed}
 use Rattle.x86_step.specs.declared.machine.Stop.{Stop}
 use Rattle.x86_step.specs.declared.machine.Stop.TheVariants.{Fault, NoInstruction}
 use Rattle.x86_step.specs.Laws.{FixedStays}
-use Rattle.x86_step.specs.State.{Core, Machine, Text, may_write, with_flags, with_memory, with_register, written}
-use Rattle.x86_step.specs.Step.{◌>>=◌, Steps, stay, go, resume, address, alu_finished, bytes_of, computes, divided, done, finished, goes_to, is_met, known, loaded, low, narrow_value, product, put, register, resumed, rsp_plus, step, stepped, stored, value}
+use Rattle.x86_step.specs.State.{Core, Machine, Text, may_write, with_flags, with_memory, written}
+use Rattle.x86_step.specs.Step.{◌>>=◌, Steps, stay, go, resume, address, alu_finished, bytes_of, computes, divided, done, finished, goes_to, is_met, known, loaded, low, narrow_value, product, put, register, resumed, step, stepped, stored, value}
 
 abbrev pub Keeps : Core → Result Core Stop → Type 0
 Keeps c r = IfOk r (λ d. d.writable ≡ c.writable)
@@ -62,14 +62,9 @@ computes_keeps (MovStore w dst src) c = stored_keeps c _ _ _
 computes_keeps (MovStoreByte dst src) c = stored_keeps c _ _ _
 computes_keeps (MovStoreWord dst src) c = stored_keeps c _ _ _
 computes_keeps (MovImm dst imm) c = refl
-computes_keeps (MovImmStore dst imm) c = stored_keeps c _ _ _
-computes_keeps (MovImmStoreByte dst imm) c = stored_keeps c _ _ _
-computes_keeps (MovImmStoreWord dst imm) c = stored_keeps c _ _ _
 computes_keeps (MovExtended e from dst src) c = after_keeps c (narrow_value c from src) _ (λ v. refl)
 computes_keeps (Movsxd dst src) c = after_keeps c (value c Dword src) _ (λ v. refl)
-computes_keeps (Lea dst src) c = refl
 computes_keeps (Alu op w dst src) c = after_keeps c (value c w src) _ (λ b. alu_keeps op c w (Reg dst) _)
-computes_keeps (AluStore op dst src) c = after_keeps c (value c Dword (Mem dst)) _ (λ a. alu_keeps op c Dword (Mem dst) _)
 computes_keeps (AluImm op w dst imm) c = after_keeps c (value c w dst) _ (λ a. alu_keeps op c w dst _)
 computes_keeps (Test a b) c = refl
 computes_keeps (Unary op dst) c = after_keeps c (value c Dword dst) _ (λ a. finished_keeps c Dword dst _)
@@ -79,9 +74,6 @@ computes_keeps (Imul w dst src) c = after_keeps c (value c w src) _ (λ b. finis
 computes_keeps (Divide op src) c = divided_keeps c _
 computes_keeps Cdq c = refl
 computes_keeps (Setcc condition dst) c = after_keeps c (known (is_met condition c.flags)) _ (λ b. refl)
-computes_keeps (Push src) c = stored_keeps (with_register c 4 (rsp_plus c (2 ^ 64 - 8))) _ _ _
-computes_keeps (Pop dst) c = after_keeps c (loaded c 8 (c.registers 4)) _ (λ v. refl)
-computes_keeps Ret c = refl
 computes_keeps (Jcc condition distance) c = refl
 computes_keeps (Jmp distance) c = refl
 computes_keeps (JmpTo target) c = refl

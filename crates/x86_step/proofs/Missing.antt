@@ -9,12 +9,12 @@ use Rattle.x86_instr.specs.declared.instr.Narrow.TheVariants.{Byte, Word}
 use Rattle.x86_instr.specs.declared.instr.Width.{Width}
 use Rattle.x86_instr.specs.declared.instr.Width.TheVariants.{Dword, Qword}
 use Rattle.x86_instr.specs.declared.instr.Instr.{Instr}
-use Rattle.x86_instr.specs.declared.instr.Instr.TheVariants.{Mov, MovStore, MovStoreByte, MovStoreWord, MovImmStore, MovImmStoreByte, MovImmStoreWord, MovExtended, Movsxd, Alu, AluStore, AluImm, Unary, ShiftImm, Imul, JmpTo, Push, Pop, Ret}
+use Rattle.x86_instr.specs.declared.instr.Instr.TheVariants.{Mov, MovStore, MovStoreByte, MovStoreWord, MovExtended, Movsxd, Alu, AluImm, Unary, ShiftImm, Imul, JmpTo}
 use Rattle.x86_step.specs.declared.machine.Stop.{Stop}
 use Rattle.x86_step.specs.declared.machine.Stop.TheVariants.{Fault}
-use Rattle.x86_step.specs.State.{Core, joined, number_at, with_register}
+use Rattle.x86_step.specs.State.{Core, joined, number_at}
 unfoldable use Rattle.x86_step.specs.Step.{accessed, computes}
-use Rattle.x86_step.specs.Step.{◌>>=◌, LiesIn, address, bytes_of, effect, found, goes_to, loaded, narrow_bytes, narrow_value, operand_access, rsp_plus, stored, value}
+use Rattle.x86_step.specs.Step.{◌>>=◌, LiesIn, address, bytes_of, effect, found, goes_to, loaded, narrow_bytes, narrow_value, operand_access, stored, value}
 
 -- ==== Bytes that aren't there.
 
@@ -103,19 +103,12 @@ done_has_all (Mov w dst src) after c = computed (Mov w dst src) after c (first _
 done_has_all (MovStore w dst src) after c = computed (MovStore w dst src) after c (stored_has c _ _ _)
 done_has_all (MovStoreByte dst src) after c = computed (MovStoreByte dst src) after c (stored_has c _ _ _)
 done_has_all (MovStoreWord dst src) after c = computed (MovStoreWord dst src) after c (stored_has c _ _ _)
-done_has_all (MovImmStore dst imm) after c = computed (MovImmStore dst imm) after c (stored_has c _ _ _)
-done_has_all (MovImmStoreByte dst imm) after c = computed (MovImmStoreByte dst imm) after c (stored_has c _ _ _)
-done_has_all (MovImmStoreWord dst imm) after c = computed (MovImmStoreWord dst imm) after c (stored_has c _ _ _)
 done_has_all (MovExtended e from dst src) after c = computed (MovExtended e from dst src) after c (first _ (narrow_value c from src) _ (narrow_has c from src))
 done_has_all (Movsxd dst src) after c = computed (Movsxd dst src) after c (first _ (value c Dword src) _ (value_has c Dword src))
 done_has_all (Alu op w dst src) after c = computed (Alu op w dst src) after c (first _ (value c w src) _ (value_has c w src))
-done_has_all (AluStore op dst src) after c = computed (AluStore op dst src) after c (first _ (value c Dword (Mem dst)) _ (value_has c Dword (Mem dst)))
 done_has_all (AluImm op w dst imm) after c = computed (AluImm op w dst imm) after c (first _ (value c w dst) _ (value_has c w dst))
 done_has_all (Unary op dst) after c = computed (Unary op dst) after c (first _ (value c Dword dst) _ (value_has c Dword dst))
 done_has_all (ShiftImm op w dst amount) after c = computed (ShiftImm op w dst amount) after c (first _ (value c w dst) _ (value_has c w dst))
 done_has_all (Imul w dst src) after c = computed (Imul w dst src) after c (first _ (value c w src) _ (value_has c w src))
-done_has_all (Push src) after c = computed (Push src) after c (stored_has (with_register c 4 (rsp_plus c (2 ^ 64 - 8))) _ _ _)
-done_has_all (Pop dst) after c = computed (Pop dst) after c (first _ (loaded c 8 (c.registers 4)) _ (loaded_has c 8 (c.registers 4)))
 done_has_all (JmpTo target) after c = first _ (goes_to (JmpTo target) after c) _ (first _ (value c Qword target) _ (value_has c Qword target))
-done_has_all Ret after c = first _ (goes_to Ret after c) _ (first _ (loaded c 8 (c.registers 4)) _ (loaded_has c 8 (c.registers 4)))
 done_has_all i after c = anyway _ (effect i after c) tt

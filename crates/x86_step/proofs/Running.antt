@@ -4,14 +4,14 @@ use Rattle.std.specs.Prelude.{Result, Ok, Err, nat_le}
 use Rattle.std.proofs.lemmas.Bool.{and_parts, false≢true, le-leb}
 use Rattle.std.proofs.lemmas.List.{drop_at}
 use Rattle.x86_instr.specs.declared.instr.Instr.{Instr}
-use Rattle.x86_instr.specs.declared.instr.Instr.TheVariants.{Jcc, Jmp, JmpTo, Ret}
+use Rattle.x86_instr.specs.declared.instr.Instr.TheVariants.{Jcc, Jmp, JmpTo}
 use Rattle.x86_instr.specs.Spelling.{spelling}
 use Rattle.x86_instr.proofs.Facts.{spelling_decodes}
 use Rattle.x86_step.specs.declared.machine.Stop.{Stop}
 use Rattle.x86_step.specs.Laws.{FaultsResume, SpelledAccesses, SpelledRun, SpelledSteps, StepsJoin}
 use Rattle.x86_step.specs.Running.{HasAt, are_straight, exec, is_straight, spellings}
-use Rattle.x86_step.specs.State.{Core, IsFixed, IsIn, Machine, Text}
-use Rattle.x86_step.specs.Step.{◌>>=◌, LiesIn, Reaches, Steps, stay, go, resume, computes, goes_to, next_access, resumed, step}
+use Rattle.x86_step.specs.State.{Core, IsFixed, Machine, Text}
+use Rattle.x86_step.specs.Step.{◌>>=◌, IsHandled, Reaches, Steps, stay, go, resume, computes, goes_to, next_access, resumed, step}
 
 -- ==== Where bytes stand.
 
@@ -59,7 +59,7 @@ faults_resume t at i c f fixed has faults there lies =
       count = 1;
       few = omega arith;
       steps = resume 0 (record { rip = at; core = c }) (resumed f c) f (spelled_steps t at i c has ∙ faults) there
-          (subst (λ access. LiesIn (IsIn t.handled) access) (sym (spelled_accesses t at i c has)) lies) (stay (resumed f c));
+          (subst (λ access. IsHandled t.handled access) (sym (spelled_accesses t at i c has)) lies) (stay (resumed f c));
     }
 
 -- ==== Several steps.
@@ -100,7 +100,6 @@ straight_goes : (i : Instr) (after : ℕ) (c : Core) → is_straight i ≡ true 
 straight_goes (Jcc condition distance) after c straight = absurd (false≢true straight)
 straight_goes (Jmp distance) after c straight = absurd (false≢true straight)
 straight_goes (JmpTo target) after c straight = absurd (false≢true straight)
-straight_goes Ret after c straight = absurd (false≢true straight)
 straight_goes i after c straight = refl
 
 straight_steps : (t : Text) (at : ℕ) (i : Instr) (c d : Core) → is_straight i ≡ true → HasAt t at (spelling i) → computes i c ≡ Ok d

@@ -11,7 +11,7 @@ use Rattle.x86_step.specs.declared.machine.Stop.{Stop}
 use Rattle.x86_step.specs.declared.machine.Stop.TheVariants.{Fault, NoInstruction}
 use Rattle.x86_step.specs.Accesses.{Agree, ComeToTheSame, HasNoOthers, WaysOutAccessNoOthers}
 use Rattle.x86_step.specs.State.{Core, Fixup, IsIn, Machine, Span, Text, with_memory}
-use Rattle.x86_step.specs.Step.{LiesIn, Steps, stay, go, resume, access_of, bytes_of, done, narrow_bytes, operand_access, resumed}
+use Rattle.x86_step.specs.Step.{IsHandled, LiesIn, Steps, stay, go, resume, access_of, bytes_of, done, narrow_bytes, operand_access, resumed}
 unfoldable use Rattle.x86_step.specs.Step.{accessed, next_access, step}
 use Rattle.x86_step.proofs.Accesses.{accesses_are_all}
 use Rattle.x86_step.proofs.Fixed.{step_keeps}
@@ -133,8 +133,8 @@ module _ (there : ℕ → Type 0) (t : Text) (handles : (a : ℕ) → IsIn t.han
   done_lies : (m n : Machine) → HasNoOthers there m.core.memory → step t m ≡ Ok n → LiesIn there (next_access t m)
   done_lies m n only does = lies_there there m.core only (next_access t m) (subst (λ r. IfOk r (λ k. LiesIn (Has m.core) (next_access t m))) does (step_has t m))
 
-  handled_lies : (access : Option Span) → LiesIn (IsIn t.handled) access → LiesIn there access
-  handled_lies None lies = tt
+  handled_lies : (access : Option Span) → IsHandled t.handled access → LiesIn there access
+  handled_lies None lies = absurd lies
   handled_lies (Some access) lies = λ a low high. handles a (lies a low high)
 
   there_too : (m d : Machine) → Extends m d → LiesIn there (next_access t m) → LiesIn there (next_access t d)

@@ -3,8 +3,8 @@ use Rattle.std.specs.Prelude.{◌≡◌, ℕ, ◌+◌, true, List, length, Some,
 use Rattle.x86_instr.specs.declared.instr.Instr.{Instr}
 use Rattle.x86_instr.specs.Spelling.{spelling}
 use Rattle.x86_step.specs.declared.machine.Stop.TheVariants.{Fault}
-use Rattle.x86_step.specs.State.{Core, Fixup, IsFixed, IsIn, Machine, Text}
-use Rattle.x86_step.specs.Step.{LiesIn, Reaches, accessed, effect, next_access, resumed, step}
+use Rattle.x86_step.specs.State.{Core, Fixup, IsFixed, Machine, Text}
+use Rattle.x86_step.specs.Step.{IsHandled, Reaches, accessed, effect, next_access, resumed, step}
 use Rattle.x86_step.specs.Running.{HasAt, are_straight, exec, spellings}
 
 -- code that is fixed stays so
@@ -30,7 +30,7 @@ SpelledAccesses =
 abbrev pub FaultsResume : Type 0
 FaultsResume =
     (t : Text) (at : ℕ) (i : Instr) (c : Core) (f : Fixup) → IsFixed t c → HasAt t at (spelling i)
-    → effect i (at + length (spelling i)) c ≡ Err Fault → t.fixups at ≡ Some f → LiesIn (IsIn t.handled) (accessed i c)
+    → effect i (at + length (spelling i)) c ≡ Err Fault → t.fixups at ≡ Some f → IsHandled t.handled (accessed i c)
     → Reaches t 1 (record { rip = at; core = c }) (resumed f c)
 
 -- the bytes that spell straight instructions run as these do, one after another up to their end

@@ -1,7 +1,7 @@
 -- Instructions whose bytes stand in a text, and what they do one after another.
 use Rattle.std.specs.Prelude.{◌≡◌, ℕ, ◌+◌, Bool, true, false, ◌&&◌, List, [], ◌∷◌, ◌++◌, length, Result, Ok}
 use Rattle.x86_instr.specs.declared.instr.Instr.{Instr}
-use Rattle.x86_instr.specs.declared.instr.Instr.TheVariants.{Jcc, Jmp, JmpTo, Ret}
+use Rattle.x86_instr.specs.declared.instr.Instr.TheVariants.{Jcc, Jmp, JmpTo}
 use Rattle.x86_instr.specs.Spelling.{spelling}
 use Rattle.x86_step.specs.declared.machine.Stop.{Stop}
 use Rattle.x86_step.specs.State.{Core, Text}
@@ -24,7 +24,6 @@ abbrev pub is_straight : Instr → Bool
 is_straight (Jcc condition distance) = false
 is_straight (Jmp distance) = false
 is_straight (JmpTo target) = false
-is_straight Ret = false
 is_straight i = true
 
 abbrev pub are_straight : List Instr → Bool

@@ -1,6 +1,6 @@
 -- One step of a processor, at the instructions of `x86_instr`. Intel 64 and IA-32 Architectures Software Developer's
--- Manual, volume 1, 3.4.1.1 (a result of 32 bits clears the upper half of a register), 3.4.3 and appendices A and B
--- (flags and conditions); volume 2, the pages of the instructions.
+-- Manual, volume 1, "General-Purpose Registers in 64-Bit Mode" (a result of 32 bits clears the upper half of a register),
+-- "EFLAGS Register", "EFLAGS Cross-Reference" and "EFLAGS Condition Codes"; volume 2, the pages of the instructions.
 use Rattle.std.specs.Prelude.{zero, suc, ◌<◌, ◌≤◌, ◌≡◌, ℕ, ◌+◌, ◌-◌, ◌*◌, ◌/◌, ◌%◌, ◌^◌, ◌==◌, nat_lt, nat_le, ◌&&◌, ◌||◌, not, Bool, true, false, ℤ, pos, neg_ℤ, ◌+ℤ◌, ◌-ℤ◌, ◌*ℤ◌, int_le, int_lt, int_div, int_rem, bit_and, bit_or, bit_xor, List, length, drop, Option, Some, None, Result, Ok, Err, if◌then◌else◌}
 use Rattle.std.specs.Int.{w32, w64, cast_signed, cast_unsigned, from_bool}
 use Rattle.std.specs.Option.{option_map}
@@ -17,7 +17,7 @@ use Rattle.x86_instr.specs.declared.instr.Extension.TheVariants.{Zero, Sign}
 use Rattle.x86_instr.specs.declared.instr.AluOp.{AluOp}
 use Rattle.x86_instr.specs.declared.instr.AluOp.TheVariants.{Add, Or, And, Sub, Xor, Cmp}
 use Rattle.x86_instr.specs.declared.instr.UnaryOp.{UnaryOp}
-use Rattle.x86_instr.specs.declared.instr.UnaryOp.TheVariants.{Not, Neg}
+use Rattle.x86_instr.specs.declared.instr.UnaryOp.TheVariants.{Neg}
 use Rattle.x86_instr.specs.declared.instr.ShiftOp.{ShiftOp}
 use Rattle.x86_instr.specs.declared.instr.ShiftOp.TheVariants.{Shl, Shr, Sar}
 use Rattle.x86_instr.specs.declared.instr.DivideOp.{DivideOp}
@@ -25,7 +25,7 @@ use Rattle.x86_instr.specs.declared.instr.DivideOp.TheVariants.{Div, Idiv}
 use Rattle.x86_instr.specs.declared.instr.Condition.{Condition}
 use Rattle.x86_instr.specs.declared.instr.Condition.TheVariants.{Below, AboveOrEqual, Equal, NotEqual, BelowOrEqual, Above, Less, GreaterOrEqual, LessOrEqual, Greater}
 use Rattle.x86_instr.specs.declared.instr.Instr.{Instr}
-use Rattle.x86_instr.specs.declared.instr.Instr.TheVariants.{Mov, MovStore, MovStoreByte, MovStoreWord, MovImm, MovImmStore, MovImmStoreByte, MovImmStoreWord, MovExtended, Movsxd, Lea, Alu, AluStore, AluImm, Test, Unary, ShiftImm, ShiftCl, Imul, Divide, Cdq, Setcc, Jcc, Jmp, JmpTo, Push, Pop, Ret, Nop}
+use Rattle.x86_instr.specs.declared.instr.Instr.TheVariants.{Mov, MovStore, MovStoreByte, MovStoreWord, MovImm, MovExtended, Movsxd, Alu, AluImm, Test, Unary, ShiftImm, ShiftCl, Imul, Divide, Cdq, Setcc, Jcc, Jmp, JmpTo, Nop}
 use Rattle.x86_instr.specs.Spelling.{number, scale_number}
 use Rattle.x86_instr.specs.Decoding.{Decoded, decode}
 use Rattle.x86_step.specs.declared.machine.Flags.{Flags}
@@ -140,7 +140,7 @@ abbrev pub same : Bool → Bool → Bool
 same true b = b
 same false b = not b
 
--- The carry says that the number doesn't fit without a sign, the overflow that it doesn't with one (volume 1, 3.4.3.1).
+-- The carry says that the number doesn't fit without a sign, the overflow that it doesn't with one (volume 1, "Status Flags").
 abbrev pub sum : Width → ℕ → ℕ → Computed
 sum w a b =
     flagged w (Some (nat_le (2 ^ bits_of w) (a + b))) (Some (not (fits w (signed w a +ℤ signed w b)))) (low w (a + b))
@@ -187,9 +187,8 @@ shift_by op w a n f =
 abbrev pub shift : ShiftOp → Width → ℕ → ℕ → Flags → Computed
 shift op w a n f = shift_by op w a (n % bits_of w) f
 
-abbrev pub unary : UnaryOp → ℕ → Flags → Computed
-unary Not a f = record { result = 2 ^ 32 - 1 - a; flags = f }
-unary Neg a f = difference Dword 0 a
+abbrev pub unary : UnaryOp → ℕ → Computed
+unary Neg a = difference Dword 0 a
 
 -- carry and overflow say that the signed product doesn't fit
 abbrev pub product : Width → ℕ → ℕ → Computed
@@ -197,7 +196,7 @@ product w a b =
     let lost = not (fits w (signed w a *ℤ signed w b)) in
     record { result = low w (a * b); flags = record { carry = Some lost; zero = None; sign = None; overflow = Some lost } }
 
--- ==== Conditions (volume 1, appendix B).
+-- ==== Conditions (volume 1, "EFLAGS Condition Codes").
 
 abbrev pub on_both : (Bool → Bool → Bool) → Option Bool → Option Bool → Option Bool
 on_both f (Some a) (Some b) = Some (f a b)
@@ -254,10 +253,6 @@ abbrev pub divided : Core → Option (ℕ × ℕ) → Result Core Stop
 divided c None = Err DivideError
 divided c (Some p) = Ok (with_flags (with_register (with_register c 0 p.0) 2 p.1) unknown)
 
--- rsp n bytes further
-abbrev pub rsp_plus : Core → ℕ → ℕ
-rsp_plus c n = (c.registers 4 + n) % 2 ^ 64
-
 -- what an instruction does with registers, flags and memory
 unfoldable pub computes : Instr → Core → Result Core Stop
 computes (Mov w dst src) c = value c w src >>= λ v. Ok (with_register c (number dst) v)
@@ -265,18 +260,12 @@ computes (MovStore w dst src) c = stored c (bytes_of w) (address c dst) (registe
 computes (MovStoreByte dst src) c = stored c 1 (address c dst) (register c src)
 computes (MovStoreWord dst src) c = stored c 2 (address c dst) (register c src)
 computes (MovImm dst imm) c = Ok (with_register c (number dst) imm)
-computes (MovImmStore dst imm) c = stored c 4 (address c dst) imm
-computes (MovImmStoreByte dst imm) c = stored c 1 (address c dst) imm
-computes (MovImmStoreWord dst imm) c = stored c 2 (address c dst) imm
 computes (MovExtended e from dst src) c = narrow_value c from src >>= λ v. Ok (with_register c (number dst) (extended e from v))
 computes (Movsxd dst src) c = value c Dword src >>= λ v. Ok (with_register c (number dst) (sign_extended v))
-computes (Lea dst src) c = Ok (with_register c (number dst) (low Dword (address c src)))
 computes (Alu op w dst src) c = value c w src >>= λ b. alu_finished op c w (Reg dst) (alu op w (low w (register c dst)) b)
-computes (AluStore op dst src) c =
-    value c Dword (Mem dst) >>= λ a. alu_finished op c Dword (Mem dst) (alu op Dword a (low Dword (register c src)))
 computes (AluImm op w dst imm) c = value c w dst >>= λ a. alu_finished op c w dst (alu op w a (immediate w imm))
 computes (Test a b) c = Ok (with_flags c (logical Dword (bit_and (low Dword (register c a)) (low Dword (register c b)))).flags)
-computes (Unary op dst) c = value c Dword dst >>= λ a. finished c Dword dst (unary op a c.flags)
+computes (Unary op dst) c = value c Dword dst >>= λ a. finished c Dword dst (unary op a)
 computes (ShiftImm op w dst amount) c = value c w dst >>= λ a. finished c w dst (shift op w a amount c.flags)
 computes (ShiftCl op dst) c =
     finished c Dword (Reg dst) (shift op Dword (low Dword (register c dst)) (c.registers 1 % 2 ^ 8) c.flags)
@@ -288,9 +277,6 @@ computes Cdq c = Ok (with_register c 2 (if is_negative Dword (low Dword (c.regis
 computes (Setcc condition dst) c =
     known (is_met condition c.flags)
     >>= λ b. Ok (with_register c (number dst) (register c dst - register c dst % 2 ^ 8 + from_bool b))
-computes (Push src) c = stored (with_register c 4 (rsp_plus c (2 ^ 64 - 8))) 8 (rsp_plus c (2 ^ 64 - 8)) (register c src)
-computes (Pop dst) c = loaded c 8 (c.registers 4) >>= λ v. Ok (with_register (with_register c 4 (rsp_plus c 8)) (number dst) v)
-computes Ret c = Ok (with_register c 4 (rsp_plus c 8))
 computes (Jcc condition distance) c = Ok c
 computes (Jmp distance) c = Ok c
 computes (JmpTo target) c = Ok c
@@ -313,7 +299,6 @@ goes_to (Jcc condition distance) after c =
     known (is_met condition c.flags) >>= λ b. if b then landed (jumped after distance) else Ok after
 goes_to (Jmp distance) after c = landed (jumped after distance)
 goes_to (JmpTo target) after c = value c Qword target >>= landed
-goes_to Ret after c = loaded c 8 (c.registers 4) >>= landed
 goes_to i after c = Ok after
 
 abbrev pub effect : Instr → ℕ → Core → Result Machine Stop
@@ -336,27 +321,25 @@ accessed (Mov w dst src) c = operand_access c (bytes_of w) src
 accessed (MovStore w dst src) c = operand_access c (bytes_of w) (Mem dst)
 accessed (MovStoreByte dst src) c = operand_access c 1 (Mem dst)
 accessed (MovStoreWord dst src) c = operand_access c 2 (Mem dst)
-accessed (MovImmStore dst imm) c = operand_access c 4 (Mem dst)
-accessed (MovImmStoreByte dst imm) c = operand_access c 1 (Mem dst)
-accessed (MovImmStoreWord dst imm) c = operand_access c 2 (Mem dst)
 accessed (MovExtended e from dst src) c = operand_access c (narrow_bytes from) src
 accessed (Movsxd dst src) c = operand_access c 4 src
 accessed (Alu op w dst src) c = operand_access c (bytes_of w) src
-accessed (AluStore op dst src) c = operand_access c 4 (Mem dst)
 accessed (AluImm op w dst imm) c = operand_access c (bytes_of w) dst
 accessed (Unary op dst) c = operand_access c 4 dst
 accessed (ShiftImm op w dst amount) c = operand_access c (bytes_of w) dst
 accessed (Imul w dst src) c = operand_access c (bytes_of w) src
 accessed (JmpTo target) c = operand_access c 8 target
-accessed (Push src) c = Some (record { at = rsp_plus c (2 ^ 64 - 8); size = 8 })
-accessed (Pop dst) c = Some (record { at = c.registers 4; size = 8 })
-accessed Ret c = Some (record { at = c.registers 4; size = 8 })
 accessed i c = None
 
 -- its addresses are among these
 abbrev pub LiesIn : (ℕ → Type 0) → Option Span → Type 0
 LiesIn there None = Unit {0}
 LiesIn there (Some access) = (a : ℕ) → access.at ≤ a → a < access.at + access.size → there a
+
+-- the host handles its faults: there is an access, whose addresses are all in that span
+abbrev pub IsHandled : Span → Option Span → Type 0
+IsHandled span None = ⊥
+IsHandled span (Some access) = LiesIn (IsIn span) (Some access)
 
 -- ==== A step.
 
@@ -380,16 +363,17 @@ access_of (Some d) c = accessed d.instr c
 unfoldable pub next_access : Text → Machine → Option Span
 next_access t m = if nat_le t.base m.rip then access_of (decode (drop (m.rip - t.base) t.bytes)) m.core else None
 
--- A fault leaves all as it was before the instruction (volume 3A, 6.5), also where a part of what a store writes could be
--- written, as is tested on processors; its fixup says where the host goes on.
+-- A fault leaves all as it was before the instruction (volume 3A, "Exception Classifications"; "Guaranteed Atomic
+-- Operations" excepts only stores of more than 8 bytes), also where a part of what a store writes could be written, as is
+-- tested on processors; its fixup says where the host goes on.
 abbrev pub resumed : Fixup → Core → Machine
-resumed f c = record { rip = f.to; core = with_register c 2 f.rdx }
+resumed f c = record { rip = f.to; core = with_register (with_register c 2 f.rdx) 14 ((c.registers 14 + (2 ^ 32 - f.subtracted)) % 2 ^ 32) }
 
 -- so many steps, one after another: instructions that are done, or whose fault the host handles
 pub data Steps (t : Text) : ℕ → Machine → Machine → Type 0 where
   stay : (m : Machine) → Steps t zero m m
   go : (steps : ℕ) (m n k : Machine) → step t m ≡ Ok n → Steps t steps n k → Steps t (suc steps) m k
-  resume : (steps : ℕ) (m k : Machine) (f : Fixup) → step t m ≡ Err Fault → t.fixups m.rip ≡ Some f → LiesIn (IsIn t.handled) (next_access t m)
+  resume : (steps : ℕ) (m k : Machine) (f : Fixup) → step t m ≡ Err Fault → t.fixups m.rip ≡ Some f → IsHandled t.handled (next_access t m)
       → Steps t steps (resumed f m.core) k → Steps t (suc steps) m k
 
 -- at most so many steps of fixed code lead from one state to another

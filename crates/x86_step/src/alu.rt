@@ -110,15 +110,11 @@ pub(crate) fn alu(op: AluOp, width: Width, a: u64, b: u64) -> Computed
     }
 }
 
-pub(crate) fn unary(op: UnaryOp, a: u64, flags: Flags) -> Computed
+pub(crate) fn unary(op: UnaryOp, a: u64) -> Computed
     requires { a < 2 ^ 32 }
-    ensures { result ≡ unary_of op a flags }
+    ensures { result ≡ unary_of op a }
 {
     match op {
-        UnaryOp::Not => Computed {
-            result: 0xFFFF_FFFF - a,
-            flags,
-        },
         UnaryOp::Neg => difference(Width::Dword, 0, a),
     }
 }

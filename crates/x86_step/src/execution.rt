@@ -1,9 +1,8 @@
 //! What an instruction does.
-ghost use Rattle.std.specs.Prelude.{◌≡◌, ◌+◌, ◌-◌, ◌%◌, ◌^◌, OnOk, IfErr, Ok};
-ghost use Rattle.x86_instr.specs.declared.instr.Instr.TheVariants.{Test, ShiftCl, Setcc, Push};
+ghost use Rattle.std.specs.Prelude.{◌≡◌, IfErr, Ok};
+ghost use Rattle.x86_instr.specs.declared.instr.Instr.TheVariants.{Test, ShiftCl, Setcc};
 ghost use Rattle.x86_step.specs.Held.{Comes, Leaves, core_of};
-ghost use Rattle.x86_step.specs.State.{with_register};
-ghost use Rattle.x86_step.specs.Step.{alu as alu_of, alu_finished, computes, effect, goes_to, jumped as jump_target, landed as landed_at, loaded, low as low_bits, rsp_plus};
+ghost use Rattle.x86_step.specs.Step.{alu as alu_of, alu_finished, computes, effect, goes_to, jumped as jump_target, landed as landed_at, low as low_bits};
 
 use crate::alu::{alu, is_negative, logical, product, unary};
 use crate::divide::is_met;
@@ -26,30 +25,6 @@ impl Core {
             return Ok(());
         }
         self.finish(width, dst, computed.result, computed.flags)
-    }
-
-    #[tactic(auto, unfolding(crate::specs::Step::computes))]
-    fn push(&mut self, src: Register) -> Result<(), Stop>
-        ensures value { Leaves result self.new (computes (Push src) (core_of self.old)) }
-        ensures kept { IfErr result (λ e. self.new ≡ self.old) }
-    {
-        let at = self.register(Register::Rsp).wrapping_sub(8);
-        let value = self.register(src);
-        self.store(8, at, value)?;
-        self.set(Register::Rsp, at);
-        Ok(())
-    }
-
-    /// What the stack's top holds.
-    fn pop(&mut self) -> Result<u64, Stop>
-        ensures value { result ≡ loaded (core_of self.old) 8 ((core_of self.old).registers 4) }
-        ensures kept { IfErr result (λ e. self.new ≡ self.old) }
-        ensures popped { OnOk result (core_of self.new ≡ with_register (core_of self.old) 4 (rsp_plus (core_of self.old) 8)) }
-    {
-        let at = self.register(Register::Rsp);
-        let value = self.load(8, at)?;
-        self.set(Register::Rsp, at.wrapping_add(8));
-        Ok(value)
     }
 
     /// What an instruction does with registers, flags and memory.
@@ -77,13 +52,6 @@ impl Core {
                 self.set(dst, u64::from(imm));
                 Ok(())
             }
-            Instr::MovImmStore { dst, imm } => self.store(4, self.address(dst), u64::from(imm)),
-            Instr::MovImmStoreByte { dst, imm } => {
-                self.store(1, self.address(dst), u64::from(imm))
-            }
-            Instr::MovImmStoreWord { dst, imm } => {
-                self.store(2, self.address(dst), u64::from(imm))
-            }
             Instr::MovExtended {
                 extension,
                 from,
@@ -99,11 +67,6 @@ impl Core {
                 self.set(dst, sign_extended(value as u32));
                 Ok(())
             }
-            Instr::Lea { dst, src } => {
-                let at = self.address(src);
-                self.set(dst, low(Width::Dword, at));
-                Ok(())
-            }
             Instr::Alu {
                 op,
                 width,
@@ -113,11 +76,6 @@ impl Core {
                 let b = self.value(width, src)?;
                 let a = low(width, self.register(dst));
                 self.operate(op, width, Operand::Reg(dst), a, b)
-            }
-            Instr::AluStore { op, dst, src } => {
-                let a = self.value(Width::Dword, Operand::Mem(dst))?;
-                let b = low(Width::Dword, self.register(src));
-                self.operate(op, Width::Dword, Operand::Mem(dst), a, b)
             }
             Instr::AluImm {
                 op,
@@ -134,7 +92,7 @@ impl Core {
             }
             Instr::Unary { op, dst } => {
                 let a = self.value(Width::Dword, dst)?;
-                let computed = unary(op, a, self.flags);
+                let computed = unary(op, a);
                 self.finish(Width::Dword, dst, computed.result, computed.flags)
             }
             Instr::ShiftImm {
@@ -169,17 +127,6 @@ impl Core {
                 Ok(())
             }
             Instr::Setcc { condition, dst } => self.set_byte(condition, dst),
-            Instr::Push { src } => self.push(src),
-            Instr::Pop { dst } => {
-                let value = self.pop()?;
-                self.set(dst, value);
-                Ok(())
-            }
-            Instr::Ret => {
-                let at = self.register(Register::Rsp).wrapping_add(8);
-                self.set(Register::Rsp, at);
-                Ok(())
-            }
             Instr::Jcc { .. } | Instr::Jmp { .. } | Instr::JmpTo { .. } | Instr::Nop { .. } => {
                 Ok(())
             }
@@ -241,7 +188,6 @@ impl Core {
             },
             Instr::Jmp { distance } => landed(jumped(after, distance)),
             Instr::JmpTo { target } => landed(self.value(Width::Qword, target)?),
-            Instr::Ret => landed(self.load(8, self.register(Register::Rsp))?),
             _ => Ok(after),
         }
     }

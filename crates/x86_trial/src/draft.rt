@@ -126,18 +126,6 @@ impl Draft {
         operand
     }
 
-    /// Lets rsp lead to a place.
-    pub(crate) fn lead_stack(&mut self) {
-        self.core.registers[4] = self.place();
-    }
-
-    /// The same, with a jump's target there.
-    pub(crate) fn lead_return(&mut self) {
-        self.lead_stack();
-        let target = self.target();
-        self.fill(self.core.registers[4], target);
-    }
-
     /// A distance within a page, or any.
     pub(crate) fn distance(&mut self) -> u32 {
         if self.random.once_in(2) {

@@ -6,7 +6,7 @@ use x86_instr::{
 };
 
 /// How many forms there are.
-pub(crate) const FORMS: u64 = 29;
+pub(crate) const FORMS: u64 = 21;
 /// A multiple of the number of operations of each form.
 pub(crate) const OPERATIONS: u64 = 180;
 
@@ -24,8 +24,6 @@ const ALU_OPS: [AluOp; 6] = [
     AluOp::Xor,
     AluOp::Cmp,
 ];
-
-const UNARY_OPS: [UnaryOp; 2] = [UnaryOp::Not, UnaryOp::Neg];
 
 const SHIFT_OPS: [ShiftOp; 3] = [ShiftOp::Shl, ShiftOp::Shr, ShiftOp::Sar];
 
@@ -60,9 +58,9 @@ impl Draft {
     /// An instruction of a form, by its place in `Instr`, and of an operation: the remainder by 2 says the
     /// width where the form has one, and the rest the operation.
     pub(crate) fn instr(&mut self, form: u64, operation: usize) -> Instr {
-        if form < 11 {
+        if form < 7 {
             self.moving(form, operation)
-        } else if form < 21 {
+        } else if form < 16 {
             self.computing(form, operation)
         } else {
             self.leading(form, operation)
@@ -94,31 +92,15 @@ impl Draft {
                 dst: self.register(),
                 imm: self.random.dword(),
             },
-            5 => Instr::MovImmStore {
-                dst: self.address(),
-                imm: self.random.dword(),
-            },
-            6 => Instr::MovImmStoreByte {
-                dst: self.address(),
-                imm: self.random.below(0x100) as u8,
-            },
-            7 => Instr::MovImmStoreWord {
-                dst: self.address(),
-                imm: self.random.below(0x1_0000) as u16,
-            },
-            8 => Instr::MovExtended {
+            5 => Instr::MovExtended {
                 extension: EXTENSIONS[operation / 2 % 2],
                 from: NARROWS[operation % 2],
                 dst: self.register(),
                 src: self.operand(),
             },
-            9 => Instr::Movsxd {
+            _ => Instr::Movsxd {
                 dst: self.register(),
                 src: self.operand(),
-            },
-            _ => Instr::Lea {
-                dst: self.register(),
-                src: self.address(),
             },
         }
     }
@@ -126,47 +108,42 @@ impl Draft {
     fn computing(&mut self, form: u64, operation: usize) -> Instr {
         let width = WIDTHS[operation % 2];
         match form {
-            11 => Instr::Alu {
+            7 => Instr::Alu {
                 op: ALU_OPS[operation / 2 % 6],
                 width,
                 dst: self.register(),
                 src: self.operand(),
             },
-            12 => Instr::AluStore {
-                op: ALU_OPS[operation % 6],
-                dst: self.address(),
-                src: self.register(),
-            },
-            13 => Instr::AluImm {
+            8 => Instr::AluImm {
                 op: ALU_OPS[operation / 2 % 6],
                 width,
                 dst: self.operand(),
                 imm: self.random.dword(),
             },
-            14 => Instr::Test {
+            9 => Instr::Test {
                 first: self.register(),
                 second: self.register(),
             },
-            15 => Instr::Unary {
-                op: UNARY_OPS[operation % 2],
+            10 => Instr::Unary {
+                op: UnaryOp::Neg,
                 dst: self.operand(),
             },
-            16 => Instr::ShiftImm {
+            11 => Instr::ShiftImm {
                 op: SHIFT_OPS[operation / 2 % 3],
                 width,
                 dst: self.operand(),
                 amount: self.random.below(0x100) as u8,
             },
-            17 => Instr::ShiftCl {
+            12 => Instr::ShiftCl {
                 op: SHIFT_OPS[operation % 3],
                 dst: self.register(),
             },
-            18 => Instr::Imul {
+            13 => Instr::Imul {
                 width,
                 dst: self.register(),
                 src: self.operand(),
             },
-            19 => {
+            14 => {
                 let src = self.register();
                 self.lead_division(src);
                 Instr::Divide {
@@ -180,36 +157,20 @@ impl Draft {
 
     fn leading(&mut self, form: u64, operation: usize) -> Instr {
         match form {
-            21 => Instr::Setcc {
+            16 => Instr::Setcc {
                 condition: CONDITIONS[operation % 10],
                 dst: self.register(),
             },
-            22 => Instr::Jcc {
+            17 => Instr::Jcc {
                 condition: CONDITIONS[operation % 10],
                 distance: self.distance(),
             },
-            23 => Instr::Jmp {
+            18 => Instr::Jmp {
                 distance: self.distance(),
             },
-            24 => Instr::JmpTo {
+            19 => Instr::JmpTo {
                 target: self.jump_operand(),
             },
-            25 => {
-                self.lead_stack();
-                Instr::Push {
-                    src: self.register(),
-                }
-            }
-            26 => {
-                self.lead_stack();
-                Instr::Pop {
-                    dst: self.register(),
-                }
-            }
-            27 => {
-                self.lead_return();
-                Instr::Ret
-            }
             _ => Instr::Nop {
                 size: NOP_SIZES[operation % 9],
             },

@@ -21,9 +21,9 @@ loop-sandbox-preserved c =
     let format = format_of c.args.image.now in
     let old = c.loop-sandbox.out.items in
     let new = c.push_sandbox.new.out.items in
-    let written = subst (λ (f : Format). Adds old new (IsSandboxFile c.loop-sandbox.sandbox (view f c.part-item.result))) c.format-format.ensures (c.in_ok-push_sandbox.ensures c.if-not-branch.false) in
+    let written = subst (λ (f : Format). Adds old new (IsSandboxFile c.loop-sandbox.sandbox (view f c.part-item.result))) c.format-format.ensures (c.in_ok-push_sandbox.ensures.adds c.if-not-branch.false) in
     let here = subst (λ (p : SandboxPart). Adds old new (IsSandboxFile c.loop-sandbox.sandbox (view format p))) c.part-item.is written in
     one_sandbox_more format c.args.image.now c.parts-part-items.result.now c.loop-sandbox.sandbox c.part-item.result c.args.out.now.items old new c.parts-part-items.ensures.parts c.loop-sandbox-test.true c.loop-sandbox.invariant here
 
-pub returns : goal.returns
-returns c = λ _. all_sandboxes (format_of c.args.image.now) c.args.image.now c.parts-part-items.result.now c.loop-sandbox.sandbox c.args.out.now.items c.loop-sandbox.out.items c.parts-part-items.ensures.parts c.loop-sandbox-test.false c.loop-sandbox.invariant
+pub returns-clause-adds : goal.returns-clause-adds
+returns-clause-adds c = λ _. all_sandboxes (format_of c.args.image.now) c.args.image.now c.parts-part-items.result.now c.loop-sandbox.sandbox c.args.out.now.items c.loop-sandbox.out.items c.parts-part-items.ensures.parts c.loop-sandbox-test.false c.loop-sandbox.invariant

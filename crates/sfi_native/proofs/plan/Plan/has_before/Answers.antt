@@ -1,7 +1,7 @@
 use Rattle.std.proofs.Common.{sym, ◌∙◌}
 use Rattle.std.proofs.lemmas.Bool.{false≢true}
 use Rattle.sfi_native.proofs.Assigned.{none_more}
-use Rattle.sfi_native.proofs.registers.RegisterMap.has_before.Goals as goal
+use Rattle.sfi_native.proofs.plan.Plan.has_before.Goals as goal
 
 pub loop-r-preserved : goal.loop-r-preserved
 loop-r-preserved c = record {

@@ -1,16 +1,26 @@
-//! Which of the sandbox's registers lie in registers of the processor.
-ghost use Rattle.std.specs.Prelude.{◌≡◌, ℕ, ◌<◌, ◌↔◌, None, Some, IsTrue};
-ghost use Rattle.sfi_native.specs.Registers.{IsRightMap, assigned, is_assignable as is_assignable_register, is_fixed as is_fixed_register};
+//! What code is free to choose: which of the sandbox's registers lie in the processor's, which steps it counts late, and where nops
+//! stand.
+ghost use Rattle.std.specs.Prelude.{◌≡◌, ℕ, ◌<◌, ◌↔◌, [], None, Some, IsTrue};
+ghost use Rattle.sfi_native.specs.Registers.{IsRightPlan, IsUnpadded, nop as nop_at, assigned, owed as owed_at, is_assignable as is_assignable_register, is_fixed as is_fixed_register};
 ghost use Rattle.sfi_native.specs.private.{IsRightAt};
 
 use rv_word::Reg;
-use x86_instr::Register;
+use std::alloc::Global;
+use x86_instr::{NopSize, Register};
 
-/// Which of the sandbox's registers lie in registers of the processor. The others lie in a frame in memory.
-#[derive(Clone, Copy)]
-pub struct RegisterMap {
+/// Which of the sandbox's registers lie in registers of the processor (the others lie in a frame in memory), which steps
+/// code counts late, and before which instructions nops stand.
+#[derive(Drop)]
+pub struct Plan {
     /// For x0 to x31 the processor's register; none: it lies in the frame.
     pub assigned: [Option<Register>; 32],
+    /// The address from which `owed` and `padding` go.
+    pub code_base: u32,
+    /// For each two bytes from there on how many steps, modulo 63, are done and not yet counted before the instruction there; 0
+    /// where there is no byte.
+    pub owed: Vec<u8>,
+    /// For each two bytes from there on the nop that stands before the instruction there, if one does.
+    pub padding: Vec<Option<NopSize>>,
 }
 
 /// A register that has one value for lines, so that none writes it.
@@ -37,14 +47,42 @@ fn is_assignable(q: Register) -> bool
     }
 }
 
-impl RegisterMap {
-    /// All registers lie in the frame.
-    pub fn in_frame() -> RegisterMap
-        ensures right { IsRightMap result }
+impl Plan {
+    /// All registers lie in the frame, and each step is counted at once.
+    pub fn in_frame(alloc: Global) -> Plan
+        ensures right { IsRightPlan result }
         ensures none { (r : ℕ) → assigned result r ≡ None }
+        ensures at_once { result.owed.items ≡ [] }
+        ensures unpadded { IsUnpadded result }
     {
-        RegisterMap {
+        Plan {
             assigned: [None; 32],
+            code_base: 0,
+            owed: Vec::new(alloc),
+            padding: Vec::new(alloc),
+        }
+    }
+
+    /// How many steps code owes before the instruction at that address.
+    pub(crate) fn owed(&self, at: u32) -> u32
+        ensures is { result ≡ owed_at self.now at }
+        ensures few { result < 63 }
+    {
+        let place = at.wrapping_sub(self.code_base) / 2;
+        match self.owed.get(place as usize) {
+            Some(owed) => u32::from(*owed % 63),
+            None => 0,
+        }
+    }
+
+    /// The nop that stands before the instruction at that address, if one does.
+    pub(crate) fn nop(&self, at: u32) -> Option<NopSize>
+        ensures { result ≡ nop_at self.now at }
+    {
+        let place = at.wrapping_sub(self.code_base) / 2;
+        match self.padding.get(place as usize) {
+            Some(nop) => *nop,
+            None => None,
         }
     }
 
@@ -90,10 +128,10 @@ impl RegisterMap {
         is_assignable(q) && !is_fixed(n as u8) && !self.has_before(n, q)
     }
 
-    /// Whether code may have the map: registers that no line writes lie in the frame, and no two lie in one register.
+    /// Whether code may have the plan: registers that no line writes lie in the frame, and no two lie in one register.
     #[tactic(auto, using(crate::proofs::Assigned::right_at, crate::proofs::Assigned::right_from, crate::proofs::Assigned::one_more_right))]
     pub fn is_right(&self) -> bool
-        ensures { IsTrue result ↔ IsRightMap self.now }
+        ensures { IsTrue result ↔ IsRightPlan self.now }
     {
         for n in 0..32 {
             if !self.is_right_at(n) {

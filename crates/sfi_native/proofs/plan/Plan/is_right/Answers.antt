@@ -1,6 +1,6 @@
 use Rattle.std.proofs.Common.{refl, arith, rules}
 use Rattle.sfi_native.proofs.Assigned.{one_more_right, right_from}
-use Rattle.sfi_native.proofs.registers.RegisterMap.is_right.Goals as goal
+use Rattle.sfi_native.proofs.plan.Plan.is_right.Goals as goal
 
 pub loop-n-preserved : goal.loop-n-preserved
 loop-n-preserved c = record {
