@@ -637,9 +637,15 @@ static void sfi_on_fault(int number, siginfo_t *info, void *context) {
         sfi_hand_on(&sfi_handlers_before[number == SIGBUS], number, info, context);
 }
 static int sfi_replace_handlers(const struct sigaction *own) {
-    struct sigaction *const before = sfi_handlers_before;
-    return sigaction(SIGSEGV, NULL, &before[0]) || sigaction(SIGBUS, NULL, &before[1]) || sigaction(SIGSEGV, own, NULL) ||
-           sigaction(SIGBUS, own, NULL);
+    static const int numbers[2] = { SIGSEGV, SIGBUS };
+    for (int k = 0; k < 2; k++) {
+        struct sigaction there;
+        if (sigaction(numbers[k], NULL, &there))
+            return -1;
+        if (!(there.sa_flags & SA_SIGINFO) || there.sa_sigaction != own->sa_sigaction)
+            sfi_handlers_before[k] = there;
+    }
+    return sigaction(SIGSEGV, own, NULL) || sigaction(SIGBUS, own, NULL);
 }
 static int sfi_handle_faults(void) {
     enum { NOT_YET, BEGUN, DONE };

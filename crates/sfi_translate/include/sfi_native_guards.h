@@ -46,11 +46,18 @@ static void sfi_on_fault(int number, siginfo_t *info, void *context) {
         sfi_hand_on(&sfi_handlers_before[number == SIGBUS], number, info, context);
 }
 
-/* What is there stays known before it is replaced: another thread may fault meanwhile. */
+/* What is there stays known before it is replaced, as another thread may fault meanwhile, and what is this file's own isn't taken for it,
+   should a call before this one have replaced one of the two alone. */
 static int sfi_replace_handlers(const struct sigaction *own) {
-    struct sigaction *const before = sfi_handlers_before;
-    return sigaction(SIGSEGV, NULL, &before[0]) || sigaction(SIGBUS, NULL, &before[1]) || sigaction(SIGSEGV, own, NULL) ||
-           sigaction(SIGBUS, own, NULL);
+    static const int numbers[2] = { SIGSEGV, SIGBUS };
+    for (int k = 0; k < 2; k++) {
+        struct sigaction there;
+        if (sigaction(numbers[k], NULL, &there))
+            return -1;
+        if (!(there.sa_flags & SA_SIGINFO) || there.sa_sigaction != own->sa_sigaction)
+            sfi_handlers_before[k] = there;
+    }
+    return sigaction(SIGSEGV, own, NULL) || sigaction(SIGBUS, own, NULL);
 }
 
 /* Handles faults, from the first call on. What isn't a sandbox's fault goes to the handler that was there then. It is set once:

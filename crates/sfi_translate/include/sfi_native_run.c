@@ -9,6 +9,7 @@
 
 enum { SERVICE_EXIT = 0, CALL_SIZE = 4, SLACK = 1020 }; /* SLACK: docs/IMAGE.md, typed registers */
 enum { MAGIC_SIZE = 4, COUNT_SIZE = 4, FIELDS_SIZE = 28, GATE_SIZE = 8 }; /* docs/IMAGE.md, the layout */
+enum { ECALL = 0x73 }; /* the instruction */
 enum { WORD_SIZE = 4, FOOTER_SIZE = 16, NAME_AT = 5, BELOW_END = 16 }; /* the table of names; where the first stack pointer is */
 
 #ifdef SFI_IMAGE /* else an includer has the image, and the sandboxes: tools/suygapid/native/exec.c */
@@ -84,8 +85,19 @@ static uint32_t gate_of(const struct native_sandbox *it) {
     return gate;
 }
 
+/* Where the image has the code of a sandbox. */
+static const uint8_t *code_of(const struct sfi_sandbox *s) {
+    size_t at = MAGIC_SIZE + COUNT_SIZE;
+    for (const struct sfi_sandbox *it = sfi_sandboxes; it != s; it++)
+        at += FIELDS_SIZE + (size_t)it->gates * GATE_SIZE + it->code_size + it->init;
+    return image_bytes + at + FIELDS_SIZE + (size_t)s->gates * GATE_SIZE;
+}
+
+/* Whether it stands at an `ecall` of a listed gate. In words a gate may list other code, which calls nobody: were it stepped over as by a
+   reply, a register could come to hold what its type forbids. */
 static bool is_at_call(const struct native_sandbox *it) {
-    return it->kind == SFI_RUN_READY && gate_of(it) < it->text->gates;
+    const struct sfi_sandbox *s = it->text;
+    return it->kind == SFI_RUN_READY && gate_of(it) < s->gates && word_at(code_of(s) + (it->hart.pc - s->code)) == ECALL;
 }
 
 /* Makes it ready at pc, as at its start. */
