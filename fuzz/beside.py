@@ -129,6 +129,8 @@ class Arguments:
 class Beside:
     """A shared world, and the twins of its sandboxes in the order of their numbers."""
 
+    arguments = Arguments  # what makes those of a call
+
     def __init__(self, pick, images, shared, new_twin_world, tally):
         self.pick, self.tally, self.shared, self.new_twin_world = pick, tally, shared, new_twin_world
         self.images = [self.placed(pick.choice(images)) for _ in range(MODULES)]
@@ -175,7 +177,7 @@ class Beside:
             return True
         number = self.pick.randrange(len(self.twins))
         twin = self.twins[number]
-        arguments = getattr(Arguments(self.pick, twin), kind)()
+        arguments = getattr(self.arguments(self.pick, twin), kind)()
         if self.pick.random() < 0.04:
             absent = len(self.twins) + self.pick.choice([16, 255, 1 << 31])
             return self.tally.see(kind, getattr(twin.world, kind)(absent, *arguments), getattr(self.shared, kind)(absent, *arguments))

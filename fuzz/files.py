@@ -7,7 +7,8 @@ out by `..`, links and absolute names, while a thread puts links in the place of
 Both ready-made hosts are tried: that of Python, and, if gcc is there, that of C (sfi_run_files.h). Beside the listed folders lie files
 with a text that no call may answer. After each case all that is outside is as it was, nothing of a folder that is listed as read-only
 has changed, one within another folder neither, no more files are open than the limit, no call has raised an exception, and none finds
-a stream once the host is closed.
+a stream once the host is closed. All that a call may come to by a mistake of a host lies in the case's own folder: links lead there,
+also those of /proc, and it is so deep that no path leads up out of it.
 """
 import ctypes
 import os
@@ -24,6 +25,7 @@ from sfi_run import OutsideData, Region, _folders, _use, files
 
 SECRET = b"what no sandbox may read"
 CALLS = 300  # of a case
+DEEP = 12  # more folders than a path of a call leads up
 BASE, SIZE = 0x01800000, 1 << 16
 COMPARED = ("nothing of outside is read", "outside nothing changes", "read-only is read-only", "limits hold", "replies are words",
             "closed is closed", "a refused call uses no limit")
@@ -149,7 +151,7 @@ def filled(folder, outside):
     for name in ("a", "folder/b", "folder/deep/a", "swapped/secret"):
         write(os.path.join(folder, name), b"inside")
     for name, target in (("out", outside), ("up", ".."), ("here", "folder"), ("loop", "loop"), ("folder/out", os.path.join(outside, "secret")),
-                         ("linked", os.path.join(outside, "secret")), ("root", "/"), ("self", "/proc/self/root")):
+                         ("linked", os.path.join(outside, "secret")), ("root", outside), ("self", "/proc/self/cwd")):
         os.symlink(target, os.path.join(folder, name))
     os.mkfifo(os.path.join(folder, "fifo"))
 
@@ -213,11 +215,23 @@ def call_of(dice, box):
 
 
 def case(tally, dice, room, host_of, streams_most):
-    """One case of a host, in a folder of its own."""
-    outside, work, dictionary = (os.path.join(room, name) for name in ("outside", "lists/work", "lists/dict"))
-    for folder in (outside, work, dictionary):
+    """One case of a host, in a folder of its own, to which /proc/self/cwd leads meanwhile."""
+    room = os.path.join(room, *["below"] * DEEP)
+    outside, here = os.path.join(room, "outside"), os.getcwd()
+    os.makedirs(os.path.join(outside, "etc"))
+    os.chdir(outside)
+    try:
+        case_in(tally, dice, room, outside, host_of, streams_most)
+    finally:
+        os.chdir(here)
+
+
+def case_in(tally, dice, room, outside, host_of, streams_most):
+    work, dictionary = (os.path.join(room, name) for name in ("lists/work", "lists/dict"))
+    for folder in (work, dictionary):
         os.makedirs(folder)
-    write(os.path.join(outside, "secret"), SECRET)
+    for name in ("secret", "etc/passwd"):
+        write(os.path.join(outside, name), SECRET)
     write(os.path.join(os.path.dirname(work), "secret"), SECRET)
     filled(work, outside)
     filled(dictionary, outside)
@@ -244,7 +258,7 @@ def case(tally, dice, room, host_of, streams_most):
             is_clean = is_clean and SECRET not in box.bytes
             most = max(most, len(os.listdir("/proc/self/fd")) - descriptors)
             tally.see("replies are words", True, len(call.answers) == 1 and 0 <= call.answers[0] < 1 << 32)
-    own = [os.open(os.path.join(outside, "secret"), os.O_RDONLY) for _ in range(streams_most)]  # by the numbers that streams had
+    own = [os.open(__file__, os.O_RDONLY) for _ in range(streams_most)]  # by the numbers that streams had
     for stream in range(files.FIRST_STREAM, files.FIRST_STREAM + streams_most):
         call = Call(box, [files.FIRST + READ, stream, BASE, 1, 0, 0, 0, 0])
         host.serve(call)

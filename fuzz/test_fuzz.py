@@ -4,6 +4,8 @@ import io
 import os
 import random
 import re
+import signal
+import struct
 import subprocess
 import sys
 import tempfile
@@ -17,6 +19,8 @@ import corpus
 import escapes
 import files
 import mutants
+import native_code
+import natively
 import ports
 import second
 import verdicts
@@ -198,6 +202,39 @@ class Ports(testing.Folder):
         cases = [(f"0 --round {number}", end) for number, end in enumerate((4, 5, 6))]
         silently(ports.see_cases, tally, players[1], cases, *answers)
         self.assertEqual((len(answers[0]), tally.compared, tally.wrong), (48, {"other": 3}, {"other": 1}))
+
+
+@testing.needs_program
+@unittest.skipIf(natively.why_not(), "native code doesn't run here")
+@unittest.skipUnless(os.path.exists(calls.LIBRARY), "libsfi_run.a isn't built")
+class Native(unittest.TestCase):
+    """Each in a process of its own, which native code may end."""
+
+    def ended(self, *words):
+        return subprocess.run([sys.executable, native_code.__file__, "--program", testing.SFI, *words], stdout=subprocess.PIPE, text=True, check=False)
+
+    def test_code_of_another_instruction_is_seen(self):
+        done = self.ended("--plant", "--rounds", "20")
+        self.assertEqual(done.returncode, 1, done.stdout)
+        case = re.search(r"^DIFFERS .*, seed (\d+ --round \d+)$", done.stdout, re.MULTILINE)[1].split()
+        self.assertEqual(self.ended("--plant", *case).returncode, 1)
+
+    def test_code_at_a_listed_address_calls_nobody_without_an_ecall(self):
+        words = b"\x13\0\0\0" + 63 * b"\x73\0\x10\0"
+        image = b"SFIW" + struct.pack("<10I", 1, 0x1000000, len(words), 0x1800000, natively.PAGE, 0x1000000, 1, 0, 0x1000000, 1) + words
+        host = natively.Host(testing.SFI)
+        self.assertTrue(host.take(image, host.compiled(image)[1]))
+        world = worlds.Library(host.calls)
+        world.load(image)
+        self.assertEqual((world.event(0).kind, world.reply(0, 0, 0), world.exit(0, 0)), (worlds.READY, False, False))
+        self.assertEqual((world.turn(0, 9).kind, world.steps(0)), (worlds.TRAPPED, 1))
+        world.free()
+
+    def test_a_fault_of_the_process_is_told(self):
+        printed = io.StringIO()
+        with contextlib.redirect_stdout(printed):
+            status = native_code.in_child(lambda now: os.kill(os.getpid(), signal.SIGSEGV))
+        self.assertEqual((status, printed.getvalue().splitlines()[-1]), (1, "0 passed, 1 failed"))
 
 
 class Files(unittest.TestCase):

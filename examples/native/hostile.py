@@ -1,5 +1,5 @@
-"""Builds the host hostile.c, which does to native code what might break it, with each compiler and with sanitizers, and runs its
-tests. Beside it stands decode.c: what the host decodes when it runs is compared with the decoder of the tools.
+"""Builds hosts that do to native code what might break it, hostile.c and hostile_signals.c, with each compiler and with sanitizers, and
+runs their tests. Beside them stands decode.c: what a host decodes when it runs is compared with the decoder of the tools.
 """
 import os
 import struct
@@ -8,16 +8,24 @@ import subprocess
 from suygapid.isa import decoding
 
 HERE = os.path.dirname(os.path.abspath(__file__))
-SOURCE, HOST, DECODER = (os.path.join(HERE, it) for it in ("hostile.s", "hostile.c", "decode.c"))
-TESTS = ("steps", "threads", "worlds", "timer", "fork", "files", "maps", "fates", "ignored", "handler-once", "handler-before", "handler-after")
-# Each build with its tests. The thread sanitizer blocks all signals while a handler runs, and so a sandbox's faults there.
+SOURCE, DECODER = (os.path.join(HERE, it) for it in ("hostile.s", "decode.c"))
+HOSTS = {  # the files of each host, and its tests
+    ("hostile.c",): ("steps", "threads", "worlds", "timer", "fork", "files", "maps", "fates", "ignored", "handler-once", "handler-before",
+                     "handler-after"),
+    ("hostile_signals.c", "hostile_other.c"): ("each-instruction", "nested", "thread-signals", "thread-forks", "thread-maps", "first", "stacks",
+                                               "faults", "kept", "copies"),
+}
+# Each build, with tests that it leaves out. The thread sanitizer blocks all signals while a handler runs, and so a sandbox's faults
+# there; it and the address sanitizer want larger stacks than the smallest.
+WITH_HANDLERS = {"timer", "fork", "files", "maps", "fates", "ignored", "handler-once", "handler-before", "handler-after", "each-instruction", "nested",
+                 "thread-signals", "thread-forks", "first", "stacks", "faults", "kept", "copies"}
 BUILDS = (
-    (("gcc", "-O2"), TESTS),
-    (("clang", "-O2"), TESTS),
-    (("gcc", "-O1", "-g", "-fsanitize=thread"), ("steps", "threads", "worlds")),
-    (("gcc", "-O1", "-g", "-fsanitize=address,undefined", "-fno-sanitize-recover"), TESTS),
+    (("gcc", "-O2"), set()),
+    (("clang", "-O2"), set()),
+    (("gcc", "-O1", "-g", "-fsanitize=thread"), WITH_HANDLERS),
+    (("gcc", "-O1", "-g", "-fsanitize=address,undefined", "-fno-sanitize-recover"), {"stacks", "thread-forks"}),
 )
-SECONDS = 60  # that a test may take
+SECONDS = 600  # that a test may take before it counts as hung
 PC = 0x40000
 OPCODES = (0x33, 0x33, 0x33, 0x13, 0x13, 0x03, 0x23, 0x63, 0x6F, 0x67, 0x37, 0x17)
 DECODED = 20000  # words of 32 bits
@@ -31,13 +39,14 @@ def tests(run, sfi, compilers, flags, folder):
     for path, data in ((text, run([sfi, "translate"], image)), (native, run([sfi, "native"], image))):
         with open(path, "wb") as file:
             file.write(data)
-    for compiler, names in BUILDS:
-        if compiler[0] not in compilers:
-            continue
-        host = os.path.join(folder, "hostile")
-        subprocess.run([*compiler, *flags, f'-DSFI_TEXT="{text}"', HOST, "-pthread", "-o", host], check=True)
-        for name in names:
-            yield f"hostile.c, {name}, by {' '.join(compiler)}", is_passed([host, native, name])
+    for compiler, left_out in BUILDS:
+        for files, names in HOSTS.items() if compiler[0] in compilers else ():
+            host = os.path.join(folder, "hostile")
+            sources = [os.path.join(HERE, it) for it in files]
+            subprocess.run([*compiler, *flags, f'-DSFI_TEXT="{text}"', *sources, "-pthread", "-o", host], check=True)
+            for name in names:
+                if name not in left_out:
+                    yield f"{files[0]}, {name}, by {' '.join(compiler)}", is_passed([host, native, name])
 
 
 def is_passed(words):
