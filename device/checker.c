@@ -44,12 +44,7 @@ uint32_t wasm_rt_register_func_type(uint32_t parameters, uint32_t results, ...) 
 }
 
 void *memmove(void *to, const void *from, size_t length) {
-    uint8_t *last = to;
-    const uint8_t *source = from;
-    if ((uintptr_t)to - (uintptr_t)from >= length)
-        return memcpy(to, from, length);
-    while (length-- > 0)
-        last[length] = source[length];
+    move_bytes(to, from, length);
     return to;
 }
 

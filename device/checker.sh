@@ -40,7 +40,7 @@ cd "$2"
 
 # 65536 is the least stack that the linker takes: LINKED_STACK of checker.h.
 # wasm2c tests each access against the memory's end alone; reach.h says where the module may go, and
-# where its bytes are: a call of an access that passes neither memory nor 64 bits is shorter.
+# where its bytes are, and reads and writes them: a call of an access that passes neither memory nor 64 bits is shorter.
 make_c() { # a library, the module's name
     "$toolchain/bin/rattle-link" --target wasm64-unknown-unknown --toolchain "$toolchain/toolchain" \
         --stack 65536 -o "${2}64.wasm" "$1" 2>link.log || { cat link.log >&2 && exit 1; }
@@ -48,10 +48,12 @@ make_c() { # a library, the module's name
     wasm2c "${2}32.wasm" -n "$2" -o "${2}_wasm.c"
     grep -q '^  if (UNLIKELY(offset + (uint64_t)len > mem->size))' "${2}_wasm.c" ||
         fail "${2}_wasm.c has no such test of an access as it had"
-    [ "$(grep -c 'mem, u64 addr' "${2}_wasm.c")/$(grep -c '&mem->data\[addr\]' "${2}_wasm.c")" = 4/2 ] ||
+    [ "$(grep -c 'mem, u64 addr' "${2}_wasm.c")/$(grep -c 'memcpy(\(&result, \)\?&mem->data\[addr\]' "${2}_wasm.c")" = 4/2 ] ||
         fail "${2}_wasm.c has no such accesses as it had"
     sed -i -e 's/(offset + (uint64_t)len > mem->size)/(!module_reaches(offset, len))/' \
-        -e 's/mem, u64 addr/mem, u32 addr/; s/&mem->data\[addr\]/module_byte(addr)/' "${2}_wasm.c"
+        -e 's/mem, u64 addr/mem, u32 addr/' \
+        -e 's/wasm_rt_memcpy(&result, &mem->data\[addr\]/read_value(\&result, module_byte(addr)/' \
+        -e 's/wasm_rt_memcpy(&mem->data\[addr\]/write_value(module_byte(addr)/' "${2}_wasm.c"
 }
 
 make_c "$library" sfi

@@ -127,6 +127,60 @@ try_rust() {
         cargo test -q --offline --locked --target-dir "$room/host/target"
 }
 
+# Values of the module's memory at each place, and moves over each other, beside memcpy and memmove.
+reading_and_writing() {
+    cat <<'END_OF_PROGRAM'
+#include "reach.h"
+#include <assert.h>
+#include <string.h>
+
+static uint8_t bytes[32] __attribute__((aligned(8))), wanted[32];
+
+static void fill(void) {
+    for (uint8_t at = 0; at < 32; at++)
+        bytes[at] = wanted[at] = (uint8_t)(251 - 7 * at);
+}
+
+#define TRY(type, at)                                                               \
+    do {                                                                            \
+        type found, same, other = (type)0x8091a2b3c4d5e6f7;                         \
+        fill();                                                                     \
+        read_value(&found, bytes + at, sizeof(type));                               \
+        memcpy(&same, wanted + at, sizeof(type));                                   \
+        write_value(bytes + at, &other, sizeof(type));                              \
+        memcpy(wanted + at, &other, sizeof(type));                                  \
+        assert(found == same && memcmp(bytes, wanted, 32) == 0);                    \
+    } while (0)
+
+int main(void) {
+    for (uint32_t at = 0; at < 16; at++) {
+        TRY(uint8_t, at);
+        TRY(uint16_t, at);
+        TRY(uint32_t, at);
+        TRY(uint64_t, at);
+    }
+    for (uint32_t tried = 0; tried < 14 * 14 * 18; tried++) {
+        uint32_t to = tried % 14, from = tried / 14 % 14, length = tried / 14 / 14;
+        fill();
+        move_bytes(bytes + to, bytes + from, length);
+        memmove(wanted + to, wanted + from, length);
+        assert(memcmp(bytes, wanted, 32) == 0);
+    }
+}
+END_OF_PROGRAM
+}
+
+try_values() {
+    if ! has gcc; then
+        skip 2 "values of the checker's memory" "gcc isn't there"
+        return
+    fi
+    reading_and_writing >"$room/values.c"
+    succeeds "the module's accesses on this machine" gcc -std=gnu11 -O2 -Wall -Wextra -Werror -fsanitize=undefined -fno-sanitize-recover \
+        -I"$library" -I"$shared/../../crates/sfi_c/include" -I"$shared/../../crates/sfi_slots/include" -o "$room/values" "$room/values.c"
+    succeeds "values of the checker's memory" "$room/values"
+}
+
 # A host that gives turns to what has stopped, too: it makes no step more.
 try_turns() {
     "$SFI" build <<<$'.sandbox 256\n.gate exit 0\n call exit' >"$room/image.hex"
@@ -138,6 +192,7 @@ try_turns() {
 try_library() {
     try_names "S-mode"
     try_names "M-mode" -DMICROCONTROLLER -Imcu/chips/sifive_e
+    try_values
     try_cpp g++
     try_cpp riscv64-unknown-elf-g++ -march=rv32imc -mabi=ilp32 -ffreestanding
     try_cmake
