@@ -1,12 +1,13 @@
 #!/usr/bin/env python3
-"""How fast all of Lua 5.4 is in a sandbox, translated: scripts by `sfi translate --whole` and gcc -O2, and by `sfi run`, beside
+"""How fast all of Lua 5.4 is in a sandbox: scripts by `sfi translate --whole` and gcc -O2, by native code, and by `sfi run`, beside
 Debian's lua5.4.
 
-    bench/lua.py [--program PATH] [--sources FOLDER] [--format N] [--heap BYTES] [--rounds N] [--option OPTION ..] [SCRIPT ..]
+    bench/lua.py [--program PATH] [--sources FOLDER] [--format N] [--heap BYTES] [--rounds N] [--option OPTION ..] [--way WAY ..] [SCRIPT ..]
 
 Scripts are those of examples/c/programs, which are short, and those of longer/ if none are named; each folder has its mean. It wants lua5.4, Lua's sources (examples/c/programs.py --fetch) and
-sfi-cc's tools. OPTION is one of gcc for the translation, such as -DSFI_TESTED. Processor seconds of lua5.4, each the least of
-N alternated runs, and the ratios of the others to it; it ends where the translation prints another line than `sfi run`.
+sfi-cc's tools. OPTION is one of gcc for the translation, such as -DSFI_TESTED. WAY is translated, native or run: all, where none is named.
+Processor seconds of lua5.4, each the least of N alternated runs, and the ratios of the others to it; it ends where one prints another
+line than the others.
 """
 import argparse
 import glob
@@ -21,9 +22,10 @@ from itertools import groupby
 import measure
 import programs
 from compiled import EXAMPLES, mean
-from translated import TURNS
+from translated import NATIVE_TURNS, TURNS, by_native_code
 
 
+WAYS = ("translated", "native", "run")
 FOLDERS = (os.path.join(EXAMPLES, "programs"), os.path.join(measure.HERE, "longer"))
 
 
@@ -46,16 +48,34 @@ def translated(given, image, folder):
     return path, seconds
 
 
-def measured(given, script, image, path):
-    """The seconds of lua5.4, and the ratios of the translation and of `sfi run`."""
-    options = [*TURNS, "--input", measure.contents(script).hex()]
-    ways = {"lua5.4": (["lua5.4", script], os.devnull), "translated": ([path, *options], os.devnull),
-            "sfi run": ([given.program, "run", *options], image)}
-    lines = {way: measure.run(*ways[way])[0] for way in ("translated", "sfi run")}
-    if lines["translated"] != lines["sfi run"]:
+def ways_of(given, image, folder):
+    """By way, what gives the words that run a script's bytes, and the file that these read."""
+    path = measure.written(os.path.join(folder, "image"), image)
+    ways = {}
+    if "translated" in given.way:
+        program, seconds = translated(given, image, folder)
+        print(f"gcc -O2 {' '.join(given.option)}: {seconds:.1f} s of processor time")
+        ways["translated"] = lambda script: ([program, *TURNS, "--input", script.hex()], os.devnull)
+    if "native" in given.way:
+        words = by_native_code(given.program, image, folder, "lua")
+        ways["native"] = lambda script: ([*words, *NATIVE_TURNS, script.hex()], os.devnull)
+    if "run" in given.way:
+        ways["run"] = lambda script: ([given.program, "run", *TURNS, "--input", script.hex()], path)
+    return ways
+
+
+def measured(given, script, ways_of_script):
+    """The seconds of lua5.4, and by way the ratio to it."""
+    ways = {way: it(measure.contents(script)) for way, it in ways_of_script.items()}
+    lines = {way: measure.run(*it)[0] for way, it in ways.items()}
+    if len(set(lines.values())) != 1:
         sys.exit(f"bench: {script}: the lines differ: {lines}")
-    least = measure.leasts(ways, given.rounds)
-    return least["lua5.4"], [least[way] / least["lua5.4"] for way in ("translated", "sfi run")]
+    least = measure.leasts({"lua5.4": (["lua5.4", script], os.devnull)} | ways, given.rounds)
+    return least["lua5.4"], [least[way] / least["lua5.4"] for way in ways]
+
+
+def cells(ratios):
+    return " | ".join(f"{it:.2f}" for it in ratios)
 
 
 def main():
@@ -67,22 +87,23 @@ def main():
     parser.add_argument("--heap", type=int, default=400000)
     parser.add_argument("--rounds", type=int, default=9)
     parser.add_argument("--option", action="append", default=[])
+    parser.add_argument("--way", action="append", choices=WAYS)
     given = parser.parse_args()
+    given.way = given.way or WAYS
     given.program, given.fetch, given.given = measure.program_at(given.program), False, []
     if not shutil.which("lua5.4"):
         sys.exit("bench: lua5.4 isn't there")
     with tempfile.TemporaryDirectory() as folder:
         image = lua_image(given, folder)
-        path, seconds = translated(given, image, folder)
-        image = measure.written(os.path.join(folder, "image"), image)
-        print(f"gcc -O2 {' '.join(given.option)}: {seconds:.1f} s of processor time\n\n| script | lua5.4, s | translated | sfi run |\n|---|---|---|---|")
+        ways = ways_of(given, image, folder)
+        print(f"| script | lua5.4, s | {' | '.join(ways)} |\n|---|---{'|---' * len(ways)}|")
         for _, scripts in groupby(given.scripts, os.path.dirname):
             rows = []
             for script in scripts:
-                least, ratios = measured(given, script, image, path)
+                least, ratios = measured(given, script, ways)
                 rows.append(ratios)
-                print(f"| {os.path.basename(script)} | {least:.4f} | {ratios[0]:.2f} | {ratios[1]:.1f} |", flush=True)
-            print(f"| mean | | {mean([row[0] for row in rows]):.2f} | {mean([row[1] for row in rows]):.1f} |", flush=True)
+                print(f"| {os.path.basename(script)} | {least:.4f} | {cells(ratios)} |", flush=True)
+            print(f"| mean | | {cells(mean(column) for column in zip(*rows))} |", flush=True)
 
 
 if __name__ == "__main__":

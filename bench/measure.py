@@ -50,13 +50,13 @@ def contents(path):
 
 
 def run(words, path):
-    """What a program prints when it reads that file, and the seconds of processor time that it takes."""
+    """What a program prints when it reads that file, where that is text, and the seconds of processor time that it takes."""
     with open(path, "rb") as file:
         process = subprocess.Popen(words, stdin=file, stdout=subprocess.PIPE, stderr=subprocess.DEVNULL)
         output = process.stdout.read()
         _, status, usage = os.wait4(process.pid, 0)
         process.returncode = os.waitstatus_to_exitcode(status)
-    return output.decode(), usage.ru_utime + usage.ru_stime
+    return output.decode(errors="replace"), usage.ru_utime + usage.ru_stime
 
 
 def times(commands, rounds):

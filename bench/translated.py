@@ -29,7 +29,8 @@ TIMES = {"crc32": 16000, "sha256": 8000, "sort": 5000, "wordcount": 20000, "stac
          "lz": 4000, "hash": 5000, "matrix": 250, "regex": 4500, "sha": 30000, "sort_kernel": 250, "matrix_kernel": 1500, "sieve": 900}
 KERNELS = {"sha": "sha", "sort_kernel": "sort", "matrix_kernel": "matrix", "sieve": "sieve"}
 FORMATS = ("2", "words")
-TURNS = ["--rounds", "10000", "--quantum", "1000000"]
+NATIVE_TURNS = ["10000", "1000000"]
+TURNS = ["--rounds", NATIVE_TURNS[0], "--quantum", NATIVE_TURNS[1]]
 INCLUDE = os.path.join(compiled.TOP, "crates/sfi_translate/include")
 WASM = ["--target=wasm32", "-O2", "-mbulk-memory", "-nostdlib", "-DRUN_ALONE", "-Dmain=run", "-Wl,--no-entry,--export=run"]
 # What clang has no instruction for, of the C library's functions that the programs call.
@@ -148,15 +149,19 @@ def translated(program, image_format, folder, options, for_gcc):
     return [path, *TURNS], lines
 
 
-def by_native_code(program, image_format, folder, lines):
-    """The words that run the native code of a translated image."""
-    source, path = measure.written(os.path.join(folder, "lines.c"), lines), os.path.join(folder, f"host.{image_format}")
-    code = call(program, "native", input=measure.contents(image_in(folder, image_format)))
-    file = measure.written(os.path.join(folder, f"{image_format}.native"), code)
-    included = ["-I", os.path.join(compiled.TOP, "crates/sfi_native/include"), "-I", INCLUDE]
-    host = os.path.join(compiled.TOP, "examples/native/sfi_console.c")
-    call("gcc", "-O1", "-std=gnu11", "-Wno-unused-function", *included, f'-DSFI_TEXT="{source}"', host, "-o", path)
-    return [path, file, *TURNS]
+def native_console(folder):
+    """The path of the host of native code."""
+    included = [f"-I{os.path.join(compiled.TOP, 'crates', it, 'include')}" for it in ("sfi_native", "sfi_translate", "sfi_run", "sfi_c")]
+    path = os.path.join(folder, "native_console")
+    call("gcc", "-O2", "-std=gnu11", "-Wno-unused-function", *included, os.path.join(compiled.TOP, "examples/native/console.c"), "-o", path)
+    return path
+
+
+def by_native_code(program, digits, folder, name):
+    """The words that run the native code of an image, but for the rounds and so on."""
+    image = measure.written(os.path.join(folder, f"{name}.image"), bytes.fromhex(digits.decode()))
+    code = measure.written(os.path.join(folder, f"{name}.native"), call(program, "native", input=digits))
+    return [native_console(folder), image, code]
 
 
 def answer_of(output):
@@ -185,7 +190,8 @@ def measured(program, name, given, folder):
         words, texts[image_format] = translated(program, image_format, folder, options, given.option)
         ways[image_format] = words, os.devnull
         if given.native:
-            ways[f"native {image_format}"] = by_native_code(program, image_format, folder, texts[image_format]), os.devnull
+            digits = measure.contents(image_in(folder, image_format))
+            ways[f"native {image_format}"] = [*by_native_code(program, digits, folder, image_format), *NATIVE_TURNS], os.devnull
     if shutil.which("wasm2c") and shutil.which("clang"):
         ways["wasm2c"] = by_wasm2c(folder, options), os.devnull
     if name in KERNELS and given.peers:
@@ -236,7 +242,7 @@ def main():
             seconds, rows[name], found = measured(program, name, given, place)
             texts += found.values()
             print(f"| {name} | {seconds:.3f} | " + " | ".join(f"{way}: {it:.2f}" for way, it in rows[name].items()) + " |", flush=True)
-    for title, names in (("mean of programs", CASES), ("mean of kernels", KERNELS)):
+    for title, names in (("mean of programs", CASES), ("without arithmetic", set(CASES) - {"arithmetic"}), ("mean of kernels", KERNELS)):
         if kept := [row for name, row in rows.items() if name in names]:
             print_means(title, kept)
     print_size(texts)
