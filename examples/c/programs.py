@@ -42,6 +42,7 @@ MANGLED = re.compile(r"_[ZRD].{,157}", re.ASCII)
 MOST_MANGLED = 360
 SAMPLE = ("zlib", "cjson", "tinyxml2", "tinyscheme", "truetype")  # what builds in seconds
 NO_ROOM = "more than format 1 has room for"
+KEYS = "/usr/share/keyrings/debian-archive-keyring.gpg"
 RUN = ("run", "--rounds", "10000", "--quantum", "1000000")
 
 
@@ -104,12 +105,48 @@ class Found:
     seconds: float = 0
 
 
+def fetch(package, folder):
+    """Has apt-get put the archives of a source package there. Where the machine's lists have no sources, as in Debian's containers,
+    it takes lists of its own, in the folder."""
+    os.makedirs(folder, exist_ok=True)
+    words = ["source", "--download-only", package]
+    if apt_get(folder, words):
+        lists = own_lists(os.path.join(folder, "apt"))
+        if lists and not apt_get(folder, [*lists, "update"]):
+            apt_get(folder, [*lists, *words])
+
+
+def apt_get(folder, words):
+    """The status of apt-get."""
+    return subprocess.run(["apt-get", *words], cwd=folder, stdout=sys.stderr, check=False).returncode
+
+
+def own_lists(folder):
+    """apt-get's options for lists of sources, in a folder, from where this machine has Debian's packages; none where no file says so."""
+    files = glob.glob("/etc/apt/sources.list.d/*.sources")
+    texts = [it for it in map(read_text, files) if KEYS in it]
+    if not texts:
+        return []
+    for name in ("lists/partial", "archives/partial"):
+        os.makedirs(os.path.join(folder, name), exist_ok=True)
+    place = os.path.join(folder, "debian.sources")
+    with open(place, "w", encoding="utf-8") as file:
+        file.write("\n".join(re.sub("^Types: deb$", "Types: deb-src", it, flags=re.MULTILINE) for it in texts))
+    settings = {"Dir::State::Lists": os.path.join(folder, "lists"), "Dir::Cache": folder, "Dir::Etc::SourceList": place,
+                "Dir::Etc::SourceParts": "-"}
+    return [word for name, value in settings.items() for word in ("-o", f"{name}={value}")]
+
+
+def read_text(path):
+    with open(path, encoding="utf-8") as file:
+        return file.read()
+
+
 def archive_of(package, options):
     """The path of a source package's archive, or None."""
     pattern = os.path.join(options.sources, f"{package}_*.orig.tar.*")
     if options.fetch and not glob.glob(pattern):
-        os.makedirs(options.sources, exist_ok=True)
-        subprocess.run(["apt-get", "source", "--download-only", package], cwd=options.sources, stdout=sys.stderr, check=False)
+        fetch(package, options.sources)
     return max((path for path in glob.glob(pattern) if not path.endswith(".asc")), default=None)
 
 

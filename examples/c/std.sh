@@ -142,6 +142,6 @@ std_programs_as_natively() {
     fi
     why=$(missing riscv64-unknown-elf-gcc)
     if [ -n "$why" ]; then skip 1 "std by gcc" "$why"; else try_compiler gcc; fi
-    why=$(missing clang llc)
+    why=$(missing clang llc riscv64-unknown-elf-as)
     if [ -n "$why" ]; then skip 1 "std by clang" "$why"; else try_compiler clang; fi
 }
