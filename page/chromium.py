@@ -51,14 +51,25 @@ class Socket:
                 return json.loads(whole)
 
 
-class Page:
-    """A page at an address. `complaints` are its uncaught errors and what the console got of them."""
+READY = "document.body && document.body.dataset.ready === 'yes'"  # as this repository's page tells
 
-    def __init__(self, chromium, address, wide=1500, high=940):
+
+class Page:
+    """A page at an address, which is there when an expression of its own is true. `complaints` are its uncaught errors and what the
+    console got of them."""
+
+    def __init__(self, chromium, address, wide=1500, high=940, ready=READY):
         self.room = tempfile.mkdtemp()
         words = [chromium, "--headless=new", "--no-sandbox", "--disable-gpu", "--hide-scrollbars", f"--user-data-dir={self.room}",
                  "--remote-debugging-port=0", f"--window-size={wide},{high}", "about:blank"]
         self.process = subprocess.Popen(words, stdout=subprocess.DEVNULL, stderr=subprocess.DEVNULL)
+        try:
+            self.begin(address, wide, high, ready)
+        except BaseException:
+            self.end()
+            raise
+
+    def begin(self, address, wide, high, ready):
         self.number, self.complaints = 0, []
         self.socket = Socket(self.target())
         for domain in "Page", "Runtime", "Log":
@@ -66,7 +77,7 @@ class Page:
         self.resize(wide, high)
         begun = time.monotonic()
         self.call("Page.navigate", url=address)
-        self.wait("document.body && document.body.dataset.ready === 'yes'")
+        self.wait(ready)
         self.loading = time.monotonic() - begun
 
     def target(self):

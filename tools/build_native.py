@@ -12,7 +12,7 @@ from suygapid import TOP, native
 
 
 def main():
-    made = native.make()
+    made = native.make(is_anew=True)
     print(f"{os.path.relpath(made, TOP)} is built" if made else "nothing is built: this isn't Linux on x86-64 with gcc or clang")
 
 

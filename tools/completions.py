@@ -2,6 +2,7 @@
 import os
 import re
 import subprocess
+from concurrent.futures import ThreadPoolExecutor
 from dataclasses import dataclass
 
 import documents
@@ -133,7 +134,9 @@ def fish(command):
 def files(tools):
     """The texts of the files of completions for the program and these tools, by their places below the prefix."""
     found = {}
-    for it in (program(), *map(tool, tools)):
+    with ThreadPoolExecutor() as pool:  # each tool is asked by a process of its own
+        asked = list(pool.map(tool, tools))
+    for it in (program(), *asked):
         found[f"share/bash-completion/completions/{it.name}"] = bash(it)
         found[f"share/zsh/site-functions/_{it.name}"] = zsh(it)
         found[f"share/fish/vendor_completions.d/{it.name}.fish"] = fish(it)

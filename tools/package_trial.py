@@ -1,5 +1,7 @@
 """Tries packages as those who install them do: each in an empty folder, with nothing of this repository, of its toolchain or from
 a network. What is installed has to say of the smallest image, which is 64 times ebreak, by which cause it traps."""
+import functools
+import hashlib
 import os
 import pathlib
 import shutil
@@ -7,12 +9,14 @@ import subprocess
 import sys
 import tarfile
 import tempfile
+from concurrent.futures import ThreadPoolExecutor
 
 import installed
 import release_trial
 import version
 
 IMAGE = bytes.fromhex((installed.TOP / release_trial.SMALLEST).read_text(encoding="ascii"))
+JUDGED = f"{release_trial.ACCEPTED.strip()} sha256={hashlib.sha256(IMAGE).hexdigest()} version={version.version()} commit="
 COMPLETIONS = ("bash-completion/completions/sfi", "zsh/vendor-completions/_sfi", "fish/vendor_completions.d/sfi.fish")
 PYTHON = """
 import importlib.metadata, pathlib, sfi_run, sys
@@ -75,10 +79,22 @@ def hold(said, wanted, what):
 
 # ---- the trials, each in the empty folder `room`
 
+@functools.cache
+def with_pip():
+    """A folder with an environment that has pip, which takes seconds to make and installs into others. It goes as this process ends."""
+    made = tempfile.TemporaryDirectory()
+    run(made.name, sys.executable, "-m", "venv", "mine")
+    return made
+
+
 def wheel(path, room):
-    run(room, sys.executable, "-m", "venv", "mine")
-    run(room, room / "mine" / "bin" / "pip", "install", "--quiet", "--no-index", "--disable-pip-version-check", path)
+    run(room, sys.executable, "-m", "venv", "--without-pip", "mine")
+    pip = pathlib.Path(with_pip().name) / "mine" / "bin" / "pip"
+    run(room, pip, "--python", room / "mine" / "bin" / "python", "install", "--quiet", "--no-index", "--disable-pip-version-check", path)
     hold(run(room, room / "mine" / "bin" / "python", "-c", PYTHON, given=IMAGE, HOME=str(room)), "BREAK", "the package for Python")
+    (room / "smallest.image").write_bytes(IMAGE)
+    hold(run(room, room / "mine" / "bin" / "sfi-check", "smallest.image", HOME=str(room)), JUDGED, "its sfi-check")
+    hold(run(room, room / "mine" / "bin" / "sfi-corpus", "check", "smallest.image", HOME=str(room)), "files=1: 1 accepted", "its sfi-corpus")
 
 
 def tarball(path, room):
@@ -101,10 +117,16 @@ def crate(path, room):
 def debian(path, room):
     hold(run(room, "dpkg-deb", "--field", path, "Package", "Version"), version.version(), "the package for Debian")
     run(room, "dpkg-deb", "--extract", path, room)
+    unpacked(room)
+
+
+def unpacked(room):
+    """Tries what the package for Debian has, which is below `room`."""
     usr = room / "usr"
     hold(run(room, usr / "bin" / "sfi", "check", given=IMAGE), release_trial.ACCEPTED, "the program")
-    for tool in installed.TOOLS:
-        run(room, usr / "bin" / tool, "--help")
+    with ThreadPoolExecutor() as pool:
+        for tool, told in zip(installed.TOOLS, pool.map(lambda tool: run(room, usr / "bin" / tool, "--version"), installed.TOOLS)):
+            hold(told, f"{tool} version={version.version()} commit=", tool)
     for place in (*(f"man/man1/{page}" for page in installed.PAGES), *COMPLETIONS):
         if not (usr / "share" / place).is_file():
             raise Fault(f"usr/share/{place} isn't there")

@@ -1,4 +1,4 @@
-"""Tests of sfi-exec by native code, beside the same runs step by step: `tools/unit_tests.py tools test_exec.py`. They are skipped where
+"""Tests of sfi-exec by native code, beside the same runs step by step: `tools/unit_tests.py tools test_exec.py`. Those are skipped where
 this isn't Linux on x86-64, or a compiler or the program isn't there."""
 import glob
 import os
@@ -101,6 +101,17 @@ class Natively(Folder):
         self.assertEqual(self.ran(["--interpret", other]), ((0, b"Hello, world\n", b""), ["exec"]))
         small = self.built(self.write("small.c", "int main(void) { return 5; }"), "--stack", "256", "--data", "512")
         self.assertEqual(self.ran([small]), ((5, b"", b""), ["native", "exec"]))
+
+
+class Wrong(Folder):
+    def test_an_image(self):
+        """It isn't what sfi-exec takes, which says so, and what runs it."""
+        text = (TOP / "examples" / "smallest.hex").read_text(encoding="ascii")
+        (self.room / "smallest.image").write_bytes(bytes.fromhex(text))
+        for file in (TOP / "examples" / "smallest.hex", self.room / "smallest.image", self.write("spaces.hex", f"\n  {text}")):
+            done = subprocess.run([SFI_EXEC, file], capture_output=True, text=True, check=False)
+            said = f"sfi-exec: {file} is an image, which `sfi exec` runs, and no program that sfi-cc linked (-o PROGRAM.elf)\n"
+            self.assertEqual((done.returncode, done.stdout, done.stderr), (125, "", said))
 
 
 if __name__ == "__main__":

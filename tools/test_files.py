@@ -13,14 +13,16 @@ import libraries
 from suygapid.kept import root
 from suygapid.library.sources import NEWLIB_SOURCE
 from test_floats import SOURCES  # finds the modules of sfi-cc, too
-from testing import COMPILERS, EACH_FORMAT, SFI, SFI_CC, TOOLS, TOP, Folder, formats_due, needs
+from testing import COMPILERS, EACH_FORMAT, GCC, SFI, SFI_CC, TOOLS, TOP, Folder, formats_due, needs
 
 SFI_EXEC = str(TOOLS / "sfi-exec")
 READY = SOURCES and NEWLIB_SOURCE.where() and COMPILERS and os.access(SFI, os.X_OK) and (
     os.path.exists(libraries.built("sfi_run")) or "SFI_RUN_LIBRARY" in os.environ)
 OWN = TOP / "examples" / "c" / "programs"
 FILES = str(TOP / "examples" / "c" / "files.c")
+STREAMS = str(TOP / "examples" / "c" / "plus_plus" / "files.cpp")
 OPTIONS = ("-O2", "-std=c11", "-D_DEFAULT_SOURCE", "-Wall", "-Wextra", "-Werror")
+OF_PLUS_PLUS = ("-O2", "-std=c++17", "-Wall", "-Wextra", "-Werror")
 
 # Opens each of its words to read, then to write, and says what that answers.
 OPENER = r"""
@@ -109,6 +111,19 @@ class Files(WithFiles):
                 self.assertEqual((self.work / path.name).read_bytes(), path.read_bytes())
             shutil.rmtree(self.work)
             self.work.mkdir()
+
+    @needs("g++", GCC)
+    def test_streams_of_c_plus_plus(self):
+        native, there, program = self.path("native"), self.room / "there", self.path("program.elf")
+        there.mkdir()
+        subprocess.run(["g++", *OF_PLUS_PLUS, STREAMS, "-o", native], check=True)
+        wanted = subprocess.run([native, "a word", ""], cwd=there, stdout=subprocess.PIPE, check=True).stdout.decode()
+        subprocess.run([SFI_CC, "--program", SFI, "--library", "c++", "--library", "files", "--heap", "400000", *OF_PLUS_PLUS, "-o", program,
+                        STREAMS], check=True)
+        self.assertEqual(self.with_files(program, "a word", ""), (0, wanted, ""))
+        for name in ("rows", "copy"):
+            self.assertEqual((self.work / name).read_bytes(), (there / name).read_bytes())
+        self.assertEqual(sorted(it.name for it in self.work.iterdir()), ["copy", "rows"])
 
     @needs("gcc")
     def test_the_host_in_c(self):

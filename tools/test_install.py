@@ -1,5 +1,6 @@
 """Tests of ./install and tools/release.py: `tools/unit_tests.py tools`. They are skipped where the program or a library
 isn't built, or gcc isn't there; those of releases and of node where a module isn't made."""
+import contextlib
 import json
 import os
 import pathlib
@@ -8,6 +9,7 @@ import shutil
 import subprocess
 import sys
 import tarfile
+import tempfile
 import unittest
 
 import checker_file
@@ -81,11 +83,19 @@ class Installing(Folder):
 
 
 class Installed(Installing):
-    """What an installation holds, by what its user does with it."""
+    """What an installation holds, by what its user does with it. One serves all of these tests, which change nothing in it."""
+
+    @classmethod
+    def setUpClass(cls):
+        room = tempfile.TemporaryDirectory()
+        cls.addClassCleanup(room.cleanup)
+        cls.shared = pathlib.Path(room.name) / "prefix"
+        cls.done = run(TOP / "install", cls.shared)
 
     def setUp(self):
         super().setUp()
-        self.installs()
+        self.prefix = self.shared
+        self.assertEqual((self.done.returncode, self.done.stderr), (0, ""))
         self.env = {**os.environ, "PKG_CONFIG_PATH": str(self.prefix / "lib" / "pkgconfig"), "PATH": f"{self.prefix}/bin:{os.environ['PATH']}"}
 
     def test_the_program_runs(self):
@@ -180,7 +190,10 @@ class Installed(Installing):
     def test_tests_stay_away(self):
         self.assertEqual([it for it in tree(self.prefix) if "test" in it or "__pycache__" in it], [])
 
+
+class Moved(Installing):
     def test_it_may_be_moved(self):
+        self.installs()
         moved = self.room / "moved"
         self.prefix.rename(moved)
         self.assertEqual(run(moved / "bin" / "sfi-cc", "--help").returncode, 0)
@@ -251,14 +264,21 @@ class Removing(Installing):
 @unittest.skipIf(NO_FILES, f"suygapid_check.c and suygapid_run.c can't be made: there is no {' and no '.join(NO_FILES)}")
 @needs("node", "rt")
 class Scratch(Installing):
-    """A scratch repository with the files of this one, and what is built here."""
+    """A scratch repository with the files of this one, and what is built here. It is made once: a test that changes a file restores
+    it."""
 
-    def repository(self, name):
-        top = self.room / name
+    @classmethod
+    def setUpClass(cls):
+        room = tempfile.TemporaryDirectory()
+        cls.addClassCleanup(room.cleanup)
+        cls.top = cls.repository(pathlib.Path(room.name) / "top")
+
+    @classmethod
+    def repository(cls, top):
         listed = subprocess.run(["git", "-C", TOP, "ls-files", "-z", "--cached", "--others", "--exclude-standard"],
                                 capture_output=True, check=False)
         if listed.returncode:
-            self.skipTest("this isn't a repository of git")
+            raise unittest.SkipTest("this isn't a repository of git")
         headers = [os.path.relpath(libraries.header(it), TOP) for it in libraries.HEADERS]
         others = [f"crates/{it}/{file}" for it, files in libraries.C_FILES.items() for file in files]
         for path in {*filter(None, listed.stdout.decode().split("\0")), *headers, *others}:
@@ -267,7 +287,7 @@ class Scratch(Installing):
                 shutil.copy(TOP / path, top / path)
         env = {**os.environ, "GIT_COMMITTER_DATE": "2026-11-25T12:00:00Z"}
         for words in (["init", "-q"], ["add", "-A"], ["-c", "user.name=a", "-c", "user.email=a@b", "commit", "-qm", "all"]):
-            self.assertEqual(run("git", "-C", top, *words, env=env).stderr, "")
+            subprocess.run(["git", "-C", top, *words], env=env, check=True)
         # The last are those of which a release's suygapid_check.c and suygapid_run.c are made, and the latter, which takes a minute.
         more = map(pathlib.Path, (checker_file.LIBRARY, wasm_module.kept_path("sfi_run"), runtime_file.TARGET))
         for path in [*installed.built(), *release.MADE, *(it for it in more if it.is_file())]:
@@ -276,13 +296,26 @@ class Scratch(Installing):
             shutil.copy(path, place)
         return top
 
-    def release(self, top):
+    def release(self):
         """A release with a log that says that all is proved."""
         log = self.write("log", test_evidence.log_of(definitions.crate_names()))
-        return run(sys.executable, top / "tools" / "release.py", "--tar", "--log", log, self.room / "made")
+        return run(sys.executable, self.top / "tools" / "release.py", "--tar", "--log", log, self.room / "made")
+
+    @contextlib.contextmanager
+    def changed(self, path, data=None):
+        """Has a file hold these bytes meanwhile, or its own, with the time as they are put back."""
+        place, kept = self.top / path, (self.top / path).read_bytes()
+        mode, time = place.stat().st_mode, place.stat().st_mtime
+        try:
+            place.write_bytes(kept if data is None else data)
+            yield place
+        finally:
+            place.write_bytes(kept)
+            place.chmod(mode)
+            os.utime(place, (time, time))
 
     def test_a_release_is_used(self):
-        done = self.release(self.repository("top"))
+        done = self.release()
         with tarfile.open(done.stdout.strip()) as tar:
             owners = {(it.uid, it.gid, it.mtime) for it in tar}
             tar.extractall(self.room)
@@ -290,7 +323,7 @@ class Scratch(Installing):
         top = self.room / f"suygapid-{version.version()}-x86_64-linux"
         sums = run("sha256sum", "--quiet", "-c", "SHA256SUMS", cwd=top)
         self.assertEqual((sums.returncode, sums.stdout), (0, ""))
-        commit = run("git", "-C", self.room / "top", "rev-parse", "--short=12", "HEAD").stdout.strip()
+        commit = run("git", "-C", self.top, "rev-parse", "--short=12", "HEAD").stdout.strip()
         self.assertEqual(json.loads((top / "built.json").read_text(encoding="utf-8"))["commit"], commit)
         env = {name: value for name, value in os.environ.items() if name != "SFI"}
         checked = run(top / "sfi", "check", given=SMALLEST, env={**env, "PATH": "/usr/bin:/bin"})
@@ -301,16 +334,12 @@ class Scratch(Installing):
         self.installs(top=TOP)  # the repository in place of the release
 
     def use_as_a_newcomer(self, top, env):
-        """Builds and runs a program as a process, looks for the page, and compiles the checker in one file of C."""
+        """Builds and runs a program as a process, and looks for the page. The files of C are those that release.py itself tried."""
         built = run(top / "sfi", "build", given=(TOP / "examples" / "hi.s").read_text(encoding="utf-8"), env=env)
         ran = run(top / "sfi", "exec", self.write("hi.hex", built.stdout), given="x", env=env)
         self.assertEqual((ran.returncode, ran.stdout, ran.stderr), (105, "Hi", ""))
         for name in ("index.html", "made.js", "sfi.wasm", "sfi.wasm.js"):
             self.assertTrue((top / "page" / name).is_file(), name)
-        source, checker = top / "crates" / "sfi_c" / "out" / "suygapid_check.c", self.path("check")
-        made = run("gcc", "-std=c11", "-O2", "-w", "-DSUYGAPID_CHECK_MAIN", source, "-o", checker)
-        self.assertEqual((made.returncode, made.stderr), (0, ""))
-        self.assertEqual(run(checker, given=bytes.fromhex(SMALLEST)).stdout, ACCEPTED.encode())
         self.judge_the_evidence(top, env)
 
     def judge_the_evidence(self, top, env):
@@ -323,37 +352,33 @@ class Scratch(Installing):
             self.assertIn("this release's page is evidence/page.txt", done.stderr)
 
     def test_what_is_not_committed_is_not_released(self):
-        top = self.repository("top")
-        (top / "README.md").write_text("changed", encoding="utf-8")
-        done = self.release(top)
+        with self.changed("README.md", b"changed"):
+            done = self.release()
         self.assertEqual((done.returncode, done.stderr), (1, "release.py: not all is committed: git status\n"))
 
     def test_what_is_old_is_not_released(self):
-        top = self.repository("top")
-        os.utime(top / "crates" / "sfi" / "out" / "sfi", (1, 1))
-        done = self.release(top)
+        with self.changed("crates/sfi/out/sfi") as program:
+            os.utime(program, (1, 1))
+            done = self.release()
         self.assertEqual((done.returncode, done.stderr), (1, "release.py: crates/sfi/out/sfi is older than a source of it\n"))
 
     def test_what_does_not_run_is_not_released(self):
         rows = [("page/sfi.wasm", b"", "page/sfi.wasm has 0 bytes"), ("page/sfi.wasm.js", b"", "page/sfi.wasm.js has 0 bytes"),
                 ("bindings/node/sfi_run.wasm", b"\0", "nothing is released: bindings/node/sfi_run.wasm doesn't say"),
                 ("crates/sfi/out/sfi", b"#!/bin/sh\n", "nothing is released: crates/sfi/out/sfi doesn't say")]
-        top = self.repository("top")
         for path, data, said in rows:
             with self.subTest(said):
-                kept = (top / path).read_bytes()
-                (top / path).write_bytes(data)
-                done = self.release(top)
-                (top / path).write_bytes(kept)
+                with self.changed(path, data):
+                    done = self.release()
                 self.assertEqual(done.returncode, 1)
                 self.assertTrue(done.stderr.startswith(f"release.py: {said}"), done.stderr)
                 self.assertFalse((self.room / "made").exists())
 
     def test_what_is_not_built_is_told(self):
-        top = self.repository("top")
-        (top / "crates" / "sfi_c" / "out" / "libsfi_c.a").unlink()
-        self.assertEqual(self.release(top).stderr, "release.py: crates/sfi_c/out/libsfi_c.a isn't built\n")
-        done = self.install(self.prefix, top=top)
+        with self.changed("crates/sfi_c/out/libsfi_c.a") as library:
+            library.unlink()
+            self.assertEqual(self.release().stderr, "release.py: crates/sfi_c/out/libsfi_c.a isn't built\n")
+            done = self.install(self.prefix, top=self.top)
         self.assertEqual(done.returncode, 1)
         self.assertIn("crates/sfi_c/out/libsfi_c.a isn't built: tools/build_library.py", done.stderr)
         self.assertFalse(self.prefix.exists())

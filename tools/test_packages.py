@@ -1,7 +1,9 @@
 """Tests of tools/packages.py: `tools/unit_tests.py tools test_packages.py`. Each package is installed and used in an empty folder,
 by tools/package_trial.py, which also has to tell what was damaged. They are skipped where what the packages are made of isn't built."""
 import io
+import os
 import pathlib
+import re
 import shutil
 import subprocess
 import tarfile
@@ -63,11 +65,14 @@ class Packages(unittest.TestCase):
             self.made[ending] = MAKERS[ending](self.room)
         return self.made[ending]
 
-    def tried(self, path, said=None):
-        """Tries a package, of which this has to be said, or nothing."""
-        lacking = package_trial.missing(path.suffix)
+    def need_what_tries(self, ending):
+        lacking = package_trial.missing(ending)
         if lacking:
             self.skipTest(f"{' and '.join(lacking)} isn't there")
+
+    def tried(self, path, said=None):
+        """Tries a package, of which this has to be said, or nothing."""
+        self.need_what_tries(path.suffix)
         found = package_trial.faults(path)
         self.assertEqual([it.partition(": ")[2][:len(said or "")] for it in found], [said] if said else [], found)
 
@@ -99,22 +104,26 @@ class Packages(unittest.TestCase):
 
     def test_damages(self):
         for ending, change, said in ((".whl", without("/py.typed"), "python fails: AssertionError: py.typed isn't there"),
-                                     (".whl", without(".so"), "python fails: OSError"),
+                                     (".whl", without("/libsfi_run.so"), "python fails: OSError"),
+                                     (".whl", without("/libsfi_c.so"), "sfi-check fails: sfi-check: libsfi_c.so"),
                                      (".tgz", emptied(".wasm"), "node fails"), (".tgz", without(".d.mts"), "node fails"),
                                      (".crate", without(".c"), "cargo fails")):
             with self.subTest(said, ending=ending):
                 self.tried(self.damaged(ending, change), said)
 
     def test_a_damaged_package_for_debian(self):
-        path = self.package(".deb")
+        self.need_what_tries(".deb")
+        whole = self.room / "unpacked"
+        subprocess.run(["dpkg-deb", "--extract", self.package(".deb"), whole], check=True)
         for place, said in (("usr/include/sfi.h", "gcc fails"), ("usr/lib/cmake", "cmake fails"), ("usr/lib/pkgconfig/sfi_run.pc", "pkg-config fails"),
                             ("usr/share/man/man1/sfi-cc.1", "usr/share/man/man1/sfi-cc.1 isn't there"), ("usr/share/zsh", "usr/share/zsh/vendor-completions/_sfi isn't there"), ("usr/share/suygapid/tools/suygapid", "sfi-cc fails")):
             with self.subTest(said), tempfile.TemporaryDirectory() as room:
-                subprocess.run(["dpkg-deb", "--raw-extract", path, f"{room}/all"], check=True)
-                gone = pathlib.Path(room) / "all" / place
+                top = pathlib.Path(room) / "all"
+                shutil.copytree(whole, top, symlinks=True, copy_function=os.link)
+                gone = top / place
                 shutil.rmtree(gone) if gone.is_dir() else gone.unlink()
-                subprocess.run(["dpkg-deb", "-Znone", "--build", f"{room}/all", f"{room}/{path.name}"], check=True, stdout=subprocess.DEVNULL)
-                self.tried(pathlib.Path(room) / path.name, said)
+                with self.assertRaisesRegex(package_trial.Fault, f"^{re.escape(said)}"):
+                    package_trial.unpacked(top)
 
     def test_the_same_files_make_the_same_bytes(self):
         for ending, maker in MAKERS.items():

@@ -1,11 +1,12 @@
-"""Tests of the pictures of sfi-trace --flame and sfi-map: `tools/unit_tests.py tools`. They are skipped where the program, the library
-of the runtime or gcc isn't there. What is wanted is what a C or source text calls by its own words, and what the profile, `sfi dis`,
-`sfi map` and `sfi check` say."""
+"""Tests of the pictures of sfi-trace --flame and sfi-map, as files and as Chromium draws them: `tools/unit_tests.py tools
+test_pictures.py`. They are skipped where the program, the library of the runtime or gcc isn't there, and the last where Chromium isn't.
+What is wanted is what a C or source text calls by its own words, and what the profile, `sfi dis`, `sfi map` and `sfi check` say."""
 import json
 import os
 import re
 import shutil
 import subprocess
+import sys
 import unittest
 import xml.etree.ElementTree as ElementTree
 from collections import Counter
@@ -13,6 +14,9 @@ from collections import Counter
 import libraries
 from suygapid.pictures.flame import DEEPEST
 from testing import GCC, SFI, TOOLS, TOP, Folder, needs
+
+sys.path.append(str(TOP / "page"))
+import chromium
 
 READY = os.path.exists(SFI) and os.path.exists(libraries.built("sfi_run")) and shutil.which("gcc")
 SVG = "{http://www.w3.org/2000/svg}"
@@ -54,6 +58,20 @@ down:   beqz a0, end
         addi sp, sp, 16
 end:    ret
 """
+CHROMIUM = shutil.which("chromium") or shutil.which("chromium-browser")
+READABLE = 11  # pixels of a line's height
+LOADED = "document.readyState === 'complete' && document.querySelector('text') !== null"
+WHOLE = "(({ x, y, width, height }) => ({ x, y, width, height }))(document.documentElement.getBoundingClientRect())"
+# Of each text its words, where it lies, its box and that one's colour, and whether nothing is drawn above its middle.
+TEXTS = """[...document.querySelectorAll("text")].map((it) => {
+    const rect = it.parentNode.querySelector(":scope > rect"), { x, y, width, height } = it.getBoundingClientRect();
+    const { x: left, y: top, width: wide, height: high } = (rect || it).getBoundingClientRect();
+    it.scrollIntoView({ block: "center" });
+    const now = it.getBoundingClientRect(), found = document.elementFromPoint(now.x + now.width / 2, now.y + now.height / 2);
+    scrollTo(0, 0);
+    return { text: it.textContent, x, y, width, height, box: rect && { x: left, y: top, width: wide, height: high },
+             colour: getComputedStyle(it).fill, fill: rect && getComputedStyle(rect).fill, isOnTop: found === it || found === rect };
+})"""
 CALLED = {"leaf": 3, "last": 1, "twice": 1, "deep": 3, "main": 1}
 
 
@@ -214,6 +232,43 @@ class Maps(Pictures):
             self.assertIn("sfi-map: ", said)
             self.assertIn(told, said)
         self.assertEqual(self.call("sfi-map")[0], 2)
+
+
+@unittest.skipUnless(CHROMIUM, "chromium isn't there")
+class Seen(Pictures):
+    """The pictures as Chromium draws them, each as a file that is opened."""
+
+    def seen(self, name):
+        """The texts of a picture. They can be read: they are large enough, and lie in the picture, and those of a box in it, with nothing
+        above them."""
+        page = chromium.Page(CHROMIUM, (self.room / name).as_uri(), ready=LOADED)
+        self.addCleanup(page.end)
+        self.assertEqual(page.value("document.documentElement.localName"), "svg")
+        whole, texts = page.value(WHOLE), page.value(TEXTS)
+        self.assertEqual((whole["x"], whole["y"]), (0, 0))
+        for it in texts:
+            outer = it["box"] or whole
+            self.assertTrue(outer["x"] <= it["x"] and it["x"] + it["width"] <= outer["x"] + outer["width"]
+                            and outer["y"] <= it["y"] and it["y"] + it["height"] <= outer["y"] + outer["height"], (it, outer))
+            self.assertTrue(it["isOnTop"] and it["colour"] != it["fill"] and it["height"] >= READABLE, it)
+        self.assertEqual(page.complaints, [])
+        return [it["text"] for it in texts]
+
+    def test_a_flame_graph(self):
+        self.assertEqual(self.call("sfi-trace", "--flame", self.path("run"), TOP / "examples" / "hanoi.s")[::2], (0, ""))
+        texts = self.seen("run.svg")
+        self.assertRegex(texts[0], r"^hanoi\.s: [\d,]+ steps$")
+        self.assertIn("start", texts)
+
+    def test_a_flame_graph_higher_than_a_window(self):
+        self.assertEqual(self.call("sfi-trace", "--flame", self.path("run"), self.write("deep.s", DEEP))[::2], (0, ""))
+        self.assertGreater(self.seen("run.svg").count("down"), 100)
+
+    def test_a_map(self):
+        self.assertEqual(self.call("sfi-map", "-o", self.path("map.svg"), TOP / "examples" / "primes.s")[::2], (0, ""))
+        texts = self.seen("map.svg")
+        self.assertIn("accepted sandboxes=2 bundles=64", texts)
+        self.assertEqual(len([it for it in texts if it.startswith("sandbox ")]), 2)
 
 
 if __name__ == "__main__":

@@ -1,10 +1,13 @@
-"""Tests that all that states the version states the same one, and that a manual page has each option of its tool:
-`tools/unit_tests.py tools`."""
+"""Tests that all that states the version states the same one, that each tool tells it, and that a manual page has each option of its
+tool: `tools/unit_tests.py tools`."""
+import json
 import re
 import subprocess
 import unittest
 
+import installed
 import version
+from sfi_check import _built  # which installed.py finds
 from testing import TOOLS
 
 
@@ -47,3 +50,14 @@ class Pages(unittest.TestCase):
             for option in set(re.findall(r"^  (-[\w-]+)", said, re.MULTILINE)) - {"-h"}:
                 with self.subTest(tool=tool, option=option):
                     self.assertIn(option, page)
+
+
+class Tools(unittest.TestCase):
+    def test_each_tells_of_what_was_built(self):
+        """What `./sfi --version` says, also where no library is built; sfi-check and sfi-corpus, which tell of their library, are
+        tried by test_corpus.py."""
+        built = _built.line_of(json.loads(_built.noted(str(version.TOP / "crates" / "sfi" / "out" / "sfi"))))
+        self.assertRegex(built, r"^commit=\w+(\+\w+)? logic=\w+$")
+        for tool in set(installed.TOOLS) - {"sfi-check", "sfi-corpus"}:
+            done = subprocess.run([TOOLS / tool, "--version"], capture_output=True, text=True, check=False)
+            self.assertEqual((done.returncode, done.stdout, done.stderr), (0, f"{tool} version={version.version()} {built}\n", ""))

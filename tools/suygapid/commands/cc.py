@@ -20,7 +20,7 @@ from dataclasses import dataclass, replace
 from suygapid.cc.compilers import (
     CLANG, GCC, PLUS_PLUS_SOURCES, SOURCES, WITH_VALUE, Failed, compiled, default_compiler, is_clang, is_source, reserved, run, tell)
 from suygapid.cc.signatures import lines_of
-from suygapid.commands.options import add_program, address, place, region
+from suygapid.commands.options import add_program, add_version, address, place, region
 from suygapid.elf import linking
 from suygapid.elf.elf import Wrong
 from suygapid.elf.image import as_text, image
@@ -119,6 +119,7 @@ def options_parser():
                         help="writes what lies at an address of the image, such as a line of C, in place of the image")
     parser.add_argument("--cc", metavar="COMPILER", help=f"the compiler; {GCC} if absent, or {CLANG} where that isn't there")
     add_program(parser)
+    add_version(parser)
     return parser
 
 

@@ -19,7 +19,7 @@ import tempfile
 
 from suygapid import native
 from suygapid.cc.compilers import Failed, tell
-from suygapid.commands.options import add_program
+from suygapid.commands.options import add_program, add_version
 from suygapid.elf.elf import Elf, Wrong
 from suygapid.elf.image import as_text, image
 from suygapid.elf.where import Where, lines_of
@@ -60,6 +60,7 @@ def parsed(words):
     parser.add_argument("--env", action="append", default=[], type=variable, metavar="NAME=VALUE", help="a variable that it sees")
     parser.add_argument("--interpret", action="store_true", help="go step by step, not by native code")
     add_program(parser)
+    add_version(parser)
     end = words.index("--") if "--" in words else len(words)
     options = parser.parse_args(words[:end])
     options.words = words[end + 1:]

@@ -14,7 +14,7 @@ import sys
 
 import sfi_run
 from suygapid import TOOLS
-from suygapid.commands.options import digits
+from suygapid.commands.options import add_version, digits
 from suygapid.elf.elf import Elf, Wrong
 from suygapid.gdb.machine import Machine
 from suygapid.gdb.packets import over_pipe, over_port
@@ -30,6 +30,7 @@ def parsed(words):
                      help="starts no gdb, and waits for one at a port of this machine: `target extended-remote :N` there")
     how.add_argument("--pipe", action="store_true", help="starts no gdb, and speaks with the one that started it")
     parser.add_argument("--input", type=digits, default=b"", metavar="HEX", help="what the program reads")
+    add_version(parser)
     parser.add_argument("program", metavar="PROGRAM.elf", help="a linked program, compiled with -g")
     of_gdb = parser.add_argument("words", nargs=argparse.REMAINDER, metavar="OPTIONS OF GDB", help="such as -x FILE")
     of_gdb.required = False  # else argparse asks for them where no program is named

@@ -9,7 +9,7 @@ image. docs/C.md says more.
 import argparse
 import sys
 
-from suygapid.commands.options import place, region
+from suygapid.commands.options import add_version, place, region
 from suygapid.elf.elf import Elf, Wrong
 from suygapid.elf.image import as_text, image
 
@@ -30,6 +30,7 @@ def parsed(words):
     parser.add_argument("--at", type=place, action="append", default=[], metavar="CODE:DATA",
                         help="where the next program lies, in hexadecimal; it was linked there or with --movable")
     parser.add_argument("--raw", action="store_true", help="writes the image's bytes, and not their digits")
+    add_version(parser)
     return parser.parse_args(words)
 
 

@@ -13,6 +13,7 @@ import shutil
 import sys
 
 from suygapid.cc.compilers import Failed, default_compiler, tell
+from suygapid.commands.options import add_version
 from suygapid.library import newlib
 
 
@@ -20,6 +21,7 @@ def parsed(words):
     parser = argparse.ArgumentParser(prog="sfi-library", description=__doc__.split("\n\n", maxsplit=1)[0])
     parser.add_argument("folder", metavar="FOLDER", help="where the library goes")
     parser.add_argument("--cc", metavar="COMPILER", help="the compiler, as that of sfi-cc")
+    add_version(parser)
     options = parser.parse_args(words)
     options.cc = options.cc or default_compiler()
     return options

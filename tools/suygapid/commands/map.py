@@ -9,7 +9,7 @@ import os
 import subprocess
 import sys
 
-from suygapid.commands.options import add_program
+from suygapid.commands.options import add_program, add_version
 from suygapid.image.layout import Fault
 from suygapid.pictures.map import picture
 from suygapid.trace.programs import Failed, Program, program
@@ -20,6 +20,7 @@ def parsed(words):
                                      description=__doc__.split("\n\n", maxsplit=1)[0], allow_abbrev=False)
     parser.add_argument("-o", dest="output", metavar="FILE.svg", help="where to write; standard output if absent")
     add_program(parser)
+    add_version(parser)
     options, files = parser.parse_known_args(words)
     if not files:
         parser.error("an image, a source text or a FILE of C is wanted")

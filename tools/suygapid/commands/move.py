@@ -11,7 +11,7 @@ import argparse
 import sys
 
 from suygapid.cc.compilers import Failed, ran
-from suygapid.commands.options import add_program, place
+from suygapid.commands.options import add_program, add_version, place
 from suygapid.elf.elf import Wrong
 from suygapid.elf.image import Sandbox, as_text, check_apart
 from suygapid.image import layout
@@ -26,6 +26,7 @@ def parsed(words):
     parser.add_argument("--sandbox", type=int, default=0, metavar="N", help="the sandbox, counted from 0; 0 if absent")
     parser.add_argument("--raw", action="store_true", help="reads and writes bytes, and not their digits")
     add_program(parser)
+    add_version(parser)
     return parser.parse_args(words)
 
 

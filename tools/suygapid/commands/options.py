@@ -1,5 +1,6 @@
 """Options that several commands have, and what their values are."""
 import argparse
+import json
 import os
 
 from suygapid import TOP
@@ -10,6 +11,21 @@ from suygapid.image.layout import MOST_DATA
 def add_program(parser: argparse.ArgumentParser) -> None:
     parser.add_argument("--program", default=os.environ.get("SFI") or os.path.join(TOP, "sfi"), metavar="SFI",
                         help="the program sfi; that which SFI names, or ./sfi at the top, if absent")
+
+
+class Version(argparse.Action):
+    """Prints version, commit and logic, as `./sfi --version` does: of what the program was built."""
+
+    def __call__(self, parser: argparse.ArgumentParser, *_: object) -> None:
+        from sfi_check import _built  # here, since few runs ask for it
+        from sfi_run import __version__
+        program = os.path.join(TOP, "crates", "sfi", "out", "sfi")
+        print(parser.prog, _built.line_of({"version": __version__, **json.loads(_built.noted(program))}))
+        parser.exit()
+
+
+def add_version(parser: argparse.ArgumentParser) -> None:
+    parser.add_argument("--version", nargs=0, action=Version, help="prints version, commit and logic")
 
 
 def digits(text: str) -> bytes:

@@ -11,7 +11,7 @@ import os
 import sys
 
 import sfi_run
-from suygapid.commands.options import add_program, digits
+from suygapid.commands.options import add_program, add_version, digits
 from suygapid.pictures.flame import Flame, write
 from suygapid.trace.programs import Failed, program
 from suygapid.trace.tracing import Breaks, Calls, Instructions, Profile, Tracer
@@ -39,6 +39,7 @@ def parsed(words):
     parser.add_argument("--quantum", type=count, default=1000, metavar="Q", help="the most steps of a turn; 1000 if absent")
     parser.add_argument("--input", type=digits, default=b"", metavar="HEX", help="what the sandboxes read")
     add_program(parser)
+    add_version(parser)
     options, files = parser.parse_known_args(words)
     if not files:
         parser.error("an image, a source text or a FILE of C is wanted")

@@ -3,6 +3,7 @@ import struct
 from dataclasses import dataclass
 from typing import Iterator, NamedTuple, Optional
 
+IMAGE = (b"SFI", b"534649")  # with which an image begins, as bytes and as text
 LOADED, EXECUTABLE = 1, 1  # a segment's kind, and its flag
 SYMBOLS = 2  # a section's kind
 NOTHING, OBJECT, FUNCTION = 0, 1, 2  # kinds of a symbol
@@ -35,6 +36,8 @@ class Elf:
             self.content = file.read()
         self.path, self.name = path, name or path
         path = self.name
+        if self.content.lstrip().startswith(IMAGE):
+            raise Wrong(f"{path} is an image, which `sfi exec` runs, and no program that sfi-cc linked (-o PROGRAM.elf)")
         if self.content[:6] != b"\x7fELF\x01\x01" or self.content[16:20] != b"\x02\x00\xf3\x00":
             raise Wrong(f"{path} is no linked ELF file of 32-bit RISC-V")
         try:

@@ -28,10 +28,17 @@ def is_ready() -> bool:
     return is_possible() and os.access(HOST, os.X_OK)
 
 
-def make() -> Optional[str]:
-    """Builds the host, where this machine runs it and has a compiler and the headers. Returns its path, or None where there is none."""
+def is_fresh() -> bool:
+    """Whether the host is newer than all that it is made of, and how."""
+    sources = [SOURCE, os.path.abspath(__file__), *(os.path.join(folder, it) for folder in INCLUDED for it in os.listdir(folder))]
+    return is_ready() and all(os.path.getmtime(it) <= os.path.getmtime(HOST) for it in sources)
+
+
+def make(is_anew: bool = False) -> Optional[str]:
+    """Builds the host, where this machine runs it and has a compiler and the headers, also anew if it is newer than these and that is
+    asked for. Returns its path, or None where there is none."""
     compiler = os.environ.get("CC") or next((it for it in ("gcc", "clang") if shutil.which(it)), None)
-    if is_possible() and compiler is not None and all(os.path.isdir(it) for it in INCLUDED):
+    if is_possible() and compiler is not None and all(os.path.isdir(it) for it in INCLUDED) and (is_anew or not is_fresh()):
         os.makedirs(os.path.dirname(HOST), exist_ok=True)
         fresh = f"{HOST}.{os.getpid()}"
         subprocess.run([compiler, *FLAGS, *(f"-I{it}" for it in INCLUDED), SOURCE, "-o", fresh], check=True)

@@ -1,6 +1,7 @@
 """Tests of the functions that compilers call by themselves: `tools/unit_tests.py tools/suygapid/passes`. C programs give
 their native answers, by gcc and by clang, in words, and by turns in bundles. They are skipped where a compiler or the program isn't there."""
 import random
+import re
 import struct
 import subprocess
 
@@ -112,6 +113,19 @@ def answers(one, other):
     found = quotient(first, second)
     return one // other, one % other, found % ALL, (first - found * second) % ALL
 
+
+# Does one operation on the pair of numbers that it gets.
+ONE = r'''
+#include "gates.h"
+int main(void) {
+    long long pair[2];
+    get(pair, 16);
+    return (int)(pair[0] OPERATION pair[1]);
+}
+'''
+# By divisors of up to 16, 17 to 31, 32, 33 to 48 and more bits: of eight million pairs the one that takes most, and its most steps.
+DEAREST = {(0x36e933fd3d9757d3, 0xffffffffffffffff): 48, (0xfffffc271eca920b, 0xfffffffffffe0001): 62, (0xcdadad02ac2c5dac, 0x9f27fb1b): 70,
+           (0xfff3a2b30fe1cf7a, 0xfffffffe74563087): 92, (0xfff8fffffffffff8, 0xfffeffffffffffff): 60}
 
 OPERATIONS = {"add": 5, "sub": 9, "or": 0x55, "and": 0xfe, "xor": 0x81, "nand": 0x3c}
 AFTERWARDS = [
@@ -245,6 +259,20 @@ class Runtime(Folder):
             found = subprocess.run([SFI, "exec", self.path("program.image")], input=numbers, capture_output=True, check=True).stdout
             wrong = [pair for place, pair in enumerate(given) if found[32 * place:32 * place + 32] != wanted[place]]
             self.assertEqual((len(found), wrong[:3]), (32 * len(given), []), compiler)
+
+    def test_steps_of_signed_quotients(self):
+        """With the call, and beside a sum."""
+        path, steps = self.write("program.c", ONE), {}
+        for operation in "+/%":
+            words = [SFI_CC, "--program", SFI, "-O2", f"-DOPERATION={operation}", path]
+            image = subprocess.run(words, stdout=subprocess.PIPE, check=True).stdout
+            for pair in DEAREST:
+                run = [SFI, "run", "--input", struct.pack("<2Q", *pair).hex()]
+                line = subprocess.run(run, input=image, stdout=subprocess.PIPE, check=True).stdout.decode()
+                steps[operation, pair] = int(re.search(r"steps=(\d+)", line)[1])
+        for pair, most in DEAREST.items():
+            for operation in "/%":
+                self.assertLessEqual(steps[operation, pair] - steps["+", pair], most, (operation, pair))
 
     @needs("gcc")
     def test_atomics(self):

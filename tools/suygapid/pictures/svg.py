@@ -4,7 +4,7 @@ from xml.etree import ElementTree
 Element = ElementTree.Element
 LETTER = 6.8  # pixels of a letter at 11 pixels' height
 STYLE = """
-svg { background: #fbfaf7; font: 11px ui-monospace, "DejaVu Sans Mono", Consolas, monospace; }
+svg { height: auto; background: #fbfaf7; font: 11px ui-monospace, "DejaVu Sans Mono", Consolas, monospace; }
 text { fill: #1e2430; dominant-baseline: middle; }
 .title { font-size: 14px; font-weight: 600; }
 .soft { fill: #626a7c; }
@@ -14,7 +14,7 @@ text { fill: #1e2430; dominant-baseline: middle; }
 
 
 def picture(width: float, height: float, label: str) -> Element:
-    """An empty picture, as wide as there is room."""
+    """An empty picture, as wide as there is room, and as high as it then is: a window shows a part of a high one."""
     made = Element("svg", {"xmlns": "http://www.w3.org/2000/svg", "viewBox": f"0 0 {width:g} {height:g}", "width": "100%",
                            "preserveAspectRatio": "xMinYMin", "role": "img", "aria-label": shown(label)})
     ElementTree.SubElement(made, "style").text = STYLE

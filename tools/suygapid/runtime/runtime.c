@@ -107,10 +107,49 @@ static u64 times(u64 number, u32 factor) {
     return joined(high_half(low) + high_half(number) * factor, low);
 }
 
+#define INLINE static inline __attribute__((always_inline))
+
+/* What a division answers: the quotient or the remainder, below 0 where the sign's first bit is 1. */
+typedef struct {
+    int wants_remainder, sign;
+} Wanted;
+
+INLINE u64 signed_number(Wanted wanted, u64 number) {
+    return wanted.sign < 0 ? -number : number;
+}
+
+INLINE u64 signed_half(Wanted wanted, u32 number) {
+    return wanted.sign < 0 ? joined(-(number != 0), -number) : number;
+}
+
+/* Divisors get their first bit by a product with the power of two over their upper part and one, as algorithm D has it (Knuth,
+   The Art of Computer Programming, volume 2, 4.3.1), and so does what is divided: that takes fewer steps than to find how far
+   to shift. */
+
+/* The quotient by a divisor of at most 16 bits, or the remainder. */
+INLINE u64 divided_by_16_bits(u32 high, u32 low, u32 divisor, Wanted wanted) {
+    u32 first = high % divisor << 16 | low >> 16, second = first % divisor << 16 | (low & 0xffff);
+    if (wanted.wants_remainder)
+        return signed_half(wanted, second % divisor);
+    return signed_number(wanted, joined(high / divisor, (first / divisor << 16) + second / divisor));
+}
+
+/* By one of 17 to 31 bits, in two digits of 16. By the divisor's upper part and one a digit is too small by less than four, and
+   where the divisor d has 31 bits by less than 1 + 2^31 / d. So what is left is below 2^32, and is divided once more. */
+INLINE u64 divided_by_31_bits(u32 high, u32 low, u32 divisor, Wanted wanted) {
+    u32 factor = 65536 / ((divisor >> 16) + 1), upper = (divisor * factor >> 16) + 1;
+    u32 left = high % divisor, digit = left * factor / upper, quotient;
+    left = (left << 16 | low >> 16) - digit * divisor;
+    quotient = ((digit + left / divisor) << 16) + left % divisor * factor / upper;
+    left = low - quotient * divisor;
+    if (wanted.wants_remainder)
+        return signed_half(wanted, left % divisor);
+    return signed_number(wanted, joined(high / divisor, quotient + left / divisor));
+}
+
 /* The next 16 bits of a quotient by a divisor whose first bit is 1, and what is left then in `*left`: `next` are the next 16
-   bits of the dividend. A digit by the divisor's upper half alone may be one or two too large (Knuth, The Art of Computer
-   Programming, volume 2, 4.3.1, algorithm D). */
-static inline __attribute__((always_inline)) u32 digit_of(u32 *left, u32 next, u32 divisor) {
+   bits of the dividend. A digit by the divisor's upper half alone may be one or two too large, as algorithm D has it. */
+INLINE u32 digit_of(u32 *left, u32 next, u32 divisor) {
     u32 upper = divisor >> 16, digit = *left / upper, less = digit * (divisor & 0xffff), rest = *left % upper << 16 | next;
     if (rest < less) {
         digit--;
@@ -124,27 +163,16 @@ static inline __attribute__((always_inline)) u32 digit_of(u32 *left, u32 next, u
     return digit;
 }
 
-/* Divisors get their first bit by a product with the power of two over their upper part and one, as algorithm D has it, and so
-   does what is divided: that takes fewer steps than to find how far to shift. */
-
-/* The quotient by a divisor of at most 16 bits, or the remainder. */
-static inline __attribute__((always_inline)) u64 divided_by_16_bits(u32 high, u32 low, u32 divisor, int wants_remainder) {
-    u32 first = high % divisor << 16 | low >> 16, second = first % divisor << 16 | (low & 0xffff);
-    return wants_remainder ? second % divisor : joined(high / divisor, (first / divisor << 16) + second / divisor);
-}
-
-/* By one of 17 to 32 bits. */
-static inline __attribute__((always_inline)) u64 divided_by_32_bits(u32 high, u32 low, u32 divisor, int wants_remainder) {
-    u32 factor = 65536 / ((divisor >> 16) + 1), first = high / divisor;
-    u64 next = product(low, factor);
-    u32 left = high % divisor * factor + high_half(next), second = digit_of(&left, (u32)next >> 16, divisor * factor);
-    second = second << 16 | digit_of(&left, next & 0xffff, divisor * factor);
-    return wants_remainder ? left / factor : joined(first, second);
+/* By one of 32 bits. */
+INLINE u64 divided_by_32_bits(u32 high, u32 low, u32 divisor, Wanted wanted) {
+    u32 left = high % divisor, digit = digit_of(&left, low >> 16, divisor);
+    digit = digit << 16 | digit_of(&left, low & 0xffff, divisor);
+    return wanted.wants_remainder ? signed_half(wanted, left) : signed_number(wanted, joined(high / divisor, digit));
 }
 
 /* By one of 33 to 48 bits. After the product its upper 32 alone give a quotient that is up to two too large, and for the second
    digit its upper 16, so two more: this shows by the remainder, which is then below 0. */
-static inline __attribute__((always_inline)) u64 divided_by_48_bits(u64 dividend, u64 divisor, int wants_remainder) {
+INLINE u64 divided_by_48_bits(u64 dividend, u64 divisor, Wanted wanted) {
     u32 most = high_half(divisor) + 1, factor = -most / most + 1, quotient;
     u32 top = high_half(divisor) * factor + high_half(product(divisor, factor));
     u64 next = product(high_half(dividend), factor) + high_half(product(dividend, factor));
@@ -152,45 +180,48 @@ static inline __attribute__((always_inline)) u64 divided_by_48_bits(u64 dividend
     quotient = (first << 16) + left / (top >> 16);
     for (dividend -= times(divisor, quotient); (int)high_half(dividend) < 0; dividend += divisor)
         quotient--;
-    return wants_remainder ? dividend : quotient;
+    return wanted.wants_remainder ? signed_number(wanted, dividend) : signed_half(wanted, quotient);
 }
 
 /* By one of more: that by its upper half and one is right or one too small. */
-static inline __attribute__((always_inline)) u64 divided_by_64_bits(u64 dividend, u64 divisor, int wants_remainder) {
+INLINE u64 divided_by_64_bits(u64 dividend, u64 divisor, Wanted wanted) {
     u32 most = high_half(divisor) + 1, quotient = most ? high_half(dividend) / most : 0;
     dividend -= times(divisor, quotient);
     if (dividend >= divisor) {
         dividend -= divisor;
         quotient++;
     }
-    return wants_remainder ? dividend : quotient;
+    return wanted.wants_remainder ? signed_number(wanted, dividend) : signed_half(wanted, quotient);
 }
 
-static __attribute__((noinline)) u64 divided_by_more(u64 dividend, u64 divisor, int wants_remainder) {
-    return high_half(divisor) >> 16 ? divided_by_64_bits(dividend, divisor, wants_remainder)
-                                    : divided_by_48_bits(dividend, divisor, wants_remainder);
+static __attribute__((noinline)) u64 divided_by_more(u64 dividend, u64 divisor, int wants_remainder, int sign) {
+    Wanted wanted = {wants_remainder, sign};
+    return high_half(divisor) >> 16 ? divided_by_64_bits(dividend, divisor, wanted)
+                                    : divided_by_48_bits(dividend, divisor, wanted);
 }
 
 /* The quotient of two numbers, or the remainder. Division by 0 answers all ones, with the dividend as remainder, as the
    machine's own instructions do. */
-static __attribute__((noinline)) u64 divided(u64 dividend, u64 divisor, int wants_remainder) {
+static __attribute__((noinline)) u64 divided(u64 dividend, u64 divisor, int wants_remainder, int sign) {
+    Wanted wanted = {wants_remainder, sign};
     u32 high = high_half(dividend), low = dividend, below = divisor;
     if (high_half(divisor))
-        return divided_by_more(dividend, divisor, wants_remainder);
+        return divided_by_more(dividend, divisor, wants_remainder, sign);
     if (!below)
-        return wants_remainder ? dividend : (u64)-1;
+        return wants_remainder ? signed_number(wanted, dividend) : (u64)-1;
     if (!high)
-        return wants_remainder ? low % below : low / below;
-    return below >> 16 ? divided_by_32_bits(high, low, below, wants_remainder)
-                       : divided_by_16_bits(high, low, below, wants_remainder);
+        return signed_half(wanted, wants_remainder ? low % below : low / below);
+    if (!(below >> 16))
+        return divided_by_16_bits(high, low, below, wanted);
+    return (int)below < 0 ? divided_by_32_bits(high, low, below, wanted) : divided_by_31_bits(high, low, below, wanted);
 }
 
 u64 __udivdi3(u64 dividend, u64 divisor) {
-    return divided(dividend, divisor, 0);
+    return divided(dividend, divisor, 0, 0);
 }
 
 u64 __umoddi3(u64 dividend, u64 divisor) {
-    return divided(dividend, divisor, 1);
+    return divided(dividend, divisor, 1, 0);
 }
 
 /* A number without its sign, as a number of 64 bits that all count. */
@@ -198,22 +229,13 @@ static u64 magnitude(s64 number) {
     return number < 0 ? -(u64)number : (u64)number;
 }
 
-/* A remainder has the sign of the dividend. */
-static __attribute__((noinline)) s64 signed_divided(s64 dividend, s64 divisor, int wants_remainder) {
-    int sign = high_half(dividend) ^ (wants_remainder ? 0 : high_half(divisor));
-    u64 found;
-    if ((int)(high_half(dividend) | high_half(divisor)) >= 0)
-        return divided(dividend, divisor, wants_remainder);
-    found = divided(magnitude(dividend), magnitude(divisor), wants_remainder);
-    return sign < 0 ? -found : found;
-}
-
 s64 __divdi3(s64 dividend, s64 divisor) {
-    return signed_divided(dividend, divisor, 0);
+    return divided(magnitude(dividend), magnitude(divisor), 0, high_half(dividend) ^ high_half(divisor));
 }
 
+/* A remainder has the sign of the dividend. */
 s64 __moddi3(s64 dividend, s64 divisor) {
-    return signed_divided(dividend, divisor, 1);
+    return divided(magnitude(dividend), magnitude(divisor), 1, high_half(dividend));
 }
 
 /* Counts of bits: `__builtin_clz` and the like. Of 0 the first and the last bit are behind all bits, where C asks for

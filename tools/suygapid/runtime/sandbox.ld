@@ -57,8 +57,11 @@ SECTIONS {
         /* Of a program that can be moved, where the addresses in the data are: tools/suygapid/elf/moving.py writes it. */
         . = DEFINED(__sfi_movable) ? ALIGN(4) : .;
         __sfi_places = .; KEEP(*(.sfi.places)) __sfi_places_end = .;
-        /* The table of names. Its last 16 bytes, before them the 10 of the room above the stack, where there is any, and the 11
-           of the stack's size are what tools/suygapid/image/names.py writes. */
+    } :data
+    /* The table of names, behind all else that isn't zero, also behind an unwinder's (exceptions.ld): a host finds it from its end. The
+       last 16 bytes, before them the 10 of the room above the stack, where there is any, and the 11 of the stack's size are what
+       tools/suygapid/image/names.py writes. */
+    .names : {
         __sfi_exports = .; KEEP(*(.sfi.exports)) __sfi_imports = .; KEEP(*(.sfi.imports)) __sfi_names = .;
         . += __sfi_above > 0 && (__sfi_names > __sfi_exports || DEFINED(__sfi_entered)) ? 37 :
             __sfi_names > __sfi_exports ? 27 : 0;
