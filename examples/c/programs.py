@@ -124,7 +124,7 @@ def apt_get(folder, words):
 def own_lists(folder):
     """apt-get's options for lists of sources, in a folder, from where this machine has Debian's packages; none where no file says so."""
     files = glob.glob("/etc/apt/sources.list.d/*.sources")
-    texts = [it for it in map(read_text, files) if KEYS in it]
+    texts = [it for it in (contents(path).decode() for path in files) if KEYS in it]
     if not texts:
         return []
     for name in ("lists/partial", "archives/partial"):
@@ -135,11 +135,6 @@ def own_lists(folder):
     settings = {"Dir::State::Lists": os.path.join(folder, "lists"), "Dir::Cache": folder, "Dir::Etc::SourceList": place,
                 "Dir::Etc::SourceParts": "-"}
     return [word for name, value in settings.items() for word in ("-o", f"{name}={value}")]
-
-
-def read_text(path):
-    with open(path, encoding="utf-8") as file:
-        return file.read()
 
 
 def archive_of(package, options):
