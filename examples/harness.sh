@@ -37,10 +37,12 @@ digits_of() { od -An -v -tx1 "$@" | tr -d ' \n'; } # the bytes of a file, or of 
 
 has() { command -v "$1" >"$room/which" 2>&1; }
 
+lacking() { "$programs/../../tools/testing.py" "$@"; } # what of these isn't there, as that says, or nothing
+
 # The image of a program of examples/c, in hexadecimal, by tools/sfi-cc and the program $SFI.
 programs=$(cd "$(dirname "${BASH_SOURCE[0]}")/c" && pwd)
 c_image() { # a program, a format, the image's file; fails where a compiler isn't there
-    has riscv64-unknown-elf-gcc &&
+    [ -z "$(lacking riscv64-unknown-elf-gcc)" ] &&
         "$programs/../../tools/sfi-cc" --program "$SFI" --format "$2" -O2 -fno-tree-loop-distribute-patterns -o "$3" "$programs/$1.c"
 }
 

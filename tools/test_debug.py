@@ -5,7 +5,7 @@ import re
 import subprocess
 import unittest
 
-from testing import COMPILERS, SFI, SFI_CC, TOOLS, TOP, Folder, needs_a_compiler, needs_program
+from testing import COMPILERS, NEWLIB, SFI, SFI_CC, TOOLS, TOP, Folder, needs, needs_a_compiler, needs_program
 
 SFI_EXEC = str(TOOLS / "sfi-exec")
 BEGINNING = """#include <stdlib.h>
@@ -123,27 +123,40 @@ class Debug(Folder):
                     self.assertIn("trap=Break", done.stderr)
                     self.stops_here(text, done)
 
+    def misuses(self, names, *library):
+        for what in names:
+            with self.subTest(what):
+                text = BEGINNING + MISUSES[what]
+                done = self.ran(self.built(text, "--debug", *library))
+                self.assertIn("\nmalloc: ", done.stdout)
+                self.assertIn(what, done.stdout)
+                self.stops_here(text, done)
+
     def test_misuses(self):
-        for number, (what, body) in enumerate(MISUSES.items()):
-            for library in ((), ("--library", "newlib"))[:1 + number % 3 // 2]:
-                with self.subTest(what, library=library):
-                    text = BEGINNING + body
-                    done = self.ran(self.built(text, "--debug", *library))
-                    self.assertIn("\nmalloc: ", done.stdout)
-                    self.assertIn(what, done.stdout)
-                    self.stops_here(text, done)
+        self.misuses(MISUSES)
+
+    @needs(NEWLIB)
+    def test_misuses_with_newlib(self):
+        self.misuses(list(MISUSES)[2::3], "--library", "newlib")
 
     def test_end(self):
         """What is written behind a block that nobody frees is told at the program's end."""
         done = self.ran(self.built(BEGINNING + "int main(void) { char *p = malloc(twelve); p[twelve] = 0; return 0; }", "--debug"))
         self.assertIn("behind the block", done.stdout)
 
+    def honest(self, *options):
+        with self.subTest(options):
+            done = self.ran(self.built(BEGINNING + HONEST, "--debug", *options))
+            self.assertEqual((done.returncode, done.stderr), (42, ""))
+
     def test_honest(self):
         """Programs without mistakes run as they do without checks, also at other places."""
-        for options in ((), ("--library", "newlib"), ("--movable",), ("--at", "02000000:03000000"), ("-O2",), ("--heap", "100000")):
-            with self.subTest(options):
-                done = self.ran(self.built(BEGINNING + HONEST, "--debug", *options))
-                self.assertEqual((done.returncode, done.stderr), (42, ""))
+        for options in ((), ("--movable",), ("--at", "02000000:03000000"), ("-O2",), ("--heap", "100000")):
+            self.honest(*options)
+
+    @needs(NEWLIB)
+    def test_honest_with_newlib(self):
+        self.honest("--library", "newlib")
 
     def test_small_heaps(self):
         """Where there is no room, there is no memory."""

@@ -1,12 +1,9 @@
 """Tests of sums, differences, products, quotients and square roots of doubles, and of integers as doubles: suygapid/library/double*.c
 and newlib_glue/sqrt.c there: `tools/unit_tests.py tools`. The wanted bits are those of this machine's own floating point. They
 are skipped where a compiler, GCC's sources or the program isn't there."""
-import os
 import subprocess
-import unittest
 
-from test_floats import SOURCES
-from testing import COMPILERS, SFI, SFI_CC, TOOLS, Folder, formats_due, needs
+from testing import COMPILERS, FLOATS, SFI, SFI_CC, TOOLS, Folder, formats_due, needs, needs_a_compiler, needs_program
 
 FOLDER = TOOLS / "suygapid" / "library"
 SHARED, DOUBLES, QUOTIENTS, CONVERSIONS = (FOLDER / name for name in ("doubles.h", "doubles.c", "double_quotients.c",
@@ -254,8 +251,9 @@ class Doubles(Folder):
         for mistake, change in MISTAKES.items():
             self.assertRegex(self.against_the_machine(300000, *change), " in place of ", mistake)
 
-    @needs("gcc")
-    @unittest.skipUnless(SOURCES and os.path.exists(SFI), "GCC's sources or the program isn't there")
+    @needs_program
+    @needs_a_compiler
+    @needs("gcc", FLOATS)
     def test_in_a_sandbox(self):
         wanted = subprocess.run([self.program(MIXED)], stdout=subprocess.PIPE, check=True).stdout.hex()
         path = self.write("mixed.c", MIXED)

@@ -11,13 +11,10 @@ import unittest
 
 import libraries
 from suygapid.kept import root
-from suygapid.library.sources import NEWLIB_SOURCE
-from test_floats import SOURCES  # finds the modules of sfi-cc, too
-from testing import COMPILERS, EACH_FORMAT, GCC, SFI, SFI_CC, TOOLS, TOP, Folder, formats_due, needs
+from testing import EACH_FORMAT, GCC, NEWLIB, SFI, SFI_CC, TOOLS, TOP, Folder, formats_due, needs, needs_a_compiler, needs_program
 
 SFI_EXEC = str(TOOLS / "sfi-exec")
-READY = SOURCES and NEWLIB_SOURCE.where() and COMPILERS and os.access(SFI, os.X_OK) and (
-    os.path.exists(libraries.built("sfi_run")) or "SFI_RUN_LIBRARY" in os.environ)
+READY = os.path.exists(libraries.built("sfi_run")) or "SFI_RUN_LIBRARY" in os.environ
 OWN = TOP / "examples" / "c" / "programs"
 FILES = str(TOP / "examples" / "c" / "files.c")
 STREAMS = str(TOP / "examples" / "c" / "plus_plus" / "files.cpp")
@@ -95,7 +92,10 @@ class WithFiles(Folder):
         return self.ran(program, "--dir", f"{self.work}{folder}", *options, ["--", *words])
 
 
-@unittest.skipUnless(READY, "the compiler, the sources, the program or the library isn't there")
+@needs_program
+@needs_a_compiler
+@needs(NEWLIB)
+@unittest.skipUnless(READY, "the library of the runtime isn't built")
 class Files(WithFiles):
     @needs("gcc")
     def test_each_call_is_a_native_one(self):
@@ -222,7 +222,10 @@ print(sum, #arg, arg[1], os.getenv("GREETING"), os.rename("squares", "moved"), o
 """
 
 
-@unittest.skipUnless(READY, "the compiler, the sources, the program or the library isn't there")
+@needs_program
+@needs_a_compiler
+@needs(NEWLIB)
+@unittest.skipUnless(READY, "the library of the runtime isn't built")
 class Programs(WithFiles):
     """Programs that people have, of Debian's sources in the folder of examples/c/programs.py, beside native ones."""
 

@@ -2,16 +2,12 @@
 sources or the program isn't there."""
 import glob
 import os
-import shutil
 import subprocess
-import unittest
 from dataclasses import replace
 
 from suygapid.library import softfloat
 from suygapid.library.sources import GCC_SOURCE
-from testing import COMPILERS, GCC, SFI, SFI_CC, Folder, needs
-
-SOURCES = GCC_SOURCE.where()
+from testing import COMPILERS, FLOATS, GCC, SFI, SFI_CC, Folder, needs, needs_a_compiler, needs_program
 
 # The sum of bits that the IEEE 754 formats fix: 3.5 * 2, 1/3 in 32 and 64 bits, (3+4i)/(1-2i) = -1+2i, 1.5 ** 5.
 PROGRAM = """
@@ -47,19 +43,22 @@ class Floats(Folder):
         self.assertRegex(told.decode(), r"\A(sfi-cc: .*, which may take a minute, once: kept in .*\n)?\Z")
         return subprocess.run([SFI, "run", "--quantum", "100000"], input=image, capture_output=True, check=True).stdout
 
-    @unittest.skipUnless(SOURCES and os.path.exists(SFI), "GCC's sources or the program isn't there")
+    @needs_program
+    @needs_a_compiler
+    @needs(FLOATS)
     def test_answers(self):
         for compiler in COMPILERS:
             self.assertIn(b"exit=42 ", self.answer(self.started("--cc", compiler)))
 
-    @unittest.skipUnless(SOURCES and os.path.exists(SFI) and shutil.which(GCC), "a compiler or the sources aren't there")
+    @needs_program
+    @needs(GCC, FLOATS)
     def test_two_at_once(self):
         """Both make the functions, one folder stays, and nothing of the other."""
         home = os.path.join(self.folder, "home")
         for process in [self.started("--cc", GCC, XDG_CACHE_HOME=home) for _ in range(2)]:
             self.assertIn(b"exit=42 ", self.answer(process))
         self.assertEqual(sorted(name.rsplit("-", 1)[0] for name in os.listdir(os.path.join(home, "sfi-cc"))),
-                         sorted({"library", "python", "runtime", "softfloat"} | ({GCC_SOURCE.name} if os.path.isfile(SOURCES) else set())))
+                         sorted({"library", "python", "runtime", "softfloat"} | ({GCC_SOURCE.name} if os.path.isfile(GCC_SOURCE.path()) else set())))
         names = [os.path.basename(path) for path in glob.glob(os.path.join(home, "sfi-cc", "softfloat-*", "*"))]
         self.assertTrue({"doubles.asm", "divsf3.asm", "divtc3.asm", "fixunssfdi.asm"} <= set(names))
         self.assertEqual([name for name in names if not name.endswith(".asm")], [])

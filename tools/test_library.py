@@ -4,17 +4,13 @@ so that only the first run compiles it."""
 import glob
 import os
 import re
-import shutil
 import subprocess
 import tempfile
 import unittest
 
-from suygapid.library.sources import NEWLIB_SOURCE
-from test_floats import SOURCES  # finds the modules of sfi-cc, too
-from testing import GCC, SFI, SFI_CC, TOOLS, needs
+from testing import CLANG, GCC, NEWLIB, SFI, SFI_CC, TOOLS, needs, needs_program
 
 SFI_LIBRARY = os.path.join(TOOLS, "sfi-library")
-ALL_THERE = SOURCES and NEWLIB_SOURCE.where() and shutil.which(GCC) and os.path.exists(SFI)
 
 PROGRAM = r"""
 #include <errno.h>
@@ -115,7 +111,8 @@ FUNCTION = re.compile(r"/\* (.*?):\d+:\w+ \*/ extern .*?\b(\w+) \(")  # a line o
 DEFINED = re.compile(r"^\s*([A-Za-z_][\w.$]*):|^\s*\.(?:set|equ|comm)\s+([A-Za-z_][\w.$]*)", re.M)
 
 
-@unittest.skipUnless(ALL_THERE, "the compiler, the sources or the program isn't there")
+@needs_program
+@needs(GCC, NEWLIB)
 class Library(unittest.TestCase):
     @classmethod
     def setUpClass(cls):
@@ -177,7 +174,7 @@ class Library(unittest.TestCase):
     def test_errors_of_math(self):
         self.assertEqual(self.ran(ERRORS), ("sandbox=0 exit=0", ERRORS_TOLD))
 
-    @needs("clang", "llc")
+    @needs(CLANG)
     def test_by_clang(self):
         self.assertEqual(self.ran(ERRORS, "--cc", "clang"), ("sandbox=0 exit=0", ERRORS_TOLD))
 

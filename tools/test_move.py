@@ -5,7 +5,7 @@ import re
 import struct
 import subprocess
 
-from testing import SFI, SFI_CC, Folder, needs, needs_program
+from testing import OF_BINUTILS, SFI, SFI_CC, Folder, needs, needs_program
 
 TOOLS = os.path.dirname(os.path.abspath(__file__))
 TOP = os.path.dirname(TOOLS)
@@ -120,7 +120,7 @@ class Moves(Folder):
                      "--at", "400:3000000", "--program", "/nothing/sfi")
 
 
-@needs("riscv64-unknown-elf-ld")
+@needs(*OF_BINUTILS)
 class Programs(Folder):
     TEXT = "\t.text\n\t.globl\tmain\nmain:\n\tla\ta0,main\n\taddi\ta5,sp,100\n\tlw\ta1,-100(a5)\n\tret\n"
 

@@ -1,12 +1,11 @@
 """Tests of sfi-cc: `tools/unit_tests.py tools`. Where a compiler or the program isn't there, stand-ins that
 print or fail as the test wants show what becomes of each step; the tests of the real ones are skipped."""
 import os
-import shutil
 import struct
 import subprocess
 
 from suygapid.services import GATES
-from testing import COMPILERS, FORMATS, GCC, SFI, SFI_CC, SFI_IMAGE, Folder, formats_due, needs, needs_program
+from testing import CLANG, COMPILERS, FORMATS, GCC, OF_BINUTILS, SFI, SFI_CC, SFI_IMAGE, Folder, formats_due, needs, needs_program
 
 HELLO = '#include "gates.h"\n\nint main(void) {\n    put("Hi", 2);\n    return 105;\n}\n'
 ASSEMBLY = "\t.text\n\t.globl\tmain\nmain:\n\tli\ta0,7\n\tret\n"
@@ -27,7 +26,7 @@ class Calls(Folder):
         return done.returncode, done.stdout, done.stderr.splitlines()
 
 
-@needs(f"{BINUTILS}ld")
+@needs(*OF_BINUTILS)
 class Steps(Calls):
     """What becomes of each step's answer."""
 
@@ -103,12 +102,12 @@ class Steps(Calls):
         self.assertEqual(self.call("-c", "-o", self.path("y.o"), file, file)[2][-1], "sfi-cc: error: -c with -o takes one source")
         self.assertEqual(self.call("-c", self.path("absent.s")), (1, "", [f"sfi-cc: {self.path('absent.s')} can't be read"]))
 
-    @needs(GCC, "clang", "llc")
+    @needs(GCC, CLANG)
     def test_headers_of_cpp(self):
         """Those of the compiler alone, without a C library."""
         names = ("stdint", "stddef", "stdarg", "limits", "float", "stdbool")
         text = "".join(f"#include <{name}.h>\n" for name in names) + "uint64_t most = UINT32_MAX;\n"
-        for compiler in (GCC, "clang"):
+        for compiler in (GCC, CLANG):
             self.assertEqual(self.call("--cc", compiler, "-c", "-o", self.path("x.o"), self.write("x.cc", text)), (0, "", []))
 
     def test_hosted(self):
@@ -284,7 +283,7 @@ cp {self.folder}/main.asm "$2"
         self.assertEqual(self.call("-O2")[2][-1], "sfi-cc: error: a FILE of C, C++ or assembly is wanted")
 
 
-@needs(GCC, f"{BINUTILS}ld")
+@needs(GCC)
 class Libraries(Calls):
     """Libraries, named and by default, and what is said of them."""
 
@@ -398,18 +397,18 @@ class Programs(Calls):
             for image_format in ("1", "2"):
                 self.assertEqual(self.runs("--cc", GCC, "--format", image_format, file), ["sandbox=0", "exit=42", "out="])
 
-    @needs("clang", "llc")
+    @needs(CLANG)
     def test_clang(self):
-        self.compare(([], ["-O0", "-g"], ["-Os"], ["-Os", "-msave-restore"]), "--cc", "clang")
+        self.compare(([], ["-O0", "-g"], ["-Os"], ["-Os", "-msave-restore"]), "--cc", CLANG)
 
-    @needs("clang", "llc")
+    @needs(CLANG)
     def test_addresses_of_labels_by_clang(self):
         """A later function, into which that of the labels is inlined, speaks of them, too."""
         file = self.write("labels.c", "static short table[2];\nint run(short *at) {\n    static void *base = &&first;\n    if (!at) {\n"
                                       "        table[0] = &&first - &&first;\n        table[1] = &&last - &&first;\n        return 0;\n    }\n"
                                       "    goto *(base + *at++);\nfirst:\n    goto *(base + *at++);\nlast:\n    return 42;\n}\n"
                                       "int main(void) {\n    run(0);\n    short code[] = {table[0], table[1]};\n    return run(code);\n}\n")
-        self.assertEqual(self.runs("--cc", "clang", file), ["sandbox=0", "exit=42", "out="])
+        self.assertEqual(self.runs("--cc", CLANG, file), ["sandbox=0", "exit=42", "out="])
 
     @needs(GCC)
     def test_assembly_and_cpp(self):
@@ -420,7 +419,7 @@ int corners_of(const Shape &shape) { return shape.corners(); }
 int main() { return twice(19) + corners_of(Square()); }
 ''')
         twice = self.write("twice.S", "#define TIMES 1\n.globl twice\ntwice: slli a0,a0,TIMES\nret\n")
-        for compiler in [GCC] + ["clang"] * bool(shutil.which("clang") and shutil.which("llc")):
+        for compiler in COMPILERS:
             for level in ("-O0", "-O2"):
                 self.assertEqual(self.runs("--cc", compiler, level, main, twice), ["sandbox=0", "exit=42", "out="])
 
@@ -437,7 +436,7 @@ int main() { return twice(19) + corners_of(Square()); }
         """The same table by the marks of gates.h as by options."""
         body = "int print(int);\nextern int state[2];\nint add(int a, int b) { return print(a + b) + state[1]; }\nint state[2];\n"
         marked = body.replace("int print", "SFI_IMPORT int print").replace("int add", "SFI_EXPORT int add").replace("\nint state", "\nSFI_EXPORT int state")
-        for compiler in [GCC] + ["clang"] * bool(shutil.which("clang") and shutil.which("llc")):
+        for compiler in COMPILERS:
             for name in ("plug.c", "plug.cc"):
                 opened, closed = ('extern "C" {\n', "}\n") if name.endswith("cc") else ("", "")
                 plain = self.write(name, f"{opened}{body}{closed}")

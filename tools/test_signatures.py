@@ -104,7 +104,6 @@ def source(declarations, are_compiled=True):
     return f"{exports}{imports}SFI_EXPORT void take(void) {{\n    void *volatile seen;\n{taken}    (void)seen;\n}}\n"
 
 
-@needs("riscv64-unknown-elf-ld")
 @needs_a_compiler
 class Signatures(Folder):
     maxDiff = None

@@ -45,7 +45,7 @@ def program(count):
     return f"{objects}int main(void) {{\n    int sum = *more;\n    for (int turn = 0; turn < 16; turn++) {{\n{uses}    }}\n    return sum & 1;\n}}\n"
 
 
-@needs(GCC, "riscv64-unknown-elf-ld")
+@needs(GCC)
 class SmallObjects(Folder):
     def assembly(self, level, limit):
         words = [*options_of(GCC, []), f"{LIMIT}{limit}", level]

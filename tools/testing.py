@@ -1,29 +1,56 @@
-"""What the unit tests share: the program and the compilers that they run, and a folder for what a test makes."""
+#!/usr/bin/env python3
+"""What the tests share: the program and the compilers that they run, what of these isn't there, and a folder for what a test makes.
+
+    tools/testing.py NAME ..     # prints what of these isn't there, as `lacking` has it, or nothing; for tests in shell
+"""
 import functools
 import os
 import pathlib
 import shutil
 import subprocess
+import sys
 import tempfile
 import unittest
+
+from suygapid.library.sources import GCC_SOURCE, NEWLIB_SOURCE
 
 TOOLS = pathlib.Path(__file__).resolve().parent
 TOP = TOOLS.parent
 SFI = os.environ.get("SFI", str(TOP / "crates" / "sfi" / "out" / "sfi"))
 SFI_CC, SFI_IMAGE = str(TOOLS / "sfi-cc"), str(TOOLS / "sfi-image")
-GCC = "riscv64-unknown-elf-gcc"
+GCC, CLANG = "riscv64-unknown-elf-gcc", "clang"
+OF_BINUTILS = ("riscv64-unknown-elf-as", "riscv64-unknown-elf-ld")
 FORMATS = ("1", "2", "words")
 EACH_FORMAT = "EACH_FORMAT"  # in the environment: what compilers make is tried in each format, as by ./test --all
-COMPILERS = [it for it in (GCC, "clang") if shutil.which(it)]
+SOURCES = {it.name: it for it in (GCC_SOURCE, NEWLIB_SOURCE)}
+# By what tests name, what that stands on: the compilers of sandboxes, and what sfi-cc compiles of sources when it is first wanted.
+FLOATS, NEWLIB = "floating point", "newlib"
+PARTS = {GCC: OF_BINUTILS, CLANG: ("llc", *OF_BINUTILS), FLOATS: (GCC_SOURCE.name,), NEWLIB: (NEWLIB_SOURCE.name, GCC_SOURCE.name)}
+
+
+def is_there(name):
+    """Whether a command, or one of Debian's packages of sources, is there."""
+    return SOURCES[name].where() is not None if name in SOURCES else shutil.which(name) is not None
+
+
+def lacking(*names):
+    """What of these commands, packages of sources and names of PARTS isn't there: words that say so, or none."""
+    wanted = [part for name in names for part in ((name,) if name not in (FLOATS, NEWLIB) else ()) + PARTS.get(name, ())]
+    missing = list(dict.fromkeys(it for it in wanted if not is_there(it)))
+    *first, last = [f"Debian's package {it}" if it in SOURCES else it for it in missing] or [""]
+    return f"{', '.join(first)} and {last} aren't there" if first else f"{last} isn't there" if last else ""
+
+
+COMPILERS = [it for it in (GCC, CLANG) if not lacking(it)]
 
 needs_program = unittest.skipUnless(os.access(SFI, os.X_OK), f"{SFI} isn't built")
-needs_a_compiler = unittest.skipUnless(COMPILERS, f"{GCC} and clang aren't there")
+needs_a_compiler = unittest.skipUnless(COMPILERS, lacking(GCC))
 
 
-def needs(*commands):
-    """Skips a test, or all of a class, where one of these commands isn't there."""
-    missing = [it for it in commands if not shutil.which(it)]
-    return unittest.skipIf(missing, f"{' and '.join(missing)} {'is' if len(missing) == 1 else 'are'}n't there")
+def needs(*names):
+    """Skips a test, or all of a class, where one of these isn't there, or what it stands on."""
+    why = lacking(*names)
+    return unittest.skipIf(why, why)
 
 
 @functools.cache
@@ -71,3 +98,7 @@ class Folder(unittest.TestCase):
     def read(self, name):
         with open(self.path(name), encoding="utf-8") as file:
             return file.read()
+
+
+if __name__ == "__main__":
+    print(lacking(*sys.argv[1:]))

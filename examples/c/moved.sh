@@ -127,8 +127,9 @@ END
 }
 
 for format in 2 words; do try_text "$format"; done
-if ! has riscv64-unknown-elf-gcc; then
-    skip 1 "images that are moved" "riscv64-unknown-elf-gcc isn't there"
+why=$(lacking riscv64-unknown-elf-gcc)
+if [ -n "$why" ]; then
+    skip 1 "images that are moved" "$why"
     finish
 fi
 wanted_programs=${wanted_programs:-$(cut -d' ' -f1 expected.txt | uniq)}

@@ -122,16 +122,9 @@ native_programs() {
     done
 }
 
-missing() { # programs that are wanted
-    local name
-    for name in "$@"; do
-        has "$name" || echo "$name isn't there"
-    done | head -n 1
-}
-
 std_programs_as_natively() {
     local why
-    why=$(missing gcc python3)
+    why=$(lacking gcc python3)
     if [ -n "$why" ]; then
         skip 1 "programs with standard headers" "$why"
         return
@@ -140,8 +133,8 @@ std_programs_as_natively() {
         report "std by native gcc" programs "$(cat "$room/messages")"
         return
     fi
-    why=$(missing riscv64-unknown-elf-gcc)
+    why=$(lacking riscv64-unknown-elf-gcc)
     if [ -n "$why" ]; then skip 1 "std by gcc" "$why"; else try_compiler gcc; fi
-    why=$(missing clang llc riscv64-unknown-elf-as)
+    why=$(lacking clang)
     if [ -n "$why" ]; then skip 1 "std by clang" "$why"; else try_compiler clang; fi
 }

@@ -145,7 +145,7 @@ programs_beside_run() {
     local name format input
     input=$(head -c 3000 "$here/../c/inputs/prose" | digits_of)
     while read -r name format <&3; do
-        c_image "$name" "$format" "$room/$name.hex" || { skip 1 "$name.c, format $format" "riscv64-unknown-elf-gcc isn't there" && continue; }
+        c_image "$name" "$format" "$room/$name.hex" || { skip 1 "$name.c, format $format" "$(lacking riscv64-unknown-elf-gcc)" && continue; }
         xxd -r -p "$room/$name.hex" >"$room/$name.image"
         beside_run "$name.c, format $format" "$name" "$input" 1:100000 300:7 50:9999 100:1000000
     done 3< <(due 3 base64 crc32 hash json sort stack)
@@ -214,7 +214,9 @@ status 0" "$room/words.image" "a plug-in of mine" x
 
 # The plug-in in C, where a compiler is there: another compiler makes other code, which does the same.
 compiled_anew() {
-    has riscv64-unknown-elf-gcc || { skip 10 "words_plugin.c, and functions by their names" "gcc for RISC-V isn't there" && return; }
+    local why floats
+    why=$(lacking riscv64-unknown-elf-gcc) floats=$(lacking "floating point")
+    [ -z "$why" ] || { skip 10 "words_plugin.c, and functions by their names" "$why" && return; }
     "$top/tools/sfi-cc" --program "$SFI" -Wall -Werror --gate price=2 -o "$room/anew.image" "$here/words_plugin.c" 2>"$room/log"
     report "words_plugin.c is compiled" "Two Words 28" "$("$room/words" "$room/anew.image" "two words" 2>&1 | head -n 1)"
     printf 'int add(int a, int b) { return a + b; }\n' >"$room/add.c"
@@ -227,6 +229,7 @@ status 0" "$room/add.image"
         says "calls both ways, by names that the source marks, format $format" order "61 42 93 5 17 28
 61 42 93 5 17 28
 status 0" "$room/order.image"
+        [ -z "$floats" ] || { skip 1 "values by signatures, format $format" "$floats" && continue; }
         "$top/tools/sfi-cc" --program "$SFI" --format "$format" -Wall -Werror "$here/values_plugin.c" -o "$room/values.image" 2>"$room/log"
         says "values by signatures, format $format" values "noted häuser
 noted 
@@ -260,8 +263,9 @@ block() { # a heading, and the words after ``` of a block below it: the first on
 }
 
 documented() {
-    local found place=$room/document
-    has riscv64-unknown-elf-gcc || { skip 3 "the hosts of EMBEDDING.md" "gcc for RISC-V isn't there" && return; }
+    local found why place=$room/document
+    why=$(lacking riscv64-unknown-elf-gcc)
+    [ -z "$why" ] || { skip 3 "the hosts of EMBEDDING.md" "$why" && return; }
     mkdir -p "$place/src"
     block "A host from nothing" c >"$place/plugin.c"
     succeeds "the plug-in of EMBEDDING.md" env -C "$place" "$top/tools/sfi-cc" --program "$SFI" --export add --import print \

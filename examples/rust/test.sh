@@ -132,8 +132,10 @@ try_crates() {
 }
 
 try_guest
-if ! ./sfi-rustc --missing 2>"$room/messages"; then
-    skip 1 "Rust programs" "$(cat "$room/messages")"
+why=$(./sfi-rustc --missing 2>&1)
+why=${why:-$(lacking riscv64-unknown-elf-as riscv64-unknown-elf-ld)}
+if [ -n "$why" ]; then
+    skip 1 "Rust programs" "$why"
     finish
 fi
 for program in words median panics calls; do

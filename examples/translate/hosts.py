@@ -23,6 +23,7 @@ import calls
 import corpus
 import fuzzing
 import measure
+import testing
 import worlds
 from lines import HERE, TOP
 
@@ -139,8 +140,9 @@ def block(heading):
 
 def try_documented(sfi, folder, tally):
     """The host and the plug-in of docs/EMBEDDING.md."""
-    if not shutil.which("riscv64-unknown-elf-gcc"):
-        tally.skip(1, "the host of EMBEDDING.md", "gcc for RISC-V isn't there")
+    why = testing.lacking(testing.GCC)
+    if why:
+        tally.skip(1, "the host of EMBEDDING.md", why)
         return
     source, path = (os.path.join(folder, name) for name in ("plugin.c", "plugin.image"))
     measure.written(source, block("A host from nothing"))

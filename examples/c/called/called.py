@@ -10,7 +10,6 @@ do natively (torture.py says how, and which can't pass). The last line is `N pas
 import argparse
 import os
 import random
-import shutil
 import sys
 import tempfile
 from concurrent.futures import ThreadPoolExecutor
@@ -24,7 +23,7 @@ sys.path.insert(0, os.path.join(os.path.dirname(HERE), "torture"))
 
 import torture
 from suygapid.cc.compilers import Failed, ran
-from testing import formats_due, sample
+from testing import formats_due, lacking, sample
 
 SOURCE = os.path.join(HERE, "functions.c")
 NUMBERS = (0, 12345, 4294967295)
@@ -134,21 +133,21 @@ def parsed(words):
     options = parser.parse_args(words)
     options.program, options.library_file, options.library = os.path.abspath(options.program), os.path.abspath(options.library), None
     options.csmith, options.ieee, options.moved, options.level, options.format = 0, False, False, torture.LEVELS, None  # of torture.py
-    options.compiler = [name for name, needed in (("gcc", [torture.GCC]), ("clang", ["clang", "llc"])) if all(map(shutil.which, needed))]
+    options.compiler = [name for name, command in torture.COMPILERS.items() if not lacking(command)]
     return options
 
 
 def main():
     options = parsed(sys.argv[1:])
-    missing = [name for name in ("gcc", torture.GCC) if not shutil.which(name)]
-    missing += [path for path in (options.program, options.library_file) if not os.path.exists(path)]
-    if missing:
-        print(f"skipped: functions that are called: {missing[0]} isn't there\n0 passed, 0 failed, 1 skipped")
+    unbuilt = [f"{path} isn't built" for path in (options.program, options.library_file) if not os.path.exists(path)]
+    why = lacking("gcc", torture.GCC) or next(iter(unbuilt), "")
+    if why:
+        print(f"skipped: functions that are called: {why}\n0 passed, 0 failed, 1 skipped")
         return 0
     counts = {"passed": 0, "failed": 0, "skipped": 0}
     if "clang" not in options.compiler:
         counts["skipped"] = 1
-        print("skipped: functions by clang: clang or llc isn't there (Debian's packages clang and llvm)")
+        print(f"skipped: functions by clang: {lacking(torture.CLANG)}")
     with tempfile.TemporaryDirectory() as folder:
         ran([os.path.join(torture.TOOLS, "libraries.py"), "sfi_run", options.library_file, folder])
         os.environ["SFI_RUN_LIBRARY"] = os.path.join(folder, "libsfi_run.so")

@@ -67,18 +67,18 @@ try_linked() { # format
 }
 
 try_clang() { # format
-    has clang && has llc || { skip 1 "many arguments by clang, format $1" "clang or llc isn't there (Debian's packages clang and llvm)" && return; }
+    [ -z "$no_clang" ] || { skip 1 "many arguments by clang, format $1" "$no_clang" && return; }
     elf_of "many.$1.elf" "$1" --cc clang elf/many_arguments.c
     report "many arguments by clang, format $1" "sandbox=0 exit=221 out=" "$(line_of "$room/many.$1.elf")"
 }
 
 # Floating point, by the functions of GCC's library, and a folder of assembly as a library.
 try_libraries() { # format
-    if ls ${GCC_SOURCE:-/usr/src/gcc-*/gcc-*.tar.xz} >"$room/which" 2>&1; then
+    if [ -z "$no_floats" ]; then
         elf_of "floats.$1.elf" "$1" elf/floats.c
         report "floating point, format $1" "sandbox=0 exit=42 out=" "$(line_of "$room/floats.$1.elf")"
     else
-        skip 1 "floating point, format $1" "GCC's sources aren't there (Debian's package gcc-12-source)"
+        skip 1 "floating point, format $1" "$no_floats"
     fi
     elf_of "library.$1.elf" "$1" --library "$room/library" elf/calls_twice.c
     report "a folder of assembly, format $1" "sandbox=0 exit=42 out=" "$(line_of "$room/library.$1.elf")"
@@ -207,10 +207,12 @@ try_refusals() {
     report "a data region that is too small" 1 "$(refusal "$tools/sfi-image" --data 4096 "$room/post.words.elf" | grep -c "don't fit in 4096")"
 }
 
-if ! has riscv64-unknown-elf-gcc || ! has riscv64-unknown-elf-ld; then
-    skip 1 "programs by ELF" "riscv64-unknown-elf-gcc or its binutils aren't there"
+why=$(lacking riscv64-unknown-elf-gcc)
+if [ -n "$why" ]; then
+    skip 1 "programs by ELF" "$why"
     finish
 fi
+no_clang=$(lacking clang) no_floats=$(lacking "floating point")
 primes=$(seq 2 99 | factor | awk 'NF == 2 { print $2 }')
 mkdir "$room/library"
 riscv64-unknown-elf-gcc -S -O2 -march=rv32imc -mabi=ilp32 $(printf -- '-ffixed-x%s ' 24 25 26 27 29 30 31) \

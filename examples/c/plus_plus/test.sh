@@ -41,12 +41,7 @@ try_refused() { # what sfi-cc says at last; the program; options
     report "$2" "$1" "$(compile "$room/refused.hex" "${@:3}" "$room/refused.cpp"; grep -m 1 ^sfi-cc "$room/messages")"
 }
 
-why=
-has g++ || why="g++ isn't there"
-has riscv64-unknown-elf-gcc || why="riscv64-unknown-elf-gcc isn't there"
-sources=$(PYTHONPATH=$tools python3 -B -c 'from suygapid.library.sources import GCC_SOURCE, NEWLIB_SOURCE
-print(next((it.wanted() for it in (GCC_SOURCE, NEWLIB_SOURCE) if it.where() is None), ""))')
-why=${why:-$sources}
+why=$(lacking g++ riscv64-unknown-elf-gcc newlib)
 if [ -n "$why" ]; then
     skip 1 "C++ with its library" "$why"
 else

@@ -33,17 +33,16 @@ sys.path.insert(0, os.path.join(TOP, "tools"))
 
 from suygapid.cc.compilers import GCC, Failed, ran
 from suygapid.library.sources import GCC_SOURCE, unpacked
-from testing import sample
+from testing import CLANG, lacking, sample
 
 PICOLIBC = "/usr/lib/picolibc/riscv64-unknown-elf"
 QEMU = "qemu-riscv32"
 TESTS = "gcc/testsuite/gcc.c-torture/execute"
-COMPILERS = {"gcc": GCC, "clang": "clang"}
+COMPILERS = {"gcc": GCC, "clang": CLANG}
 LEVELS = ("-O0", "-O1", "-O2", "-O3", "-Os")
 FORMATS = ("1", "2", "words")
 OF_SAMPLE = ("words", "words", "1", "words", "2")  # the formats of a sample's tests
 TOOLS = os.path.join(TOP, "tools")
-PACKAGES = {GCC: "gcc-riscv64-unknown-elf", "clang": "clang", "llc": "llvm", QEMU: "qemu-user", "csmith": "csmith libcsmith-dev"}
 SAMPLE = 100
 CSMITH = ["csmith", "--max-funcs", "4", "--max-block-depth", "3"]  # some 20 KB of C each
 CSMITH_HEADERS = "/usr/include/csmith"
@@ -228,19 +227,17 @@ def parsed(words):
     options = parser.parse_args(words)
     options.level = options.level or LEVELS
     options.asked = options.compiler
-    options.compiler = options.compiler or [name for name in COMPILERS if shutil.which(name) or name == "gcc"]
+    options.compiler = options.compiler or [name for name, command in COMPILERS.items() if not lacking(command)]
     return options
 
 
 def missing(options):
-    """What isn't there that all tests need: a line that names the package."""
-    for command in (GCC, QEMU, *(["csmith"] if options.csmith else [])):
-        if not shutil.which(command):
-            return f"{command} isn't there (Debian's package {PACKAGES[command]})"
+    """What isn't there that all tests need."""
+    why = lacking(GCC, QEMU, "csmith" if options.csmith else GCC_SOURCE.name)
+    if why:
+        return why
     if not os.path.isdir(PICOLIBC):
         return "picolibc isn't there (Debian's package picolibc-riscv64-unknown-elf)"
-    if not options.csmith and not GCC_SOURCE.where():
-        return f"GCC's sources aren't there: {GCC_SOURCE.wanted()}"
     if not os.access(options.program, os.X_OK):
         return f"{options.program} isn't built"
     return None
@@ -301,9 +298,9 @@ def main():
         print(f"skipped: torture tests: {why}\n0 passed, 0 failed, 1 skipped")
         return 0
     skipped = 0
-    if not options.asked and not (shutil.which("clang") and shutil.which("llc")):
-        options.compiler, skipped = ["gcc"], 1
-        print("skipped: torture tests by clang: clang or llc isn't there (Debian's packages clang and llvm)")
+    if "clang" not in options.compiler and not options.asked:
+        skipped = 1
+        print(f"skipped: torture tests by clang: {lacking(CLANG)}")
     with tempfile.TemporaryDirectory() as folder:
         room = room_of(options, folder)
         with Pool(options.jobs) as pool:

@@ -8,17 +8,16 @@ format, one of six, by the number of commits. SEED=N in the
 environment takes COUNT=N others from there on, each in each format. A failure names its seed. Where a
 compiler isn't there the test is skipped."""
 import os
-import shutil
 import subprocess
 
 from suygapid.passes.random_c import Program
-from testing import FORMATS, GCC, SFI, SFI_CC, TOP, Folder, needs, needs_program, sample
+from testing import CLANG, COMPILERS, FORMATS, GCC, SFI, SFI_CC, TOP, Folder, needs, needs_program, sample
 
 HERE = os.path.dirname(os.path.abspath(__file__))
 EXAMPLES = os.path.join(TOP, "examples", "c")
 IN_WORDS = (1, 2)  # the seeds of what is tried each time
 STACK = 1 << 19  # the programs call themselves some hundred times
-CLANG, LLC, NATIVE = "clang", "llc", "gcc"
+NATIVE = "gcc"
 GCC_WAYS = [["-O0"], ["-O1"], ["-O2", "-fno-section-anchors", "-mno-explicit-relocs"], ["-Os"], ["-O3", "-funroll-loops"]]
 
 
@@ -47,7 +46,7 @@ def programs():
 def ways():
     """Each compiler that is there with its words."""
     yield from ((GCC, way) for way in GCC_WAYS)
-    if shutil.which(CLANG) and shutil.which(LLC):
+    if CLANG in COMPILERS:
         yield CLANG, ["-O2"]
 
 

@@ -7,7 +7,7 @@ from suygapid.passes.improving import PASSES
 from suygapid.passes.placement import places
 from suygapid.passes.rewriting import Rewriting, rewritten
 from suygapid.passes.typed import WORDS
-from testing import GCC, TOP, Folder, needs
+from testing import GCC, OF_BINUTILS, TOP, Folder, needs
 
 EXAMPLES = os.path.join(TOP, "examples", "c")
 BINUTILS = "riscv64-unknown-elf-"
@@ -42,7 +42,7 @@ class WeakNames(Folder):
             self.assertNotIn("jal ra, h", made)
 
 
-@needs(f"{BINUTILS}as")
+@needs(*OF_BINUTILS)
 class Attributes(Folder):
     def test_the_objects_code_has_16_bit_forms(self):
         """By this disassemblers and debuggers read it."""
@@ -61,7 +61,7 @@ class Attributes(Folder):
             self.assertIn('\t.file\t2 "/folder/gates.h"', text.splitlines())
 
 
-@needs(GCC, f"{BINUTILS}as")
+@needs(GCC)
 class Places(Folder):
     """The model by which `packing` fits code into bundles."""
 

@@ -10,7 +10,7 @@ from suygapid.cc.compilers import compiled, reserved
 from suygapid.validate.files import compilers_object, rewritten_object
 from suygapid.validate.mistakes import MISTAKES, MOVABLE
 from suygapid.validate.validating import complaints
-from testing import COMPILERS, TOOLS, TOP, Folder, formats_due, needs, needs_a_compiler
+from testing import COMPILERS, OF_BINUTILS, TOOLS, TOP, Folder, formats_due, needs, needs_a_compiler
 
 EXAMPLES = ("arithmetic", "base64", "crc32", "hash", "json", "lz", "matrix", "regex", "sha256", "sort", "stack", "wordcount")
 PASSES = os.path.join(os.path.dirname(os.path.abspath(__file__)), "passes.s")
@@ -37,7 +37,7 @@ class Validation(Folder):
                         *(word for pair in places.items() for word in pair)], env=environment, check=True, timeout=PATIENCE)
 
 
-@needs("riscv64-unknown-elf-as")
+@needs(*OF_BINUTILS)
 class Marks(Validation):
     def test_names_that_a_host_knows(self):
         """A gate by SFI_IMPORT, which is no weak name any more, and one that is weak without a mark."""
@@ -49,7 +49,7 @@ class Marks(Validation):
             self.assertEqual(said, [])
 
 
-@needs("riscv64-unknown-elf-as")
+@needs(*OF_BINUTILS)
 class Mistakes(Validation):
     """Mistakes of the passes, by what they do to passes.s in words and in the second format."""
 
@@ -81,7 +81,7 @@ class Mistakes(Validation):
                     self.assertTrue(all(lines), "the mistake isn't seen")
 
 
-@needs("riscv64-unknown-elf-as")
+@needs(*OF_BINUTILS)
 class Aliases(Validation):
     """Functions of several names."""
 
@@ -107,7 +107,6 @@ class Aliases(Validation):
             self.assertEqual(" ".join(found), alike, called)
 
 
-@needs("riscv64-unknown-elf-as")
 @needs_a_compiler
 class Examples(Validation):
     def one(self, compiler, name, formats):
