@@ -29,6 +29,7 @@ from inputs import input_of
 from suygapid.elf.elf import Elf
 from suygapid.kept import root
 from suygapid.library.sources import GCC_SOURCE, unpacked
+from testing import GCC, NEWLIB, lacking
 
 FORMATS = ("1", "2", "words")
 GCC_PARTS = ("zlib", "libdecnumber", "libiberty", "include")
@@ -65,6 +66,10 @@ class Program:
 
     def is_plus_plus(self):
         return self.library == "c++"
+
+    def compiler(self):
+        """The one for this machine."""
+        return "g++" if self.is_plus_plus() else "gcc"
 
 
 PROGRAMS = {
@@ -146,15 +151,10 @@ def archive_of(package, options):
 
 
 def missing(program, options):
-    """The first of a program's packages whose sources aren't there, or None."""
-    return next((package for package in program.package.split()
-                 if not (GCC_SOURCE.where() if package == GCC_SOURCE.name else archive_of(package, options))), None)
-
-
-def reason(package):
-    """Why a program can't be tried for want of a package, and what helps."""
-    help_of = GCC_SOURCE.wanted() if package == GCC_SOURCE.name else "--fetch gets them"
-    return f"the sources of Debian's package {package} aren't there ({help_of})"
+    """What isn't there of compilers, the library, and the sources of a program's packages: words that say so, or none."""
+    why = lacking(program.compiler(), GCC, NEWLIB)
+    absent = [] if why else [it for it in program.package.split() if it != GCC_SOURCE.name and not archive_of(it, options)]
+    return f"the sources of Debian's package {absent[0]} aren't there (--fetch gets them)" if absent else why
 
 
 def tree_of(program, options, folder):
@@ -215,8 +215,7 @@ def given_to(name, tree):
 def natively(name, tree, folder):
     """What the program does with each input, as gcc makes it here."""
     native = os.path.join(folder, f"{name}.native")
-    compiler = "g++" if PROGRAMS[name].is_plus_plus() else "gcc"
-    subprocess.run([compiler, *options_of(name, tree, folder), "-o", native, *files_of(name, tree), "-lm"], check=True)
+    subprocess.run([PROGRAMS[name].compiler(), *options_of(name, tree, folder), "-o", native, *files_of(name, tree), "-lm"], check=True)
     runs = [(it, subprocess.run([native], input=given_to(it, tree), stdout=subprocess.PIPE, check=False))
             for it in PROGRAMS[name].inputs.split()]
     return {it: Found(done.returncode, done.stdout) for it, done in runs}
@@ -311,7 +310,7 @@ def try_program(name, options, results):
     with tempfile.TemporaryDirectory() as folder:
         tree = tree_of(PROGRAMS[name], options, folder)
         if tree is None:
-            return results.skip(name, reason(missing(PROGRAMS[name], options)))
+            return results.skip(name, missing(PROGRAMS[name], options))
         native = natively(name, tree, folder)
         for image_format in options.format:
             try_format(Unpacked(name, tree, folder), image_format, native, options, results)
