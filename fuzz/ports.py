@@ -11,7 +11,6 @@ tools/runtime_file.py makes. It wants gcc.
 """
 import dataclasses
 import os
-import shutil
 import struct
 import subprocess
 import sys
@@ -212,11 +211,11 @@ class Players:
                     self.found.append((port, program))
 
     def is_there(self, port):
-        for command in [port.compiler[0], *port.runner.split()[:1]]:
-            if command != HERE.split()[0] and not shutil.which(command):
-                self.tally.skip(1, f"suygapid_run.c for {port.name}", f"{command} isn't there")
-                return False
-        return True
+        wanted = [port.compiler[0], *port.runner.replace(HERE, "").split()[:1], *[testing.PICOLIBC] * (port.compiler == BARE)]
+        absent = [it for it in wanted if not testing.is_there(it)]
+        if absent:
+            self.tally.skip(1, f"suygapid_run.c for {port.name}", f"{absent[0]} isn't there")
+        return not absent
 
     def play(self, made):
         """Makes the calls of a trace anew, by each."""

@@ -19,6 +19,7 @@ TOP = TOOLS.parent
 SFI = os.environ.get("SFI", str(TOP / "crates" / "sfi" / "out" / "sfi"))
 SFI_CC, SFI_IMAGE = str(TOOLS / "sfi-cc"), str(TOOLS / "sfi-image")
 GCC, CLANG = "riscv64-unknown-elf-gcc", "clang"
+PICOLIBC = "/usr/lib/picolibc/riscv64-unknown-elf"
 OF_BINUTILS = ("riscv64-unknown-elf-as", "riscv64-unknown-elf-ld")
 FORMATS = ("1", "2", "words")
 EACH_FORMAT = "EACH_FORMAT"  # in the environment: what compilers make is tried in each format, as by ./test --all
@@ -29,12 +30,14 @@ PARTS = {GCC: OF_BINUTILS, CLANG: ("llc", *OF_BINUTILS), FLOATS: (GCC_SOURCE.nam
 
 
 def is_there(name):
-    """Whether a command, or one of Debian's packages of sources, is there."""
-    return SOURCES[name].where() is not None if name in SOURCES else shutil.which(name) is not None
+    """Whether a command, a folder by its path, or one of Debian's packages of sources, is there."""
+    if name in SOURCES:
+        return SOURCES[name].where() is not None
+    return os.path.isdir(name) if os.path.isabs(name) else shutil.which(name) is not None
 
 
 def lacking(*names):
-    """What of these commands, packages of sources and names of PARTS isn't there: words that say so, or none."""
+    """What of these commands, folders, packages of sources and names of PARTS isn't there: words that say so, or none."""
     wanted = [part for name in names for part in ((name,) if name not in (FLOATS, NEWLIB) else ()) + PARTS.get(name, ())]
     missing = list(dict.fromkeys(it for it in wanted if not is_there(it)))
     *first, last = [f"Debian's package {it}" if it in SOURCES else it for it in missing] or [""]

@@ -33,9 +33,8 @@ sys.path.insert(0, os.path.join(TOP, "tools"))
 
 from suygapid.cc.compilers import GCC, Failed, ran
 from suygapid.library.sources import GCC_SOURCE, unpacked
-from testing import CLANG, lacking, sample
+from testing import CLANG, PICOLIBC, lacking, sample
 
-PICOLIBC = "/usr/lib/picolibc/riscv64-unknown-elf"
 QEMU = "qemu-riscv32"
 TESTS = "gcc/testsuite/gcc.c-torture/execute"
 COMPILERS = {"gcc": GCC, "clang": CLANG}
@@ -232,15 +231,9 @@ def parsed(words):
 
 
 def missing(options):
-    """What isn't there that all tests need."""
-    why = lacking(GCC, QEMU, "csmith" if options.csmith else GCC_SOURCE.name)
-    if why:
-        return why
-    if not os.path.isdir(PICOLIBC):
-        return "picolibc isn't there (Debian's package picolibc-riscv64-unknown-elf)"
-    if not os.access(options.program, os.X_OK):
-        return f"{options.program} isn't built"
-    return None
+    """What isn't there that all tests need: words that say so, or none."""
+    why = lacking(GCC, QEMU, PICOLIBC, "csmith" if options.csmith else GCC_SOURCE.name)
+    return why or ("" if os.access(options.program, os.X_OK) else f"{options.program} isn't built")
 
 
 def expected(case, said, library):
