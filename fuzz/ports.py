@@ -5,7 +5,7 @@
 
 Each case is the life of a world of fuzz/calls.py, of whose images the names are read and the console is run, and of one of fuzz/beside.py.
 Their calls go to libsfi_run, and to a trace, which fuzz/player.c makes anew: once with libsfi_run, and with the file as each compiler
-makes it, for other processors under qemu. Each call has to answer and write the same. Compilers have to make it without a
+makes it, for other processors under qemu, for Windows by wine. Each call has to answer and write the same. Compilers have to make it without a
 warning: gcc and, by turns, two of the others; with --all, and where `./test --all` says so, all. --file is what
 tools/runtime_file.py makes. It wants gcc.
 """
@@ -41,7 +41,7 @@ WARNINGS = ["-std=c11", "-Wall", "-Wextra", "-pedantic", "-Werror"]
 
 @dataclasses.dataclass(frozen=True)
 class Port:
-    """A compiler with its options, and by which words its programs are run: none where nothing here runs them."""
+    """A compiler with its options, and by which words its programs are run."""
     name: str
     compiler: list
     runner: str
@@ -60,7 +60,7 @@ PORTS = [
     Port("armv7", ["arm-linux-gnueabihf-gcc", "-O2", "-static"], f"qemu-arm {HERE}"),
     Port("riscv64", ["riscv64-linux-gnu-gcc", "-O2", "-static"], f"qemu-riscv64 {HERE}"),
     Port("riscv32", BARE, ON_BARE),
-    Port("MinGW", ["x86_64-w64-mingw32-gcc", "-O2"], ""),
+    Port("MinGW", ["x86_64-w64-mingw32-gcc", "-O2"], "wine {program}.exe {trace} {digests}"),
 ]
 
 
@@ -179,7 +179,8 @@ def digests(port, program, trace):
     """What the player writes for this trace, or what it complains of."""
     target = f"{program}.digests"
     words = port.runner.format(program=program, trace=trace, digests=target).split()
-    done = subprocess.run(words, stdin=subprocess.DEVNULL, capture_output=True, check=False, timeout=5 * fuzzing.MOST_SECONDS)
+    env = {**os.environ, "WINEPREFIX": f"{os.path.dirname(program)}/wine", "WINEDEBUG": "-all"}
+    done = subprocess.run(words, stdin=subprocess.DEVNULL, capture_output=True, check=False, timeout=5 * fuzzing.MOST_SECONDS, env=env)
     if done.returncode:
         return done.stderr[-300:]
     with open(target, "rb") as file:
@@ -204,17 +205,17 @@ class Players:
         own = Port("libsfi_run", ["gcc", "-O2"], HERE)
         self.wanted = own, compiled(own, folder, library)[0]
         self.found = []
-        ready = [it for it in ports if self.is_there(it)]
+        ready = [it for it in ports if self.is_there(it, [it.compiler[0], *[testing.PICOLIBC] * (it.compiler == BARE)])]
         with ThreadPoolExecutor(os.cpu_count()) as pool:
             for port, (program, said) in zip(ready, pool.map(lambda it: compiled(it, folder, file), ready)):
-                if tally.see(f"{port.name}: warnings", "", said) and port.runner:
+                runner = port.runner.replace(HERE, "").split()[:1]
+                if tally.see(f"{port.name}: warnings", "", said) and self.is_there(port, runner, "it is compiled alone: "):
                     self.found.append((port, program))
 
-    def is_there(self, port):
-        wanted = [port.compiler[0], *port.runner.replace(HERE, "").split()[:1], *[testing.PICOLIBC] * (port.compiler == BARE)]
+    def is_there(self, port, wanted, so=""):
         absent = [it for it in wanted if not testing.is_there(it)]
         if absent:
-            self.tally.skip(1, f"suygapid_run.c for {port.name}", f"{absent[0]} isn't there")
+            self.tally.skip(1, f"suygapid_run.c for {port.name}", f"{so}{absent[0]} isn't there")
         return not absent
 
     def play(self, made):
