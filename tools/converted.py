@@ -14,6 +14,7 @@ from suygapid.library.archives import SMALL, archive_of, folders_of
 from suygapid.library.sources import GCC_SOURCE, NEWLIB_SOURCE, unpacked
 
 TOP = pathlib.Path(kept.RELEASED).resolve().parent.parent.parent
+MADE = pathlib.Path(kept.RELEASED).relative_to(TOP)
 TARGET = Target("words")
 LIBRARIES = ("files", "newlib", SMALL)
 LICENCES = {NEWLIB_SOURCE: ("COPYING.NEWLIB",), GCC_SOURCE: ("COPYING3", "COPYING3.LIB", "COPYING.RUNTIME")}
@@ -38,5 +39,4 @@ def files() -> dict[str, tuple[bytes, bool]]:
     found = licences()
     for folder in map(pathlib.Path, folders()):
         found |= {f"{folder.name}/{path.relative_to(folder)}": path for path in folder.rglob("*") if path.is_file()}
-    made = pathlib.Path(kept.RELEASED).relative_to(TOP)
-    return {f"{made}/{name}": (path.read_bytes(), False) for name, path in found.items()}
+    return {f"{MADE}/{name}": (path.read_bytes(), False) for name, path in found.items()}

@@ -6,7 +6,8 @@
 - the wheel for Python, with the runtime's shared library in it, by bindings/python/wheel_builder.py;
 - the tarball for node, with the runtime as a WebAssembly module, by `npm pack`;
 - the crate for Rust, with the runtime in one file of C, which it compiles, by `cargo package`;
-- the package for Debian and its like, of all that `./install` puts below a prefix, by dpkg-deb.
+- the package for Debian and its like, of all that `./install` puts below a prefix, by dpkg-deb; that of a release has the compiled
+  libraries of tools/converted.py, too.
 
 The program and the libraries have to be built, and bindings/node/sfi_run.wasm made (tools/build_node.py). The same commit and the
 same built files make the same packages. tools/package_trial.py installs and uses each.
@@ -46,6 +47,11 @@ Description: checker and runtime for sandboxed RISC-V code
  accepts or refuses an image of sandboxes; what is accepted can't leave its
  sandbox. This has the program sfi, tools for C, libraries with headers, files
  for pkg-config and CMake, bindings, manual pages and completions for shells.
+"""
+# Run as root, Python leaves what it compiles beside the modules of the bindings, which dpkg doesn't know.
+LEAVING = """\
+#!/bin/sh
+find /usr/share/suygapid -depth -name __pycache__ -exec rm -r {} +
 """
 
 
@@ -109,18 +115,27 @@ def put_control(room):
     control = room / "DEBIAN"
     control.mkdir()
     told = CONTROL.format(name=version.NAME, version=version.version(), maintainer=of_commit("%an <%ae>"), size=size)
-    for name, text in (("control", told), ("md5sums", sums), ("triggers", "activate-noawait ldconfig\n")):
+    for name, text, mode in (("control", told, 0o644), ("md5sums", sums, 0o644), ("triggers", "activate-noawait ldconfig\n", 0o644), ("prerm", LEAVING, 0o755)):
         (control / name).write_text(text, encoding="utf-8")
-        (control / name).chmod(0o644)
+        (control / name).chmod(mode)
 
 
-def debian(folder):
-    """The path of the package for Debian."""
+def put_more(folder, files):
+    """Writes files, of which the bytes are given by their paths."""
+    for path, data in files.items():
+        (folder / path).parent.mkdir(parents=True, exist_ok=True)
+        (folder / path).write_bytes(data)
+        (folder / path).chmod(0o644)
+
+
+def debian(folder, compiled=None):
+    """The path of the package for Debian. `compiled` are the bytes of files that a release has beside the tools, by their paths."""
     with tempfile.TemporaryDirectory() as made:
         room = pathlib.Path(made) / "package"
         for item in map(debian_item, installed.items()):
             (room / "usr" / item.place).parent.mkdir(parents=True, exist_ok=True)
             item.put(room / "usr")
+        put_more(room / "usr" / installed.SHARE, compiled or {})
         put_control(room)
         for it in (room, *room.rglob("*")):
             if it.is_dir():
@@ -141,12 +156,12 @@ def missing(maker):
     return [str(it).removeprefix(f"{TOP}/") for it in lacking + (runtime_file.missing() if maker is crate else [])]
 
 
-def make(folder):
-    """The paths of all packages, which are made in the folder."""
+def make(folder, compiled=None):
+    """The paths of all packages, which are made in the folder. `compiled` is as of `debian`."""
     lacking = [it for maker in MAKERS for it in missing(maker)]
     if lacking:
         raise Failed(f"{' and '.join(dict.fromkeys(lacking))} isn't there")
-    return [maker(folder) for maker in MAKERS]
+    return [maker(folder, compiled) if maker is debian else maker(folder) for maker in MAKERS]
 
 
 def main(words):

@@ -147,10 +147,11 @@ def try_out(name, packed_bytes):
         fail(f"nothing is released: {faults[0]}")
 
 
-def tried_packages(room):
-    """The packages, made in the folder `room`. Ends where one can't be made, or isn't as it has to be."""
+def tried_packages(room, files):
+    """The packages, made in the folder `room` beside a release of these files. Ends where one can't be made, or isn't as it has to be."""
+    compiled = {path: data for path, (data, _) in files.items() if path.startswith(f"{converted.MADE}/")}
     try:
-        made = packages.make(room)
+        made = packages.make(room, compiled)
     except packages.Failed as failed:
         fail(f"nothing is released: {failed}")
     faults = [fault for path in made for fault in package_trial.faults(path)]
@@ -176,7 +177,7 @@ def release(folder, log, has_packages):
     made = {f"{name}.tar.gz": gzip.compress(whole, compresslevel=9, mtime=0)}
     if has_packages:
         with tempfile.TemporaryDirectory() as room:
-            made |= tried_packages(pathlib.Path(room))
+            made |= tried_packages(pathlib.Path(room), files)
     folder.mkdir(parents=True, exist_ok=True)
     for name, data in made.items():
         (folder / name).write_bytes(data)

@@ -18,6 +18,7 @@ import version
 from testing import needs
 
 MAKERS = {".whl": packages.wheel, ".tgz": packages.tarball, ".crate": packages.crate, ".deb": packages.debian}
+COMPILED = {"tools/suygapid/made/a library/it.a": b"compiled"}  # what a release hands on
 
 
 def rezipped(path, target, change):
@@ -47,6 +48,11 @@ def emptied(place):
     return lambda name, data: b"" if name.endswith(place) else data
 
 
+def made_in(folder, ending):
+    """The package with this ending, made in a folder; that for Debian as a release makes it."""
+    return MAKERS[ending](folder, *[COMPILED] * (ending == ".deb"))
+
+
 class Packages(unittest.TestCase):
     @classmethod
     def setUpClass(cls):
@@ -62,7 +68,7 @@ class Packages(unittest.TestCase):
         if lacking:
             self.skipTest(f"{' and '.join(lacking)} isn't there")
         if ending not in self.made:
-            self.made[ending] = MAKERS[ending](self.room)
+            self.made[ending] = made_in(self.room, ending)
         return self.made[ending]
 
     def need_what_tries(self, ending):
@@ -115,6 +121,8 @@ class Packages(unittest.TestCase):
         self.need_what_tries(".deb")
         whole = self.room / "unpacked"
         subprocess.run(["dpkg-deb", "--extract", self.package(".deb"), whole], check=True)
+        for path, data in COMPILED.items():
+            self.assertEqual((whole / "usr" / "share" / "suygapid" / path).read_bytes(), data)
         for place, said in (("usr/include/sfi.h", "gcc fails"), ("usr/lib/cmake", "cmake fails"), ("usr/lib/pkgconfig/sfi_run.pc", "pkg-config fails"),
                             ("usr/share/man/man1/sfi-cc.1", "usr/share/man/man1/sfi-cc.1 isn't there"), ("usr/share/zsh", "usr/share/zsh/vendor-completions/_sfi isn't there"), ("usr/share/suygapid/tools/suygapid", "sfi-cc fails")):
             with self.subTest(said), tempfile.TemporaryDirectory() as room:
@@ -126,10 +134,10 @@ class Packages(unittest.TestCase):
                     package_trial.unpacked(top)
 
     def test_the_same_files_make_the_same_bytes(self):
-        for ending, maker in MAKERS.items():
+        for ending in MAKERS:
             with self.subTest(ending), tempfile.TemporaryDirectory() as room:
                 made = self.package(ending).read_bytes()
-                self.assertEqual(maker(pathlib.Path(room)).read_bytes(), made)
+                self.assertEqual(made_in(pathlib.Path(room), ending).read_bytes(), made)
 
     @needs("pip")
     def test_what_pip_says_of_the_wheel(self):

@@ -147,7 +147,7 @@ class Whole(Folder):
         said = pathlib.Path(f"{made}.sha256").read_text(encoding="utf-8").split()
         self.assertEqual(said[0], hashlib.sha256(made.read_bytes()).hexdigest())
 
-    def make_packages(self, folder):
+    def make_packages(self, folder, _compiled):
         (folder / "a.deb").write_bytes(b"package")
         return [folder / "a.deb"]
 

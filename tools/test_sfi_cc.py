@@ -3,6 +3,7 @@ print or fail as the test wants show what becomes of each step; the tests of the
 import os
 import struct
 import subprocess
+import sys
 
 from suygapid.services import GATES
 from testing import CLANG, COMPILERS, FORMATS, GCC, OF_BINUTILS, SFI, SFI_CC, SFI_IMAGE, Folder, formats_due, needs, needs_program
@@ -64,6 +65,12 @@ class Steps(Calls):
             self.assertEqual(self.made("-o", output, **stand_ins), (status, "", told))
             self.assertEqual(self.read("kept.hex"), "as it was")
             self.assertEqual(self.made(**stand_ins), (status, "", told))
+
+    def test_a_compiler_that_is_not_there(self):
+        done = subprocess.run([sys.executable, SFI_CC, self.write("main.c", "int x;\n")], capture_output=True, text=True, check=False,
+                              env={**os.environ, "PATH": self.folder})
+        self.assertEqual((done.returncode, done.stdout, done.stderr), (2, "", f"sfi-cc: {GCC} can't be run: No such file or directory:"
+                                                                              " Debian's package gcc-riscv64-unknown-elf has it\n"))
 
     def test_compiler_fails(self):
         compiler = self.write("failing", "#!/bin/sh\necho main.c:1: error >&2\nexit 1\n", 0o755)

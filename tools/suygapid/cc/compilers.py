@@ -32,6 +32,7 @@ WITH_MACROS = (".S", ".sx")  # assembly that a preprocessor goes over first
 ASSEMBLY = (".s", ".asm")
 OWN_CONVENTION = re.compile(r"^(define (?:\w+ )*?|.*?\b(?:call|invoke) (?:\w+ )*?)fastcc ")
 WITH_VALUE = ("-I", "-D", "-U", "-include", "-imacros", "-isystem", "-iquote", "-idirafter", "-x", "-Xclang", "-mllvm")
+PACKAGES = {GCC: "gcc-riscv64-unknown-elf", CLANG: "clang", "llc": "llvm"}  # of Debian
 
 
 class Failed(Exception):
@@ -48,7 +49,8 @@ def ran(words: Sequence[str], data: bytes = b"", folder: Optional[str] = None) -
     try:
         done = subprocess.run(words, input=data, stdout=subprocess.PIPE, stderr=subprocess.PIPE, check=False, cwd=folder)
     except OSError as error:
-        raise Failed(2, f"{words[0]} can't be run: {error.strerror}") from error
+        hint = f": Debian's package {PACKAGES[words[0]]} has it" if words[0] in PACKAGES else ""
+        raise Failed(2, f"{words[0]} can't be run: {error.strerror}{hint}") from error
     if done.returncode:
         reason = f"{name_of(words)} failed, in status {done.returncode}"
         raise Failed(max(done.returncode, 1), reason, done.stderr + done.stdout)
