@@ -65,7 +65,10 @@ def environment(room, **more):
 
 def run(room, *words, given=b"", **more):
     """What a command prints on standard output."""
-    done = subprocess.run(words, cwd=room, input=given, capture_output=True, check=False, env=environment(room, **more))
+    try:
+        done = subprocess.run(words, cwd=room, input=given, capture_output=True, check=False, env=environment(room, **more))
+    except FileNotFoundError as error:
+        raise Fault(f"{pathlib.Path(words[0]).name} isn't there") from error
     if done.returncode:
         said = (done.stderr or done.stdout).decode(errors="replace").strip().splitlines()
         raise Fault(f"{pathlib.Path(words[0]).name} fails: {said[-1] if said else f'status {done.returncode}'}")
@@ -122,21 +125,29 @@ def debian(path, room):
 
 def unpacked(room):
     """Tries what the package for Debian has, which is below `room`."""
-    usr = room / "usr"
+    for step in STEPS:
+        step(room, room / "usr")
+
+
+def by_program(room, usr):
     hold(run(room, usr / "bin" / "sfi", "check", given=IMAGE), release_trial.ACCEPTED, "the program")
+
+
+def by_tools(room, usr):
     with ThreadPoolExecutor() as pool:
         for tool, told in zip(installed.TOOLS, pool.map(lambda tool: run(room, usr / "bin" / tool, "--version"), installed.TOOLS)):
             hold(told, f"{tool} version={version.version()} commit=", tool)
+
+
+def by_places(_room, usr):
     for place in (*(f"man/man1/{page}" for page in installed.PAGES), *COMPLETIONS):
         if not (usr / "share" / place).is_file():
             raise Fault(f"usr/share/{place} isn't there")
-    (room / "host.c").write_text(release_trial.HOST, encoding="utf-8")
-    by_package(room, usr)
-    by_cmake(room, usr)
 
 
 def by_package(room, usr):
     """A host that pkg-config's words compile and link."""
+    (room / "host.c").write_text(release_trial.HOST, encoding="utf-8")
     words = run(room, "pkg-config", "--cflags", "--libs", "sfi_run", PKG_CONFIG_PATH=f"{usr}/lib/pkgconfig").split()
     run(room, "gcc", "-Wall", "-Wextra", "-Werror", "host.c", "-o", "host", *words, f"-Wl,-rpath,{usr}/lib")
     hold(run(room, room / "host", given=IMAGE), "Break", "a host by pkg-config")
@@ -144,6 +155,7 @@ def by_package(room, usr):
 
 def by_cmake(room, usr):
     """The same host as CMake links it with each library."""
+    (room / "host.c").write_text(release_trial.HOST, encoding="utf-8")
     (room / "CMakeLists.txt").write_text(CMAKE.format(name=version.NAME, version=version.version()), encoding="utf-8")
     run(room, "cmake", "-S", ".", "-B", "build", f"-DCMAKE_PREFIX_PATH={usr}")
     run(room, "cmake", "--build", "build")
@@ -151,6 +163,7 @@ def by_cmake(room, usr):
         hold(run(room, room / "build" / name, given=IMAGE), "Break", f"a host by CMake, with {name},")
 
 
+STEPS = (by_program, by_tools, by_places, by_package, by_cmake)
 TRIALS = {".whl": (wheel, ()), ".tgz": (tarball, ("npm", "node")), ".crate": (crate, ("cargo", "cc", "ar")),
           ".deb": (debian, ("dpkg-deb", "pkg-config", "gcc", "cmake"))}
 

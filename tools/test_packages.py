@@ -123,15 +123,18 @@ class Packages(unittest.TestCase):
         subprocess.run(["dpkg-deb", "--extract", self.package(".deb"), whole], check=True)
         for path, data in COMPILED.items():
             self.assertEqual((whole / "usr" / "share" / "suygapid" / path).read_bytes(), data)
-        for place, said in (("usr/include/sfi.h", "gcc fails"), ("usr/lib/cmake", "cmake fails"), ("usr/lib/pkgconfig/sfi_run.pc", "pkg-config fails"),
-                            ("usr/share/man/man1/sfi-cc.1", "usr/share/man/man1/sfi-cc.1 isn't there"), ("usr/share/zsh", "usr/share/zsh/vendor-completions/_sfi isn't there"), ("usr/share/suygapid/tools/suygapid", "sfi-cc fails")):
+        for place, step, said in (("usr/include/sfi.h", package_trial.by_package, "gcc fails"), ("usr/lib/cmake", package_trial.by_cmake, "cmake fails"),
+                                  ("usr/lib/pkgconfig/sfi_run.pc", package_trial.by_package, "pkg-config fails"),
+                                  ("usr/share/man/man1/sfi-cc.1", package_trial.by_places, "usr/share/man/man1/sfi-cc.1 isn't there"),
+                                  ("usr/share/zsh", package_trial.by_places, "usr/share/zsh/vendor-completions/_sfi isn't there"),
+                                  ("usr/share/suygapid/tools/suygapid", package_trial.by_tools, "sfi-cc fails"), ("usr/bin/sfi", package_trial.by_program, "sfi isn't there")):
             with self.subTest(said), tempfile.TemporaryDirectory() as room:
                 top = pathlib.Path(room) / "all"
                 shutil.copytree(whole, top, symlinks=True, copy_function=os.link)
                 gone = top / place
                 shutil.rmtree(gone) if gone.is_dir() else gone.unlink()
                 with self.assertRaisesRegex(package_trial.Fault, f"^{re.escape(said)}"):
-                    package_trial.unpacked(top)
+                    step(top, top / "usr")
 
     def test_the_same_files_make_the_same_bytes(self):
         for ending in MAKERS:
