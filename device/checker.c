@@ -13,7 +13,7 @@ struct reach sfi_device_image_reach;
 
 static struct reach judged; /* the image that was accepted last: nothing while one is judged */
 
-enum { PIECE = 4096 }; /* bytes of an image that are judged at a time */
+enum { PIECE = 2048 }; /* bytes of an image that are judged at a time */
 
 _Static_assert((int)MODULE_GATES == (int)SFI_DEVICE_GATES_MOST, "the gates of the module are those of a part");
 
@@ -23,9 +23,13 @@ _Static_assert((int)MODULE_GATES == (int)SFI_DEVICE_GATES_MOST, "the gates of th
    those of decisions.c, alone. */
 void *sfi_device_stopped[STOPPED_WORDS];
 
+_Noreturn void stop_module(void) {
+    __builtin_longjmp(sfi_device_stopped, 1);
+}
+
 void wasm_rt_trap(wasm_rt_trap_t cause) {
     (void)cause;
-    __builtin_longjmp(sfi_device_stopped, 1);
+    stop_module();
 }
 
 void wasm_rt_allocate_memory(wasm_rt_memory_t *memory, uint32_t pages, uint32_t most) {

@@ -39,24 +39,19 @@ mkdir -p "$2"
 cd "$2"
 
 # 65536 is the least stack that the linker takes: LINKED_STACK of checker.h.
-# wasm2c tests each access against the memory's end alone; reach.h says where the module may go, and
-# where its bytes are, and reads and writes them: a call of an access that passes neither memory nor 64 bits is shorter.
-make_c() { # a library, the module's name
+# wasm2c tests each access against the memory's end alone; reach.h says where the module may go, and where its bytes are, and
+# reads and writes them. Its stack pointer, below 2^32, has 32 bits.
+make_c() { # a library, the module's name, the call whose accesses aren't calls, and what calls
     "$toolchain/bin/rattle-link" --target wasm64-unknown-unknown --toolchain "$toolchain/toolchain" \
         --stack 65536 -o "${2}64.wasm" "$1" 2>link.log || { cat link.log >&2 && exit 1; }
     wasm-opt --all-features --memory64-lowering "${2}64.wasm" -o "${2}32.wasm"
     wasm2c "${2}32.wasm" -n "$2" -o "${2}_wasm.c"
-    grep -q '^  if (UNLIKELY(offset + (uint64_t)len > mem->size))' "${2}_wasm.c" ||
-        fail "${2}_wasm.c has no such test of an access as it had"
-    [ "$(grep -c 'mem, u64 addr' "${2}_wasm.c")/$(grep -c 'memcpy(\(&result, \)\?&mem->data\[addr\]' "${2}_wasm.c")" = 4/2 ] ||
-        fail "${2}_wasm.c has no such accesses as it had"
-    sed -i -e 's/(offset + (uint64_t)len > mem->size)/(!module_reaches(offset, len))/' \
-        -e 's/mem, u64 addr/mem, u32 addr/' \
-        -e 's/wasm_rt_memcpy(&result, &mem->data\[addr\]/read_value(\&result, module_byte(addr)/' \
-        -e 's/wasm_rt_memcpy(&mem->data\[addr\]/write_value(module_byte(addr)/' "${2}_wasm.c"
+    grep -q '^  u64 w2c_g0;$' "$2_wasm.h" || fail "$2_wasm.h has no stack pointer as it had"
+    sed -i 's/^  u64 w2c_g0;$/  u32 w2c_g0;/' "$2_wasm.h"
+    "$here/accesses.py" "$2_wasm.c" "${@:3}"
 }
 
-make_c "$library" sfi
+make_c "$library" sfi sfi_c_feed "$here/checker.c"
 if [ -n "$slots" ]; then
     make_c "$slots" slots
     ! grep -q '^static const u8 data_segment' slots_wasm.c || fail "the module of slots has constants, as the checker's has"

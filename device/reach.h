@@ -39,27 +39,66 @@ IN_EACH_ACCESS uint8_t *module_byte(uint32_t address) {
     return (uint8_t *)((uintptr_t)&sfi_device_checker_memory - (LINKED_STACK - MODULE_STACK) + address);
 }
 
-/* Words of the module's memory, at any address: one load or store where it is a multiple of 4, as it mostly is. */
+/* Of a base in the module's stack, where most are, each offset below this lies in the module's own memory. */
+enum { NEAR = 4096, STACK_BITS = 12 };
+_Static_assert((int)NEAR <= (int)MODULE_DATA, "what is near the stack is the module's own");
+
+/* Whether the base is one of the stack's: one shift tells, where that has 2^STACK_BITS bytes. */
+IN_EACH_ACCESS bool is_in_stack(uint32_t base) {
+    if (MODULE_STACK == 1 << STACK_BITS)
+        return base >> STACK_BITS == LINKED_STACK / MODULE_STACK - 1;
+    return base - (LINKED_STACK - MODULE_STACK) < MODULE_STACK;
+}
+
+/* Ends the call of the module (checker.c). */
+_Noreturn void stop_module(void);
+
+/* Stops unless the addresses of the module from `at` on may be accessed. */
+__attribute__((noinline)) static void reach_exactly(uint32_t at, uint32_t length) {
+    if (!lies_in(at, length, sfi_device_image_reach) && !module_reaches(at, length))
+        stop_module();
+}
+
+/* Whether it is the module's own, as far as few instructions tell: in its stack, or by an offset that is a constant's address. */
+IN_EACH_ACCESS bool is_surely_own(uint32_t base, uint32_t offset, uint32_t length) {
+    if (offset < LINKED_STACK)
+        return offset <= NEAR - length && is_in_stack(base);
+    return lies_in(base + offset, length, (struct reach){LINKED_STACK, MODULE_DATA});
+}
+
+/* The place of the bytes from `base + offset` on, which may be accessed: else it stops. */
+IN_EACH_ACCESS uint8_t *reached(uint32_t base, uint32_t offset, uint32_t length) {
+    if (__builtin_expect(!is_surely_own(base, offset, length), 0))
+        reach_exactly(base + offset, length);
+    return module_byte(base) + offset;
+}
+
+/* Words at any address: one load or store where it is a multiple of 4, as it mostly is. */
 typedef uint32_t __attribute__((may_alias)) module_word;
 
 IN_EACH_ACCESS bool is_aligned(const uint8_t *place) {
-    return ((uintptr_t)place & 3) == 0;
+    return __builtin_expect(((uintptr_t)place & 3) == 0, 1);
 }
 
-IN_EACH_ACCESS uint32_t read_word(const uint8_t *place) {
-    if (is_aligned(place))
-        return *(const module_word *)(const void *)place;
+__attribute__((noinline)) static uint32_t read_bytes(const uint8_t *place) {
     const volatile uint8_t *bytes = place; /* else gcc takes both ways for one, by bytes */
     return bytes[0] | (uint32_t)bytes[1] << 8 | (uint32_t)bytes[2] << 16 | (uint32_t)bytes[3] << 24;
 }
 
-IN_EACH_ACCESS void write_word(uint8_t *place, uint32_t word) {
-    if (is_aligned(place)) {
-        *(module_word *)(void *)place = word;
-        return;
-    }
+__attribute__((noinline)) static void write_bytes(uint8_t *place, uint32_t word) {
     for (uint32_t at = 0; at < 4; at++)
         place[at] = (uint8_t)(word >> 8 * at);
+}
+
+IN_EACH_ACCESS uint32_t read_word(const uint8_t *place) {
+    return is_aligned(place) ? *(const module_word *)(const void *)place : read_bytes(place);
+}
+
+IN_EACH_ACCESS void write_word(uint8_t *place, uint32_t word) {
+    if (is_aligned(place))
+        *(module_word *)(void *)place = word;
+    else
+        write_bytes(place, word);
 }
 
 /* Reads and writes a value of 1, 2, 4 or 8 bytes at that place, as memcpy does, which gcc would call. */
@@ -87,6 +126,32 @@ IN_EACH_ACCESS void write_value(uint8_t *place, const void *value, uint32_t size
         write_word(place + 4, (uint32_t)(whole >> 32));
 }
 
+/* The module's functions for accesses: calls, and as `here_NAME` where they are made (accesses.py). */
+#define AS_CALL __attribute__((noinline)) static
+#define A_LOAD(kind, name, read, widened, result)                              \
+    kind result name(wasm_rt_memory_t *memory, u32 base, u32 offset) {         \
+        read value;                                                            \
+        read_value(&value, reached(base, offset, sizeof value), sizeof value); \
+        return (result)(widened)value;                                         \
+    }
+#define MODULE_LOAD(name, ...) A_LOAD(AS_CALL, name, __VA_ARGS__) A_LOAD(IN_EACH_ACCESS, here_##name, __VA_ARGS__)
+#define A_STORE(kind, name, written, given)                                         \
+    kind void name(wasm_rt_memory_t *memory, u32 base, u32 offset, given whole) {   \
+        written value = (written)whole;                                             \
+        write_value(reached(base, offset, sizeof value), &value, sizeof value);     \
+    }
+#define MODULE_STORE(name, ...) A_STORE(AS_CALL, name, __VA_ARGS__) A_STORE(IN_EACH_ACCESS, here_##name, __VA_ARGS__)
+
+/* Copies a multiple of 16 bytes towards the front, at multiples of 4. */
+static inline void move_words(uint8_t *to, const uint8_t *from, uint32_t length) {
+    module_word *written = (module_word *)(void *)to;
+    const module_word *read = (const module_word *)(const void *)from;
+    for (; length > 0; length -= 16, written += 4, read += 4) {
+        const uint32_t one = read[0], two = read[1], three = read[2], four = read[3];
+        written[0] = one, written[1] = two, written[2] = three, written[3] = four;
+    }
+}
+
 /* As memmove does, towards the front by words where both places allow it: the module moves whole structs. */
 static inline void move_bytes(uint8_t *to, const uint8_t *from, uint32_t length) {
     uint32_t done = 0;
@@ -95,9 +160,10 @@ static inline void move_bytes(uint8_t *to, const uint8_t *from, uint32_t length)
             to[length] = from[length];
         return;
     }
-    if (is_aligned(to) && is_aligned(from))
-        for (; length - done >= 4; done += 4)
-            write_word(to + done, read_word(from + done));
+    if (is_aligned(to) && is_aligned(from)) {
+        done = length & ~15u;
+        move_words(to, from, done);
+    }
     for (; done < length; done++)
         to[done] = from[done];
 }

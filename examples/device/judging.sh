@@ -25,7 +25,7 @@ judged() { # what is tried; the image is $room/image.hex
     "device: "*) found=${found#device: } ;;
     sandbox=*) found=accepted ;;
     esac
-    # The device stops after the first 4096 bytes in which a rule is broken, and the desk goes on to the end.
+    # The device stops after the first 2048 bytes in which a rule is broken, and the desk goes on to the end.
     [[ $found != $'refused\nstatus 1' || $wanted == accepted* ]] || wanted=$found
     [ "$found" != accepted ] || wanted=${wanted%% *}
     report "$1: judged on the device" "$wanted" "$found"

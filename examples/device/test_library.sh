@@ -127,12 +127,38 @@ try_rust() {
         cargo test -q --offline --locked --target-dir "$room/host/target"
 }
 
-# Values of the module's memory at each place, and moves over each other, beside memcpy and memmove.
+# Values of the module's memory at each place, and moves over each other, beside memcpy and memmove; and that an access, by its
+# base and offset, stops where its addresses are neither the module's own nor the image's.
 reading_and_writing() {
     cat <<'END_OF_PROGRAM'
 #include "reach.h"
 #include <assert.h>
+#include <setjmp.h>
 #include <string.h>
+
+struct checker_memory sfi_device_checker_memory;
+struct reach sfi_device_image_reach = {300000, 5000};
+static jmp_buf stopped;
+
+_Noreturn void stop_module(void) {
+    longjmp(stopped, 1);
+}
+
+static void reach_from(uint32_t base, uint32_t offset, uint32_t length) {
+    volatile bool stops = setjmp(stopped) != 0;
+    if (!stops)
+        assert(reached(base, offset, length) == module_byte(base) + offset);
+    assert(stops == !module_reaches(base + offset, length));
+}
+
+static void reach_around(uint32_t border) {
+    for (uint32_t away = 0; away < 24; away++)
+        for (uint32_t offset = 0; offset < 16000; offset = offset < 24 ? offset + 1 : 2 * offset - 15)
+            for (uint32_t length = 1; length <= 8; length *= 2) {
+                reach_from(border - 12 + away, offset, length);
+                reach_from(border - 12 + away - offset, offset, length);
+            }
+}
 
 static uint8_t bytes[32] __attribute__((aligned(8))), wanted[32];
 
@@ -166,6 +192,10 @@ int main(void) {
         memmove(wanted + to, wanted + from, length);
         assert(memcmp(bytes, wanted, 32) == 0);
     }
+    const uint32_t own = LINKED_STACK - MODULE_STACK, size = sizeof(struct checker_memory);
+    const uint32_t borders[] = {0, own, own + MODULE_STACK, own + MODULE_STACK + MODULE_DATA, own + size, 300000, 305000};
+    for (uint32_t index = 0; index < sizeof borders / sizeof *borders; index++)
+        reach_around(borders[index]);
 }
 END_OF_PROGRAM
 }

@@ -170,7 +170,7 @@ class Slots(OnDevice):
         return [self.device.ask("show", slot) for _ in range(8)][-1]
 
     def test_watchdog(self):
-        """It is fed after each 4096 bytes that are judged or placed, and the neighbour runs meanwhile."""
+        """It is fed after each 2048 bytes that are judged and 4096 that are placed, and the neighbour runs meanwhile."""
         text = ".sandbox 4096\n" + " addi sp, sp, 16\n" * 0x400
         image = image_of(text, "2", (0x80120000, place_of(1)[1]))
         self.assertEqual(len(image), 36 + 0x4000)
@@ -178,7 +178,7 @@ class Slots(OnDevice):
         fed = self.pieces()
         before = self.data_of(0)
         self.assertRegex(self.device.update(1, image), "^slot=1 started")
-        self.assertEqual(self.pieces() - fed, 5 + 4)
+        self.assertEqual(self.pieces() - fed, 9 + 4)
         self.assertNotEqual(self.data_of(0), before)
 
     def pieces(self):

@@ -1,0 +1,56 @@
+#!/usr/bin/env python3
+"""Prints the tables of docs/DEVICE.md and of examples/device/README.md: what the checker costs on a device, the
+longest verdicts of worst_verdict.txt, and by examples/device/umode/compare.py what programs and calls take beside U-mode.
+
+    bench/devices.py LIBRARY [--verdicts]       # libsfi_c.a for wasm64; --verdicts leaves out U-mode
+
+It wants what examples/device wants. Instructions are QEMU's, of `virt`.
+"""
+import os
+import subprocess
+import sys
+import tempfile
+
+import measure  # by which the others find theirs
+
+import images
+import worst_verdict
+
+DEVICE = os.path.join(measure.TOP, "examples", "device")
+
+
+def run(*words, **how):
+    return subprocess.run(words, check=True, stdout=subprocess.PIPE, text=True, **how).stdout
+
+
+def host_bytes(folder, *words):
+    """The bytes of code and constants of the loader of examples/device."""
+    name = "checked" if words else "loader"
+    run("make", "-s", "-C", DEVICE, f"OUT={folder}", *words)
+    return int(run("riscv64-unknown-elf-size", f"{folder}/{name}").splitlines()[1].split()[0])
+
+
+def print_checker(library, folder):
+    """A row: bytes, and instructions for mixed code of each format; and the longest verdicts."""
+    run(os.path.join(measure.TOP, "device", "checker.sh"), library, folder)
+    checker = os.path.join(folder, "checker.o")
+    added = host_bytes(folder, f"CHECKER={checker}") - host_bytes(folder)
+    judge = worst_verdict.Judge(checker, folder)
+    verdicts = judge.verdicts([images.image("mixed", 1, 65536, format=it) for it in (1, 2, 3)])
+    print(f"| {added / 1000:.0f} KB |", " | ".join(f"{it / 1e6:.2f} million" for _, it in verdicts), "|")
+    kept = worst_verdict.kept_lines()
+    for kind in worst_verdict.KINDS:
+        (_, instructions), = judge.verdicts([worst_verdict.image_of(kept[kind.name][0], kind, kind.bytes)])
+        print(f"    {kind.name}: {instructions / 1e6:.1f} million, {instructions / kind.bytes:.0f} a byte", flush=True)
+
+
+def main():
+    library = os.path.abspath(sys.argv[1])
+    with tempfile.TemporaryDirectory() as folder:
+        print_checker(library, folder)
+    if "--verdicts" not in sys.argv:
+        subprocess.run([os.path.join(DEVICE, "umode", "compare.py")], check=True)
+
+
+if __name__ == "__main__":
+    main()
