@@ -24,7 +24,7 @@ SFI = os.path.abspath(sys.argv[1]) if len(sys.argv) > 1 else str(TOP / "sfi")
 CODE, DATA, DATA_SIZE = 0x80100000, 0x80408000, 1 << 15
 PROGRAMS = ("crc32", "sha256", "wordcount", "stack", "matrix", "regex")  # whose data fit
 CHIPS = {"virt": (0x80100000, 0x80401000), "sifive_e": (0x20500000, 0x80000000),  # FLASH_CODE and CHIP_RAM of chip.h
-         "opentitan": (0x20010000, 0x10000000)}
+         "opentitan": (0x20020000, 0x10000000)}
 IN_USER_MODE = "../umode/umode.c ../umode/count.c"
 IN_ONE_MODE = "main.c ../umode/count.c"
 

@@ -28,7 +28,7 @@
                         {0x40100100, 1 << 16}, {0x40100114, 1}, {0x40100004, 1}
 
 #define FLASH_HOST      0x20000400
-#define FLASH_CODE      0x20010000
+#define FLASH_CODE      0x20020000
 #define FLASH_ARGUMENTS 0x2007f000
 #define FLASH_IMAGE     0x20080000
 #define FLASH_INPUT     0x200c0000
