@@ -4,10 +4,15 @@ that it needs in it, and a shared one, which exports the calls of its header alo
 
     tools/libraries.py                              # of each crates/CRATE/out/libCRATE.a that is built, in crates/CRATE/out/linked
     tools/libraries.py CRATE LIBRARY FOLDER         # of the static library LIBRARY, in FOLDER
+    tools/libraries.py sfi_run_native LIBRARY COMMANDS FOLDER
 
-The crates are sfi_c and sfi_run. It takes gcc and ar. What is newer than all that it is made of stays.
+The crates are sfi_c and sfi_run. sfi_run_native has the calls of sfi_run by native code (crates/sfi_native/include/sfi_run_native.h):
+it is made of sfi_run and of COMMANDS, the library of sfi_tool_c, and goes beside sfi_run. It takes gcc, ar, ld and objcopy. What is
+newer than all that it is made of stays.
 """
+import glob
 import os
+import platform
 import re
 import shutil
 import subprocess
@@ -22,6 +27,12 @@ HEADERS = {"sfi_c": "sfi.h", "sfi_run": "sfi_run.h"}
 MORE_HEADERS = {"sfi_c": [], "sfi_run": ["sfi_run_serve.h", "sfi_run_limit.h", "sfi_run_snapshot.h",
                                          "sfi_run_files.h"]}  # which declare no call of the library
 C_FILES = {"sfi_c": [], "sfi_run": ["c/heap.c"]}
+
+
+NATIVE = "sfi_run_native"  # made of sfi_run and sfi_tool_c
+NATIVE_FLAGS = ["-std=gnu11", "-O2", "-fPIC", "-Wall", "-Wextra", "-Werror", "-Wno-unused-function"]
+NATIVE_INCLUDES = ["sfi_native", "sfi_translate", "sfi_run", "sfi_c", "sfi_tool_c"]
+STEPPED = "sfi_stepped_"  # what the calls of sfi_run are called there
 
 
 def path(crate, *parts):
@@ -44,9 +55,9 @@ def compatible_version():
     return f"0.{second}" if first == "0" else first
 
 
-def shared_name(crate):
+def shared_name(name):
     """The name by which programs ask for a shared library."""
-    return f"lib{crate}.so.{compatible_version()}"
+    return f"lib{name}.so.{compatible_version()}"
 
 
 def calls(file):
@@ -69,40 +80,117 @@ def make_static(crate, library, archive, room):
         run("ar", "rcsD", archive, member)
 
 
-def make_shared(crate, archive, target, room):
-    exported = os.path.join(room, "exported.map")
-    with open(exported, "w", encoding="utf-8") as file:
-        file.write("{ global: " + " ".join(f"{it};" for it in calls(header(crate))) + " local: *; };\n")
-    run("gcc", "-shared", "-o", target, f"-Wl,-soname,{shared_name(crate)}", f"-Wl,--version-script={exported}",
-        "-Wl,--build-id=none", "-Wl,-z,defs", "-Wl,--whole-archive", archive, "-Wl,--no-whole-archive")
+def link_shared(name, exported, archive, target, room, *options):
+    """The shared library of a static one, which exports these calls."""
+    listed = os.path.join(room, "exported.map")
+    with open(listed, "w", encoding="utf-8") as file:
+        file.write("{ global: " + " ".join(f"{it};" for it in exported) + " local: *; };\n")
+    run("gcc", "-shared", "-o", target, f"-Wl,-soname,{shared_name(name)}", f"-Wl,--version-script={listed}",
+        "-Wl,--build-id=none", "-Wl,-z,defs", *options, "-Wl,--whole-archive", archive, "-Wl,--no-whole-archive")
 
 
-def make(crate, library=None, folder=None):
-    """The paths of a crate's two libraries, which are made where one isn't there or is older than what it is made of."""
-    library, folder = library or built(crate), folder or path(crate, "out", "linked")
-    targets = [os.path.join(folder, f"lib{crate}{ending}") for ending in (".a", ".so")]
-    sources = [library, header(crate), *(path(crate, it) for it in C_FILES[crate])]
+def make_once(name, folder, sources, make_both):
+    """The paths of two libraries, static and shared, which `make_both` makes where one isn't there or is older than the sources."""
+    targets = [os.path.join(folder, f"lib{name}{ending}") for ending in (".a", ".so")]
     newest = max(os.path.getmtime(it) for it in sources)
     if all(os.path.exists(it) and os.path.getmtime(it) >= newest for it in targets):
         return targets
     os.makedirs(folder, exist_ok=True)
     with tempfile.TemporaryDirectory(dir=folder) as room:
         fresh = [os.path.join(room, os.path.basename(it)) for it in targets]
-        make_static(crate, library, fresh[0], room)
-        make_shared(crate, fresh[0], fresh[1], room)
+        make_both(*fresh, room)
         for one, target in zip(fresh, targets):
             os.replace(one, target)
     return targets
 
 
-def main(words):
-    if words and (len(words) != 3 or words[0] not in HEADERS):
-        sys.exit("usage: tools/libraries.py [CRATE LIBRARY FOLDER]")
-    found = [words] if words else [[crate] for crate in HEADERS if os.path.exists(built(crate))]
+def make(crate, library=None, folder=None):
+    """The paths of a crate's two libraries."""
+    library, folder = library or built(crate), folder or path(crate, "out", "linked")
+
+    def make_both(archive, target, room):
+        make_static(crate, library, archive, room)
+        link_shared(crate, calls(header(crate)), archive, target, room)
+    return make_once(crate, folder, [library, header(crate), *(path(crate, it) for it in C_FILES[crate])], make_both)
+
+
+# ---- sfi_run by native code
+
+
+def native_sources():
+    """The files of C that it is made of, its own first."""
+    own = path("sfi_native", "include", f"{NATIVE}.c")
+    return [own, *(it for crate in NATIVE_INCLUDES for it in sorted(glob.glob(path(crate, "include", "*"))) if it != own)]
+
+
+def native_calls():
+    """The calls of the library: those of sfi_run.h and of its own header."""
+    return sorted(set(calls(header("sfi_run")) + calls(path("sfi_native", "include", f"{NATIVE}.h"))))
+
+
+def closed(library, exported, renamed, room):
+    """An object of all that a static library has, in which these names alone are seen from outside, some by another name."""
+    whole, names = (os.path.join(room, f"{os.path.basename(library)}.{it}") for it in ("o", "names"))
+    run("ld", "-r", "--whole-archive", library, "-o", whole)
+    with open(names, "w", encoding="utf-8") as file:
+        file.writelines(f"{old} {new}\n" for old, new in renamed.items())
+    run("objcopy", *(f"--keep-global-symbol={it}" for it in exported), whole)
+    run("objcopy", f"--redefine-syms={names}", whole)
+    return whole
+
+
+def make_native_static(library, commands, archive, room):
+    """Of two libraries of Rattle, whose other names would meet in one program, and of C."""
+    member, own = (os.path.join(room, it) for it in (f"{NATIVE}.o", "own.o"))
+    stepped = {it: it.replace("sfi_run_", STEPPED, 1) for it in calls(header("sfi_run"))}
+    source = native_sources()[0]
+    run("gcc", *NATIVE_FLAGS, *(f"-I{path(it, 'include')}" for it in NATIVE_INCLUDES), "-c", source, "-o", own)
+    parts = [closed(library, stepped, stepped, room), closed(commands, ["sfi_tool_answer"], {}, room)]
+    run("ld", "-r", own, *parts, "-o", member)
+    run("objcopy", *(f"--keep-global-symbol={it}" for it in native_calls()), member)
+    run("ar", "rcsD", archive, member)
+    heap = os.path.join(room, "sfi_run_heap.o")
+    run("gcc", "-std=c11", "-O2", "-fPIC", "-Wall", "-Wextra", "-Werror", "-c", path("sfi_run", "c", "heap.c"), "-o", heap)
+    run("ar", "rcsD", archive, heap)
+
+
+def make_native(library=None, commands=None, folder=None):
+    """The paths of its two libraries, which go beside those of sfi_run."""
+    library, commands = library or built("sfi_run"), commands or built("sfi_tool_c")
+
+    def make_both(archive, target, room):
+        make_native_static(library, commands, archive, room)
+        link_shared(NATIVE, native_calls(), archive, target, room, "-Wl,-z,nodelete")  # its handler of SIGSEGV stays
+    return make_once(NATIVE, folder or path("sfi_run", "out", "linked"),
+                     [library, commands, *native_sources(), path("sfi_run", "c", "heap.c")], make_both)
+
+
+def has_native():
+    """Whether native code runs here."""
+    return sys.platform == "linux" and platform.machine() == "x86_64"
+
+
+def all_built():
+    """Makes all whose crates are built."""
+    found = [make(crate) for crate in HEADERS if os.path.exists(built(crate))]
+    if has_native() and all(os.path.exists(built(it)) for it in ("sfi_run", "sfi_tool_c")):
+        found.append(make_native())
     if not found:
         sys.exit(f"libraries: neither {' nor '.join(os.path.relpath(built(it)) for it in HEADERS)} is built")
-    for wanted in found:
-        for made in make(*wanted):
+    return found
+
+
+def main(words):
+    if words[:1] == [NATIVE] and len(words) == 4:
+        found = [make_native(*words[1:])]
+    elif len(words) == 3 and words[0] in HEADERS:
+        found = [make(*words)]
+    elif not words:
+        found = all_built()
+    else:
+        sys.exit(f"usage: tools/libraries.py [CRATE LIBRARY FOLDER | {NATIVE} LIBRARY COMMANDS FOLDER]")
+    for targets in found:
+        for made in targets:
             print(os.path.relpath(made))
 
 

@@ -1,12 +1,16 @@
 //! Finds the runtime: the static library libsfi_run.a that `SFI_RUN_LIBRARY` names, or else the file of C that a package of
 //! this crate holds, which it compiles, or else the library of the repository or the installation that holds this crate, or
-//! that in `~/.local/lib` or `/usr/local/lib`.
+//! that in `~/.local/lib` or `/usr/local/lib`. `SFI_RUN_LIBRARY` may name libsfi_run_native.a, which runs native code.
 use std::env;
+use std::fs;
 use std::path::{Path, PathBuf};
 use std::process::Command;
 
 const NAME: &str = "libsfi_run.a";
 const SOURCE: &str = "c/suygapid_run.c";
+
+/// A call that the library for native code has alone.
+const NATIVE_CALL: &[u8] = b"sfi_run_engine\0";
 
 fn named() -> Option<PathBuf> {
     env::var_os("SFI_RUN_LIBRARY").map(PathBuf::from)
@@ -80,5 +84,11 @@ fn main() {
         "cargo:rustc-link-search=native={}",
         library.parent().unwrap().display()
     );
-    println!("cargo:rustc-link-lib=static=sfi_run");
+    let stem = library.file_stem().unwrap().to_string_lossy();
+    println!("cargo:rustc-link-lib=static={}", stem.trim_start_matches("lib"));
+    println!("cargo:rustc-check-cfg=cfg(native)");
+    let bytes = fs::read(&library).unwrap();
+    if bytes.windows(NATIVE_CALL.len()).any(|it| it == NATIVE_CALL) {
+        println!("cargo:rustc-cfg=native");
+    }
 }

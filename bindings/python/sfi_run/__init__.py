@@ -44,6 +44,7 @@ __all__ = [
 __version__ = "0.1.0"
 
 Library = _library.Library
+_ENGINES = {1: "interpreter", 2: "native"}  # enum sfi_run_engine
 
 
 def _bytes(data: bytes) -> bytes:
@@ -168,6 +169,18 @@ class World:
         # A forked child has a copy of the memory, which ends with it.
         if getattr(self, "_is_open", False) and os.getpid() == self._process:
             self.close()
+
+    @property
+    def engine(self) -> str:
+        """How its sandboxes run: "interpreter"; "native", by code that libsfi_run_native (SFI_RUN_LIBRARY) made of their images; or
+        "translated", by the library of a translated plug-in. ValueError where the world is closed."""
+        self._made_here()
+        with self._lock:
+            if not self._is_open:
+                raise ValueError("the world is closed")
+            if self._calls.engine:
+                return _ENGINES[self._calls.engine(self._at)]
+            return "translated" if self._calls.native_data else "interpreter"
 
     def __len__(self) -> int:
         """How many sandboxes there are: of one image 1 to 16."""
@@ -328,15 +341,16 @@ class Sandbox:
     def view(self, at: int, count: int) -> memoryview:
         """The same bytes as `read` gives, to be read and written where they lie, without a copy: until a sandbox of the world next
         runs, or is reset or removed, or the world closed, which releases the view. Then, as for a bytearray that is resized,
-        BufferError tells that a slice of it is still there, or what was made of one. Only the library of a translated plug-in
-        has such bytes (docs/EMBEDDING.md, "As C"): NotImplementedError where another is loaded."""
+        BufferError tells that a slice of it is still there, or what was made of one. Only a world whose `engine` isn't the
+        interpreter has such bytes: NotImplementedError in another."""
         data, begin = self.data, self._world._calls.native_data
-        if begin is None:
-            raise NotImplementedError("this library keeps data in pages, which `read` and `write` copy; a translated plug-in's has views")
-        if not (data.base <= at and 0 <= count <= data.base + data.size - at):
-            raise OutsideData(f"{count} bytes at {at:08x}")
         with self._world._lock:
-            return _views.shown(self._world, begin(self._world._at, self._place()) + at - data.base, count)
+            first = begin(self._world._at, self._place()) if begin else None
+            if first is None:
+                raise NotImplementedError("the interpreter keeps data in pages, which `read` and `write` copy; other engines have views")
+            if not (data.base <= at and 0 <= count <= data.base + data.size - at):
+                raise OutsideData(f"{count} bytes at {at:08x}")
+            return _views.shown(self._world, first + at - data.base, count)
 
     def stop(self) -> None:
         """Stops it, whether it is ready or stands at a call: no turn runs it, and it takes no reply. Its data, pc, registers and

@@ -1,4 +1,4 @@
-"""Views of a sandbox's data, where the library can show them: a translated plug-in's. libsfi_run keeps data in pages of its own."""
+"""Views of a sandbox's data, where the engine can show them: native code, or a translated plug-in. The interpreter has pages of its own."""
 from __future__ import annotations
 
 import ctypes

@@ -202,6 +202,17 @@ impl World {
         self.before.len() as u32
     }
 
+    /// How its sandboxes run. They do by native code where the crate is linked with libsfi_run_native.a (`SFI_RUN_LIBRARY`), on Linux
+    /// on x86-64, and the data of each are whole pages.
+    pub fn engine(&self) -> Engine {
+        #[cfg(native)]
+        // SAFETY: the call only looks.
+        if unsafe { sys::sfi_run_engine(&self.raw) } == NATIVE {
+            return Engine::Native;
+        }
+        Engine::Interpreter
+    }
+
     /// Whether all sandboxes were removed.
     pub fn is_empty(&self) -> bool {
         self.before.is_empty()
@@ -218,6 +229,19 @@ impl World {
         })
     }
 }
+
+/// How the sandboxes of a world run.
+#[derive(Clone, Copy, Debug, PartialEq, Eq)]
+pub enum Engine {
+    /// At least one of them step by step.
+    Interpreter,
+    /// All by native code that was made of their images.
+    Native,
+}
+
+/// `SFI_RUN_NATIVE` of sfi_run_native.h.
+#[cfg(native)]
+const NATIVE: u32 = 2;
 
 /// What a status says of a change of a world.
 fn changed(status: u32) -> Result<(), ChangeError> {

@@ -80,6 +80,11 @@ pub struct Registers {
     pub x: [u32; 32],
 }
 
+#[cfg(native)]
+extern "C" {
+    pub fn sfi_run_engine(world: *const World) -> u32;
+}
+
 extern "C" {
     pub fn sfi_run_version() -> u32;
     pub fn sfi_run_module_new(

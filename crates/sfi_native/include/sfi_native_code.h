@@ -9,15 +9,17 @@
 #if !defined(__x86_64__) || !defined(__LP64__) || !defined(__linux__)
 #error "native code wants Linux on x86-64, with pointers of 64 bits"
 #endif
-enum { SFI_ASSIGNABLE = 0xfe8, SFI_FIXED = 0xf000001, SFI_COUNTED = 0x7fffffff };  /* rbx, rbp, rsi, rdi, r8 to r11; x0, x24 to x27 */
+enum { SFI_ASSIGNABLE = 0xfe8, SFI_KEPT = 12, SFI_FIXED = 0xf000001, SFI_COUNTED = 0x7fffffff };  /* rbx, rbp, rsi, rdi, r8 to r11; x0, x24 to x27 */
 enum { SFI_FRONT = 24, SFI_FIELDS = 28, SFI_PLACES = 32, SFI_ACCESS = 12, SFI_BACK = 8, SFI_IN_FRAME = 255 };  /* in the file: specs/File.antt */
 
 /* A sandbox's code in a map of its own: the text, up to the way out; behind it, not to be executed, the table, which has each unit's
-   entry and the steps owed there at twice its offset (specs/Table.antt), the registers' places, and the accesses. */
+   entry and the steps owed there at twice its offset (specs/Table.antt), and the accesses. `held`: which register is in each of
+   the processor's at entry, 0 for none: the others are in the frame. */
 struct sfi_code {
     const struct sfi_sandbox *sandbox;
-    uint8_t *text, *table, *places, *access;
+    uint8_t *text, *table, *access;
     size_t size, exit, accesses;
+    uint8_t held[SFI_KEPT];
 };
 static const uint8_t sfi_way_out[] = { 0xff, 0xa4, 0x24, 0x80, 0, 0, 0 };  /* jmp *128(%rsp) */
 
@@ -73,24 +75,37 @@ static void sfi_unmap_code(struct sfi_code codes[], size_t count) {  /* while no
         munmap(codes[count].text, codes[count].size);  /* fails where nothing was mapped */
 }
 
+/* Reads where registers are. Whether no two are in one, and none where it can't be. */
+static int sfi_hold_registers(const uint8_t *places, struct sfi_code *code) {
+    sfi_u32 free = SFI_ASSIGNABLE;
+    for (int r = 0; r < SFI_PLACES; r++) {
+        const uint8_t place = places[r];
+        if (place == SFI_IN_FRAME)
+            continue;
+        if (place >= SFI_KEPT || !(free >> place & 1) || SFI_FIXED >> r & 1)
+            return 0;
+        free &= ~(1u << place);
+        code->held[place] = (uint8_t)r;
+    }
+    return 1;
+}
+
 /* Maps a sandbox's code: places, sizes (both before `end`), rows of the table, accesses and text, from `at`. Returns where it ends, or NULL. */
 static const uint8_t *sfi_map_sandbox(const uint8_t *at, const uint8_t *end, const struct sfi_sandbox *s, struct sfi_code *code) {
     const size_t exit = sfi_number(at + SFI_PLACES), accesses = sfi_number(at + SFI_PLACES + 4), units = s->code_size / s->unit;
     const size_t text = (exit + sizeof sfi_way_out + SFI_ZONE - 1) / SFI_ZONE * SFI_ZONE, listed = SFI_ACCESS * accesses;
     const uint8_t *const entry = at + SFI_PLACES + 8, *const access = entry + 8 * units;
-    const size_t places = text + 2 * (size_t)s->code_size, size = places + SFI_PLACES + listed;
+    const size_t rows = 2 * (size_t)s->code_size, size = text + rows + listed;
     const int is_there = (size_t)(end - entry) >= 8 * units + listed + exit;
     uint8_t *const map = is_there ? mmap(NULL, size, PROT_READ | PROT_WRITE, MAP_PRIVATE | MAP_ANONYMOUS, -1, 0) : MAP_FAILED;
     if (map == MAP_FAILED)
         return NULL;
-    *code = (struct sfi_code){ s, map, map + text, map + places, map + places + SFI_PLACES, size, exit, accesses };
+    *code = (struct sfi_code){ .sandbox = s, .text = map, .table = map + text, .access = map + text + rows, .size = size, .exit = exit,
+        .accesses = accesses };
     for (size_t unit = 0; unit < units; unit++)
         memcpy(code->table + 2 * s->unit * unit, entry + 8 * unit, 8);
-    sfi_u32 free = SFI_ASSIGNABLE;
-    for (int r = 0; r < SFI_PLACES; free &= at[r] < 32 ? ~(1u << at[r]) : free, r++)  /* no two registers in one */
-        if (at[r] != SFI_IN_FRAME && (at[r] > 11 || !(free >> at[r] & 1) || SFI_FIXED >> r & 1))
-            return NULL;
-    memcpy(code->places, at, SFI_PLACES);
+    if (!sfi_hold_registers(at, code))
+        return NULL;
     memcpy(code->access, access, listed);
     memcpy(map, access + listed, exit);
     memcpy(map + exit, sfi_way_out, sizeof sfi_way_out);
@@ -114,19 +129,20 @@ static int sfi_map_code(const uint8_t *file, size_t length, const struct sfi_san
     return at != NULL && at == end;
 }
 
+#define SFI_HELD(X) X(3) X(5) X(6) X(7) X(8) X(9) X(10) X(11)  /* SFI_ASSIGNABLE */
+
 /* Runs code from that row of the table with the low 31 bits of `left`; returns with pc at the next step. Not inlined: one frame for all
    rounds. It relies on what lies above the frame, on kept, the callers' stack and the table (`relies`, specs/Host.antt). */
 __attribute__((noinline)) static void sfi_run_code(const struct sfi_code *code, struct sfi_hart *h, const uint8_t *row) {
     const sfi_u32 before = h->left & SFI_COUNTED;
     uintptr_t kept[16] = { [12] = (uintptr_t)code->table - 2 * (uintptr_t)code->sandbox->code, [13] = (uintptr_t)code->text,
         [14] = before + sfi_number(row + 4), [15] = (uintptr_t)h->data - code->sandbox->data };
-    for (int r = 0; r < SFI_PLACES; r++)
-        if (code->places[r] != SFI_IN_FRAME)
-            kept[code->places[r]] = h->x[r];
+#define SFI_TAKE_IN(place) kept[place] = h->x[code->held[place]];
+    SFI_HELD(SFI_TAKE_IN)
     h->pc = sfi_enter_code(h->x, kept, h->pc, code->text + sfi_number(row));
-    for (int r = 0; r < SFI_PLACES; r++)
-        if (code->places[r] != SFI_IN_FRAME)
-            h->x[r] = (sfi_u32)kept[code->places[r]];
+#define SFI_TAKE_OUT(place) h->x[code->held[place]] = (sfi_u32)kept[place];
+    SFI_HELD(SFI_TAKE_OUT)
+    h->x[0] = 0;
     h->left -= before - (sfi_u32)kept[14];
 }
 

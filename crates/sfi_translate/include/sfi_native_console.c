@@ -6,6 +6,14 @@
 
 #include "sfi_services.h"
 
+/* Memory of zeros, or NULL. */
+static void *zeros(size_t size) {
+    void *const it = malloc(size);
+    if (it != NULL)
+        memset(it, 0, size);
+    return it;
+}
+
 struct console {
     struct sfi_console of;
     uint8_t *input;
@@ -27,12 +35,12 @@ void sfi_run_console_free(struct sfi_run_console *console) {
 
 bool sfi_run_console_new(uint32_t sandboxes, const uint8_t *input, size_t length, struct sfi_run_console *console) {
     sfi_run_console_free(console);
-    struct console *it = (struct console *)calloc(1, sizeof *it);
+    struct console *it = (struct console *)zeros(sizeof *it);
     if (it == NULL)
         return false;
     console->held = 1;
     console->at = it;
-    it->of.sessions = (struct sfi_session *)calloc((size_t)sandboxes + 1, sizeof *it->of.sessions);
+    it->of.sessions = (struct sfi_session *)zeros(((size_t)sandboxes + 1) * sizeof *it->of.sessions);
     it->of.input = it->input = (uint8_t *)malloc(length + 1);
     if (it->of.sessions == NULL || it->input == NULL) {
         sfi_run_console_free(console);

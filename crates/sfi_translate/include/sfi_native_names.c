@@ -47,20 +47,6 @@ static uint32_t find_table(const uint8_t *image, size_t length, uint32_t sandbox
     return SFI_RUN_NAMES_FOUND;
 }
 
-/* How many bytes the image claims above the stack pointer of a function that a host enters: its last import entry, .room, says so
- * (docs/IMAGE.md). 0 where it claims none, or more than there are. */
-static uint32_t room_of(const struct sfi_sandbox *s) {
-    static const char name[] = "\5.room";
-    const uint32_t size = sizeof name - 1;
-    if (s->init < WORD_SIZE + size + FOOTER_SIZE)
-        return 0;
-    const uint8_t *const claim = s->first_data + s->init - FOOTER_SIZE - size - WORD_SIZE;
-    if (memcmp(claim + WORD_SIZE, name, size) || memcmp(s->first_data + s->init - MAGIC_SIZE, "SFIN", MAGIC_SIZE))
-        return 0;
-    const uint32_t room = word_at(claim);
-    return room <= s->data_size - BELOW_END ? room : 0;
-}
-
 static uint32_t find_name(const uint8_t *at, const uint8_t *stop, const char *name, size_t size, uint32_t *address) {
     for (; at < stop; at += NAME_AT + at[WORD_SIZE])
         if (size == at[WORD_SIZE] && memcmp(at + NAME_AT, name, size) == 0) {
