@@ -25,6 +25,8 @@ import compiled
 import measure
 from compiled import CASES, EXAMPLES, SFI_CC, mean
 
+import libraries
+
 TIMES = {"crc32": 16000, "sha256": 8000, "sort": 5000, "wordcount": 20000, "stack": 1200, "arithmetic": 1000, "json": 30000, "base64": 12000,
          "lz": 4000, "hash": 5000, "matrix": 250, "regex": 4500, "sha": 30000, "sort_kernel": 250, "matrix_kernel": 1500, "sieve": 900}
 KERNELS = {"sha": "sha", "sort_kernel": "sort", "matrix_kernel": "matrix", "sieve": "sieve"}
@@ -150,18 +152,18 @@ def translated(program, image_format, folder, options, for_gcc):
 
 
 def native_console(folder):
-    """The path of the host of native code."""
-    included = [f"-I{os.path.join(compiled.TOP, 'crates', it, 'include')}" for it in ("sfi_native", "sfi_translate", "sfi_run", "sfi_c")]
+    """The path of the console that runs native code."""
+    archive, _ = libraries.make_native()
+    included = [f"-I{os.path.join(compiled.TOP, 'crates', it, 'include')}" for it in ("sfi_run", "sfi_c")]
     path = os.path.join(folder, "native_console")
-    call("gcc", "-O2", "-std=gnu11", "-Wno-unused-function", *included, os.path.join(compiled.TOP, "examples/native/console.c"), "-o", path)
+    call("gcc", "-O2", *included, os.path.join(compiled.TOP, "examples/run/console.c"), archive, "-o", path)
     return path
 
 
-def by_native_code(program, digits, folder, name):
-    """The words that run the native code of an image, but for the rounds and so on."""
+def by_native_code(digits, folder, name):
+    """The words that run an image by native code, but for the rounds and so on."""
     image = measure.written(os.path.join(folder, f"{name}.image"), bytes.fromhex(digits.decode()))
-    code = measure.written(os.path.join(folder, f"{name}.native"), call(program, "native", input=digits))
-    return [native_console(folder), image, code]
+    return [native_console(folder), image]
 
 
 def answer_of(output):
@@ -191,7 +193,7 @@ def measured(program, name, given, folder):
         ways[image_format] = words, os.devnull
         if given.native:
             digits = measure.contents(image_in(folder, image_format))
-            ways[f"native {image_format}"] = [*by_native_code(program, digits, folder, image_format), *NATIVE_TURNS], os.devnull
+            ways[f"native {image_format}"] = [*by_native_code(digits, folder, image_format), *NATIVE_TURNS], os.devnull
     if shutil.which("wasm2c") and shutil.which("clang"):
         ways["wasm2c"] = by_wasm2c(folder, options), os.devnull
     if name in KERNELS and given.peers:

@@ -1,13 +1,13 @@
 #!/usr/bin/env python3
 """Whether native code does what the interpreter does: each step, register and byte of data, however turns are cut.
 
-    fuzz/native_code.py [--library PATH] [--program PATH] [--rounds N] [--seconds S] [--plant] [SEED ..]
+    fuzz/native_code.py [--library PATH] [--commands PATH] [--program PATH] [--rounds N] [--seconds S] [--plant] [SEED ..]
 
 Each case is an image that is accepted, in one of the three formats: an example, random code, or one of these with changes; its data are
-whole pages. What `sfi native` writes of it is run by examples/native/image_host.c, and the image itself by libsfi_run. Both get the same calls:
+whole pages. It is run by libsfi_run_native, which is made of --library and --commands, and by libsfi_run. Both get the same calls:
 turns of a few or many steps, replies, exits, callbacks, other registers, entries, stops, resets, other data; signals come meanwhile.
 After each call the answers are compared, and of each sandbox the event, steps, pc, registers and data. Then it is run by the
-console's services in both ways, and by `sfi run`: the lines are compared, with pc, registers and data. With --plant the code is that of
+console's services in both ways, and by `sfi run`: the lines are compared, with pc, registers and data. With --plant native code gets
 an image with another instruction somewhere: then it has to fail. A case in which the code ends the process is told. It wants gcc.
 """
 import faulthandler
@@ -54,16 +54,17 @@ class Arguments(beside.Arguments):
 
 
 class Beside(beside.Beside):
-    """A world of native code, and the twins of its sandboxes in worlds of libsfi_run."""
+    """A world of native code, of `compiled`, and the twins of its sandboxes in worlds of libsfi_run, of `image`."""
 
     arguments = Arguments
 
-    def __init__(self, pick, image, native, new_twin_world, tally):
-        self.pick, self.image, self.tally, self.shared, self.new_twin_world = pick, image, tally, native, new_twin_world
+    def __init__(self, pick, images, native, new_twin_world, tally):
+        self.pick, self.tally, self.shared, self.new_twin_world = pick, tally, native, new_twin_world
+        self.image, self.compiled = images
         self.twins = []
 
     def begin(self):
-        self.shared.load(self.image)
+        self.shared.load(self.compiled)
         self.twins = self.twins_of(self.image)
         return self.is_seen_alike()
 
@@ -142,24 +143,32 @@ class Trial:
         self.program, self.is_planted, self.tally = given.program, given.plant, tally
         self.judge = verdicts.Judge(folder)
         self.images = Images(self.program, self.judge)
-        self.host = natively.Host(self.program)
+        self.native_path = natively.library(given.library, given.commands, folder)
+        self.native = worlds.Calls(self.native_path)
         self.path = worlds.linked(given.library, folder)
         self.interpreted = worlds.Calls(self.path)
 
     def try_one(self, pick):
         image = self.images.make(pick)
         compiled = self.images.with_another_instruction(pick, image) if self.is_planted else image
-        status, file = self.host.compiled(compiled)
         what = FORMATS[layout.parts(image)[0].format]
-        if not self.tally.see(what, (0, True), (status, self.host.take(image, file)), image):
+        if not self.tally.see(what, True, self.is_native(compiled), image):
             return
-        Beside(pick, image, worlds.Library(self.host.calls), lambda: worlds.Library(self.interpreted), self.tally).live()
-        self.see_console(pick, image)
+        Beside(pick, (image, compiled), worlds.Library(self.native), lambda: worlds.Library(self.interpreted), self.tally).live()
+        self.see_console(pick, image, compiled)
 
-    def see_console(self, pick, image):
+    def is_native(self, image):
+        """Whether the image is loaded into a world that runs by native code."""
+        world = worlds.Library(self.native)
+        world.load(image)
+        found = natively.is_native(self.native_path, world)
+        world.free()
+        return found
+
+    def see_console(self, pick, image, compiled):
         """The image with the console's services, by three ways to run it."""
         options = pick.choice(ROUNDS), pick.choice(QUANTA), pick.randbytes(pick.choice([0, 1, 40]))
-        found = natively.outcomes(self.host.path, self.host.calls, image, options)
+        found = natively.outcomes(self.native_path, self.native, compiled, options)
         wanted = natively.outcomes(self.path, self.interpreted, image, options)
         self.tally.see("outcomes of libsfi_run", wanted, found, image)
         report = fuzzing.output(natively.run_words(self.program, options), image)
@@ -207,12 +216,14 @@ def in_child(work):
 def main(words=None):
     parser = fuzzing.options(__doc__, 150)
     parser.add_argument("--library", default=calls.LIBRARY)
+    parser.add_argument("--commands", default=natively.COMMANDS)
     parser.add_argument("--plant", action="store_true", help="run the code of an image with another instruction")
     given = parser.parse_args(words)
     if why := natively.why_not():
         return fuzzing.all_skipped(len(NAMES), "native code", why)
-    if not os.path.exists(given.library):
-        sys.exit(f"fuzz: no library {given.library}: (cd crates/sfi_run && rt lib) builds it")
+    for path in (given.library, given.commands):
+        if not os.path.exists(path):
+            sys.exit(f"fuzz: no library {path}: (cd crates/{os.path.basename(path)[3:-2]} && rt lib) builds it")
     given.program = measure.program_at(given.program)
     tally = fuzzing.tally_of(parser, given, [] if given.plant else NAMES)
     return in_child(lambda now: run(given, tally, now))

@@ -1,26 +1,20 @@
-"""Images by native code: the library of image_host.c, what `sfi native` makes of an image, and the console of `sfi run` over the calls of
-any library."""
+"""Images by native code: libsfi_run_native, and the console of `sfi run` over the calls of any library."""
 import collections
 import ctypes
-import glob
 import hashlib
 import os
 import platform
 import re
-import subprocess
 import sys
 
 import fuzzing
 import worlds
 
-import measure
+import libraries
 from suygapid.image import layout
-from suygapid.kept import kept
 
-HEADERS = [os.path.join(fuzzing.TOP, "crates", it, "include") for it in ("sfi_native", "sfi_translate", "sfi_run", "sfi_c")]
-NAME = "libimage_host.so"
-SOURCE = os.path.join(fuzzing.TOP, "examples", "native", "image_host.c")
-FLAGS = ["-std=gnu11", "-O2", "-Wall", "-Wextra", "-Werror", "-Wno-unused-function", "-shared", "-fPIC", *(f"-I{it}" for it in HEADERS)]
+COMMANDS = libraries.built("sfi_tool_c")  # the library with the compiler
+NATIVE = 2  # SFI_RUN_NATIVE of sfi_run_native.h
 PAGE = 4096  # data have to be whole pages
 CAUSES = ["", "Fetch", "Illegal", "Break", "Load", "Store"]
 PLACE = re.compile(r"^sandbox=(\d+) pc=([0-9a-f]{8}).*\n((?:x\d+=.*\n){4})", re.MULTILINE)
@@ -50,30 +44,16 @@ def has_pages(image):
     return all(part.data_size % PAGE == 0 for part in layout.parts(image))
 
 
-def library():
-    """The path of the library of image_host.c, by gcc."""
-    texts = [measure.contents(path).decode() for path in [SOURCE, *sorted(it for folder in HEADERS for it in glob.glob(os.path.join(folder, "*")))]]
-    folder = kept("image-host", [*FLAGS, *texts], lambda folder: subprocess.run(["gcc", *FLAGS, SOURCE, "-o", os.path.join(folder, NAME)], check=True))
-    return os.path.join(folder, NAME)
+def library(runtime, commands, folder=None):
+    """The path of the shared library that is made of these two, in a folder, or where they are linked if none is named."""
+    return libraries.make_native(os.path.abspath(runtime), os.path.abspath(commands), folder)[1]
 
 
-class Host:
-    """The library, and the program sfi that compiles for it. One image at a time is in it."""
-
-    def __init__(self, program):
-        self.program, self.path = program, library()
-        self.calls = worlds.Calls(self.path)
-        self.take_call = ctypes.CDLL(self.path).native_take
-        self.take_call.restype, self.take_call.argtypes = _BOOL, [_BYTES, _SIZE, _BYTES, _SIZE]
-
-    def compiled(self, image):
-        """The status of `sfi native`, and what it writes."""
-        done = subprocess.run([self.program, "native"], input=image, stdout=subprocess.PIPE, check=False)
-        return done.returncode, done.stdout
-
-    def take(self, image, file):
-        """Whether this is the image, with that code, from now on. No world of the one before may be used after that."""
-        return self.take_call(image, len(image), file, len(file))
+def is_native(path, world):
+    """Whether the world, of the library at that path, runs by native code."""
+    call = ctypes.CDLL(path).sfi_run_engine
+    call.restype, call.argtypes = _WORD, [ctypes.POINTER(worlds.CWorld)]
+    return call(world.world) == NATIVE
 
 
 class Console:

@@ -206,7 +206,7 @@ class Ports(testing.Folder):
 
 @testing.needs_program
 @unittest.skipIf(natively.why_not(), "native code doesn't run here")
-@unittest.skipUnless(os.path.exists(calls.LIBRARY), "libsfi_run.a isn't built")
+@unittest.skipUnless(os.path.exists(calls.LIBRARY) and os.path.exists(natively.COMMANDS), "libsfi_run.a or libsfi_tool_c.a isn't built")
 class Native(unittest.TestCase):
     """Each in a process of its own, which native code may end."""
 
@@ -222,10 +222,10 @@ class Native(unittest.TestCase):
     def test_code_at_a_listed_address_calls_nobody_without_an_ecall(self):
         words = b"\x13\0\0\0" + 63 * b"\x73\0\x10\0"
         image = b"SFIW" + struct.pack("<10I", 1, 0x1000000, len(words), 0x1800000, natively.PAGE, 0x1000000, 1, 0, 0x1000000, 1) + words
-        host = natively.Host(testing.SFI)
-        self.assertTrue(host.take(image, host.compiled(image)[1]))
-        world = worlds.Library(host.calls)
+        path = natively.library(calls.LIBRARY, natively.COMMANDS)
+        world = worlds.Library(worlds.Calls(path))
         world.load(image)
+        self.assertTrue(natively.is_native(path, world))
         self.assertEqual((world.event(0).kind, world.reply(0, 0, 0), world.exit(0, 0)), (worlds.READY, False, False))
         self.assertEqual((world.turn(0, 9).kind, world.steps(0)), (worlds.TRAPPED, 1))
         world.free()

@@ -3,8 +3,8 @@
 
     tools/build_library.py [CRATE]
 
-CRATE is sfi_c, the checker, unless sfi_slots, the slots of a device, sfi_run, the runtime, or x86_trial, the cases of
-fuzz/processor.py, is named.
+CRATE is sfi_c, the checker, unless sfi_slots, the slots of a device, sfi_run, the runtime, sfi_tool_c, all commands, or x86_trial, the
+cases of fuzz/processor.py, is named.
 crates/sfi_c/out/libsfi_c.a is for x86-64. Another target has a folder there of its own, with its libsfi_c.a and, for
 WebAssembly, which sfi_run has no heap for, the module sfi.wasm.
 
@@ -26,7 +26,7 @@ import toolchain
 HOST = "x86_64-unknown-linux-gnu"
 WASM = "wasm64-unknown-unknown"
 ARM = "aarch64-unknown-linux-gnu"
-TARGETS = {"sfi_c": [HOST, ARM, WASM], "sfi_slots": [WASM], "sfi_run": [HOST, ARM], "x86_trial": [HOST]}
+TARGETS = {"sfi_c": [HOST, ARM, WASM], "sfi_slots": [WASM], "sfi_run": [HOST, ARM], "sfi_tool_c": [HOST], "x86_trial": [HOST]}
 
 
 def is_marked(crate):

@@ -3,23 +3,37 @@
 # each format and with turns of several lengths; a plug-in that is called as a function; and two that exchange words. Then
 # hosts that try the header's sentences, one in C++, and the bindings' own tests. Says what it skips for want of a tool.
 #
-#     examples/run/test.sh [LIBRARY [PROGRAM]]    # LIBRARY is a libsfi_run.a that rt built, PROGRAM is the program sfi
+#     examples/run/test.sh [LIBRARY [PROGRAM [COMMANDS]]]    # LIBRARY is a libsfi_run.a that rt built, PROGRAM is the program sfi
+#
+# With COMMANDS, a libsfi_tool_c.a, all that the library is linked with runs by native code: it is libsfi_run_native, and the data of what is
+# built here are whole pages.
 set -uo pipefail
 unset CDPATH
 here=$(cd "$(dirname "${BASH_SOURCE[0]}")" && pwd)
 top=$(cd "$here/../.." && pwd)
 library=$(realpath "${1:-$top/crates/sfi_run/out/libsfi_run.a}")
 SFI=$(realpath "${2:-$top/sfi}")
+commands=${3:-}
+data=256 # bytes, of most examples
 export SFI
 source "$here/../harness.sh"
 
 needs "all hosts" gcc gcc
 needs "all hosts" python3 python3
 [ "$skipped" = 0 ] || finish
-for file in "$library" "$SFI"; do
+for file in "$library" "$SFI" $commands; do
     [ -f "$file" ] || { echo "$file isn't there" && exit 1; }
 done
-succeeds "the libraries are linked" "$top/tools/libraries.py" sfi_run "$library" "$room/lib"
+runtime=$room/lib/libsfi_run
+if [ -z "$commands" ]; then
+    succeeds "the libraries are linked" "$top/tools/libraries.py" sfi_run "$library" "$room/lib"
+else
+    [ "$(uname -sm)" = "Linux x86_64" ] || { skip 1 "native code" "this isn't Linux on x86-64" && finish; }
+    succeeds "the libraries for native code are linked" "$top/tools/libraries.py" sfi_run_native "$library" "$commands" "$room/lib"
+    runtime=$room/lib/libsfi_run_native
+    data=4096
+    export PLAIN_SFI=$SFI SFI=$top/examples/native/with-pages SFI_RUN_ENGINE=native
+fi
 
 # ---- the hosts: a command line for each example of each language
 declare -A hosts=()
@@ -29,7 +43,7 @@ warnings=(-O2 -Wall -Wextra -pedantic -Werror -I"$top/crates/sfi_run/include" -I
 build_c() {
     local name
     for name in "${examples[@]}"; do
-        succeeds "$name.c" gcc -std=c11 "${warnings[@]}" "$here/$name.c" "$room/lib/libsfi_run.a" -o "$room/$name"
+        succeeds "$name.c" gcc -std=c11 "${warnings[@]}" "$here/$name.c" "$runtime.a" -o "$room/$name"
         hosts[C $name]=$room/$name
     done
 }
@@ -37,6 +51,7 @@ build_c() {
 # The same hosts for aarch64, over the library that tools/build_library.py builds for it.
 build_arm() {
     local arm name
+    [ -z "$commands" ] || return
     arm=$(dirname "$library")/aarch64-unknown-linux-gnu/libsfi_run.a
     for name in aarch64-linux-gnu-gcc qemu-aarch64; do
         has "$name" || { skip 1 "hosts in C on aarch64" "$name isn't there" && return; }
@@ -53,7 +68,7 @@ build_rust() {
     has cargo || { skip 1 "hosts in Rust" "cargo isn't there" && return; }
     local name
     export CARGO_TARGET_DIR=$room/target CARGO_NET_OFFLINE=true
-    succeeds "the examples in Rust" env -C "$top/bindings/rust" SFI_RUN_LIBRARY="$room/lib/libsfi_run.a" \
+    succeeds "the examples in Rust" env -C "$top/bindings/rust" SFI_RUN_LIBRARY="$runtime.a" \
         RUSTFLAGS="-D warnings" cargo build -q --locked --release --examples
     for name in "${examples[@]}"; do
         hosts[Rust $name]=$room/target/release/examples/$name
@@ -64,8 +79,10 @@ build_rust() {
 install_python() {
     local name
     export PYTHONDONTWRITEBYTECODE=1
-    export PYTHONPATH=$top/bindings/python SFI_RUN_LIBRARY=$room/lib/libsfi_run.so
-    if ! python3 -m pip --version >"$room/log" 2>&1; then
+    export PYTHONPATH=$top/bindings/python SFI_RUN_LIBRARY=$runtime.so
+    if [ -n "$commands" ]; then
+        : # what is installed is tried by the other engine
+    elif ! python3 -m pip --version >"$room/log" 2>&1; then
         skip 4 "pip install" "python3 has no pip"
     else
         succeeds "the checker is linked" "$top/tools/libraries.py" sfi_c "$top/crates/sfi_c/out/libsfi_c.a" "$room/lib"
@@ -86,6 +103,7 @@ install_python() {
 # In node, over the module that tools/build_node.py makes.
 find_node() {
     local name
+    [ -z "$commands" ] || return
     export SFI_RUN_MODULE=$top/bindings/node/sfi_run.wasm
     has node || { skip 2 "hosts in node, and the package's tests" "node isn't there" && return; }
     [ -f "$SFI_RUN_MODULE" ] ||
@@ -163,7 +181,7 @@ says() { # what is tried, the example, what is wanted, and its words
 
 plug_ins() {
     local far
-    far=$(printf 'a%.0s' $(seq 257)) # one byte more than the data
+    far=$(printf 'a%.0s' $(seq $((data + 1)))) # one byte more than the data
     image "$here/turn.s" 2 turn
     says "a function" function "NI-GULP 7
 24 LEVEL 8
@@ -271,7 +289,7 @@ documented() {
     succeeds "the plug-in of EMBEDDING.md" env -C "$place" "$top/tools/sfi-cc" --program "$SFI" --export add --import print \
         plugin.c -o plugin.image
     block "The host in C" c >"$place/host.c"
-    found=$(cd "$place" && gcc "${warnings[@]}" host.c "$room/lib/libsfi_run.a" -o host 2>&1 && ./host)
+    found=$(cd "$place" && gcc "${warnings[@]}" host.c "$runtime.a" -o host 2>&1 && ./host)
     report "the host in C of EMBEDDING.md" "hello 42" "$found"
     block "Running from Python" python >"$place/host.py"
     report "the host in Python of EMBEDDING.md" "hello 42" "$(cd "$place" && python3 host.py 2>&1)"
@@ -279,7 +297,7 @@ documented() {
     block "Running from Rust" rust >"$place/src/main.rs"
     printf '[package]\nname = "host"\nversion = "0.1.0"\nedition = "2021"\n[dependencies]\nsuygapid = { path = "%s" }\n' \
         "$top/bindings/rust" >"$place/Cargo.toml"
-    found=$(cd "$place" && SFI_RUN_LIBRARY=$room/lib/libsfi_run.a cargo run -q 2>&1)
+    found=$(cd "$place" && SFI_RUN_LIBRARY=$runtime.a cargo run -q 2>&1)
     report "the host in Rust of EMBEDDING.md" "hello 42" "$found"
 }
 
@@ -313,18 +331,18 @@ console.log(snapshots.take(await snapshots.restore(image, kept), image).equals(k
 header_in_c() {
     local checked=(gcc -std=c11 "${warnings[@]}" -D_POSIX_C_SOURCE=200809L -pthread)
     local wrapped=-Wl,--wrap=malloc,--wrap=realloc,--wrap=free images=() format
-    succeeds "calls.c" "${checked[@]}" "$here/calls.c" "$room/lib/libsfi_run.a" -o "$room/calls"
-    succeeds "failed_calls.c" "${checked[@]}" "$here/failed_calls.c" "$room/lib/libsfi_run.a" -o "$room/failed_calls"
-    succeeds "limit.c" "${checked[@]}" "$here/limit.c" "$room/lib/libsfi_run.a" -o "$room/limit"
-    succeeds "snapshot.c" "${checked[@]}" "$here/snapshot.c" "$room/lib/libsfi_run.a" -o "$room/snapshot"
-    succeeds "names.c" "${checked[@]}" "$here/names.c" "$room/lib/libsfi_run.a" -o "$room/names"
+    succeeds "calls.c" "${checked[@]}" "$here/calls.c" "$runtime.a" -o "$room/calls"
+    succeeds "failed_calls.c" "${checked[@]}" "$here/failed_calls.c" "$runtime.a" -o "$room/failed_calls"
+    succeeds "limit.c" "${checked[@]}" "$here/limit.c" "$runtime.a" -o "$room/limit"
+    succeeds "snapshot.c" "${checked[@]}" "$here/snapshot.c" "$runtime.a" -o "$room/snapshot"
+    succeeds "names.c" "${checked[@]}" "$here/names.c" "$runtime.a" -o "$room/names"
     says_so "names and signatures" "all is so" "$room/names"
     succeeds "the header of limits in C" "${checked[@]}" -Wconversion -x c -fsyntax-only "$top/crates/sfi_run/include/sfi_run_limit.h"
     succeeds "the headers in C99" gcc -std=c99 "${warnings[@]}" -Wconversion -x c -fsyntax-only \
         "$top/crates/sfi_run/include"/sfi_run_{serve,snapshot}.h
-    succeeds "threads.c" "${checked[@]}" "$here/threads.c" "$room/lib/libsfi_run.a" -o "$room/threads"
-    succeeds "memory.c" "${checked[@]}" "$here/memory.c" "$room/lib/libsfi_run.a" $wrapped -o "$room/memory"
-    succeeds "modules.c" "${checked[@]}" "$here/modules.c" "$room/lib/libsfi_run.a" $wrapped -o "$room/modules"
+    succeeds "threads.c" "${checked[@]}" "$here/threads.c" "$runtime.a" -o "$room/threads"
+    succeeds "memory.c" "${checked[@]}" "$here/memory.c" "$runtime.a" $wrapped -o "$room/memory"
+    succeeds "modules.c" "${checked[@]}" "$here/modules.c" "$runtime.a" $wrapped -o "$room/modules"
     printf '%s\n' '.sandbox 256' '.gate post 4' '.gate exit 0' 'li a0, 5' 'la a1, sum' 'call post' 'on: j on' \
         'sum: mv t0, a0' 'add a0, a0, a1' 'mv a1, t0' ret >"$room/on.s"
     for format in $formats; do
@@ -376,7 +394,7 @@ header_in_cpp() {
     done
     succeeds "the header of limits in C++" g++ -std=c++11 "${warnings[@]}" -Wconversion -x c++ -fsyntax-only \
         "$top/crates/sfi_run/include/sfi_run_limit.h"
-    succeeds "world.cc" g++ -std=c++17 "${warnings[@]}" "$here/world.cc" "$room/lib/libsfi_run.a" -o "$room/world"
+    succeeds "world.cc" g++ -std=c++17 "${warnings[@]}" "$here/world.cc" "$runtime.a" -o "$room/world"
     has xxd || return
     says_so "a host in C++" "Hi kind 3 number 105" "$room/world" "$room/hi_2.image"
     says_so "a host in C++ on what is refused" "status 1, rule 5, layout fault 0" "$room/world" "$room/broken.image"
@@ -408,6 +426,7 @@ views_in_rust() {
 # What `npm pack` packs of the package for node, once its module is made: here a file that stands for it.
 packed_for_node() {
     local place=$room/packed
+    [ -z "$commands" ] || return
     has npm || { skip 2 "npm pack" "npm isn't there" && return; }
     mkdir -p "$place" && cp "$top/bindings/node"/*.* "$place" && rm -f "$place/sfi_run.wasm"
     report "npm pack without the module" "sfi_run.wasm is not made: tools/build_node.py of the repository makes it" \
@@ -419,14 +438,14 @@ packed_for_node() {
 
 bindings() {
     local kind
-    own_tests Python env SFI_RUN_LIBRARY="$room/lib/libsfi_run.so" "$top/tools/unit_tests.py" "$top/bindings/python/tests"
+    own_tests Python env SFI_RUN_LIBRARY="$runtime.so" "$top/tools/unit_tests.py" "$top/bindings/python/tests"
     [ -z "${hosts[node add]:-}" ] || own_tests node node "$top/bindings/node/test.mjs"
     has cargo || return
     for kind in "" --release; do # arithmetic that overflows panics in the first alone
-        succeeds "cargo test $kind" env -C "$top/bindings/rust" SFI_RUN_LIBRARY="$room/lib/libsfi_run.a" cargo test -q --locked $kind
+        succeeds "cargo test $kind" env -C "$top/bindings/rust" SFI_RUN_LIBRARY="$runtime.a" cargo test -q --locked $kind
     done
     [ ! -f "$room/kept.snapshot" ] ||
-        succeeds "a snapshot from C in Rust" env -C "$top/bindings/rust" SFI_RUN_LIBRARY="$room/lib/libsfi_run.a" \
+        succeeds "a snapshot from C in Rust" env -C "$top/bindings/rust" SFI_RUN_LIBRARY="$runtime.a" \
             SFI_IMAGE="$room/kept.image" SFI_SNAPSHOT="$room/kept.snapshot" cargo test -q --locked --test snapshots -- --ignored
     views_in_rust
 }

@@ -129,7 +129,7 @@ static int sfi_map_code(const uint8_t *file, size_t length, const struct sfi_san
     return at != NULL && at == end;
 }
 
-#define SFI_HELD(X) X(3) X(5) X(6) X(7) X(8) X(9) X(10) X(11)  /* SFI_ASSIGNABLE */
+#define SFI_PLACED(X) X(3) X(5) X(6) X(7) X(8) X(9) X(10) X(11)  /* SFI_ASSIGNABLE */
 
 /* Runs code from that row of the table with the low 31 bits of `left`; returns with pc at the next step. Not inlined: one frame for all
    rounds. It relies on what lies above the frame, on kept, the callers' stack and the table (`relies`, specs/Host.antt). */
@@ -138,10 +138,10 @@ __attribute__((noinline)) static void sfi_run_code(const struct sfi_code *code, 
     uintptr_t kept[16] = { [12] = (uintptr_t)code->table - 2 * (uintptr_t)code->sandbox->code, [13] = (uintptr_t)code->text,
         [14] = before + sfi_number(row + 4), [15] = (uintptr_t)h->data - code->sandbox->data };
 #define SFI_TAKE_IN(place) kept[place] = h->x[code->held[place]];
-    SFI_HELD(SFI_TAKE_IN)
+    SFI_PLACED(SFI_TAKE_IN)
     h->pc = sfi_enter_code(h->x, kept, h->pc, code->text + sfi_number(row));
 #define SFI_TAKE_OUT(place) h->x[code->held[place]] = (sfi_u32)kept[place];
-    SFI_HELD(SFI_TAKE_OUT)
+    SFI_PLACED(SFI_TAKE_OUT)
     h->x[0] = 0;
     h->left -= before - (sfi_u32)kept[14];
 }
