@@ -30,7 +30,7 @@ C_FILES = {"sfi_c": [], "sfi_run": ["c/heap.c"]}
 
 
 NATIVE = "sfi_run_native"  # made of sfi_run and sfi_tool_c
-NATIVE_FLAGS = ["-std=gnu11", "-O2", "-fPIC", "-Wall", "-Wextra", "-Werror", "-Wno-unused-function"]
+NATIVE_FLAGS = ["-std=gnu11", "-fPIC", "-Wall", "-Wextra", "-Werror", "-Wno-unused-function"]
 NATIVE_INCLUDES = ["sfi_native", "sfi_translate", "sfi_run", "sfi_c", "sfi_tool_c"]
 STEPPED = "sfi_stepped_"  # what the calls of sfi_run are called there
 
@@ -139,19 +139,25 @@ def closed(library, exported, renamed, room):
     return whole
 
 
-def make_native_static(library, commands, archive, room):
-    """Of two libraries of Rattle, whose other names would meet in one program, and of C."""
-    member, own = (os.path.join(room, it) for it in (f"{NATIVE}.o", "own.o"))
+def native_parts(library, commands, room):
+    """Objects of the two libraries of Rattle, whose other names would meet in one program."""
     stepped = {it: it.replace("sfi_run_", STEPPED, 1) for it in calls(header("sfi_run"))}
-    source = native_sources()[0]
-    run("gcc", *NATIVE_FLAGS, *(f"-I{path(it, 'include')}" for it in NATIVE_INCLUDES), "-c", source, "-o", own)
-    parts = [closed(library, stepped, stepped, room), closed(commands, ["sfi_tool_answer"], {}, room)]
-    run("ld", "-r", own, *parts, "-o", member)
+    return [closed(library, stepped, stepped, room), closed(commands, ["sfi_tool_answer"], {}, room)]
+
+
+def compile_native(own, compiler=("gcc", "-O2")):
+    """The object of its C."""
+    run(*compiler, *NATIVE_FLAGS, *(f"-I{path(it, 'include')}" for it in NATIVE_INCLUDES), "-c", native_sources()[0], "-o", own)
+
+
+def make_native_static(library, commands, archive, room):
+    """One member of all that is its own, and the heap."""
+    member, own, heap = (os.path.join(room, it) for it in (f"{NATIVE}.o", "own.o", "sfi_run_heap.o"))
+    compile_native(own)
+    run("ld", "-r", own, *native_parts(library, commands, room), "-o", member)
     run("objcopy", *(f"--keep-global-symbol={it}" for it in native_calls()), member)
-    run("ar", "rcsD", archive, member)
-    heap = os.path.join(room, "sfi_run_heap.o")
     run("gcc", "-std=c11", "-O2", "-fPIC", "-Wall", "-Wextra", "-Werror", "-c", path("sfi_run", "c", "heap.c"), "-o", heap)
-    run("ar", "rcsD", archive, heap)
+    run("ar", "rcsD", archive, member, heap)
 
 
 def make_native(library=None, commands=None, folder=None):

@@ -1,0 +1,96 @@
+#!/usr/bin/env python3
+"""Does to libsfi_run_native what may break it: builds library.c with each compiler and with sanitizers, and runs its tests, among them
+threads that share a module, a fork, a host with its own handler of SIGSEGV, and more worlds than there are maps.
+
+    examples/native/library.py [--library libsfi_run.a] [--commands libsfi_tool_c.a] [--program SFI]
+"""
+import argparse
+import os
+import re
+import shutil
+import subprocess
+import sys
+import tempfile
+
+sys.dont_write_bytecode = True
+HERE = os.path.dirname(os.path.abspath(__file__))
+TOP = os.path.dirname(os.path.dirname(HERE))
+sys.path += [os.path.join(TOP, it) for it in ("bench", "tools")]
+import libraries
+import measure
+
+TESTS = ("engines", "calls-back", "threads", "stack", "forks", "handler-before", "handler-after", "maps")
+# Each build, with tests that it leaves out: sanitizers want larger stacks than the least, and maps of their own.
+BUILDS = (
+    (("gcc", "-O2"), set()),
+    (("clang", "-O2"), set()),
+    (("gcc", "-O1", "-g", "-fsanitize=thread"), {"stack", "maps"}),
+    (("gcc", "-O1", "-g", "-fsanitize=address,undefined", "-fno-sanitize-recover"), {"stack", "maps"}),
+)
+WARNINGS = ["-std=gnu11", "-Wall", "-Wextra", "-Werror"]
+IMAGES = (("whole", "1000000:1800000", 4096), ("far", "2000000:2800000", 4096), ("small", "4000000:4800000", 256))  # places, bytes of data
+SECONDS = 300  # that a test may take
+
+
+def built_images(program, folder):
+    """The paths of the images."""
+    with open(os.path.join(HERE, "library.s"), encoding="ascii") as file:
+        text = file.read()
+    for name, place, size in IMAGES:
+        with open(os.path.join(folder, name), "wb") as file:
+            source = re.sub(r"(?m)^\.sandbox \d+", f".sandbox {size}", text).encode()
+            subprocess.run([program, "build", "--raw", "--at", place], input=source, stdout=file, check=True)
+    return [os.path.join(folder, name) for name, _, _ in IMAGES]
+
+
+def host(compiler, parts, folder):
+    """The path of the host, by a compiler."""
+    own, path = (os.path.join(folder, it) for it in ("own.o", "host"))
+    libraries.compile_native(own, compiler)
+    included = [f"-I{libraries.path(it, 'include')}" for it in ("sfi_native", "sfi_run", "sfi_c")]
+    heap = libraries.path("sfi_run", "c", "heap.c")
+    subprocess.run([*compiler, *WARNINGS, *included, os.path.join(HERE, "library.c"), own, *parts, heap, "-pthread", "-o", path], check=True)
+    return path
+
+
+def is_passed(words):
+    try:
+        return subprocess.run(words, timeout=SECONDS, check=False).returncode == 0
+    except subprocess.TimeoutExpired:
+        return False
+
+
+def tried(given, folder):
+    """What each test is, and whether it passed."""
+    images = built_images(given.program, folder)
+    parts = libraries.native_parts(given.library, given.commands, folder)
+    for compiler, left_out in BUILDS:
+        if not shutil.which(compiler[0]):
+            continue
+        path = host(compiler, parts, folder)
+        for name in TESTS:
+            if name not in left_out:
+                yield f"{name}, by {' '.join(compiler)}", is_passed([path, *images, name])
+
+
+def main():
+    parser = argparse.ArgumentParser(description=__doc__, formatter_class=argparse.RawDescriptionHelpFormatter)
+    parser.add_argument("--library", default=libraries.built("sfi_run"))
+    parser.add_argument("--commands", default=libraries.built("sfi_tool_c"))
+    parser.add_argument("--program", default=measure.PROGRAM)
+    given = parser.parse_args()
+    given.program = measure.program_at(given.program)
+    if not libraries.has_native() or not shutil.which("gcc"):
+        print("skipped: libsfi_run_native: gcc isn't there, or this isn't Linux on x86-64\n0 passed, 0 failed, 1 skipped")
+        return 0
+    with tempfile.TemporaryDirectory() as folder:
+        found = list(tried(given, folder))
+    failed = [what for what, is_right in found if not is_right]
+    for what in failed:
+        print(f"FAILED {what}")
+    print(f"{len(found) - len(failed)} passed, {len(failed)} failed")
+    return bool(failed)
+
+
+if __name__ == "__main__":
+    sys.exit(main())
