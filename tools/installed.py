@@ -26,8 +26,8 @@ DOCUMENTS = ("README.md", "CHANGELOG.md", "CONTRIBUTING.md", "SECURITY.md", "doc
 CMAKE = """\
 get_filename_component(_suygapid_folder "${CMAKE_CURRENT_LIST_DIR}" REALPATH)
 get_filename_component(_suygapid_prefix "${_suygapid_folder}/../../.." ABSOLUTE)
-foreach(_suygapid_name sfi_c sfi_run)
-  if(NOT TARGET suygapid::${_suygapid_name})
+foreach(_suygapid_name sfi_c sfi_run sfi_run_native)
+  if(NOT TARGET suygapid::${_suygapid_name} AND EXISTS "${_suygapid_prefix}/lib/lib${_suygapid_name}.so")
     add_library(suygapid::${_suygapid_name} SHARED IMPORTED)
     add_library(suygapid::${_suygapid_name}_static STATIC IMPORTED)
     set_target_properties(suygapid::${_suygapid_name} PROPERTIES
@@ -50,7 +50,8 @@ if(CMAKE_SIZEOF_VOID_P AND NOT CMAKE_SIZEOF_VOID_P EQUAL 8)
   set(PACKAGE_VERSION_UNSUITABLE TRUE)
 endif()
 """
-TOLD = {"sfi_c": "The checker of Suygapid's images", "sfi_run": "Checks Suygapid's images and runs their sandboxes"}
+TOLD = {"sfi_c": "The checker of Suygapid's images", "sfi_run": "Checks Suygapid's images and runs their sandboxes",
+        libraries.NATIVE: "Checks Suygapid's images and runs their sandboxes by native code"}
 
 
 @dataclass(frozen=True)
@@ -88,34 +89,41 @@ def package(crate):
 
 
 def cmake_files():
-    """The files by which CMake finds both libraries."""
+    """The files by which CMake finds the libraries."""
     folder = "lib/cmake/suygapid"
     judging = CMAKE_VERSION.format(whole=version.version(), compatible=libraries.compatible_version())
     return [Item(f"{folder}/suygapid-config.cmake", text=CMAKE), Item(f"{folder}/suygapid-config-version.cmake", text=judging)]
 
 
-def library(crate):
-    """A static and a shared library, with its header and its pkg-config file."""
-    static, shared = libraries.make(crate)
-    name, compatible = f"lib{crate}.so", libraries.shared_name(crate)
-    whole = f"{name}.{version.version()}"
+def library(name, static, shared, headers):
+    """A static and a shared library, with their headers and their pkg-config file."""
+    link, compatible = f"lib{name}.so", libraries.shared_name(name)
+    whole = f"{link}.{version.version()}"
     return [
-        *(Item(f"include/{it}", pathlib.Path(libraries.path(crate, "include", it)))
-          for it in (libraries.HEADERS[crate], *libraries.MORE_HEADERS[crate])),
-        Item(f"lib/lib{crate}.a", pathlib.Path(static)),
+        *(Item(f"include/{os.path.basename(it)}", pathlib.Path(it)) for it in headers),
+        Item(f"lib/lib{name}.a", pathlib.Path(static)),
         Item(f"lib/{whole}", pathlib.Path(shared)),
         Item(f"lib/{compatible}", link=whole),
-        Item(f"lib/{name}", link=compatible),
-        Item(f"lib/pkgconfig/{crate}.pc", text=package(crate)),
+        Item(f"lib/{link}", link=compatible),
+        Item(f"lib/pkgconfig/{name}.pc", text=package(name)),
     ]
+
+
+def all_libraries():
+    """Those of the crates, and the one for native code where it is there."""
+    found = []
+    for crate in libraries.HEADERS:
+        headers = [libraries.path(crate, "include", it) for it in (libraries.HEADERS[crate], *libraries.MORE_HEADERS[crate])]
+        found += library(crate, *libraries.make(crate), headers)
+    native_files = libraries.native_there()
+    return found + (library(libraries.NATIVE, *native_files, [libraries.NATIVE_HEADER]) if native_files else [])
 
 
 def items():
     """All that is installed but the list of it."""
     native.make()  # it lies among the tools
     found = [Item("bin/sfi", TOP / "crates" / "sfi" / "out" / "sfi"), Item(f"{SHARE}/sfi", link="../../bin/sfi")]
-    for crate in libraries.HEADERS:
-        found += library(crate)
+    found += all_libraries()
     found += cmake_files()
     for tool in TOOLS:
         found.append(Item(f"{SHARE}/tools/{tool}", TOP / "tools" / tool))

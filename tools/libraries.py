@@ -32,6 +32,7 @@ C_FILES = {"sfi_c": [], "sfi_run": ["c/heap.c"]}
 NATIVE = "sfi_run_native"  # made of sfi_run and sfi_tool_c
 NATIVE_FLAGS = ["-std=gnu11", "-fPIC", "-Wall", "-Wextra", "-Werror", "-Wno-unused-function"]
 NATIVE_INCLUDES = ["sfi_native", "sfi_translate", "sfi_run", "sfi_c", "sfi_tool_c"]
+NATIVE_HEADER = os.path.join(TOP, "crates", "sfi_native", "include", f"{NATIVE}.h")
 STEPPED = "sfi_stepped_"  # what the calls of sfi_run are called there
 
 
@@ -125,7 +126,7 @@ def native_sources():
 
 def native_calls():
     """The calls of the library: those of sfi_run.h and of its own header."""
-    return sorted(set(calls(header("sfi_run")) + calls(path("sfi_native", "include", f"{NATIVE}.h"))))
+    return sorted(set(calls(header("sfi_run")) + calls(NATIVE_HEADER)))
 
 
 def closed(library, exported, renamed, room):
@@ -176,12 +177,18 @@ def has_native():
     return sys.platform == "linux" and platform.machine() == "x86_64"
 
 
+def native_there():
+    """The paths of its two libraries, which are made where they can be; nothing where they aren't there, as on other machines."""
+    if has_native() and all(os.path.exists(built(it)) for it in ("sfi_run", "sfi_tool_c")):
+        return make_native()
+    found = [path("sfi_run", "out", "linked", f"lib{NATIVE}{ending}") for ending in (".a", ".so")]
+    return found if all(map(os.path.exists, found)) else []
+
+
 def all_built():
     """Makes all whose crates are built."""
-    found = [make(crate) for crate in HEADERS if os.path.exists(built(crate))]
-    if has_native() and all(os.path.exists(built(it)) for it in ("sfi_run", "sfi_tool_c")):
-        found.append(make_native())
-    if not found:
+    found = [*(make(crate) for crate in HEADERS if os.path.exists(built(crate))), native_there()]
+    if found == [[]]:
         sys.exit(f"libraries: neither {' nor '.join(os.path.relpath(built(it)) for it in HEADERS)} is built")
     return found
 

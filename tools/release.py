@@ -74,6 +74,7 @@ def built_files():
     found = [str(path.relative_to(TOP)) for path in [*installed.built(), *MADE]]
     for crate in libraries.HEADERS:
         found += [os.path.relpath(path, TOP) for path in libraries.make(crate)]
+    found += [os.path.relpath(path, TOP) for path in libraries.native_there()]
     for name, maker in (("suygapid_check.c", checker_file), ("suygapid_run.c", runtime_file)):
         lacking = [it.removeprefix(f"{TOP}/") for it in maker.missing()]
         if lacking:
