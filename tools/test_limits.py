@@ -61,7 +61,7 @@ STATED = [
     ("crates/sfi_translate/include/sfi_services.h",
      "SFI_HANDED_MOST = {}, SFI_OUTPUT_MOST = {}, SFI_MAILBOX_MOST = {} }",
      "most_handed, most_output, most_messages"),
-    ("crates/sfi_translate/include/sfi_native_world.c", " SLACK = {} }", "slack"),
+    ("crates/sfi_native/include/sfi_native_world.c", " SLACK = {} }", "slack"),
     ("examples/c/gates.h", "where length is above {}, a byte", "most_handed"),
     ("examples/c/gates.h", "the output would pass {} bytes", "most_output"),
     ("examples/device/host.h", "IMAGE_SANDBOXES_MOST = {},", "sandboxes_most"),

@@ -409,20 +409,6 @@ own_tests() { # a language, and a command whose last line counts its tests
     add_counts "$last" || report "the tests in $language" "N passed, M failed" "$last"
 }
 
-# What the crate shows of the data of a plug-in that is translated.
-views_in_rust() {
-    local native=$top/crates/sfi_translate/include
-    has xxd || { skip 2 "views in Rust" "xxd isn't there" && return; }
-    image "$here/tally.s" 2 native
-    "$SFI" translate <"$room/native.hex" >"$room/native.inc"
-    xxd -i <"$room/native.image" >"$room/native.bytes"
-    succeeds "a translated library" gcc -std=gnu11 "${warnings[@]}" -I"$native" -DSFI_TEXT="\"$room/native.inc\"" \
-        -DSFI_IMAGE="\"$room/native.bytes\"" -c "$native/sfi_native_run.c" -o "$room/native.o"
-    mkdir -p "$room/native" && ar rcs "$room/native/libsfi_run.a" "$room/native.o"
-    succeeds "cargo test of views" env -C "$top/bindings/rust" SFI_RUN_LIBRARY="$room/native/libsfi_run.a" \
-        SFI_TRANSLATED="$room/native.image" cargo test -q --locked --features translated --test views
-}
-
 # What `npm pack` packs of the package for node, once its module is made: here a file that stands for it.
 packed_for_node() {
     local place=$room/packed
@@ -447,7 +433,6 @@ bindings() {
     [ ! -f "$room/kept.snapshot" ] ||
         succeeds "a snapshot from C in Rust" env -C "$top/bindings/rust" SFI_RUN_LIBRARY="$runtime.a" \
             SFI_IMAGE="$room/kept.image" SFI_SNAPSHOT="$room/kept.snapshot" cargo test -q --locked --test snapshots -- --ignored
-    views_in_rust
 }
 
 build_c

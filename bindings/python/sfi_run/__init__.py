@@ -172,15 +172,13 @@ class World:
 
     @property
     def engine(self) -> str:
-        """How its sandboxes run: "interpreter"; "native", by code that libsfi_run_native (SFI_RUN_LIBRARY) made of their images; or
-        "translated", by the library of a translated plug-in. ValueError where the world is closed."""
+        """How its sandboxes run: "native", by code that libsfi_run_native (SFI_RUN_LIBRARY) made of their images, or "interpreter", at
+        least one of them step by step. ValueError where the world is closed."""
         self._made_here()
         with self._lock:
             if not self._is_open:
                 raise ValueError("the world is closed")
-            if self._calls.engine:
-                return _ENGINES[self._calls.engine(self._at)]
-            return "translated" if self._calls.native_data else "interpreter"
+            return _ENGINES[self._calls.engine(self._at)] if self._calls.engine else _ENGINES[1]
 
     def __len__(self) -> int:
         """How many sandboxes there are: of one image 1 to 16."""
@@ -341,13 +339,13 @@ class Sandbox:
     def view(self, at: int, count: int) -> memoryview:
         """The same bytes as `read` gives, to be read and written where they lie, without a copy: until a sandbox of the world next
         runs, or is reset or removed, or the world closed, which releases the view. Then, as for a bytearray that is resized,
-        BufferError tells that a slice of it is still there, or what was made of one. Only a world whose `engine` isn't the
-        interpreter has such bytes: NotImplementedError in another."""
+        BufferError tells that a slice of it is still there, or what was made of one. Only a world whose `engine` is
+        native has such bytes: NotImplementedError in another."""
         data, begin = self.data, self._world._calls.native_data
         with self._world._lock:
             first = begin(self._world._at, self._place()) if begin else None
             if first is None:
-                raise NotImplementedError("the interpreter keeps data in pages, which `read` and `write` copy; other engines have views")
+                raise NotImplementedError("the interpreter keeps data in pages, which `read` and `write` copy; a native world has views")
             if not (data.base <= at and 0 <= count <= data.base + data.size - at):
                 raise OutsideData(f"{count} bytes at {at:08x}")
             return _views.shown(self._world, first + at - data.base, count)

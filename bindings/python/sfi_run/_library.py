@@ -151,10 +151,10 @@ class Library:
                 raise _other_version(handle)
             function.restype, function.argtypes = result, arguments
             self._functions[name] = function
-        self.native_data: Callable[..., int] | None = getattr(handle, "sfi_native_data", None)  # of native code, or a translated plug-in
+        self.native_data: Callable[..., int] | None = getattr(handle, "sfi_native_data", None)  # of libsfi_run_native
         if self.native_data:
             self.native_data.restype, self.native_data.argtypes = ctypes.c_void_p, [_WORLD, _WORD]
-        self.engine: Callable[..., int] | None = getattr(handle, "sfi_run_engine", None)  # of libsfi_run_native
+        self.engine: Callable[..., int] | None = getattr(handle, "sfi_run_engine", None)  # of that, too
         if self.engine:
             self.engine.restype, self.engine.argtypes = _WORD, [_WORLD]
         if self["version"]() // 256 != _version_number() // 256:

@@ -1,4 +1,4 @@
-"""Views of a sandbox's data, where the engine can show them: native code, or a translated plug-in. The interpreter has pages of its own."""
+"""Views of a sandbox's data, where it runs by native code. The interpreter has pages of its own."""
 from __future__ import annotations
 
 import ctypes

@@ -1,17 +1,12 @@
-"""Tests of views of a sandbox's data, by a plug-in that is translated here: they want gcc, and the headers of crates/sfi_translate."""
-import pathlib
-import shutil
-import subprocess
-import tempfile
+"""Tests of views of a sandbox's data, and of which engine a world has. With libsfi_run_native there are views of data of whole pages."""
 import unittest
 
-from test_calls import IMAGE
-from test_sfi_run import HERE, SFI, built  # which also finds the package
+from test_sfi_run import SMALLEST, built  # which also finds the package
 import sfi_run
+from sfi_run import _library
 from sfi_run.console import Console
 
-CRATES = HERE.parents[2] / "crates"
-NATIVE = CRATES / "sfi_translate" / "include"
+HAS_NATIVE = _library.default().engine is not None
 # Adds the two words of its data, again and again, and yields.
 ADDS = """
 .sandbox 4096
@@ -28,28 +23,12 @@ words:  .word 1, 2
 """
 
 
-def translated(image, folder):
-    """The library of that plug-in."""
-    folder = pathlib.Path(folder)
-    text, listed, library = folder / "plugin.inc", folder / "plugin.bytes", folder / "plugin.so"
-    text.write_bytes(subprocess.run([SFI, "translate"], input=image.hex().encode(), capture_output=True, check=True).stdout)
-    listed.write_text(",".join(map(str, image)))
-    folders = [f"-I{it}" for it in (NATIVE, CRATES / "sfi_run" / "include", CRATES / "sfi_c" / "include")]
-    subprocess.run(["gcc", "-std=gnu11", "-O1", "-shared", "-fPIC", *folders, f'-DSFI_TEXT="{text}"', f'-DSFI_IMAGE="{listed}"',
-                    NATIVE / "sfi_native_run.c", "-o", library], check=True)
-    return sfi_run.Library(library)
-
-
-@unittest.skipUnless(shutil.which("gcc") and NATIVE.exists(), "gcc or the headers of translations aren't there")
-class Views(unittest.TestCase):
-    @classmethod
-    def setUpClass(cls):
-        cls.image = built(ADDS)
-        with tempfile.TemporaryDirectory() as folder:
-            cls.library = translated(cls.image, folder)
+class Views:
+    """Those of a native world."""
 
     def setUp(self):
-        self.world = sfi_run.World(self.image, self.library)
+        self.image = built(ADDS)
+        self.world = sfi_run.World(self.image)
         self.addCleanup(self.world.close)
         self.sandbox = self.world[0]
         self.at = self.sandbox.data.base
@@ -89,15 +68,26 @@ class Views(unittest.TestCase):
         self.assertEqual(len(self.sandbox.view(self.at + 4096, 0)), 0)
         for at, count in ((self.at - 1, 2), (self.at, 4097), (self.at + 4095, 2), (self.at + 4097, 0), (self.at, -1), (0, 1), (1 << 40, 1)):
             self.assertRaises(sfi_run.OutsideData, self.sandbox.view, at, count)
-        other = sfi_run.World(self.image, self.library)[0]
+        other = sfi_run.World(self.image)[0]
         other._world.close()
         self.assertRaises(IndexError, other.view, self.at, 1)
 
 
-class Interpreted(unittest.TestCase):
-    def test_there_are_none(self):
-        with sfi_run.World(IMAGE) as world:
+if HAS_NATIVE:
+    class NativeViews(Views, unittest.TestCase):
+        pass
+
+
+class Engines(unittest.TestCase):
+    def test_the_interpreter_has_no_views(self):
+        with sfi_run.World(SMALLEST) as world:
+            self.assertEqual(world.engine, "interpreter")
             self.assertRaises(NotImplementedError, world[0].view, world[0].data.base, 1)
+        self.assertRaises(ValueError, lambda: world.engine)
+
+    def test_whole_pages_are_native_where_the_library_is(self):
+        with sfi_run.World(built(ADDS)) as world:
+            self.assertEqual(world.engine, "native" if HAS_NATIVE else "interpreter")
 
 
 if __name__ == "__main__":

@@ -33,7 +33,6 @@ pub mod snapshots;
 mod sums;
 mod sys;
 pub mod values;
-#[cfg(feature = "translated")]
 mod views;
 pub use calls::{Argument, NotReturned};
 pub use errors::{CallError, ChangeError, Finding, LoadError};

@@ -83,6 +83,7 @@ pub struct Registers {
 #[cfg(native)]
 extern "C" {
     pub fn sfi_run_engine(world: *const World) -> u32;
+    pub fn sfi_native_data(world: *mut World, sandbox: u32) -> *mut u8;
 }
 
 extern "C" {

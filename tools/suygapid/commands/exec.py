@@ -23,11 +23,13 @@ from suygapid.commands.options import add_program, add_version
 from suygapid.elf.elf import Elf, Wrong
 from suygapid.elf.image import as_text, image
 from suygapid.elf.where import Where, lines_of
+from suygapid.image import layout, names
 
 TRAP = re.compile(r"^sandbox=(\d+) trap=(\w+) at=([0-9a-f]{8})", re.MULTILINE)
 PLACE = re.compile(r"^sandbox=(\d+) pc=([0-9a-f]{8}).*\n((?:x\d+=.*\n){4})", re.MULTILINE)
 ACCESSES = ("Load", "Store")
 READ_ONLY = ":ro"
+FILES, NONE = b"sfi_system", "none"  # the import of the gate for files, and what its address is where there is none
 FAULT, TRAPPED, USED = 125, 126, 124  # statuses, as of `sfi exec`
 
 
@@ -85,9 +87,9 @@ def run_natively(options, made):
     folders = [word for host, guest, is_read_only in options.dir for word in ("--dir", host, guest, "ro" if is_read_only else "rw")]
     variables = [word for name, value in dict(options.env).items() for word in ("--env", f"{name}={value}")]
     words = [os.path.basename(options.programs[0]), *options.words]
-    serves = "files" if options.has_host else "console"
+    gate = next((str(number) for _, number, name in names.lists(layout.parts(made)[0].init)[1] if name == FILES), NONE) if options.has_host else NONE
     try:
-        found = native.run(options.program, made, as_text(made), [serves, *folders, *variables, "--", *words], options.budget)
+        found = native.run(options.program, made, as_text(made), [gate, *folders, *variables, "--", *words], options.budget)
     except OSError as error:
         raise Failed(FAULT, f"{options.program} can't be run: {error.strerror}") from error
     if found is not None and found[0] < 0:

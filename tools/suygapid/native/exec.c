@@ -1,11 +1,11 @@
 /* Runs the one sandbox of an image by its native code, as `sfi exec` does by steps: with the console's services over the standard
    streams, and where folders, variables or words are given also with files (sfi_run_files.h). sfi-exec starts it.
 
-       exec IMAGE FILE.native TOLD BUDGET SERVES [--dir HOST GUEST rw|ro].. [--env NAME=VALUE].. -- [WORD]..
+       exec IMAGE FILE.native TOLD BUDGET GATE [--dir HOST GUEST rw|ro].. [--env NAME=VALUE].. -- [WORD]..
 
    IMAGE has an accepted image's bytes, and FILE.native what `sfi native` wrote of it. TOLD is the descriptor to which it writes
    `loaded`, unless this can't be run so (sfi-exec then goes by steps, and says what is wrong), and how a run ended that didn't exit.
-   BUDGET is a number of steps, SERVES `files` or `console`. It ends as `sfi exec` does. */
+   BUDGET is a number of steps, GATE the address of the gate for files, or `none`. It ends as `sfi exec` does. */
 #define _GNU_SOURCE
 #include <errno.h>
 #include <inttypes.h>
@@ -22,20 +22,27 @@ enum { FAULT = 125, TRAPPED = 126, USED = 124 }; /* statuses, as of `sfi exec` *
 enum { CONSOLE_EXIT, CONSOLE_PUT, CONSOLE_GET, CONSOLE_YIELD, CONSOLE_POST, CONSOLE_TAKE }; /* services: docs/GATES.md */
 enum { MAILBOX = 16, STEPS_BETWEEN = 10000000, WORDS = 5 };
 
-/* ---- what sfi_native_run.c asks of its includer */
+/* ---- what sfi_native_world.c asks of its includer */
 
 static const uint8_t *image_bytes;
 static size_t image_size;
 static struct sfi_image loaded;
 static struct sfi_code codes[SFI_SANDBOXES_MOST];
-#define sfi_sandboxes loaded.sandboxes
-#define SFI_SANDBOXES loaded.count
 
-static int sfi_turn(const struct sfi_sandbox *s, struct sfi_hart *h, sfi_u32 *at) {
-    return sfi_native_turn(&codes[s - loaded.sandboxes], h, at);
+#include "sfi_native_world.c"
+
+static int native_turn(struct native_sandbox *it, sfi_u32 *at) {
+    return sfi_native_turn(&codes[it->text - loaded.sandboxes], &it->hart, at);
 }
 
-#include "sfi_native_run.c"
+static const uint8_t *code_of(const struct native_sandbox *it) {
+    return sfi_code_bytes(it->text);
+}
+
+static bool has_stack(const struct native_sandbox *it) {
+    (void)it;
+    return image_bytes[MAGIC_SIZE - 1] == '2';
+}
 
 /* ---- the services */
 
@@ -180,8 +187,13 @@ static bool load(const char *image, const char *native, struct sfi_run_world *wo
     uint8_t *const file = read_file(native, &length);
     const bool is_there = image_bytes != NULL && file != NULL && sfi_read_image(image_bytes, image_size, &loaded) && loaded.count == 1 &&
         is_of_image(file, length) && sfi_map_code(file, length, loaded.sandboxes, loaded.count, codes);
+    struct native_world *const made = new_world(1);
     free(file);
-    return is_there && sfi_native_load(world) == SFI_RUN_LOADED;
+    if (!is_there || made == NULL || !make_sandboxes(loaded.sandboxes, 1, made->all))
+        return false;
+    world->held = 1;
+    world->at = made;
+    return true;
 }
 
 /* Tells how it stands, by the lines of `sfi exec`, and answers the status. */
@@ -203,9 +215,10 @@ static int end_run(struct sfi_run_world *world, const struct sfi_run_event *even
 }
 
 /* Opens the folders for the sandbox's gate, and has the words ready. Whether it could. */
-static bool open_files(struct host *host, char **words, int count, bool has_files) {
+static bool open_files(struct host *host, char **words, int count, const char *gate) {
     static struct sfi_run_folder folders[SFI_RUN_FOLDERS_MOST + 1];
-    uint32_t gate = UINT32_MAX, folder_count = 0;
+    const uint32_t address = strcmp(gate, "none") == 0 ? UINT32_MAX : (uint32_t)strtoul(gate, NULL, 10);
+    uint32_t folder_count = 0;
     char **variables = words;
     int k = 0, variable_count = 0;
     for (; k < count && strcmp(words[k], "--") != 0;) {
@@ -217,9 +230,7 @@ static bool open_files(struct host *host, char **words, int count, bool has_file
             k += 2;
         }
     }
-    if (has_files)
-        sfi_run_import(image_bytes, image_size, 0, "sfi_system", 10, &gate);
-    const bool is_open = sfi_run_files_open(&host->files, gate, folders, folder_count) == 0;
+    const bool is_open = sfi_run_files_open(&host->files, address, folders, folder_count) == 0;
     host->files.words = packed(words + k + 1, (uint32_t)(count - k - 1), variables, (uint32_t)variable_count, &host->files.words_size);
     return is_open && host->files.words != NULL;
 }
@@ -231,7 +242,7 @@ int main(int count, char **words) {
     const struct sfi_run_watch watch = { STEPS_BETWEEN, goes_on, &host };
     FILE *const told = count > WORDS ? fdopen(atoi(words[3]), "w") : NULL;
     if (told == NULL || !load(words[1], words[2], &world) ||
-        !open_files(&host, words + WORDS + 1, count - WORDS - 1, strcmp(words[WORDS], "files") == 0))
+        !open_files(&host, words + WORDS + 1, count - WORDS - 1, words[WORDS]))
         return FAULT;
     fprintf(told, "loaded\n");
     if (isatty(STDOUT_FILENO))

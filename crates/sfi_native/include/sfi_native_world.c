@@ -1,9 +1,8 @@
-/* Worlds of sandboxes that run by a translation or native code, and the calls of sfi_run.h on those that are there: a part of
-   sfi_native_run.c and of sfi_run_native.c, which make worlds. Nothing of this file is proved. */
+/* Worlds of sandboxes that run by native code, and the calls of sfi_run.h on those that are there: a part of sfi_run_native.c and of
+   sfi-exec's host (tools/suygapid/native/exec.c), which make worlds. Nothing of this file is proved. */
 #include "sfi_run.h"
 
 #include "sfi_native_console.c"
-#include "sfi_native_data.h"
 
 /* What answers a call for a world that is of another kind, in a library that has two. */
 #ifndef SFI_OTHERWISE
@@ -32,7 +31,7 @@ struct native_world {
 
 /* ---- what the includer has */
 
-/* As sfi_turn of sfi_native.h. */
+/* Runs up to a call or a trap, as sfi_native_turn does. */
 static int native_turn(struct native_sandbox *it, sfi_u32 *at);
 /* Where the image has the code of a sandbox, and whether its format is the second. */
 static const uint8_t *code_of(const struct native_sandbox *it);

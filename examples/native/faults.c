@@ -5,7 +5,7 @@
  *
  * Before it loads the plug-in it handles SIGSEGV, with or without what is known of the fault, or doesn't: it has no handler
  * (none), or ignores the signal (ignore). `raise` sends the signal, in place of the fault. It prints how each turn ended, and how
- * many faults its handler has got. LIBRARY is another plug-in, which is loaded after the first; then the first is loaded again.
+ * many faults its handler has got. LIBRARY is another copy of the library, which loads the plug-in after the first; then the first does again.
  */
 #include "../run/host.h"
 #include <dlfcn.h>
@@ -55,13 +55,17 @@ static void take_turn(struct sfi_run_world *world) {
     fflush(stdout);
 }
 
-static void load_other(const char *library) {
+static void load_other(const char *library, const char *image) {
+    static uint8_t bytes[1 << 16];
+    FILE *const file = fopen(image, "rb");
+    const size_t length = file != NULL ? fread(bytes, 1, sizeof bytes, file) : 0;
     static struct sfi_run_world world;
     void *const opened = dlopen(library, RTLD_NOW | RTLD_LOCAL);
-    uint32_t (*load)(struct sfi_run_world *) = NULL;
+    uint32_t (*load)(const uint8_t *, size_t, struct sfi_run_world *, struct sfi_verdict *) = NULL;
+    struct sfi_verdict verdict;
     if (opened != NULL)
-        *(void **)&load = dlsym(opened, "sfi_native_load");
-    if (load == NULL || load(&world) != SFI_RUN_LOADED) {
+        *(void **)&load = dlsym(opened, "sfi_run_load");
+    if (load == NULL || load(bytes, length, &world, &verdict) != SFI_RUN_LOADED) {
         fprintf(stderr, "%s can't be loaded\n", library);
         exit(5);
     }
@@ -74,7 +78,7 @@ int main(int count, char **words) {
     handle(words[2]);
     load_file(words[1], &world);
     if (count == 4) {
-        load_other(words[3]);
+        load_other(words[3], words[1]);
         load_file(words[1], &world);
     }
     take_turn(&world);

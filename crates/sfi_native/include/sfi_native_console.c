@@ -1,4 +1,4 @@
-/* The calls of a console of sfi_run.h over its other calls: a part of sfi_native_run.c. Nothing of this file is proved. */
+/* The calls of a console of sfi_run.h over its other calls: a part of sfi_native_world.c. Nothing of this file is proved. */
 #include "sfi_run_serve.h"
 
 #include <stdlib.h>
@@ -65,14 +65,15 @@ static bool has_room(struct console *it, const struct sfi_console_call *call) {
     return longer != NULL;
 }
 
-/* sfi_run_exit, with an a1: here it stays what it was at the call. It is in sfi_native_run.c. */
+/* sfi_run_exit, with an a1: here it stays what it was at the call. It is in sfi_native_world.c, with the place of the data. */
 static bool exit_with(struct sfi_run_world *world, uint32_t sandbox, uint32_t number, uint32_t a1);
+static uint8_t *data_of(struct sfi_run_world *world, uint32_t sandbox, uint32_t at, size_t length);
 
 static bool console_serve(struct sfi_run_world *world, uint32_t i, const struct sfi_run_event *event, void *context) {
     struct console *it = (struct console *)context;
     struct sfi_run_region data = {0, 0};
     sfi_run_data(world, i, &data);
-    struct sfi_console_call call = {i, event->number, event->a0, event->a1, sfi_native_data(world, i), data.base, data.size};
+    struct sfi_console_call call = {i, event->number, event->a0, event->a1, data_of(world, i, 0, 0), data.base, data.size};
     if (call.service == SFI_EXIT_SERVICE)
         return exit_with(world, i, call.a0, call.a1);
     if (call.service == SFI_YIELD_SERVICE) {
