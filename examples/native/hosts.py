@@ -96,8 +96,8 @@ def fault_answer(sfi, image, how):
 def try_faults(sfi, library, folder, tally):
     """A host whose own faults go to its handler, or end it, and none of the plug-in's."""
     host, other = os.path.join(folder, "faults"), os.path.join(folder, "other.so")
-    subprocess.run(["gcc", *OPTIONS, os.path.join(HERE, "faults.c"), library, "-ldl", f"-Wl,-rpath,{os.path.dirname(library)}", "-o", host],
-                   check=True)
+    archive = os.path.splitext(library)[0] + ".a"
+    subprocess.run(["gcc", *OPTIONS, os.path.join(HERE, "faults.c"), archive, "-ldl", "-o", host], check=True)
     measure.written(other, measure.contents(library))  # another copy, with a handler of its own
     for number, source in enumerate(FAULTING):
         image = image_of(sfi, source, corpus.FORMAT_LINES[number])

@@ -15,6 +15,7 @@ library=$(realpath "${1:-$top/crates/sfi_run/out/libsfi_run.a}")
 SFI=$(realpath "${2:-$top/sfi}")
 commands=${3:-}
 data=256 # bytes, of most examples
+plain=$SFI
 export SFI
 source "$here/../harness.sh"
 
@@ -32,7 +33,7 @@ else
     succeeds "the libraries for native code are linked" "$top/tools/libraries.py" sfi_run_native "$library" "$commands" "$room/lib"
     runtime=$room/lib/libsfi_run_native
     data=4096
-    export PLAIN_SFI=$SFI SFI=$top/examples/native/with-pages SFI_RUN_ENGINE=native
+    export PLAIN_SFI=$SFI SFI=$top/examples/native/with-pages
 fi
 
 # ---- the hosts: a command line for each example of each language
@@ -424,11 +425,11 @@ packed_for_node() {
 
 bindings() {
     local kind
-    own_tests Python env SFI_RUN_LIBRARY="$runtime.so" "$top/tools/unit_tests.py" "$top/bindings/python/tests"
+    own_tests Python env SFI="$plain" SFI_RUN_LIBRARY="$runtime.so" "$top/tools/unit_tests.py" "$top/bindings/python/tests"
     [ -z "${hosts[node add]:-}" ] || own_tests node node "$top/bindings/node/test.mjs"
     has cargo || return
     for kind in "" --release; do # arithmetic that overflows panics in the first alone
-        succeeds "cargo test $kind" env -C "$top/bindings/rust" SFI_RUN_LIBRARY="$runtime.a" cargo test -q --locked $kind
+        succeeds "cargo test $kind" env -C "$top/bindings/rust" SFI="$plain" SFI_RUN_LIBRARY="$runtime.a" cargo test -q --locked $kind
     done
     [ ! -f "$room/kept.snapshot" ] ||
         succeeds "a snapshot from C in Rust" env -C "$top/bindings/rust" SFI_RUN_LIBRARY="$runtime.a" \

@@ -225,7 +225,7 @@ class Values(unittest.TestCase):
 
     def test_a_start_that_fails(self):
         with self.assertRaisesRegex(sfi_run.NotReturned, "the start in sandbox 0 is over: its steps are used .* it has stopped$"):
-            names.Plugin(built(".sandbox 256\n.gate exit 0\non: j on\n"), steps=100)
+            names.Plugin(built(".sandbox 4096\n.gate exit 0\non: j on\n"), steps=100)
 
 
 class Threads(unittest.TestCase):

@@ -16,7 +16,7 @@ MANY = 1 << 62  # steps that no test waits for
 SOON = 0.02  # seconds
 # Counts in its data, and tells each 3000 counts.
 COUNTS = """
-.sandbox 256
+.sandbox 4096
 .gate tell 5
         la   s0, count
         li   s1, 3000
@@ -36,7 +36,7 @@ count:  .word 0
 # Comes to far after some 300,000 steps, and stays there.
 FAR = """
 .format 2
-.sandbox 256
+.sandbox 4096
 .export far
         li   s0, 150000
 more:   addi s0, s0, -1
@@ -155,7 +155,7 @@ class Limits(unittest.TestCase):
                 with self.assertRaisesRegex(sfi_run.NotReturned, "it is interrupted"):
                     plugin.get(61)
                 with self.assertRaisesRegex(sfi_run.NotReturned, "the start .* its time is over"):
-                    names.Plugin(built(".sandbox 256\n.gate exit 0\non: j on\n"), steps=MANY, timeout=0)
+                    names.Plugin(built(".sandbox 4096\n.gate exit 0\non: j on\n"), steps=MANY, timeout=0)
                 plugin.close()
 
 

@@ -9,7 +9,7 @@ from sfi_run import modules, names
 INIT_COUNT = 32  # where the first sandbox's number of first data bytes lies
 # At its start it exits. sum returns the sum of its arguments, twice the double of the answer to a call of ask.
 PLUGIN = """
-.sandbox 256
+.sandbox 4096
 .gate exit 0
 .gate ask 3
         call exit

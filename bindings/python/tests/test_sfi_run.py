@@ -19,9 +19,9 @@ from sfi_run.modules import Module
 
 SFI = os.environ.get("SFI") or shutil.which("sfi") or str(HERE.parents[2] / "crates" / "sfi" / "out" / "sfi")
 CODE, DATA = 0x01000000, 0x01800000  # of the first sandbox
-# One sandbox of 256 bytes, which posts twice what it is entered with, or 5, and exits with the reply's a1.
+# One sandbox of 4096 bytes, a page as native code wants, which posts twice what it is entered with, or 5, and exits with the reply's a1.
 TWICE = """
-.sandbox 256
+.sandbox 4096
 .gate exit 0
 .gate post 4
         li   a0, 5
@@ -32,7 +32,7 @@ TWICE = """
 """
 # At its start it exits. sum returns the sum of its arguments, and asked the answer to a post of them.
 SUM = """
-.sandbox 256
+.sandbox 4096
 .gate post 4
 .gate exit 0
         call exit
@@ -44,7 +44,7 @@ asked:  mv   s0, ra
 """
 # It calls once, and loops then.
 LOOPS = """
-.sandbox 256
+.sandbox 4096
 .gate put 1
         li   a1, 7
         call put
@@ -176,11 +176,11 @@ class Running(unittest.TestCase):
 
     def test_the_beginning(self):
         registers = self.sandbox.registers
-        wanted = {2: DATA + 240, 24: CODE, 25: 256 - 16, 26: DATA, 27: 255}
+        wanted = {2: DATA + 4080, 24: CODE, 25: 256 - 16, 26: DATA, 27: 4095}
         self.assertEqual(registers.pc, CODE + 32)  # after the stubs of two gates
         self.assertEqual(registers.x, tuple(wanted.get(number, 0) for number in range(32)))
         self.assertEqual((self.sandbox.data, self.sandbox.event, self.sandbox.steps),
-                         (sfi_run.Region(DATA, 256), sfi_run.Ready(), 0))
+                         (sfi_run.Region(DATA, 4096), sfi_run.Ready(), 0))
 
     def test_a_call_and_its_reply(self):
         call = self.sandbox.turn(1000)
@@ -298,29 +298,29 @@ class Running(unittest.TestCase):
     def test_reset(self):
         with sfi_run.World(built(LOOPS)) as world:
             sandbox = world[0]
-            first = (sandbox.registers, sandbox.read(DATA, 256))
+            first = (sandbox.registers, sandbox.read(DATA, 4096))
             call = sandbox.turn(100)
-            sandbox.write(DATA + 255, b"x")
+            sandbox.write(DATA + 4095, b"x")
             sandbox.reset()
-            self.assertEqual((sandbox.registers, sandbox.read(DATA, 256)), first)
+            self.assertEqual((sandbox.registers, sandbox.read(DATA, 4096)), first)
             self.assertEqual((sandbox.event, sandbox.steps), (sfi_run.Ready(), 0))
             sandbox.turn(100)
             with self.assertRaises(sfi_run.NotWaiting):
                 call.reply(0)
 
     def test_data(self):
-        self.assertEqual(self.sandbox.read(DATA, 256), bytes(256))
-        self.sandbox.write(DATA + 250, b"\1\0\2\0\3\4")
-        self.assertEqual(self.sandbox.read(DATA + 249, 7), b"\0\1\0\2\0\3\4")
+        self.assertEqual(self.sandbox.read(DATA, 4096), bytes(4096))
+        self.sandbox.write(DATA + 4090, b"\1\0\2\0\3\4")
+        self.assertEqual(self.sandbox.read(DATA + 4089, 7), b"\0\1\0\2\0\3\4")
         self.assertEqual(self.sandbox.read(DATA, 0), b"")
         self.sandbox.write(DATA, b"")
-        for at, count in ((DATA - 1, 1), (DATA - 1, 2), (DATA + 255, 2), (DATA + 256, 1), (DATA, 257), (CODE, 4), (0, 1), (0xFFFFFFFF, 2)):
+        for at, count in ((DATA - 1, 1), (DATA - 1, 2), (DATA + 4095, 2), (DATA + 4096, 1), (DATA, 4097), (CODE, 4), (0, 1), (0xFFFFFFFF, 2)):
             with self.subTest(at=at, count=count):
                 with self.assertRaises(sfi_run.OutsideData):
                     self.sandbox.read(at, count)
                 with self.assertRaises(sfi_run.OutsideData):
                     self.sandbox.write(at, b"\xff" * count)
-        self.assertEqual(self.sandbox.read(DATA, 256), bytes(250) + b"\1\0\2\0\3\4")
+        self.assertEqual(self.sandbox.read(DATA, 4096), bytes(4090) + b"\1\0\2\0\3\4")
         with self.assertRaises(sfi_run.OutsideData):
             self.sandbox.read(DATA, -1)
 
@@ -386,7 +386,7 @@ class Beside(unittest.TestCase):
         waiting = first.turn(1000)
         (second,), (third,) = world.add(total), world.add(other)
         self.assertEqual((len(world), second.number, third.number, third.steps), (3, 1, 2, 0))
-        self.assertEqual(third.data, sfi_run.Region(DATA + 0x200000, 256))
+        self.assertEqual(third.data, sfi_run.Region(DATA + 0x200000, 4096))
         kept = third.turn(1000)
         self.assertEqual(second.turn(100), sfi_run.Call(0, *[0] * 8, 1, CODE + 0x100010, second))
         world.remove(second)
@@ -434,7 +434,7 @@ class Services(unittest.TestCase):
 
     def served(self, service, a0, a1, given=b""):
         """What a call of a gate is replied, and the console."""
-        source = f".sandbox 256\n.gate it {service}\n li a0, {a0}\n li a1, {a1}\n call it\n ebreak\n.sandbox 256\n ebreak\n"
+        source = f".sandbox 4096\n.gate it {service}\n li a0, {a0}\n li a1, {a1}\n call it\n ebreak\n.sandbox 4096\n ebreak\n"
         world = sfi_run.World(built(source))
         self.addCleanup(world.close)
         console = Console(world, given)
@@ -443,7 +443,7 @@ class Services(unittest.TestCase):
         return x[10], x[11], console
 
     def test_failures(self):
-        for service, a0, a1 in ((1, DATA, 257), (1, DATA - 1, 1), (1, CODE, 4), (1, DATA, 65537), (2, DATA, 257), (2, DATA + 255, 2),
+        for service, a0, a1 in ((1, DATA, 4097), (1, DATA - 1, 1), (1, CODE, 4), (1, DATA, 65537), (2, DATA, 4097), (2, DATA + 4095, 2),
                                 (2, DATA, 65537), (4, 2, 9), (4, 0xFFFFFFFF, 9)):
             with self.subTest(service=service, a0=a0, a1=a1):
                 found = self.served(service, a0, a1, b"abc")
@@ -455,7 +455,7 @@ class Services(unittest.TestCase):
             self.assertEqual(self.served(service, 3, 0, b"abc")[:2], (0, 0))
 
     def test_a_call_is_served(self):
-        world = sfi_run.World(built(f".sandbox 256\n.gate put 1\n li a0, {DATA}\n li a1, 3\n call put\n ebreak\n"))
+        world = sfi_run.World(built(f".sandbox 4096\n.gate put 1\n li a0, {DATA}\n li a1, 3\n call put\n ebreak\n"))
         self.addCleanup(world.close)
         console, call = Console(world), world[0].turn(100)
         self.assertTrue(console.serve(call))

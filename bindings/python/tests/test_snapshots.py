@@ -113,7 +113,7 @@ class Refusals(unittest.TestCase):
             snapshots.restore(image or self.image, snapshot)
 
     def test_what_cannot_be_taken(self):
-        image = built(".sandbox 256\n nop\n nop\n ebreak\n")
+        image = built(".sandbox 4096\n nop\n nop\n ebreak\n")
         with sfi_run.World(image) as world:
             world[0].turn(1)
             before = state(world)

@@ -9,7 +9,7 @@ use common::built;
 
 const SOON: Duration = Duration::from_millis(20);
 const LOOPS: &str = "
-.sandbox 256
+.sandbox 4096
 .gate tell 5
         la   s0, count
 again:  lw   t0, 0(s0)

@@ -10,7 +10,7 @@ use common::{built, built_with};
 const CODE: u32 = 0x0100_0000; // of the first sandbox
 const DATA: u32 = 0x0180_0000;
 // It posts twice what it has, and exits with the reply's a1.
-const TWICE: &str = ".sandbox 256
+const TWICE: &str = ".sandbox 4096
 .gate exit 0
 .gate post 4
         li   a0, 5
@@ -79,7 +79,7 @@ fn the_beginning() {
     let mut sandbox = world.sandbox(0).unwrap();
     let mut wanted = [0; 32];
     (wanted[2], wanted[24], wanted[25], wanted[26], wanted[27]) =
-        (DATA + 240, CODE, 240, DATA, 255);
+        (DATA + 4080, CODE, 240, DATA, 4095);
     assert_eq!(sandbox.registers().x, wanted);
     assert_eq!(sandbox.registers().pc, CODE + 32); // after the stubs of two gates
     assert_eq!(
@@ -87,7 +87,7 @@ fn the_beginning() {
         (
             Region {
                 base: DATA,
-                size: 256
+                size: 4096
             },
             Event::Ready,
             0
@@ -165,12 +165,12 @@ fn data_and_entries() {
     let mut sandbox = world.sandbox(0).unwrap();
     let mut bytes = [9; 2];
     assert_eq!(
-        sandbox.write(DATA + 255, &[1, 2]),
+        sandbox.write(DATA + 4095, &[1, 2]),
         Err(CallError::OutsideData)
     );
     assert_eq!(sandbox.write(DATA + 254, &[1, 2]), Ok(()));
     assert_eq!(
-        sandbox.read(DATA + 255, &mut bytes),
+        sandbox.read(DATA + 4095, &mut bytes),
         Err(CallError::OutsideData)
     );
     assert_eq!(bytes, [9; 2]);
@@ -194,7 +194,7 @@ fn data_and_entries() {
 }
 
 /// At its start it exits. sum returns the sum of its arguments, and asked the answer to a post of them.
-const SUM: &str = ".sandbox 256
+const SUM: &str = ".sandbox 4096
 .gate post 4
 .gate exit 0
         call exit
@@ -265,7 +265,7 @@ fn a_call_that_is_left() {
 }
 
 /// It calls once, and loops then.
-const LOOPS: &str = ".sandbox 256
+const LOOPS: &str = ".sandbox 4096
 .gate put 1
         li   a1, 7
         call put
@@ -315,11 +315,11 @@ fn what_loops_is_stopped_and_entered_again() {
 fn reset() {
     let mut world = World::load(&built(LOOPS)).unwrap();
     let mut sandbox = world.sandbox(0).unwrap();
-    let first = (sandbox.registers(), sandbox.read_vec(DATA, 256));
+    let first = (sandbox.registers(), sandbox.read_vec(DATA, 4096));
     assert!(matches!(sandbox.turn(100), Event::Call(_)));
-    sandbox.write(DATA + 255, &[7]).unwrap();
+    sandbox.write(DATA + 4095, &[7]).unwrap();
     sandbox.reset();
-    assert_eq!((sandbox.registers(), sandbox.read_vec(DATA, 256)), first);
+    assert_eq!((sandbox.registers(), sandbox.read_vec(DATA, 4096)), first);
     assert_eq!((sandbox.event(), sandbox.steps()), (Event::Ready, 0));
 }
 

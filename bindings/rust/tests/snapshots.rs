@@ -12,7 +12,7 @@ const STEPS: usize = 400; // that both worlds do one by one
 const HEAD: usize = 44; // bytes of a snapshot before its first sandbox
 const COUNTS: &str = include_str!("../../counts.s");
 const LOOPS: &str = "
-.sandbox 256
+.sandbox 4096
 .gate put 1
         li   a1, 7
         call put
@@ -154,7 +154,7 @@ fn steps_go_with_the_sandbox_where_another_is_removed() {
 
 #[test]
 fn what_cannot_be_taken() {
-    let image = built(".sandbox 256\n nop\n nop\n ebreak\n");
+    let image = built(".sandbox 4096\n nop\n nop\n ebreak\n");
     let mut world = World::load(&image).unwrap();
     world.sandbox(0).unwrap().turn(1);
     let before = state(&mut world);
