@@ -1,5 +1,6 @@
 """Tests of tools/documents.py: README.md and sfi.1 say of the commands what the program says. README files of folders
-name all files there, and all documents keep CONTRIBUTING.md's limit of words."""
+name all files there, links lead to files and headings that are there, and all documents keep CONTRIBUTING.md's limit of words."""
+import os
 import re
 import subprocess
 import unittest
@@ -71,6 +72,28 @@ class Words(unittest.TestCase):
         paths = [testing.TOP / it for it in files_of_git(self, testing.TOP, "*.md", "*.1")]
         words = sum(len(path.read_text(encoding="utf-8").split()) for path in paths if path.exists())
         self.assertLessEqual(words, limit)
+
+
+def prose(path):
+    """A document without its blocks of code."""
+    return re.sub(r"^```.*?^```", "", path.read_text(encoding="utf-8"), flags=re.DOTALL | re.MULTILINE)
+
+
+def anchors(path):
+    """The names by which links know a document's headings."""
+    headings = (re.sub(r"\[([^]]*)\]\([^)]*\)", r"\1", it) for it in re.findall(r"^#+ (.*)", prose(path), re.MULTILINE))
+    return {re.sub(r"[^\w -]", "", it.lower()).replace(" ", "-") for it in headings}
+
+
+class Links(unittest.TestCase):
+    def test_each_leads_to_something(self):
+        for name in files_of_git(self, testing.TOP, "*.md"):
+            path = testing.TOP / name
+            for target, anchor in re.findall(r"\]\((?!http)([^)\s#]*)#?([^)\s]*)\)", prose(path) if path.exists() else ""):
+                with self.subTest(document=name, link=f"{target}#{anchor}"):
+                    place = (path.parent / target) if target else path
+                    self.assertTrue(os.path.exists(place))
+                    self.assertTrue(not anchor or place.suffix != ".md" or anchor in anchors(place))
 
 
 class Folders(unittest.TestCase):
