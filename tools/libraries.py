@@ -30,7 +30,7 @@ C_FILES = {"sfi_c": [], "sfi_run": ["c/heap.c"]}
 
 
 NATIVE = "sfi_run_native"  # made of sfi_run and sfi_tool_c
-NATIVE_FLAGS = ["-std=gnu11", "-fPIC", "-Wall", "-Wextra", "-Werror", "-Wno-unused-function"]
+NATIVE_FLAGS = ["-std=gnu11", "-fno-builtin-malloc", "-fPIC", "-Wall", "-Wextra", "-Werror", "-Wno-unused-function"]  # malloc and memset become no calloc
 NATIVE_INCLUDES = ["sfi_native", "sfi_translate", "sfi_run", "sfi_c", "sfi_tool_c"]
 NATIVE_HEADER = os.path.join(TOP, "crates", "sfi_native", "include", f"{NATIVE}.h")
 STEPPED = "sfi_stepped_"  # what the calls of sfi_run are called there

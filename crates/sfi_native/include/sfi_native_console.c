@@ -59,7 +59,8 @@ static bool has_room(struct console *it, const struct sfi_console_call *call) {
     if (call->service != SFI_PUT_SERVICE || call->caller >= it->of.count || call->a1 == 0 || !sfi_may_put(&it->of, call))
         return true;
     struct sfi_session *own = &it->of.sessions[call->caller];
-    uint8_t *longer = (uint8_t *)realloc(own->output, own->written + call->a1);
+    const size_t size = own->written + call->a1;
+    uint8_t *longer = (uint8_t *)(own->output != NULL ? realloc(own->output, size) : malloc(size));
     if (longer != NULL)
         own->output = longer;
     return longer != NULL;
