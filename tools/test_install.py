@@ -192,23 +192,18 @@ class Installed(Installing):
 
 
 class Moved(Installing):
-    def test_it_may_be_moved(self):
+    def test_it_may_be_moved_and_nothing_of_it_stays(self):
         self.installs()
         moved = self.room / "moved"
         self.prefix.rename(moved)
         self.assertEqual(run(moved / "bin" / "sfi-cc", "--help").returncode, 0)
         self.assertEqual([it for it in moved.rglob("*") if it.is_symlink() and not it.exists()], [])
-        self.assertEqual(self.install("--remove", moved).returncode, 0)
+        done = self.install("--remove", moved)
+        self.assertEqual((done.returncode, done.stderr), (0, ""))
         self.assertEqual(tree(moved), [])
 
 
 class Removing(Installing):
-    def test_nothing_stays(self):
-        self.installs()
-        done = self.install("--remove", self.prefix)
-        self.assertEqual((done.returncode, done.stderr), (0, ""))
-        self.assertEqual(tree(self.prefix), [])
-
     def test_what_others_made_stays(self):
         for place in ("bin/other", "share/man/man1/other.1", "include/other/other.h"):
             (self.prefix / place).parent.mkdir(parents=True, exist_ok=True)
