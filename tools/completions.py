@@ -1,14 +1,31 @@
 """What shells complete of the commands: of the program by its own rows (tools/documents.py), of a tool by what its help lists."""
+import json
 import os
 import re
 import subprocess
-from concurrent.futures import ThreadPoolExecutor
+import sys
 from dataclasses import dataclass
 
 import documents
 
 # An option, its value, and what it is about, as argparse lists them.
 LISTED = re.compile(r"^  (?:-\w, )?(-[\w-]+)( \S+)?(?:\n {10,}| {2,})(\S.*(?:\n {10,}\S.*)*)", re.MULTILINE)
+# Prints what each of the tools that it is given prints of --help.
+HELPS = """
+import contextlib, io, json, os, runpy, sys
+said, tools = [], sys.argv[1:]
+for path in tools:
+    sys.argv, printed = [path, "--help"], io.StringIO()
+    sys.path.insert(0, os.path.dirname(path))
+    with contextlib.redirect_stdout(printed):
+        try:
+            runpy.run_path(path, run_name="__main__")
+        except SystemExit as ended:
+            if ended.code:
+                raise
+    said.append(printed.getvalue())
+print(json.dumps(said))
+"""
 BASH = """\
 # Completes the words of {name}.
 {function}() {{
@@ -73,9 +90,11 @@ def options_of(help_text):
     return tuple(Option(name, bool(value), " ".join(about.split())) for name, value, about in rows)
 
 
-def tool(path):
-    said = subprocess.run([path, "--help"], capture_output=True, text=True, check=True, env={**os.environ, "COLUMNS": "1000"}).stdout
-    return Command(path.name, "", options_of(said))
+def asked(tools):
+    """The tools as their help lists them: all in one process, since it takes longer to start one than to print help."""
+    said = subprocess.run([sys.executable, "-Bc", HELPS, *tools], capture_output=True, text=True, check=True,
+                          env={**os.environ, "COLUMNS": "1000"}).stdout
+    return [Command(path.name, "", options_of(it)) for path, it in zip(tools, json.loads(said))]
 
 
 # ---- as each shell has it
@@ -134,9 +153,7 @@ def fish(command):
 def files(tools):
     """The texts of the files of completions for the program and these tools, by their places below the prefix."""
     found = {}
-    with ThreadPoolExecutor() as pool:  # each tool is asked by a process of its own
-        asked = list(pool.map(tool, tools))
-    for it in (program(), *asked):
+    for it in (program(), *asked(tools)):
         found[f"share/bash-completion/completions/{it.name}"] = bash(it)
         found[f"share/zsh/site-functions/_{it.name}"] = zsh(it)
         found[f"share/fish/vendor_completions.d/{it.name}.fish"] = fish(it)

@@ -115,9 +115,9 @@ def put_control(room):
     control = room / "DEBIAN"
     control.mkdir()
     told = CONTROL.format(name=version.NAME, version=version.version(), maintainer=of_commit("%an <%ae>"), size=size)
-    for name, text, mode in (("control", told, 0o644), ("md5sums", sums, 0o644), ("triggers", "activate-noawait ldconfig\n", 0o644), ("prerm", LEAVING, 0o755)):
+    for name, text in (("control", told), ("md5sums", sums), ("triggers", "activate-noawait ldconfig\n"), ("prerm", LEAVING)):
         (control / name).write_text(text, encoding="utf-8")
-        (control / name).chmod(mode)
+        (control / name).chmod(0o755 if text is LEAVING else 0o644)
 
 
 def put_more(folder, files):
