@@ -9,7 +9,7 @@ from suygapid import kept
 from suygapid.cc.compilers import GCC, Failed
 from suygapid.elf import runtime
 from suygapid.elf.tools import Target, binutil
-from suygapid.library import softfloat
+from suygapid.library import newlib, softfloat
 from suygapid.library.archives import SMALL, archive_of, folders_of
 from suygapid.library.sources import GCC_SOURCE, NEWLIB_SOURCE, unpacked
 
@@ -37,6 +37,7 @@ def licences() -> dict[str, pathlib.Path]:
 def files() -> dict[str, tuple[bytes, bool]]:
     """The bytes of each file of these folders and of the licences, and that it can't be run, by its path in the repository."""
     found = licences()
+    names = {it.folder_of(GCC): it.released_name(GCC) for it in (newlib, softfloat)}
     for folder in map(pathlib.Path, folders()):
-        found |= {f"{folder.name}/{path.relative_to(folder)}": path for path in folder.rglob("*") if path.is_file()}
+        found |= {f"{names.get(str(folder), folder.name)}/{path.relative_to(folder)}": path for path in folder.rglob("*") if path.is_file()}
     return {f"{MADE}/{name}": (path.read_bytes(), False) for name, path in found.items()}

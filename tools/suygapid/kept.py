@@ -37,13 +37,26 @@ def keep_bytecode() -> None:
     sys.dont_write_bytecode = False
 
 
+def name_of(name: str, words: Iterable[str]) -> str:
+    """The name of a folder that is made of these words."""
+    digest = hashlib.sha256("\0".join(words).encode("utf-8", "surrogateescape")).hexdigest()
+    return f"{name}-{digest[:16]}"
+
+
+def released(name: str) -> Optional[str]:
+    """The folder of that name in a release, or None."""
+    place = os.path.join(RELEASED, name)
+    return place if os.path.isdir(place) else None
+
+
 def kept(name: str, words: Iterable[str], make: Callable[[str], object], long: Optional[str] = None) -> str:
     """The folder of a name that `make` fills; `words` are all that it is made of, so that another goes by another name;
     `long` is what to tell where it isn't there, if that takes long, beside where it is kept. It is whole as soon as it is there:
     two runs at once may make it, and one of theirs stays."""
-    digest = hashlib.sha256("\0".join(words).encode("utf-8", "surrogateescape")).hexdigest()
-    place, released = (os.path.join(home, f"{name}-{digest[:16]}") for home in (root(), RELEASED))
-    for there in filter(os.path.isdir, (place, released)):
+    whole = name_of(name, words)
+    place = os.path.join(root(), whole)
+    there = place if os.path.isdir(place) else released(whole)
+    if there:
         return there
     if long:
         tell_once(f"{long}, once: kept in {place}")

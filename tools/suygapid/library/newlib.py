@@ -2,9 +2,10 @@
 import glob
 import os
 import shutil
+from typing import Iterable
 
 from suygapid.cc.compilers import WITH_FRAMES, is_clang, key_of
-from suygapid.kept import kept
+from suygapid.kept import kept, name_of, released
 from suygapid.library import softfloat
 from suygapid.library.compiling import Job, compile_into
 from suygapid.library.sources import GCC_SOURCE, NEWLIB_SOURCE, identity, unpacked
@@ -81,15 +82,26 @@ def compile_all(compiler: str, folder: str) -> None:
         file.write(f"newlib of {NEWLIB_SOURCE.where()}, by {compiler}\n")
 
 
-def folder_of(compiler: str) -> str:
-    """The folder of the library by a compiler, which is kept."""
-    sources = [identity(package.path()) for package in (NEWLIB_SOURCE, GCC_SOURCE)]
+def words_of(compiler: str, sources: Iterable[str], floats: str) -> list[str]:
+    """All that the folder is made of: what tells of the sources, and the name of the folder of floating point."""
     own = []
     for path in sorted(glob.glob(os.path.join(GLUE, "*"))):
         with open(path, encoding="utf-8") as file:
             own.append(file.read())
-    words = [*key_of(compiler), *sources, *own, *OPTIONS,
-             *sorted(LEFT_OUT), *FOLDERS, *POSIX, *WITHOUT_FUNCTIONS, str(VARIANTS),
-             os.path.basename(softfloat.folder_of(compiler) or "")]
+    return [*key_of(compiler), *sources, *own, *OPTIONS, *sorted(LEFT_OUT), *FOLDERS, *POSIX, *WITHOUT_FUNCTIONS, str(VARIANTS), floats]
+
+
+def released_name(compiler: str) -> str:
+    """The folder's name in a release, which serves where the sources aren't there."""
+    return name_of("newlib", words_of(compiler, (NEWLIB_SOURCE.name, GCC_SOURCE.name), softfloat.released_name(compiler)))
+
+
+def folder_of(compiler: str) -> str:
+    """The folder of the library by a compiler, which is kept, or that of a release."""
+    there = released(released_name(compiler)) if not NEWLIB_SOURCE.is_named() and not GCC_SOURCE.is_named() else None
+    if there:
+        return there
+    sources = [identity(package.path()) for package in (NEWLIB_SOURCE, GCC_SOURCE)]
+    words = words_of(compiler, sources, os.path.basename(softfloat.folder_of(compiler) or ""))
     return kept("newlib", words, lambda folder: compile_all(compiler, folder),
                 "newlib is compiled and converted, which takes some minutes")

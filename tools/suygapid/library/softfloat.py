@@ -7,7 +7,7 @@ import shutil
 from typing import Iterable, Optional
 
 from suygapid.cc.compilers import WITH_FRAMES, key_of
-from suygapid.kept import kept
+from suygapid.kept import kept, name_of, released
 from suygapid.library.compiling import compile_into
 from suygapid.library.sources import GCC_SOURCE, identity, unpacked
 
@@ -72,15 +72,25 @@ def compile_all(compiler, tree, folder):
     shutil.rmtree(stubs)
 
 
-def folder_of(compiler: str) -> Optional[str]:
-    """The folder of assembly that a compiler made of these functions; None where the sources aren't there."""
-    source = GCC_SOURCE.where()
-    if source is None:
-        return None
+def words_of(compiler: str, source: str) -> list[str]:
+    """All that the folder is made of, with what tells of the source."""
     own = []
     for name in (OWN_HEADER, *(f"{name}.c" for name in OWN)):
         with open(os.path.join(FOLDER, name), encoding="utf-8") as file:
             own.append(file.read())
-    words = [*key_of(compiler), identity(source), *LIBGCC2, SOFT_FP.pattern, *MODES, LONGLONG, *own, WITH_FRAMES]
-    return kept("softfloat", words, lambda folder: compile_all(compiler, unpacked(GCC_SOURCE, *PARTS), folder),
+    return [*key_of(compiler), source, *LIBGCC2, SOFT_FP.pattern, *MODES, LONGLONG, *own, WITH_FRAMES]
+
+
+def released_name(compiler: str) -> str:
+    """The folder's name in a release, which serves where the source isn't there."""
+    return name_of("softfloat", words_of(compiler, GCC_SOURCE.name))
+
+
+def folder_of(compiler: str) -> Optional[str]:
+    """The folder of assembly that a compiler made of these functions, or that of a release; None where the sources aren't there."""
+    there = released(released_name(compiler)) if not GCC_SOURCE.is_named() else None
+    source = GCC_SOURCE.where()
+    if there or source is None:
+        return there
+    return kept("softfloat", words_of(compiler, identity(source)), lambda folder: compile_all(compiler, unpacked(GCC_SOURCE, *PARTS), folder),
                 "the functions of floating point are compiled, which may take a minute")

@@ -22,6 +22,10 @@ class Package:
             raise Failed(2, f"{named}, which {self.variable} names, isn't there")
         return named or max(glob.glob(self.archives), default=None)
 
+    def is_named(self) -> bool:
+        """Whether the environment names a tree."""
+        return bool(os.environ.get(self.variable))
+
     def path(self) -> str:
         """The same; where there is none, what is wanted is told as a failure."""
         found = self.where()
