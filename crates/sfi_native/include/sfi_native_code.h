@@ -9,7 +9,7 @@
 #if !defined(__x86_64__) || !defined(__LP64__) || !defined(__linux__)
 #error "native code wants Linux on x86-64, with pointers of 64 bits"
 #endif
-enum { SFI_ASSIGNABLE = 0xfe8, SFI_KEPT = 12, SFI_FIXED = 0xf000001, SFI_COUNTED = 0x7fffffff };  /* rbx, rbp, rsi, rdi, r8 to r11; x0, x24 to x27 */
+enum { SFI_ASSIGNABLE = 0x3fe8, SFI_KEPT = 14, SFI_FIXED = 0xf000001, SFI_COUNTED = 0x7fffffff };  /* rbx, rbp, rsi, rdi, r8 to r13; x0, x24 to x27 */
 enum { SFI_FRONT = 24, SFI_FIELDS = 28, SFI_PLACES = 32, SFI_ACCESS = 12, SFI_BACK = 8, SFI_IN_FRAME = 255 };  /* in the file: specs/File.antt */
 
 /* A sandbox's code in a map of its own: the text, up to the way out; behind it, not to be executed, the table, which has each unit's
@@ -21,7 +21,7 @@ struct sfi_code {
     size_t size, exit, accesses;
     uint8_t held[SFI_KEPT];
 };
-static const uint8_t sfi_way_out[] = { 0xff, 0xa4, 0x24, 0x80, 0, 0, 0 };  /* jmp *128(%rsp) */
+static const uint8_t sfi_way_out[] = { 0xff, 0xa4, 0x24, 0x90, 0, 0, 0 };  /* jmp *144(%rsp) */
 
 static sfi_u32 sfi_number(const uint8_t *at) {
     sfi_u32 number;
@@ -38,18 +38,18 @@ static sfi_u32 sfi_crc32(const uint8_t *bytes, size_t length) {
     return ~crc;
 }
 
-/* Enters the code at `at`. x is copied into the frame (128 bytes at rsp) and back. Above it lie the way out's target, x and kept.
-   kept[n] is register n at entry; the plan's registers and r14 are written back. Returns edx, the pc. */
+/* Enters the code at `at`. x is copied into the frame (144 bytes at rsp, with kept[0] and kept[1] behind x) and back. Above it lie the
+   way out's target, x and kept. kept[n] is register n at entry; the plan's registers and r14 are written back. Returns edx, the pc. */
 sfi_u32 sfi_enter_code(sfi_u32 x[32], uintptr_t kept[16], sfi_u32 pc, const uint8_t *at) __attribute__((visibility("hidden")));
 __asm__(".pushsection .text\n.weak sfi_enter_code; .hidden sfi_enter_code\nsfi_enter_code:\n push %rbx; push %rbp; push %r12; push %r13\n"
-        " push %r14; push %r15; sub $152,%rsp; lea 1f(%rip),%rax; mov %rax,128(%rsp); mov %rdi,136(%rsp); mov %rsi,144(%rsp); mov %rsi,%rax\n"
-        " .irp k,0,1,2,3,4,5,6,7\n movups 16*\\k(%rdi),%xmm0; movups %xmm0,16*\\k(%rsp)\n .endr\n"
+        " push %r14; push %r15; sub $168,%rsp; lea 1f(%rip),%rax; mov %rax,144(%rsp); mov %rdi,152(%rsp); mov %rsi,160(%rsp); mov %rsi,%rax\n"
+        " movups (%rax),%xmm0; movups %xmm0,128(%rsp)\n .irp k,0,1,2,3,4,5,6,7\n movups 16*\\k(%rdi),%xmm0; movups %xmm0,16*\\k(%rsp)\n .endr\n"
         " mov 24(%rax),%rbx; mov 40(%rax),%rbp; mov 48(%rax),%rsi; mov 56(%rax),%rdi\n"
         " .irp r,8,9,10,11,12,13,14,15\n mov 8*\\r(%rax),%r\\r\n .endr\n jmp *%rcx\n"
-        "1: mov 144(%rsp),%rax; mov %rbx,24(%rax); mov %rbp,40(%rax); mov %rsi,48(%rax); mov %rdi,56(%rax)\n"
-        " .irp r,8,9,10,11,14\n mov %r\\r,8*\\r(%rax)\n .endr\n mov 136(%rsp),%rdi; mov %edx,%eax\n"
+        "1: mov 160(%rsp),%rax; mov %rbx,24(%rax); mov %rbp,40(%rax); mov %rsi,48(%rax); mov %rdi,56(%rax)\n"
+        " .irp r,8,9,10,11,12,13,14\n mov %r\\r,8*\\r(%rax)\n .endr\n mov 152(%rsp),%rdi; mov %edx,%eax\n"
         " .irp k,0,1,2,3,4,5,6,7\n movups 16*\\k(%rsp),%xmm0; movups %xmm0,16*\\k(%rdi)\n .endr\n"
-        " add $152,%rsp; pop %r15; pop %r14; pop %r13; pop %r12; pop %rbp; pop %rbx; ret\n.popsection\n");
+        " add $168,%rsp; pop %r15; pop %r14; pop %r13; pop %r12; pop %rbp; pop %rbx; ret\n.popsection\n");
 
 /* The turn that a thread is in. */
 static _Thread_local struct { const struct sfi_code *code; const uint8_t *data; } sfi_running __attribute__((tls_model("initial-exec")));
@@ -113,7 +113,7 @@ static const uint8_t *sfi_map_sandbox(const uint8_t *at, const uint8_t *end, con
 }
 
 static int sfi_is_native_file(const uint8_t *file, size_t length, size_t count) {
-    return length >= SFI_FRONT + SFI_BACK && memcmp(file, "SFIN\4\0\0", 8) == 0 && sfi_number(file + SFI_FRONT - 4) == count &&
+    return length >= SFI_FRONT + SFI_BACK && memcmp(file, "SFIN\5\0\0", 8) == 0 && sfi_number(file + SFI_FRONT - 4) == count &&
         sfi_number(file + length - 8) == (sfi_u32)(length - 8) && sfi_number(file + length - 4) == sfi_crc32(file, length - 4);
 }
 
@@ -129,13 +129,13 @@ static int sfi_map_code(const uint8_t *file, size_t length, const struct sfi_san
     return at != NULL && at == end;
 }
 
-#define SFI_PLACED(X) X(3) X(5) X(6) X(7) X(8) X(9) X(10) X(11)  /* SFI_ASSIGNABLE */
+#define SFI_PLACED(X) X(3) X(5) X(6) X(7) X(8) X(9) X(10) X(11) X(12) X(13)  /* SFI_ASSIGNABLE */
 
 /* Runs code from that row of the table with the low 31 bits of `left`; returns with pc at the next step. Not inlined: one frame for all
    rounds. It relies on what lies above the frame, on kept, the callers' stack and the table (`relies`, specs/Host.antt). */
 __attribute__((noinline)) static void sfi_run_code(const struct sfi_code *code, struct sfi_hart *h, const uint8_t *row) {
     const sfi_u32 before = h->left & SFI_COUNTED;
-    uintptr_t kept[16] = { [12] = (uintptr_t)code->table - 2 * (uintptr_t)code->sandbox->code, [13] = (uintptr_t)code->text,
+    uintptr_t kept[16] = { (uintptr_t)code->table - 2 * (uintptr_t)code->sandbox->code, (uintptr_t)code->text,
         [14] = before + sfi_number(row + 4), [15] = (uintptr_t)h->data - code->sandbox->data };
 #define SFI_TAKE_IN(place) kept[place] = h->x[code->held[place]];
     SFI_PLACED(SFI_TAKE_IN)

@@ -49,7 +49,7 @@ same_register q k same = sym (numbered q) ∙ ap of_number same ∙ numbered k
 -- none of those that code takes for itself
 pub record Free (k : ℕ) : Type 0 where
   pub above : 2 < k
-  pub below : k < 12
+  pub below : k < 14
   pub no_frame : k ≡ 4 → ⊥
 
 assignable_free : (q : Register) → is_assignable q ≡ true → Free (number q)
@@ -61,6 +61,8 @@ assignable_free R8 is = record { above = omega arith; below = omega arith; no_fr
 assignable_free R9 is = record { above = omega arith; below = omega arith; no_frame = λ e. omega (arith, e) }
 assignable_free R10 is = record { above = omega arith; below = omega arith; no_frame = λ e. omega (arith, e) }
 assignable_free R11 is = record { above = omega arith; below = omega arith; no_frame = λ e. omega (arith, e) }
+assignable_free R12 is = record { above = omega arith; below = omega arith; no_frame = λ e. omega (arith, e) }
+assignable_free R13 is = record { above = omega arith; below = omega arith; no_frame = λ e. omega (arith, e) }
 assignable_free q is = absurd (false≢true is)
 
 -- ==== Values of the sandbox's registers in the processor's.
@@ -86,7 +88,7 @@ module _ (plan : Plan) (right : IsRightPlan plan) where
   free r q is = assignable_free q (right.assignable r q is)
 
   -- what code takes for itself
-  pub not_assigned : (k : ℕ) → (k < 3) ⊎ ((11 < k) ⊎ (k ≡ 4)) → IsAssigned plan k → ⊥
+  pub not_assigned : (k : ℕ) → (k < 3) ⊎ ((13 < k) ⊎ (k ≡ 4)) → IsAssigned plan k → ⊥
   not_assigned k (inl low) (r, q, is, same) = let f = free r q is in omega (arith, low, f.above, same)
   not_assigned k (inr (inl high)) (r, q, is, same) = let f = free r q is in omega (arith, high, f.below, same)
   not_assigned k (inr (inr frame)) (r, q, is, same) = let f = free r q is in f.no_frame (same ∙ frame)

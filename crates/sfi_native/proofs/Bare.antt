@@ -14,7 +14,7 @@ use Rattle.x86_step.specs.State.{Core, IsIn, Span, Text, number_at, with_memory}
 use Rattle.sfi_native.specs.declared.layout.Layout.{Layout}
 use Rattle.sfi_native.specs.Registers.{assigned}
 use Rattle.sfi_native.specs.Laws.{IsBefore}
-use Rattle.sfi_native.specs.Layout.{GuardsAreEmpty, IsRelated, guarded_data, value}
+use Rattle.sfi_native.specs.Layout.{GuardsAreEmpty, IsRelated, frame_size, guarded_data, slots_size, value}
 use Rattle.sfi_native.specs.Table.{HasTable, table_size}
 use Rattle.sfi_native.specs.Whole.{IsAccessed, frame_span, table_span}
 use Rattle.sfi_native.proofs.Assigned.{holds_on}
@@ -156,6 +156,8 @@ pub bare_table : (p : Part) (l : Layout) (base : ℕ) (code : List Line) (c : Co
 bare_table p l base code c has =
     let same_there = λ (n : ℕ) (fits : n + 4 ≤ table_size p). number_same c.memory (bytes p l has.at c) 4 (has.at + n)
     (λ j few. in_table p l has.at c (has.at + n + j) (omega arith, omega (arith, fits, few))) in
+    let pointer_there = λ (n : ℕ) (fits : n + 8 ≤ frame_size). number_same c.memory (bytes p l has.at c) 8 (l.frame + n)
+    (λ j few. in_frame p l has.at c (l.frame + n + j) (omega arith, omega (arith, fits, few))) in
     let within = λ (number : ℕ) (below : number < length p.code / unit p.format). unit_within (unit p.format) (length p.code) number (units p.format) below in
     record {
       table = has.table;
@@ -168,6 +170,6 @@ bare_table p l base code c has =
       holds_owed = λ number below.
           let at : has.at + (2 * (unit p.format * number) + 4) ≡ has.at + 2 * (unit p.format * number) + 4 = omega arith in
           subst (λ a. number_at (bytes p l has.at c) 4 a ≡ number_at c.memory 4 a) at (same_there (2 * (unit p.format * number) + 4) (omega (arith, within number below))) ∙ has.holds_owed number below;
-      origin_is = has.origin_is;
-      code_is = has.code_is;
+      origin_is = pointer_there slots_size (omega arith) ∙ has.origin_is;
+      code_is = pointer_there (slots_size + 8) (omega arith) ∙ has.code_is;
     }

@@ -42,11 +42,11 @@ label_far plan code rest bytes labels to left all end measured all_is end_is hel
 -- a line's bytes, by the numbers that it is written with
 pub line_placed : (plan : Plan) (code rest : List Line) (line : Line) (old : List ℕ) (size n all end : ℕ) → all ≡ size_of_all plan code → AreLast code (line ∷ rest) → length old ≡ start plan code (line ∷ rest)
     → size ≡ size_of plan line → end ≡ length old + size → (end ≡ start plan code rest → (to : ℕ) → target_of line ≡ Some to → n ≡ distances plan code rest to)
-    → old ++ spellings (line_code plan (λ to. n) (distance end ((all + 56) % 2 ^ 32)) line) ≡ old ++ spellings (placed plan code rest line)
+    → old ++ spellings (line_code plan (λ to. n) (distance end ((all + 68) % 2 ^ 32)) line) ≡ old ++ spellings (placed plan code rest line)
 line_placed plan code rest line old size n all end all_is last old_is size_is end_is far =
     let here : end ≡ start plan code rest = omega (arith, end_is, old_is, size_is, last_below plan code (line ∷ rest) last) in
-    let out : distance end ((all + 56) % 2 ^ 32) ≡ distance_out plan code rest = ap (λ x. distance x ((all + 56) % 2 ^ 32)) here ∙ ap (λ x. distance (start plan code rest) ((x + 56) % 2 ^ 32)) all_is ∙ omega arith in
-    ap (λ is. old ++ spellings is) (line_same plan (distances plan code rest) n (distance end ((all + 56) % 2 ^ 32)) line (far here) ∙ ap (λ x. line_code plan (distances plan code rest) x line) out)
+    let out : distance end ((all + 68) % 2 ^ 32) ≡ distance_out plan code rest = ap (λ x. distance x ((all + 68) % 2 ^ 32)) here ∙ ap (λ x. distance (start plan code rest) ((x + 68) % 2 ^ 32)) all_is ∙ omega arith in
+    ap (λ is. old ++ spellings is) (line_same plan (distances plan code rest) n (distance end ((all + 68) % 2 ^ 32)) line (far here) ∙ ap (λ x. line_code plan (distances plan code rest) x line) out)
 
 -- A line behind those before it.
 pub next_placed : (plan : Plan) (code rest : List Line) (line : Line) (out more all_bytes : List ℕ) → AreLast code (line ∷ rest) → out ++ spellings (code_of plan code (line ∷ rest)) ≡ all_bytes

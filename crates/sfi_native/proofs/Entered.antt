@@ -27,7 +27,7 @@ of_label plan code to left all (Some rest) is e all_is few =
     omega (arith, last_below plan code rest (label_last to code rest is), same, all_is, few)
 
 of_none : (plan : Plan) (code : List Line) (all : ℕ) (o : Option (List Line)) → option_map (size_of_all plan) o ≡ None → all ≡ size_of_all plan code → size_of_all plan code < 2 ^ 31
-    → (all + 56) % 2 ^ 32 ≡ entry_of plan code o
+    → (all + 68) % 2 ^ 32 ≡ entry_of plan code o
 of_none plan code all None e all_is few = omega (arith, all_is, few)
 of_none plan code all (Some rest) e all_is few = absurd (cc)
 
@@ -38,7 +38,7 @@ entered plan code bytes labels to left all measured all_is held = of_label plan 
 
 -- and the way out, where there is none
 pub not_entered : (plan : Plan) (code : List Line) (bytes : List ℕ) (labels : BTreeMap ℕ ℕ) (to all : ℕ) → AreMeasured plan code bytes labels → all ≡ size_of_all plan code → get nat_cmp labels to ≡ None
-    → (all + 56) % 2 ^ 32 ≡ entry_of plan code (label to code)
+    → (all + 68) % 2 ^ 32 ≡ entry_of plan code (label to code)
 not_entered plan code bytes labels to all measured all_is held = of_none plan code all (label to code) (sym (measured.left to) ∙ held) all_is measured.few
 
 -- what a label's lines begin with

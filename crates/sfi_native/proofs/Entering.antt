@@ -10,7 +10,7 @@ use Rattle.sfi_image.specs.Spelling.{Part}
 use Rattle.sfi_translate.specs.Lines.{Line}
 use Rattle.sfi_translate.specs.Machine.{Assembly, Going, is_short, label, most}
 use Rattle.sfi_translate.proofs.LinesStand.{units}
-use Rattle.x86_instr.specs.declared.operand.Register.TheVariants.{Rax, Rdx, R13, R14}
+use Rattle.x86_instr.specs.declared.operand.Register.TheVariants.{Rax, Rdx, R14}
 use Rattle.x86_instr.specs.declared.operand.Operand.TheVariants.{Reg, Mem}
 use Rattle.x86_instr.specs.declared.instr.AluOp.TheVariants as alu
 use Rattle.x86_instr.specs.declared.instr.Condition.TheVariants.{Below, NotEqual}
@@ -22,9 +22,9 @@ unfoldable use Rattle.x86_step.specs.Step.{computes}
 use Rattle.x86_step.specs.Running.{HasAt, spellings}
 use Rattle.sfi_native.specs.declared.layout.Layout.{Layout}
 use Rattle.sfi_native.specs.declared.plan.Plan.{Plan}
-use Rattle.sfi_native.specs.Layout.{IsLayout, IsRelated, OthersStay, owing}
+use Rattle.sfi_native.specs.Layout.{IsLayout, IsRelated, OthersStay, owing, slots_size}
 use Rattle.sfi_native.specs.Laws.{IsLow, end_of}
-use Rattle.sfi_native.specs.Code.{enter_code, enter_size, slot, start_code, start_size, steps_code, table_entry, table_owed}
+use Rattle.sfi_native.specs.Code.{code_slot, enter_code, enter_size, slot, start_code, start_size, steps_code, table_entry, table_owed, table_slot}
 use Rattle.sfi_native.specs.Entries.{entry_of, owed_at_entry, unit_address}
 use Rattle.sfi_native.specs.Places.{exit_of}
 use Rattle.sfi_native.specs.Table.{HasTable, LieInCode, is_unit_start}
@@ -141,30 +141,48 @@ module _ (p : Part) (l : Layout) (layout : IsLayout p.data_size l) (base : ℕ) 
           unit_is = ap (λ a. a % 2 ^ 32) (sym it.2) ∙ omega (arith, within, lie.ends);
         }
 
-    -- where a row's number is, so many bytes on
-    place_is : (n : ℕ) → n ≤ 4 → (d.registers 12 + to * 2 + n) % 2 ^ 64 ≡ has.at + 2 * (unit p.format * row.number) + n
-    place_is n small = omega (arith, has.origin_is, has.ends, row.address_is, row.within, lie.ends, small)
+    abbrev origin : ℕ
+    origin = (has.at + (2 ^ 64 - 2 * p.code_base)) % 2 ^ 64
 
-    read : loaded d 4 (address d table_entry) ≡ Ok entry
+    -- the table's origin in rax
+    abbrev based : Core
+    based = with_register d 0 origin
+
+    -- where a row's number is, so many bytes on
+    place_is : (n : ℕ) → n ≤ 4 → (origin + to * 2 + n) % 2 ^ 64 ≡ has.at + 2 * (unit p.format * row.number) + n
+    place_is n small = omega (arith, has.ends, row.address_is, row.within, lie.ends, small)
+
+    read : loaded based 4 (address based table_entry) ≡ Ok entry
     read =
         let is : slice_index has.table (2 * row.number) ≡ entry =
         has.entries.entries row.number row.few ∙ ap (λ a. entry_of l.plan code (label a code)) row.unit_is in
         let at = has.at + 2 * (unit p.format * row.number) in
-        let place : address d table_entry ≡ at = ap (λ r. (d.registers 12 + r * 2 + 0) % 2 ^ 64) edx ∙ place_is 0 (omega arith) ∙ omega arith in
-        ap (loaded d 4) place ∙ load_there d 4 at entry (omega (arith, has.ends, row.within)) (has.holds row.number row.few ∙ ap Some is)
+        let place : address based table_entry ≡ at = ap (λ r. (origin + r * 2 + 0) % 2 ^ 64) edx ∙ place_is 0 (omega arith) ∙ omega arith in
+        ap (loaded based 4) place ∙ load_there based 4 at entry (omega (arith, has.ends, row.within)) (has.holds row.number row.few ∙ ap Some is)
 
-    read_owed : loaded d 4 (address d table_owed) ≡ Ok owed_there
+    read_owed : loaded based 4 (address based table_owed) ≡ Ok owed_there
     read_owed =
         let is : slice_index has.table (2 * row.number + 1) ≡ owed_there =
         has.entries.owed row.number row.few ∙ ap (λ a. owed_at_entry l.plan p (label a code)) row.unit_is in
         let at = has.at + 2 * (unit p.format * row.number) + 4 in
-        let place : address d table_owed ≡ at = ap (λ r. (d.registers 12 + r * 2 + 4) % 2 ^ 64) edx ∙ place_is 4 (omega arith) in
-        ap (loaded d 4) place ∙ load_there d 4 at owed_there (omega (arith, has.ends, row.within)) (has.holds_owed row.number row.few ∙ ap Some is)
+        let place : address based table_owed ≡ at = ap (λ r. (origin + r * 2 + 4) % 2 ^ 64) edx ∙ place_is 4 (omega arith) in
+        ap (loaded based 4) place ∙ load_there based 4 at owed_there (omega (arith, has.ends, row.within)) (has.holds_owed row.number row.few ∙ ap Some is)
+
+    -- what the frame has behind its registers
+    read_origin : d.registers 4 ≡ l.frame → loaded d 8 (address d table_slot) ≡ Ok origin
+    read_origin frame =
+        let place : address d table_slot ≡ l.frame + slots_size = ap (λ r. (r + 0 + slots_size) % 2 ^ 64) frame ∙ omega (arith, layout.frame_ends) in
+        ap (loaded d 8) place ∙ load_there d 8 (l.frame + slots_size) origin (omega (arith, layout.frame_ends)) has.origin_is
+
+    read_code : d.registers 4 ≡ l.frame → loaded d 8 (address d code_slot) ≡ Ok base
+    read_code frame =
+        let place : address d code_slot ≡ l.frame + (slots_size + 8) = ap (λ r. (r + 0 + (slots_size + 8)) % 2 ^ 64) frame ∙ omega (arith, layout.frame_ends) in
+        ap (loaded d 8) place ∙ load_there d 8 (l.frame + (slots_size + 8)) base (omega (arith, layout.frame_ends)) has.code_is
 
     module _ (k : Going) (few : k.left < 2 ^ 31) (is : IsRelated p l (owing 0 k) d) where
       pub record Enters (at : ℕ) : Type 0 where
         pub after : Core
-        pub reached : Reaches t 4 (record { rip = at; core = d }) (record { rip = base + entry; core = after })
+        pub reached : Reaches t 5 (record { rip = at; core = d }) (record { rip = base + entry; core = after })
         pub related : IsRelated p l (owing owed_there k) after
         pub others : OthersStay p l d after
         pub target : after.registers 2 ≡ to
@@ -176,22 +194,24 @@ module _ (p : Part) (l : Layout) (layout : IsLayout p.data_size l) (base : ℕ) 
           let less = entry_few l.plan p (label to code) in
           let counted : s.result ≡ k.left + owed_there = omega (arith, is.left, few, less) in
           let fits : k.left + owed_there < 2 ^ 32 = omega (arith, few, less) in
-          let c0 = counted_core d s.result s.flags in
-          let related = counted_related p l layout (owing 0 k) d is (k.left + owed_there) s.result s.flags counted fits in
-          let stay = counted_stay p l layout (owing 0 k) d is (k.left + owed_there) s.result s.flags counted fits in
+          let first = kept_register d 0 origin (omega arith) in
+          let is_based = related_kept p l layout (owing 0 k) d based is first in
+          let c0 = counted_core based s.result s.flags in
+          let related = counted_related p l layout (owing 0 k) based is_based (k.left + owed_there) s.result s.flags counted fits in
+          let stay = counted_stay p l layout (owing 0 k) based is_based (k.left + owed_there) s.result s.flags counted fits in
           let c1 = with_register c0 0 entry in
-          let r = sum Qword (low Qword entry) (low Qword (d.registers 13)) in
+          let r = sum Qword (low Qword entry) base in
           let e = with_flags (with_register c1 0 r.result) r.flags in
           let kept = kept_join c0 c1 e (kept_register c0 0 entry (omega arith)) (kept_result c1 0 r.result r.flags (omega arith)) in
-          let front = Alu alu.Add Dword R14 (Mem table_owed) ∷ Mov Dword Rax (Mem table_entry) ∷ Alu alu.Add Qword Rax (Reg R13) ∷ [] in
+          let front = Mov Qword Rax (Mem table_slot) ∷ Alu alu.Add Dword R14 (Mem table_owed) ∷ Mov Dword Rax (Mem table_entry) ∷ Alu alu.Add Qword Rax (Mem code_slot) ∷ [] in
           let below : base + entry < 2 ^ 47 = omega (arith, in_reach, entry_below l.plan code (label to code)) in
-          let place : low Qword r.result ≡ base + entry = omega (arith, has.code_is, below) in
+          let place : low Qword r.result ≡ base + entry = omega (arith, below) in
           record {
             after = e;
-            reached = jumps_to t at front (JmpTo (Reg Rax)) d e fixed_text low_text stands (straight_runs front d e refl (rw (read_owed, read) refl)) (base + entry)
+            reached = jumps_to t at front (JmpTo (Reg Rax)) d e fixed_text low_text stands (straight_runs front d e refl (rw (read_origin is.frame, read_owed, read, read_code is.frame) refl)) (base + entry)
                 (λ after e. rw (place, low_canonical (base + entry) below) refl);
             related = related_kept p l layout (owing owed_there k) c0 e related kept;
-            others = others_join p l d c0 e stay (others_kept p l c0 e kept);
+            others = others_join p l d based e (others_kept p l d based first) (others_join p l based c0 e stay (others_kept p l c0 e kept));
             target = edx;
           }
 

@@ -11,14 +11,15 @@ use Rattle.x86_step.specs.Step.{unknown}
 use Rattle.x86_step.specs.Running.{spellings}
 use Rattle.sfi_native.specs.declared.layout.Layout.{Layout}
 use Rattle.sfi_native.specs.Laws.{EachCodeCanBeRun}
-use Rattle.sfi_native.specs.Layout.{DoNotMeet, GuardsAreEmpty, Holds, IsLayout, IsRelated, frame_size, guarded_data, origin, value}
+use Rattle.sfi_native.specs.Layout.{DoNotMeet, GuardsAreEmpty, Holds, IsLayout, IsRelated, frame_size, guarded_data, origin, slots_size, value}
 use Rattle.sfi_native.specs.Registers.{IsRightPlan, assigned}
 use Rattle.sfi_native.proofs.Assigned.{has_value, not_assigned, other_register, with_values}
+use Rattle.sfi_native.proofs.Kept.{outside_slots}
 use Rattle.sfi_native.proofs.Memory.{number_of_bytes}
 
 module _ (p : Part) (l : Layout) (g : Going) (layout : IsLayout p.data_size l) where
   abbrev pub in_frame : ℕ → Bool
-  in_frame a = nat_le l.frame a && nat_lt a (l.frame + frame_size)
+  in_frame a = nat_le l.frame a && nat_lt a (l.frame + slots_size)
 
   abbrev pub in_data : ℕ → Bool
   in_data a = nat_le l.data_start a && nat_lt a (l.data_start + p.data_size)
@@ -41,16 +42,16 @@ module _ (p : Part) (l : Layout) (g : Going) (layout : IsLayout p.data_size l) w
   abbrev held : Core
   held = record { registers = registers; flags = unknown; memory = bytes; writable = λ a. in_frame a || in_data a }
 
-  pub frame_has : (k : ℕ) → k < frame_size → in_frame (l.frame + k) ≡ true
+  pub frame_has : (k : ℕ) → k < slots_size → in_frame (l.frame + k) ≡ true
   frame_has k small =
       let low : nat_le l.frame (l.frame + k) ≡ true = le-leb l.frame (l.frame + k) (omega arith) in
-      let high : nat_lt (l.frame + k) (l.frame + frame_size) ≡ true = lt-ltb (l.frame + k) (l.frame + frame_size) (omega (arith, small)) in
+      let high : nat_lt (l.frame + k) (l.frame + slots_size) ≡ true = lt-ltb (l.frame + k) (l.frame + slots_size) (omega (arith, small)) in
       rw (low, high) refl
 
-  pub frame_lacks : (a : ℕ) → (a < l.frame) ⊎ (l.frame + frame_size ≤ a) → in_frame a ≡ false
+  pub frame_lacks : (a : ℕ) → (a < l.frame) ⊎ (l.frame + slots_size ≤ a) → in_frame a ≡ false
   frame_lacks a (inl below) = rw (lt-leb l.frame a below) refl
   frame_lacks a (inr above) = elim (cases_Bool (nat_le l.frame a)) [
-    | inl e ↦ rw (e, le-ltb a (l.frame + frame_size) above) refl
+    | inl e ↦ rw (e, le-ltb a (l.frame + slots_size) above) refl
     | inr e ↦ rw e refl
   ]
 
@@ -66,7 +67,7 @@ module _ (p : Part) (l : Layout) (g : Going) (layout : IsLayout p.data_size l) w
     | inr below ↦ inl (omega (arith, below, small, layout.data_begins))
   ])
 
-  byte_is : (k a : ℕ) → k < frame_size → a ≡ l.frame + k → bytes a ≡ Some (frame_byte k)
+  byte_is : (k a : ℕ) → k < slots_size → a ≡ l.frame + k → bytes a ≡ Some (frame_byte k)
   byte_is k a small is =
       let place : l.frame + k - l.frame ≡ k = omega arith in
       let there : bytes (l.frame + k) ≡ Some (frame_byte k) = rw (frame_has k small, place) refl in
@@ -89,7 +90,7 @@ module _ (p : Part) (l : Layout) (g : Going) (layout : IsLayout p.data_size l) w
   holds r small fits None e = slot_holds r small fits
   holds r small fits (Some q) e = has_value l.plan right (value p g) base_registers 32 r q small e
 
-  own_register : (k : ℕ) → (k < 3) ⊎ ((11 < k) ⊎ (k ≡ 4)) → registers k ≡ base_registers k
+  own_register : (k : ℕ) → (k < 3) ⊎ ((13 < k) ⊎ (k ≡ 4)) → registers k ≡ base_registers k
   own_register k own = other_register l.plan right (value p g) base_registers 32 k (not_assigned l.plan right k own)
 
   data_is : (k : ℕ) → k < p.data_size → bytes (l.data_start + k) ≡ byte_at g.state.memory (p.data_base + k)
@@ -141,7 +142,7 @@ module _ (p : Part) (l : Layout) (g : Going) (layout : IsLayout p.data_size l) w
   fixed_is bytes fixups at ends frame data_apart = record {
     ends = ends;
     apart = λ a low high.
-        let e1 : in_frame a ≡ false = frame_lacks a (beside at (length bytes) l.frame frame_size a frame low high) in
+        let e1 : in_frame a ≡ false = frame_lacks a (outside_slots a l.frame (beside at (length bytes) l.frame frame_size a frame low high)) in
         let e2 : in_data a ≡ false = data_lacks a (beside at (length bytes) l.data_start p.data_size a data_apart low high) in
         rw (e1, e2) refl;
   }

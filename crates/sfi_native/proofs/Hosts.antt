@@ -12,15 +12,14 @@ use Rattle.x86_step.specs.State.{Core, number_at, Machine, Text}
 use Rattle.sfi_native.specs.declared.layout.Layout.{Layout}
 use Rattle.sfi_native.specs.Registers.{assigned}
 use Rattle.sfi_native.specs.declared.plan.Plan.{Plan}
-use Rattle.sfi_native.proofs.Assigned.{not_assigned}
-use Rattle.sfi_native.specs.Layout.{Holds, IsLayout, IsOutside, OthersStay, frame_size}
+use Rattle.sfi_native.specs.Layout.{Holds, IsLayout, IsOutside, OthersStay, frame_size, slots_size}
 use Rattle.sfi_native.specs.Laws.{IsBefore}
 use Rattle.sfi_native.specs.Host.{Host, HostMoves, HostReads, IsHosts, IsInCode, Serves, Spares, SparesMemory, arrives, makes}
 use Rattle.sfi_native.specs.Places.{IsAt, IsAtPlace, end_address, exit_of, owed_there, whole_code, with_owed}
 use Rattle.sfi_native.specs.Table.{HasTable, table_size}
 use Rattle.sfi_native.specs.Whole.{AreApart}
-use Rattle.sfi_native.proofs.Kept.{beside_frame}
-use Rattle.sfi_native.proofs.Table.{number_same, outside, unit_within}
+use Rattle.sfi_native.proofs.Kept.{beside_frame, outside_slots, pointers_stay}
+use Rattle.sfi_native.proofs.Table.{number_same, outside, pointer_same, unit_within}
 
 -- ==== What a host reads.
 
@@ -73,13 +72,12 @@ one_way p code g h k (makes _ a _ is step more) (makes _ b _ too other others) =
 module _ (p : Part) (l : Layout) (own : ℕ → Type 0) where
   pub spares_others : IsLayout p.data_size l → (c d : Core) → OthersStay p l c d → Spares p l own c d
   spares_others layout c d stay = record {
-    table_origin = stay.others 12 (omega arith) (λ e. omega (arith, e)) (not_assigned l.plan layout.plan_is_right 12 (inr (inl (omega arith))));
-    code_address = stay.others 13 (omega arith) (λ e. omega (arith, e)) (not_assigned l.plan layout.plan_is_right 13 (inr (inl (omega arith))));
-    memory = record { elsewhere = λ a not_own by_frame by_data. stay.elsewhere a by_frame by_data; writable = λ a not_own. ap (λ w. w a) stay.writable };
+    pointers = pointers_stay p l layout c d stay;
+    memory = record { elsewhere = λ a not_own by_frame by_data. stay.elsewhere a (outside_slots a l.frame by_frame) by_data; writable = λ a not_own. ap (λ w. w a) stay.writable };
   }
 
   pub spares_same : (c : Core) → Spares p l own c c
-  spares_same c = record { table_origin = refl; code_address = refl; memory = record { elsewhere = λ a not_own by_frame by_data. refl; writable = λ a not_own. refl } }
+  spares_same c = record { pointers = λ k behind small. refl; memory = record { elsewhere = λ a not_own by_frame by_data. refl; writable = λ a not_own. refl } }
 
   pub memory_join : (c d e : Core) → SparesMemory p l own c d → SparesMemory p l own d e → SparesMemory p l own c e
   memory_join c d e a b = record {
@@ -89,8 +87,7 @@ module _ (p : Part) (l : Layout) (own : ℕ → Type 0) where
 
   pub spares_join : (c d e : Core) → Spares p l own c d → Spares p l own d e → Spares p l own c e
   spares_join c d e a b = record {
-    table_origin = b.table_origin ∙ a.table_origin;
-    code_address = b.code_address ∙ a.code_address;
+    pointers = λ k behind small. b.pointers k behind small ∙ a.pointers k behind small;
     memory = memory_join c d e a.memory b.memory;
   }
 
@@ -159,8 +156,8 @@ module _ (p : Part) (code : List Line) (l : Layout) (t : Text) (base table_at : 
             holds_owed = λ number below.
                 let at : has.at + (2 * (unit p.format * number) + 4) ≡ has.at + 2 * (unit p.format * number) + 4 = omega arith in
                 subst (λ a. number_at n.core.memory 4 a ≡ number_at m.core.memory 4 a) at (same_there (2 * (unit p.format * number) + 4) (omega (arith, within number below))) ∙ has.holds_owed number below;
-            origin_is = spares.table_origin ∙ has.origin_is;
-            code_is = spares.code_address ∙ has.code_is;
+            origin_is = pointer_same l m.core.memory n.core.memory spares.pointers slots_size (omega arith) (omega arith) ∙ has.origin_is;
+            code_is = pointer_same l m.core.memory n.core.memory spares.pointers (slots_size + 8) (omega arith) (omega arith) ∙ has.code_is;
           };
           table_is = here.table_is;
           apart = own;

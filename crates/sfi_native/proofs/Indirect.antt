@@ -97,16 +97,16 @@ module _ (p : Part) (l : Layout) (layout : IsLayout p.data_size l) (base : ℕ) 
 
     pub record Goes (place owed : ℕ) : Type 0 where
       pub after : Core
-      pub reached : Reaches t 11 (record { rip = at; core = d }) (record { rip = place; core = after })
+      pub reached : Reaches t 12 (record { rip = at; core = d }) (record { rip = place; core = after })
       pub related : IsRelated p l (owing owed k) after
       pub others : OthersStay p l d after
       pub target : after.registers 2 ≡ to
 
     -- out, with nothing owed
-    goes_out : (most place : ℕ) (e : Core) → most ≤ 11 → Reaches t most (record { rip = at; core = d }) (record { rip = place; core = e }) → Kept d e → e.registers 2 ≡ to → IsLayout p.data_size l → Goes place 0
+    goes_out : (most place : ℕ) (e : Core) → most ≤ 12 → Reaches t most (record { rip = at; core = d }) (record { rip = place; core = e }) → Kept d e → e.registers 2 ≡ to → IsLayout p.data_size l → Goes place 0
     goes_out most place e fewer reached kept same right = record {
       after = e;
-      reached = in_more t most 11 _ _ fewer reached;
+      reached = in_more t most 12 _ _ fewer reached;
       related = related_kept p l right (owing 0 k) d e is kept;
       others = others_kept p l d e kept;
       target = same;
@@ -136,7 +136,7 @@ module _ (p : Part) (l : Layout) (layout : IsLayout p.data_size l) (base : ℕ) 
       from_start e reached kept same start =
           let own = has_back t steps_end (spellings (start_code distance)) (spellings enter_code) more in
           let it = enters p l layout base code lie t low_text in_reach e (table_kept p l layout base code d e kept has) to same start k few (related_kept p l layout (owing 0 k) d e is kept) start_end (fixed_stays t _ _ _ reached) own in
-          record { after = it.after; reached = steps_join t 7 4 _ _ _ reached it.reached; related = it.related; others = others_join p l d e it.after (others_kept p l d e kept) it.others; target = it.target }
+          record { after = it.after; reached = steps_join t 7 5 _ _ _ reached it.reached; related = it.related; others = others_join p l d e it.after (others_kept p l d e kept) it.others; target = it.target }
 
       by_start : (start : Bool) → is_unit_start p to ≡ start → (e : Core)
           → Reaches t 7 (record { rip = at; core = d }) (record { rip = if not start then jumped start_end ((distance + enter_size) % 2 ^ 32) else start_end; core = e })
@@ -198,7 +198,7 @@ jalr_lines_run target p code rest address size owed rd rs1 imm distance base sha
     (fixed_stays t _ _ _ jumps) stands canonical in (
       record {
         after = it.after;
-        reached = in_more t (length front + 1 + 11) line_most _ _ (omega (arith, jalr_front_few l.plan owed rd rs1 (word imm) v)) (steps_join t (length front + 1) 11 _ _ _ jumps it.reached);
+        reached = in_more t (length front + 1 + 12) line_most _ _ (omega (arith, jalr_front_few l.plan owed rd rs1 (word imm) v)) (steps_join t (length front + 1) 12 _ _ _ jumps it.reached);
         related = it.related;
         others = others_join p l c last.core it.after stay it.others;
       },

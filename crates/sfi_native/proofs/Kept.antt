@@ -7,7 +7,7 @@ use Rattle.x86_instr.specs.declared.instr.Instr.{Instr as Native}
 use Rattle.x86_step.specs.declared.machine.Flags.{Flags}
 use Rattle.x86_step.specs.State.{Core, updated, with_flags, with_register}
 use Rattle.sfi_native.specs.declared.layout.Layout.{Layout}
-use Rattle.sfi_native.specs.Layout.{GuardsAreEmpty, IsLayout, IsOutside, OthersStay, frame_size}
+use Rattle.sfi_native.specs.Layout.{GuardsAreEmpty, IsLayout, IsOutside, OthersStay, frame_size, slots_size}
 use Rattle.sfi_native.proofs.Runs.{Runs, runs_join}
 
 -- eax, ecx, edx and the flags may differ
@@ -15,6 +15,11 @@ pub record Kept (c d : Core) : Type 0 where
   pub registers : (k : ℕ) → 2 < k → d.registers k ≡ c.registers k
   pub memory : d.memory ≡ c.memory
   pub writable : d.writable ≡ c.writable
+
+-- what is no part of the frame is none of its registers
+pub outside_slots : (a frame : ℕ) → IsOutside a frame frame_size → IsOutside a frame slots_size
+outside_slots a frame (inl below) = inl below
+outside_slots a frame (inr above) = inr (omega (arith, above))
 
 module _ (p : Part) (l : Layout) where
   pub others_kept : (c d : Core) → Kept c d → OthersStay p l c d
@@ -38,9 +43,19 @@ module _ (p : Part) (l : Layout) where
 
   pub guards_kept : IsLayout p.data_size l → (c d : Core) → OthersStay p l c d → GuardsAreEmpty p.data_size l c → GuardsAreEmpty p.data_size l d
   guards_kept layout c d stay empty = record {
-    below = λ a from under. stay.elsewhere a (beside_frame layout a from (omega (arith, under))) (inl under) ∙ empty.below a from under;
-    above = λ a from under. stay.elsewhere a (beside_frame layout a (omega (arith, from)) under) (inr from) ∙ empty.above a from under;
+    below = λ a from under. stay.elsewhere a (outside_slots a l.frame (beside_frame layout a from (omega (arith, under)))) (inl under) ∙ empty.below a from under;
+    above = λ a from under. stay.elsewhere a (outside_slots a l.frame (beside_frame layout a (omega (arith, from)) under)) (inr from) ∙ empty.above a from under;
   }
+
+  -- what lies behind the frame's registers is no data, and stays
+  pub behind_slots : IsLayout p.data_size l → (k : ℕ) → k < frame_size → IsOutside (l.frame + k) l.data_start p.data_size
+  behind_slots layout k small = elim layout.apart [
+    | inl above ↦ inl (omega (arith, above, small, layout.data_begins))
+    | inr under ↦ inr (omega (arith, under, layout.data_begins))
+  ]
+
+  pub pointers_stay : IsLayout p.data_size l → (c d : Core) → OthersStay p l c d → (k : ℕ) → slots_size ≤ k → k < frame_size → d.memory (l.frame + k) ≡ c.memory (l.frame + k)
+  pointers_stay layout c d stay k behind small = stay.elsewhere (l.frame + k) (inr (omega (arith, behind))) (behind_slots layout k small)
 
 pub kept_join : (c d e : Core) → Kept c d → Kept d e → Kept c e
 kept_join c d e a b = record {

@@ -11,11 +11,11 @@ unfoldable use Rattle.x86_instr.specs.Spelling.{memory, rex, spelling}
 use Rattle.x86_instr.specs.Spelling.{byte_extended, is_short}
 use Rattle.x86_step.specs.Running.{spellings}
 use Rattle.x86_step.proofs.Running.{spellings_append}
-use Rattle.x86_instr.specs.declared.instr.Instr.TheVariants.{Alu, AluImm, Jcc, Jmp, Mov, MovImm, Unary}
+use Rattle.x86_instr.specs.declared.instr.Instr.TheVariants.{Alu, AluImm, Jcc, Jmp, JmpTo, Mov, MovImm, Unary}
 use Rattle.x86_instr.specs.declared.instr.AluOp.TheVariants as alu
 use Rattle.x86_instr.specs.declared.instr.UnaryOp.TheVariants.{Neg}
 use Rattle.x86_instr.specs.declared.instr.Condition.TheVariants.{Equal, NotEqual}
-use Rattle.x86_instr.specs.declared.instr.Width.TheVariants.{Dword}
+use Rattle.x86_instr.specs.declared.instr.Width.TheVariants.{Dword, Qword}
 use Rattle.x86_instr.specs.declared.operand.Operand.TheVariants.{Mem, Reg}
 use Rattle.rv_word.specs.declared.instr.Cond.{Cond}
 use Rattle.rv_word.specs.declared.instr.LoadKind.{LoadKind}
@@ -25,7 +25,7 @@ use Rattle.sfi_native.specs.declared.plan.Plan.{Plan}
 use Rattle.sfi_native.specs.Places.{code_of, whole_code}
 use Rattle.sfi_native.specs.declared.jump.Jump.{Jump}
 use Rattle.sfi_native.specs.Registers.{assigned, owed as owed_at}
-use Rattle.sfi_native.specs.Code.{avoid_minus_one, avoid_zero, branch_jump, branch_line, is_bare, met_by, bring, combine, ecx_code, operand_of, place_code, read, register_or, result_in, settle, compare_code, compare_divisor, compute, compute_imm, count, count_size, data_address, divide_by_one, divide_signed, divide_unsigned, end_code, enter_code, enter_size, fetch, imm_code, indirect_jump, indirect_jump_size, has_test, jalr_line, leave_code, load_code, load_from, number_code, opposite, remainder, slot, start_code, start_size, steps_code, store_code, store_to, test_code, target_code, test_divisor, tested_jump, write, leap, leave_size, leave_line, leave_line_size, tested}
+use Rattle.sfi_native.specs.Code.{avoid_minus_one, avoid_zero, branch_jump, branch_line, code_slot, is_bare, met_by, bring, combine, ecx_code, operand_of, place_code, read, register_or, result_in, settle, compare_code, compare_divisor, compute, compute_imm, count, count_size, data_address, divide_by_one, divide_signed, divide_unsigned, end_code, enter_code, enter_size, fetch, imm_code, indirect_jump, indirect_jump_size, has_test, jalr_line, leave_code, load_code, load_from, number_code, opposite, remainder, slot, start_code, start_size, steps_code, store_code, store_to, table_entry, table_owed, table_slot, test_code, target_code, test_divisor, tested_jump, write, leap, leave_size, leave_line, leave_line_size, tested}
 use Rattle.sfi_translate.specs.Machine.{most}
 
 pub no_part : (old : List ℕ) → old ≡ old ++ spellings []
@@ -195,6 +195,15 @@ start_parts old distance =
 pub indirect_parts : (old : List ℕ) (distance : ℕ)
     → ((old ++ spellings (steps_code distance)) ++ spellings (start_code distance)) ++ spellings enter_code ≡ old ++ spellings (indirect_jump distance)
 indirect_parts old distance = three_parts old (steps_code distance) (start_code distance) enter_code
+
+pub enter_parts : (old : List ℕ)
+    → ((((old ++ spellings (Mov Qword Rax (Mem table_slot) ∷ [])) ++ spellings (Alu alu.Add Dword R14 (Mem table_owed) ∷ [])) ++ spellings (Mov Dword Rax (Mem table_entry) ∷ []))
+    ++ spellings (Alu alu.Add Qword Rax (Mem code_slot) ∷ [])) ++ spellings (JmpTo (Reg Rax) ∷ []) ≡ old ++ spellings enter_code
+enter_parts old =
+    let front = Mov Qword Rax (Mem table_slot) ∷ Alu alu.Add Dword R14 (Mem table_owed) ∷ Mov Dword Rax (Mem table_entry) ∷ Alu alu.Add Qword Rax (Mem code_slot) ∷ [] in
+    let last = JmpTo (Reg Rax) ∷ [] in
+    ap (λ x. x ++ spellings last) (four_parts old (Mov Qword Rax (Mem table_slot) ∷ []) (Alu alu.Add Dword R14 (Mem table_owed) ∷ []) (Mov Dword Rax (Mem table_entry) ∷ []) (Alu alu.Add Qword Rax (Mem code_slot) ∷ []))
+    ∙ two_parts old front last
 
 pub jalr_parts : (plan : Plan) (old : List ℕ) (owed rd rs1 displacement behind distance : ℕ)
     → (((old ++ spellings (target_code plan rs1 displacement)) ++ spellings (number_code plan rd behind)) ++ spellings (count (owed + 1) 0)) ++ spellings (Jmp distance ∷ []) ≡ old ++ spellings (jalr_line plan owed rd rs1 displacement behind distance)

@@ -1,7 +1,8 @@
 -- Numbers of bytes, written and read.
-use Rattle.std.proofs.Common.{◌≡◌, ℕ, zero, suc, ◌+◌, ◌-◌, ◌*◌, ◌/◌, ◌%◌, ◌^◌, ◌<◌, ◌≤◌, ◌⊎◌, inl, inr, Bool, true, false, Option, Some, refl, ap, ◌∙◌, subst, arith, nat_lt}
+use Rattle.std.proofs.Common.{◌≡◌, ℕ, zero, suc, ◌+◌, ◌-◌, ◌*◌, ◌/◌, ◌%◌, ◌^◌, ◌<◌, ◌≤◌, ◌⊎◌, inl, inr, Bool, true, false, Option, Some, refl, sym, ap, ◌∙◌, subst, arith, nat_lt}
 use Rattle.std.specs.Prelude.{Ok, nat_le}
 use Rattle.std.proofs.lemmas.Bool.{cases_Bool, le-leb, lt-ltb, le-ltb, leb-true}
+use Rattle.std.proofs.Math.Nat.{pow-suc, div-div-eq-div-mul}
 use Rattle.x86_step.specs.State.{Core, may_write, number_at, with_memory, written}
 use Rattle.x86_step.specs.Step.{loaded, stored}
 
@@ -46,6 +47,21 @@ number_of_bytes m at v fits each =
     let b3 : m (at + 1 + 1 + 1) ≡ Some (v / 16777216 % 256) = ap m two ∙ each 3 (omega arith) ∙ ap Some (omega arith) in
     let sum : v % 256 + 256 * (v / 256 % 256 + 256 * (v / 65536 % 256 + 256 * (v / 16777216 % 256 + 256 * 0))) ≡ v = omega (arith, fits) in
     rw (b0, b1, b2, b3) (ap Some sum)
+
+-- and any other number its bytes
+pub long_number_of_bytes : (m : ℕ → Option ℕ) (n at v : ℕ) → v < 256 ^ n → ((j : ℕ) → j < n → m (at + j) ≡ Some (v / 256 ^ j % 256)) → number_at m n at ≡ Some v
+long_number_of_bytes m zero at v fits each = ap Some (omega (arith, fits))
+long_number_of_bytes m (suc n) at v fits each =
+    let z : at ≡ at + 0 = omega arith in
+    let here : m at ≡ Some (v % 256) = ap m z ∙ each 0 (omega arith) ∙ ap Some (omega arith) in
+    let power : 256 ^ suc n ≡ 256 ^ n * 256 = pow-suc 256 n in
+    let rest : number_at m n (at + 1) ≡ Some (v / 256) = long_number_of_bytes m n (at + 1) (v / 256) (omega (arith, power, fits)) (λ j small.
+    let e : at + suc j ≡ at + 1 + j = omega arith in
+    let factors : 256 ^ suc j ≡ 256 * 256 ^ j = pow-suc 256 j ∙ omega arith in
+    let byte : v / 256 ^ suc j % 256 ≡ v / 256 / 256 ^ j % 256 = ap (λ q. q % 256) (ap (λ x. v / x) factors ∙ sym (div-div-eq-div-mul v 256 (256 ^ j))) in
+    subst (λ a. m a ≡ Some (v / 256 / 256 ^ j % 256)) e (each (suc j) (omega (arith, small)) ∙ ap Some byte)) in
+    let sum : v % 256 + 256 * (v / 256) ≡ v = omega arith in
+    rw (here, rest) (ap Some sum)
 
 -- four bytes that were written
 pub number_written : (m : ℕ → Option ℕ) (at v : ℕ) → v < 2 ^ 32 → number_at (written m 4 at v) 4 at ≡ Some v

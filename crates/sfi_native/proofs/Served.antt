@@ -12,16 +12,16 @@ use Rattle.x86_step.specs.State.{Core, updated}
 use Rattle.sfi_native.specs.declared.layout.Layout.{Layout}
 use Rattle.sfi_translate.specs.Laws.{IsOver}
 use Rattle.sfi_native.specs.Host.{EachWorkCanBeDone, HostMoves, IsHosts, IsInCode, IsProper, Spares, arrives, makes}
-use Rattle.sfi_native.specs.Layout.{Holds, IsLayout, IsOutside, IsRelated, frame_size, value}
+use Rattle.sfi_native.specs.Layout.{Holds, IsLayout, IsOutside, IsRelated, frame_size, slots_size, value}
 use Rattle.sfi_native.specs.Places.{AreLast, IsAtPlace, exit_of, start, with_owed}
 use Rattle.sfi_native.proofs.OwedSteps.{there_few}
 use Rattle.sfi_native.proofs.Held.{apart, data_has, data_lacks, frame_byte, frame_has, frame_lacks, in_data, in_frame}
-use Rattle.sfi_native.proofs.Kept.{updated_other}
+use Rattle.sfi_native.proofs.Kept.{behind_slots, outside_slots}
 use Rattle.sfi_native.proofs.Memory.{number_of_bytes}
 use Rattle.sfi_native.proofs.Places.{label_last}
 use Rattle.x86_instr.specs.declared.operand.Register.{Register}
 use Rattle.sfi_native.specs.declared.plan.Plan.{Plan}
-use Rattle.sfi_native.specs.Registers.{IsAssigned, IsRightPlan, assigned}
+use Rattle.sfi_native.specs.Registers.{IsRightPlan, assigned}
 use Rattle.sfi_native.proofs.Assigned.{has_value, not_assigned, other_register as unassigned, with_values}
 
 -- ==== The state.
@@ -46,7 +46,7 @@ module _ (p : Part) (l : Layout) (g k : Going) (layout : IsLayout p.data_size l)
   word_is : (r : ℕ) → value p k r < 2 ^ 32
   word_is r = subst (λ h. register h r < 2 ^ 32) (sym proper.fixed_is) (proper.state.hart.words r)
 
-  byte_is : (j a : ℕ) → j < frame_size → a ≡ l.frame + j → bytes a ≡ Some (frame_byte p l k layout j)
+  byte_is : (j a : ℕ) → j < slots_size → a ≡ l.frame + j → bytes a ≡ Some (frame_byte p l k layout j)
   byte_is j a small is =
       let place : l.frame + j - l.frame ≡ j = omega arith in
       let there : bytes (l.frame + j) ≡ Some (frame_byte p l k layout j) = rw (frame_has p l k layout j small, place) refl in
@@ -66,7 +66,7 @@ module _ (p : Part) (l : Layout) (g k : Going) (layout : IsLayout p.data_size l)
   holds r small None e = number_of_bytes bytes (l.frame + 4 * r) (value p k r) (word_is r) (λ j less. slot_byte r j small less)
   holds r small (Some q) e = has_value l.plan right (value p k) base_registers 32 r q small e
 
-  own_register : (r : ℕ) → (r < 3) ⊎ ((11 < r) ⊎ (r ≡ 4)) → registers r ≡ base_registers r
+  own_register : (r : ℕ) → (r < 3) ⊎ ((13 < r) ⊎ (r ≡ 4)) → registers r ≡ base_registers r
   own_register r own = unassigned l.plan right (value p k) base_registers 32 r (not_assigned l.plan right r own)
 
   pub pc_is : registers 2 ≡ k.state.hart.pc
@@ -92,17 +92,14 @@ module _ (p : Part) (l : Layout) (g k : Going) (layout : IsLayout p.data_size l)
   }
 
   elsewhere : (a : ℕ) → IsOutside a l.frame frame_size → IsOutside a l.data_start p.data_size → bytes a ≡ c.memory a
-  elsewhere a by_frame by_data = rw (frame_lacks p l k layout a by_frame, data_lacks p l k layout a by_data) refl
+  elsewhere a by_frame by_data = rw (frame_lacks p l k layout a (outside_slots a l.frame by_frame), data_lacks p l k layout a by_data) refl
 
-  other_register : (r : ℕ) → 2 < r → (r ≡ 14 → ⊥) → (IsAssigned l.plan r → ⊥) → registers r ≡ c.registers r
-  other_register r more other none =
-      unassigned l.plan right (value p k) base_registers 32 r none
-      ∙ updated_other (updated c.registers 2 k.state.hart.pc) 14 k.left r other ∙ updated_other c.registers 2 k.state.hart.pc r (λ e. omega (arith, e, more))
+  pointers : (n : ℕ) → slots_size ≤ n → n < frame_size → bytes (l.frame + n) ≡ c.memory (l.frame + n)
+  pointers n behind small = rw (frame_lacks p l k layout (l.frame + n) (inr (omega (arith, behind))), data_lacks p l k layout (l.frame + n) (behind_slots p l layout n small)) refl
 
   pub served_spares : (own : ℕ → Type 0) → Spares p l own c served
   served_spares own = record {
-    table_origin = other_register 12 (omega arith) (λ e. omega (arith, e)) (not_assigned l.plan right 12 (inr (inl (omega arith))));
-    code_address = other_register 13 (omega arith) (λ e. omega (arith, e)) (not_assigned l.plan right 13 (inr (inl (omega arith))));
+    pointers = pointers;
     memory = record { elsewhere = λ a not_own by_frame by_data. elsewhere a by_frame by_data; writable = λ a not_own. refl };
   }
 

@@ -10,13 +10,12 @@ use Rattle.sfi_translate.proofs.LinesStand.{fits, line_some, units}
 use Rattle.x86_step.specs.State.{Core, number_at}
 use Rattle.sfi_native.specs.declared.plan.Plan.{Plan}
 use Rattle.sfi_native.specs.declared.layout.Layout.{Layout}
-use Rattle.sfi_native.specs.Layout.{IsLayout, DoNotMeet, IsOutside, OthersStay, frame_size}
+use Rattle.sfi_native.specs.Layout.{IsLayout, DoNotMeet, IsOutside, OthersStay, frame_size, slots_size}
 use Rattle.sfi_native.specs.Entries.{entry_of}
 use Rattle.sfi_native.specs.Places.{exit_of}
 use Rattle.sfi_native.specs.Table.{HasTable, LinesLieInCode, table_size}
-use Rattle.sfi_native.proofs.Assigned.{not_assigned}
 use Rattle.sfi_native.proofs.Following.{lines_follow_on}
-use Rattle.sfi_native.proofs.Kept.{Kept, others_kept}
+use Rattle.sfi_native.proofs.Kept.{Kept, others_kept, outside_slots, pointers_stay}
 
 -- ==== The table stays.
 
@@ -28,6 +27,13 @@ number_same m w (suc n) at each =
     let here : w at ≡ m at = subst (λ a. w a ≡ m a) z (each 0 (omega arith)) in
     let rest = number_same m w n (at + 1) (λ j below. let next : at + suc j ≡ at + 1 + j = omega arith in subst (λ a. w a ≡ m a) next (each (suc j) (omega (arith, below)))) in
     rw (here, rest) refl
+
+-- where what lies behind the frame's registers stays, so does a number there
+pub pointer_same : (l : Layout) (m w : ℕ → Option ℕ) → ((k : ℕ) → slots_size ≤ k → k < frame_size → w (l.frame + k) ≡ m (l.frame + k)) → (n : ℕ) → slots_size ≤ n → n + 8 ≤ frame_size
+    → number_at w 8 (l.frame + n) ≡ number_at m 8 (l.frame + n)
+pointer_same l m w each n behind fits = number_same m w 8 (l.frame + n) (λ j few.
+    let e : l.frame + (n + j) ≡ l.frame + n + j = omega arith in
+    subst (λ a. w a ≡ m a) e (each (n + j) (omega (arith, behind)) (omega (arith, fits, few))))
 
 -- four bytes of a unit, of 16 or 4
 pub unit_within : (u len number : ℕ) → (u ≡ 16) ⊎ (u ≡ 4) → number < len / u → u * number + 4 ≤ len
@@ -47,7 +53,7 @@ module _ (p : Part) (l : Layout) (layout : IsLayout p.data_size l) (base : ℕ) 
   table_stays stay has =
       let same_there = λ (n : ℕ) (fits : n + 4 ≤ table_size p). number_same c.memory d.memory 4 (has.at + n) (λ j few.
       let a = has.at + n + j in
-      stay.elsewhere a (outside has.at (table_size p) l.frame frame_size a has.frame_apart (omega arith) (omega (arith, fits, few)))
+      stay.elsewhere a (outside_slots a l.frame (outside has.at (table_size p) l.frame frame_size a has.frame_apart (omega arith) (omega (arith, fits, few))))
       (outside has.at (table_size p) l.data_start p.data_size a has.data_apart (omega arith) (omega (arith, fits, few)))) in
       let within = λ (number : ℕ) (below : number < length p.code / unit p.format). unit_within (unit p.format) (length p.code) number (units p.format) below in
       record {
@@ -61,8 +67,8 @@ module _ (p : Part) (l : Layout) (layout : IsLayout p.data_size l) (base : ℕ) 
         holds_owed = λ number below.
             let at : has.at + (2 * (unit p.format * number) + 4) ≡ has.at + 2 * (unit p.format * number) + 4 = omega arith in
             subst (λ a. number_at d.memory 4 a ≡ number_at c.memory 4 a) at (same_there (2 * (unit p.format * number) + 4) (omega (arith, within number below))) ∙ has.holds_owed number below;
-        origin_is = stay.others 12 (omega arith) (λ e. omega (arith, e)) (not_assigned l.plan layout.plan_is_right 12 (inr (inl (omega arith)))) ∙ has.origin_is;
-        code_is = stay.others 13 (omega arith) (λ e. omega (arith, e)) (not_assigned l.plan layout.plan_is_right 13 (inr (inl (omega arith)))) ∙ has.code_is;
+        origin_is = pointer_same l c.memory d.memory (pointers_stay p l layout c d stay) slots_size (omega arith) (omega arith) ∙ has.origin_is;
+        code_is = pointer_same l c.memory d.memory (pointers_stay p l layout c d stay) (slots_size + 8) (omega arith) (omega arith) ∙ has.code_is;
       }
 
   pub table_kept : Kept c d → HasTable p l base code c → HasTable p l base code d

@@ -8,18 +8,16 @@ use Rattle.sfi_image.specs.Spelling.{Part}
 use Rattle.sfi_translate.specs.Lines.{Line}
 use Rattle.sfi_translate.specs.Machine.{Going, label}
 use Rattle.sfi_translate.proofs.LinesStand.{units}
-use Rattle.x86_step.specs.State.{Core, updated}
-use Rattle.x86_instr.specs.Spelling.{number}
+use Rattle.x86_step.specs.State.{Core, number_at, with_memory, written}
 use Rattle.sfi_native.specs.Registers.{assigned}
-use Rattle.sfi_native.proofs.Assigned.{free, holds_on}
+use Rattle.sfi_native.proofs.Assigned.{holds_on}
 use Rattle.sfi_native.specs.declared.layout.Layout.{Layout}
 use Rattle.sfi_native.specs.Entries.{AreEntries, unit_address}
 use Rattle.sfi_native.specs.Laws.{EachTableCanBeHeld}
-use Rattle.sfi_native.specs.Layout.{DoNotMeet, GuardsAreEmpty, IsLayout, IsRelated, frame_size, value}
+use Rattle.sfi_native.specs.Layout.{DoNotMeet, GuardsAreEmpty, IsLayout, IsRelated, frame_size, slots_size, value}
 use Rattle.sfi_native.specs.Places.{exit_of}
 use Rattle.sfi_native.specs.Table.{HasTable, table_size}
-use Rattle.sfi_native.proofs.Kept.{updated_other}
-use Rattle.sfi_native.proofs.Memory.{number_of_bytes}
+use Rattle.sfi_native.proofs.Memory.{long_number_of_bytes, number_elsewhere, number_of_bytes, written_elsewhere, written_here}
 use Rattle.sfi_native.proofs.Entering.{entry_few}
 use Rattle.sfi_native.proofs.Table.{entry_below, number_same, unit_within}
 
@@ -54,33 +52,64 @@ module _ (p : Part) (l : Layout) (base : ℕ) (table : List ℕ) (at : ℕ) (c :
   abbrev in_table : ℕ → Bool
   in_table a = nat_le at a && nat_lt a (at + table_size p)
 
+  -- the bytes with the table
+  abbrev rows : ℕ → Option ℕ
+  rows a = if in_table a then Some (table_byte (unit p.format) table (a - at)) else c.memory a
+
+  abbrev origin : ℕ
+  origin = (at + (2 ^ 64 - 2 * p.code_base)) % 2 ^ 64
+
+  -- and with what the frame has behind its registers
+  abbrev with_origin : ℕ → Option ℕ
+  with_origin = written rows 8 (l.frame + slots_size) origin
+
   abbrev memory : ℕ → Option ℕ
-  memory a = if in_table a then Some (table_byte (unit p.format) table (a - at)) else c.memory a
+  memory = written with_origin 8 (l.frame + (slots_size + 8)) base
 
   abbrev tabled : Core
-  tabled = record { registers = updated (updated c.registers 12 ((at + (2 ^ 64 - 2 * p.code_base)) % 2 ^ 64)) 13 base; flags = c.flags; memory = memory; writable = c.writable }
+  tabled = with_memory c memory
 
-  table_lacks : (a : ℕ) → (a < at) ⊎ (at + table_size p ≤ a) → memory a ≡ c.memory a
+  table_lacks : (a : ℕ) → (a < at) ⊎ (at + table_size p ≤ a) → rows a ≡ c.memory a
   table_lacks a (inl below) = rw (lt-leb at a below) refl
   table_lacks a (inr above) = elim (cases_Bool (nat_le at a)) [
     | inl e ↦ rw (e, le-ltb a (at + table_size p) above) refl
     | inr e ↦ rw e refl
   ]
 
-  table_has : (offset : ℕ) → offset < table_size p → memory (at + offset) ≡ Some (table_byte (unit p.format) table offset)
+  table_has : (offset : ℕ) → offset < table_size p → rows (at + offset) ≡ Some (table_byte (unit p.format) table offset)
   table_has offset small =
       let low : nat_le at (at + offset) ≡ true = le-leb at (at + offset) (omega arith) in
       let high : nat_lt (at + offset) (at + table_size p) ≡ true = lt-ltb (at + offset) (at + table_size p) (omega (arith, small)) in
       let place : at + offset - at ≡ offset = omega arith in
       rw (low, high, place) refl
 
-  other : (k : ℕ) → (k ≡ 12 → ⊥) → (k ≡ 13 → ⊥) → tabled.registers k ≡ c.registers k
-  other k not_table not_code =
-      updated_other (updated c.registers 12 ((at + (2 ^ 64 - 2 * p.code_base)) % 2 ^ 64)) 13 base k not_code ∙ updated_other c.registers 12 ((at + (2 ^ 64 - 2 * p.code_base)) % 2 ^ 64) k not_table
+  pointers_lack : (a : ℕ) → (a < l.frame + slots_size) ⊎ (l.frame + frame_size ≤ a) → memory a ≡ rows a
+  pointers_lack a (inl below) =
+      written_elsewhere with_origin 8 (l.frame + (slots_size + 8)) base a (inl (omega (arith, below))) ∙ written_elsewhere rows 8 (l.frame + slots_size) origin a (inl below)
+  pointers_lack a (inr above) =
+      written_elsewhere with_origin 8 (l.frame + (slots_size + 8)) base a (inr (omega (arith, above))) ∙ written_elsewhere rows 8 (l.frame + slots_size) origin a (inr (omega (arith, above)))
 
-  apart : (b n : ℕ) → DoNotMeet at (table_size p) b n → (j : ℕ) → j < n → memory (b + j) ≡ c.memory (b + j)
+  number_there : (b : ℕ) → (b + 4 ≤ l.frame + slots_size) ⊎ (l.frame + frame_size ≤ b) → number_at memory 4 b ≡ number_at rows 4 b
+  number_there b (inl below) =
+      number_elsewhere with_origin 8 (l.frame + (slots_size + 8)) base 4 b (inl (omega (arith, below))) ∙ number_elsewhere rows 8 (l.frame + slots_size) origin 4 b (inl below)
+  number_there b (inr above) =
+      number_elsewhere with_origin 8 (l.frame + (slots_size + 8)) base 4 b (inr (omega (arith, above))) ∙ number_elsewhere rows 8 (l.frame + slots_size) origin 4 b (inr (omega (arith, above)))
+
+  -- a number of the table is apart from the frame
+  row_apart : DoNotMeet at (table_size p) l.frame frame_size → (n : ℕ) → n + 4 ≤ table_size p → (at + n + 4 ≤ l.frame + slots_size) ⊎ (l.frame + frame_size ≤ at + n)
+  row_apart (inl before) n fits = inl (omega (arith, before, fits))
+  row_apart (inr after) n fits = inr (omega (arith, after))
+
+  apart : (b n : ℕ) → DoNotMeet at (table_size p) b n → (j : ℕ) → j < n → rows (b + j) ≡ c.memory (b + j)
   apart b n (inl before) j small = table_lacks (b + j) (inr (omega (arith, before)))
   apart b n (inr after) j small = table_lacks (b + j) (inl (omega (arith, after, small)))
+
+  -- data and guard zones lie apart from the frame
+  zones_apart : IsLayout p.data_size l → (a : ℕ) → l.data_start ≤ a + guard → a < l.data_start + p.data_size + guard → memory a ≡ rows a
+  zones_apart layout a from under = pointers_lack a (elim layout.apart [
+    | inl above ↦ inr (omega (arith, above, from, layout.data_begins))
+    | inr below ↦ inl (omega (arith, below, under, layout.data_begins))
+  ])
 
   tabled_related : (g : Going) → IsLayout p.data_size l → DoNotMeet at (table_size p) l.frame frame_size → DoNotMeet at (table_size p) l.data_start p.data_size → IsRelated p l g c → IsRelated p l g tabled
   tabled_related g layout by_frame by_data is = record {
@@ -89,36 +118,34 @@ module _ (p : Part) (l : Layout) (base : ℕ) (table : List ℕ) (at : ℕ) (c :
     registers = λ r small. holds_on l c tabled r (value p g r) (assigned l.plan r)
         (λ none. number_same c.memory memory 4 (l.frame + 4 * r) (λ j few.
         let e : l.frame + (4 * r + j) ≡ l.frame + 4 * r + j = omega arith in
-        subst (λ a. memory a ≡ c.memory a) e (apart l.frame frame_size by_frame (4 * r + j) (omega (arith, small, few)))))
-        (λ q own.
-        let below = (free l.plan layout.plan_is_right r q own).below in
-        other (number q) (λ e. omega (arith, e, below)) (λ e. omega (arith, e, below)))
+        subst (λ a. memory a ≡ c.memory a) e (pointers_lack (l.frame + (4 * r + j)) (inl (omega (arith, small, few))) ∙ apart l.frame frame_size by_frame (4 * r + j) (omega (arith, small, few)))))
+        (λ q own. refl)
         (is.registers r small);
-    frame = other 4 (λ e. omega (arith, e)) (λ e. omega (arith, e)) ∙ is.frame;
+    frame = is.frame;
     frame_is_written = is.frame_is_written;
     few = is.few;
-    left = other 14 (λ e. omega (arith, e)) (λ e. omega (arith, e)) ∙ is.left;
-    bytes = λ k small. apart l.data_start p.data_size by_data k small ∙ is.bytes k small;
+    left = is.left;
+    bytes = λ k small. zones_apart layout (l.data_start + k) (omega arith) (omega (arith, small)) ∙ apart l.data_start p.data_size by_data k small ∙ is.bytes k small;
     bytes_are_written = is.bytes_are_written;
-    origin_is = other 15 (λ e. omega (arith, e)) (λ e. omega (arith, e)) ∙ is.origin_is;
+    origin_is = is.origin_is;
   }
 
   guards_stay : IsLayout p.data_size l → DoNotMeet at (table_size p) (l.data_start - guard) (p.data_size + 2 * guard) → GuardsAreEmpty p.data_size l c → GuardsAreEmpty p.data_size l tabled
   guards_stay layout by_zones empty = record {
-    below = λ a from under. table_lacks a (beside at (table_size p) (l.data_start - guard) (p.data_size + 2 * guard) a by_zones (omega (arith, from, layout.data_begins)) (omega (arith, under, layout.data_begins))) ∙ empty.below a from under;
-    above = λ a from under. table_lacks a (beside at (table_size p) (l.data_start - guard) (p.data_size + 2 * guard) a by_zones (omega (arith, from)) (omega (arith, under, layout.data_begins))) ∙ empty.above a from under;
+    below = λ a from under. zones_apart layout a from (omega (arith, under)) ∙ table_lacks a (beside at (table_size p) (l.data_start - guard) (p.data_size + 2 * guard) a by_zones (omega (arith, from, layout.data_begins)) (omega (arith, under, layout.data_begins))) ∙ empty.below a from under;
+    above = λ a from under. zones_apart layout a (omega (arith, from)) under ∙ table_lacks a (beside at (table_size p) (l.data_start - guard) (p.data_size + 2 * guard) a by_zones (omega (arith, from)) (omega (arith, under, layout.data_begins))) ∙ empty.above a from under;
   }
 
   -- a row's number
   row_there : (number c j place : ℕ) → place ≡ at + (2 * (unit p.format * number) + (4 * c + j)) → number < length p.code / unit p.format → c < 2 → j < 4
-      → memory place ≡ Some (slice_index table (2 * number + c) / 256 ^ j % 256)
+      → rows place ≡ Some (slice_index table (2 * number + c) / 256 ^ j % 256)
   row_there number c j place is below one less =
       let within = unit_within (unit p.format) (length p.code) number (units p.format) below in
-      ap memory is ∙ table_has (2 * (unit p.format * number) + (4 * c + j)) (omega (arith, within, one, less)) ∙ ap Some (row_byte (unit p.format) table number c j (units p.format) one less)
+      ap rows is ∙ table_has (2 * (unit p.format * number) + (4 * c + j)) (omega (arith, within, one, less)) ∙ ap Some (row_byte (unit p.format) table number c j (units p.format) one less)
 
-  abbrev has_table : (code : List Line) → AreEntries l.plan p code table → exit_of l.plan code < 2 ^ 32 → DoNotMeet at (table_size p) l.frame frame_size → DoNotMeet at (table_size p) l.data_start p.data_size
+  abbrev has_table : (code : List Line) → AreEntries l.plan p code table → exit_of l.plan code < 2 ^ 32 → base < 2 ^ 64 → DoNotMeet at (table_size p) l.frame frame_size → DoNotMeet at (table_size p) l.data_start p.data_size
       → HasTable p l base code tabled
-  has_table code entries few by_frame by_data = record {
+  has_table code entries few low by_frame by_data = record {
     table = table;
     entries = entries;
     at = at;
@@ -129,14 +156,20 @@ module _ (p : Part) (l : Layout) (base : ℕ) (table : List ℕ) (at : ℕ) (c :
         let v = slice_index table (2 * number) in
         let fits : v < 2 ^ 32 = omega (arith, entries.entries number below, entry_below l.plan code (label (unit_address p number) code), few) in
         let none : 2 * number + 0 ≡ 2 * number = omega arith in
-        number_of_bytes memory (at + 2 * (unit p.format * number)) v fits (λ j less.
+        let within = unit_within (unit p.format) (length p.code) number (units p.format) below in
+        number_there (at + 2 * (unit p.format * number)) (row_apart by_frame (2 * (unit p.format * number)) (omega (arith, within)))
+        ∙ number_of_bytes rows (at + 2 * (unit p.format * number)) v fits (λ j less.
         row_there number 0 j (at + 2 * (unit p.format * number) + j) (omega arith) below (omega arith) less ∙ ap (λ n. Some (slice_index table n / 256 ^ j % 256)) none);
     holds_owed = λ number below.
         let v = slice_index table (2 * number + 1) in
         let fits : v < 2 ^ 32 = omega (arith, entries.owed number below, entry_few l.plan p (label (unit_address p number) code)) in
-        number_of_bytes memory (at + 2 * (unit p.format * number) + 4) v fits (λ j less. row_there number 1 j (at + 2 * (unit p.format * number) + 4 + j) (omega arith) below (omega arith) less);
-    origin_is = refl;
-    code_is = refl;
+        let within = unit_within (unit p.format) (length p.code) number (units p.format) below in
+        let place : at + (2 * (unit p.format * number) + 4) ≡ at + 2 * (unit p.format * number) + 4 = omega arith in
+        subst (λ b. number_at memory 4 b ≡ number_at rows 4 b) place (number_there (at + (2 * (unit p.format * number) + 4)) (row_apart by_frame (2 * (unit p.format * number) + 4) (omega (arith, within))))
+        ∙ number_of_bytes rows (at + 2 * (unit p.format * number) + 4) v fits (λ j less. row_there number 1 j (at + 2 * (unit p.format * number) + 4 + j) (omega arith) below (omega arith) less);
+    origin_is = number_elsewhere with_origin 8 (l.frame + (slots_size + 8)) base 8 (l.frame + slots_size) (inl (omega arith))
+        ∙ long_number_of_bytes with_origin 8 (l.frame + slots_size) origin (omega arith) (written_here rows 8 (l.frame + slots_size) origin);
+    code_is = long_number_of_bytes memory 8 (l.frame + (slots_size + 8)) base low (written_here with_origin 8 (l.frame + (slots_size + 8)) base);
   }
 
 of_zones : (p : Part) (l : Layout) (at : ℕ) → IsLayout p.data_size l → DoNotMeet at (table_size p) (l.data_start - guard) (p.data_size + 2 * guard) → DoNotMeet at (table_size p) l.data_start p.data_size
@@ -144,7 +177,7 @@ of_zones p l at layout (inl before) = inl (omega (arith, before))
 of_zones p l at layout (inr after) = inr (omega (arith, after, layout.data_begins))
 
 pub each_table_can_be_held : EachTableCanBeHeld
-each_table_can_be_held p l base code table at is t from g c entries few ends by_frame by_zones before =
+each_table_can_be_held p l base code table at is t from g c entries few low ends by_frame by_zones before =
     let by_data = of_zones p l at before.layout by_zones in (
       tabled p l base table at c ends,
       record {
@@ -156,6 +189,6 @@ each_table_can_be_held p l base code table at is t from g c entries few ends by_
         related = tabled_related p l base table at c ends g before.layout by_frame by_data before.related;
         guards = guards_stay p l base table at c ends before.layout by_zones before.guards;
       },
-      has_table p l base table at c ends code entries few by_frame by_data,
+      has_table p l base table at c ends code entries few low by_frame by_data,
       refl,
     )

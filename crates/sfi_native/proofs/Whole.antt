@@ -286,7 +286,7 @@ module _ (sandbox : ℕ) (p : Part) (code : List Line) (l : Layout) (base : ℕ)
       let it = each_code_can_be_run is fixups base p l owes layout comes.state.hart.count
       (subst (λ (h : Hart). (r : ℕ) → register h r < 2 ^ 32) (sym same) comes.state.hart.words) owes_fit (omega (arith, low, size))
       (subst (λ n. DoNotMeet base n l.frame frame_size) (sym size) apart.text.from_frame) (subst (λ n. DoNotMeet base n l.data_start p.data_size) (sym size) (zones_and_data p l base (exit_of l.plan code) layout apart.text.from_zones)) in
-      let held = each_table_can_be_held p l base code table table_at is text base owes it.0 entries (omega (arith, fits)) (omega (arith, table_low)) apart.table.from_frame apart.table.from_zones it.1 in
+      let held = each_table_can_be_held p l base code table table_at is text base owes it.0 entries (omega (arith, fits)) (omega (arith, low)) (omega (arith, table_low)) apart.table.from_frame apart.table.from_zones it.1 in
       let made = all_made p code (begun s left) first begins (λ rest e. let clash : Loop ≡ Before rest = e in cc) (omega (arith, few)) in
       let place = has_place l.plan base code first.place first.state.hart.pc made.last (never_lost p code (begun s left) first begins) in
       let core = with_register held.0 2 first.state.hart.pc in

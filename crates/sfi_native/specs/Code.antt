@@ -17,7 +17,7 @@ use Rattle.sfi_translate.specs.Lines.{head_bytes}
 use Rattle.sfi_translate.specs.Machine.{most}
 use Rattle.x86_instr.specs.Spelling.{number}
 use Rattle.x86_instr.specs.declared.operand.Register.{Register}
-use Rattle.x86_instr.specs.declared.operand.Register.TheVariants.{Rax, Rcx, Rdx, Rsp, R12, R13, R14, R15}
+use Rattle.x86_instr.specs.declared.operand.Register.TheVariants.{Rax, Rcx, Rdx, Rsp, R14, R15}
 use Rattle.x86_instr.specs.declared.operand.Scale.TheVariants.{One, Two}
 use Rattle.x86_instr.specs.declared.operand.Address.{Address}
 use Rattle.x86_instr.specs.declared.operand.Operand.{Operand}
@@ -367,23 +367,33 @@ abbrev pub target_code : Plan → ℕ → ℕ → List Native
 target_code plan rs1 displacement =
     fetch plan Rdx rs1 ++ (AluImm alu.Add Dword (Reg Rdx) displacement ∷ AluImm alu.And Dword (Reg Rdx) (2 ^ 32 - 2) ∷ [])
 
--- ==== Jumps to an address in edx: r12 has the origin of the table, r13 the code's address.
+-- ==== Jumps to an address in edx.
 
--- where the table has the entry of the unit at that address
+-- what the frame has behind its registers: the origin of the table
+abbrev pub table_slot : Address
+table_slot = record { base = Rsp; index = Rsp; scale = One; displacement = 128 }
+
+-- and the code's address
+abbrev pub code_slot : Address
+code_slot = record { base = Rsp; index = Rsp; scale = One; displacement = 136 }
+
+-- where the table, whose origin is in rax, has the entry of the unit at that address
 abbrev pub table_entry : Address
-table_entry = record { base = R12; index = Rdx; scale = Two; displacement = 0 }
+table_entry = record { base = Rax; index = Rdx; scale = Two; displacement = 0 }
 
 -- and how many steps are owed there
 abbrev pub table_owed : Address
-table_owed = record { base = R12; index = Rdx; scale = Two; displacement = 4 }
+table_owed = record { base = Rax; index = Rdx; scale = Two; displacement = 4 }
 
 -- to that entry
 abbrev pub enter_code : List Native
-enter_code = Alu alu.Add Dword R14 (Mem table_owed) ∷ Mov Dword Rax (Mem table_entry) ∷ Alu alu.Add Qword Rax (Reg R13) ∷ JmpTo (Reg Rax) ∷ []
+enter_code =
+    Mov Qword Rax (Mem table_slot) ∷ Alu alu.Add Dword R14 (Mem table_owed) ∷ Mov Dword Rax (Mem table_entry)
+    ∷ Alu alu.Add Qword Rax (Mem code_slot) ∷ JmpTo (Reg Rax) ∷ []
 
 -- its bytes
 abbrev pub enter_size : ℕ
-enter_size = 14
+enter_size = 26
 
 -- Out over the distance from the line's end, where no unit of the sandbox's code starts at that address: its mask (x25) and
 -- base (x24) make another address of it.
@@ -406,7 +416,7 @@ indirect_jump distance = steps_code distance ++ (start_code distance ++ enter_co
 
 -- its bytes
 abbrev pub indirect_jump_size : ℕ
-indirect_jump_size = 42
+indirect_jump_size = 54
 
 -- the line of a jalr, behind which the address `behind` comes: to the indirect jump that all such lines share
 abbrev pub jalr_line : Plan → ℕ → ℕ → ℕ → ℕ → ℕ → ℕ → List Native

@@ -59,7 +59,7 @@ AreSandboxFiles sandbox (p ∷ ps) bytes =
 -- what the file is, its version, the image that it belongs to, and that image's front
 abbrev pub front : List ℕ → List Part → List ℕ
 front image ps =
-    codes "SFIN" ++ number 4 ++ count (length image) ++ number (crc32 image) ++ magic (format_of ps) ++ count (length ps)
+    codes "SFIN" ++ number 5 ++ count (length image) ++ number (crc32 image) ++ magic (format_of ps) ++ count (length ps)
 
 -- how many bytes come before, and the checksum of all before
 abbrev pub closed : List ℕ → List ℕ

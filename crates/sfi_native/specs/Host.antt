@@ -14,7 +14,7 @@ use Rattle.x86_step.specs.State.{Core, Machine, Text}
 use Rattle.x86_step.specs.Step.{Reaches}
 use Rattle.sfi_native.specs.declared.layout.Layout.{Layout}
 use Rattle.sfi_native.specs.Registers.{assigned}
-use Rattle.sfi_native.specs.Layout.{Holds, IsLayout, IsOutside, IsRelated, OthersStay, frame_size}
+use Rattle.sfi_native.specs.Layout.{Holds, IsLayout, IsOutside, IsRelated, OthersStay, frame_size, slots_size}
 use Rattle.sfi_native.specs.Laws.{IsAlike}
 use Rattle.sfi_native.specs.Places.{IsAt, with_owed}
 
@@ -83,10 +83,9 @@ pub record SparesMemory (p : Part) (l : Layout) (own : ℕ → Type 0) (c d : Co
   pub elsewhere : (a : ℕ) → (own a → ⊥) → IsOutside a l.frame frame_size → IsOutside a l.data_start p.data_size → d.memory a ≡ c.memory a
   pub writable : (a : ℕ) → (own a → ⊥) → d.writable a ≡ c.writable a
 
--- So it does where it enters code, with the same in r12 (12) and r13 (13) as where code was entered before.
+-- So it does where it enters code, with the same behind the frame's registers as where code was entered before.
 pub record Spares (p : Part) (l : Layout) (own : ℕ → Type 0) (c d : Core) : Type 0 where
-  pub table_origin : d.registers 12 ≡ c.registers 12
-  pub code_address : d.registers 13 ≡ c.registers 13
+  pub pointers : (k : ℕ) → slots_size ≤ k → k < frame_size → d.memory (l.frame + k) ≡ c.memory (l.frame + k)
   pub memory : SparesMemory p l own c d
 
 -- Registers, data and steps left are the turn's, and the processor is where it goes on.

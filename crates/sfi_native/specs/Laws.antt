@@ -31,7 +31,7 @@ use Rattle.sfi_native.specs.Table.{HasTable, LieInCode, is_unit_start, table_siz
 
 -- the most instructions that a line makes
 abbrev pub line_most : ℕ
-line_most = 18
+line_most = 19
 
 -- and with the nop before it
 abbrev pub placed_most : ℕ
@@ -76,7 +76,7 @@ EachCodeCanBeRun =
 abbrev pub EachTableCanBeHeld : Type 0
 EachTableCanBeHeld =
     (p : Part) (l : Layout) (base : ℕ) (code : List Line) (table : List ℕ) (at : ℕ) (is : List Native) (t : Text) (from : ℕ)
-    (g : Going) (c : Core) → AreEntries l.plan p code table → exit_of l.plan code < 2 ^ 32 → at + table_size p ≤ 2 ^ 64
+    (g : Going) (c : Core) → AreEntries l.plan p code table → exit_of l.plan code < 2 ^ 32 → base < 2 ^ 64 → at + table_size p ≤ 2 ^ 64
     → DoNotMeet at (table_size p) l.frame frame_size
     → DoNotMeet at (table_size p) (l.data_start - guard) (p.data_size + 2 * guard)
     → IsBefore is t from p l g c

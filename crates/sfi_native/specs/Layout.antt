@@ -12,8 +12,12 @@ use Rattle.sfi_native.specs.declared.layout.Layout.{Layout}
 use Rattle.sfi_native.specs.Registers.{IsAssigned, IsRightPlan, assigned}
 
 -- the frame has four bytes for each of the 32 registers
+abbrev pub slots_size : ℕ
+slots_size = 128
+
+-- and behind them 16 more, which code doesn't write: where the table of entries and where code begins (specs/Table.antt)
 abbrev pub frame_size : ℕ
-frame_size = 128
+frame_size = 144
 
 -- m bytes from a on and n bytes from b on have no address in common
 abbrev pub DoNotMeet : ℕ → ℕ → ℕ → ℕ → Type 0
@@ -62,7 +66,7 @@ pub record IsRelated (p : Part) (l : Layout) (g : Going) (c : Core) : Type 0 whe
   pub words : (r : ℕ) → value p g r < 2 ^ 32
   pub registers : (r : ℕ) → r < 32 → Holds l c r (assigned l.plan r) (value p g r)
   pub frame : c.registers 4 ≡ l.frame
-  pub frame_is_written : (k : ℕ) → k < frame_size → c.writable (l.frame + k) ≡ true
+  pub frame_is_written : (k : ℕ) → k < slots_size → c.writable (l.frame + k) ≡ true
   pub few : g.left < 2 ^ 32
   pub left : c.registers 14 ≡ g.left
   pub bytes : (k : ℕ) → k < p.data_size → c.memory (l.data_start + k) ≡ byte_at g.state.memory (p.data_base + k)
@@ -79,8 +83,8 @@ abbrev pub IsOutside : ℕ → ℕ → ℕ → Type 0
 IsOutside at a n = (at < a) ⊎ (a + n ≤ at)
 
 -- From one state of the processor to the other, eax, ecx, edx (0 to 2), r14 (14), registers in which the sandbox's lie, and
--- flags may change, and memory in frame and data; all else stays.
+-- flags may change, and memory in the frame's registers and in data; all else stays.
 pub record OthersStay (p : Part) (l : Layout) (c d : Core) : Type 0 where
   pub others : (k : ℕ) → 2 < k → (k ≡ 14 → ⊥) → (IsAssigned l.plan k → ⊥) → d.registers k ≡ c.registers k
-  pub elsewhere : (a : ℕ) → IsOutside a l.frame frame_size → IsOutside a l.data_start p.data_size → d.memory a ≡ c.memory a
+  pub elsewhere : (a : ℕ) → IsOutside a l.frame slots_size → IsOutside a l.data_start p.data_size → d.memory a ≡ c.memory a
   pub writable : d.writable ≡ c.writable

@@ -2,7 +2,7 @@
 -- where; and where nops stand.
 use Rattle.std.specs.Prelude.{[], ◌≡◌, ℕ, ◌+◌, ◌-◌, ◌/◌, ◌%◌, ◌^◌, ◌==◌, ◌||◌, Bool, true, false, get_or, length, Option, Some, None}
 use Rattle.x86_instr.specs.declared.operand.Register.{Register}
-use Rattle.x86_instr.specs.declared.operand.Register.TheVariants.{Rbx, Rbp, Rsi, Rdi, R8, R9, R10, R11}
+use Rattle.x86_instr.specs.declared.operand.Register.TheVariants.{Rbx, Rbp, Rsi, Rdi, R8, R9, R10, R11, R12, R13}
 use Rattle.x86_instr.specs.Spelling.{number}
 use Rattle.x86_instr.specs.declared.instr.NopSize.{NopSize}
 use Rattle.sfi_native.specs.declared.plan.Plan.{Plan}
@@ -21,6 +21,8 @@ is_assignable R8 = true
 is_assignable R9 = true
 is_assignable R10 = true
 is_assignable R11 = true
+is_assignable R12 = true
+is_assignable R13 = true
 is_assignable q = false
 
 -- the register of the processor that register r lies in, if it lies in one

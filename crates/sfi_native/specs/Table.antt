@@ -9,7 +9,7 @@ use Rattle.sfi_translate.specs.Machine.{label}
 use Rattle.x86_step.specs.State.{Core, number_at}
 use Rattle.sfi_native.specs.declared.layout.Layout.{Layout}
 use Rattle.sfi_native.specs.Entries.{AreEntries}
-use Rattle.sfi_native.specs.Layout.{DoNotMeet, frame_size}
+use Rattle.sfi_native.specs.Layout.{DoNotMeet, frame_size, slots_size}
 use Rattle.sfi_native.specs.Following.{FollowFrom}
 
 -- a unit of the sandbox's code starts at that address
@@ -32,8 +32,8 @@ abbrev pub table_size : Part → ℕ
 table_size p = 2 * length p.code
 
 -- The processor has the table of entries in memory: at twice each unit's offset in the sandbox's code the four bytes of its entry
--- and the four of how many steps are owed there (so in bundles there are 24 bytes between two). r12 (12) has the host's address of
--- what would be the entry of the sandbox's address 0, r13 (13) that of the code.
+-- and the four of how many steps are owed there (so in bundles there are 24 bytes between two). Behind the frame's registers lies the
+-- host's address of what would be the entry of the sandbox's address 0, and then that of the code.
 pub record HasTable (p : Part) (l : Layout) (base : ℕ) (code : List Line) (c : Core) : Type 0 where
   pub table : List ℕ
   pub entries : AreEntries l.plan p code table
@@ -45,5 +45,5 @@ pub record HasTable (p : Part) (l : Layout) (base : ℕ) (code : List Line) (c :
       → number_at c.memory 4 (at + 2 * (unit p.format * number)) ≡ Some (slice_index table (2 * number))
   pub holds_owed : (number : ℕ) → number < length p.code / unit p.format
       → number_at c.memory 4 (at + 2 * (unit p.format * number) + 4) ≡ Some (slice_index table (2 * number + 1))
-  pub origin_is : c.registers 12 ≡ (at + (2 ^ 64 - 2 * p.code_base)) % 2 ^ 64
-  pub code_is : c.registers 13 ≡ base
+  pub origin_is : number_at c.memory 8 (l.frame + slots_size) ≡ Some ((at + (2 ^ 64 - 2 * p.code_base)) % 2 ^ 64)
+  pub code_is : number_at c.memory 8 (l.frame + (slots_size + 8)) ≡ Some base

@@ -119,7 +119,7 @@ fn place_line(
     push_line(draft, plan, line, 0, 0)?;
     let end = (out.len() + draft.len()) as u32;
     let label = label_distance(labels, all, end, &line);
-    push_line(out, plan, line, label, distance(end, all.wrapping_add(56)))?;
+    push_line(out, plan, line, label, distance(end, all.wrapping_add(68)))?;
     Ok(())
 }
 
@@ -189,7 +189,7 @@ pub fn compile(
 {
     let mut draft = Vec::new(alloc);
     let mut labels = BTreeMap::new(alloc);
-    if !measure(&mut draft, plan, &mut labels, lines)? || draft.len() >= 0x7fff_ffc8 {
+    if !measure(&mut draft, plan, &mut labels, lines)? || draft.len() >= 0x7fff_ffbc {
         return Ok(None);
     }
     let all = draft.len() as u32;

@@ -37,7 +37,7 @@ fn row_at(plan: &Plan, labels: &BTreeMap<u32, u32>, all: u32, at: u32) -> Row
             owed: plan.owed(at),
         },
         None => Row {
-            entry: all.wrapping_add(56),
+            entry: all.wrapping_add(68),
             owed: 0,
         },
     }

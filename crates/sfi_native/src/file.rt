@@ -151,7 +151,7 @@ fn push_by(
     let Some(code) = compile(alloc, format, part, plan, lines)? else {
         return Ok(false);
     };
-    if code.bytes.len() > 24 * part.code.len() + 56 {
+    if code.bytes.len() > 24 * part.code.len() + 68 {
         return Ok(false);
     }
     push_code(out, part, plan, &code)?;
@@ -200,7 +200,7 @@ fn push_front(out: &mut Vec<u8>, image: &Image<'_>, bytes: &[u8]) -> Result<(), 
     ensures { OnOk result (out.new.items ≡ out.old.items ++ front bytes.now image.now) }
 {
     out.extend_from_slice(b"SFIN")?;
-    push_number(out, 4)?;
+    push_number(out, 5)?;
     push_count(out, bytes.len())?;
     push_number(out, crc32(bytes))?;
     out.extend_from_slice(&image.format().magic())?;

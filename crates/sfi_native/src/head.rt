@@ -116,6 +116,6 @@ pub(crate) fn put_end(out: &mut Vec<u8>, at: u32, owed: u32) -> Result<(), Alloc
             imm: owed,
         },
     )?;
-    put_leave(out, at, 42)?;
+    put_leave(out, at, 54)?;
     put_indirect_jump(out, 0)
 }

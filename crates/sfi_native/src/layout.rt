@@ -14,7 +14,7 @@ const END: u64 = 1 << 47;
 pub struct Layout {
     /// Which registers lie in the processor's.
     pub plan: Plan,
-    /// The address of the frame, 128 bytes.
+    /// The address of the frame, 144 bytes.
     pub frame: u64,
     /// The address of the data's first byte.
     pub data_start: u64,
@@ -38,10 +38,10 @@ impl Layout {
         }
         let zone_start = data_start.checked_sub(PAGE)?;
         let size = u64::from(data_size) + 2 * PAGE;
-        if frame > END - 128 || zone_start > END - size {
+        if frame > END - 144 || zone_start > END - size {
             return None;
         }
-        if frame + 128 <= zone_start || zone_start + size <= frame {
+        if frame + 144 <= zone_start || zone_start + size <= frame {
             Some(Layout {
                 plan,
                 frame,

@@ -1,9 +1,9 @@
 //! Machine code of x86-64 for the lines of an accepted sandbox.
 //!
 //! Each of the sandbox's 32 registers lies in a register of the processor, as a plan says (`specs/Registers.antt`), or has
-//! four bytes in a frame; r14 has the steps left and those that are done and not counted yet, which code owes; r15 the host's
-//! address of the sandbox's address 0, r13 that of the code, r12 that of a table of entries (`specs/Table.antt`); eax, ecx and edx
-//! are free between lines. `specs/Code.antt` says which instructions a line becomes, `specs/Layout.antt` when a processor has the
+//! four bytes in a frame, behind which the host's addresses of the code and of a table of entries are (`specs/Table.antt`); r14 has
+//! the steps left and those that are done and not counted yet, which code owes, r15 the host's address of the sandbox's address 0;
+//! eax, ecx and edx are free between lines. `specs/Code.antt` says which instructions a line becomes, `specs/Layout.antt` when a processor has the
 //! state of a turn. Laws say that the bytes of lines then do what these do: `Facts::computing_lines_run`, `branch_lines_run`,
 //! `jal_lines_run`, `jalr_lines_run`, `load_lines_run`, `store_lines_run`, `faulting_lines_run`; `lines_stand`,
 //! `placed_lines_run`, `placed_steps_run` of all that [`compile`] writes (`specs/Places.antt`). An access to a guard zone faults:

@@ -98,7 +98,7 @@ fn put_instruction(
             rs1,
             imm.cast_unsigned(),
             behind,
-            exit.wrapping_sub(42),
+            exit.wrapping_sub(54),
         ),
         _ => {
             push_computing_line(out, plan, at, owed, next, instr)?;

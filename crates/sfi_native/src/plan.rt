@@ -42,7 +42,9 @@ fn is_assignable(q: Register) -> bool
         | Register::R8
         | Register::R9
         | Register::R10
-        | Register::R11 => true,
+        | Register::R11
+        | Register::R12
+        | Register::R13 => true,
         _ => false,
     }
 }

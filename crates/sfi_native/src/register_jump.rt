@@ -1,11 +1,12 @@
 //! The bytes of a jalr, and of the indirect jump that all of them share.
 ghost use Rattle.std.specs.Prelude.{◌≡◌, ◌++◌, ◌<◌, OnOk};
 ghost use Rattle.sfi_native.specs.Code.{enter_code, indirect_jump, jalr_line, start_code, steps_code, target_code};
-ghost use Rattle.x86_instr.specs.declared.instr.Instr.TheVariants.{Alu, AluImm};
-ghost use Rattle.x86_instr.specs.declared.operand.Scale.TheVariants.{Two};
+ghost use Rattle.x86_instr.specs.declared.instr.Instr.TheVariants.{Alu, AluImm, Mov};
+ghost use Rattle.x86_instr.specs.declared.instr.AluOp.TheVariants.{Add};
+ghost use Rattle.x86_instr.specs.declared.operand.Scale.TheVariants.{One, Two};
 ghost use Rattle.x86_instr.specs.declared.instr.Width.TheVariants.{Dword};
-ghost use Rattle.x86_instr.specs.declared.operand.Operand.TheVariants.{Reg as InRegister};
-ghost use Rattle.x86_instr.specs.declared.operand.Register.TheVariants.{R12, Rax, Rdx};
+ghost use Rattle.x86_instr.specs.declared.operand.Operand.TheVariants.{Mem, Reg as InRegister};
+ghost use Rattle.x86_instr.specs.declared.operand.Register.TheVariants.{Rax, Rdx, Rsp};
 ghost use Rattle.x86_step.specs.Running.{spellings};
 
 use crate::computation::{put_count, put_number};
@@ -67,7 +68,7 @@ fn put_steps(out: &mut Vec<u8>, distance: u32) -> Result<(), AllocError>
         out,
         Instr::Jcc {
             condition: Condition::Below,
-            distance: distance.wrapping_add(32),
+            distance: distance.wrapping_add(44),
         },
     )
 }
@@ -98,54 +99,67 @@ fn put_start(out: &mut Vec<u8>, distance: u32) -> Result<(), AllocError>
         out,
         Instr::Jcc {
             condition: Condition::NotEqual,
-            distance: distance.wrapping_add(14),
+            distance: distance.wrapping_add(26),
         },
     )
 }
 
-/// So many bytes behind where the table has the entry of the unit at the address in edx.
-fn in_table(displacement: u32) -> Address
-    ensures { result ≡ record { base = R12; index = Rdx; scale = Two; displacement = displacement } }
+/// The place of that offset in the frame.
+fn in_frame(displacement: u32) -> Address
+    ensures { result ≡ record { base = Rsp; index = Rsp; scale = One; displacement = displacement } }
 {
     Address {
-        base: Register::R12,
+        base: Register::Rsp,
+        index: Register::Rsp,
+        scale: Scale::One,
+        displacement,
+    }
+}
+
+/// So many bytes behind where the table, whose origin is in rax, has the entry of the unit at the address in edx.
+fn in_table(displacement: u32) -> Address
+    ensures { result ≡ record { base = Rax; index = Rdx; scale = Two; displacement = displacement } }
+{
+    Address {
+        base: Register::Rax,
         index: Register::Rdx,
         scale: Scale::Two,
         displacement,
     }
 }
 
+/// An addition to a register.
+fn add(width: Width, dst: Register, src: Address) -> Instr
+    ensures { result ≡ Alu Add width dst (Mem src) }
+{
+    Instr::Alu {
+        op: AluOp::Add,
+        width,
+        dst,
+        src: Operand::Mem(src),
+    }
+}
+
+/// A load into rax.
+fn load(width: Width, src: Address) -> Instr
+    ensures { result ≡ Mov width Rax (Mem src) }
+{
+    Instr::Mov {
+        width,
+        dst: Register::Rax,
+        src: Operand::Mem(src),
+    }
+}
+
 /// Writes a jump to that entry. Code owes there as many steps as the table has behind the entry.
-#[tactic(auto, using(crate::proofs::Lists::four_parts))]
+#[tactic(auto, using(crate::proofs::Lists::enter_parts))]
 fn put_enter(out: &mut Vec<u8>) -> Result<(), AllocError>
     ensures { OnOk result (out.new.items ≡ out.old.items ++ spellings enter_code) }
 {
-    put(
-        out,
-        Instr::Alu {
-            op: AluOp::Add,
-            width: Width::Dword,
-            dst: Register::R14,
-            src: Operand::Mem(in_table(4)),
-        },
-    )?;
-    put(
-        out,
-        Instr::Mov {
-            width: Width::Dword,
-            dst: Register::Rax,
-            src: Operand::Mem(in_table(0)),
-        },
-    )?;
-    put(
-        out,
-        Instr::Alu {
-            op: AluOp::Add,
-            width: Width::Qword,
-            dst: Register::Rax,
-            src: Operand::Reg(Register::R13),
-        },
-    )?;
+    put(out, load(Width::Qword, in_frame(128)))?;
+    put(out, add(Width::Dword, Register::R14, in_table(4)))?;
+    put(out, load(Width::Dword, in_table(0)))?;
+    put(out, add(Width::Qword, Register::Rax, in_frame(136)))?;
     put(
         out,
         Instr::JmpTo {

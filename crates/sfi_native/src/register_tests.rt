@@ -169,7 +169,7 @@ fn wrong_maps_are_told(rt: HostRuntime) -> Result<(), Fail> {
     fixed.assigned[26] = Some(Register::R9);
     assert!(rt; !fixed.is_right());
     let mut taken = some_registers(rt.alloc());
-    taken.assigned[31] = Some(Register::R12);
+    taken.assigned[31] = Some(Register::R14);
     assert!(rt; !taken.is_right());
     Ok(())
 }

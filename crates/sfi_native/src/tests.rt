@@ -75,7 +75,7 @@ const JUMPS: [u8; 94] = [
     184, 4, 0, 0, 1, // mov eax, 0x1000004
     137, 68, 36, 4, // mov [rsp+4], eax
     65, 131, 238, 1, // sub r14d, 1
-    233, 214, 15, 0, 0, // {disp32} jmp .+4059
+    233, 202, 15, 0, 0, // {disp32} jmp .+4047
 ];
 
 #[test]
@@ -114,7 +114,7 @@ fn jumps_are_spelled(rt: HostRuntime) -> Result<(), Fail> {
         Reg::numbered(5),
         4,
         0x0100_0004,
-        4054,
+        4042,
     )?;
     assert!(rt; out.as_slice() == JUMPS.as_slice());
     Ok(())
@@ -288,11 +288,11 @@ fn each_kind_of_line_is_spelled(rt: HostRuntime) -> Result<(), Fail> {
     Ok(())
 }
 
-const COMPILED: [u8; 136] = [
+const COMPILED: [u8; 148] = [
     65, 131, 254, 65, // cmp r14d, 65
     15, 131, 10, 0, 0, 0, // {disp32} jae 1f
     186, 0, 0, 0, 1, // mov edx, 0x1000000
-    233, 116, 0, 0, 0, // {disp32} jmp 9f
+    233, 128, 0, 0, 0, // {disp32} jmp 9f
     139, 68, 36, 20, // 1: mov eax, [rsp+20]
     65, 131, 238, 1, // sub r14d, 1
     59, 68, 36, 24, // cmp eax, [rsp+24]
@@ -305,20 +305,21 @@ const COMPILED: [u8; 136] = [
     65, 131, 254, 65, // cmp r14d, 65
     15, 131, 206, 255, 255, 255, // {disp32} jae 1b
     186, 0, 0, 0, 1, // mov edx, 0x1000000
-    233, 56, 0, 0, 0, // {disp32} jmp 9f
+    233, 68, 0, 0, 0, // {disp32} jmp 9f
     65, 131, 238, 0, // sub r14d, 0
     186, 12, 0, 0, 1, // mov edx, 0x100000c
-    233, 42, 0, 0, 0, // {disp32} jmp 9f
+    233, 54, 0, 0, 0, // {disp32} jmp 9f
     65, 131, 254, 65, // cmp r14d, 65
-    15, 130, 32, 0, 0, 0, // {disp32} jb 9f
+    15, 130, 44, 0, 0, 0, // {disp32} jb 9f
     139, 194, // {load} mov eax, edx
     35, 68, 36, 100, // and eax, [rsp+100]
     11, 68, 36, 96, // or eax, [rsp+96]
     59, 194, // {load} cmp eax, edx
-    15, 133, 14, 0, 0, 0, // {disp32} jne 9f
-    69, 3, 116, 84, 4, // add r14d, [r12+rdx*2+4]
-    65, 139, 4, 84, // mov eax, [r12+rdx*2]
-    73, 3, 197, // {load} add rax, r13
+    15, 133, 26, 0, 0, 0, // {disp32} jne 9f
+    72, 139, 132, 36, 128, 0, 0, 0, // mov rax, [rsp+128]
+    68, 3, 116, 80, 4, // add r14d, [rax+rdx*2+4]
+    139, 4, 80, // mov eax, [rax+rdx*2]
+    72, 3, 132, 36, 136, 0, 0, 0, // add rax, [rsp+136]
     255, 224, // jmp rax; 9:
 ];
 

@@ -13,7 +13,7 @@ use std::alloc::{AllocError, Global};
 use x86_instr::Register;
 
 /// The registers of the processor that may be assigned.
-const ASSIGNABLE: [Register; 8] = [
+const ASSIGNABLE: [Register; 10] = [
     Register::Rbx,
     Register::Rbp,
     Register::Rsi,
@@ -22,6 +22,8 @@ const ASSIGNABLE: [Register; 8] = [
     Register::R9,
     Register::R10,
     Register::R11,
+    Register::R12,
+    Register::R13,
 ];
 
 /// How often each register is used.
@@ -93,7 +95,7 @@ fn uses_of(alloc: Global, lines: &[Line]) -> Result<Uses, AllocError> {
 /// The plan that has the most used registers in the processor's, counts each step at once, and has no nops.
 fn plan_by(alloc: Global, uses: &Uses) -> Plan {
     let mut plan = Plan::in_frame(alloc);
-    for k in 0..8 {
+    for k in 0..10 {
         if let Some(r) = uses.busiest(&plan) {
             plan.assigned[r] = Some(ASSIGNABLE[k]);
         }
