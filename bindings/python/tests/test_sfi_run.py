@@ -308,6 +308,16 @@ class Running(unittest.TestCase):
             with self.assertRaises(sfi_run.NotWaiting):
                 call.reply(0)
 
+    def test_reset_of_data_of_some_sizes(self):
+        for size in (65536, 262144, 1048576):
+            with sfi_run.World(built(f".sandbox {size}\nebreak\n.data\n.byte 7, 8, 9\n")) as world:
+                pages = range(DATA, DATA + size, 4096)
+                for written in ([], pages[:1], pages[3:7], pages[::2], pages[1::2], pages[::7], pages, pages[-1:]):
+                    for at in written:
+                        world[0].write(at + 4094, b"xy")
+                    world[0].reset()
+                    self.assertEqual(world[0].read(DATA, size), bytes([7, 8, 9]) + bytes(size - 3), (size, len(written)))
+
     def test_data(self):
         self.assertEqual(self.sandbox.read(DATA, 4096), bytes(4096))
         self.sandbox.write(DATA + 4090, b"\1\0\2\0\3\4")

@@ -12,6 +12,7 @@
 enum { SERVICE_EXIT = 0, CALL_SIZE = 4, SLACK = 1020 }; /* SLACK: docs/IMAGE.md, typed registers */
 enum { MAGIC_SIZE = 4 }; /* docs/IMAGE.md, the layout */
 enum { ECALL = 0x73 }; /* the instruction */
+enum { WRITTEN_MOST = 1 << 17, PAGES_ASKED = 4096 }; /* up to so many bytes zeros are just written; so many pages are asked for at once */
 enum { WORD_SIZE = 4, FOOTER_SIZE = 16, BELOW_END = 16 }; /* the table of names; where the first stack pointer is */
 
 /* `module` is the includer's. `entered` are the registers of a function that is called, but for x30 in words. `number` and `address`
@@ -138,12 +139,43 @@ static uint32_t exit_gate(const struct sfi_sandbox *s) {
     return 0;
 }
 
-/* As at first, over data that are there, `zeroed` where they are zeros. */
-static void make_first(struct native_sandbox *it, bool is_zeroed) {
+/* Makes pages zeros. Where a quarter is in memory, all are written; else those are, and the others handed back, whose next touch finds
+   zeros. False where it can't be told which are in memory. */
+static bool clear_pages(uint8_t *pages, size_t count) {
+    unsigned char found[PAGES_ASKED];
+    size_t there = 0;
+    if (mincore(pages, count * SFI_ZONE, found))
+        return false;
+    for (size_t page = 0; page < count; page++)
+        there += found[page] & 1;
+    for (size_t first = 0, end; first < count; first = end) {
+        const bool is_written = there >= count / 4 || found[first] & 1;
+        for (end = first + 1; end < count && (there >= count / 4 || (found[end] & 1) == is_written); end++)
+            ;
+        const size_t size = (end - first) * SFI_ZONE;
+        if (is_written || madvise(pages + first * SFI_ZONE, size, MADV_DONTNEED))
+            memset(pages + first * SFI_ZONE, 0, size);
+    }
+    return true;
+}
+
+/* Makes all data zeros. Of large data, pages that nobody touched cost nothing. */
+static void clear_data(struct native_sandbox *it) {
+    const size_t size = it->text->data_size, most = (size_t)PAGES_ASKED * SFI_ZONE;
+    size_t done = 0;
+    while (size > WRITTEN_MOST && done < size) {
+        const size_t piece = size - done < most ? size - done : most;
+        if (!clear_pages(it->hart.data + done, piece / SFI_ZONE))
+            break;
+        done += piece;
+    }
+    memset(it->hart.data + done, 0, size - done);
+}
+
+/* As at first, over data of zeros. */
+static void make_first(struct native_sandbox *it) {
     const struct sfi_sandbox *s = it->text;
     memcpy(it->hart.data, s->first_data, s->init);
-    if (!is_zeroed)
-        memset(it->hart.data + s->init, 0, s->data_size - s->init);
     sfi_begin(s, &it->hart, s->start);
     settle(it);
     it->steps = 0;
@@ -156,7 +188,7 @@ static bool make_sandbox(const struct sfi_sandbox *s, struct native_sandbox *it)
     it->hart.data = sfi_new_data(s);
     if (it->hart.data == NULL)
         return false;
-    make_first(it, true);
+    make_first(it);
     memcpy(it->entered, it->hart.x, sizeof it->entered);
     it->entered[1] = exit_gate(s);
     it->entered[2] -= room_of(s);
@@ -273,7 +305,8 @@ bool sfi_run_reset(struct sfi_run_world *world, uint32_t sandbox) {
     struct native_sandbox *it = sandbox_at(world, sandbox);
     if (it == NULL)
         return false;
-    make_first(it, false);
+    clear_data(it);
+    make_first(it);
     return true;
 }
 

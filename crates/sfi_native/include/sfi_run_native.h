@@ -13,6 +13,7 @@
  *   (/proc/sys/vm/max_map_count); where there is none for a new world, that world goes step by step.
  * - The first native world handles SIGSEGV and SIGBUS: what is no sandbox's fault goes to the handler before. One that is set later has to
  *   hand on what isn't its own. These signals may not be blocked where turns are taken. A shared library stays loaded.
+ * - sfi_run_reset of data above 128 KiB costs what the pages do that were touched.
  * - sfi_run_until takes a step at a time, and so do sandboxes that sfi_run_add adds to a native world of a module that isn't.
  * - sfi_run_module_new and sfi_run_load want a stack of SFI_RUN_NATIVE_STACK bytes, and memory for a moment: some 20 bytes for each of
  *   the image.
