@@ -85,7 +85,10 @@ fn main() {
         library.parent().unwrap().display()
     );
     let stem = library.file_stem().unwrap().to_string_lossy();
-    println!("cargo:rustc-link-lib=static={}", stem.trim_start_matches("lib"));
+    println!(
+        "cargo:rustc-link-lib=static={}",
+        stem.trim_start_matches("lib")
+    );
     println!("cargo:rustc-check-cfg=cfg(native)");
     let bytes = fs::read(&library).unwrap();
     if bytes.windows(NATIVE_CALL.len()).any(|it| it == NATIVE_CALL) {

@@ -1,7 +1,7 @@
 //! The data of a sandbox that runs natively, where they lie.
-use crate::Sandbox;
 #[cfg(native)]
 use crate::sys;
+use crate::Sandbox;
 #[cfg(native)]
 use std::slice;
 
