@@ -117,7 +117,7 @@ def fetch(package, folder):
     words = ["source", "--download-only", package]
     if apt_get(folder, words):
         lists = own_lists(os.path.join(folder, "apt"))
-        if lists and not apt_get(folder, [*lists, "update"]):
+        if lists and apt_get(folder, [*lists, *words]) and not apt_get(folder, [*lists, "update"]):
             apt_get(folder, [*lists, *words])
 
 

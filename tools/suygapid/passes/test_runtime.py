@@ -123,9 +123,9 @@ int main(void) {
     return (int)(pair[0] OPERATION pair[1]);
 }
 '''
-# By divisors of up to 16, 17 to 31, 32, 33 to 48 and more bits: of eight million pairs the one that takes most, and its most steps.
-DEAREST = {(0x36e933fd3d9757d3, 0xffffffffffffffff): 48, (0xfffffc271eca920b, 0xfffffffffffe0001): 62, (0xcdadad02ac2c5dac, 0x9f27fb1b): 70,
-           (0xfff3a2b30fe1cf7a, 0xfffffffe74563087): 92, (0xfff8fffffffffff8, 0xfffeffffffffffff): 60}
+# By divisors of up to 16, 17 to 31, 32, 33 to 48 and more bits: of eight million pairs one that takes most, and its most steps.
+DEAREST = {(0x36e933fd3d9757d3, 0xffffffffffffffff): 42, (0xfffffc271eca920b, 0xfffffffffffe0001): 55, (0xcdadad02ac2c5dac, 0x9f27fb1b): 63,
+           (0xfff3a2b30fe1cf7a, 0xfffffffe74563087): 76, (0xfff8fffffffffff8, 0xfffeffffffffffff): 50}
 
 OPERATIONS = {"add": 5, "sub": 9, "or": 0x55, "and": 0xfe, "xor": 0x81, "nand": 0x3c}
 AFTERWARDS = [

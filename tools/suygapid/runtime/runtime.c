@@ -122,10 +122,6 @@ INLINE u64 signed_half(Wanted wanted, u32 number) {
     return wanted.sign < 0 ? joined(-(number != 0), -number) : number;
 }
 
-/* Divisors get their first bit by a product with the power of two over their upper part and one, as algorithm D has it (Knuth,
-   The Art of Computer Programming, volume 2, 4.3.1), and so does what is divided: that takes fewer steps than to find how far
-   to shift. */
-
 /* The quotient by a divisor of at most 16 bits, or the remainder. */
 INLINE u64 divided_by_16_bits(u32 high, u32 low, u32 divisor, Wanted wanted) {
     u32 first = high % divisor << 16 | low >> 16, second = first % divisor << 16 | (low & 0xffff);
@@ -134,7 +130,9 @@ INLINE u64 divided_by_16_bits(u32 high, u32 low, u32 divisor, Wanted wanted) {
     return signed_number(wanted, joined(high / divisor, (first / divisor << 16) + second / divisor));
 }
 
-/* By one of 17 to 31 bits, in two digits of 16. By the divisor's upper part and one a digit is too small by less than four, and
+/* By one of 17 to 31 bits, in two digits of 16. The divisor gets its first bits by a product with the power of two over its upper
+   part and one, as algorithm D has it (Knuth, The Art of Computer Programming, volume 2, 4.3.1), and so does what is divided: that
+   takes fewer steps than to find how far to shift. By the divisor's upper part and one a digit is too small by less than four, and
    where the divisor d has 31 bits by less than 1 + 2^31 / d. So what is left is below 2^32, and is divided once more. */
 INLINE u64 divided_by_31_bits(u32 high, u32 low, u32 divisor, Wanted wanted) {
     u32 factor = 65536 / ((divisor >> 16) + 1), upper = (divisor * factor >> 16) + 1;
@@ -170,16 +168,24 @@ INLINE u64 divided_by_32_bits(u32 high, u32 low, u32 divisor, Wanted wanted) {
     return wanted.wants_remainder ? signed_half(wanted, left) : signed_number(wanted, joined(high / divisor, digit));
 }
 
-/* By one of 33 to 48 bits. After the product its upper 32 alone give a quotient that is up to two too large, and for the second
-   digit its upper 16, so two more: this shows by the remainder, which is then below 0. */
+/* By one of 33 to 48 bits. A factor gives the divisor its first bit, and the 16 bits from there on give 2^64 over the divisor to some
+   15 bits, of which a step of Newton's makes nearly 30. Neither is too large, so the first quotient is too small, by less than a
+   dozen; and that of what is left then, by its upper half, is right or one too small. */
 INLINE u64 divided_by_48_bits(u64 dividend, u64 divisor, Wanted wanted) {
-    u32 most = high_half(divisor) + 1, factor = -most / most + 1, quotient;
-    u32 top = high_half(divisor) * factor + high_half(product(divisor, factor));
-    u64 next = product(high_half(dividend), factor) + high_half(product(dividend, factor));
-    u32 left = high_half(next), first = digit_of(&left, (u32)next >> 16, top);
-    quotient = (first << 16) + left / (top >> 16);
-    for (dividend -= times(divisor, quotient); (int)high_half(dividend) < 0; dividend += divisor)
-        quotient--;
+    u32 factor = ~0u / (high_half(divisor) + 1), upper = high_half(times(divisor, factor)) >> 16;
+    u32 inverse = high_half(product(factor << 1, ~0u / (upper + 1) << 15)), quotient, more;
+    inverse += high_half(product(inverse, ~high_half(times(divisor, inverse))));
+    quotient = high_half(product(high_half(dividend), inverse));
+    dividend -= times(divisor, quotient);
+    if (high_half(dividend) >= high_half(divisor)) {
+        more = high_half(product(high_half(dividend), inverse)) + 1;
+        quotient += more;
+        dividend -= times(divisor, more);
+        if ((int)high_half(dividend) < 0) {
+            dividend += divisor;
+            quotient--;
+        }
+    }
     return wanted.wants_remainder ? signed_number(wanted, dividend) : signed_half(wanted, quotient);
 }
 
@@ -194,19 +200,17 @@ INLINE u64 divided_by_64_bits(u64 dividend, u64 divisor, Wanted wanted) {
     return wanted.wants_remainder ? signed_number(wanted, dividend) : signed_half(wanted, quotient);
 }
 
-static __attribute__((noinline)) u64 divided_by_more(u64 dividend, u64 divisor, int wants_remainder, int sign) {
+static __attribute__((noinline)) u64 divided_by_more(u64 dividend, u64 divisor, int sign, int wants_remainder) {
     Wanted wanted = {wants_remainder, sign};
     return high_half(divisor) >> 16 ? divided_by_64_bits(dividend, divisor, wanted)
                                     : divided_by_48_bits(dividend, divisor, wanted);
 }
 
-/* The quotient of two numbers, or the remainder. Division by 0 answers all ones, with the dividend as remainder, as the
-   machine's own instructions do. */
-static __attribute__((noinline)) u64 divided(u64 dividend, u64 divisor, int wants_remainder, int sign) {
+/* By one of at most 32 bits. Division by 0 answers all ones, with the dividend as remainder, as the machine's own instructions
+   do. */
+static __attribute__((noinline)) u64 divided_by_half(u64 dividend, u32 below, int wants_remainder, int sign) {
     Wanted wanted = {wants_remainder, sign};
-    u32 high = high_half(dividend), low = dividend, below = divisor;
-    if (high_half(divisor))
-        return divided_by_more(dividend, divisor, wants_remainder, sign);
+    u32 high = high_half(dividend), low = dividend;
     if (!below)
         return wants_remainder ? signed_number(wanted, dividend) : (u64)-1;
     if (!high)
@@ -214,6 +218,12 @@ static __attribute__((noinline)) u64 divided(u64 dividend, u64 divisor, int want
     if (!(below >> 16))
         return divided_by_16_bits(high, low, below, wanted);
     return (int)below < 0 ? divided_by_32_bits(high, low, below, wanted) : divided_by_31_bits(high, low, below, wanted);
+}
+
+/* The quotient of two numbers, or the remainder. */
+INLINE u64 divided(u64 dividend, u64 divisor, int wants_remainder, int sign) {
+    return high_half(divisor) ? divided_by_more(dividend, divisor, sign, wants_remainder)
+                              : divided_by_half(dividend, divisor, wants_remainder, sign);
 }
 
 u64 __udivdi3(u64 dividend, u64 divisor) {
@@ -224,9 +234,9 @@ u64 __umoddi3(u64 dividend, u64 divisor) {
     return divided(dividend, divisor, 1, 0);
 }
 
-/* A number without its sign, as a number of 64 bits that all count. */
+/* A number without its sign, as a number of 64 bits that all count. Neither sign is likelier. */
 static u64 magnitude(s64 number) {
-    return number < 0 ? -(u64)number : (u64)number;
+    return __builtin_expect_with_probability(number < 0, 1, 0.5) ? -(u64)number : (u64)number;
 }
 
 s64 __divdi3(s64 dividend, s64 divisor) {
