@@ -10,6 +10,7 @@ them. A program whose sources aren't there is skipped. The last line is `N passe
 import argparse
 import glob
 import os
+import platform
 import re
 import resource
 import subprocess
@@ -112,13 +113,15 @@ class Found:
 
 def fetch(package, folder):
     """Has apt-get put the archives of a source package there. Where the machine's lists have no sources, as in Debian's containers,
-    it takes lists of its own, in the folder."""
+    it takes lists of its own, in the folder; and the release's own package where a newer one is listed and isn't there."""
     os.makedirs(folder, exist_ok=True)
-    words = ["source", "--download-only", package]
-    if apt_get(folder, words):
+    words = ["source", "--download-only"]
+    if apt_get(folder, [*words, package]):
         lists = own_lists(os.path.join(folder, "apt"))
-        if lists and apt_get(folder, [*lists, *words]) and not apt_get(folder, [*lists, "update"]):
-            apt_get(folder, [*lists, *words])
+        if lists and apt_get(folder, [*lists, *words, package]) and not apt_get(folder, [*lists, "update"]):
+            release = platform.freedesktop_os_release().get("VERSION_CODENAME", "stable")
+            if apt_get(folder, [*lists, *words, package]):
+                apt_get(folder, [*lists, *words, f"{package}/{release}"])
 
 
 def apt_get(folder, words):
