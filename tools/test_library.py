@@ -7,7 +7,11 @@ import re
 import subprocess
 import tempfile
 import unittest
+from unittest import mock
 
+from suygapid import kept
+from suygapid.cc.compilers import Failed
+from suygapid.library import newlib, softfloat, sources
 from testing import CLANG, GCC, NEWLIB, SFI, SFI_CC, TOOLS, needs, needs_program
 
 SFI_LIBRARY = os.path.join(TOOLS, "sfi-library")
@@ -221,3 +225,28 @@ class Library(unittest.TestCase):
         self.assertEqual((done.returncode, done.stderr), (2, f"sfi-library: {os.path.dirname(file)} is there, and is no "
                                                              "library\n"))
         self.assertTrue(os.path.exists(file))
+
+
+@needs(GCC)
+class Released(unittest.TestCase):
+    """A machine without the sources takes what a release has made of them."""
+
+    def setUp(self):
+        room = tempfile.TemporaryDirectory()
+        self.addCleanup(room.cleanup)
+        for where, name, it in ((kept, "RELEASED", room.name), (sources.Package, "where", lambda _: None)):
+            patched = mock.patch.object(where, name, it)
+            patched.start()
+            self.addCleanup(patched.stop)
+        self.room = room.name
+
+    def test_what_is_there(self):
+        for it in (newlib, softfloat):
+            place = os.path.join(self.room, it.released_name(GCC))
+            os.mkdir(place)
+            self.assertEqual(it.folder_of(GCC), place)
+
+    def test_nothing_is_there(self):
+        self.assertIsNone(softfloat.folder_of(GCC))
+        with self.assertRaisesRegex(Failed, "newlib-source"):
+            newlib.folder_of(GCC)
