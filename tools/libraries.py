@@ -82,11 +82,11 @@ def make_static(crate, library, archive, room):
 
 
 def link_shared(name, exported, archive, target, room, *options):
-    """The shared library of a static one, which exports these calls."""
+    """The shared library of a static one, which exports these calls, and calls its own also where another library has the same names."""
     listed = os.path.join(room, "exported.map")
     with open(listed, "w", encoding="utf-8") as file:
         file.write("{ global: " + " ".join(f"{it};" for it in exported) + " local: *; };\n")
-    run("gcc", "-shared", "-o", target, f"-Wl,-soname,{shared_name(name)}", f"-Wl,--version-script={listed}",
+    run("gcc", "-shared", "-o", target, f"-Wl,-soname,{shared_name(name)}", f"-Wl,--version-script={listed}", "-Wl,-Bsymbolic",
         "-Wl,--build-id=none", "-Wl,-z,defs", *options, "-Wl,--whole-archive", archive, "-Wl,--no-whole-archive")
 
 

@@ -1,6 +1,7 @@
 #!/usr/bin/env python3
 """Does to libsfi_run_native what may break it: builds library.c with each compiler and with sanitizers, and runs its tests, among them
-threads that share a module, a fork, a host with its own handler of SIGSEGV, and more worlds than there are maps.
+threads that share a module, a fork, a host with its own handler of SIGSEGV, and more worlds than there are maps. And loads the shared
+library into a process that has libsfi_run, too.
 
     examples/native/library.py [--library libsfi_run.a] [--commands libsfi_tool_c.a] [--program SFI]
 """
@@ -30,6 +31,7 @@ BUILDS = (
 WARNINGS = ["-std=gnu11", "-Wall", "-Wextra", "-Werror"]
 IMAGES = (("whole", "1000000:1800000", 4096), ("far", "2000000:2800000", 4096), ("small", "4000000:4800000", 256))  # places, bytes of data
 SECONDS = 300  # that a test may take
+ENGINE = "import sys, sfi_run; print(sfi_run.World(open(sys.argv[1], 'rb').read()).engine)"
 
 
 def built_images(program, folder):
@@ -60,9 +62,19 @@ def is_passed(words):
         return False
 
 
+def is_its_own(given, image, folder):
+    """Whether a world of the shared library is native in a process that has libsfi_run, whose calls have the same names."""
+    other = libraries.make("sfi_run", given.library, folder)[1]
+    own = libraries.make_native(given.library, given.commands, folder)[1]
+    found = {"LD_PRELOAD": other, "SFI_RUN_LIBRARY": own, "PYTHONPATH": os.path.join(TOP, "bindings", "python")}
+    done = subprocess.run([sys.executable, "-B", "-c", ENGINE, image], env={**os.environ, **found}, stdout=subprocess.PIPE, check=False)
+    return done.stdout == b"native\n"
+
+
 def tried(given, folder):
     """What each test is, and whether it passed."""
     images = built_images(given.program, folder)
+    yield "beside libsfi_run", is_its_own(given, images[0], folder)
     parts = libraries.native_parts(given.library, given.commands, folder)
     for compiler, left_out in BUILDS:
         if not shutil.which(compiler[0]):
