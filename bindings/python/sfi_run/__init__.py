@@ -173,7 +173,9 @@ class World:
     @property
     def engine(self) -> str:
         """How its sandboxes run: "native", by code that libsfi_run_native (SFI_RUN_LIBRARY) made of their images, or "interpreter", at
-        least one of them step by step. ValueError where the world is closed."""
+        least one of them step by step. ValueError where the world is closed.
+
+        The first native world handles SIGSEGV. `faulthandler.enable()` comes before it, or a sandbox that traps ends the process."""
         self._made_here()
         with self._lock:
             if not self._is_open:
