@@ -57,7 +57,7 @@ def ways_of(given, image, folder):
         print(f"gcc -O2 {' '.join(given.option)}: {seconds:.1f} s of processor time")
         ways["translated"] = lambda script: ([program, *TURNS, "--input", script.hex()], os.devnull)
     if "native" in given.way:
-        words = by_native_code(given.program, image, folder, "lua")
+        words = by_native_code(image, folder, "lua")
         ways["native"] = lambda script: ([*words, *NATIVE_TURNS, script.hex()], os.devnull)
     if "run" in given.way:
         ways["run"] = lambda script: ([given.program, "run", *TURNS, "--input", script.hex()], path)
