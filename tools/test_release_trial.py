@@ -118,7 +118,7 @@ class Whole(Folder):
             subprocess.run(["git", "-C", self.top, *words], check=True)
         first, *pages, checker, runtime = (self.top / it for it in built)
         for where, what, how in ((release, "TOP", self.top), (release, "MADE", pages), (release, "stale", list), (libraries, "HEADERS", {}),
-                                 (installed, "built", lambda: [first]), (checker_file, "missing", list), (checker_file, "make", lambda: checker),
+                                 (libraries, "native_there", list), (installed, "built", lambda: [first]), (checker_file, "missing", list), (checker_file, "make", lambda: checker),
                                  (runtime_file, "missing", list), (runtime_file, "make", lambda: runtime), (native, "make", lambda: host), (converted, "files", dict)):
             patched = mock.patch.object(where, what, how)
             patched.start()

@@ -119,7 +119,7 @@ class Made(Folder):
         """Each file of the folders is packed where `kept` looks for it."""
         folder = kept.kept("library", ["text"], lambda folder: pathlib.Path(folder, "a.o").write_bytes(b"made"))
         self.write("COPYING.NEWLIB", "its licence")
-        with (mock.patch("converted.folders", lambda: [folder]), mock.patch("converted.TOP", pathlib.Path(self.folder)),
+        with (mock.patch("converted.folders", lambda: [folder]), mock.patch("converted.MADE", pathlib.Path("made")),
               mock.patch("converted.LICENCES", {converted.NEWLIB_SOURCE: ["COPYING.NEWLIB"]}), mock.patch("converted.unpacked", lambda *_: self.folder)):
             self.assertEqual(converted.files(), {f"made/{os.path.basename(folder)}/a.o": (b"made", False),
                                                  "made/newlib-source-COPYING.NEWLIB": (b"its licence", False)})
