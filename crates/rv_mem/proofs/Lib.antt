@@ -2,6 +2,7 @@ pub mod Prelude
 pub mod Accesses
 pub mod Lookups
 pub mod PageRuns
+pub mod Kept
 pub mod PageAccesses
 pub mod Runs
 pub mod Paging

@@ -1,12 +1,12 @@
 -- Pages: what their bytes are as numbers, and what a write makes of them.
-use Rattle.rv_mem.proofs.Prelude.{◌^◌, ◌≡◌, ◌≢◌, ℕ, zero, suc, ◌+◌, ◌*◌, ◌/◌, ◌%◌, ◌<◌, ◌≤◌, inl, inr, get_or, length, List, [], ◌∷◌, Option, Some, None, refl, sym, ap, ◌∙◌, arith, slice_index, option_map, Bytes, byte_at, bytes_at, number_of, address_after, addresses, loaded, frame_of, cell, cell_at, ArePages, values_of, eqb-true, ◌==◌, true, false, cond, set, IsSome, subst, get_or-set_other, get_or-set_same, nat_cmp_total, insert, same_map, nat_cmp-IsAntisymmetric, with_two, with_four, nat_lt, ◌-◌, MarksRun, run_of}
-use Rattle.std.proofs.lemmas.Bool.{cases_eq, cases_lt, eq-eqb, eqb-false, ne_eqb}
+use Rattle.rv_mem.proofs.Prelude.{◌^◌, ◌≡◌, ◌≢◌, ℕ, zero, suc, ◌+◌, ◌*◌, ◌/◌, ◌%◌, ◌<◌, ◌≤◌, inl, inr, get_or, length, List, [], ◌∷◌, Option, Some, None, refl, sym, ap, ◌∙◌, arith, slice_index, option_map, Bytes, byte_at, bytes_at, number_of, address_after, addresses, loaded, frame_of, cell, cell_at, ArePages, values_of, ◌==◌, true, false, cond, set, IsSome, subst, get_or-set_other, get_or-set_same, nat_cmp_total, insert, same_map, nat_cmp-IsAntisymmetric, with_two, with_four, nat_lt, ◌-◌, MarksRun, run_of}
+use Rattle.std.proofs.lemmas.Bool.{cases_eq, cases_lt, eq-eqb, ne_eqb}
 use Rattle.rv_mem.proofs.Accesses.{held_each, read_held, byte_at-insert}
-use Rattle.rv_mem.proofs.Paging.{is_marked, get_pages, read_is, unmarked, small_byte, within, marked, no_frame, has_frame, some_if}
+use Rattle.rv_mem.proofs.Paging.{is_marked, get_pages, read_is, unmarked, small_byte, within, marked, some_if}
 use Rattle.std.proofs.Math.ListN.{length-set}
-use Rattle.std.proofs.lemmas.List.{get_or_past}
 use Rattle.rv_mem.proofs.Lookups.{stays}
 use Rattle.rv_mem.proofs.PageRuns.{are_run, run_written}
+use Rattle.rv_mem.proofs.Kept.{has_own}
 
 -- ==== Pages: the number that stands at some addresses of one page.
 
@@ -88,30 +88,7 @@ four_read c p x0 x1 x2 x3 room e0 e1 e2 e3 (suc (suc zero)) below = read_is c (p
 four_read c p x0 x1 x2 x3 room e0 e1 e2 e3 (suc (suc (suc zero))) below = read_is c (p + 3) x3 (omega arith) e3
 four_read c p x0 x1 x2 x3 room e0 e1 e2 e3 (suc (suc (suc (suc k)))) below = absurd (omega arith)
 
--- ==== Pages: what the write of a byte or a word makes of them, and a new frame.
-
--- ---- a new frame
-
-pub frame_made : (t c t0 c0 d : List ℕ) (page number : ℕ) → ArePages t0 c0 → ArePages t c → ((k : ℕ) → slice_index c k ≡ slice_index c0 k) → ((k : ℕ) → slice_index t k ≡ slice_index t0 k)
-    → ((k : ℕ) → slice_index d k ≡ slice_index c k) → page < length t → slice_index t page ≡ 0 → number ≡ length c / 1024 → (q : ℕ) → cell_at (set t page number) d q ≡ cell_at t0 c0 q
-frame_made t c t0 c0 d page number are0 are cells table longer room none is q = elim (q / 512 == page) as (λ r. (q / 512 == page) ≡ r → cell_at (set t page number) d q ≡ cell_at t0 c0 q) [
-  | true ↦ λ r.
-      let here : q / 512 ≡ page = eqb-true (q / 512) page r in
-      let f : slice_index (set t page number) (q / 512) ≡ number = ap (slice_index (set t page number)) here ∙ get_or-set_same t page number 0 room in
-      let whole : length c % 1024 ≡ 0 = are.whole in
-      let past : length c ≤ frame_of (set t page number) q + q % 512 + 512 = omega (arith, f, is, whole) in
-      let mark : slice_index d (frame_of (set t page number) q + q % 512 + 512) ≡ 0 = longer (frame_of (set t page number) q + q % 512 + 512) ∙ get_or_past c (frame_of (set t page number) q + q % 512 + 512) 0 past in
-      let before : slice_index t0 (q / 512) ≡ 0 = ap (slice_index t0) here ∙ sym (table page) ∙ none in
-      unmarked d (frame_of (set t page number) q + q % 512) (λ o. let w : 0 ≡ 1 = sym mark ∙ o in absurd (omega arith))
-      ∙ sym (no_frame t0 c0 are0 q before)
-  | false ↦ λ r.
-      let other : q / 512 ≢ page = eqb-false (q / 512) page r in
-      let f : slice_index (set t page number) (q / 512) ≡ slice_index t0 (q / 512) = get_or-set_other t page (q / 512) number 0 other ∙ table (q / 512) in
-      let p = frame_of t0 q + q % 512 in
-      ap (λ (x : ℕ). cell d (x * 1024 + q % 512)) f
-      ∙ ap (λ (x : ℕ). cond (x == 1) (Some (slice_index d p)) None) (longer (p + 512) ∙ cells (p + 512))
-      ∙ ap (λ (x : ℕ). cond (slice_index c0 (p + 512) == 1) (Some x) None) (longer p ∙ cells p)
-] refl
+-- ==== Pages: what the write of a byte or a word makes of them.
 
 -- ---- bytes that are there are written
 
@@ -153,11 +130,11 @@ one_at at b q o = elim (cases_lt q at) [
       ]
 ]
 
-pub put_there : (t d : List ℕ) → ArePages t d → (q p b : ℕ) → p ≡ frame_of t q + q % 512 → b < 256 → IsSome (byte_at (values_of (cell_at t d)) q)
+pub put_there : (t d : List ℕ) → ArePages t d → (q p b : ℕ) → p ≡ frame_of t q + q % 512 → b < 256 → slice_index t (q / 512) ≢ 2 → IsSome (byte_at (values_of (cell_at t d)) q)
     → ArePages t (set d p b) × (values_of (cell_at t (set d p b)) ≡ insert (values_of (cell_at t d)) q b)
-put_there t d are q p b e small there =
+put_there t d are q p b e small own there =
     let here : IsSome (cell_at t d q) = subst (λ (o : Option ℕ). IsSome o) (get_pages t d are q) there in
-    let frame = has_frame t d are q here in
+    let frame = has_own t d are q here own in
     let mark : slice_index d (p + 512) ≡ 1 = ap (λ (x : ℕ). slice_index d (x + 512)) e ∙ marked d (frame_of t q + q % 512) here in
     let run : MarksRun d (set d p b) (frame_of t q + q % 512) 1 (b ∷ []) 0 = subst (λ (x : ℕ). MarksRun d (set d p b) x 1 (b ∷ []) 0) e (one_run d p b small mark) in
     let all = are_run t d (set d p b) are q 1 (b ∷ []) 0 frame (omega arith) run in (
@@ -171,17 +148,18 @@ put_there t d are q p b e small there =
 still : (m n : Bytes) (a b q : ℕ) → n ≡ insert m a b → IsSome (byte_at m q) → IsSome (byte_at n q)
 still m n a b q e there = subst (λ (x : Bytes). IsSome (byte_at x q)) (sym e) (stays m a b q there)
 
-pub halfword_put : (t d first new items l : List ℕ) → ArePages t d → (at u value : ℕ) → u ≡ frame_of t at → at < 2 ^ 32 → at % 512 ≤ 510 → IsSome (loaded (values_of (cell_at t d)) at 2)
+pub halfword_put : (t d first new items l : List ℕ) → ArePages t d → (at u value : ℕ) → u ≡ frame_of t at → at < 2 ^ 32 → at % 512 ≤ 510 → slice_index t (at / 512) ≢ 2 → IsSome (loaded (values_of (cell_at t d)) at 2)
     → l ≡ value % 256 ∷ value / 256 % 256 ∷ [] → first ≡ d → new ≡ with_two first (u + at % 512) l → items ≡ new
     → ArePages t items × (values_of (cell_at t items) ≡ insert (insert (values_of (cell_at t d)) (address_after at 0) (get_or l 0 0)) (address_after at 1) (get_or l 1 0))
-halfword_put t d first new items l are at u value is fits one_page there e first_is new_is items_is =
+halfword_put t d first new items l are at u value is fits one_page own there e first_is new_is items_is =
     let m = values_of (cell_at t d) in
     let p = u + at % 512 in
     let there' : (k : ℕ) → k < 2 → IsSome (byte_at m (address_after at k)) = λ k h. some_if _ _ (missing_byte m at 2 k h) there in
     let place : (k x : ℕ) → k < 2 → x ≡ p + k → x ≡ frame_of t (address_after at k) + address_after at k % 512 = λ k x h f. place_after k x h f in
     let small : (k : ℕ) → k < 2 → get_or l k 0 < 256 = λ k h. below_256 k h in
-    let x0 = put_there t d are (address_after at 0) p (get_or l 0 0) (place 0 p (omega arith) (omega arith)) (small 0 (omega arith)) (there' 0 (omega arith)) in
-    let x1 = put_there t _ x0.0 (address_after at 1) (p + 1) (get_or l 1 0) (place 1 (p + 1) (omega arith) refl) (small 1 (omega arith)) (still _ _ _ _ _ x0.1 (there' 1 (omega arith))) in
+    let own' : (k : ℕ) → k < 2 → slice_index t (address_after at k / 512) ≢ 2 = λ k h is2. own (let page : address_after at k / 512 ≡ at / 512 = omega arith in ap (slice_index t) (sym page) ∙ is2) in
+    let x0 = put_there t d are (address_after at 0) p (get_or l 0 0) (place 0 p (omega arith) (omega arith)) (small 0 (omega arith)) (own' 0 (omega arith)) (there' 0 (omega arith)) in
+    let x1 = put_there t _ x0.0 (address_after at 1) (p + 1) (get_or l 1 0) (place 1 (p + 1) (omega arith) refl) (small 1 (omega arith)) (own' 1 (omega arith)) (still _ _ _ _ _ x0.1 (there' 1 (omega arith))) in
     let same : items ≡ with_two d p l = items_is ∙ new_is ∙ ap (λ (c : List ℕ). with_two c p l) first_is in (
       subst (ArePages t) (sym same) x1.0,
       ap (λ (c : List ℕ). values_of (cell_at t c)) same
@@ -203,19 +181,20 @@ halfword_put t d first new items l are at u value is fits one_page there e first
         each (suc zero) h = omega arith
         each (suc (suc k)) h = absurd (omega arith)
 
-pub word_put : (t d first new items l : List ℕ) → ArePages t d → (at u value : ℕ) → u ≡ frame_of t at → at < 2 ^ 32 → at % 512 ≤ 508 → IsSome (loaded (values_of (cell_at t d)) at 4)
+pub word_put : (t d first new items l : List ℕ) → ArePages t d → (at u value : ℕ) → u ≡ frame_of t at → at < 2 ^ 32 → at % 512 ≤ 508 → slice_index t (at / 512) ≢ 2 → IsSome (loaded (values_of (cell_at t d)) at 4)
     → l ≡ value % 256 ∷ value / 256 % 256 ∷ value / 65536 % 256 ∷ value / 16777216 % 256 ∷ [] → first ≡ d → new ≡ with_four first (u + at % 512) l → items ≡ new
     → ArePages t items × (values_of (cell_at t items) ≡ insert (insert (insert (insert (values_of (cell_at t d)) (address_after at 0) (get_or l 0 0)) (address_after at 1) (get_or l 1 0)) (address_after at 2) (get_or l 2 0)) (address_after at 3) (get_or l 3 0))
-word_put t d first new items l are at u value is fits one_page there e first_is new_is items_is =
+word_put t d first new items l are at u value is fits one_page own there e first_is new_is items_is =
     let m = values_of (cell_at t d) in
     let p = u + at % 512 in
     let there' : (k : ℕ) → k < 4 → IsSome (byte_at m (address_after at k)) = λ k h. some_if _ _ (missing_byte m at 4 k h) there in
     let place : (k x : ℕ) → k < 4 → x ≡ p + k → x ≡ frame_of t (address_after at k) + address_after at k % 512 = λ k x h f. place_after k x h f in
     let small : (k : ℕ) → k < 4 → get_or l k 0 < 256 = λ k h. below_256 k h in
-    let x0 = put_there t d are (address_after at 0) p (get_or l 0 0) (place 0 p (omega arith) (omega arith)) (small 0 (omega arith)) (there' 0 (omega arith)) in
-    let x1 = put_there t _ x0.0 (address_after at 1) (p + 1) (get_or l 1 0) (place 1 (p + 1) (omega arith) refl) (small 1 (omega arith)) (still _ _ _ _ _ x0.1 (there' 1 (omega arith))) in
-    let x2 = put_there t _ x1.0 (address_after at 2) (p + 2) (get_or l 2 0) (place 2 (p + 2) (omega arith) refl) (small 2 (omega arith)) (still _ _ _ _ _ x1.1 (still _ _ _ _ _ x0.1 (there' 2 (omega arith)))) in
-    let x3 = put_there t _ x2.0 (address_after at 3) (p + 3) (get_or l 3 0) (place 3 (p + 3) (omega arith) refl) (small 3 (omega arith)) (still _ _ _ _ _ x2.1 (still _ _ _ _ _ x1.1 (still _ _ _ _ _ x0.1 (there' 3 (omega arith))))) in
+    let own' : (k : ℕ) → k < 4 → slice_index t (address_after at k / 512) ≢ 2 = λ k h is2. own (let page : address_after at k / 512 ≡ at / 512 = omega arith in ap (slice_index t) (sym page) ∙ is2) in
+    let x0 = put_there t d are (address_after at 0) p (get_or l 0 0) (place 0 p (omega arith) (omega arith)) (small 0 (omega arith)) (own' 0 (omega arith)) (there' 0 (omega arith)) in
+    let x1 = put_there t _ x0.0 (address_after at 1) (p + 1) (get_or l 1 0) (place 1 (p + 1) (omega arith) refl) (small 1 (omega arith)) (own' 1 (omega arith)) (still _ _ _ _ _ x0.1 (there' 1 (omega arith))) in
+    let x2 = put_there t _ x1.0 (address_after at 2) (p + 2) (get_or l 2 0) (place 2 (p + 2) (omega arith) refl) (small 2 (omega arith)) (own' 2 (omega arith)) (still _ _ _ _ _ x1.1 (still _ _ _ _ _ x0.1 (there' 2 (omega arith)))) in
+    let x3 = put_there t _ x2.0 (address_after at 3) (p + 3) (get_or l 3 0) (place 3 (p + 3) (omega arith) refl) (small 3 (omega arith)) (own' 3 (omega arith)) (still _ _ _ _ _ x2.1 (still _ _ _ _ _ x1.1 (still _ _ _ _ _ x0.1 (there' 3 (omega arith))))) in
     let same : items ≡ with_four d p l = items_is ∙ new_is ∙ ap (λ (c : List ℕ). with_four c p l) first_is in (
       subst (ArePages t) (sym same) x3.0,
       ap (λ (c : List ℕ). values_of (cell_at t c)) same

@@ -1,5 +1,5 @@
 -- Pages: runs of bytes, and their marks.
-use Rattle.rv_mem.proofs.Prelude.{◌^◌, ◌≡◌, ◌≢◌, ℕ, ◌+◌, ◌-◌, ◌*◌, ◌/◌, ◌%◌, ◌<◌, ◌≤◌, ◌==◌, ◌⊎◌, inl, inr, ⊎_elim, true, false, cond, zero, suc, nat_lt, length, List, [], ◌∷◌, ◌++◌, Option, Some, None, refl, sym, ap, ◌∙◌, subst, arith, get_or, slice_index, replicate, option_or, nat_cmp_total, get, same_map, nat_cmp-IsAntisymmetric, Bytes, byte_at, address_after, addresses, run_of, Puts, MarksRun, frame_of, cell, cell_at, ArePages, values_of, slice_get, length-replicate, add-zero, length-append, with_bytes, added, byte_in}
+use Rattle.rv_mem.proofs.Prelude.{◌^◌, ◌≡◌, ℕ, ◌+◌, ◌-◌, ◌*◌, ◌/◌, ◌%◌, ◌<◌, ◌≤◌, ◌==◌, ◌⊎◌, inl, inr, ⊎_elim, true, false, cond, zero, suc, nat_lt, length, List, [], ◌∷◌, ◌++◌, Option, Some, None, refl, sym, ap, ◌∙◌, subst, arith, slice_index, replicate, option_or, nat_cmp_total, get, same_map, nat_cmp-IsAntisymmetric, Bytes, byte_at, address_after, addresses, run_of, Puts, MarksRun, frame_of, cell, cell_at, ArePages, values_of, slice_get, length-replicate, add-zero, length-append, with_bytes, added, byte_in}
 use Rattle.std.proofs.lemmas.Bool.{cases_eq, cases_lt}
 use Rattle.std.proofs.lemmas.Option.{slice_get-get_or, slice_get_past}
 use Rattle.rv_mem.proofs.Lookups.{get_with}
@@ -76,10 +76,10 @@ marks_run c d e g p n given f ys k page some first zeros marks is small none = r
 }
 
 -- what such cells are in a table in which they lie in one page
-module _ (t c d : List ℕ) (are : ArePages t c) (at n : ℕ) (f : List ℕ) (k : ℕ) (frame : slice_index t (at / 512) ≢ 0) (room : at % 512 + n ≤ 512)
+module _ (t c d : List ℕ) (are : ArePages t c) (at n : ℕ) (f : List ℕ) (k : ℕ) (frame : 2 < slice_index t (at / 512)) (room : at % 512 + n ≤ 512)
     (run : MarksRun c d (frame_of t at + at % 512) n f k) where
-  frame_above : 1024 ≤ frame_of t at
-  frame_above = let h : 0 < slice_index t (at / 512) = omega (arith, frame) in omega (arith, h)
+  frame_above : 3072 ≤ frame_of t at
+  frame_above = omega (arith, frame)
 
   small_run : (x : ℕ) → slice_index d x < 256
   small_run x = elim (cases_lt x p) [
@@ -114,6 +114,9 @@ module _ (t c d : List ℕ) (are : ArePages t c) (at n : ℕ) (f : List ℕ) (k 
     whole = ap (λ (x : ℕ). x % 1024) run.size ∙ are.whole;
     frames = λ p h. subst (λ (x : ℕ). (slice_index t p + 1) * 1024 ≤ x) (sym run.size) (are.frames p h);
     none = λ j h. run.below (512 + j) (let a = frame_above in omega (arith, a, h)) ∙ are.none j h;
+    kept = λ j h. run.below (1536 + j) (let a = frame_above in omega (arith, a, h)) ∙ are.kept j h;
+    zeros = λ j h. run.below (2048 + j) (let a = frame_above in omega (arith, a, h)) ∙ are.zeros j h;
+    marks = λ j h some. run.below (2560 + j) (let a = frame_above in omega (arith, a, h)) ∙ are.marks j h (let s = run.size in omega (arith, s, some));
     apart = are.apart;
     bytes = small_run;
   }
@@ -164,7 +167,7 @@ module _ (t c d : List ℕ) (are : ArePages t c) (at n : ℕ) (f : List ℕ) (k 
   ] refl
 
 -- the frame was read, and the cells are those of a vector
-pub run_put : (t d first new items : List ℕ) → ArePages t d → (at n : ℕ) (f : List ℕ) (k frame : ℕ) → slice_index t (at / 512) ≢ 0 → frame ≡ slice_index t (at / 512) → at % 512 + n ≤ 512
+pub run_put : (t d first new items : List ℕ) → ArePages t d → (at n : ℕ) (f : List ℕ) (k frame : ℕ) → 2 < slice_index t (at / 512) → frame ≡ slice_index t (at / 512) → at % 512 + n ≤ 512
     → first ≡ d → MarksRun first new (frame * 1024 + at % 512) n f k → items ≡ new
     → ArePages t items × ((q : ℕ) → byte_at (values_of (cell_at t items)) q ≡ run_of at n f k q (byte_at (values_of (cell_at t d)) q))
 run_put t d first new items are at n f k frame some read room first_is marks items_is =

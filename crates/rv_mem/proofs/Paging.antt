@@ -32,6 +32,12 @@ module _ (chunks leaves : List ℕ) (is : IsTable chunks leaves) where
         | inr past ↦ get_or_past (numbers_of chunks leaves) page 0 (omega (arith, n, past)) ∙ sym (none_past page (omega (arith, past)))
       ]
 
+-- a page with a number lies in a chunk with a leaf of its own
+pub has_leaf : (chunks leaves : List ℕ) → IsTable chunks leaves → (page : ℕ) → number_at chunks leaves page ≢ 0 → slice_index chunks (page / 128) ≢ 0
+has_leaf chunks leaves is page some e =
+    let place : slice_index chunks (page / 128) * 128 + page % 128 ≡ page % 128 = omega (arith, e) in
+    some (ap (slice_index leaves) place ∙ is.none (page % 128) (omega arith))
+
 -- the same numbers are the same list
 pub same_numbers : (c l d m : List ℕ) → length d ≡ length c → ((page : ℕ) → number_at d m page ≡ number_at c l page) → IsTable c l → IsTable d m → numbers_of d m ≡ numbers_of c l
 same_numbers c l d m count same is js =
@@ -205,6 +211,9 @@ no_pages t c e f =
       whole = ap (λ (x : ℕ). x % 1024) m;
       frames = λ p h. absurd (omega (arith, h, n));
       none = λ k h. z c (512 + k) f;
-      apart = λ p r g h. absurd (h (z t p e));
+      kept = λ k h. z c (1536 + k) f;
+      zeros = λ k h. z c (2048 + k) f;
+      marks = λ k h some. absurd (omega (arith, some, m));
+      apart = λ p r g h. let w = z t p e in absurd (omega (arith, h, w));
       bytes = λ k. let y = z c k f in omega (arith, y);
     }

@@ -1,5 +1,5 @@
 -- Words of std and of definitions that many proofs of this crate use.
-pub use Rattle.std.proofs.Common.{◌≡◌, ◌≢◌, ℕ, zero, suc, ◌+◌, ◌-◌, ◌^◌, ◌<◌, ◌==◌, Bool, true, false, cond, eqb-true, subst, List, [], ◌∷◌, length, map, Option, Some, None, IsSome, is_some, slice_index, add-zero, refl, sym, ap, ◌∙◌, arith, ◌≤◌, add-one, take, get_or, set, IsTrue, ◌↔◌, ◌++◌, nat_lt, slice_get, ◌*◌, ◌/◌, ◌%◌, ⊎_elim, ◌⊎◌, inl, inr, replicate, length-append, get_or-set_other, get_or-set_same, min, drop, rules, length-take, length-drop, get_or-take, get_or-drop}
+pub use Rattle.std.proofs.Common.{◌≡◌, ◌≢◌, ℕ, zero, suc, ◌+◌, ◌-◌, ◌^◌, ◌<◌, ◌==◌, Bool, true, false, cond, eqb-true, subst, List, [], ◌∷◌, length, map, Option, Some, None, IsSome, Result, Ok, Err, OnOk, is_some, slice_index, add-zero, refl, sym, ap, ◌∙◌, arith, ◌≤◌, add-one, take, get_or, set, IsTrue, ◌↔◌, ◌++◌, nat_lt, slice_get, ◌*◌, ◌/◌, ◌%◌, ⊎_elim, ◌⊎◌, inl, inr, replicate, length-append, get_or-set_other, get_or-set_same, min, drop, rules, length-take, length-drop, get_or-take, get_or-drop}
 pub use Rattle.std.specs.Prelude.{IfSome}
 pub use Rattle.std.proofs.lemmas.List.{length-replicate, with_items_is}
 pub use Rattle.std.specs.Cmp.{nat_cmp_total, unsigned_tied}

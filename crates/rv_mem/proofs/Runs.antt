@@ -170,6 +170,17 @@ write_more m a k d bs below =
     ∙ ap (λ (j : ℕ). with_bytes m (range_with_len a j) (take k bs ++ get_or bs k d ∷ [])) (add-one k)
     ∙ put_more m a k (get_or bs k d) (take k bs) many)
 
+-- zeros, and one more behind them
+zeros_more : (k : ℕ) → replicate {A = ℕ} k 0 ++ 0 ∷ [] ≡ replicate {A = ℕ} (suc k) 0
+zeros_more zero = refl
+zeros_more (suc k) = ap (λ (l : List ℕ). 0 ∷ l) (zeros_more k)
+
+pub clear_more : (m : Bytes) (a k : ℕ) → insert (with_bytes m (range_with_len a k) (replicate k 0)) (a + k) 0 ≡ with_bytes m (range_with_len a (k + 1)) (replicate (k + 1) 0)
+clear_more m a k =
+    sym (ap (λ (j : ℕ). with_bytes m (range_with_len a j) (replicate j 0)) (add-one k)
+    ∙ ap (λ (l : List ℕ). with_bytes m (range_with_len a (suc k)) l) (sym (zeros_more k))
+    ∙ put_more m a k 0 (replicate k 0) (simp length-replicate))
+
 -- the addresses of an access that doesn't go round
 straight : (a k n : ℕ) → a + k + n ≤ 2 ^ 32 → map (address_after a) (range_with_len k n) ≡ range_with_len (a + k) n
 straight a k zero room = refl
@@ -186,3 +197,10 @@ added_all m a bs room =
     let all : bs ++ replicate (length bs - length bs) 0 ≡ bs = ap (λ (n : ℕ). bs ++ replicate n 0) none ∙ append-nil bs in
     let same : addresses a (length bs) ≡ range_with_len a (length bs) = straight a 0 (length bs) (omega arith) ∙ ap (λ (b : ℕ). range_with_len b (length bs)) (add-zero a) in
     ap (with_bytes m (addresses a (length bs))) all ∙ ap (λ (l : List ℕ). with_bytes m l bs) same
+
+-- zeros that are added, and nothing in front of them
+pub cleared_all : (m : Bytes) (a n : ℕ) → a + n ≤ 2 ^ 32 → added m a n [] ≡ with_bytes m (range_with_len a n) (replicate n 0)
+cleared_all m a n room =
+    let all : n - 0 ≡ n = omega arith in
+    let same : addresses a n ≡ range_with_len a n = straight a 0 n (omega arith) ∙ ap (λ (b : ℕ). range_with_len b n) (add-zero a) in
+    ap (λ (k : ℕ). with_bytes m (addresses a n) (replicate k 0)) all ∙ ap (λ (l : List ℕ). with_bytes m l (replicate n 0)) same

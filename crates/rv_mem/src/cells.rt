@@ -1,10 +1,13 @@
 //! The cells of pages: writes to several of them, and copies.
-ghost use Rattle.std.specs.Prelude.{◌≡◌, ◌+◌, ◌<◌, ◌≤◌, length, slice_index, ℕ};
+ghost use Rattle.std.specs.Prelude.{◌≡◌, ◌+◌, ◌<◌, ◌≤◌, length, slice_index, vec_capacity, vec_len, ℕ};
 ghost use Rattle.std.specs.Int.{bytes_low_first};
-ghost use Rattle.rv_mem.specs.private.Frames.{with_two, with_four, Puts, MarksRun};
+ghost use Rattle.rv_mem.specs.private.Frames.{with_two, with_four, Puts, MarksRun, GainsFrame};
 
 /// How many bytes a page has.
 const PAGE: usize = 512;
+
+/// A page's bytes, and after them their marks.
+const FRAME: usize = 1024;
 
 /// Writes the four bytes of a number from a place on: over a slice,
 /// so that it is one store of the processor.
@@ -69,4 +72,27 @@ pub(crate) fn mark_cells(cells: &mut [u8], place: usize, count: usize, front: &[
     write_cells(cells, place, &front[start..start + given]);
     put_same(cells, place + given, count - given, 0);
     put_same(cells, place + PAGE, count, 1);
+}
+
+/// Lengthens by zeros, in room that is there.
+fn lengthen_cells(cells: &mut Vec<u8>, n: usize)
+    requires more { length cells.old.items ≤ n }
+    requires room { n ≤ vec_capacity cells.old }
+    ensures same { (k : ℕ) → slice_index cells.new.items k ≡ slice_index cells.old.items k }
+    ensures len { length cells.new.items ≡ n }
+    ensures capacity { vec_capacity cells.old ≤ vec_capacity cells.new }
+{
+    cells.resize(n, 0).unwrap();
+}
+
+/// Appends a frame of zeros with marks of one value, in room that is there.
+pub(crate) fn append_frame(cells: &mut Vec<u8>, mark: u8)
+    requires room { vec_len cells.old + 1024 ≤ vec_capacity cells.old }
+    ensures gained { GainsFrame cells.old.items cells.new.items mark }
+    ensures len { vec_len cells.new ≡ vec_len cells.old + 1024 }
+    ensures capacity { vec_capacity cells.old ≤ vec_capacity cells.new }
+{
+    let len = cells.len();
+    lengthen_cells(cells, len + FRAME);
+    put_same(cells, len + PAGE, PAGE, mark);
 }

@@ -1,5 +1,5 @@
 //! What a memory is.
-ghost use Rattle.std.specs.Prelude.{◌≡◌, ◌≢◌, ◌+◌, ◌^◌, ◌<◌, ◌≤◌, ◌↔◌, length, IsTrue, IfSome, IsSome, Some, OnOk, OnErr};
+ghost use Rattle.std.specs.Prelude.{◌≡◌, ◌≢◌, ◌+◌, ◌^◌, ◌<◌, ◌≤◌, ◌↔◌, length, replicate, IsTrue, IfSome, IsSome, Some, OnOk, OnErr};
 ghost use Rattle.std.specs.Bool.{OnTrue, OnFalse};
 ghost use Rattle.std.specs.List.{range_with_len};
 ghost use Rattle.rv_mem.specs.Bytes.{Bytes, IsMemory, count_of, loaded, IsThere, stored, bytes_at, with_bytes, Overlaps, IsFree, added};
@@ -50,6 +50,12 @@ pub trait Memory: Drop {
         requires { IsSome (bytes_at (bytes self.old) (range_with_len at (length copied.now))) }
         ensures { bytes self.new
             ≡ with_bytes (bytes self.old) (range_with_len at (length copied.now)) copied.now };
+
+    /// Writes zeros to the `count` addresses from `at` on, which are there.
+    fn clear(&mut self, at: u32, count: u32)
+        requires { IsSome (bytes_at (bytes self.old) (range_with_len at count)) }
+        ensures { bytes self.new
+            ≡ with_bytes (bytes self.old) (range_with_len at count) (replicate count 0) };
 
     /// Adds `size` bytes from `base` on: those of `front`, and then zeros.
     fn add(&mut self, base: u32, size: u32, front: &[u8]) -> Result<(), AddFault>

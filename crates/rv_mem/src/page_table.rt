@@ -1,5 +1,5 @@
 //! A page table in two levels.
-ghost use Rattle.std.specs.Prelude.{◌≡◌, ◌≢◌, ◌*◌, ◌/◌, ◌^◌, ◌<◌, ◌≤◌, [], ℕ, IfSome, IsSome, None, OnOk, OnErr, length, slice_index, slice_set};
+ghost use Rattle.std.specs.Prelude.{◌≡◌, ◌≢◌, ◌*◌, ◌/◌, ◌^◌, ◌<◌, ◌≤◌, [], ℕ, IfSome, IsOk, IsSome, None, OnOk, OnErr, length, slice_index, slice_set};
 ghost use Rattle.rv_mem.specs.private.Frames.{number_at, IsTable};
 
 use std::alloc::{AllocError, Global};
@@ -68,6 +68,7 @@ fn make_leaf(chunks: &mut Vec<u32>, leaves: &mut Vec<u32>, chunk: usize) -> Resu
         ≡ number_at chunks.old.items leaves.old.items page }
     ensures count { length chunks.new.items ≡ length chunks.old.items }
     ensures made { OnOk result (slice_index chunks.new.items chunk ≢ 0) }
+    ensures there { slice_index chunks.old.items chunk ≢ 0 → IsOk result }
 {
     if chunks[chunk] != 0 {
         return Ok(());
@@ -136,11 +137,12 @@ impl PageTable {
     }
 
     /// Sets the number of the frame that a page has. The one error is that memory ran out; nothing
-    /// is changed then.
+    /// is changed then. Where the page had a number it doesn't fail.
     pub(crate) fn set(&mut self, page: u32, number: u32) -> Result<(), AllocError>
         requires { page < length self.old }
         ensures ok { OnOk result (self.new ≡ slice_set self.old page number) }
         ensures err { OnErr result (self.new ≡ self.old) }
+        ensures there { slice_index self.old page ≢ 0 → IsOk result }
     {
         make_leaf(&mut self.chunks, &mut self.leaves, (page / CHUNK) as usize)?;
         write_number(&self.chunks, &mut self.leaves, page, number);

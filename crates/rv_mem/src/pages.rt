@@ -1,12 +1,14 @@
 //! A memory of pages.
-ghost use Rattle.std.specs.Prelude.{◌≡◌, ◌≢◌, ◌+◌, ◌*◌, ◌/◌, ◌%◌, ◌^◌, ◌<◌, ◌≤◌, ◌↔◌, IsTrue, IsSome, IfSome, OnOk, OnErr, length, slice_index, ℕ, None};
+mod kept;
+
+ghost use Rattle.std.specs.Prelude.{◌≡◌, ◌≢◌, ◌+◌, ◌*◌, ◌/◌, ◌%◌, ◌^◌, ◌<◌, ◌≤◌, ◌↔◌, IsTrue, IsSome, IfSome, OnOk, OnErr, [], length, slice_index, vec_capacity, vec_len, ℕ, None};
 ghost use Rattle.std.specs.Bool.{OnTrue, OnFalse};
 ghost use Rattle.std.specs.FinMap.{empty, insert};
 ghost use Rattle.rv_mem.specs.Bytes.{IsMemory, count_of, byte_at, loaded, stored, IsThere, Overlaps, IsFree, added};
 ghost use Rattle.rv_mem.specs.Frames.{ArePages, frame_of, cell_at, values_of};
-ghost use Rattle.rv_mem.specs.private.Frames.{KeepsFrames, HaveFrames, run_of};
+ghost use Rattle.rv_mem.specs.private.Frames.{KeepsFrames, HaveFrames, kept_in, run_of};
 
-use crate::cells::{copy_cells, mark_cells, write_halfword, write_word};
+use crate::cells::{append_frame, copy_cells, mark_cells, write_halfword, write_word};
 use crate::fault::AddFault;
 use crate::memory::{Memory, Width};
 use crate::page_table::PageTable;
@@ -21,6 +23,9 @@ const PAGE: u32 = 512;
 /// A page's bytes, and after them their marks.
 const FRAME: usize = 1024;
 
+/// The number of a page of zeros, for which room is kept a frame of its own.
+const ZEROS: u32 = 2;
+
 /// Where the last word begins that lies in one page.
 const LAST_WORD: u32 = 508;
 
@@ -33,63 +38,20 @@ const FOUR_MARKS: u32 = 0x0101_0101;
 /// Both marks of a halfword's bytes.
 const TWO_MARKS: u16 = 0x0101;
 
-/// Lengthens by zeros.
-fn lengthen_cells(cells: &mut Vec<u8>, n: usize) -> Result<(), AllocError>
-    requires { length cells.old.items ≤ n }
-    ensures same { (k : ℕ) → slice_index cells.new.items k ≡ slice_index cells.old.items k }
-    ensures ok { OnOk result (length cells.new.items ≡ n) }
-    ensures err { OnErr result (length cells.new.items ≡ length cells.old.items) }
-{
-    cells.resize(n, 0)
-}
-
-/// Room for a page in the table, and for frame 0.
-fn make_room(table: &mut PageTable, cells: &mut Vec<u8>, page: u32) -> Result<(), AllocError>
-    requires are { ArePages table.old cells.old.items }
-    requires page { page < 2 ^ 23 }
-    ensures are { ArePages table.new cells.new.items }
-    ensures cells { (k : ℕ) → slice_index cells.new.items k ≡ slice_index cells.old.items k }
-    ensures table { (k : ℕ) → slice_index table.new k ≡ slice_index table.old k }
-    ensures room { OnOk result (page < length table.new) }
-{
-    if cells.is_empty() {
-        lengthen_cells(cells, FRAME)?;
-    }
-    table.lengthen(page)
-}
-
-/// Makes a frame for a page that has none.
-fn make_frame(table: &mut PageTable, cells: &mut Vec<u8>, page: u32) -> Result<(), AllocError>
-    requires are { ArePages table.old cells.old.items }
-    requires page { page < 2 ^ 23 }
-    ensures are { ArePages table.new cells.new.items }
-    ensures same { (q : ℕ) →
-        cell_at table.new cells.new.items q ≡ cell_at table.old cells.old.items q }
-    ensures made { OnOk result (slice_index table.new page ≢ 0) }
-    ensures kept { KeepsFrames table.old table.new }
-{
-    make_room(table, cells, page)?;
-    if table.number(page) != 0 {
-        return Ok(());
-    }
-    let frames = cells.len() / FRAME;
-    let Ok(number) = u32::try_from(frames) else {
-        return Err(AllocError);
-    };
-    lengthen_cells(cells, (frames + 1) * FRAME)?;
-    table.set(page, number)?;
-    Ok(())
-}
-
 /// A memory as pages of 512 bytes. As in a machine's page table, each page's number leads to a
 /// frame, in which its bytes stand; after them is a mark for each byte that is there. Pages without
-/// a byte share frame 0, which has no mark.
+/// a byte share frame 0, which has no mark. Pages of zeros share frame 2 up to the first store of
+/// another byte; room is kept for `kept` frames, so that a store finds it.
 #[derive(Drop)]
 pub struct Pages {
     table: PageTable,
     cells: Vec<u8>,
+    kept: usize,
     ghost are_pages: { ArePages table cells.items },
     ghost in_range: { IsMemory (values_of (cell_at table cells.items)) },
+    ghost counted: { kept_in table ≡ kept },
+    ghost room: { vec_len cells + 1024 * kept ≤ vec_capacity cells },
+    ghost most: { vec_len cells + 1024 * kept ≤ 2 ^ 41 },
 }
 
 impl Pages {
@@ -102,6 +64,7 @@ impl Pages {
         Pages {
             table: PageTable::new(alloc),
             cells: Vec::new(alloc),
+            kept: 0,
         }
     }
 
@@ -169,14 +132,24 @@ impl Pages {
         Some(u16::from_le_bytes([self.cells[place], self.cells[place + 1]]))
     }
 
-    /// Writes the byte of an address that is there.
+    /// Writes the byte of an address that is there, in a page that doesn't share its frame.
     #[inline(always)]
     fn put_byte(&mut self, at: u32, byte: u8)
-        requires { IsSome (byte_at (bytes_of self.old) at) }
+        requires there { IsSome (byte_at (bytes_of self.old) at) }
+        requires own { slice_index self.old.table (at / 512) ≢ 2 }
         ensures { bytes_of self.new ≡ insert (bytes_of self.old) at byte }
     {
         let place = self.frame(at).unwrap() + (at % PAGE) as usize;
         self.cells[place] = byte;
+    }
+
+    /// Writes the byte of an address that is there.
+    fn put_own_byte(&mut self, at: u32, byte: u8)
+        requires { IsSome (byte_at (bytes_of self.old) at) }
+        ensures { bytes_of self.new ≡ insert (bytes_of self.old) at byte }
+    {
+        self.own_frame(at / PAGE);
+        self.put_byte(at, byte);
     }
 
     /// Whether one of the `count` addresses from `at` on, all in one page, is there.
@@ -199,6 +172,7 @@ impl Pages {
     }
 
     /// The number of the frame of an address's page, or 0.
+    #[inline(always)]
     fn frame_number(&self, at: u32) -> u32
         ensures { result ≡ slice_index self.now.table (at / 512) }
     {
@@ -222,27 +196,34 @@ impl Pages {
         false
     }
 
-    /// Makes a frame for the page of number `page`, if it has none.
-    fn make_page(&mut self, page: u32) -> Result<(), AllocError>
-        requires { page < 2 ^ 23 }
-        ensures same { bytes_of self.new ≡ bytes_of self.old }
-        ensures made { OnOk result (slice_index self.new.table page ≢ 0) }
-        ensures kept { KeepsFrames self.old.table self.new.table }
-    {
-        make_frame(&mut self.table, &mut self.cells, page)
-    }
-
     /// Writes `count` bytes, those of `front` from place `from` on and zeros past its end, to the
-    /// addresses from `at` on, all in one page that has a frame, and marks them as there.
+    /// addresses from `at` on, all in one page that has its own frame, and marks them as there.
     fn mark_run(&mut self, at: u32, count: u32, front: &[u8], from: u32)
         requires page { at % 512 + count ≤ 512 }
-        requires made { slice_index self.old.table (at / 512) ≢ 0 }
+        requires own { 2 < slice_index self.old.table (at / 512) }
         ensures written { (q : ℕ) → byte_at (bytes_of self.new) q ≡
             run_of at count front.now from q (byte_at (bytes_of self.old) q) }
         ensures table { self.new.table ≡ self.old.table }
     {
         let place = self.table.number(at / PAGE) as usize * FRAME + (at % PAGE) as usize;
         mark_cells(&mut self.cells, place, count as usize, front, from as usize);
+    }
+
+    /// Writes such bytes to addresses in one page that has a number.
+    fn put_run(&mut self, at: u32, count: u32, front: &[u8], from: u32)
+        requires page { at % 512 + count ≤ 512 }
+        requires made { slice_index self.old.table (at / 512) ≢ 0 }
+        ensures written { (q : ℕ) → byte_at (bytes_of self.new) q ≡
+            run_of at count front.now from q (byte_at (bytes_of self.old) q) }
+        ensures kept { KeepsFrames self.old.table self.new.table }
+    {
+        if self.frame_number(at) <= ZEROS {
+            if from as usize >= front.len() && self.put_zeros(at, count) {
+                return;
+            }
+            self.own_frame(at / PAGE);
+        }
+        self.mark_run(at, count, front, from);
     }
 
     /// Writes the four bytes from an address on, in one page; false where one of them is missing,
@@ -254,6 +235,9 @@ impl Pages {
         ensures done { OnTrue result (bytes_of self.new ≡ stored (bytes_of self.old) at 4 value) }
         ensures refused { OnFalse result (bytes_of self.new ≡ bytes_of self.old) }
     {
+        if self.frame_number(at) == ZEROS {
+            return self.store_bytes(at, Width::Four, value);
+        }
         if self.word_at(at).is_none() {
             return false;
         }
@@ -271,6 +255,9 @@ impl Pages {
         ensures done { OnTrue result (bytes_of self.new ≡ stored (bytes_of self.old) at 2 value) }
         ensures refused { OnFalse result (bytes_of self.new ≡ bytes_of self.old) }
     {
+        if self.frame_number(at) == ZEROS {
+            return self.store_bytes(at, Width::Two, value);
+        }
         if self.halfword_at(at).is_none() {
             return false;
         }
@@ -286,6 +273,9 @@ impl Pages {
         ensures done { OnTrue result (bytes_of self.new ≡ stored (bytes_of self.old) at 1 value) }
         ensures refused { OnFalse result (bytes_of self.new ≡ bytes_of self.old) }
     {
+        if self.frame_number(at) == ZEROS {
+            return self.store_bytes(at, Width::One, value);
+        }
         if self.byte_at(at).is_none() {
             return false;
         }
@@ -324,46 +314,20 @@ impl Pages {
             return false;
         }
         let [byte0, byte1, byte2, byte3] = value.to_le_bytes();
-        self.put_byte(at, byte0);
+        self.put_own_byte(at, byte0);
         if width == Width::One {
             return true;
         }
-        self.put_byte(at.wrapping_add(1), byte1);
+        self.put_own_byte(at.wrapping_add(1), byte1);
         if width == Width::Two {
             return true;
         }
-        self.put_byte(at.wrapping_add(2), byte2);
-        self.put_byte(at.wrapping_add(3), byte3);
+        self.put_own_byte(at.wrapping_add(2), byte2);
+        self.put_own_byte(at.wrapping_add(3), byte3);
         true
     }
 
-    /// Makes room for the cells of some frames more, and for no others, so that they are made
-    /// without moving the cells again.
-    fn reserve_frames(&mut self, count: u32) -> Result<(), AllocError>
-        ensures same { bytes_of self.new ≡ bytes_of self.old }
-    {
-        let first = if self.cells.is_empty() { FRAME } else { 0 };
-        self.cells.reserve_exact(first + count as usize * FRAME)
-    }
-
-    /// Makes the pages of the size addresses from base on.
-    fn make_pages(&mut self, base: u32, size: u32) -> Result<(), AllocError>
-        requires { base + size ≤ 2 ^ 32 }
-        ensures same { bytes_of self.new ≡ bytes_of self.old }
-        ensures made { OnOk result (HaveFrames self.new.table base size) }
-    {
-        if size == 0 {
-            return Ok(());
-        }
-        let last = (base + (size - 1)) / PAGE;
-        self.reserve_frames(last + 1 - base / PAGE)?;
-        for page in base / PAGE..last + 1 {
-            self.make_page(page)?;
-        }
-        Ok(())
-    }
-
-    /// Writes the bytes of front and then zeros, in pages that have frames.
+    /// Writes the bytes of front and then zeros, in pages that have numbers.
     fn fill(&mut self, base: u32, size: u64, front: &[u8])
         requires end { base + size ≤ 2 ^ 32 }
         requires room { length front.now ≤ size }
@@ -374,7 +338,7 @@ impl Pages {
         while done < size {
             let at = base + done as u32;
             let count = u64::from(PAGE - at % PAGE).min(size - done);
-            self.mark_run(at, count as u32, front, done as u32);
+            self.put_run(at, count as u32, front, done as u32);
             done += count;
         }
     }
@@ -439,6 +403,10 @@ impl Memory for Pages {
 
     fn copy_in(&mut self, at: u32, copied: &[u8]) {
         self.fill(at, copied.len() as u64, copied);
+    }
+
+    fn clear(&mut self, at: u32, count: u32) {
+        self.fill(at, u64::from(count), &[]);
     }
 
     fn add(&mut self, base: u32, size: u32, front: &[u8]) -> Result<(), AddFault> {

@@ -131,6 +131,12 @@ impl Memory for Segments {
         }
     }
 
+    fn clear(&mut self, at: u32, count: u32) {
+        for k in 0..count {
+            self.put_byte(at + k, 0);
+        }
+    }
+
     fn add(&mut self, base: u32, size: u32, front: &[u8]) -> Result<(), AddFault> {
         if self.overlaps(base, size) {
             return Err(AddFault::Overlap);

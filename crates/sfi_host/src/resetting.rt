@@ -13,9 +13,6 @@ use crate::sandbox::{Sandbox, fresh_cpu};
 use crate::status::Status;
 use rv_mem::Memory;
 
-// How many zeros are written at a time.
-const PIECE: usize = 256;
-
 impl Region {
     /// Fills it with bytes, and with zeros after them.
     pub(crate) fn fill<M: Memory>(self, memory: &mut M, front: &[u8])
@@ -30,12 +27,11 @@ impl Region {
         ensures whole { IsWhole (span_of self) (bytes_in (span_of self) (M.bytes memory.new)) }
     {
         self.write(memory, self.base, front);
-        self.clear_from(memory, front.len() as u32, &[0; PIECE]);
+        self.clear_from(memory, front.len() as u32);
     }
 
-    /// Fills it with zeros, of which some are handed in, from one of its places on.
-    fn clear_from<M: Memory>(self, memory: &mut M, from: u32, zeros: &[u8])
-        requires zeros { zeros.now ≡ replicate 256 0 }
+    /// Fills it with zeros from one of its places on.
+    fn clear_from<M: Memory>(self, memory: &mut M, from: u32)
         requires whole { IsWhole (span_of self) (bytes_in (span_of self) (M.bytes memory.old)) }
         requires room { from ≤ self.size }
         requires end { self.base + self.size < 2 ^ 32 }
@@ -46,12 +42,7 @@ impl Region {
             ≡ bytes_outside (span_of self) (M.bytes memory.old) }
         ensures whole { IsWhole (span_of self) (bytes_in (span_of self) (M.bytes memory.new)) }
     {
-        let mut done = from;
-        while done < self.size {
-            let count = (self.size - done).min(PIECE as u32);
-            self.write(memory, self.base + done, &zeros[..count as usize]);
-            done += count;
-        }
+        memory.clear(self.base + from, self.size - from);
     }
 }
 

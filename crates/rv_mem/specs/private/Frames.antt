@@ -1,5 +1,5 @@
 -- Words of private contracts and proofs: what changes in the frames of pages, and the page table.
-use Rattle.std.specs.Prelude.{◌≡◌, ◌≢◌, ℕ, ◌+◌, ◌/◌, ◌<◌, ◌≤◌, List, length, Option, Some, nat_lt, ◌-◌, slice_index, slice_set, if◌then◌else◌, ◌*◌, ◌%◌, ◌^◌, map}
+use Rattle.std.specs.Prelude.{◌≡◌, ◌≢◌, ℕ, zero, suc, ◌+◌, ◌/◌, ◌<◌, ◌≤◌, List, [], ◌∷◌, length, Option, Some, nat_lt, ◌-◌, slice_index, slice_set, if◌then◌else◌, ◌*◌, ◌%◌, ◌^◌, map}
 use Rattle.std.specs.List.{range_with_len}
 
 -- ==== Frames of pages, and runs of cells.
@@ -7,6 +7,25 @@ use Rattle.std.specs.List.{range_with_len}
 -- each page that had a frame has one still
 abbrev pub KeepsFrames : List ℕ → List ℕ → Type 0
 KeepsFrames before after = (page : ℕ) → slice_index before page ≢ 0 → slice_index after page ≢ 0
+
+-- how many frames room is kept for, by the number of a page: one where it is 1 or 2
+abbrev pub kept_for : ℕ → ℕ
+kept_for zero = 0
+kept_for (suc zero) = 1
+kept_for (suc (suc zero)) = 1
+kept_for (suc (suc (suc n))) = 0
+
+-- how many frames room is kept for, by the numbers of all pages
+abbrev pub kept_in : List ℕ → ℕ
+kept_in [] = 0
+kept_in (n ∷ ns) = kept_for n + kept_in ns
+
+-- the cells got one frame more, of zeros and marks of this value
+pub record GainsFrame (before after : List ℕ) (mark : ℕ) : Type 0 where
+  pub size : length after ≡ length before + 1024
+  pub same : (k : ℕ) → k < length before → slice_index after k ≡ slice_index before k
+  pub bytes : (j : ℕ) → j < 512 → slice_index after (length before + j) ≡ 0
+  pub marks : (j : ℕ) → j < 512 → slice_index after (length before + 512 + j) ≡ mark
 
 -- the pages of the size addresses from base on have frames
 abbrev pub HaveFrames : List ℕ → ℕ → ℕ → Type 0

@@ -1,4 +1,4 @@
-use Rattle.rv_mem.proofs.Prelude.{◌≡◌, ℕ, List, sym, ap, ◌∙◌, arith, slice_index}
+use Rattle.rv_mem.proofs.Prelude.{ℕ, List, sym, ap, ◌∙◌, arith, slice_index}
 use Rattle.rv_mem.proofs.Paging.{many, number_is}
 use Rattle.rv_mem.proofs.page_table.PageTable.lengthen.Goals as goal
 

@@ -1,6 +1,6 @@
-use Rattle.rv_mem.proofs.Prelude.{◌≡◌, ◌*◌, ◌<◌, ℕ, List, length, set, refl, sym, ap, ◌∙◌, subst, arith}
-use Rattle.rv_mem.specs.private.Frames.{numbers_of}
-use Rattle.rv_mem.proofs.Paging.{many, same_numbers, one_set}
+use Rattle.rv_mem.proofs.Prelude.{◌≡◌, ◌*◌, ◌<◌, ℕ, List, length, set, slice_index, ◌≢◌, refl, sym, ap, ◌∙◌, subst, arith}
+use Rattle.rv_mem.specs.private.Frames.{number_at, numbers_of}
+use Rattle.rv_mem.proofs.Paging.{many, same_numbers, one_set, number_is, has_leaf}
 use Rattle.rv_mem.proofs.page_table.PageTable.set.Goals as goal
 
 pub make_leaf-requires-clause-chunk : goal.make_leaf-requires-clause-chunk
@@ -18,3 +18,13 @@ returns-clause-ok c =
     same_numbers c.self.inside.chunks.items c.self.inside.leaves.items chunks leaves c.make_leaf.ensures.count c.make_leaf.ensures.same c.self.invariant c.make_leaf.ensures.is ∙ c.self.view_is in
     one_set chunks leaves chunks c.write_number.new.leaves.items page number refl c.make_leaf.ensures.is c.write_number.ensures.is (subst (λ (l : List ℕ). page < length l) (sym same) c.requires) c.write_number.ensures.here c.write_number.ensures.others
     ∙ ap (λ (l : List ℕ). set l page number) same
+
+-- a page with a number has a leaf of its chunk's own
+pub returns-in_err-make_leaf-clause-there : goal.returns-in_err-make_leaf-clause-there
+returns-in_err-make_leaf-clause-there c some =
+    let chunks = c.self.inside.chunks.items in
+    let leaves = c.self.inside.leaves.items in
+    let number : number_at chunks leaves c.args.page ≢ 0 =
+    λ none. some (ap (λ (l : List ℕ). slice_index l c.args.page) (sym c.self.view_is) ∙ number_is chunks leaves c.self.invariant c.args.page ∙ none) in
+    let there = c.in_err-make_leaf.ensures.there (has_leaf chunks leaves c.self.invariant c.args.page number) in
+    absurd (cc)

@@ -1,4 +1,4 @@
-use Rattle.rv_mem.proofs.Prelude.{◌≡◌, ◌+◌, ◌%◌, ◌^◌, ◌<◌, ◌≤◌, is_some, sym, ap, subst, ◌∙◌, arith, List, length, slice_index, Puts, IfSome, Option, Some, None, IsSome, ℕ, bytes_of}
+use Rattle.rv_mem.proofs.Prelude.{◌≡◌, ◌+◌, ◌%◌, ◌≤◌, is_some, sym, ap, subst, ◌∙◌, arith, List, length, slice_index, Puts, IfSome, Option, Some, None, ℕ, bytes_of}
 use Rattle.rv_mem.proofs.Paging.{get_pages, some_if}
 use Rattle.rv_mem.proofs.Runs.{all_read, each_below, each_there, read_more}
 use Rattle.rv_mem.proofs.pages.PagesMemory.copy_out.Goals as goal

@@ -1,4 +1,4 @@
-use Rattle.rv_mem.proofs.Prelude.{is_some, sym, ap, ◌+◌, ◌∙◌, arith, length, take, insert, byte_at, slice_index, Bytes}
+use Rattle.rv_mem.proofs.Prelude.{is_some, ap, ◌+◌, ◌∙◌, arith, length, take, insert, byte_at, slice_index, Bytes}
 use Rattle.rv_mem.specs.Segments.{bytes_of}
 use Rattle.std.specs.List.{range_with_len}
 use Rattle.rv_mem.proofs.Runs.{each_below, each_there, with_keeps, write_more}

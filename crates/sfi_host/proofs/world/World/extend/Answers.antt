@@ -9,6 +9,9 @@ returns-in_err-append_both-clause-changes g c =
     let m = g.M.Memory.bytes c.self.inside.memory in
     no_change c.args.self.now (world_of m c.append_both.new.sandboxes.items) (ap (λ (l : List Sandbox). world_of m l) c.in_err-append_both.ensures.refused ∙ c.self.view_is)
 
+pub invariant_of-self : goal.invariant_of-self
+invariant_of-self g c = rw (c.in_err-append_both.ensures.refused, c.in_err-append_both.ensures.programs_refused) c.self.invariant
+
 pub invariant_of-self-2 : goal.invariant_of-self-2
 invariant_of-self-2 g c =
     let m = g.M.Memory.bytes c.self.inside.memory in
