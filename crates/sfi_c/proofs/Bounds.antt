@@ -1,12 +1,10 @@
 -- No bytes are cut short whatever follows them: an image has a bounded length.
 use Rattle.sfi_c.proofs.Prelude.{◌≡◌, ℕ, ◌+◌, ◌*◌, ◌<◌, List, [], ◌∷◌, ◌++◌, length, Some, ap, arith, length-append, Part}
-use Rattle.std.proofs.Common.{◌≤◌, inl, inr, replicate}
+use Rattle.std.proofs.Common.{◌≤◌, ◌-◌, ◌^◌, inl, inr, replicate}
 use Rattle.std.proofs.lemmas.List.{length-replicate}
 use Rattle.std.proofs.lemmas.List.Elements.{All-head, All-tail}
 use Rattle.std.specs.List.{All, flat_map}
 use Rattle.sfi_formats.specs.declared.format.Format.{Format}
-use Rattle.sfi_formats.specs.declared.format.Format.TheVariants as formats
-use Rattle.sfi_formats.specs.Formats.{code_most}
 use Rattle.sfi_image.specs.declared.fault.LayoutFault.TheVariants.{Short}
 use Rattle.sfi_image.specs.declared.fields.Fields.{Fields}
 use Rattle.sfi_image.specs.declared.span.Span.{Span}
@@ -18,15 +16,15 @@ use Rattle.sfi_image.specs.Prefixes.{HasFaultWhateverFollows}
 use Rattle.sfi_image.specs.Faults.{IsFault, IsCountFault, ArePartsFault, IsPartFault, IsBodyFault}
 use Rattle.sfi_image.proofs.Standing.{region, Region}
 use Rattle.sfi_image.proofs.Fronts.{length-fields}
-use Rattle.sfi_image.proofs.Formats.{length-magic}
+use Rattle.sfi_image.proofs.Formats.{length-magic, code_at_most, data_at_most}
 use Rattle.sfi_image.proofs.Seeking.{length-gates, length-number, length-part}
 
 -- more bytes than one sandbox has, and than an image has
 abbrev part_most : ℕ
-part_most = 2100000
+part_most = 2 ^ 24 + 2 ^ 30 + 10000
 
 abbrev image_most : ℕ
-image_most = 40000000
+image_most = 17 * part_most
 
 no_test_is_short : (t : FieldTest) → Some Short ≡ Some (fault_of t) → ⊥
 no_test_is_short Code e = absurd cc
@@ -42,18 +40,13 @@ not_short before f [] e = absurd cc
 not_short before f (t ∷ ts) (inl h) = not_short before f ts h.1
 not_short before f (t ∷ ts) (inr h) = no_test_is_short t h.1
 
-code_at_most : (f : Format) → code_most f ≤ 1048576
-code_at_most formats.Sfi1 = omega arith
-code_at_most formats.Sfi2 = omega arith
-code_at_most formats.Sfiw = omega arith
-
 part_bound : (p : Part) → IsRightPart p → length (part p) ≤ part_most
 part_bound p right =
     let code = right.code_placed.at_most in
     let init = right.init_len in
     let data_size = right.data_placed.at_most in
     let gates = right.gate_count in
-    omega (arith, length-part p, code_at_most p.format)
+    omega (arith, length-part p, code_at_most p.format, data_at_most p.format)
 
 parts_bound : (ps : List Part) → All IsRightPart ps → length (flat_map part ps) ≤ part_most * length ps
 parts_bound [] right = omega arith
@@ -76,12 +69,12 @@ part_fault_bound format before bytes (inr (f, rest, e, words, kind, inl h)) = ab
 part_fault_bound format before bytes (inr (f, rest, e, words, kind, inr h)) =
     omega (arith, body_bound before f rest (region before f words h.0) h.1, ap length e, length-fields f rest)
 
-parts_fault_bound : (format : Format) (n : ℕ) (bytes : List ℕ) → n ≤ 16 → ArePartsFault format n bytes Short → length bytes < 39000000
+parts_fault_bound : (format : Format) (n : ℕ) (bytes : List ℕ) → n ≤ 16 → ArePartsFault format n bytes Short → length bytes < 17 * part_most - 100
 parts_fault_bound format n bytes few (ps, rest, e, right, are, inl h) =
     omega (arith, h.0, few, part_fault_bound format (spans ps) rest h.1, parts_bound ps right.each, ap length e, length-append (flat_map part ps) rest)
 parts_fault_bound format n bytes few (ps, rest, e, right, are, inr h) = let is = h.2 in absurd cc
 
-count_bound : (format : Format) (bytes : List ℕ) → IsCountFault format bytes Short → length bytes < 39000004
+count_bound : (format : Format) (bytes : List ℕ) → IsCountFault format bytes Short → length bytes < 17 * part_most - 96
 count_bound format bytes (inl h) = omega (arith, h.0)
 count_bound format bytes (inr (n, rest, e, w, inl h)) = let is = h.1 in absurd cc
 count_bound format bytes (inr (n, rest, e, w, inr h)) =

@@ -97,7 +97,7 @@ nothing_yet r t stands s b c f holds = record {
   stands = stands;
   bytes_are = refl;
   tallies = record { found = []; found_holds = holds; found_are = refl; count = c; first = f; bundles = b; sandboxes = s; few = omega (arith, c) };
-  few = let all : left r ≡ left_most = rw (stands.kept.0) refl in omega (arith, b);
+  few = omega (arith, b);
 }
 
 -- ==== What a feed holds.

@@ -96,7 +96,7 @@ step_taken {T = T} old new t so_far rest len (ends.Took n) some room off tallies
         stands = l.stands;
         bytes_are = joined so_far h.at (take len rest) l.to h.bytes_are l.bytes;
         tallies = tallies h.at l.to h.stands l.follows h.tallies;
-        few = omega (arith, h.few);
+        few = h.few;
       },
       less,
     )

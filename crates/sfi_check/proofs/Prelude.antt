@@ -1,5 +1,5 @@
 -- Words of std and of definitions that many proofs of this crate use.
-pub use Rattle.std.proofs.Common.{◌≡◌, ◌≢◌, ℕ, suc, ◌+◌, ◌-◌, ◌<◌, ◌≤◌, ◌⊎◌, List, length, get_or, false, ◌||◌, refl, sym, ◌∙◌, subst, inl, inr, arith, zero, ◌*◌, Bool, true, [], ◌++◌, take, drop, ap, append_assoc, ◌∷◌, Option, Some, None, cond, Result, Ok, Err, ◌/◌, add-zero, eqb, ne_eqb, ◌==◌, rules}
+pub use Rattle.std.proofs.Common.{◌≡◌, ◌≢◌, ℕ, suc, ◌+◌, ◌-◌, ◌<◌, ◌≤◌, ◌⊎◌, List, length, get_or, false, ◌||◌, refl, sym, ◌∙◌, subst, inl, inr, arith, zero, ◌*◌, ◌^◌, Bool, true, [], ◌++◌, take, drop, ap, append_assoc, ◌∷◌, Option, Some, None, cond, Result, Ok, Err, ◌/◌, add-zero, eqb, ne_eqb, ◌==◌, rules}
 pub use Rattle.std.specs.Prelude.{slice_get, Vec, IfOk, IfErr, is_some}
 pub use Rattle.std.proofs.Math.Seq.{take-append_seam, take-append-add}
 pub use Rattle.std.proofs.lemmas.Bool.{lt-ltb, eqb-true, cases_Bool, eq-eqb}

@@ -1,7 +1,14 @@
 -- A stretch of bundles more: its findings, and the tally with them.
-use Rattle.sfi_check.proofs.Prelude.{◌≡◌, ◌==◌, ℕ, zero, suc, ◌+◌, ◌-◌, ◌*◌, ◌/◌, ◌<◌, ◌≤◌, Bool, false, cond, List, [], ◌∷◌, ◌++◌, length, take, drop, refl, sym, ap, ◌∙◌, subst, arith, eq-eqb, ne_eqb, append_assoc, length-append, length-take, take-append_seam, Gate, is_gate_of, ImagePrefix, IsStretchLength, IsRightPrefix, want_of, Follows, LayoutReader, StandsFor, Leads, left, BundlePlace, Finding, Tally, part_of, block_bundle, AreFoundUpTo, AddsFindings, Counts, owed_after, AreFindingsSoFar, IsSoFar, IsStretch, AreFoundInStretch, Tallies, findings_most, stretch_place, Fields}
+use Rattle.sfi_check.proofs.Prelude.{◌≡◌, ◌==◌, ℕ, zero, suc, ◌+◌, ◌-◌, ◌*◌, ◌/◌, ◌<◌, ◌≤◌, Bool, false, cond, List, [], ◌∷◌, ◌++◌, length, take, drop, refl, sym, ap, ◌∙◌, subst, arith, eq-eqb, ne_eqb, append_assoc, length-append, length-take, take-append_seam, Gate, is_gate_of, ImagePrefix, IsStretchLength, IsRightPrefix, want_of, Follows, LayoutReader, StandsFor, Leads, BundlePlace, Finding, Tally, part_of, block_bundle, AreFoundUpTo, AddsFindings, Counts, owed_after, AreFindingsSoFar, IsSoFar, IsStretch, AreFoundInStretch, Tallies, findings_most, stretch_place, Fields, Part, All, IsRightPart, bundle_count, Empty, AfterMagic, AfterCount, InGates, InCode, InInit, ◌^◌}
 use Rattle.std.specs.Prelude.{min, ◌%◌}
-use Rattle.sfi_image.specs.declared.want.Stage.TheVariants as stage
+use Rattle.std.proofs.lemmas.List.Elements.{All-head, All-tail}
+use Rattle.std.proofs.lemmas.List.Sums.{sum_by-cons}
+use Rattle.sfi_image.specs.Prefixes.{IsOpened}
+use Rattle.sfi_image.specs.Prefixes.ImagePrefix.{Whole}
+use Rattle.sfi_image.specs.Spelling.{spans}
+use Rattle.sfi_image.proofs.Formats.{code_at_most}
+use Rattle.sfi_image.proofs.Standing.{region}
+use Rattle.sfi_check.specs.Feeds.{bundles_most, front_bundles}
 use Rattle.sfi_image.specs.declared.want.Want.TheVariants as wants
 use Rattle.sfi_rules.specs.declared.owed.Owed.{Owed}
 use Rattle.sfi_rules.specs.declared.owed.Owed.TheVariants.{Nothing}
@@ -19,14 +26,48 @@ adds_of t u v w sandbox n found next is a kept few =
 
 -- ---- what comes next
 
--- where bundles come next, the reader reads code
-reads_code : (r : LayoutReader) (x : ImagePrefix) (b : BundlePlace) → StandsFor r x → wants.Bundle b ≡ want_of x → r.next ≡ stage.Code
-reads_code r x b h w = (rw ((in_code x b w).front_is) at h).kept.0
+-- code in some format is so small
+stretch_small : (x : ImagePrefix) (most : ℕ) → IsRightPrefix x → IsStretchLength x most → most ≤ 2 ^ 24
+stretch_small (InCode n ps f gs code) most right is =
+    let inside = is.bundles.inside in
+    let size = (region (spans ps) f right.0.words right.0.passed).code_size in
+    omega (arith, inside, size)
+stretch_small Empty most right is = omega (arith, is)
+stretch_small (AfterMagic format) most right is = omega (arith, is)
+stretch_small (AfterCount format n ps) most right is = omega (arith, is)
+stretch_small (InGates n ps f gs) most right is = omega (arith, is)
+stretch_small (InInit n ps f gs code init) most right is = omega (arith, is)
+stretch_small (Whole ps) most right is = omega (arith, is)
 
--- the bytes are `n` whole bundles, at most `most` bytes, and a stretch
+-- ---- how many bundles there are
+
+parts_few : (ps : List Part) → All IsRightPart ps → bundle_count ps ≤ 2 ^ 20 * length ps
+parts_few [] right = omega arith
+parts_few (p ∷ ps) right =
+    let most = (All-head IsRightPart p ps right).code_placed.at_most in
+    let limit = code_at_most p.format in
+    let one : bundle_count (p ∷ ps) ≡ length p.code / 16 + bundle_count ps = sum_by-cons (λ (q : Part). length q.code / 16) p ps in
+    omega (arith, one, most, limit, parts_few ps (All-tail IsRightPart p ps right))
+
+opened_few : (n : ℕ) (ps : List Part) (f : Fields) (gs : List Gate) (code : List ℕ) → IsOpened n ps f gs → length code ≤ f.code_size → bundle_count ps + length code / 16 ≤ bundles_most
+opened_few n ps f gs code o le =
+    let size = (region (spans ps) f o.words o.passed).code_size in
+    omega (arith, o.before.at_most, o.more, parts_few ps o.before.right.each, size, le)
+
+front_few : (x : ImagePrefix) → IsRightPrefix x → front_bundles x ≤ bundles_most
+front_few Empty right = omega arith
+front_few (AfterMagic format) right = omega arith
+front_few (AfterCount format n ps) right = omega (arith, right.0.at_most, right.1, parts_few ps right.0.right.each)
+front_few (InGates n ps f gs) right = omega (arith, right.0.before.at_most, right.0.more, parts_few ps right.0.before.right.each)
+front_few (InCode n ps f gs code) right = opened_few n ps f gs code right.0 (omega (arith, right.3))
+front_few (InInit n ps f gs code init) right = opened_few n ps f gs code right.0 (omega (arith, right.2))
+front_few (Whole ps) right = omega (arith, right.at_most, parts_few ps right.right.each)
+
+-- the bytes are `n` whole bundles, at most `most` bytes and as many as code has, and a stretch
 pub record IsTaken (most : ℕ) (b : BundlePlace) (bytes : List ℕ) (n : ℕ) : Type 0 where
   pub some : 1 ≤ n
   pub le : 16 * n ≤ most
+  pub few : n ≤ 2 ^ 20
   pub stretch : IsStretch b bytes n
 
 pub stretch_taken : (x : ImagePrefix) (b : BundlePlace) (most len : ℕ) (rest : List ℕ) → IsRightPrefix x → wants.Bundle b ≡ want_of x → IsStretchLength x most → len ≡ min most (length rest - length rest % 16) → 0 < len
@@ -47,6 +88,7 @@ stretch_taken x b most len rest right w is e some =
     record {
       some = omega arith;
       le = omega arith;
+      few = let small = stretch_small x most right is in omega arith;
       stretch = record { whole = omega arith; base = low; end = omega arith; addresses = limit };
     }
 
@@ -118,19 +160,20 @@ stretch_tallies {T = T} old new x s y b most n found owed w is le some len h bef
 pub stretch_step : {T U : List Finding → Type 0} (old new : LayoutReader) (t u v w : Tally) (so_far s : List ℕ) (b : BundlePlace) (most n : ℕ) (found : List Finding) (owed next : Owed)
     → ((x : ImagePrefix) → StandsFor old x → wants.Bundle b ≡ want_of x) → ((x : ImagePrefix) → StandsFor old x → IsStretchLength x most) → 16 * n ≤ most → 0 < n → length s ≡ 16 * n
     → owed ≡ cond (b.address == b.code_base) Nothing t.owed → AreFoundInStretch b owed s n found next → length found ≤ findings_most * n → u ≡ record t { sandboxes = b.sandbox + 1; bundles = t.bundles + n } → Counts u v found → w ≡ record v { owed = next }
-    → ((x : ImagePrefix) → StandsFor old x → Leads x s new) → (old.next ≡ stage.Code → left new + length s ≤ left old) → ((before : List Finding) → T before → U (before ++ found)) → IsSoFar T old t so_far → IsSoFar U new w (so_far ++ s)
-stretch_step old new t u v w so_far s b most n found owed next wanted stretch le some len before are few is counts kept leads falls on h =
+    → ((x : ImagePrefix) → StandsFor old x → Leads x s new) → ((before : List Finding) → T before → U (before ++ found)) → IsSoFar T old t so_far → IsSoFar U new w (so_far ++ s)
+stretch_step old new t u v w so_far s b most n found owed next wanted stretch le some len before are few is counts kept leads on h =
     let l = leads h.at h.stands in
-    let less = falls (reads_code old h.at b h.stands (wanted h.at h.stands)) in
     let tallied = h.tallies.few in
-    let most_left = h.few in
+    let room = h.few in
+    let small = stretch_small h.at most h.stands.right (stretch h.at h.stands) in
     let count : u.count ≡ t.count = ap (λ (x : Tally). x.count) is in
     let adds = adds_of t u v w b.sandbox n found next is (counts (omega arith)) kept few in
     let after : w.owed ≡ next = ap (λ (x : Tally). x.owed) kept in
+    let tallied_on = stretch_tallies t w h.at s l.to b most n found owed (wanted h.at h.stands) (stretch h.at h.stands) le some len l.follows before (subst (λ (o : Owed). AreFoundInStretch b owed s n found o) (sym after) are) adds on h.tallies in
     record {
       at = l.to;
       stands = l.stands;
       bytes_are = joined so_far h.at s l.to h.bytes_are l.bytes;
-      tallies = stretch_tallies t w h.at s l.to b most n found owed (wanted h.at h.stands) (stretch h.at h.stands) le some len l.follows before (subst (λ (o : Owed). AreFoundInStretch b owed s n found o) (sym after) are) adds on h.tallies;
-      few = omega (arith, adds.bundles);
+      tallies = tallied_on;
+      few = omega (arith, tallied_on.bundles, front_few l.to l.stands.right);
     }

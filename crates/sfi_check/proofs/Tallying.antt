@@ -1,5 +1,5 @@
 -- The tally of a front and of the next, with findings and bundles of one sandbox more.
-use Rattle.sfi_check.proofs.Prelude.{◌≡◌, ℕ, ◌+◌, ◌/◌, ◌<◌, ◌≤◌, List, [], ◌∷◌, ◌++◌, length, get_or, take, sym, ap, ◌∙◌, subst, arith, take_more, take_all, length-map, get_or-map, Format, code_most, SandboxPart, Part, view, views, IsRightLayout, bundle_count, refl, append_assoc, add-zero, All, append-nil, length-take, IsRightPart, Finding, AreFindings, AreFindingsFrom, AreImageFindings, ◌*◌, eqb, inl, inr, slice_get, cases_Bool, eqb-true, length-append, length_push, Gate, ImagePrefix, IsRightPrefix, want_of, part_of, after_parts, after_init, after_code, after_gates, Follows, HasFaultWhateverFollows, Empty, AfterMagic, AfterCount, InGates, InCode, InInit, AreFoundUpTo, Tally, owed_after, AreFindingsSoFar, AreFindingsWithin, findings_most, Tallies, Fields, LayoutFault}
+use Rattle.sfi_check.proofs.Prelude.{◌≡◌, ℕ, ◌+◌, ◌/◌, ◌^◌, ◌<◌, ◌≤◌, List, [], ◌∷◌, ◌++◌, length, get_or, take, sym, ap, ◌∙◌, subst, arith, take_more, take_all, length-map, get_or-map, Format, code_most, SandboxPart, Part, view, views, IsRightLayout, bundle_count, refl, append_assoc, add-zero, All, append-nil, length-take, IsRightPart, Finding, AreFindings, AreFindingsFrom, AreImageFindings, ◌*◌, eqb, inl, inr, slice_get, cases_Bool, eqb-true, length-append, length_push, Gate, ImagePrefix, IsRightPrefix, want_of, part_of, after_parts, after_init, after_code, after_gates, Follows, HasFaultWhateverFollows, Empty, AfterMagic, AfterCount, InGates, InCode, InInit, AreFoundUpTo, Tally, owed_after, AreFindingsSoFar, AreFindingsWithin, findings_most, Tallies, Fields, LayoutFault}
 use Rattle.std.proofs.lemmas.List.Sums.{sum_by-append}
 use Rattle.sfi_image.proofs.Formats.{code_at_most}
 use Rattle.sfi_image.specs.declared.want.Want.TheVariants as wants
@@ -15,8 +15,8 @@ one_more_counted f items i d p bundles is h before =
     let joined = ap bundle_count longer ∙ sum_by-append (λ (q : Part). length q.code / 16) (take i (views f items)) (view f p ∷ []) in
     omega (arith, joined, before)
 
--- a part has at most 65536
-pub few_more : (f : Format) (items : List SandboxPart) (i : ℕ) (d p : SandboxPart) → p ≡ get_or items i d → IsRightLayout (views f items) → i < length items → length p.code.now / 16 ≤ 65536
+-- a part has at most as many as 2 ^ 24 bytes
+pub few_more : (f : Format) (items : List SandboxPart) (i : ℕ) (d p : SandboxPart) → p ≡ get_or items i d → IsRightLayout (views f items) → i < length items → length p.code.now / 16 ≤ 2 ^ 20
 few_more f items i d p is right h =
     let within : i < length (views f items) = omega (arith, length-map items (view f)) in
     let same = get_or-map (view f) items i d (view f d) h ∙ ap (view f) (sym is) in

@@ -1,13 +1,13 @@
 -- What an image is found to be piece by piece: what was found in its prefix, and what a feed keeps.
-use Rattle.std.specs.Prelude.{◌≡◌, ℕ, ◌+◌, ◌*◌, ◌/◌, ◌<◌, ◌≤◌, ◌==◌, List, [], ◌++◌, length, cond, slice_get, ◌⊎◌, take, Option, Some, None}
-use Rattle.sfi_formats.specs.Limits.{bundle_size}
+use Rattle.std.specs.Prelude.{◌≡◌, ℕ, ◌+◌, ◌*◌, ◌/◌, ◌^◌, ◌<◌, ◌≤◌, ◌==◌, List, [], ◌++◌, length, cond, slice_get, ◌⊎◌, take, Option, Some, None}
+use Rattle.sfi_formats.specs.Limits.{bundle_size, sandboxes_most}
 use Rattle.sfi_image.specs.declared.part.Gate.{Gate}
 use Rattle.sfi_image.specs.declared.fields.Fields.{Fields}
 use Rattle.sfi_image.specs.Spelling.{Part}
 use Rattle.sfi_image.specs.Prefixes.{ImagePrefix, prefix_bytes, want_of, IsLess, part_of, HasFaultWhateverFollows}
 use Rattle.sfi_image.specs.Prefixes.ImagePrefix.{Empty, AfterMagic, AfterCount, InGates, InCode, InInit, Whole}
 use Rattle.sfi_image.specs.declared.layout_reader.LayoutReader.{LayoutReader}
-use Rattle.sfi_image.specs.Keeping.{StandsFor, left, left_most}
+use Rattle.sfi_image.specs.Keeping.{StandsFor}
 use Rattle.sfi_rules.specs.declared.finding.Finding.{Finding}
 use Rattle.sfi_rules.specs.declared.owed.Owed.{Owed}
 use Rattle.sfi_rules.specs.declared.owed.Owed.TheVariants.{Nothing}
@@ -85,6 +85,10 @@ pub record Tallies (holds : List Finding → Type 0) (t : Tally) (x : ImagePrefi
   pub sandboxes : t.sandboxes ≡ front_sandboxes x
   pub few : t.count ≤ findings_most * t.bundles
 
+-- no image has more bundles: in each format a sandbox's code has at most 2 ^ 24 bytes
+abbrev pub bundles_most : ℕ
+bundles_most = sandboxes_most * (2 ^ 24 / bundle_size)
+
 -- the reader and the tally are those of the bytes so far, and `holds` is true of their findings
 pub record IsSoFar (holds : List Finding → Type 0) (r : LayoutReader) (t : Tally)
     (bytes : List ℕ) : Type 0 where
@@ -92,7 +96,7 @@ pub record IsSoFar (holds : List Finding → Type 0) (r : LayoutReader) (t : Tal
   pub stands : StandsFor r at
   pub bytes_are : bytes ≡ prefix_bytes at
   pub tallies : Tallies holds t at
-  pub few : t.bundles + left r ≤ left_most
+  pub few : t.bundles ≤ bundles_most
 
 -- the bytes end before what comes next is whole, and are fewer than 28
 pub record IsCut (r : LayoutReader) (len : ℕ) : Type 0 where

@@ -1,8 +1,9 @@
 //! From the first format to the second.
-ghost use Rattle.std.specs.Prelude.{◌≡◌, ℕ, List, IfOk, IfErr};
+ghost use Rattle.std.specs.Prelude.{◌≡◌, ℕ, List, false, IfOk, IfErr};
 ghost use Rattle.sfi_formats.specs.declared.format.Format.TheVariants.{Sfi2};
+ghost use Rattle.sfi_formats.specs.Formats.{has_words};
 ghost use Rattle.sfi_image.specs.declared.fault.LayoutFault.{LayoutFault};
-ghost use Rattle.sfi_image.specs.Spelling.{views};
+ghost use Rattle.sfi_image.specs.Spelling.{views, format_of};
 ghost use Rattle.sfi_image.specs.Parts.{IsRightLayout};
 ghost use Rattle.sfi_image.specs.Faults.{IsFault};
 ghost use Rattle.sfi_rules.specs.declared.finding.Finding.{Finding};
@@ -85,8 +86,9 @@ fn check_stack(alloc: Global, parts: &[SandboxPart<'_>]) -> Result<(), ConvertFa
     }
 }
 
-/// The conversion of an accepted image, or its findings under the second format's rules.
+/// The conversion of an accepted image of code in bundles, or its findings under the second format's rules.
 fn convert_accepted(alloc: Global, accepted: &Accepted<'_>) -> Result<Vec<u8>, ConvertFault>
+    requires bundles { has_words (format_of accepted.now) ≡ false }
     ensures { Converts accepted.now result }
 {
     let parts = accepted.image().parts();

@@ -73,6 +73,18 @@ code_most Sfi1 = 65536
 code_most Sfi2 = 1048576
 code_most Sfiw = 1048576
 
+-- the largest data region
+abbrev pub data_most : Format → ℕ
+data_most Sfi1 = 1048576
+data_most Sfi2 = 1048576
+data_most Sfiw = 1048576
+
+-- the largest code region that is made of a source
+abbrev pub built_code_most : Format → ℕ
+built_code_most Sfi1 = 65536
+built_code_most Sfi2 = 1048576
+built_code_most Sfiw = 1048576
+
 -- The bytes of a unit of code, a bundle's or a word's: a sandbox is entered at multiples of it alone,
 -- and jumps to no other address.
 abbrev pub unit : Format → ℕ

@@ -17,9 +17,9 @@ guard = 4096
 abbrev pub region_least : ℕ
 region_least = 256
 
--- the most bytes of a data region
-abbrev pub data_most : ℕ
-data_most = 1048576
+-- the most bytes of a data region of a source, in whichever format
+abbrev pub source_data_most : ℕ
+source_data_most = 1048576
 
 -- the most sandboxes that an image has
 abbrev pub sandboxes_most : ℕ

@@ -1,6 +1,6 @@
 //! The formats of images.
 ghost use Rattle.std.specs.Prelude.{◌≡◌, ◌↔◌, IsTrue, take};
-ghost use Rattle.sfi_formats.specs.Formats.{magic, code_most, unit, has_stack, has_words, is_stack, has_one_step};
+ghost use Rattle.sfi_formats.specs.Formats.{magic, code_most, data_most, built_code_most, unit, has_stack, has_words, is_stack, has_one_step};
 
 use crate::registers::STACK_POINTER;
 
@@ -34,6 +34,25 @@ impl Format {
     /// The largest size of a code region, in bytes.
     pub fn code_most(self) -> u32
         ensures { result ≡ code_most self }
+    {
+        match self {
+            Format::Sfi1 => 65536,
+            Format::Sfi2 | Format::Sfiw => 1_048_576,
+        }
+    }
+
+    /// The largest size of a data region, in bytes.
+    pub fn data_most(self) -> u32
+        ensures { result ≡ data_most self }
+    {
+        match self {
+            Format::Sfi1 | Format::Sfi2 | Format::Sfiw => 1_048_576,
+        }
+    }
+
+    /// The largest size of a code region that is made of a source, in bytes.
+    pub fn built_code_most(self) -> u32
+        ensures { result ≡ built_code_most self }
     {
         match self {
             Format::Sfi1 => 65536,

@@ -12,8 +12,8 @@ pub const GUARD: u32 = 4096;
 /// The least bytes of a region, of code or of data.
 pub const REGION_LEAST: u32 = 256;
 
-/// The most bytes of a data region.
-pub const DATA_MOST: u32 = 1_048_576;
+/// The most bytes of a data region of a source, in whichever format.
+pub const SOURCE_DATA_MOST: u32 = 1_048_576;
 
 /// The most sandboxes that an image has.
 pub const SANDBOXES_MOST: u32 = 16;

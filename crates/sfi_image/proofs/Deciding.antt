@@ -1,5 +1,5 @@
 -- Each test of a layout is passed or not.
-use Rattle.sfi_image.proofs.Prelude.{◌≡◌, ℕ, ◌+◌, ◌%◌, ◌<◌, ◌≤◌, List, [], ◌∷◌, ◌++◌, refl, arith, ◌⊎◌, inl, inr, suc, Option, Some, None, count_ones, All, AllPairs, cases_lt, cases_eq, eqb-true, eq-eqb, All-nil, All-cons, All-head, All-tail, code_most, Gate, Fields, Span, LayoutFault, Holds, AreApart, code_span, spans_of, IsRegion, HasGuardRoom, IsBundleStart, gates_most, service_most, AreGates, FieldTest, Passes, IsFirstFault, fault_of}
+use Rattle.sfi_image.proofs.Prelude.{◌≡◌, ℕ, ◌+◌, ◌%◌, ◌<◌, ◌≤◌, List, [], ◌∷◌, ◌++◌, refl, arith, ◌⊎◌, inl, inr, suc, Option, Some, None, count_ones, All, AllPairs, cases_lt, cases_eq, eqb-true, eq-eqb, All-nil, All-cons, All-head, All-tail, code_most, data_most, Gate, Fields, Span, LayoutFault, Holds, AreApart, code_span, spans_of, IsRegion, HasGuardRoom, IsBundleStart, gates_most, service_most, AreGates, FieldTest, Passes, IsFirstFault, fault_of}
 use Rattle.sfi_image.specs.FieldTests.FieldTest.{Code, Data, GuardRoom, Start, Gates, Init, Overlap}
 use Rattle.std.proofs.lemmas.List.Kept.{AllPairs-cons}
 use Rattle.sfi_image.proofs.Regions.{region_test, not_region}
@@ -119,7 +119,7 @@ decided_gates region gs =
 
 pub decided_test : (before : List Span) (f : Fields) (t : FieldTest) → Decided (Passes before f t)
 decided_test before f Code = decided_region f.code_base f.code_size 256 (code_most f.format)
-decided_test before f Data = decided_region f.data_base f.data_size 256 1048576
+decided_test before f Data = decided_region f.data_base f.data_size 256 (data_most f.format)
 decided_test before f GuardRoom = decided_guard_room f.data_base f.data_size
 decided_test before f Start = decided_bundle_start (code_span f) f.start
 decided_test before f Gates = decided_le f.gate_count gates_most

@@ -1,16 +1,26 @@
--- What holds of each format, and of a right layout in the second too.
+-- What holds of each format, and of a right layout in bundles in the second too.
 use Rattle.sfi_image.specs.declared.part.SandboxPart.{SandboxPart}
 use Rattle.sfi_formats.proofs.Formats.{length_of_magic}
+use Rattle.sfi_formats.proofs.Facts.{limits_are_small}
+use Rattle.sfi_formats.specs.Formats.{has_words}
 use Rattle.sfi_image.specs.Numbers.{in_format, all_in_format}
-use Rattle.sfi_image.proofs.Prelude.{◌≡◌, ℕ, ◌+◌, ◌≤◌, List, [], ◌∷◌, ◌++◌, length, get_or, take, refl, ap, arith, length-append, Format, Sfi1, Sfi2, Sfiw, magic, code_most, Part, view, views, format_of, AreOf, All-map, subst, All, AllPairs, length-map, All-weaker, Span, fields_of, AreApart, spans_of, spans, IsRightPart, IsRightLayout}
+use Rattle.sfi_image.proofs.Prelude.{◌≡◌, ℕ, ◌+◌, ◌^◌, ◌≤◌, false, List, [], ◌∷◌, ◌++◌, length, get_or, take, refl, ap, ◌∙◌, arith, length-append, Format, Sfi1, Sfi2, Sfiw, magic, code_most, data_most, Part, view, views, format_of, AreOf, All-map, subst, All, AllPairs, length-map, Span, fields_of, AreApart, spans_of, spans, IsRightPart, IsRightLayout}
 
 -- ==== What holds of each format, and of parts of one.
 
 -- no code region is larger than this
-pub code_at_most : (f : Format) → code_most f ≤ 1048576
-code_at_most Sfi1 = omega arith
-code_at_most Sfi2 = omega arith
-code_at_most Sfiw = omega arith
+pub code_at_most : (f : Format) → code_most f ≤ 2 ^ 24
+code_at_most f = (limits_are_small f).0
+
+-- no data region is larger than this
+pub data_at_most : (f : Format) → data_most f ≤ 2 ^ 30
+data_at_most f = (limits_are_small f).1
+
+-- the second format's limits are the largest of code in bundles
+within_second : (f : Format) → has_words f ≡ false → (code_most f ≤ code_most Sfi2) × (data_most f ≤ data_most Sfi2)
+within_second Sfi1 e = (omega arith, omega arith)
+within_second Sfi2 e = (omega arith, omega arith)
+within_second Sfiw e = absurd cc
 
 -- a magic is that of one format
 pub one_magic : (f g : Format) → magic f ≡ magic g → f ≡ g
@@ -52,23 +62,31 @@ views_of f (x ∷ items) = views_have f (x ∷ items)
 pub format_is : (f : Format) (items : List SandboxPart) → 1 ≤ length (views f items) → format_of (views f items) ≡ f
 format_is f items = same_format (views f items) (views_have f items)
 
--- ==== A right layout is one in the second format too: its code regions may be larger.
+-- ==== A right layout of code in bundles is one in the second format too: its regions may be larger.
 
-part_in_second : (p : Part) → IsRightPart p → IsRightPart (in_format Sfi2 p)
-part_in_second p right =
-    let most = code_at_most p.format in
+part_in_second : (p : Part) → has_words p.format ≡ false → IsRightPart p → IsRightPart (in_format Sfi2 p)
+part_in_second p bundles right =
+    let most = within_second p.format bundles in
     let small = right.code_placed.at_most in
+    let data_small = right.data_placed.at_most in
     record {
       code_base = right.code_base;
       code_placed = record {
         power = right.code_placed.power;
         size_is = right.code_placed.size_is;
         at_least = right.code_placed.at_least;
-        at_most = omega arith;
+        at_most = omega (arith, most.0);
         multiple = right.code_placed.multiple;
         base_is = right.code_placed.base_is;
       };
-      data_placed = right.data_placed;
+      data_placed = record {
+        power = right.data_placed.power;
+        size_is = right.data_placed.size_is;
+        at_least = right.data_placed.at_least;
+        at_most = omega (arith, most.1);
+        multiple = right.data_placed.multiple;
+        base_is = right.data_placed.base_is;
+      };
       guard_room = right.guard_room;
       start = right.start;
       gate_count = right.gate_count;
@@ -76,8 +94,8 @@ part_in_second p right =
       gates = right.gates;
     }
 
-each_in_second : (ps : List Part) → All IsRightPart ps → All IsRightPart (all_in_format Sfi2 ps)
-each_in_second ps right = All-map IsRightPart (in_format Sfi2) ps (All-weaker IsRightPart (λ (p : Part). IsRightPart (in_format Sfi2 p)) part_in_second ps right)
+each_in_second : (ps : List Part) → All (λ p. has_words p.format ≡ false) ps → All IsRightPart ps → All IsRightPart (all_in_format Sfi2 ps)
+each_in_second ps bundles right = All-map IsRightPart (in_format Sfi2) ps (λ k d lt. part_in_second (get_or ps k d) (bundles k d lt) (right k d lt))
 
 have_second : (ps : List Part) → AreOf Sfi2 (all_in_format Sfi2 ps)
 have_second ps = All-map (λ (p : Part). p.format ≡ Sfi2) (in_format Sfi2) ps (λ k d below. refl)
@@ -91,8 +109,9 @@ same_spans : (ps : List Part) → spans ps ≡ spans (all_in_format Sfi2 ps)
 same_spans [] = refl
 same_spans (p ∷ ps) = ap (λ (l : List Span). spans_of (fields_of p) ++ l) (same_spans ps)
 
-pub right_in_second : (ps : List Part) → IsRightLayout ps → IsRightLayout (all_in_format Sfi2 ps)
-right_in_second ps layout =
+pub right_in_second : (ps : List Part) → has_words (format_of ps) ≡ false → IsRightLayout ps → IsRightLayout (all_in_format Sfi2 ps)
+right_in_second ps bundles layout =
+    let each : All (λ p. has_words p.format ≡ false) ps = λ k d lt. ap has_words (layout.one_format k d lt) ∙ bundles in
     let count : length (all_in_format Sfi2 ps) ≡ length ps = length-map ps (in_format Sfi2) in
     let low = layout.at_least_one in
     let high = layout.at_most in
@@ -101,7 +120,7 @@ right_in_second ps layout =
       at_most = omega arith;
       one_format = are_of_second ps;
       right = record {
-        each = each_in_second ps layout.right.each;
+        each = each_in_second ps each layout.right.each;
         apart = subst (λ (l : List Span). AllPairs AreApart l) (same_spans ps) layout.right.apart;
       };
     }

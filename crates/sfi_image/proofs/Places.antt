@@ -59,7 +59,7 @@ fields_next r reader is =
 pub record CodeNext (r : LayoutReader) : Type 0 where
   pub inside : r.code_read + 16 ≤ r.fields.code_size
   pub address : r.fields.code_base + r.code_read < 2 ^ 32
-  pub size : r.fields.code_size ≤ 1048576
+  pub size : r.fields.code_size ≤ 2 ^ 24
 
 pub code_next : (r : LayoutReader) → IsReader r → r.next ≡ stage.Code → CodeNext r
 code_next r reader is =
@@ -102,7 +102,7 @@ gate_next r reader is =
 -- before first data bytes
 pub record InitNext (r : LayoutReader) : Type 0 where
   pub less : r.init_read < r.fields.init_len
-  pub few : r.fields.init_len ≤ 1048576
+  pub few : r.fields.init_len ≤ 2 ^ 30
 
 pub init_next : (r : LayoutReader) → IsReader r → r.next ≡ stage.Init → InitNext r
 init_next r reader is =

@@ -9,7 +9,7 @@ pub use Rattle.std.proofs.lemmas.List.Elements.{All-head, All-tail, All-nil, All
 pub use Rattle.std.proofs.lemmas.Nat.{pow-add, pow_below, from_le_bytes-to_le_bytes_4, le_bytes_4, zero_from_ones, ones_le_self}
 pub use Rattle.std.proofs.lemmas.Result.{err_from_is_err_and}
 pub use Rattle.std.specs.List.{All, flat_map, AllPairs, AllByRecursion}
-pub use Rattle.sfi_formats.specs.Formats.{code_most}
+pub use Rattle.sfi_formats.specs.Formats.{code_most, data_most}
 unfoldable pub use Rattle.sfi_formats.specs.Formats.{magic}
 pub use Rattle.sfi_formats.specs.Limits.{bundle_size, gates_most, service_most}
 pub use Rattle.sfi_formats.specs.declared.format.Format.{Format}

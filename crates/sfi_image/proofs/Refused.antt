@@ -1,11 +1,11 @@
 -- What is wrong with sandboxes that are to be written.
-use Rattle.sfi_image.proofs.Prelude.{suc, ◌≡◌, ℕ, ◌+◌, ◌<◌, ◌≤◌, ◌^◌, List, [], ◌∷◌, ◌++◌, length, get_or, map, take, drop, refl, sym, ap, subst, ◌∙◌, arith, inl, inr, ◌⊎◌, Some, None, Option, All, AllPairs, take_more, map_push, All-push, All-append, cases_lt, nat_tests, nat_le, true, false, code_most, Gate, Fields, Span, LayoutFault, Part, fields_of, AreFieldWords, AreGateWords, AreApart, code_span, code_region, spans_of, spans, IsBounded, gates_most, AreGates, IsRightPart, AreRight, IsFirstFault, field_tests}
+use Rattle.sfi_image.proofs.Prelude.{suc, ◌≡◌, ℕ, ◌+◌, ◌<◌, ◌≤◌, ◌^◌, List, [], ◌∷◌, ◌++◌, length, get_or, map, take, drop, refl, sym, ap, subst, ◌∙◌, arith, inl, inr, ◌⊎◌, Some, None, Option, All, AllPairs, take_more, map_push, All-push, All-append, cases_lt, nat_tests, nat_le, true, false, code_most, data_most, Gate, Fields, Span, LayoutFault, Part, fields_of, AreFieldWords, AreGateWords, AreApart, code_span, code_region, spans_of, spans, IsBounded, gates_most, AreGates, IsRightPart, AreRight, IsFirstFault, field_tests}
 use Rattle.sfi_image.specs.Faults.{HasWrongGate, HasFault, HaveFault}
 use Rattle.sfi_image.specs.private.{capped, capped_fields}
 use Rattle.std.proofs.Math.ListN.{get_or-map}
 use Rattle.std.proofs.Math.Seq.{split_at}
 use Rattle.sfi_image.specs.declared.fault.LayoutFault.TheVariants as faults
-use Rattle.sfi_image.proofs.Formats.{code_at_most}
+use Rattle.sfi_image.proofs.Formats.{code_at_most, data_at_most}
 use Rattle.sfi_image.proofs.Regions.{not_region}
 use Rattle.sfi_image.proofs.Tests.{right_part, all_pass, right_bounded, spans_push}
 
@@ -38,7 +38,7 @@ with_gates before f m k high too (inl (a, inl (b, inl (c, inr h)))) = inl (a, in
 with_gates before f m k high too (inl (a, inl (b, inl (c, inl (d, inl h))))) = absurd (omega (arith, h.0))
 with_gates before f m k high too (inl (a, inl (b, inl (c, inl (d, inr h))))) = inl (a, inl (b, inl (c, inl (d, inr (λ low. omega arith, h.1)))))
 
-with_init : (before : List Span) (f : Fields) (m : ℕ) (k : Option LayoutFault) → 1048576 < f.init_len → 1048576 < m
+with_init : (before : List Span) (f : Fields) (m : ℕ) (k : Option LayoutFault) → data_most f.format < f.init_len → data_most f.format < m
     → IsFirstFault before f field_tests k → IsFirstFault before (record f { init_len = m }) field_tests k
 with_init before f m k high too (inr h) = inr h
 with_init before f m k high too (inl (a, inr h)) = inl (a, inr h)
@@ -70,7 +70,7 @@ same_gates before k p c i h = elim (capped_cases (length p.gates)) [
 same_init : (before : List Span) (k : Option LayoutFault) (p : Part) (c g : ℕ) → Fails before k p c g (capped (length p.init)) → Fails before k p c g (length p.init)
 same_init before k p c g h = elim (capped_cases (length p.init)) [
   | inl same ↦ subst (λ n. Fails before k p c g n) same h
-  | inr big ↦ with_init before (lengthened p c g (capped (length p.init))) (length p.init) k (omega (arith, big.1)) (omega (arith, big.0)) h
+  | inr big ↦ with_init before (lengthened p c g (capped (length p.init))) (length p.init) k (omega (arith, big.1, data_at_most p.format)) (omega (arith, big.0, data_at_most p.format)) h
 ]
 
 -- the first test that fails is the same one
@@ -140,7 +140,7 @@ passed_words before p passed words =
       data_size = words.data_size;
       start = words.start;
       gate_count = omega (arith, all.1.1.1.1.0);
-      init_len = omega (arith, all.1.1.1.1.1.0, all.1.0.at_most);
+      init_len = omega (arith, all.1.1.1.1.1.0, all.1.0.at_most, data_at_most p.format);
     }
 
 pub all_passed : (before : List Span) (p : Part) (f : Fields) (gs : List Gate) → f ≡ capped_fields p → IsFirstFault before f field_tests None → gs ≡ p.gates

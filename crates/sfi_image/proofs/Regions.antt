@@ -2,7 +2,7 @@
 use Rattle.std.proofs.Math.Nat.{pow-suc, div-add-mod', mul-mod_left}
 use Rattle.std.specs.Int.{IsPowerOfTwo}
 use Rattle.std.specs.Int.Count.{ones_step, ones, ones_in}
-use Rattle.sfi_image.proofs.Formats.{code_at_most}
+use Rattle.sfi_image.proofs.Formats.{code_at_most, data_at_most}
 use Rattle.std.proofs.Math.Arith.{mod-mul}
 use Rattle.std.proofs.lemmas.Nat.{mod_below, mod_low, mod-mul-add, or_comm, or_shifted, pow_pos}
 use Rattle.std.proofs.lemmas.Nat.Bits.{and_high}
@@ -110,6 +110,7 @@ right_words p right =
     let code_most = right.code_placed.at_most in
     let format_most = code_at_most p.format in
     let data_most = right.data_placed.at_most in
+    let format_data_most = data_at_most p.format in
     let data_end = right.guard_room.above in
     let start = right.start.held.1 in
     let few_gates = right.gate_count in

@@ -7,7 +7,7 @@ use Rattle.sfi_image.specs.declared.want.Stage.{Stage}
 use Rattle.sfi_image.specs.declared.want.Stage.TheVariants as stage
 use Rattle.sfi_image.proofs.Tests.{all_pass, spans_push}
 use Rattle.sfi_image.proofs.Regions.{whole_bundles}
-use Rattle.sfi_image.proofs.Formats.{code_at_most, same_format}
+use Rattle.sfi_image.proofs.Formats.{code_at_most, data_at_most, same_format}
 use Rattle.sfi_image.proofs.Following.{fields_again, finished, following_bytes}
 
 -- one step, from where it leads
@@ -126,9 +126,9 @@ pub record Region (f : Fields) : Type 0 where
   pub base : ℕ
   pub base_is : f.code_base ≡ 16 * base
   pub end : f.code_base + f.code_size ≤ 2 ^ 32
-  pub init_len : f.init_len ≤ 1048576
+  pub init_len : f.init_len ≤ 2 ^ 30
   pub gate_count : f.gate_count ≤ 64
-  pub code_size : f.code_size ≤ 1048576
+  pub code_size : f.code_size ≤ 2 ^ 24
 
 pub region : (before : List Span) (f : Fields) → AreFieldWords f → IsFirstFault before f field_tests None → Region f
 region before f words passed =
@@ -141,7 +141,7 @@ region before f words passed =
       base = w.1;
       base_is = w.3;
       end = w.4;
-      init_len = omega (arith, all.1.1.1.1.1.0, all.1.0.at_most);
+      init_len = omega (arith, all.1.1.1.1.1.0, all.1.0.at_most, data_at_most f.format);
       gate_count = all.1.1.1.1.0;
       code_size = omega (arith, all.0.at_most, code_at_most f.format);
     }

@@ -1,7 +1,7 @@
 -- What passes the tests of a layout: fields, spans that lie apart, gates that follow one another.
 use Rattle.sfi_image.proofs.Prelude.{◌≡◌, List, [], ◌∷◌, ◌++◌, refl, sym, subst, inl, inr, Option, None, All, AllPairs, AllByRecursion, Fields, Span, LayoutFault, Part, fields_of, AreFieldWords, AreGateWords, AreApart, code_span, spans_of, AreGates, IsRightPart, FieldTest, Passes, IsFirstFault, field_tests, ℕ, ◌+◌, ◌-◌, ◌<◌, length, get_or, ap, ◌∙◌, arith, append_assoc, below_more, length-append, get_or_append_left, get_or_default, get_or-append_right, All-push, guarded_span, flat_map-append, append-nil, All-from_recursion, spans, IsBounded, zero, suc, ◌≤◌, map, ltb, ◌↔◌, IsTrue, slice_get, Some, flat_map, cases_lt, ltb-true, lt-ltb, length-map, length_push, get_or_push, service_most, Gate, IsBundleStart}
 use Rattle.sfi_image.specs.FieldTests.FieldTest.{Code, Data, GuardRoom, Start, Gates, Init, Overlap}
-use Rattle.sfi_image.proofs.Formats.{code_at_most}
+use Rattle.sfi_image.proofs.Formats.{code_at_most, data_at_most}
 use Rattle.std.proofs.lemmas.List.Quantifiers.{all_pairs_push}
 use Rattle.std.proofs.lemmas.Option.{get_or_from_slice_get, slice_get_within, slice_get-get_or, slice_get-map}
 use Rattle.std.specs.Option.{option_map}
@@ -101,7 +101,7 @@ right_bounded p right =
     let most = code_at_most p.format in
     All-from_recursion IsBounded (spans_of (fields_of p)) (
       record { some = omega (arith, right.code_placed.at_least); end = omega (arith, right.code_base, right.code_placed.at_most) },
-      (record { some = omega arith; end = omega (arith, right.guard_room.above, right.data_placed.at_most) }, tt),
+      (record { some = omega arith; end = omega (arith, right.guard_room.above, right.data_placed.at_most, data_at_most p.format) }, tt),
     )
 
 -- ==== Gates that follow one another.

@@ -22,7 +22,7 @@ pub data FieldTest : Type 0 where
 -- what each test asks of the fields, after sandboxes with these spans
 abbrev pub Passes : List Span → Fields → FieldTest → Type 0
 Passes before f Code = IsCodeRegion f.format f.code_base f.code_size
-Passes before f Data = IsDataRegion f.data_base f.data_size
+Passes before f Data = IsDataRegion f.format f.data_base f.data_size
 Passes before f GuardRoom = HasGuardRoom f.data_base f.data_size
 Passes before f Start = IsBundleStart (code_span f) f.start
 Passes before f Gates = f.gate_count ≤ gates_most

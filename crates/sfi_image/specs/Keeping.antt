@@ -1,9 +1,7 @@
 -- What a reader keeps of an image: the reader of its layout, a cursor, and a sandbox by its number.
-use Rattle.std.specs.Prelude.{◌≡◌, ℕ, ◌+◌, ◌-◌, ◌*◌, ◌%◌, ◌≤◌, ◌==◌, ◌||◌, Bool, false, List, [], ◌∷◌, ◌++◌, length, map, drop, Some, slice_get, take}
-use Rattle.sfi_formats.specs.Limits.{bundle_size, data_most, gates_most, sandboxes_most}
+use Rattle.std.specs.Prelude.{◌≡◌, ℕ, ◌+◌, ◌-◌, ◌*◌, ◌%◌, ◌^◌, ◌≤◌, ◌==◌, ◌||◌, Bool, false, List, [], ◌∷◌, ◌++◌, length, map, drop, Some, slice_get, take}
+use Rattle.sfi_formats.specs.Limits.{bundle_size, gates_most, sandboxes_most}
 use Rattle.sfi_formats.specs.declared.format.Format.{Format}
-use Rattle.sfi_formats.specs.declared.format.Format.TheVariants.{Sfi2}
-use Rattle.sfi_formats.specs.Formats.{code_most}
 use Rattle.sfi_image.specs.declared.part.Gate.{Gate}
 use Rattle.sfi_image.specs.declared.fields.Fields.{Fields}
 pub use Rattle.sfi_image.specs.declared.layout_reader.LayoutReader.{LayoutReader}
@@ -98,9 +96,9 @@ pub record Leads (x : ImagePrefix) (s : List ℕ) (r : LayoutReader) : Type 0 wh
 
 -- the most that one sandbox adds: 1 for its fields, 1 for each gate, for each byte of its code and
 -- for each first data byte, and 1 by which what is left within it stays above what is left after it
--- (no format's code is larger than the second's)
+-- (in each format code and data have fewer than 2 ^ 32 bytes)
 abbrev pub part_most : ℕ
-part_most = 1 + gates_most + code_most Sfi2 + data_most + 1
+part_most = 1 + gates_most + 2 ^ 32 + 2 ^ 32 + 1
 
 -- what is left at first: the most sandboxes that an image may have, each with the most that it
 -- adds, and 1 each for the magic and the count

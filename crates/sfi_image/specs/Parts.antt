@@ -1,8 +1,8 @@
 -- Right sandboxes: regions, reserved registers and gates; and images of them.
 use Rattle.std.specs.Prelude.{◌≡◌, ℕ, ◌+◌, ◌*◌, ◌%◌, ◌^◌, ◌≤◌, ◌-◌, ◌<◌, ◌==◌, ◌||◌, Bool, false, List, [], ◌∷◌, length, slice_index}
-use Rattle.sfi_formats.specs.Limits.{bundle_size, word_size, guard, region_least, data_most, service_most, gates_most, sandboxes_most}
+use Rattle.sfi_formats.specs.Limits.{bundle_size, word_size, guard, region_least, service_most, gates_most, sandboxes_most}
 use Rattle.sfi_formats.specs.declared.format.Format.{Format}
-use Rattle.sfi_formats.specs.Formats.{code_most, unit, code_base_register, code_mask_register, data_base_register, data_mask_register}
+use Rattle.sfi_formats.specs.Formats.{code_most, data_most, unit, code_base_register, code_mask_register, data_base_register, data_mask_register}
 use Rattle.sfi_image.specs.declared.span.Span.{Span}
 use Rattle.sfi_image.specs.Spelling.{Holds, code_region, data_region, AreApart, spans, Part, format_of, IsWord, spelling}
 use Rattle.sfi_image.specs.declared.reserved.Reserved.{Reserved}
@@ -24,9 +24,9 @@ pub record IsRegion (base size least most : ℕ) : Type 0 where
 abbrev pub IsCodeRegion : Format → ℕ → ℕ → Type 0
 IsCodeRegion format base size = IsRegion base size region_least (code_most format)
 
--- a data region may have this base and size
-abbrev pub IsDataRegion : ℕ → ℕ → Type 0
-IsDataRegion base size = IsRegion base size region_least data_most
+-- a data region of this format may have this base and size
+abbrev pub IsDataRegion : Format → ℕ → ℕ → Type 0
+IsDataRegion format base size = IsRegion base size region_least (data_most format)
 
 -- a guard zone has room below the data, and another between its end and 2 ^ 32
 pub record HasGuardRoom (base size : ℕ) : Type 0 where
@@ -90,7 +90,7 @@ is_gate_of (g ∷ gs) at = (g.address == at) || is_gate_of gs at
 pub record IsRightPart (p : Part) : Type 0 where
   pub code_base : IsWord p.code_base
   pub code_placed : IsCodeRegion p.format p.code_base (length p.code)
-  pub data_placed : IsDataRegion p.data_base p.data_size
+  pub data_placed : IsDataRegion p.format p.data_base p.data_size
   pub guard_room : HasGuardRoom p.data_base p.data_size
   pub start : IsBundleStart (code_region p) p.start
   pub gate_count : length p.gates ≤ gates_most

@@ -9,7 +9,7 @@ ghost use Rattle.sfi_image.specs.FieldTests.{IsFirstFault, field_tests};
 
 use crate::fault::LayoutFault;
 use crate::span::{Span, are_all_apart};
-use sfi_formats::{BUNDLE_SIZE, DATA_MOST, Format, GATES_MOST, REGION_LEAST};
+use sfi_formats::{BUNDLE_SIZE, Format, GATES_MOST, REGION_LEAST};
 
 /// The seven numbers at the head of a sandbox, and its image's format.
 #[derive(Clone, Copy)]
@@ -115,7 +115,12 @@ pub(crate) fn spans_after(before: &[Span], fields: &Fields) -> Result<OwnSpans, 
     ) {
         return Err(LayoutFault::Code);
     }
-    if !is_region(fields.data_base, fields.data_size, REGION_LEAST, DATA_MOST) {
+    if !is_region(
+        fields.data_base,
+        fields.data_size,
+        REGION_LEAST,
+        fields.format.data_most(),
+    ) {
         return Err(LayoutFault::Data);
     }
     if !has_guard_room(fields.data_base, fields.data_size) {

@@ -1,5 +1,5 @@
 -- From the code of each sandbox to the image.
-use Rattle.sfi_link.proofs.Prelude.{◌≡◌, ℕ, zero, suc, ◌+◌, ◌-◌, ◌*◌, ◌/◌, ◌^◌, ◌<◌, ◌≤◌, List, [], ◌∷◌, ◌++◌, length, drop, get_or, replicate, refl, sym, ap, ◌∙◌, subst, arith, append_assoc, append-nil, length-append, inl, inr, Vec, Global, max, Result, Ok, Err, IfOk, IfErr, All, AllPairs, repeat, cases_lt, All-nil, Format, code_most, Sandbox, Span, Part, stub_of, PlacedName, size_of, slots_of, Placement, IsPlacedPart, IsPlacedThere, Place, Bases, LinkFault, place_of, IsRightPlace, spans_at, AreApart, spans, bases_of, AreSlots, c_ebreak, needed, HasRoom, IsCodeSize, gates_from, IsLinkedCode, IsLinked, AreLinkedFrom, AreLinked, MayLie, IsSlotFault, HasPartFault, IsPartFault, IsLinkFault, IsInReach, AreInReach, HasRoomFor, AreWritten, LiesBeside, IsCodeBeside, AreCodes, Links, part_with, parts_with, All-push, with_guards, contents, AreLinkedCodes, IsPlaced, with_bytes, each_with, set_init, spans_of, fields_of}
+use Rattle.sfi_link.proofs.Prelude.{◌≡◌, ℕ, zero, suc, ◌+◌, ◌-◌, ◌*◌, ◌/◌, ◌^◌, ◌<◌, ◌≤◌, List, [], ◌∷◌, ◌++◌, length, drop, get_or, replicate, refl, sym, ap, ◌∙◌, subst, arith, append_assoc, append-nil, length-append, inl, inr, Vec, Global, max, Result, Ok, Err, IfOk, IfErr, All, AllPairs, repeat, cases_lt, All-nil, Format, built_code_most, Sandbox, Span, Part, stub_of, PlacedName, size_of, slots_of, Placement, IsPlacedPart, IsPlacedThere, Place, Bases, LinkFault, place_of, IsRightPlace, spans_at, AreApart, spans, bases_of, AreSlots, c_ebreak, needed, HasRoom, IsCodeSize, gates_from, IsLinkedCode, IsLinked, AreLinkedFrom, AreLinked, MayLie, IsSlotFault, HasPartFault, IsPartFault, IsLinkFault, IsInReach, AreInReach, HasRoomFor, AreWritten, LiesBeside, IsCodeBeside, AreCodes, Links, part_with, parts_with, All-push, with_guards, contents, AreLinkedCodes, IsPlaced, with_bytes, each_with, set_init, spans_of, fields_of}
 use Rattle.sfi_source.specs.declared.item.SourceGate.{SourceGate}
 use Rattle.sfi_image.specs.Sources.{IsBounded}
 use Rattle.sfi_link.specs.Faults.{UnlessMemory, AnswersItems, AnswersFault}
@@ -9,6 +9,7 @@ use Rattle.std.proofs.Math.Nat.{pow-suc}
 use Rattle.std.proofs.Math.Pow.{pow_mono}
 use Rattle.std.proofs.lemmas.List.{at_drop_more, at_drop_all}
 use Rattle.sfi_image.specs.Spelling.{spelling}
+use Rattle.sfi_formats.proofs.Facts.{limits_are_small}
 use Rattle.sfi_image.proofs.Formats.{code_at_most}
 use Rattle.sfi_rewrite.specs.declared.placed.PlacedName.TheVariants as name
 use Rattle.sfi_link.specs.declared.fault.LinkFault.TheVariants as named
@@ -34,17 +35,17 @@ least_power needed n (suc k) m j is half some mis enough =
     ]
 
 -- the largest code region is a power of two
-most_power : (f : Format) → (j : ℕ) × (code_most f ≡ 2 ^ j)
+most_power : (f : Format) → (j : ℕ) × (built_code_most f ≡ 2 ^ j)
 most_power Sfi1 = (16, refl)
 most_power _ = (20, refl)
 
-pub least_size : (f : Format) (needed n k : ℕ) → n ≡ 2 ^ k → needed ≤ n → n / 2 < max 1 needed → 256 < needed → needed ≤ code_most f → IsCodeSize f needed n
+pub least_size : (f : Format) (needed n k : ℕ) → n ≡ 2 ^ k → needed ≤ n → n / 2 < max 1 needed → 256 < needed → needed ≤ built_code_most f → IsCodeSize f needed n
 least_size f needed n k is enough half low high = record {
-  has_room = record { power = k; size_is = is; at_least = omega arith; at_most = least_power needed n k (code_most f) (most_power f).0 is half (omega arith) (most_power f).1 high; room = enough };
+  has_room = record { power = k; size_is = is; at_least = omega arith; at_most = least_power needed n k (built_code_most f) (most_power f).0 is half (omega arith) (most_power f).1 high; room = enough };
   least = λ other h. least_power needed n k other h.power is half (omega arith) h.size_is h.room;
 }
 
-some_most : (f : Format) → 256 ≤ code_most f
+some_most : (f : Format) → 256 ≤ built_code_most f
 some_most Sfi1 = omega arith
 some_most _ = omega arith
 
@@ -55,7 +56,7 @@ small_size f needed low = record {
 }
 
 -- more bytes than the largest code region has have room nowhere
-pub no_room : (f : Format) (needed size : ℕ) → code_most f < needed → HasRoom f needed size → ⊥
+pub no_room : (f : Format) (needed size : ℕ) → built_code_most f < needed → HasRoom f needed size → ⊥
 no_room f needed size large h = let a = h.room in let b = h.at_most in omega arith
 
 -- ---- a sandbox that lies beside others
@@ -88,11 +89,11 @@ near_name : (given : List Place) (number : ℕ) (p : Placement) (size : ℕ) →
     → IsInReach (bases_of given number p) n
 near_name given number p size placed room lies (name.Gate k) there =
     let end = (well_placed p size (place_of given number) lies).end in
-    let bound = code_at_most p.format in
+    let bound = (limits_are_small p.format).2 in
     record { fits = omega arith; within = (omega arith, omega arith) }
 near_name given number p size placed room lies (name.Code place) there =
     let end = (well_placed p size (place_of given number) lies).end in
-    let bound = code_at_most p.format in
+    let bound = (limits_are_small p.format).2 in
     let within = there.1 in
     record { fits = omega arith; within = (omega arith, omega arith) }
 near_name given number p size placed room lies (name.Data offset) there =
@@ -156,7 +157,7 @@ code_room given number p at size stubs room lies is stubs_are =
     let a = ap length stubs_are ∙ length_stubs p.format (length p.gates) in
     let b = ap (λ (b : Bases). b.code) is in
     let end = (well_placed p size (place_of given number) lies).end in
-    let bound = code_at_most p.format in
+    let bound = (limits_are_small p.format).2 in
     record { below = omega arith; within = omega arith }
 
 pub part_refused : (given : List Place) → (number : ℕ) (p : Placement) (before : List Span) (at : Bases) (stubs : List ℕ) (f : LinkFault) → at ≡ bases_of given number p → MayLie given number p before → stubs ≡ repeat (length p.gates) (stub_of p.format)

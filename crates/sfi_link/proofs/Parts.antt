@@ -7,6 +7,7 @@ use Rattle.std.proofs.lemmas.List.Kept.{AllPairs-cons}
 use Rattle.std.proofs.lemmas.Option.{slice_get-get_or}
 use Rattle.sfi_rewrite.specs.Placed as placements
 use Rattle.sfi_image.proofs.Regions.{whole_bundles}
+use Rattle.sfi_formats.proofs.Facts.{limits_have_room}
 use Rattle.sfi_rewrite.proofs.Sizes.{size_of-cons}
 use Rattle.sfi_formats.specs.Formats.{unit}
 use Rattle.sfi_formats.specs.declared.format.Format.TheVariants.{Sfi1, Sfi2, Sfiw}
@@ -24,7 +25,7 @@ use Rattle.sfi_link.specs.Names.{BeginsUnit}
 -- a code region's size is a multiple of 16
 pub sixteens : (f : Format) (bytes size : ℕ) → HasRoom f bytes size → (count : ℕ) × (size ≡ 16 * count)
 sixteens f bytes size h =
-    let whole = whole_bundles f 0 size (omega arith) (record { power = h.power; multiple = 0; size_is = h.size_is; base_is = omega arith; at_least = h.at_least; at_most = h.at_most }) in
+    let whole = whole_bundles f 0 size (omega arith) (record { power = h.power; multiple = 0; size_is = h.size_is; base_is = omega arith; at_least = h.at_least; at_most = omega (arith, h.at_most, (limits_have_room f).1) }) in
     (whole.0, whole.2)
 
 -- ---- sizes

@@ -16,7 +16,7 @@ pub use Rattle.rv_word.specs.declared.instr.Instr.TheVariants.{Op, OpImm, Load, 
 pub use Rattle.rv_comp.specs.Fronts.{Spells}
 pub use Rattle.rv_comp.specs.Table.{expansion, row, allowed}
 pub use Rattle.sfi_source.specs.Source.{upper, lower, Sandbox, IsBody, IsSandbox}
-pub use Rattle.sfi_formats.specs.Formats.{has_stack, is_stack, code_most}
+pub use Rattle.sfi_formats.specs.Formats.{has_stack, is_stack, code_most, data_most, built_code_most}
 pub use Rattle.sfi_pairs.specs.Pairs.{is_masking, is_placing, stub}
 unfoldable pub use Rattle.sfi_link.specs.Code.{stub_of}
 pub use Rattle.sfi_formats.specs.declared.format.Format.{Format}

@@ -1,12 +1,11 @@
 -- What is placed has an image, or a fault.
-use Rattle.sfi_link.proofs.Prelude.{◌≡◌, ℕ, zero, suc, ◌+◌, ◌-◌, ◌/◌, ◌^◌, ◌<◌, ◌≤◌, List, [], ◌∷◌, ◌++◌, length, Option, Some, None, refl, sym, ap, subst, arith, inl, inr, ◌⊎◌, ℤ, pos, ◌-ℤ◌, All, AllPairs, repeat, w16, w32, to_le_bytes, cases_lt, cases_eq, ints, All-head, All-tail, Instr, Branch, Jal, InRange, IsReg, spelling, expansion, Format, code_most, stub_of, BundleSlot, Wide, Short, Jump, Upper, Lower, Region, PlacedName, slot_size, slots_of, Placement, Encodes, IsPlacedPart, Bases, LinkFault, Place, Span, AreApart, spans, place_of, IsRightPlace, spans_at, bases_of, value_at, base_at, target_at, with_offset, made_of, IsSlot, AreSlots, needed, HasRoom, IsCodeSize, IsLinkedCode, part_with, IsLinked, AreLinkedFrom, AreLinked, AreWritten, MayLie, HasSlotFault, IsSlotFault, HasPartFault, IsPartFault}
+use Rattle.sfi_link.proofs.Prelude.{◌≡◌, ℕ, zero, suc, ◌+◌, ◌-◌, ◌/◌, ◌^◌, ◌<◌, ◌≤◌, List, [], ◌∷◌, ◌++◌, length, Option, Some, None, refl, sym, ap, subst, arith, inl, inr, ◌⊎◌, ℤ, pos, ◌-ℤ◌, All, AllPairs, repeat, w16, w32, to_le_bytes, cases_lt, cases_eq, ints, All-head, All-tail, Instr, Branch, Jal, InRange, IsReg, spelling, expansion, Format, code_most, data_most, built_code_most, stub_of, BundleSlot, Wide, Short, Jump, Upper, Lower, Region, PlacedName, slot_size, slots_of, Placement, Encodes, IsPlacedPart, Bases, LinkFault, Place, Span, AreApart, spans, place_of, IsRightPlace, spans_at, bases_of, value_at, base_at, target_at, with_offset, made_of, IsSlot, AreSlots, needed, HasRoom, IsCodeSize, IsLinkedCode, part_with, IsLinked, AreLinkedFrom, AreLinked, AreWritten, MayLie, HasSlotFault, IsSlotFault, HasPartFault, IsPartFault}
 use Rattle.rv_comp.specs.Fronts.{halfword_of}
 use Rattle.rv_word.specs.Spelling.{modulo, minus, IsBetween}
 use Rattle.sfi_link.specs.Laws.{SomeLinking}
 use Rattle.std.specs.Prelude.{◌≤ℤ◌}
 use Rattle.std.proofs.lemmas.Int.{by_lt_z}
 use Rattle.sfi_link.specs.declared.fault.LinkFault.TheVariants.{UnknownName, BranchReach, TooLarge, TooManySandboxes}
-use Rattle.sfi_formats.specs.Limits.{data_most}
 use Rattle.std.proofs.Math.Nat.{pow-suc}
 use Rattle.std.proofs.lemmas.List.{append-nil, append_assoc}
 use Rattle.sfi_image.specs.Spelling as image
@@ -14,7 +13,7 @@ use Rattle.sfi_link.specs.declared.fault.LinkFault.TheVariants as named
 use Rattle.sfi_image.proofs.Deciding.{Decided, decided_both, decided_lt, decided_pairs, decided_apart, decided_region, decided_guard_room}
 use Rattle.sfi_link.proofs.OneLinking.{one_size}
 use Rattle.sfi_link.proofs.Bytes.{length_stubs}
-use Rattle.sfi_image.proofs.Formats.{code_at_most}
+use Rattle.sfi_formats.proofs.Facts.{limits_are_small}
 use Rattle.sfi_link.proofs.LinkedClean.{all_are_clean}
 use Rattle.sfi_link.proofs.Parts.{linked_is_right}
 use Rattle.sfi_link.proofs.Pushed.{upper_slot, lower_slot, region_slot}
@@ -106,12 +105,12 @@ next_power needed (suc d) k low high =
 
 pub size_or_none : (f : Format) (needed : ℕ) → ((size : ℕ) × IsCodeSize f needed size) ⊎ ((size : ℕ) → HasRoom f needed size → ⊥)
 size_or_none f needed =
-    elim (cases_lt (code_most f) needed) [
+    elim (cases_lt (built_code_most f) needed) [
       | inl large ↦ inr (λ size. no_room f needed size large)
       | inr fits ↦ elim (cases_lt 256 needed) [
         | inr small ↦ inl (256, small_size f needed small)
         | inl more ↦
-            let most = code_at_most f in
+            let most = (limits_are_small f).2 in
             let next = next_power needed 12 8 more (omega arith) in
             let enough = next.enough in
             inl (2 ^ next.power, least_size f needed (2 ^ next.power) next.power refl enough (omega arith) more fits)
@@ -148,7 +147,7 @@ part_made given number p before size bytes sized lies apart slots =
 
 right_place : (p : Placement) (size : ℕ) (place : Place) → Decided (IsRightPlace p size place)
 right_place p size place =
-    elim (decided_both (decided_both (decided_lt place.code_base 4294967296) (decided_region place.code_base size 256 (code_most p.format))) (decided_both (decided_region place.data_base p.data_size 256 data_most) (decided_guard_room place.data_base p.data_size))) [
+    elim (decided_both (decided_both (decided_lt place.code_base 4294967296) (decided_region place.code_base size 256 (code_most p.format))) (decided_both (decided_region place.data_base p.data_size 256 (data_most p.format)) (decided_guard_room place.data_base p.data_size))) [
       | inl all ↦ inl (record { word = all.0.0; code = all.0.1; «data» = all.1.0; guard_room = all.1.1 })
       | inr not ↦ inr (λ r. not ((r.word, r.code), (r.«data», r.guard_room)))
     ]

@@ -4,7 +4,7 @@ use Rattle.std.specs.Prelude.{◌≢◌}
 use Rattle.std.proofs.lemmas.Nat.{pow-add}
 use Rattle.sfi_formats.specs.Places.{usual}
 use Rattle.sfi_image.proofs.Regions.{exponent_le}
-use Rattle.sfi_image.proofs.Formats.{code_at_most}
+use Rattle.sfi_formats.proofs.Facts.{limits_are_small, limits_have_room}
 use Rattle.sfi_image.proofs.Tests.{pairs_of_two}
 use Rattle.sfi_link.specs.Linked.{IsLinkedImage}
 use Rattle.sfi_link.specs.Laws.{UsualPlacesAreFree}
@@ -26,7 +26,8 @@ region_at size power most m is le =
 
 usual_right : (p : Placement) (number size : ℕ) → number < 16 → IsPlacedPart p → HasRoom p.format (needed p) size → IsRightPlace p size (usual number)
 usual_right p number size few right room =
-    let bound = code_at_most p.format in
+    let bound = (limits_are_small p.format).2 in
+    let wider = limits_have_room p.format in
     let sized = right.data_size in
     let data_most = sized.at_most in
     let data_least = sized.at_least in
@@ -36,7 +37,7 @@ usual_right p number size few right room =
         power = room.power;
         size_is = room.size_is;
         at_least = room.at_least;
-        at_most = room.at_most;
+        at_most = omega (arith, room.at_most, wider.1);
         multiple = 2 ^ (24 - room.power) * (number + 1);
         base_is = region_at size room.power 24 (number + 1) room.size_is (omega arith);
       };
@@ -44,7 +45,7 @@ usual_right p number size few right room =
         power = sized.power;
         size_is = sized.size_is;
         at_least = data_least;
-        at_most = data_most;
+        at_most = omega (arith, data_most, wider.3);
         multiple = 2 ^ (23 - sized.power) * (2 * number + 3);
         base_is = odd number ∙ region_at p.data_size sized.power 23 (2 * number + 3) sized.size_is (omega arith);
       };
@@ -65,7 +66,7 @@ below_apart s t le at in_s in_t = let a = in_s.1 in let b = in_t.0 in omega arit
 free : (p : Placement) (number size : ℕ) (before : List Span) → number < 16 → IsPlacedPart p → IsCodeSize p.format (needed p) size → All (IsBelow number) before → AllPairs AreApart before → MayLie [] number p before
 free p number size before few right sized below apart =
     let room = sized.has_room in
-    let bound = code_at_most p.format in
+    let bound = (limits_are_small p.format).2 in
     let code : Span = record { base = 0x01000000 * (number + 1); size = size } in
     let guarded : Span = with_guards (record { base = 0x01000000 * (number + 1) + 0x00800000; size = p.data_size }) in
     record {
@@ -81,7 +82,7 @@ free p number size before few right sized below apart =
 -- and its spans end before the next one's addresses
 still_below : (p : Placement) (number : ℕ) (q : Part) (before : List Span) → IsPlacedPart p → IsLinked [] number p q → All (IsBelow number) before → All (IsBelow (number + 1)) (before ++ spans (q ∷ []))
 still_below p number q before right linked below =
-    let bound = code_at_most p.format in
+    let bound = (limits_are_small p.format).2 in
     let size = length q.code in
     let code : Span = record { base = 0x01000000 * (number + 1); size = size } in
     let guarded : Span = with_guards (record { base = 0x01000000 * (number + 1) + 0x00800000; size = p.data_size }) in

@@ -14,7 +14,7 @@ use Rattle.std.specs.Int.{w32, to_le_bytes, w16}
 use Rattle.rv_word.specs.Spelling.{spelling, InRange}
 use Rattle.sfi_formats.specs.declared.format.Format.{Format}
 use Rattle.sfi_formats.specs.declared.format.Format.TheVariants.{Sfi2}
-use Rattle.sfi_formats.specs.Formats.{code_most, has_words, code_base_register, data_base_register, code_register, return_register}
+use Rattle.sfi_formats.specs.Formats.{built_code_most, has_words, code_base_register, data_base_register, code_register, return_register}
 use Rattle.sfi_pairs.specs.Pairs.{code_pair, stub}
 use Rattle.rv_word.specs.declared.instr.ImmOp.TheVariants.{Addi}
 use Rattle.rv_word.specs.declared.instr.RegOp.TheVariants.{Add}
@@ -64,7 +64,7 @@ target_of at Unknown = None
 
 -- an address of code of a sandbox that lies so: a distance between two of these fits
 abbrev pub IsInCode : Bases → ℕ → Type 0
-IsInCode at address = (at.code ≤ address) × (address ≤ at.code + code_most Sfi2)
+IsInCode at address = (at.code ≤ address) × (address ≤ at.code + built_code_most Sfi2)
 
 -- the name's address has 32 bits, and a jump's is one of the code
 pub record IsInReach (at : Bases) (name : PlacedName) : Type 0 where

@@ -9,7 +9,7 @@ use Rattle.sfi_rewrite.specs.Placement.{Placement, IsPlacement}
 use Rattle.std.specs.List.{repeat, AllPairs, AllZip}
 use Rattle.rv_comp.specs.declared.form.Form16.TheVariants.{CEbreak}
 use Rattle.sfi_formats.specs.declared.format.Format.{Format}
-use Rattle.sfi_formats.specs.Formats.{code_most}
+use Rattle.sfi_formats.specs.Formats.{built_code_most}
 use Rattle.sfi_source.specs.declared.item.SourceGate.{SourceGate}
 use Rattle.sfi_formats.specs.Limits.{region_least, sandboxes_most}
 use Rattle.sfi_formats.specs.Places.{place_of}
@@ -28,7 +28,7 @@ use Rattle.sfi_rules.specs.Findings.{AreImageFindings}
 pub record IsRightPlace (p : Placement) (size : ℕ) (place : Place) : Type 0 where
   pub word : IsWord place.code_base
   pub code : IsCodeRegion p.format place.code_base size
-  pub «data» : IsDataRegion place.data_base p.data_size
+  pub «data» : IsDataRegion p.format place.data_base p.data_size
   pub guard_room : HasGuardRoom place.data_base p.data_size
 
 -- its two spans there: the code, and the data with a guard zone on each side
@@ -49,12 +49,13 @@ c_ebreak = Short CEbreak
 abbrev pub needed : Placement → ℕ
 needed p = stub_size * length p.gates + size_of (slots_of p.bundles) + 2
 
--- a code region of the format may have `size` bytes, and `bytes` bytes have room in it
+-- a code region of the format that is made of a source may have `size` bytes, and `bytes` bytes
+-- have room in it
 pub record HasRoom (f : Format) (bytes size : ℕ) : Type 0 where
   pub power : ℕ
   pub size_is : size ≡ 2 ^ power
   pub at_least : region_least ≤ size
-  pub at_most : size ≤ code_most f
+  pub at_most : size ≤ built_code_most f
   pub room : bytes ≤ size
 
 -- `size` is the least size of a code region of the format in which `bytes` bytes have room

@@ -2,7 +2,7 @@
 use Rattle.std.specs.Prelude.{◌≡◌, ℕ, ◌+◌, ◌^◌, ◌<◌, ◌≤◌, List, [], ◌∷◌, ◌++◌, length, Result, Ok, Err}
 use Rattle.std.specs.List.{All, AllPairs}
 use Rattle.sfi_formats.specs.declared.format.Format.TheVariants.{Sfi2}
-use Rattle.sfi_formats.specs.Formats.{code_most}
+use Rattle.sfi_formats.specs.Formats.{built_code_most}
 use Rattle.sfi_image.specs.declared.span.Span.{Span}
 use Rattle.sfi_image.specs.Spelling.{Part, AreApart}
 use Rattle.sfi_image.specs.Sources.{IsBounded}
@@ -22,7 +22,7 @@ use Rattle.sfi_link.specs.Linked.{IsRightPlace, spans_at, IsLinkedCode}
 -- `more` bytes after the `old` bytes of code so far have room below 2 ^ 32, and in a code region
 pub record HasRoomFor (at : Bases) (old more : ℕ) : Type 0 where
   pub below : at.code + old + more < 2 ^ 32
-  pub within : old + more ≤ code_most Sfi2
+  pub within : old + more ≤ built_code_most Sfi2
 
 -- after the old bytes, which lie from the code base on, stand those of the slot
 abbrev pub IsPushed : Bases → List PlacedName → BundleSlot → List ℕ → List ℕ → Type 0

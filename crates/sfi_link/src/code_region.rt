@@ -2,7 +2,7 @@
 ghost use Rattle.std.specs.Prelude.{◌≡◌, ◌++◌, ◌<◌, ◌≤◌, ℕ, length, IfSome, IfNone, OnOk};
 ghost use Rattle.std.specs.List.{All, AllPairs, repeat};
 ghost use Rattle.sfi_formats.specs.declared.format.Format.TheVariants.{Sfi2};
-ghost use Rattle.sfi_formats.specs.Formats.{code_most};
+ghost use Rattle.sfi_formats.specs.Formats.{built_code_most};
 ghost use Rattle.sfi_rewrite.specs.Expansion.{size_of, slots_of};
 ghost use Rattle.sfi_rewrite.specs.Placement.{AreBundles};
 ghost use Rattle.sfi_rewrite.specs.Placed.{IsPlacedPart};
@@ -29,7 +29,7 @@ const C_EBREAK: [u8; 2] = [0x02, 0x90];
 /// but the last is full.
 fn size_of_bundles(bundles: &[Bundle]) -> usize
     requires full { AreBundles bundles.now }
-    requires fits { size_of (slots_of bundles.now) ≤ code_most Sfi2 }
+    requires fits { size_of (slots_of bundles.now) ≤ built_code_most Sfi2 }
     ensures { result ≡ size_of (slots_of bundles.now) }
 {
     match bundles.split_last() {
@@ -54,7 +54,7 @@ fn code_size(format: Format, needed: usize) -> Option<usize>
     ensures least { IfSome result (IsCodeSize format needed) }
     ensures none { IfNone result ((size : ℕ) → HasRoom format needed size → ⊥) }
 {
-    if needed > format.code_most() as usize {
+    if needed > format.built_code_most() as usize {
         return None;
     }
     if needed <= REGION_LEAST_BYTES {

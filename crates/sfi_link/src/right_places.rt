@@ -7,7 +7,7 @@ ghost use Rattle.sfi_image.specs.Spelling.{AreApart};
 ghost use Rattle.sfi_link.specs.Linked.{IsRightPlace, spans_at};
 ghost use Rattle.sfi_link.specs.private.{LiesBeside};
 
-use sfi_formats::{DATA_MOST, Place, REGION_LEAST};
+use sfi_formats::{Place, REGION_LEAST};
 use sfi_image::{Span, are_all_apart, has_guard_room, is_region, with_guards};
 use sfi_rewrite::PlacedPart;
 use std::alloc::AllocError;
@@ -25,7 +25,12 @@ fn is_right_place(part: &PlacedPart, size: u32, place: Place) -> bool
     ) {
         return false;
     }
-    if !is_region(place.data_base, data_size, REGION_LEAST, DATA_MOST) {
+    if !is_region(
+        place.data_base,
+        data_size,
+        REGION_LEAST,
+        part.format().data_most(),
+    ) {
         return false;
     }
     has_guard_room(place.data_base, data_size)

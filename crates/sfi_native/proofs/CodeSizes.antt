@@ -1,10 +1,9 @@
 -- How many bytes a sandbox's code has.
-use Rattle.std.proofs.Common.{◌≡◌, ℕ, suc, zero, ◌+◌, ◌-◌, ◌*◌, ◌/◌, ◌%◌, ◌<◌, ◌≤◌, if◌then◌else◌, ◌⊎◌, Bool, true, false, List, [], ◌∷◌, ◌++◌, length, drop, take, refl, sym, ap, ◌∙◌, subst, arith, inl, inr, length-drop}
+use Rattle.std.proofs.Common.{◌≡◌, ℕ, suc, zero, ◌+◌, ◌-◌, ◌*◌, ◌/◌, ◌%◌, ◌^◌, ◌<◌, ◌≤◌, if◌then◌else◌, ◌⊎◌, Bool, true, false, List, [], ◌∷◌, ◌++◌, length, drop, take, refl, sym, ap, ◌∙◌, subst, arith, inl, inr, length-drop}
 use Rattle.std.specs.Prelude.{◌==◌}
 use Rattle.std.proofs.lemmas.Bool.{cases_Bool, cond_both, eqb-true}
-use Rattle.sfi_formats.specs.declared.format.Format.{Format}
-use Rattle.sfi_formats.specs.declared.format.Format.TheVariants.{Sfi1, Sfi2, Sfiw}
-use Rattle.sfi_formats.specs.Formats.{code_most, unit}
+use Rattle.sfi_formats.specs.Formats.{unit}
+use Rattle.sfi_image.proofs.Formats.{code_at_most}
 use Rattle.sfi_image.specs.Parts.{IsRightPart}
 use Rattle.sfi_image.specs.Spelling.{Part}
 use Rattle.sfi_rules.specs.Readings.{Piece, IsReading}
@@ -118,16 +117,11 @@ code_most_bytes padded plan may sandbox p code right are =
 pub code_is_small : CodeIsSmall
 code_is_small plan sandbox p code unpadded right are = code_most_bytes false plan unpadded sandbox p code right are
 
-most_code : (f : Format) → code_most f ≤ 1048576
-most_code Sfi1 = omega arith
-most_code Sfi2 = omega arith
-most_code Sfiw = omega arith
-
-pub code_few : (p : Part) → IsRightPart p → length p.code ≤ 1048576
-code_few p right = omega (arith, right.code_placed.at_most, most_code p.format)
+pub code_few : (p : Part) → IsRightPart p → length p.code ≤ 2 ^ 24
+code_few p right = omega (arith, right.code_placed.at_most, code_at_most p.format)
 
 pub each_code_fits : EachCodeFits
-each_code_fits plan sandbox p code right are = omega (arith, code_most_bytes true plan tt sandbox p code right are, right.code_placed.at_most, most_code p.format)
+each_code_fits plan sandbox p code right are = omega (arith, code_most_bytes true plan tt sandbox p code right are, right.code_placed.at_most, code_at_most p.format)
 
 -- with the end's code
 pub whole_size : (plan : Plan) (end : ℕ) (code : List Line) → bytes (whole_code plan end code) ≡ exit_of plan code

@@ -14,6 +14,7 @@ use Rattle.rv_step.specs.State.{Hart, register}
 use Rattle.rv_step.specs.Step.{load_size, store_size}
 use Rattle.sfi_image.specs.Spelling.{Part}
 use Rattle.sfi_image.specs.Parts.{IsRightPart}
+use Rattle.sfi_image.proofs.Formats.{data_at_most}
 use Rattle.sfi_safe_runs.specs.Runs.{InData, InGuard}
 use Rattle.sfi_safe_runs.proofs.Accessing.{load_range, load_sized, store_range, store_sized}
 use Rattle.sfi_translate.specs.Machine.{Going, fixed, is_tested}
@@ -32,7 +33,7 @@ by_cases : (t : Bool) → (t ≡ false → ⊥) → t ≡ true
 by_cases true wrong = refl
 by_cases false wrong = absurd (wrong refl)
 
-module _ (base size value n : ℕ) (low : 4096 ≤ base) (high : base + size + 4096 ≤ 2 ^ 32) (most : size ≤ 1048576) (some : 0 < n) (few : n ≤ 4) (near : IsAround base size value) where
+module _ (base size value n : ℕ) (low : 4096 ≤ base) (high : base + size + 4096 ≤ 2 ^ 32) (most : size ≤ 2 ^ 30) (some : 0 < n) (few : n ≤ 4) (near : IsAround base size value) where
   pub exact : (offset : ℤ) → IsImm12 offset → IsAround base size (address_after (offset_by value offset) 0) → IsAround base size (address_after (offset_by value offset) (n - 1))
       → (int_le (pos (base - 4096)) (pos value +ℤ offset) ≡ true) × (int_le (pos value +ℤ offset +ℤ pos n) (pos (base + size + 4096)) ≡ true)
   exact (pos k) range first last =
@@ -77,7 +78,7 @@ module _ (p : Part) (g : Going) (right : IsRightPart p) (same : fixed p g.state.
     stays : (int_le (pos (p.data_base - 4096)) (pos v +ℤ offset) ≡ true) × (int_le (pos v +ℤ offset +ℤ pos n) (pos (p.data_base + p.data_size + 4096)) ≡ true)
     stays =
         let from = safe.0.from in
-        exact p.data_base p.data_size v n right.guard_room.below right.guard_room.above right.data_placed.at_most some few (from.low, from.high) offset range
+        exact p.data_base p.data_size v n right.guard_room.below right.guard_room.above (omega (arith, right.data_placed.at_most, data_at_most p.format)) some few (from.low, from.high) offset range
         (at_number 0 some) (at_number (n - 1) (omega (arith, some)))
 
     here : Does v offset n

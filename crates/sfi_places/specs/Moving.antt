@@ -61,7 +61,7 @@ CleanIsPlaceless =
 abbrev pub MovedIsRight : Type 0
 MovedIsRight =
     (code data_at : ℕ) (p : Part) → IsRightPart p → IsWord code
-    → IsCodeRegion p.format code (length p.code) → IsDataRegion data_at p.data_size
+    → IsCodeRegion p.format code (length p.code) → IsDataRegion p.format data_at p.data_size
     → HasGuardRoom data_at p.data_size → IsRightPart (moved code data_at p)
 
 -- ---- of an image

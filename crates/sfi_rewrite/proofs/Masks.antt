@@ -1,9 +1,10 @@
 -- What the masks make of a number: a data mask the address of the region with its offset.
-use Rattle.sfi_rewrite.proofs.Prelude.{◌≡◌, ℕ, ◌+◌, ◌-◌, ◌*◌, ◌/◌, ◌%◌, ◌^◌, ◌<◌, ◌≤◌, sym, ap, ◌∙◌, arith, bit_and, bit_or, code_most, Hart, register, AreRegions, HasReserved, Add, Holds, Span, masked}
+use Rattle.sfi_rewrite.proofs.Prelude.{◌≡◌, ℕ, ◌+◌, ◌-◌, ◌*◌, ◌/◌, ◌%◌, ◌^◌, ◌<◌, ◌≤◌, sym, ap, ◌∙◌, arith, bit_and, bit_or, code_most, data_most, Hart, register, AreRegions, HasReserved, Add, Holds, Span, masked}
 use Rattle.std.proofs.Common.{mul_assoc}
 use Rattle.std.proofs.lemmas.Nat.{and_mask, div-add-mod', mod_low, pow-add, or_shifted, or_comm, mod-mul-add}
 use Rattle.rv_step.specs.Step.{result_of}
 use Rattle.sfi_image.specs.Parts.{IsRegion, reserved_for}
+use Rattle.sfi_image.proofs.Formats.{data_at_most}
 use Rattle.sfi_image.proofs.Regions.{exponent_le}
 use Rattle.sfi_image.proofs.Facts.{masked_unit}
 use Rattle.sfi_rewrite.specs.Laws.{MasksCompose}
@@ -42,7 +43,7 @@ moved_data base size most x region =
 pub masked_data : (u : ℕ) (c d : Span) (h : Hart) (x : ℕ) → AreRegions c d → HasReserved (reserved_for u c d) h.registers → bit_or (bit_and x (register h 27)) (register h 26) ≡ masked d x
 masked_data u c d h x regions reserved =
     ap (λ n. bit_or (bit_and x n) (register h 26)) reserved.data_mask ∙ ap (λ n. bit_or (bit_and x (d.size - 1)) n) reserved.data_base
-    ∙ moved_data d.base d.size 1048576 x regions.data_placed
+    ∙ moved_data d.base d.size (data_most regions.format) x regions.data_placed
 
 -- what lies in the region is its own address there
 masked_held : (c d : Span) (x : ℕ) → AreRegions c d → Holds d x → masked d x ≡ x
@@ -102,7 +103,7 @@ masked_sum c d v w regions =
     let q = region.multiple in
     let size_is : d.size ≡ 2 ^ k = region.size_is in
     let at_least : 256 ≤ d.size = region.at_least in
-    let at_most : d.size ≤ 1048576 = region.at_most in
+    let at_most : d.size ≤ 2 ^ 30 = omega (arith, region.at_most, data_at_most regions.format) in
     let narrow : k ≤ 32 = exponent_le k 32 (omega arith) in
     let base_is : d.base ≡ q * 2 ^ k = region.base_is ∙ ap (λ n. q * n) region.size_is in
     let sum = mod_sum q k v w narrow (omega arith) in

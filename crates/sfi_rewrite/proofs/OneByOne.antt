@@ -1,20 +1,20 @@
 -- One item after another.
-use Rattle.sfi_rewrite.proofs.Prelude.{◌≡◌, ℕ, ◌+◌, ◌*◌, ◌%◌, ◌<◌, ◌≤◌, List, [], ◌∷◌, ◌++◌, length, take, drop, get_or, replicate, refl, sym, ap, ◌∙◌, subst, arith, Some, append_assoc, inl, inr, length-append, Bool, slice_get, take_more, drop_more, get_or_append_left, get_or_push, All-push, cases_lt, slice_get-get_or, Format, code_most, Item, IsBody, BundleSlot, RewriteFault, size_of, c_nop, IsExpansion, is_call, next_bundle, FillsGap, IsNext, IsLabelAt, HasNext, HaveBodies, AreLabels, largest, IsPermitted, AreFaultless, IsTooLarge, HasItemFault, UnlessMemory, IsItemFault, Sfi1, Sfi2, Sfiw, TooLarge, Memory, All, AreLaid, AreTooLarge, false}
+use Rattle.sfi_rewrite.proofs.Prelude.{◌≡◌, ℕ, ◌+◌, ◌*◌, ◌%◌, ◌<◌, ◌≤◌, List, [], ◌∷◌, ◌++◌, length, take, drop, get_or, replicate, refl, sym, ap, ◌∙◌, subst, arith, Some, append_assoc, inl, inr, length-append, Bool, slice_get, take_more, drop_more, get_or_append_left, get_or_push, All-push, cases_lt, slice_get-get_or, Format, built_code_most, Item, IsBody, BundleSlot, RewriteFault, size_of, c_nop, IsExpansion, is_call, next_bundle, FillsGap, IsNext, IsLabelAt, HasNext, HaveBodies, AreLabels, largest, IsPermitted, AreFaultless, IsTooLarge, HasItemFault, UnlessMemory, IsItemFault, Sfi1, Sfi2, Sfiw, TooLarge, Memory, All, AreLaid, AreTooLarge, false}
 use Rattle.sfi_rewrite.proofs.Sizes.{size_of-append, size_even, size_nops, IsOne, expansion_one}
 use Rattle.sfi_rewrite.proofs.Laid.{laid_push}
 
 -- ---- the room of a format
 
-pub some_room : (f : Format) → 0 ≤ code_most f
+pub some_room : (f : Format) → 0 ≤ built_code_most f
 some_room f = omega arith
 
-pub most_of_any : (f : Format) (n : ℕ) → n ≤ code_most f → n ≤ largest
+pub most_of_any : (f : Format) (n : ℕ) → n ≤ built_code_most f → n ≤ largest
 most_of_any Sfi1 n h = omega arith
 most_of_any Sfi2 n h = omega arith
 most_of_any Sfiw n h = omega arith
 
 -- a code region ends at a bundle's end
-pub whole_bundles : (f : Format) → code_most f % 16 ≡ 0
+pub whole_bundles : (f : Format) → built_code_most f % 16 ≡ 0
 whole_bundles Sfi1 = refl
 whole_bundles Sfi2 = refl
 whole_bundles Sfiw = refl
@@ -47,7 +47,7 @@ next_is f x code expanded slots call end size nops e s n c z g =
 
 pub too_large : (f : Format) (sandbox : ℕ) (x : Item) (code expanded slots : List BundleSlot) (call : Bool) (end size nops : ℕ)
     → IsExpansion f x expanded → slots ≡ expanded → end ≡ size_of code → call ≡ is_call x.body → size ≡ size_of slots
-    → FillsGap end x.labelled call size nops → code_most f ≤ end + 2 * nops → IsTooLarge f sandbox (size_of code) x (TooLarge sandbox)
+    → FillsGap end x.labelled call size nops → built_code_most f ≤ end + 2 * nops → IsTooLarge f sandbox (size_of code) x (TooLarge sandbox)
 too_large f sandbox x code expanded slots call end size nops e s n c z g h =
     record { nops = nops; expanded = expanded; next = next_is f x code expanded slots call end size nops e s n c z g; beyond = omega arith; fault_is = refl }
 
@@ -60,7 +60,7 @@ fits_bundle code then labelled call end size nops e g t =
     omega arith
 
 pub fits_code : (f : Format) (code then : List BundleSlot) (labelled call : Bool) (end size nops : ℕ)
-    → end ≡ size_of code → FillsGap end labelled call size nops → then ≡ code ++ replicate nops c_nop → end + 2 * nops < code_most f → size_of then + size ≤ code_most f
+    → end ≡ size_of code → FillsGap end labelled call size nops → then ≡ code ++ replicate nops c_nop → end + 2 * nops < built_code_most f → size_of then + size ≤ built_code_most f
 fits_code f code then labelled call end size nops e g t l =
     let most = whole_bundles f in
     let a = ap size_of t ∙ size_of-append code (replicate nops c_nop) in
@@ -70,7 +70,7 @@ fits_code f code then labelled call end size nops e g t l =
 
 pub has_next : (f : Format) (x : Item) (code then now expanded slots : List BundleSlot) (call : Bool) (end size nops : ℕ)
     → IsExpansion f x expanded → slots ≡ expanded → end ≡ size_of code → call ≡ is_call x.body → size ≡ size_of slots
-    → FillsGap end x.labelled call size nops → then ≡ code ++ replicate nops c_nop → now ≡ then ++ slots → end + 2 * nops < code_most f → HasNext f code x now
+    → FillsGap end x.labelled call size nops → then ≡ code ++ replicate nops c_nop → now ≡ then ++ slots → end + 2 * nops < built_code_most f → HasNext f code x now
 has_next f x code then now expanded slots call end size nops e s n c z g t w l =
     let within = fits_code f code then x.labelled call end size nops n g t l in
     let a = ap size_of w ∙ size_of-append then slots in
@@ -113,7 +113,7 @@ one_more f items k x code now h e l p n =
     rw (n.slots) (record {
       permitted = next_permitted f items k x at l.permitted p;
       laid = laid_more f items k x code n.nops n.expanded at l.laid n.next;
-      fits = subst (λ v. size_of v ≤ code_most f) n.slots n.fits;
+      fits = subst (λ v. size_of v ≤ built_code_most f) n.slots n.fits;
     })
 
 pub label_here : (f : Format) (items : List Item) (k end place : ℕ) (code : List BundleSlot) → AreFaultless false f k items code → end ≡ size_of code → place ≡ next_bundle end → IsLabelAt false f items k place

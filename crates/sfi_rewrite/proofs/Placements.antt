@@ -1,5 +1,5 @@
 -- The placement of a sandbox keeps what the type of what is placed keeps.
-use Rattle.sfi_rewrite.proofs.Prelude.{◌≡◌, ℕ, suc, ◌+◌, ◌-◌, ◌*◌, ◌/◌, ◌%◌, ◌<◌, ◌≤◌, List, [], ◌∷◌, ◌++◌, length, take, drop, get_or, replicate, refl, sym, ap, ◌∙◌, subst, arith, Some, None, Option, inl, inr, slice_get, IsTrue, ◌↔◌, Contains, Bool, false, IsPermitted, append-nil, MatchOption, All, AllZip, cases_lt, take_all, length-map, All-nil, All-cons, All-append, All-head, All-tail, All-contains_itself, slice_get-get_or, Ecall, Format, code_most, Item, Plain, Named, Gate, Code, Data, Unknown, Sandbox, IsSandbox, IsThere, IsBody, named, BundleSlot, PlacedName, size_of, slots_of, c_nop, next_bundle, AreLaid, AreLaidFrom, IsLabelAt, Placement, IsPlacedName, HasEndLabel, FillsEnd, AreBundles, IsPlacedThere, IsPlacedGate, IsPlacedPart, HaveBodies, HasEnd, IsRewritten, SourceGate, Sfi1, Sfi2, Sfiw, AreLaidIn, FillsEndIn, drop-cons, AreFaultless, true}
+use Rattle.sfi_rewrite.proofs.Prelude.{◌≡◌, ℕ, suc, ◌+◌, ◌-◌, ◌*◌, ◌/◌, ◌%◌, ◌<◌, ◌≤◌, List, [], ◌∷◌, ◌++◌, length, take, drop, get_or, replicate, refl, sym, ap, ◌∙◌, subst, arith, Some, None, Option, inl, inr, slice_get, IsTrue, ◌↔◌, Contains, Bool, false, IsPermitted, append-nil, MatchOption, All, AllZip, cases_lt, take_all, length-map, All-nil, All-cons, All-append, All-head, All-tail, All-contains_itself, slice_get-get_or, Ecall, Format, built_code_most, Item, Plain, Named, Gate, Code, Data, Unknown, Sandbox, IsSandbox, IsThere, IsBody, named, BundleSlot, PlacedName, size_of, slots_of, c_nop, next_bundle, AreLaid, AreLaidFrom, IsLabelAt, Placement, IsPlacedName, HasEndLabel, FillsEnd, AreBundles, IsPlacedThere, IsPlacedGate, IsPlacedPart, HaveBodies, HasEnd, IsRewritten, SourceGate, Sfi1, Sfi2, Sfiw, AreLaidIn, FillsEndIn, drop-cons, AreFaultless, true}
 use Rattle.sfi_formats.specs.Formats.{unit, has_words}
 use Rattle.sfi_rewrite.specs.Placed.{AreWholeIn}
 use Rattle.sfi_rewrite.specs.words.Expansion as words
@@ -135,7 +135,7 @@ gate_in s p k g h z e =
 
 -- ---- all of it
 
-end_fits : (format : Format) (slots : List BundleSlot) (labelled : Type 0) (nops : ℕ) → FillsEnd (size_of slots) labelled nops → size_of slots ≤ code_most format → size_of slots + 2 * nops ≤ code_most format
+end_fits : (format : Format) (slots : List BundleSlot) (labelled : Type 0) (nops : ℕ) → FillsEnd (size_of slots) labelled nops → size_of slots ≤ built_code_most format → size_of slots + 2 * nops ≤ built_code_most format
 end_fits format slots labelled nops f h =
     let even = size_even slots in
     let most = whole_bundles format in
@@ -143,7 +143,7 @@ end_fits format slots labelled nops f h =
     let few = f.fewest n (λ _. omega arith) in
     omega arith
 
-end_in_fits : (w : Bool) (format : Format) (slots : List BundleSlot) (labelled : Type 0) (nops : ℕ) → FillsEndIn w (size_of slots) labelled nops → size_of slots ≤ code_most format → size_of slots + 2 * nops ≤ code_most format
+end_in_fits : (w : Bool) (format : Format) (slots : List BundleSlot) (labelled : Type 0) (nops : ℕ) → FillsEndIn w (size_of slots) labelled nops → size_of slots ≤ built_code_most format → size_of slots + 2 * nops ≤ built_code_most format
 end_in_fits false format slots labelled nops f h = end_fits format slots labelled nops f h
 end_in_fits true format slots labelled nops f h = let z : nops ≡ 0 = f in omega arith
 
@@ -185,7 +185,7 @@ placed_part s p h r =
       whole =
           subst (λ (f : Format). AreWholeIn f count p.bundles) (sym is.format)
           (whole_in s.format count s.items is.slots (HasEndLabel s) is.nops p.bundles is.laid all.permitted bodies is.end is.code is.bundles);
-      fits = subst (λ (f : Format). size_of (slots_of p.bundles) ≤ code_most f) (sym is.format) (omega arith);
+      fits = subst (λ (f : Format). size_of (slots_of p.bundles) ≤ built_code_most f) (sym is.format) (omega arith);
       encodes = λ k d l. (known k d l).encodes;
       names_known = λ k d l. (known k d l).name;
     }

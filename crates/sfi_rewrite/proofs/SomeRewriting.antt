@@ -1,5 +1,5 @@
 -- A source is rewritten, or has a fault.
-use Rattle.sfi_rewrite.proofs.Prelude.{◌≡◌, ℕ, zero, suc, ◌+◌, ◌-◌, ◌*◌, ◌/◌, ◌%◌, ◌<◌, ◌≤◌, List, [], ◌∷◌, ◌++◌, length, take, get_or, replicate, refl, sym, ap, ◌∙◌, subst, arith, append_assoc, append-nil, inl, inr, ◌⊎◌, Bool, true, false, MatchBool, Contains, All-nil, Some, drop, ◌&&◌, AllZip, cases_lt, cases_eq, cases_Bool, false≢true, take_all, get_or_default, Contains-append_right, Instr, Load, Store, Jalr, Ecall, Format, code_most, is_stack, Item, Body, Plain, To, High, Low, Base, Named, Gate, Code, Data, Unknown, Sandbox, named, BundleSlot, Wide, Short, Jump, Upper, Lower, Region, RewriteFault, PlacedName, size_of, slots_of, c_nop, writes_stack, is_on_stack, is_stack_write, stack_pair, put_back, data_pair_slots, jump_slots, IsAlone, IsMasked, IsExpansionOf, IsExpansion, is_call, next_bundle, FillsGap, Placement, IsPlacedName, HasEndLabel, FillsEnd, AreBundles, IsPermitted, AreFaultless, HasItemFault, IsItemFault, IsSourceFault, IsRewritten, AreRewritten, SomeRewriting, bundle_size, Sfi1, not, AreLaidIn, FillsEndIn, IsConfined, IsAround, base_of, before, after, is_move, moved, mask_after, is_step_before_use, Marked, marked, alone, in_words, AreExpanded, AreLaidBefore, item_names_withheld, is_ecall, AreLaidFrom, IsFaultless, label_place, has_words}
+use Rattle.sfi_rewrite.proofs.Prelude.{◌≡◌, ℕ, zero, suc, ◌+◌, ◌-◌, ◌*◌, ◌/◌, ◌%◌, ◌<◌, ◌≤◌, List, [], ◌∷◌, ◌++◌, length, take, get_or, replicate, refl, sym, ap, ◌∙◌, subst, arith, append_assoc, append-nil, inl, inr, ◌⊎◌, Bool, true, false, MatchBool, Contains, All-nil, Some, drop, ◌&&◌, AllZip, cases_lt, cases_eq, cases_Bool, false≢true, take_all, get_or_default, Contains-append_right, Instr, Load, Store, Jalr, Ecall, Format, built_code_most, is_stack, Item, Body, Plain, To, High, Low, Base, Named, Gate, Code, Data, Unknown, Sandbox, named, BundleSlot, Wide, Short, Jump, Upper, Lower, Region, RewriteFault, PlacedName, size_of, slots_of, c_nop, writes_stack, is_on_stack, is_stack_write, stack_pair, put_back, data_pair_slots, jump_slots, IsAlone, IsMasked, IsExpansionOf, IsExpansion, is_call, next_bundle, FillsGap, Placement, IsPlacedName, HasEndLabel, FillsEnd, AreBundles, IsPermitted, AreFaultless, HasItemFault, IsItemFault, IsSourceFault, IsRewritten, AreRewritten, SomeRewriting, bundle_size, Sfi1, not, AreLaidIn, FillsEndIn, IsConfined, IsAround, base_of, before, after, is_move, moved, mask_after, is_step_before_use, Marked, marked, alone, in_words, AreExpanded, AreLaidBefore, item_names_withheld, is_ecall, AreLaidFrom, IsFaultless, label_place, has_words}
 use Rattle.sfi_rewrite.specs.Rewriting.{is_barred_jump}
 use Rattle.sfi_rewrite.specs.words.Expansion as words_expansion
 use Rattle.sfi_rewrite.proofs.WordLaying.{InWords, no_word, two_forms, one_slot, view}
@@ -249,7 +249,7 @@ items_on w f sandbox items (suc d) k slots all l =
     let made = some_laid_in w f (take (k + 1) items) (drop (k + 1) items) in
     elim (permitted_or_not f x) [
       | inr wrong ↦ inr (wrong.0, item_fault w f sandbox items k x slots wrong.0 at l wrong.1)
-      | inl right ↦ elim (cases_lt (code_most f) (size_of made.0)) [
+      | inl right ↦ elim (cases_lt (built_code_most f) (size_of made.0)) [
         | inl over ↦ inr (fault.TooLarge sandbox, room_fault w f sandbox items k x slots at l right (made.0, made.1, over))
         | inr within ↦ items_on w f sandbox items d (k + 1) made.0 (omega arith) (record { permitted = next_permitted f items k x at l.permitted right; laid = made.1; fits = within })
       ]

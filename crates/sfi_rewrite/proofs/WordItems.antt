@@ -1,5 +1,5 @@
 -- The items of code in words, laid one after another.
-use Rattle.sfi_rewrite.proofs.Prelude.{◌≡◌, ℕ, ◌+◌, ◌<◌, ◌≤◌, Bool, true, false, List, [], ◌∷◌, ◌++◌, length, take, drop, get_or, Some, refl, sym, ap, ◌∙◌, subst, arith, append_assoc, append-nil, true≢false, inl, inr, MatchBool, ◌&&◌, and_parts, take_more, All, Instr, Load, Store, Jalr, Body, Plain, To, High, Low, Base, Item, BundleSlot, Wide, Upper, Lower, Region, Short, Jump, IsAlone, IsPermitted, UnlessMemory, RewriteFault, Op, OpImm, And, Or, code_most, Sfiw, not, take-append-drop, IfOk-weaker, IfErr-weaker, TooLarge, Memory, AreFaultless, IsItemFault, IsLabelAt, Marked, marked, in_words, AreExpanded, AreLaidBefore}
+use Rattle.sfi_rewrite.proofs.Prelude.{◌≡◌, ℕ, ◌+◌, ◌<◌, ◌≤◌, Bool, true, false, List, [], ◌∷◌, ◌++◌, length, take, drop, get_or, Some, refl, sym, ap, ◌∙◌, subst, arith, append_assoc, append-nil, true≢false, inl, inr, MatchBool, ◌&&◌, and_parts, take_more, All, Instr, Load, Store, Jalr, Body, Plain, To, High, Low, Base, Item, BundleSlot, Wide, Upper, Lower, Region, Short, Jump, IsAlone, IsPermitted, UnlessMemory, RewriteFault, Op, OpImm, And, Or, built_code_most, Sfiw, not, take-append-drop, IfOk-weaker, IfErr-weaker, TooLarge, Memory, AreFaultless, IsItemFault, IsLabelAt, Marked, marked, in_words, AreExpanded, AreLaidBefore}
 use Rattle.std.specs.Prelude.{Result, IfOk, IfErr}
 use Rattle.sfi_rewrite.specs.words.Expansion.{IsConfined, IsAround, IsExpansionOf, IsExpansion, before, after, base_of, is_step_before_use, is_move, moved, mask_after}
 use Rattle.sfi_rewrite.specs.private.{WordsSoFar, bytes_of, waiting_size, more_for, ended, before_label, with_slot, with_slots, with_more, LeadsTo, HaveRoom, AreWith, IsBeyond, HasNoRoom, AreOfFirst}
@@ -15,13 +15,13 @@ next_slots old code new slots k s h at e n =
     let more : take (k + 1) slots ≡ take k slots ++ s ∷ [] = take_more slots k s h ∙ ap (λ y. take k slots ++ y ∷ []) (sym at) in
     n ∙ ap (λ w. with_slot w.words w.waiting s) e ∙ sym (slots_push old (take k slots) s) ∙ ap (λ v. with_slots old v) (sym more)
 
-pub next_room : (code new : WordsSoFar) (s : BundleSlot) → HaveRoom code → bytes_of code + more_for code.waiting s ≤ code_most Sfiw → new ≡ with_slot code.words code.waiting s → HaveRoom new
+pub next_room : (code new : WordsSoFar) (s : BundleSlot) → HaveRoom code → bytes_of code + more_for code.waiting s ≤ built_code_most Sfiw → new ≡ with_slot code.words code.waiting s → HaveRoom new
 next_room code new s room h n =
     let bytes = slot_bytes code.words code.waiting s in
     rw n (record { aligned = slot_aligned code.words code.waiting s room.aligned; fits = omega arith })
 
 pub beyond : (sandbox : ℕ) (old code : WordsSoFar) (slots : List BundleSlot) (k : ℕ) (s : BundleSlot) → k < length slots → s ≡ get_or slots k s
-    → code ≡ with_slots old (take k slots) → code_most Sfiw < bytes_of code + more_for code.waiting s → IsBeyond sandbox (with_slots old slots) (TooLarge sandbox)
+    → code ≡ with_slots old (take k slots) → built_code_most Sfiw < bytes_of code + more_for code.waiting s → IsBeyond sandbox (with_slots old slots) (TooLarge sandbox)
 beyond sandbox old code slots k s h at e over =
     let then = with_slot code.words code.waiting s in
     let all : with_slots old slots ≡ with_slots then (drop (k + 1) slots) =

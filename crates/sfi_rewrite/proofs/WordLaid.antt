@@ -1,5 +1,5 @@
 -- What is laid in words, and in either kind of code: that there is one way, and a beginning of the items.
-use Rattle.sfi_rewrite.proofs.Prelude.{◌≡◌, ℕ, zero, suc, ◌%◌, ◌≤◌, List, [], ◌∷◌, ◌++◌, length, take, drop, refl, sym, ap, ◌∙◌, subst, arith, append_assoc, take_all, take-take, All, MatchBool, Format, Item, BundleSlot, size_of, IsPermitted, AreFaultless, AreLaidFrom, Bool, true, false, ◌&&◌, Instr, Load, Store, Jalr, Body, Plain, Sfi1, Sfi2, Sfiw, take-append-drop, drop_all, AreLaidIn, not, code_most, has_words, Marked, marked, in_words, AreExpanded, AreLaidBefore}
+use Rattle.sfi_rewrite.proofs.Prelude.{◌≡◌, ℕ, zero, suc, ◌%◌, ◌≤◌, List, [], ◌∷◌, ◌++◌, length, take, drop, refl, sym, ap, ◌∙◌, subst, arith, append_assoc, take_all, take-take, All, MatchBool, Format, Item, BundleSlot, size_of, IsPermitted, AreFaultless, AreLaidFrom, Bool, true, false, ◌&&◌, Instr, Load, Store, Jalr, Body, Plain, Sfi1, Sfi2, Sfiw, take-append-drop, drop_all, AreLaidIn, not, built_code_most, has_words, Marked, marked, in_words, AreExpanded, AreLaidBefore}
 use Rattle.sfi_rewrite.specs.words.Expansion.{IsExpansion, before, after, base_of, IsConfined, IsAround, IsExpansionOf, is_step_before_use, is_move, moved}
 use Rattle.sfi_rewrite.proofs.Laid.{laid_one_way, alone_one_way, laid_split}
 use Rattle.sfi_rewrite.proofs.WordLaying.{words_more, word_aligned}
@@ -124,7 +124,7 @@ laid_of w f items slots h =
 -- what is laid of items without a fault
 pub record Fits (f : Format) (items : List Item) (slots : List BundleSlot) : Type 0 where
   pub permitted : All (IsPermitted f) items
-  pub fits : size_of slots ≤ code_most f
+  pub fits : size_of slots ≤ built_code_most f
 
 pub all_fit : (w : Bool) (f : Format) (items : List Item) (slots : List BundleSlot) → AreLaidIn w f items [] slots → (all : List BundleSlot) × AreFaultless w f (length items) items all → Fits f items slots
 all_fit w f items slots l a =

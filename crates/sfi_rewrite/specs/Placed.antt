@@ -5,7 +5,7 @@ use Rattle.rv_word.specs.Spelling.{InRange, IsReg}
 use Rattle.rv_comp.specs.Table.{allowed}
 use Rattle.sfi_formats.specs.declared.format.Format.{Format}
 use Rattle.sfi_formats.specs.declared.format.Format.TheVariants.{Sfi1, Sfiw}
-use Rattle.sfi_formats.specs.Formats.{code_most, has_words, unit}
+use Rattle.sfi_formats.specs.Formats.{built_code_most, has_words, unit}
 use Rattle.sfi_source.specs.declared.item.Item.{Item}
 use Rattle.sfi_source.specs.declared.item.SourceGate.{SourceGate}
 use Rattle.sfi_source.specs.Source.{IsDataSize, IsBody}
@@ -87,7 +87,7 @@ pub record IsPlacedPart (p : Placement) : Type 0 where
   pub bytes : All (λ b. b < 256) p.bytes
   pub bundles : AreBundles p.bundles
   pub whole : AreWholeIn p.format (length p.names) p.bundles
-  pub fits : size_of (slots_of p.bundles) ≤ code_most p.format
+  pub fits : size_of (slots_of p.bundles) ≤ built_code_most p.format
   pub encodes : All Encodes (slots_of p.bundles)
   pub names_known : All (IsNamedBelow (length p.names)) (slots_of p.bundles)
 

@@ -2,7 +2,7 @@
 use Rattle.std.specs.Prelude.{◌≡◌, ◌+◌, ◌<◌, ◌≤◌, ◌&&◌, ℕ, List, Bool, true, false, take, drop, slice_get, Some, length, ◌⊎◌, Result, Ok, Err}
 use Rattle.std.specs.List.{All, AllZip}
 use Rattle.sfi_formats.specs.declared.format.Format.{Format}
-use Rattle.sfi_formats.specs.Formats.{code_most, has_words}
+use Rattle.sfi_formats.specs.Formats.{built_code_most, has_words}
 use Rattle.sfi_source.specs.declared.item.Body.{Body}
 use Rattle.sfi_source.specs.declared.item.Item.{Item}
 use Rattle.sfi_rewrite.specs.declared.slot.BundleSlot.{BundleSlot}
@@ -41,14 +41,14 @@ pub record AreFaultless (in_words : Bool) (f : Format) (k : ℕ) (items : List I
     (slots : List BundleSlot) : Type 0 where
   pub permitted : All (IsPermitted f) (take k items)
   pub laid : AreLaidIn in_words f (take k items) (drop k items) slots
-  pub fits : size_of slots ≤ code_most f
+  pub fits : size_of slots ≤ built_code_most f
 
 -- no code region has room for the slots of the first k items; in bundles the last of these items
 -- would begin a bundle beyond the region's last, since an expansion lies in one bundle
 abbrev pub AreTooLarge : Bool → Format → ℕ → List Item → Type 0
 AreTooLarge in_words f k items =
     (slots : List BundleSlot) × AreLaidIn in_words f (take k items) (drop k items) slots
-    × (code_most f < size_of slots)
+    × (built_code_most f < size_of slots)
 
 -- the first of the faults that the item has wherever it stands, in the order of these four lines
 abbrev pub HasItemFault : Format → Item → RewriteFault → Type 0

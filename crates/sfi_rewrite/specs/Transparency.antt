@@ -32,7 +32,7 @@ use Rattle.sfi_rewrite.specs.Placement.{IsNext, AreLaid, Placement}
 pub record AreRegions (code_at data_at : Span) : Type 0 where
   pub format : Format
   pub code_placed : IsCodeRegion format code_at.base code_at.size
-  pub data_placed : IsDataRegion data_at.base data_at.size
+  pub data_placed : IsDataRegion format data_at.base data_at.size
 
 -- The instruction keeps to the sandbox: a load's or store's base register lies in the data region,
 -- whatever its offset adds, and a jalr goes to a bundle start of the code region. Of any other

@@ -4,7 +4,7 @@ use Rattle.std.specs.List.{All}
 use Rattle.sfi_formats.specs.Limits.{bundle_size}
 use Rattle.sfi_formats.specs.declared.format.Format.{Format}
 use Rattle.sfi_formats.specs.declared.format.Format.TheVariants.{Sfi2, Sfiw}
-use Rattle.sfi_formats.specs.Formats.{code_most, has_words}
+use Rattle.sfi_formats.specs.Formats.{built_code_most, has_words}
 use Rattle.sfi_source.specs.declared.item.Item.{Item}
 use Rattle.sfi_source.specs.declared.item.Named.{Named}
 use Rattle.sfi_source.specs.declared.item.Named.TheVariants.{Gate, Code, Data, Unknown}
@@ -25,7 +25,7 @@ use Rattle.sfi_rewrite.specs.words.Expansion.{IsExpansion, Marked, marked, in_wo
 
 -- the most bytes of a sandbox's code in any format, its gates' stubs not counted
 abbrev pub largest : ℕ
-largest = code_most Sfi2
+largest = built_code_most Sfi2
 
 -- the slots have as many bytes as a bundle
 abbrev pub IsFull : List BundleSlot → Type 0
@@ -43,7 +43,7 @@ pub record HasNext (f : Format) (old : List BundleSlot) (x : Item) (new : List B
   pub expanded : List BundleSlot
   pub next : IsNext f (size_of old) x nops expanded
   pub slots : new ≡ old ++ (replicate nops c_nop ++ expanded)
-  pub fits : size_of new ≤ code_most f
+  pub fits : size_of new ≤ built_code_most f
 
 -- the body of each item is one of a source
 abbrev pub HaveBodies : List Item → Type 0
@@ -55,7 +55,7 @@ pub record IsTooLarge (f : Format) (sandbox end : ℕ) (x : Item) (fault : Rewri
   pub nops : ℕ
   pub expanded : List BundleSlot
   pub next : IsNext f end x nops expanded
-  pub beyond : code_most f ≤ end + 2 * nops
+  pub beyond : built_code_most f ≤ end + 2 * nops
   pub fault_is : fault ≡ TooLarge sandbox
 
 -- the places that labels name: one before each item, and last one at the end of the code
@@ -144,7 +144,7 @@ AreWords w = size_of w.words % 4 ≡ 0
 -- the words are whole, and a code region has room for them
 pub record HaveRoom (w : WordsSoFar) : Type 0 where
   pub aligned : AreWords w
-  pub fits : bytes_of w ≤ code_most Sfiw
+  pub fits : bytes_of w ≤ built_code_most Sfiw
 
 -- the words before what may be a label: where one comes, the form that waits stands alone in its word
 abbrev pub before_label : Bool → List BundleSlot → Option Form16 → WordsSoFar
@@ -160,7 +160,7 @@ pub record AreWith (x : Item) (later : List Item) (old new : WordsSoFar) : Type 
 
 -- no code region has room for the words, and this is the fault of that
 pub record IsBeyond (sandbox : ℕ) (w : WordsSoFar) (f : RewriteFault) : Type 0 where
-  pub beyond : code_most Sfiw < bytes_of w
+  pub beyond : built_code_most Sfiw < bytes_of w
   pub fault : f ≡ TooLarge sandbox
 
 -- no code region has room for the words with the item's slots after them, and this is the fault of

@@ -1,6 +1,6 @@
 //! The items of a sandbox, laid one after another.
 ghost use Rattle.std.specs.Prelude.{◌≡◌, ◌<◌, ◌≤◌, ◌+◌, ◌*◌, ℕ, false, IfOk, IfErr, length, slice_index};
-ghost use Rattle.sfi_formats.specs.Formats.{code_most};
+ghost use Rattle.sfi_formats.specs.Formats.{built_code_most};
 ghost use Rattle.sfi_source.specs.Source.{IsBody};
 ghost use Rattle.sfi_rewrite.specs.Expansion.{size_of};
 ghost use Rattle.sfi_rewrite.specs.private.{HasNext, IsTooLarge, HaveBodies, AreLabels};
@@ -33,7 +33,7 @@ fn lay_item(
 ) -> Result<(), RewriteFault>
     requires permitted { IsPermitted format item.now }
     requires body { (count : ℕ) × IsBody count item.now.body }
-    requires room { size_of code.old ≤ code_most format }
+    requires room { size_of code.old ≤ built_code_most format }
     ensures laid { IfOk result (λ _. HasNext format code.old item.now code.new) }
     ensures refused { IfErr result
         (UnlessMemory (IsTooLarge format sandbox (size_of code.old) item.now)) }
@@ -43,7 +43,7 @@ fn lay_item(
     let size = size_of(slots);
     let end = code.end();
     let nops = nops_before(end, item.labelled, is_call(&item.body), size);
-    if end + 2 * nops >= format.code_most() as usize {
+    if end + 2 * nops >= format.built_code_most() as usize {
         return Err(RewriteFault::TooLarge { sandbox });
     }
     code.push_nops(nops)?;

@@ -16,7 +16,7 @@ pub use Rattle.rv_mem.specs.Bytes.{address_after, addresses, Bytes, bytes_at, lo
 pub use Rattle.rv_step.specs.Step.{Accesses, Stands, effect, after_load, next, unchanged, Stepped, IsStep, load_size, store_size, extended, is_taken, result_of}
 pub use Rattle.rv_step.specs.State.{Hart, with_register, State, register, with_pc, past, even_of, IsHart}
 pub use Rattle.rv_step.specs.declared.outcome.Outcome.TheVariants.{Next, Call, Trap}
-pub use Rattle.sfi_formats.specs.Formats.{code_most, has_stack, has_words, is_stack, unit, is_reserved}
+pub use Rattle.sfi_formats.specs.Formats.{code_most, data_most, has_stack, has_words, is_stack, unit, is_reserved}
 pub use Rattle.sfi_formats.specs.declared.format.Format.{Format}
 pub use Rattle.sfi_formats.specs.declared.format.Format.TheVariants.{Sfi1, Sfi2, Sfiw}
 pub use Rattle.sfi_image.specs.Parts.{is_gate_of, AreGates, IsRightPart, AreRight, IsRightLayout, AreOf, IsBundleStart, HasReserved}

@@ -4,7 +4,7 @@ use Rattle.std.specs.Prelude.{bit_and, bit_or}
 use Rattle.sfi_safe_runs.proofs.Entries.{bundles as bundle_unit}
 use Rattle.sfi_safe_runs.proofs.Accessing.{written, masked_data, masked_code}
 use Rattle.sfi_pairs.proofs.Facts.{masking_is, placing_is}
-use Rattle.sfi_safety.proofs.Prelude.{◌≡◌, ◌≢◌, ℕ, ◌-◌, ◌<◌, List, [], ◌∷◌, length, true, not, ◌&&◌, ◌==◌, sym, ap, ◌∙◌, subst, arith, slice_index, and_parts, and_from, not-true, false≢true, eqb-false, And, Or, Instr, Op, InRange, code_most, Hart, register, result_of, Part, code_region, IsBundleStart, InData, Leaves, follows_mask, WritesResult, InstructionLeaves, RegOp, is_masking, is_placing, is_reserved, false, Bool, ◌||◌, refl, inl, inr, ⊎_elim, cases_Bool, or_cases, or_left, or_right, not-false, Jal, Jalr, has_stack, BundlePlace, Piece, InstrInBundle, may_write_stack, breaks_stack, StackInData, StackInDataBefore, follows_data_pair}
+use Rattle.sfi_safety.proofs.Prelude.{◌≡◌, ◌≢◌, ℕ, ◌-◌, ◌<◌, List, [], ◌∷◌, length, true, not, ◌&&◌, ◌==◌, sym, ap, ◌∙◌, subst, arith, slice_index, and_parts, and_from, not-true, false≢true, eqb-false, And, Or, Instr, Op, InRange, code_most, data_most, Hart, register, result_of, Part, code_region, IsBundleStart, InData, Leaves, follows_mask, WritesResult, InstructionLeaves, RegOp, is_masking, is_placing, is_reserved, false, Bool, ◌||◌, refl, inl, inr, ⊎_elim, cases_Bool, or_cases, or_left, or_right, not-false, Jal, Jalr, has_stack, BundlePlace, Piece, InstrInBundle, may_write_stack, breaks_stack, StackInData, StackInDataBefore, follows_data_pair}
 
 -- ==== After an instruction the registers hold what it and the one before it leave: of a pair, an address of its region.
 
@@ -71,7 +71,7 @@ leaves_after p before after i earlier right bundles count reserved range writes 
       let x = had.data_mask t pair.mask_before in
       let value = after_placing 26 t i before after pair.placing pair.target count range writes in
       let value' : register after t ≡ bit_or (bit_and x.0 (p.data_size - 1)) p.data_base = value ∙ ap (λ n. bit_or n (register before 26)) x.1 ∙ ap (λ n. bit_or (bit_and x.0 (p.data_size - 1)) n) reserved.data_base in
-      let placed = masked_data p.data_base p.data_size 256 1048576 x.0 right.data_placed in
+      let placed = masked_data p.data_base p.data_size 256 (data_most p.format) x.0 right.data_placed in
       subst (λ n. InData p n) (sym value') (placed.from, placed.below);
   code_pair = λ t h.
       let pair = pair_parts 25 24 t i earlier h in

@@ -1,8 +1,9 @@
 -- The samples: their layout, their image, where they are entered, and their steps.
-use Rattle.sfi_safety.proofs.Prelude.{◌≡◌, ℕ, zero, suc, ◌+◌, ◌-◌, ◌*◌, ◌%◌, ◌^◌, ◌<◌, ◌≤◌, ◌⊎◌, List, [], ◌∷◌, ◌++◌, length, replicate, take, drop, Option, Some, inl, inr, refl, sym, ap, subst, ◌∙◌, arith, get_or, get_or-drop, get_or-take, slice_index, true, false, nat_lt, All, list_all, and_parts, ltb-true, Instr, Ebreak, Spells, Format, Sfi1, Sfi2, Sfiw, has_words, code_most, Bytes, byte_at, bytes_at, addresses, address_after, Accesses, Hart, IsHart, State, Stepped, Stands, IsStep, effect, next, unchanged, Call, AreGates, Part, AreGateWords, AreApart, code_region, guarded_region, IsBundleStart, IsRightPart, IsRightLayout, AreOf, Finding, AreFindings, AreFindingsInBundles, InData, InGuard, IsGate, HasReserved, HasCode, IsUnitStart, IsTyped, Turn, Steps, IsEntry, IsRun, IsTurn, after_turn, after_step, IsSafeRun, HasOneFinding, HasUnsafeRun, IsNeeded, BreaksNoOther, BreaksAloneInBundle, Bool, false≢true, Sample, sandbox, bytes_of, words_of, Rule, InCode, unit, BreaksAlone, BreaksAloneInWord}
+use Rattle.sfi_safety.proofs.Prelude.{◌≡◌, ℕ, zero, suc, ◌+◌, ◌-◌, ◌*◌, ◌%◌, ◌^◌, ◌<◌, ◌≤◌, ◌⊎◌, List, [], ◌∷◌, ◌++◌, length, replicate, take, drop, Option, Some, inl, inr, refl, sym, ap, subst, ◌∙◌, arith, get_or, get_or-drop, get_or-take, slice_index, true, false, nat_lt, All, list_all, and_parts, ltb-true, Instr, Ebreak, Spells, Format, Sfi1, Sfi2, Sfiw, has_words, code_most, data_most, Bytes, byte_at, bytes_at, addresses, address_after, Accesses, Hart, IsHart, State, Stepped, Stands, IsStep, effect, next, unchanged, Call, AreGates, Part, AreGateWords, AreApart, code_region, guarded_region, IsBundleStart, IsRightPart, IsRightLayout, AreOf, Finding, AreFindings, AreFindingsInBundles, InData, InGuard, IsGate, HasReserved, HasCode, IsUnitStart, IsTyped, Turn, Steps, IsEntry, IsRun, IsTurn, after_turn, after_step, IsSafeRun, HasOneFinding, HasUnsafeRun, IsNeeded, BreaksNoOther, BreaksAloneInBundle, Bool, false≢true, Sample, sandbox, bytes_of, words_of, Rule, InCode, unit, BreaksAlone, BreaksAloneInWord}
 use Rattle.rv_comp.specs.declared.front.Front.TheVariants.{Read}
 use Rattle.sfi_image.specs.declared.span.Span.{Span}
 use Rattle.sfi_formats.specs.Limits.{gates_most}
+use Rattle.sfi_formats.proofs.Facts.{limits_have_room}
 use Rattle.std.proofs.Common.{length-append, length-take, length-drop}
 use Rattle.sfi_safe_runs.proofs.Facts.{can_be_entered}
 use Rattle.sfi_safe_runs.proofs.Entries.{bundles as bundle_unit, of_bundle, of_stack}
@@ -58,11 +59,12 @@ bytes_small (w ∷ words) (suc (suc zero)) = omega arith
 bytes_small (w ∷ words) (suc (suc (suc zero))) = omega arith
 bytes_small (w ∷ words) (suc (suc (suc (suc k)))) = bytes_small words k
 
--- no code region need be larger than this
+-- no region need be larger than this
 code_at_least : (f : Format) → 256 ≤ code_most f
-code_at_least Sfi1 = omega arith
-code_at_least Sfi2 = omega arith
-code_at_least Sfiw = omega arith
+code_at_least f = let room = limits_have_room f in omega (arith, room.0, room.1)
+
+data_at_least : (f : Format) → 256 ≤ data_most f
+data_at_least f = let room = limits_have_room f in omega (arith, room.2, room.3)
 
 module _ (s : Sample) (is : IsSample s) where
   pub right_part : IsRightPart (sandbox s)
@@ -72,7 +74,7 @@ module _ (s : Sample) (is : IsSample s) where
       record {
         code_base = omega arith;
         code_placed = record { power = 8; size_is = size; at_least = omega (arith, size); at_most = omega (arith, size, code_at_least s.format); multiple = 65536; base_is = sym (ap (λ (n : ℕ). 65536 * n) size) };
-        data_placed = record { power = 8; size_is = refl; at_least = omega arith; at_most = omega arith; multiple = 98304; base_is = refl };
+        data_placed = record { power = 8; size_is = refl; at_least = omega arith; at_most = omega (arith, data_at_least s.format); multiple = 98304; base_is = refl };
         guard_room = record { below = omega arith; above = omega arith };
         start = record { held = (omega arith, omega (arith, size)); aligned = refl };
         gate_count = few;

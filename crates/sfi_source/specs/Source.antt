@@ -4,7 +4,7 @@ use Rattle.rv_word.specs.Spelling.{modulo, IsReg, InRange}
 use Rattle.std.specs.List.{All, AllPairs}
 use Rattle.rv_word.specs.declared.instr.Instr.{Instr}
 use Rattle.rv_word.specs.declared.instr.Instr.TheVariants as instr
-use Rattle.sfi_formats.specs.Limits.{data_most, gates_most, items_most, region_least, service_most}
+use Rattle.sfi_formats.specs.Limits.{gates_most, items_most, region_least, service_most, source_data_most}
 use Rattle.sfi_formats.specs.declared.format.Format.{Format}
 use Rattle.sfi_formats.specs.declared.format.Format.TheVariants.{Sfi1}
 use Rattle.sfi_source.specs.Names.{IsShortLabel}
@@ -60,12 +60,12 @@ sandbox format movable data_size gates names items bytes =
 abbrev pub named : Sandbox → List Named
 named s = map (λ e. e.1) s.names
 
--- the size is a power of two, and one that a data region may have
+-- the size is a power of two, and one that a data region of a source may have
 pub record IsDataSize (size : ℕ) : Type 0 where
   pub power : ℕ
   pub size_is : size ≡ 2 ^ power
   pub at_least : region_least ≤ size
-  pub at_most : size ≤ data_most
+  pub at_most : size ≤ source_data_most
 
 -- the instruction is neither a jal nor a branch
 abbrev pub IsStraight : Instr → Type 0

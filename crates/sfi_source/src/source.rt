@@ -69,8 +69,8 @@ impl SourcePart {
         self.movable
     }
 
-    /// How many bytes the data region has, a power of two from `REGION_LEAST` to `DATA_MOST` of
-    /// `sfi_formats`.
+    /// How many bytes the data region has, a power of two from `REGION_LEAST` to
+    /// `SOURCE_DATA_MOST` of `sfi_formats`.
     pub fn data_size(&self) -> u32
         ensures { result ≡ self.now.data_size }
     {

@@ -1,6 +1,7 @@
 -- Each token is what a part of a statement asks for, or isn't.
 use Rattle.sfi_text.proofs.Prelude.{◌≡◌, ℕ, Bool, true, false, List, [], ◌∷◌, length, take, drop, ◌⊎◌, inl, inr, refl, sym, ap, ◌∙◌, subst, arith, ℤ, pos, negsuc, codes, ◌≤ℤ◌, cases_lt, cases_eq, false≢true, bytes_eq, bytes_eq-Decides, ints, modulo, IsBetween, IsDataSize, NumberKind, BranchOffset, JumpOffset, DataSize, OperandPart, Rd, Rs1, Rs2, Number, Name, Mode, ImageFormat, Comma, Open, Close, Keyword, IsBlank, is_mark, IsMark, IsNumber, IsToken, Takes, IsStuck, begins_name, IsName, begins_label, IsLabel, IsNumberOf, keyword_name, OperandValues, Stands, SaysFormat, mode_name, body_of, token_len, operands}
 use Rattle.sfi_text.specs.private.Reading.{candidate, IsInReach}
+use Rattle.sfi_formats.specs.Limits.{source_data_most}
 use Rattle.sfi_formats.specs.declared.format.Format.{Format}
 use Rattle.sfi_formats.specs.declared.format.Format.TheVariants.{Sfi1, Sfi2, Sfiw}
 use Rattle.std.specs.Int.{is_power_of_two}
@@ -74,7 +75,7 @@ number_or_not token (inr (inr mark)) = inr (λ z h. mark_no_number token z mark 
 size_or_not : (n : ℕ) → Decided (IsDataSize n)
 size_or_not n =
     let test = power_test (is_power_of_two n) n refl in
-    elim (decided_both (decided_both (decided_le 256 n) (decided_le n 1048576)) (decided_bit (is_power_of_two n) true)) [
+    elim (decided_both (decided_both (decided_le 256 n) (decided_le n source_data_most)) (decided_bit (is_power_of_two n) true)) [
       | inl h ↦ let power = test.0 h.1 in inl (record { power = power.0; size_is = power.1; at_least = h.0.0; at_most = h.0.1 })
       | inr not ↦ inr (λ s. not ((s.at_least, s.at_most), test.1 (s.power, s.size_is)))
     ]

@@ -13,7 +13,7 @@ use Rattle.rv_word.specs.declared.instr.Cond.TheVariants.{Beq, Bne, Blt, Bge, Bl
 use Rattle.sfi_text.specs.declared.mnemonic.Mnemonic.{Mnemonic}
 use Rattle.sfi_text.specs.declared.mnemonic.Mnemonic.TheVariants as mnemonic
 use Rattle.rv_word.specs.Spelling.{IsBetween, is_shift, IsImm12, IsBranchOffset, IsJumpOffset}
-use Rattle.sfi_formats.specs.Limits.{data_most, service_most, name_most}
+use Rattle.sfi_formats.specs.Limits.{source_data_most, service_most, name_most}
 use Rattle.sfi_source.specs.Source.{IsDataSize}
 use Rattle.sfi_text.specs.declared.form.NumberKind.{NumberKind}
 use Rattle.sfi_text.specs.declared.form.NumberKind.TheVariants.{Immediate, ShiftAmount, BranchOffset, JumpOffset, Upper, FenceFields, DataSize, Service, Word, Half, Byte, ZeroCount}
@@ -115,7 +115,7 @@ IsNumberOf Service z = IsBetween (pos 0) (pos service_most) z
 IsNumberOf Word z = IsBetween (negsuc 2147483647) (pos 4294967295) z
 IsNumberOf Half z = IsBetween (negsuc 32767) (pos 65535) z
 IsNumberOf Byte z = IsBetween (negsuc 127) (pos 255) z
-IsNumberOf ZeroCount z = IsBetween (pos 0) (pos data_most) z
+IsNumberOf ZeroCount z = IsBetween (pos 0) (pos source_data_most) z
 
 -- a shift's amount, or an immediate of 12 bits
 abbrev pub immediate_kind : ImmOp → NumberKind

@@ -6,7 +6,7 @@ ghost use Rattle.sfi_source.specs.Source.{IsDataSize};
 
 use crate::mnemonic::Mnemonic;
 use rv_word::ImmOp;
-use sfi_formats::{DATA_MOST, REGION_LEAST, SERVICE_MOST};
+use sfi_formats::{REGION_LEAST, SERVICE_MOST, SOURCE_DATA_MOST};
 
 /// Which numbers may stand at a place, in bytes where they are offsets.
 #[derive(Clone, Copy)]
@@ -23,7 +23,7 @@ pub enum NumberKind {
     Upper,
     /// 0 to 4095: the fence mode, predecessors and successors.
     FenceFields,
-    /// A power of two of `REGION_LEAST` to `DATA_MOST` of `sfi_formats`:
+    /// A power of two of `REGION_LEAST` to `SOURCE_DATA_MOST` of `sfi_formats`:
     /// the bytes of a sandbox's data.
     DataSize,
     /// 0 to `SERVICE_MOST`: a gate's service.
@@ -34,7 +34,7 @@ pub enum NumberKind {
     Half,
     /// -128 to 255.
     Byte,
-    /// 0 to `DATA_MOST`: how many bytes are 0.
+    /// 0 to `SOURCE_DATA_MOST`: how many bytes are 0.
     ZeroCount,
 }
 
@@ -142,7 +142,7 @@ fn is_power_of_two(number: u64) -> bool
 fn is_data_size(number: u64) -> bool
     ensures { IsTrue result ↔ IsDataSize number }
 {
-    REGION_LEAST as u64 <= number && number <= DATA_MOST as u64 && is_power_of_two(number)
+    REGION_LEAST as u64 <= number && number <= SOURCE_DATA_MOST as u64 && is_power_of_two(number)
 }
 
 /// Whether `number`, which may be negative, is a size of a data region.
@@ -172,7 +172,7 @@ impl NumberKind {
             NumberKind::Word => (-2147483648..=4294967295).contains(&number),
             NumberKind::Half => (-32768..=65535).contains(&number),
             NumberKind::Byte => (-128..=255).contains(&number),
-            NumberKind::ZeroCount => (0..=DATA_MOST as i64).contains(&number),
+            NumberKind::ZeroCount => (0..=SOURCE_DATA_MOST as i64).contains(&number),
         }
     }
 }

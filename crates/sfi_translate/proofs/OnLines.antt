@@ -12,9 +12,8 @@ use Rattle.rv_step.specs.declared.outcome.Outcome.TheVariants.{Next, Call, Trap}
 use Rattle.rv_step.specs.State.{State}
 use Rattle.rv_step.specs.Step.{Stepped, Stands, IsStep}
 use Rattle.rv_step.proofs.Facts.{one_instruction, stopped_stays}
-use Rattle.sfi_formats.specs.declared.format.Format.{Format}
-use Rattle.sfi_formats.specs.declared.format.Format.TheVariants.{Sfi1, Sfi2, Sfiw}
-use Rattle.sfi_formats.specs.Formats.{unit, code_most}
+use Rattle.sfi_formats.specs.Formats.{unit}
+use Rattle.sfi_image.proofs.Formats.{code_at_most}
 use Rattle.sfi_image.specs.Parts.{IsRightPart}
 use Rattle.sfi_image.proofs.Facts.{code_ends}
 use Rattle.sfi_rules.specs.Readings.{Piece, IsLongestReading, rest_of}
@@ -38,11 +37,6 @@ abbrev pub GoesOn : Part → State → ℕ → Stepped → Type 0
 GoesOn p s n r = (r.state.hart.pc ≡ address_after s.hart.pc n) ⊎ IsUnitStart p r.state.hart.pc
 
 -- ---- units
-
-most_code : (f : Format) → code_most f ≤ 1048576
-most_code Sfi1 = omega arith
-most_code Sfi2 = omega arith
-most_code Sfiw = omega arith
 
 start_is : (u base len many a : ℕ) → (u ≡ 16) ⊎ (u ≡ 4) → base % 16 ≡ 0 → len ≡ u * many → base ≤ a → a < base + len → a % u ≡ 0 → (k : ℕ) × (a ≡ base + u * k) × (u * k + u ≤ len)
 start_is u base len many a (inl e) whole all from below aligned =
@@ -163,7 +157,7 @@ module _ (sandbox : ℕ) (p : Part) (right : IsRightPart p) (code : List Line) (
         let fit = fits p s.hart.pc has.instr has.size has.line in
         let from : p.code_base ≤ after.hart.pc = inside.0 in
         let below : after.hart.pc < p.code_base + length p.code = inside.1 in
-        let most : length p.code ≤ 1048576 = omega (arith, right.code_placed.at_most, most_code p.format) in
+        let most : length p.code ≤ 2 ^ 24 = omega (arith, right.code_placed.at_most, code_at_most p.format) in
         let next : after.hart.pc ≡ s.hart.pc + has.size = omega (arith, is, from, below, end, at, within, fit, most) in
         subst (λ (a : ℕ). HasLine p a) (sym next) (next_line s.hart.pc has.instr has.size has.line (subst (λ (a : ℕ). a < p.code_base + length p.code) next below))
 

@@ -1,4 +1,4 @@
--- What the lines of a sandbox's translation do, as a header reads them.
+-- What the lines of a sandbox's translation do, by who reads them.
 use Rattle.std.specs.Prelude.{◌≡◌, ℕ, zero, suc, ◌+◌, ◌-◌, ◌/◌, ◌%◌, ◌^◌, ◌<◌, ◌==◌, nat_le, nat_lt, ◌||◌, ◌&&◌, not, Bool, true, false, List, [], ◌∷◌, Option, Some, None, length, slice_set, if◌then◌else◌}
 use Rattle.rv_word.specs.declared.instr.Instr.{Instr}
 use Rattle.rv_word.specs.declared.instr.Instr.TheVariants.{Load, Store, Branch, Jal, Jalr, Ecall, Ebreak}
@@ -14,8 +14,8 @@ use Rattle.sfi_translate.specs.Lines.{Line, Function, End, Entry, Head, Does, is
 
 -- ---- who reads the lines
 
--- C (include/sfi_native.h), whose functions end and are entered where the text says; or assembly
--- (include/sfi_native_x86_64.h), in which all code of a sandbox is one function, entered at each unit
+-- C (include/sfi_native.h), whose functions end and are entered where the text says; or assembly, of which
+-- `sfi_native` is the machine code, in which all code of a sandbox is one function, entered at each unit
 pub data Target : Type 0 where
   C : Target
   Assembly : Target
@@ -136,8 +136,7 @@ from_loop t p code pc left =
 
 -- ---- what is done
 
--- an access of `size` bytes at the address lies in the data: with SFI_GUARDED a fault of the host and its
--- fixup stand for the test, which isn't modelled
+-- an access of `size` bytes at the address lies in the data
 abbrev pub is_tested : Part → ℕ → ℕ → Bool
 is_tested p at size = nat_le ((at + (2 ^ 32 - p.data_base)) % 2 ^ 32) (p.data_size - size)
 

@@ -1,6 +1,6 @@
 -- What is known of the typed registers before an instruction, and what it makes of that.
 use Rattle.sfi_word_safety.proofs.Prelude.{◌≡◌, ℕ, ◌+◌, ◌<◌, ◌≤◌, ◌⊎◌, List, ◌∷◌, length, true, false, not, ◌&&◌, ◌||◌, ◌==◌, refl, sym, ap, ◌∙◌, subst, inl, inr, ⊎_elim, arith, Option, Some, None, ℤ, slice_index, bit_and, bit_or, and_parts, or_cases, eqb-true, eq-eqb, not-false, false≢true, cases_Bool, offset_by, InRange, IsImm12, destination, is_register, writes_register, Instr, Op, OpImm, Load, Store, Branch, Jal, Jalr, Ecall, Addi, And, Or, Add, Bytes, address_after, Accesses, Hart, register, effect, word, result_of, load_size, store_size, is_masking, is_placing, Part, Piece, is_jump, InData, InGuard, is_data_register_in, IsWordStart, IsNear, HasReserved, AreWordsTyped, places, masks, begins_placing, begins_masking, begins_using, begins_code, is_pointer_step, uses, is_small, may_access, breaks_access, may_write_data, breaks_data_of, breaks_data, may_write_code, breaks_code, breaks_offset, IsRightPart, has_words, ◌-◌, IsKnown, IsCodeKnown, AreKnown, Format, has_one_step, two_steps, is_or}
-use Rattle.sfi_formats.specs.Formats.{code_most}
+use Rattle.sfi_formats.specs.Formats.{code_most, data_most}
 use Rattle.sfi_safe_runs.proofs.Accessing.{imm12_within, near_access, stepped, used, first_address, load_sized, store_sized, load_range, store_range, masked_code}
 use Rattle.sfi_safe_runs.proofs.Entries.{words as word_unit}
 use Rattle.sfi_safe_runs.proofs.Accessing as at
@@ -167,7 +167,7 @@ module _ (p : Part) (words : has_words p.format ≡ true) (right : IsRightPart p
         (λ (e : places p.format d x.instr ≡ true).
         let value : register after d ≡ bit_or (register h 31) (register h 26) = result_there x.instr Or d 31 26 x.size h m (or_is d 31 26 x.instr (sym (places_is p.format d x.instr) ∙ e)) o.some within in
         let value' : register after d ≡ bit_or (register h 31) p.data_base = value ∙ ap (λ n. bit_or (register h 31) n) reserved.data_base in
-        let lies = at.placed p.data_base p.data_size 256 1048576 (register h 31) right.data_placed (known.offset (two_steps p.format)) in
+        let lies = at.placed p.data_base p.data_size 256 (data_most p.format) (register h 31) right.data_placed (known.offset (two_steps p.format)) in
         let from : p.data_base ≤ bit_or (register h 31) p.data_base = lies.from in
         let below : bit_or (register h 31) p.data_base < p.data_base + p.data_size = lies.below in
         inl (record { low = omega arith; high = omega arith }))
@@ -229,7 +229,7 @@ module _ (p : Part) (words : has_words p.format ≡ true) (right : IsRightPart p
         let within : 31 < length h.registers = omega (arith, count) in
         let mask = masking_is 27 31 x.instr may in
         let value : register after 31 ≡ bit_and (register h mask.0) (register h 27) = result_there x.instr And 31 mask.0 27 x.size h m mask.1 (λ z. omega arith) within in
-        let below = at.offset_below p.data_base p.data_size 256 1048576 (register h mask.0) right.data_placed in
+        let below = at.offset_below p.data_base p.data_size 256 (data_most p.format) (register h mask.0) right.data_placed in
         subst (λ (a : ℕ). a < p.data_size) (sym (value ∙ ap (λ n. bit_and (register h mask.0) n) reserved.data_mask)) below)
         (λ (none : writes_register 31 x.instr ≡ false). subst (λ (a : ℕ). a < p.data_size) (sym (stays 31 none)) (known.offset two))
         (cases_Bool (writes_register 31 x.instr))

@@ -28,7 +28,7 @@ fn fill_slots(
         (UnlessMemory (IsBeyond sandbox (with_slots code.old slots.now))) }
 {
     for slot in slots {
-        if code.end_with(slot) > Format::Sfiw.code_most() as usize {
+        if code.end_with(slot) > Format::Sfiw.built_code_most() as usize {
             return Err(RewriteFault::TooLarge { sandbox });
         }
         code.push(*slot)?;

@@ -30,6 +30,9 @@ pub returns-else-has_words-clause-only_findings : goal.returns-else-has_words-cl
 returns-else-has_words-clause-only_findings c found first is =
     absurd (c.in-Ok.ensures.only_findings found is)
 
+pub convert_accepted-requires : goal.convert_accepted-requires
+convert_accepted-requires c = record { bundles = ap (λ (ps : List Part). has_words (format_of ps)) (sym c.image.ensures.image) ∙ ap has_words (sym c.format.ensures) ∙ sym c.has_words.ensures ∙ c.if-has_words.false }
+
 pub returns-else-has_words-clause-converted : goal.returns-else-has_words-clause-converted
 returns-else-has_words-clause-converted c =
     converted_means c.args.bytes.now c.in-Ok.accepted c.convert_accepted.result (λ s. let z = c.if-begins.ensures.1 s in cc) (ap (λ (ps : List Part). has_words (format_of ps)) (sym c.image.ensures.image) ∙ ap has_words (sym c.format.ensures) ∙ sym c.has_words.ensures ∙ c.if-has_words.false) c.in-Ok.ensures.accepted c.convert_accepted.ensures.converted

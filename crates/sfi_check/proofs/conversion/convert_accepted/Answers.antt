@@ -8,7 +8,7 @@ use Rattle.sfi_image.proofs.Facts.{right_in_second}
 pub check_stack-requires : goal.check_stack-requires
 check_stack-requires c =
     let same : views Sfi2 c.parts-parts.result.now ≡ all_in_format Sfi2 c.args.accepted.now = seen_as (format_of c.image.result.now) Sfi2 c.parts-parts.result.now c.args.accepted.now (c.parts-parts.ensures.parts ∙ c.image.ensures.image) in
-    subst IsRightLayout (sym same) (right_in_second c.args.accepted.now c.image.ensures.clean.layout)
+    subst IsRightLayout (sym same) (right_in_second c.args.accepted.now c.requires.bundles c.image.ensures.clean.layout)
 
 pub returns-in_err-check_stack : goal.returns-in_err-check_stack
 returns-in_err-check_stack c =

@@ -29,6 +29,6 @@ returns g c = λ first so_far h.
       inside,
       stretch_step c.args.reader.now c.take.new.self c.args.tally.now c.add_bundles.new.self c.scan_stretch-tally.new.sink.tally.now _ so_far (take len c.args.rest.now) c.args.place.now c.stretch_length.result n scanned.found c.owed_at-owed.result c.scan_stretch-tally.result
           c.requires.next c.stretch_length.ensures.length taken.le taken.some taken.stretch.whole c.owed_at-owed.ensures scanned.found_are scanned.few c.add_bundles.ensures counts (search rules)
-          c.in_default.ensures.goes_on c.in_default.ensures.code (λ before holds. g.met.F.FindingSink.more first c.args.sink.now _ before scanned.found holds (search rules)) h,
+          c.in_default.ensures.goes_on (λ before holds. g.met.F.FindingSink.more first c.args.sink.now _ before scanned.found holds (search rules)) h,
       c.in_default.ensures.falls,
     )

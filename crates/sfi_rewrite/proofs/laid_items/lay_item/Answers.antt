@@ -21,7 +21,7 @@ nops_before-nops-requires-clause-few c =
 pub returns-then-end-nops-clause-refused : goal.returns-then-end-nops-clause-refused
 returns-then-end-nops-clause-refused c =
     too_large c.args.format c.args.sandbox c.args.item.now c.args.code.now c.expand-expansion.result c.slots-slots.result.now c.is_call.result c.end-end.result c.size_of-size.result c.nops_before-nops.result
-    c.expand-expansion.ensures c.slots-slots.ensures.slots c.end-end.ensures c.is_call.ensures c.size_of-size.ensures c.nops_before-nops.ensures.gap (omega (arith, c.code_most.ensures, c.if-end-nops.true))
+    c.expand-expansion.ensures c.slots-slots.ensures.slots c.end-end.ensures c.is_call.ensures c.size_of-size.ensures c.nops_before-nops.ensures.gap (omega (arith, c.built_code_most.ensures, c.if-end-nops.true))
 
 pub push-requires-clause-some : goal.push-requires-clause-some
 push-requires-clause-some c =
@@ -37,10 +37,10 @@ pub push-requires-clause-room : goal.push-requires-clause-room
 push-requires-clause-room c =
     most_of_any c.args.format _
     (fits_code c.args.format c.args.code.now c.push_nops.new.self c.args.item.now.labelled c.is_call.result c.end-end.result c.size_of-size.result c.nops_before-nops.result
-    c.end-end.ensures c.nops_before-nops.ensures.gap c.in_ok-push_nops.ensures (omega (arith, c.code_most.ensures, c.if-end-nops.false)))
+    c.end-end.ensures c.nops_before-nops.ensures.gap c.in_ok-push_nops.ensures (omega (arith, c.built_code_most.ensures, c.if-end-nops.false)))
 
 pub returns-clause-laid : goal.returns-clause-laid
 returns-clause-laid c =
     has_next c.args.format c.args.item.now c.args.code.now c.push_nops.new.self c.push.new.self c.expand-expansion.result c.slots-slots.result.now c.is_call.result c.end-end.result c.size_of-size.result c.nops_before-nops.result
     c.expand-expansion.ensures c.slots-slots.ensures.slots c.end-end.ensures c.is_call.ensures c.size_of-size.ensures c.nops_before-nops.ensures.gap
-    c.in_ok-push_nops.ensures c.in_ok-push.ensures (omega (arith, c.code_most.ensures, c.if-end-nops.false))
+    c.in_ok-push_nops.ensures c.in_ok-push.ensures (omega (arith, c.built_code_most.ensures, c.if-end-nops.false))
