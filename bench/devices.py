@@ -2,13 +2,13 @@
 """Prints the tables of docs/DEVICE.md and of examples/device/README.md: what the checker costs on a device, the
 longest verdicts of worst_verdict.txt, and by examples/device/umode/compare.py what programs and calls take beside U-mode.
 
-    bench/devices.py LIBRARY [--verdicts]       # libsfi_c.a for wasm64; --verdicts leaves out U-mode
+    bench/devices.py LIBRARY [--verdicts] [--program SFI]   # libsfi_c.a for wasm64; --verdicts leaves out U-mode
 
 It wants what examples/device wants. Instructions are QEMU's, of `virt`.
 """
+import argparse
 import os
 import subprocess
-import sys
 import tempfile
 
 import measure  # by which the others find theirs
@@ -45,11 +45,17 @@ def print_checker(library, folder):
 
 
 def main():
-    library = os.path.abspath(sys.argv[1])
+    parser = argparse.ArgumentParser()
+    parser.add_argument("library", type=os.path.abspath)
+    parser.add_argument("--verdicts", action="store_true")
+    parser.add_argument("--program", default=measure.PROGRAM)
+    options = parser.parse_args()
     with tempfile.TemporaryDirectory() as folder:
-        print_checker(library, folder)
-    if "--verdicts" not in sys.argv:
-        subprocess.run([os.path.join(DEVICE, "umode", "compare.py")], check=True)
+        print_checker(options.library, folder)
+    if not options.verdicts:
+        program = measure.program_at(options.program)
+        compare = os.path.join(DEVICE, "umode", "compare.py")
+        subprocess.run([compare, program], check=True, env={**os.environ, "SFI": program})
 
 
 if __name__ == "__main__":

@@ -16,8 +16,8 @@ the same, and checks them in these ways:
 For each it prints images a second and megabytes (10^6) of image a second, by the median of the alternated rounds' wall times, the
 processor time of an image, with that of its processes' starts, and the machine's load before: other work takes its share of the rate.
 
-Before that it compares the records of the first two ways (the status and the verdict by name) on these images and on as many small ones,
-most of which aren't accepted (odd_images.py), and ends in 1 where any differ. What isn't there is skipped, by name.
+Before that it compares the records of the first two ways (the status and the verdict by name) on the first thousand of these images and on
+as many small ones, most of which aren't accepted (odd_images.py), and ends in 1 where any differ. What isn't there is skipped, by name.
 """
 import argparse
 import collections
@@ -48,11 +48,12 @@ BY_PROCESS = """find "$1" -type f -print0 | xargs -0 -P"$2" -n1 sh -c 'exec "$0"
 BY_THREADS = """find "$1" -type f -print0 | "$3" "$2" """
 BY_PARALLEL = """find "$1" -type f -print0 | parallel --pipe --recend '\\0' --max-args 250 --jobs "$2" "$3" 1"""
 RECORDS = """find "$1" -type f -print0 | xargs -0 -P"$2" -n1 sh -c '
-    verdict=$("$0" check --raw < "$1"); status=$?
+    verdict=$("$0" check --raw < "$1" 2>/dev/null); status=$?
     printf "%s\\t%s\\t%s\\0" "$status" "$verdict" "$1"; exit $status' "$3" """
 BY_CORPUS = """rm -f "$1.kept"; "$3" check --jobs "$2" --database "$1.kept" "$1" """
 BY_CLUSTER = """rm -f "$1.kept"; "$3" check --database "$1.kept" "$1" """
 ACCEPTED = "accepted sandboxes=1 bundles={}"
+COMPARED = 1000  # images of each kind, at most
 ALL_ACCEPTED = "files={0}: {0} accepted, 0 refused, 0 no image, 0 not judged; {0} judged anew"
 
 
@@ -214,13 +215,15 @@ def main():
     options = parser.parse_args()
     program = measure.program_at(options.program)
     with tempfile.TemporaryDirectory() as folder:
-        alike, odd = (os.path.join(folder, name) for name in ("alike", "odd"))
+        alike, first, odd = (os.path.join(folder, name) for name in ("alike", "first", "odd"))
         size = write_images(alike, options.images, options.code)
+        compared = min(options.images, COMPARED)
         pool = pool_program(os.path.abspath(options.library), folder)
         if pool:
             os.environ["SFI_C_LIBRARY"] = libraries.make("sfi_c", os.path.abspath(options.library), folder)[1]
-            write_odd_images(odd, options.images)
-            compare(program, pool, [alike, odd], options.jobs)
+            write_images(first, compared, options.code)
+            write_odd_images(odd, compared)
+            compare(program, pool, [first, odd], options.jobs)
         python = with_dask()
         if not python:
             print("skipped: workers of Dask: no Python has its distributed (python3-distributed)")

@@ -1,7 +1,7 @@
 //! What the next instructions owe: the state of a scan.
 ghost use Rattle.std.specs.Prelude.{◌≡◌};
 ghost use Rattle.rv_word.specs.Outlines.{destination};
-ghost use Rattle.sfi_rules.specs.words.Rules.{left, owed_by_mask, owed_by_data, owed_by_code, owed_by, owed_next, is_of_data, is_of_code};
+ghost use Rattle.sfi_rules.specs.words.Rules.{left, owed_by_mask, owed_by_data, owed_by_code, owed_by, joined, is_of_data, is_of_code};
 ghost use Rattle.sfi_rules.specs.words.Findings.{fails_data, fails_code, is_data_one};
 
 use crate::before::is_masking;
@@ -105,33 +105,58 @@ pub(crate) fn owed_by(format: Format, instr: &Instr) -> Option<Owed>
     }
 }
 
-/// What is owed after the instruction, whether it meets what was owed before it or not.
-pub(crate) fn owed_next(format: Format, owed: Owed, instr: &Instr) -> Owed
-    ensures { result ≡ owed_next format owed instr.now }
-{
-    match owed_still(format, owed, instr) {
-        None | Some(Owed::Nothing) => match owed_by(format, instr) {
-            None => Owed::Nothing,
-            Some(own) => own,
-        },
-        Some(still) => still,
+/// What an instruction makes of what is owed: what is left of it, none where the instruction isn't one
+/// that was owed, and what it owes itself, none where nothing can make its write right.
+#[derive(Clone, Copy)]
+pub(crate) struct Owing {
+    left: Option<Owed>,
+    own: Option<Owed>,
+}
+
+impl Owing {
+    /// What the instruction makes of `owed`.
+    pub(crate) fn of(format: Format, owed: Owed, instr: &Instr) -> Owing
+        ensures left { result.left ≡ left format owed instr.now }
+        ensures own { result.own ≡ owed_by format instr.now }
+    {
+        Owing {
+            left: owed_still(format, owed, instr),
+            own: owed_by(format, instr),
+        }
+    }
+
+    /// What is owed after the instruction, whether it meets what was owed before it or not.
+    pub(crate) fn next(self) -> Owed
+        ensures { result ≡ joined self.left self.own }
+    {
+        match self.left {
+            None | Some(Owed::Nothing) => match self.own {
+                None => Owed::Nothing,
+                Some(own) => own,
+            },
+            Some(still) => still,
+        }
     }
 }
 
 /// Whether the instruction breaks V10.
-pub(crate) fn fails_data(format: Format, owed: Owed, instr: &Instr) -> bool
+pub(crate) fn fails_data(format: Format, owed: Owed, owing: Owing, instr: &Instr) -> bool
+    requires left { owing.left ≡ left format owed instr.now }
+    requires own { owing.own ≡ owed_by format instr.now }
     ensures { result ≡ fails_data format owed instr.now }
 {
-    (is_owed_by_data(owed) && owed_still(format, owed, instr).is_none())
-        || (writes_data(format, instr) && owed_by(format, instr).is_none())
+    (is_owed_by_data(owed) && owing.left.is_none())
+        || (writes_data(format, instr) && owing.own.is_none())
 }
 
 /// Whether the instruction breaks V11.
-pub(crate) fn fails_code(format: Format, owed: Owed, instr: &Instr) -> bool
+pub(crate) fn fails_code(format: Format, owed: Owed, owing: Owing, instr: &Instr) -> bool
+    requires left { owing.left ≡ left format owed instr.now }
+    requires own { owing.own ≡ owed_by format instr.now }
     ensures { result ≡ fails_code format owed instr.now }
 {
-    (is_owed_by_code(owed) && owed_still(format, owed, instr).is_none())
-        || (instr.writes_register(CODE_REGISTER) && owed_by(format, instr).is_none())
+    (is_owed_by_code(owed) && owing.left.is_none())
+        || (instr.writes_register(CODE_REGISTER) && owing.own.is_none())
 }
 
 /// Whether the instruction writes a data register.

@@ -2,13 +2,13 @@
 ghost use Rattle.std.specs.Prelude.{◌≡◌};
 ghost use Rattle.sfi_pairs.specs.Pairs.{is_placing};
 ghost use Rattle.sfi_rules.specs.Readings.{IsWithin};
-ghost use Rattle.sfi_rules.specs.words.Rules.{places, masks, is_pointer_step, breaks_ecall, breaks_reserved, may_access, breaks_access, breaks_jump, is_word_start, breaks_target, breaks_offset};
+ghost use Rattle.sfi_rules.specs.words.Rules.{places, masks, is_pointer_step, breaks_ecall, breaks_reserved, may_access, breaks_access, breaks_jump, is_word_start, breaks_target, breaks_offset, left, owed_by};
 ghost use Rattle.sfi_scan.specs.private.Scanning.{IsInside};
 ghost use Rattle.sfi_rules.specs.words.Findings.{breaks_last, is_at_gate, lowest};
 
 use crate::before::{is_masking, is_placing};
 use crate::rules::{ends_region, offset_by};
-use crate::words::owed::{fails_code, fails_data};
+use crate::words::owed::{Owing, fails_code, fails_data};
 use rv_word::{ImmOp, Instr, Reg, RegOp};
 use sfi_formats::{
     CODE_BASE_REGISTER, CODE_REGISTER, DATA_BASE_REGISTER, DATA_MASK_REGISTER, Format,
@@ -193,10 +193,13 @@ pub(crate) fn lowest_rule_in_words(
     address: u32,
     size: u32,
     owed: Owed,
+    owing: Owing,
     instr: &Instr,
 ) -> Option<Rule>
     requires within { IsWithin place.now }
     requires inside { IsInside place.now address size }
+    requires left { owing.left ≡ left place.now.format owed instr.now }
+    requires own { owing.own ≡ owed_by place.now.format instr.now }
     ensures { result ≡ lowest (record {
       bundle = place.now;
       address = address;
@@ -218,9 +221,9 @@ pub(crate) fn lowest_rule_in_words(
         Some(Rule::V7)
     } else if breaks_last(place, address, size, owed, instr) {
         Some(Rule::V8)
-    } else if fails_data(format, owed, instr) {
+    } else if fails_data(format, owed, owing, instr) {
         Some(Rule::V10)
-    } else if fails_code(format, owed, instr) {
+    } else if fails_code(format, owed, owing, instr) {
         Some(Rule::V11)
     } else if breaks_offset(format, instr) {
         Some(Rule::V12)

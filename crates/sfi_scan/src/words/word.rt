@@ -8,7 +8,7 @@ ghost use Rattle.sfi_scan.specs.private.Scanning.{IsInside};
 
 use crate::findings::BundleFindings;
 use crate::words::look::look_at_word;
-use crate::words::owed::owed_next;
+use crate::words::owed::Owing;
 use crate::words::rules::lowest_rule_in_words;
 use rv_comp::{Front, read_front};
 use rv_word::Instr;
@@ -48,10 +48,11 @@ fn scan_instruction(
       size = size;
     })) }
 {
-    if let Some(rule) = lowest_rule_in_words(place, address, size, owed, instr) {
+    let owing = Owing::of(place.format, owed, instr);
+    if let Some(rule) = lowest_rule_in_words(place, address, size, owed, owing, instr) {
         add_finding(place, address, rule, found);
     }
-    owed_next(place.format, owed, instr)
+    owing.next()
 }
 
 /// Adds the findings of the word at `address`, instruction by instruction, and answers what is owed

@@ -1,7 +1,7 @@
 //! Words of a command line: those that ask for nothing or for help, and the places that `--at` gives.
 
 /// Words that ask for nothing.
-pub(super) const USAGE: &str = "71 commands
+pub(super) const USAGE: &str = "73 commands
 source
 = words that ask for nothing; $ sfi; $ sfi frob; $ sfi check image; $ sfi check --raw --raw; $ sfi check --raw=yes; $ sfi check --raw image
 $ sfi check --report=yes; $ sfi check --report --report; $ sfi check --report image; $ sfi check --rounds 1; $ sfi build --report; $ sfi build --raw=yes
@@ -12,7 +12,8 @@ $ sfi run --quantum 1000001; $ sfi run --quantum 0x10; $ sfi run --input; $ sfi 
 $ sfi convert --report; $ sfi translate --report; $ sfi native --raw; $ sfi native image; $ sfi exec; $ sfi exec one two; $ sfi exec image --budget 0; $ sfi exec image --budget ten
 $ sfi move; $ sfi move --raw; $ sfi move --sandbox 0; $ sfi move --at 1000000:1800000 --at 1000000:1800000; $ sfi move --at 1000000:1800000 --sandbox one
 $ sfi move --at 1000000:1800000 --sandbox=-1; $ sfi move --at 1000000:1800000 --sandbox 4294967296; $ sfi move --at 1000000:1800000 image
-$ sfi exec image --budget 18446744073709551616; $ sfi exec --budget 5; $ sfi exec image --raw; >.. error: 
+$ sfi exec image --budget 18446744073709551616; $ sfi exec --budget 5; $ sfi exec image --raw; $ sfi exec image --interpret=yes
+$ sfi exec image --interpret --interpret; >.. error: 
 = bytes, and a report; $ sfi check --raw --report; $ sfi check --report --raw
 > error: '--raw' and '--report' cannot be used together; >; > For more information, try '--help'.
 = no place; $ sfi build --at 20500000; $ sfi build --at :; $ sfi build --at 20500000:; $ sfi build --at :80000000; $ sfi build --at 120500000:80000000
@@ -50,7 +51,7 @@ source; status 3
 = help of run; $ sfi run --help
 ..; >; >; >.. Usage: sfi ; >.. --rounds <N> ; >.. --quantum <Q> ; >.. --report ; >text statuses; ..; >; >..   sfi run --
 = help of run, said in other words; as sfi run --help; $ sfi run -h; $ sfi help run
-= help of exec; $ sfi exec --help; ..; >; >; > Usage: sfi exec [OPTIONS] <IMAGE>; ..; >.. --budget <N> ; >.. 124  its steps are used up; >.. sfi exec hi.image
+= help of exec; $ sfi exec --help; ..; >; >; > Usage: sfi exec [OPTIONS] <IMAGE>; ..; >.. --budget <N> ; >.. --interpret ; >.. 124  its steps are used up; >.. sfi exec hi.image
 = help of exec, said in other words; as sfi exec --help; $ sfi exec -h; $ sfi help exec
 = help of convert; $ sfi convert --help; ..; >.. second format; >; >; > Usage: sfi convert [OPTIONS]; ..; >.. --raw ; >text statuses; >.. convert < 
 = help of convert, said in other words; as sfi convert --help; $ sfi convert -h; $ sfi help convert
