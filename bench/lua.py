@@ -1,12 +1,11 @@
 #!/usr/bin/env python3
-"""How fast all of Lua 5.4 is in a sandbox: scripts by `sfi translate --whole` and gcc -O2, by native code, and by `sfi run`, beside
-Debian's lua5.4.
+"""How fast all of Lua 5.4 is in a sandbox: scripts by native code, and by `sfi run`, beside Debian's lua5.4.
 
-    bench/lua.py [--program PATH] [--sources FOLDER] [--format N] [--heap BYTES] [--rounds N] [--option OPTION ..] [--way WAY ..] [SCRIPT ..]
+    bench/lua.py [--program PATH] [--sources FOLDER] [--format N] [--heap BYTES] [--rounds N] [--way WAY ..] [SCRIPT ..]
 
 Scripts are those of examples/c/programs, which are short, and those of longer/ if none are named; each folder has its mean. It wants lua5.4, Lua's sources (examples/c/programs.py --fetch) and
-sfi-cc's tools. OPTION is one of gcc for the translation, such as -DSFI_TESTED. WAY is translated, native or run: all, where none is named.
-Processor seconds of lua5.4, each the least of N alternated runs, and the ratios of the others to it; it ends where one prints another
+sfi-cc's tools. WAY is native or run: both, where none is named. Before the scripts it prints how long `sfi exec` takes for Lua's start, by
+an empty script. Processor seconds of lua5.4, each the least of N alternated runs, and the ratios of the others to it; it ends where one prints another
 line than the others.
 """
 import argparse
@@ -16,16 +15,18 @@ import shutil
 import subprocess
 import sys
 import tempfile
+import time
 from dataclasses import replace
 from itertools import groupby
 
 import measure
 import programs
 from compiled import EXAMPLES, mean
-from translated import NATIVE_TURNS, TURNS, by_native_code
+from translated import NATIVE_TURNS, TURNS, by_native_code, native_console
+from suygapid import native
 
 
-WAYS = ("translated", "native", "run")
+WAYS = ("native", "run")
 FOLDERS = (os.path.join(EXAMPLES, "programs"), os.path.join(measure.HERE, "longer"))
 
 
@@ -39,25 +40,12 @@ def lua_image(given, folder):
     return image if elf else sys.exit(f"bench: {image}")
 
 
-def translated(given, image, folder):
-    """The path of the translated program, and the seconds that gcc takes for it."""
-    source, path = os.path.join(folder, "lua.c"), os.path.join(folder, "lua")
-    with open(source, "wb") as file:
-        subprocess.run([given.program, "translate", "--whole"], input=image, stdout=file, check=True)
-    _, seconds = measure.run(["gcc", "-O2", *given.option, source, "-o", path], os.devnull)
-    return path, seconds
-
-
 def ways_of(given, image, folder):
     """By way, what gives the words that run a script's bytes, and the file that these read."""
     path = measure.written(os.path.join(folder, "image"), image)
     ways = {}
-    if "translated" in given.way:
-        program, seconds = translated(given, image, folder)
-        print(f"gcc -O2 {' '.join(given.option)}: {seconds:.1f} s of processor time")
-        ways["translated"] = lambda script: ([program, *TURNS, "--input", script.hex()], os.devnull)
     if "native" in given.way:
-        words = by_native_code(image, folder, "lua")
+        words = by_native_code(native_console(folder), image, folder, "lua")
         ways["native"] = lambda script: ([*words, *NATIVE_TURNS, script.hex()], os.devnull)
     if "run" in given.way:
         ways["run"] = lambda script: ([given.program, "run", *TURNS, "--input", script.hex()], path)
@@ -74,6 +62,17 @@ def measured(given, script, ways_of_script):
     return least["lua5.4"], [least[way] / least["lua5.4"] for way in ways]
 
 
+def start_seconds(given, image, folder):
+    """The least seconds, on a clock, in which `sfi exec` begins and ends Lua with an empty script."""
+    words = [*native.program_words(given.program), "exec", measure.written(os.path.join(folder, "image"), image)]
+    seconds = []
+    for _ in range(given.rounds):
+        begun = time.perf_counter()
+        subprocess.run(words, stdin=subprocess.DEVNULL, check=True)
+        seconds.append(time.perf_counter() - begun)
+    return min(seconds)
+
+
 def cells(ratios):
     return " | ".join(f"{it:.2f}" for it in ratios)
 
@@ -86,7 +85,6 @@ def main():
     parser.add_argument("--format", choices=programs.FORMATS, default="words")
     parser.add_argument("--heap", type=int, default=400000)
     parser.add_argument("--rounds", type=int, default=9)
-    parser.add_argument("--option", action="append", default=[])
     parser.add_argument("--way", action="append", choices=WAYS)
     given = parser.parse_args()
     given.way = given.way or WAYS
@@ -96,6 +94,7 @@ def main():
     with tempfile.TemporaryDirectory() as folder:
         image = lua_image(given, folder)
         ways = ways_of(given, image, folder)
+        print(f"start by sfi exec: {start_seconds(given, image, folder):.3f} s")
         print(f"| script | lua5.4, s | {' | '.join(ways)} |\n|---|---{'|---' * len(ways)}|")
         for _, scripts in groupby(given.scripts, os.path.dirname):
             rows = []

@@ -2,12 +2,9 @@
 """How fast translated images are: the programs of examples/c and four kernels (kernels.c), by `sfi translate` and gcc
 -O2, beside the same C by gcc -O2 alone, and by clang, wasm2c and gcc -O2.
 
-    bench/translated.py [--program PATH] [--rounds N] [--instructions] [--option OPTION ..] [--interpreted] [--native] [--peers]
-                        [NAME ..]
+    bench/translated.py [--program PATH] [--rounds N] [--instructions] [--interpreted] [--native] [--peers] [NAME ..]
 
-It wants sfi-cc's tools, and for wasm2c clang, wasm-ld and wabt. OPTION is one of gcc for the
-translations, such as -DSFI_PORTABLE. A program
-runs again and again over an input that is built in (repeat.c); it ends where the checksums differ. Processor seconds
+It wants sfi-cc's tools, and for wasm2c clang, wasm-ld and wabt. A program runs again and again over an input that is built in (repeat.c); it ends where the checksums differ. Processor seconds
 of the native program, each the least of N alternated runs, and of the others the ratios to it; then the text's bytes
 for an instruction. With --instructions, in place of seconds the x86 instructions that callgrind counts in a twentieth of the
 work, which other work on the machine doesn't change. With --interpreted, so of the same images by `sfi run`, which takes long. With --native, so by
@@ -139,7 +136,7 @@ def image_in(folder, image_format):
     return os.path.join(folder, f"{image_format}.hex")
 
 
-def translated(program, image_format, folder, options, for_gcc):
+def translated(program, image_format, folder, options):
     """The words that run a translated program, and its translation."""
     image = image_in(folder, image_format)
     call(SFI_CC, "--program", program, "--format", image_format, *options, "-o", image)
@@ -147,7 +144,7 @@ def translated(program, image_format, folder, options, for_gcc):
     text = call(program, "translate", "--whole", input=digits)
     lines = call(program, "translate", input=digits)
     source, path = measure.written(os.path.join(folder, "image.c"), text), os.path.join(folder, f"translated.{image_format}")
-    call("gcc", "-O2", *for_gcc, source, "-o", path)
+    call("gcc", "-O2", source, "-o", path)
     return [path, *TURNS], lines
 
 
@@ -160,10 +157,9 @@ def native_console(folder):
     return path
 
 
-def by_native_code(digits, folder, name):
+def by_native_code(console, digits, folder, name):
     """The words that run an image by native code, but for the rounds and so on."""
-    image = measure.written(os.path.join(folder, f"{name}.image"), bytes.fromhex(digits.decode()))
-    return [native_console(folder), image]
+    return [console, measure.written(os.path.join(folder, f"{name}.image"), bytes.fromhex(digits.decode()))]
 
 
 def answer_of(output):
@@ -181,7 +177,7 @@ def peers(folder, options):
     return found
 
 
-def measured(program, name, given, folder):
+def measured(program, name, given, console, folder):
     """The native program's seconds, and by way the ratio to it; the lines of each format."""
     if name not in KERNELS:
         source = measure.contents(os.path.join(EXAMPLES, name + ".c"))
@@ -189,11 +185,11 @@ def measured(program, name, given, folder):
     options = sources(name, folder, FEWER if given.instructions else 1)
     ways, texts = {"native": (native(folder, options), os.devnull)}, {}
     for image_format in FORMATS:
-        words, texts[image_format] = translated(program, image_format, folder, options, given.option)
+        words, texts[image_format] = translated(program, image_format, folder, options)
         ways[image_format] = words, os.devnull
-        if given.native:
+        if console:
             digits = measure.contents(image_in(folder, image_format))
-            ways[f"native {image_format}"] = [*by_native_code(digits, folder, image_format), *NATIVE_TURNS], os.devnull
+            ways[f"native {image_format}"] = [*by_native_code(console, digits, folder, image_format), *NATIVE_TURNS], os.devnull
     if shutil.which("wasm2c") and shutil.which("clang"):
         ways["wasm2c"] = by_wasm2c(folder, options), os.devnull
     if name in KERNELS and given.peers:
@@ -229,7 +225,6 @@ def main():
     parser.add_argument("--program", default=measure.PROGRAM)
     parser.add_argument("--rounds", type=int, default=3)
     parser.add_argument("--instructions", action="store_true")
-    parser.add_argument("--option", action="append", default=[])
     parser.add_argument("--interpreted", action="store_true")
     parser.add_argument("--native", action="store_true")
     parser.add_argument("--peers", action="store_true")
@@ -239,9 +234,10 @@ def main():
     program = measure.program_at(given.program)
     rows, texts = {}, []
     with tempfile.TemporaryDirectory() as folder:
+        console = native_console(folder) if given.native else None
         for name in given.names:
             os.mkdir(place := os.path.join(folder, name))
-            seconds, rows[name], found = measured(program, name, given, place)
+            seconds, rows[name], found = measured(program, name, given, console, place)
             texts += found.values()
             print(f"| {name} | {seconds:.3f} | " + " | ".join(f"{way}: {it:.2f}" for way, it in rows[name].items()) + " |", flush=True)
     for title, names in (("mean of programs", CASES), ("without arithmetic", set(CASES) - {"arithmetic"}), ("mean of kernels", KERNELS)):

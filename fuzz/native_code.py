@@ -26,7 +26,7 @@ import natively
 import verdicts
 import worlds
 
-sys.path.append(os.path.join(fuzzing.TOP, "examples", "translate"))
+sys.path += [os.path.join(fuzzing.TOP, "examples", it) for it in ("native", "translate")]
 import guarded
 import measure
 from suygapid.image import layout

@@ -1,7 +1,8 @@
-"""Tests of sfi-exec by native code, beside the same runs step by step: `tools/unit_tests.py tools test_exec.py`. Those are skipped where
-this isn't Linux on x86-64, or a compiler or the program isn't there."""
+"""Tests of `sfi exec` and sfi-exec by native code, beside the same runs step by step: `tools/unit_tests.py tools test_exec.py`. Those
+are skipped where this isn't Linux on x86-64, or a compiler or the program isn't there."""
 import glob
 import os
+import re
 import subprocess
 import unittest
 
@@ -37,14 +38,63 @@ int main(void) {
 """
 
 
+# Images by their sources, and what each is given: what is got and put, traps, steps that end, a word for itself, two sandboxes.
+IMAGES = {
+    "hi": (TOP / "examples" / "hi.s").read_text(encoding="ascii"), "echo": (TOP / "examples" / "echo.s").read_text(encoding="ascii"),
+    "trap": ".sandbox 4096\nli a0, 7\nebreak\n", "fault": ".sandbox 4096\nli a0, 4095\nsw a0, -2(a0)\n",
+    "endless": ".format words\n.sandbox 4096\nagain: j again\n", "two": ".sandbox 4096\nebreak\n" * 2,
+    "post": ".sandbox 4096\n.gate post 4\n.gate take 5\n.gate quit 0\nli a0, 0\nli a1, 9\ncall post\ncall take\ncall quit\n"}
+WORDS = ("hi.image", "hi.hex", "echo.image", "trap.image", "fault.hex", "post.image", "two.image", "endless.image --budget 12345", "--budget 19 hi.image",
+         "--budget 18 hi.image", "hi.image --budget=5", "--budget 18446744073709551615 hi.image", "--budget 99999999999999999999 hi.image",
+         "--budget 0 hi.image", "--budget", "", "none", ".", "short", "refused.hex", "--help", "hi.image more", "-- hi.image", "--interpret hi.image",
+         "/dev/stdin")
+STREAMS = ("", "<&-", "<.", ">&-", ">/dev/full", "<&- >&-", "2>&-", "2>/dev/full", "<&- >&- 2>&-", "<&- 2>&-", "<hi.image", "<hi.image >&-")
+
+
+@unittest.skipUnless(native.is_possible(), "this isn't Linux on x86-64")
+@needs_program
+class Images(Folder):
+    """The host in the place of the program."""
+
+    def setUp(self):
+        super().setUp()
+        for name, text in IMAGES.items():
+            source = re.sub(r"\.sandbox \d+", ".sandbox 4096", text).encode()
+            digits = subprocess.run([SFI, "build"], input=source, stdout=subprocess.PIPE, check=True).stdout.decode()
+            self.write(f"{name}.hex", f" {digits.upper()} \n")
+            (self.room / f"{name}.image").write_bytes(bytes.fromhex(digits))
+        self.write("refused.hex", self.read("hi.hex").replace("B37FB501", "13000000"))
+        self.write("short", "SFI1")
+
+    def ran(self, program, words, streams):
+        """The status, what was put and what was said, as the shell starts a program with these streams."""
+        return subprocess.run(["sh", "-c", f'"$@" {streams}', "sh", *program, "exec", *words.split()], input=b"Given\n", capture_output=True,
+                              cwd=self.folder, check=False)
+
+    def test_all(self):
+        by_native_code = native.program_words(SFI)
+        self.assertIn("--program", by_native_code)
+        for words in WORDS:
+            for streams in STREAMS if words in ("hi.image", "echo.image", "trap.image", "/dev/stdin") else STREAMS[:1]:
+                with self.subTest(words=words, streams=streams):
+                    wanted, found = (self.ran(it, words, streams) for it in ([SFI], by_native_code))
+                    self.assertEqual((wanted.returncode, wanted.stdout, wanted.stderr), (found.returncode, found.stdout, found.stderr))
+
+    def test_what_is_native(self):
+        """What the program is asked for, and by which name it is found."""
+        program = self.write("sfi", f'#!/bin/sh\necho "$@" >> log\nexec {SFI} "$@"\n', 0o755)
+        for words, asked in (("hi.image", "native\n"), ("trap.hex", "native\ndis\n"), ("two.image", "exec two.image\n"), ("refused.hex", "native\nexec refused.hex\n"),
+                             ("--interpret hi.image", "exec --interpret hi.image\n")):
+            self.ran(native.program_words(program), words, "")
+            self.assertEqual(self.read("log"), asked)
+            os.remove(self.path("log"))
+        self.assertEqual(os.path.realpath(native.HOST + "/../../../../../sfi"), str(TOP / "sfi"))
+
+
 @unittest.skipUnless(native.is_possible(), "this isn't Linux on x86-64")
 @needs_program
 @needs_a_compiler
-class Natively(Folder):
-    @classmethod
-    def setUpClass(cls):
-        native.make()
-
+class Programs(Folder):
     def setUp(self):
         super().setUp()
         self.log = self.path("log")
@@ -63,11 +113,10 @@ class Natively(Folder):
 
     def check_both(self, words, **more):
         """Runs both ways, and returns what they have in common."""
-        natively, commands = self.ran(words, **more)
-        interpreted, others = self.ran(["--interpret", *words], **more)
+        (natively, commands), (interpreted, others) = self.ran(words, **more), self.ran(["--interpret", *words], **more)
         self.assertEqual(natively, interpreted, words)
         self.assertIn(commands, (["native"], ["native", "dis"]))  # the latter where it tells where it stands
-        self.assertNotIn("native", others)
+        self.assertEqual(others, ["exec"])
         return natively
 
     def test_ways_to_end(self):
@@ -100,7 +149,7 @@ class Natively(Folder):
         self.assertEqual(self.ran([self.path("first.elf"), other]), ((0, b"Hello, world\n" * 2, b""), ["exec"]))
         self.assertEqual(self.ran(["--interpret", other]), ((0, b"Hello, world\n", b""), ["exec"]))
         small = self.built(self.write("small.c", "int main(void) { return 5; }"), "--stack", "256", "--data", "512")
-        self.assertEqual(self.ran([small]), ((5, b"", b""), ["native", "exec"]))
+        self.assertEqual(self.ran([small]), ((5, b"", b""), ["exec"]))
 
 
 class Wrong(Folder):

@@ -245,6 +245,14 @@ ROWS
     holds $? "a signal ends the program, too" "$found"
 }
 
+natively() {
+    mkdir -p "$copy/tools/suygapid" && touch "$copy/tools/suygapid/__init__.py"
+    echo 'def program_words(program): return ["echo", "--program", program]' >"$copy/tools/suygapid/native.py"
+    call "$copy/sfi" exec image --budget 5
+    report "exec goes by native code" "--program $out/sfi exec image --budget 5; ; status 0" "$found"
+    rm -r "$copy/tools/suygapid"
+}
+
 tries() {
     local said="sfi: this build proves nothing: rt try compiles the sources as they are, which takes some 80 seconds"
     change low/src/lib.rt
@@ -284,6 +292,7 @@ make_rt
 first_build
 versions
 statuses
+natively
 tries
 named_program
 which_changes_count

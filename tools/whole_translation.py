@@ -10,7 +10,7 @@ import sys
 
 TOP = os.path.dirname(os.path.dirname(os.path.abspath(__file__)))
 HEADERS = os.path.join(TOP, "crates/sfi_translate/include")
-INCLUDED = ("sfi_native_data.h", "sfi_native_guards.h", "sfi_native.h", "sfi_native_x86_64.h", "sfi_services.h")
+INCLUDED = ("sfi_native.h", "sfi_services.h")
 CONSOLE = os.path.join(TOP, "examples/translate/sfi_console.c")
 MADE = os.path.join(TOP, "crates/sfi_answers/src/whole_program.rt")
 BEGINNING = """\

@@ -259,7 +259,18 @@ static void handler_after(void) {
     sfi_run_free(&world);
 }
 
-/* Worlds until there is no map for another one's data: those that follow go step by step, until some are freed. */
+/* Whether the host can have many more maps. */
+static bool has_maps(void) {
+    enum { PAGE = 4096, PAGES = 4000 };
+    uint8_t *const pages = mmap(NULL, PAGES * PAGE, PROT_NONE, MAP_PRIVATE | MAP_ANONYMOUS, -1, 0);
+    bool has = pages != MAP_FAILED;
+    for (size_t k = 0; has && k < PAGES; k += 2) /* each is a map, and parts what is beside it */
+        has = mprotect(pages + k * PAGE, PAGE, PROT_READ) == 0;
+    munmap(pages, PAGES * PAGE);
+    return has;
+}
+
+/* Worlds until another one's data have no map: those that follow go step by step, until some are freed. The host has maps left. */
 static void maps(void) {
     static struct sfi_run_world worlds[WORLDS_MOST];
     struct sfi_run_module module = module_of(&whole);
@@ -268,6 +279,7 @@ static void maps(void) {
         count++;
     wanted(count > 1000 && count < WORLDS_MOST, "maps run out");
     wanted(sfi_run_engine(&worlds[count]) == SFI_RUN_INTERPRETED, "the last one goes step by step");
+    wanted(has_maps(), "the host has maps of its own");
     see_all(&worlds[count], 0, &whole);
     see_all(&worlds[count - 1], 0, &whole);
     for (size_t k = 0; k <= count; k++)

@@ -1,12 +1,11 @@
 #!/usr/bin/env python3
-"""Makes native code of images, and compares what it prints in a host with what `sfi run` does, traps and steps included: the
-examples in each format, and random accepted images with accesses to guard zones, in turns of several lengths. The checksum of
-each file is that of zlib; files with bytes changed or missing are refused, also by a right checksum. Then hostile.py.
+"""Runs images by native code, and compares what they do with `sfi run`, traps, steps and registers included: the examples in each
+format, and random accepted images with accesses to guard zones, in turns of several lengths. The checksum of each file of native code
+is that of zlib; files with bytes changed or missing are refused, also by a right checksum. Then hostile.py.
 
-    examples/native/test.py [--program SFI] [--images N] [--seed SEED]
+    examples/native/test.py [--library libsfi_run.a] [--commands libsfi_tool_c.a] [--program SFI] [--images N] [--seed SEED]
 """
 import os
-import platform
 import random
 import shutil
 import struct
@@ -19,17 +18,19 @@ sys.dont_write_bytecode = True
 HERE = os.path.dirname(os.path.abspath(__file__))
 TOP = os.path.dirname(os.path.dirname(HERE))
 sys.path += [os.path.join(TOP, it) for it in ("examples/translate", "fuzz", "bench", "tools")]
+import calls
 import corpus
 import guarded
 import hostile
+import natively
 import trial
+import worlds
+from suygapid import native
 
 INCLUDED = [word for it in ("sfi_native", "sfi_translate") for word in ("-I", os.path.join(TOP, "crates", it, "include"))]
 FLAGS = ["-std=gnu11", "-Wall", "-Wextra", "-Werror", "-Wno-unused-function", *INCLUDED]
 COMPILERS = (("gcc", "-O1"), ("clang", "-O1"))
-TURNS = (("2", "2000"), ("50", "13"), ("1", "64"), ("1", "128"), ("3", "100000"))
-PAGE = 4096  # the least data that guard zones lie beside
-OTHER_FILE = 2
+TURNS = ((2, 2000), (50, 13), (1, 64), (1, 128), (3, 100000))
 FRONT = 24  # bytes of a file before its first sandbox
 SIZES = FRONT + 28 + 32  # where the sizes of its code and accesses are, behind its fields and the places of registers
 
@@ -44,30 +45,21 @@ def written(path, data):
     return path
 
 
-def host(compiler, folder, sfi, image):
-    """The path of a host of the image."""
-    text = written(os.path.join(folder, "image.c"), printed([sfi, "translate"], image))
-    program = os.path.join(folder, "image")
-    subprocess.run([*compiler, *FLAGS, f'-DSFI_TEXT="{text}"', os.path.join(HERE, "sfi_console.c"), "-o", program], check=True)
-    return program
-
-
 def is_closed(file):
     """Whether the file ends with its length and the checksum of all before."""
     length, checksum = struct.unpack("<II", file[-8:])
     return length == len(file) - 8 and checksum == zlib.crc32(file[:-4])
 
 
-def try_image(sfi, compiler, folder, image):
-    """What the host prints by turns of each kind, and whether it is right."""
-    program = host(compiler, folder, sfi, image)
-    file = printed([sfi, "native"], image)
-    path = written(os.path.join(folder, "image.native"), file)
-    yield f"the file of {image.hex()[:80]}.. is closed", is_closed(file)
-    for rounds, quantum in TURNS:
-        options = ["--rounds", rounds, "--quantum", quantum, "--input", trial.INPUT]
-        wanted, found = printed([sfi, "run", *options], image), printed([program, path, *options])
-        yield f"{image.hex()[:80]}.. {options}\n  wanted {wanted[:200]}\n  found  {found[:200]}", wanted == found
+def try_image(sfi, library, image):
+    """What the image does by turns of each kind, and whether it is right."""
+    yield f"the file of {image.hex()[:80]}.. is closed", is_closed(printed([sfi, "native"], image))
+    for turns in TURNS:
+        options = (*turns, bytes.fromhex(trial.INPUT))
+        lines, places = natively.told(printed(natively.run_words(sfi, options), image).decode())
+        found = natively.outcomes(library, worlds.Calls(library), image, options)
+        same = [it.line for it in found] == lines and all(found[number].registers == place for number, place in places.items())
+        yield f"{image.hex()[:80]}.. {turns}\n  wanted {lines} {places}\n  found  {found}", same
 
 
 def closed(content):
@@ -88,29 +80,45 @@ def other_files(file):
             yield f"size {size} at {place}", closed(file[:place] + struct.pack("<I", size) + file[place + 4:-8])
 
 
-def try_refusals(sfi, compiler, folder, image):
-    """Whether the host refuses files that aren't whole."""
-    program = host(compiler, folder, sfi, image)
-    for what, other in other_files(printed([sfi, "native"], image)):
-        path = written(os.path.join(folder, "other.native"), other)
-        status = subprocess.run([program, path], stdout=subprocess.DEVNULL, stderr=subprocess.DEVNULL).returncode
-        yield f"a file with {what}: status {status}", status == OTHER_FILE
+def is_loaded(folder, image, file):
+    """Whether the host of `sfi exec` runs the image by that file, which stands for what a program answers."""
+    paths = [written(os.path.join(folder, name), data) for name, data in (("image", image), ("native", file))]
+    program = written(os.path.join(folder, "program"), f"#!/bin/sh\nexec cat {paths[1]}\n".encode())
+    os.chmod(program, 0o755)
+    return printed([native.HOST, "--program", program, "--told", "1", paths[0], "1", "1", "--"]).startswith(native.LOADED)
+
+
+def try_refusals(sfi, folder, image):
+    """Whether files that aren't whole are refused."""
+    file = printed([sfi, "native"], image)
+    yield "the file itself is loaded", is_loaded(folder, image, file)
+    for what, other in other_files(file):
+        yield f"a file with {what} is loaded", not is_loaded(folder, image, other)
+
+
+def try_zones(sfi, images):
+    """Whether loads and stores of these images trap below the data and above them."""
+    zones = set().union(*(guarded.trapping_zones(printed([sfi, "run"], it), it) for it in images))
+    yield f"accesses trap in {sorted(zones)} alone", len(zones) == 4
 
 
 def main():
-    given = trial.options(__doc__)
+    given = trial.options(__doc__, library=calls.LIBRARY, commands=natively.COMMANDS)
     compilers = [it for it in COMPILERS if shutil.which(it[0])]
-    if not compilers or sys.platform != "linux" or platform.machine() != "x86_64":
-        print("skipped: native code: gcc and clang aren't there, or this isn't Linux on x86-64\n0 passed, 0 failed, 1 skipped")
+    why = natively.why_not()
+    if why:
+        print(f"skipped: native code: {why}\n0 passed, 0 failed, 1 skipped")
         return 0
     pick = random.Random(given.seed)
     images = [guarded.grown(it) for it in corpus.examples(given.program)] + guarded.images(pick, given.program, given.images)
-    images = [it for it in images if all(part.data_size >= PAGE for part in guarded.layout.parts(it))]
-    tried = [(f"{len(images)} images have data of whole pages", len(images) > given.images)]
+    images = [it for it in images if natively.has_pages(it)]
+    tried = [(f"{len(images)} images have data of whole pages", len(images) > given.images), ("the host is there", native.make() is not None)]
+    tried += try_zones(given.program, images)
     with tempfile.TemporaryDirectory() as folder:
-        for number, image in enumerate(images):
-            tried += try_image(given.program, compilers[number % len(compilers)], folder, image)
-        tried += try_refusals(given.program, compilers[0], folder, images[0])
+        library = natively.library(given.library, given.commands, folder)
+        for image in images:
+            tried += try_image(given.program, library, image)
+        tried += try_refusals(given.program, folder, next(it for it in images if len(guarded.layout.parts(it)) == 1))
         tried += hostile.decodes(printed, compilers[0], FLAGS, folder, pick)
         tried += hostile.tests(printed, given.program, [it[0] for it in compilers], FLAGS, folder)
     return trial.ended(tried)

@@ -2,11 +2,13 @@
 """Measures what a step, a call, a read, a write and a load cost a host of libsfi_run: in instructions of this processor, which
 valgrind counts, from C; in microseconds from C, Python and node, the median of seven runs.
 
-    examples/run/price.py [LIBRARY [PROGRAM]]    # as test.sh takes them
+    examples/run/price.py [LIBRARY [PROGRAM [COMMANDS]]]    # as test.sh takes them
 
 A loop of two instructions gives the price of a step, beside that of `sfi run`; a loop with a call in it, whose steps are
 taken off, that of a turn with its reply; nops, and compiled programs where gcc for RISC-V is there, that of a byte of code in a
-load. From Python and node a call is measured as `turn` and `reply`, and as a loop over `events`.
+load. From Python and node a call is measured as `turn` and `reply`, and as a loop over `events`. Runs of loops without an end, by
+additions and by divisions, are ended by another thread, and by a time: how much later they return, also by native code, where COMMANDS
+are given.
 """
 import os
 import pathlib
@@ -16,6 +18,7 @@ import statistics
 import subprocess
 import sys
 import tempfile
+import threading
 import time
 
 HERE = pathlib.Path(__file__).resolve().parent
@@ -30,7 +33,8 @@ STEPS = ".sandbox 256\nloop: addi a0, a0, 1\n j loop\n"
 LARGE = ".format 2\n.sandbox 65536\n" + "nop\n" * 16384 + "ebreak\n"
 COMPILED = [(name, form) for name in ("json", "sort") for form in ("1", "2", "words")]  # programs of examples/c, and formats
 CALLS = ".sandbox 256\n.gate post 4\nloop: call post\n j loop\n"
-TURNS, ROUNDS = 20000, 7
+LOOP = ".sandbox 4096\nli a1, 7\nloop: {} a0, a0, a1\n j loop\n"
+TURNS, ROUNDS, ENDS = 20000, 7, 200
 
 
 def run(*words, given=""):
@@ -101,12 +105,46 @@ def print_loads(room, sfi):
         print(f"a load of {name}: {each:.1f} instructions for each byte of code")
 
 
-def main(library=None, sfi=None):
+def python_ends(image):
+    """How many microseconds after an interrupt runs return."""
+    import sfi_run
+    with sfi_run.World(image) as world:
+        for _ in range(ENDS):
+            stop, told = threading.Event(), []
+            timer = threading.Timer(0.002, lambda: (told.append(time.perf_counter()), stop.set()))
+            timer.start()
+            list(world[0].events(1 << 60, interrupt=stop))
+            yield (time.perf_counter() - told[0]) * 1e6
+            timer.join()
+
+
+def print_ends(what, found):
+    found = sorted(found)
+    print(f"{what}: {statistics.median(found):.0f} us later, at most {found[-1]:.0f}")
+
+
+def print_all_ends(room, sfi, libraries_of):
+    for instruction in ("add", "div"):
+        image = room / f"{instruction}.image"
+        image.write_bytes(bytes.fromhex(run(sfi, "build", given=LOOP.format(instruction)).stdout))
+        for name, static in libraries_of.items():
+            compile_host(static, room / name)
+            found = [float(it) for it in run(room / name, image, "end", str(ENDS), "100000").stdout.split()[:-1]]
+            print_ends(f"{instruction}: a run by {name} that a thread ends", found[::2])
+            print_ends(f"{instruction}: one that a time ends", found[1::2])
+        print_ends(f"{instruction}: a run from Python that a thread ends", python_ends(image.read_bytes()))
+
+
+def compile_host(static, target):
+    run("gcc", "-O2", "-pthread", f"-I{TOP}/crates/sfi_run/include", f"-I{TOP}/crates/sfi_c/include", HERE / "price.c", static, "-o", target)
+
+
+def main(library=None, sfi=None, commands=None):
     sfi = sfi or str(TOP / "crates" / "sfi" / "out" / "sfi")  # ./sfi is a script
     with tempfile.TemporaryDirectory() as folder:
         room = pathlib.Path(folder)
         static, os.environ["SFI_RUN_LIBRARY"] = libraries.make("sfi_run", library or libraries.built("sfi_run"), folder)
-        run("gcc", "-O2", f"-I{TOP}/crates/sfi_run/include", f"-I{TOP}/crates/sfi_c/include", HERE / "price.c", static, "-o", room / "price")
+        compile_host(static, room / "price")
         texts = {name: run(sfi, "build", given=source).stdout
                  for name, source in (("steps", STEPS), ("calls", CALLS), ("large", LARGE))}
         for name, text in texts.items():
@@ -129,6 +167,8 @@ def main(library=None, sfi=None):
         if shutil.which("node") and (TOP / "bindings" / "node" / "sfi_run.wasm").is_file():  # which tools/build_node.py makes
             times = run("node", HERE / "price.mjs", room / "calls", str(TURNS), str(ROUNDS)).stdout.split()
             print(f"from node, turn and reply: {times[0]} us, events: {times[1]} us")
+        native = {"libsfi_run_native": libraries.make_native(library, commands, folder)[0]} if commands else {}
+        print_all_ends(room, sfi, {"libsfi_run": static, **native})
 
 
 if __name__ == "__main__":

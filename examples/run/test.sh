@@ -335,6 +335,7 @@ header_in_c() {
     succeeds "calls.c" "${checked[@]}" "$here/calls.c" "$runtime.a" -o "$room/calls"
     succeeds "failed_calls.c" "${checked[@]}" "$here/failed_calls.c" "$runtime.a" -o "$room/failed_calls"
     succeeds "limit.c" "${checked[@]}" "$here/limit.c" "$runtime.a" -o "$room/limit"
+    succeeds "limit.c for ThreadSanitizer" "${checked[@]}" -fsanitize=thread "$here/limit.c" "$runtime.a" -o "$room/limit_watched"
     succeeds "snapshot.c" "${checked[@]}" "$here/snapshot.c" "$runtime.a" -o "$room/snapshot"
     succeeds "names.c" "${checked[@]}" "$here/names.c" "$runtime.a" -o "$room/names"
     says_so "names and signatures" "all is so" "$room/names"
@@ -353,6 +354,7 @@ header_in_c() {
         says_so "calls that fail, format $format" "all is so" "$room/failed_calls" "$room/failed_calls.image"
         says_so "runs that are cut short, format $format" "all is so" "$room/limit" "$room/failed_calls.image" \
             "$room"/{on,turn,squares,words}.image
+        says_so "ends by other threads, under ThreadSanitizer, format $format" "all is so" "$room/limit_watched" "$room/failed_calls.image"
         image "$here/squares.s" "$format" kept
         says_so "snapshots, format $format" "all is so" "$room/snapshot" "$room/kept.image" \
             "$(sha256sum <"$room/kept.image" | cut -d ' ' -f 1)" "$room/kept.snapshot"

@@ -1,14 +1,9 @@
 /* Does lines of a translation (forms.py): for each `struct given` on standard input a `struct found`. */
-#ifdef SFI_GUARDED
-#define _GNU_SOURCE
-#endif
 #include <stdio.h>
 #include <stdlib.h>
-#include "sfi_native_data.h"
+#include "sfi_native.h"
 
-#ifndef DATA_SIZE
-#define DATA_SIZE 256
-#endif
+enum { DATA_SIZE = 256 };
 enum { FUNCTION_WAY, STEP_WAY, TURN_WAY, MANY_WAY };
 
 struct given {
@@ -21,9 +16,9 @@ struct found {
     uint8_t data[DATA_SIZE];
 };
 
-/* Data that a sanitizer watches, or between guard zones. */
-static uint8_t *new_data(const struct sfi_sandbox *s) {
-    uint8_t *const data = sfi_new_data(s);
+/* Data that a sanitizer watches. */
+static uint8_t *new_data(void) {
+    uint8_t *const data = calloc(1, DATA_SIZE);
     if (data == NULL)
         exit(4);
     return data;
@@ -32,7 +27,7 @@ static uint8_t *new_data(const struct sfi_sandbox *s) {
 static void do_lines(const struct given *given, struct found *found) {
     const struct sfi_sandbox *s = &sfi_sandboxes[SFI_SANDBOXES - 1];
     struct sfi_hart hart = {.pc = given->pc, .left = given->left};
-    hart.data = new_data(s);
+    hart.data = new_data();
     memcpy(hart.x, given->x, sizeof hart.x);
     memcpy(hart.data, given->data, DATA_SIZE);
     found->at = 0;
@@ -46,7 +41,7 @@ static void do_lines(const struct given *given, struct found *found) {
     found->left = hart.left;
     memcpy(found->x, hart.x, sizeof found->x);
     memcpy(found->data, hart.data, DATA_SIZE);
-    sfi_free_data(s, hart.data);
+    free(hart.data);
 }
 
 static sfi_u32 number(void) {
@@ -62,29 +57,15 @@ static sfi_u32 word(const struct sfi_sandbox *s) {
     return kind == 0 ? some % 600 - 300 : kind == 1 ? s->data + some % 8 - 4 : kind == 2 ? s->data + DATA_SIZE - 4 + some % 8 : some;
 }
 
-/* Whether an access is at an address that no guarded access of accepted code has. */
-static int is_far(const struct sfi_sandbox *s, const struct sfi_hart *h) {
-#ifdef SFI_GUARDED
-    const struct sfi_row row = s->rows()[(h->pc - s->code) / 2];
-    const sfi_u32 place = h->x[row.rs1] + (sfi_u32)row.number - s->data + SFI_ZONE;
-    return row.kind >= SFI_KIND_lb && row.kind <= SFI_KIND_sw && place > s->data_size + 2 * SFI_ZONE - 4;
-#else
-    (void)s, (void)h;
-    return 0;
-#endif
-}
-
 /* In how many of so many random states (left) the line at pc does something else in its function than in sfi_step. */
 static sfi_u32 differing(const struct given *given) {
     const struct sfi_sandbox *s = &sfi_sandboxes[SFI_SANDBOXES - 1];
-    uint8_t *const stepped_data = new_data(s), *const done_data = new_data(s);
+    uint8_t *const stepped_data = new_data(), *const done_data = new_data();
     sfi_u32 count = 0, at;
     for (sfi_u32 k = 0; k < given->left; k++) {
         struct sfi_hart stepped = {.pc = given->pc, .left = SFI_MOST, .data = stepped_data}, done;
         for (int r = 1; r < 32; r++)
             stepped.x[r] = r >= 24 && r <= 27 ? given->x[r] : word(s);
-        if (is_far(s, &stepped))
-            continue;
         stepped_data[number() % DATA_SIZE] = (uint8_t)number();
         done = stepped;
         done.data = memcpy(done_data, stepped_data, DATA_SIZE);
@@ -93,8 +74,8 @@ static sfi_u32 differing(const struct given *given) {
         count += !(is_next || is_left) || stepped.pc != done.pc || stepped.left != done.left ||
             memcmp(stepped.x, done.x, sizeof done.x) || memcmp(stepped_data, done_data, DATA_SIZE);
     }
-    sfi_free_data(s, stepped_data);
-    sfi_free_data(s, done_data);
+    free(stepped_data);
+    free(done_data);
     return count;
 }
 

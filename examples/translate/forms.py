@@ -1,20 +1,16 @@
 #!/usr/bin/env python3
 """Whether lines mean in sfi_native.h what the manual says of their instructions: lines of all kinds are done once by the C
 function and once by sfi_step, from random registers and data, and random code is run by sfi_turn, beside fuzz/machine.py; and
-some lines whose values the manual states. By gcc and clang, without optimization, with it, and under sanitizers. On x86-64
-the same of its instructions (sfi_native_x86_64.h), and of accesses between guard zones (sfi_native_data.h). Then the headers
-get one mistake after another (form_mistakes.py), and the comparison has to see each.
+some lines whose values the manual states. By gcc and clang, without optimization, with it, and under sanitizers. Then the header
+gets one mistake after another (form_mistakes.py), and the comparison has to see each.
 
     examples/translate/forms.py [--states N] [--many N] [--lines N] [--seed SEED]
 
 For each of N lines of a kind N states beside the manual's machine, and many more in which the function does what sfi_step does.
 """
 import argparse
-import itertools
 import os
-import platform
 import random
-import re
 import resource
 import shutil
 import struct
@@ -30,12 +26,8 @@ from lines import HERE, TOP
 from suygapid.image import layout
 from suygapid.isa.decoding import Instruction
 
-INCLUDE = os.path.join(TOP, "crates/sfi_translate/include")
-HEADERS = ["sfi_native.h", "sfi_native_x86_64.h", "sfi_native_data.h", "sfi_native_guards.h"]
-CODE, CODE_SIZE, DATA, PLACE, MASK = 0x01000000, 65536, 0x01800000, 8, 0xFFFFFFFF
-DATA_SIZE, GUARDED_SIZE, ZONE = 256, 4096, 4096
-OTHER = "".join(["SANDBOX(1,16,00f00000,256,01400000,256,00f00000,0,0)\nDATA(1,0)\nFUNCTION(1,00f00000)\n",
-                 *(f"EBREAK({it:08x},4)\n" for it in range(0x00F00000, 0x00F00100, 16)), "LAST\n"])
+HEADER = "sfi_native.h"
+CODE, CODE_SIZE, DATA, DATA_SIZE, PLACE, MASK = 0x01000000, 65536, 0x01800000, 256, 8, 0xFFFFFFFF
 RESERVED = (24, 25, 26, 27)
 FREE = [number for number in range(32) if number not in RESERVED]
 GIVEN, FOUND = "<35I", "<36I"  # and the data
@@ -47,9 +39,8 @@ OTHERS = ["jal", "jalr", "lui", "auipc", "fence", "ecall", "ebreak"]
 KINDS = lines.COMPUTATIONS + lines.IMMEDIATES + lines.LOADS + lines.STORES + lines.BRANCHES + OTHERS
 GOING_ON = lines.COMPUTATIONS + lines.IMMEDIATES + lines.BRANCHES + ["jal", "lui", "auipc", "fence"]  # these don't end a turn
 SANITIZED = ("gcc", "-O1", "-fsanitize=undefined,address", "-fno-sanitize-recover=all")
-PORTABLE = [it + ("-DSFI_PORTABLE",) for it in (("gcc", "-O0"), ("gcc", "-O2"), ("clang", "-O0"), ("clang", "-O2"), SANITIZED)]
-ASSEMBLY = [("gcc", "-O2"), ("clang", "-O2"), SANITIZED]
-GUARDED = [it + ("-DSFI_GUARDED", f"-DDATA_SIZE={GUARDED_SIZE}") for it in (("gcc", "-O2"), ("clang", "-O2"))]
+MISTAKEN = ("gcc", "-O1")
+COMPILERS = [("gcc", "-O0"), ("gcc", "-O2"), ("clang", "-O0"), ("clang", "-O2"), SANITIZED]
 LEAST, ONES = 0x80000000, MASK
 VECTORS = [  # of crates/rv_tests: kind, x11, x12, and x10 afterwards
     ("div", 7, 0, ONES), ("rem", 7, 0, 7), ("div", LEAST, ONES, LEAST), ("rem", LEAST, ONES, 0), ("mulhsu", ONES, ONES, ONES)]
@@ -123,13 +114,6 @@ def made_lines(pick, count):
     return [Line(pick, kind, at, [it + 4 for it in addresses]) for kind, at in zip(kinds, addresses)]
 
 
-def made_operands(pick):
-    """Computations and accesses on registers of all classes, the same and others: x0, in memory, %ecx, of one value, %edx."""
-    registers = itertools.product((0, 5, 8, 31), *2 * [(0, 5, 6, 8, 26, 31)])
-    forms = itertools.product(lines.COMPUTATIONS + lines.IMMEDIATES + lines.LOADS + lines.STORES, registers)
-    return [Line(pick, kind, CODE + PLACE * place, [], registers=it) for place, (kind, it) in enumerate(forms)]
-
-
 def made_run(pick, count):
     """So many lines, one after another, across the end of a function. A third has no jump."""
     begin = CODE + lines.FUNCTION_MOST - 4 * (count // 2)
@@ -149,47 +133,32 @@ def masked(pick, at):
     return [Line(pick, "and", at, [], 4, (offset, other, 27)), Line(pick, "or", at + 4, [], 4, (address, pick.choice([offset, offset, other]), 26))]
 
 
-def text_of(made, shown=Line.alone, size=DATA_SIZE):
+def text_of(made, shown=Line.alone):
     """A translation with these lines; each function has one."""
-    text = [f"SANDBOX(0,4,{CODE:08x},{CODE_SIZE},{DATA:08x},{size},{CODE:08x},0,0)\nDATA(0,0)\n"]
+    text = [f"SANDBOX(0,4,{CODE:08x},{CODE_SIZE},{DATA:08x},{DATA_SIZE},{CODE:08x},0,0)\nDATA(0,0)\n"]
     for begin in range(CODE, CODE + CODE_SIZE, lines.FUNCTION_MOST):
         text += [f"END({begin:08x})\n"] * (begin > CODE) + [f"FUNCTION(0,{begin:08x})\n"]
         text += [shown(it) for it in made if begin <= it.at < begin + lines.FUNCTION_MOST] or [f"EBREAK({begin:08x},4)\n"]
     return "".join(text) + "LAST\n"
 
 
-def filled(text):
-    """The same after another sandbox, with an ebreak in each unit that has no line: a table of entries has one of each."""
-    made, unit = [OTHER], CODE
-    for line in text.splitlines(keepends=True):
-        place = re.match(r"([A-Z_]+)\((?:0,)?([0-9a-f]{8})", line)
-        at = CODE + CODE_SIZE if line == "LAST\n" else int(place[2], 16) if place else unit
-        made += [f"EBREAK({it:08x},4)\n" for it in range(unit, at, 4)] + [line]
-        unit = max(unit, at & ~3)
-        if place and place[1] not in ("FUNCTION", "END", "ENTRY", "HEAD"):
-            unit = max(unit, (at & ~3) + 4)
-    return "".join(made)
+def part():
+    return layout.Part(CODE, bytes(CODE_SIZE), DATA, DATA_SIZE, CODE, format=3)
 
 
-def part(size=DATA_SIZE):
-    return layout.Part(CODE, bytes(CODE_SIZE), DATA, size, CODE, format=3)
-
-
-def word(pick, size):
-    near = [0, 1, 2, 31, 32, ONES, LEAST, LEAST - 1, DATA, DATA + size - 1, DATA + size - 4, DATA - 1, CODE, CODE + 4]
+def word(pick):
+    near = [0, 1, 2, 31, 32, ONES, LEAST, LEAST - 1, DATA, DATA + DATA_SIZE - 1, DATA + DATA_SIZE - 4, DATA - 1, CODE, CODE + 4]
     return pick.choice([pick.choice(near), pick.getrandbits(32), pick.randrange(-300, 300) & MASK])
 
 
-def state(pick, line, size=DATA_SIZE):
-    """Registers that make its access fall in the data, at an end of them, or anywhere; in a guard zone, where data have one."""
-    x = [0] + [word(pick, size) for _ in range(31)]
-    x[24:28] = part(size).reserved()
-    is_guarded = size == GUARDED_SIZE
+def state(pick, line):
+    """Registers that make its access fall in the data, at an end of them, or anywhere."""
+    x = [0] + [word(pick) for _ in range(31)]
+    x[24:28] = part().reserved()
     if line.kind in lines.BRANCHES and line.instruction.rs2 in FREE[1:] and pick.random() < 0.3:
         x[line.instruction.rs2] = x[line.instruction.rs1]
-    if line.is_access() and line.instruction.rs1 in FREE[1:] and (is_guarded or pick.random() < 0.8):
-        places = [0, 1, size - 4, size - 3, size - 2, size - 1, size, -1, pick.randrange(size)]
-        places += [-ZONE, -2, -3, -4, size + 1, size + ZONE - 4, pick.randrange(-ZONE, 0)] if is_guarded else []
+    if line.is_access() and line.instruction.rs1 in FREE[1:] and pick.random() < 0.8:
+        places = [0, 1, *range(DATA_SIZE - 4, DATA_SIZE + 1), -1, pick.randrange(DATA_SIZE)]
         x[line.instruction.rs1] = DATA + pick.choice(places) - line.number & MASK
     return x
 
@@ -208,12 +177,12 @@ def packed(way, at, left, x, data):
     return struct.pack(GIVEN, way, at, left, *x) + data
 
 
-def cases(pick, made, states, size=DATA_SIZE):
+def cases(pick, made, states):
     """For each line, way and state: what the C program reads, and what it is to write."""
-    given = part(size)
+    given = part()
     for line in made:
         for _ in range(states):
-            x, data = state(pick, line, size), pick.randbytes(size)
+            x, data = state(pick, line), pick.randbytes(DATA_SIZE)
             left = LEAST_LEFT if line.kind == "jalr" else pick.choice([LEAST_LEFT, 66, 1000, ONES])
             (how, at), pc, steps, after, left_data = expected(given, line, x, data)
             rest = (pc, left - steps, *after, left_data)
@@ -221,10 +190,10 @@ def cases(pick, made, states, size=DATA_SIZE):
                 yield line, packed(way, line.at, left, x, data), told + rest
 
 
-def many(made, states, size=DATA_SIZE):
+def many(made, states):
     """For each line so many states, in the same shape: its function is to do in each what sfi_step does."""
-    x = [0] * 24 + list(part(size).reserved()) + [0] * 4
-    return [(line, packed(MANY_WAY, line.at, states, x, bytes(size)), (0,)) for line in made]
+    x = [0] * 24 + list(part().reserved()) + [0] * 4
+    return [(line, packed(MANY_WAY, line.at, states, x, bytes(DATA_SIZE)), (0,)) for line in made]
 
 
 def made_ahead(pick):
@@ -281,14 +250,9 @@ def landings():
     return made, tried
 
 
-def in_assembly(tried):
-    """The same cases, where a function answers 1 in each."""
-    return [(line, given, (1, *wanted[1:]) if given[0] == FUNCTION_WAY else wanted) for line, given, wanted in tried]
-
-
-def compiled(folder, compiler, headers, text):
-    """The program of a text by these headers; None where that can't be compiled."""
-    for name, content in {**headers, "image.inc": text}.items():
+def compiled(folder, compiler, header, text):
+    """The program of a text by this header; None where that can't be compiled."""
+    for name, content in {HEADER: header, "image.inc": text}.items():
         with open(os.path.join(folder, name), "w", encoding="ascii") as file:
             file.write(content)
     program = os.path.join(folder, "forms")
@@ -318,55 +282,38 @@ def differing(program, tried):
 
 
 class Tally:
-    """How many comparisons by these headers have passed, failed and been skipped."""
+    """How many comparisons by this header have passed, failed and been skipped."""
 
-    def __init__(self, folder, headers):
-        self.folder, self.headers, self.passed, self.failed, self.skipped = folder, headers, 0, 0, 0
+    def __init__(self, folder, header):
+        self.folder, self.header, self.passed, self.failed, self.skipped = folder, header, 0, 0, 0
 
     def count(self, is_passed):
         self.passed, self.failed = self.passed + is_passed, self.failed + (not is_passed)
 
-    def skip(self, what, why):
-        print(f"skipped: {what}: {why}")
-        self.skipped += 1
-
     def try_level(self, compiler, sets):
         """Compares by a compiler sets of lines, each a text and its cases."""
         if not shutil.which(compiler[0]):
-            self.skip(f"lines by {' '.join(compiler)}", f"{compiler[0]} isn't there")
+            print(f"skipped: lines by {' '.join(compiler)}: {compiler[0]} isn't there")
+            self.skipped += 1
             return
         for text, cases_of in sets:
-            program = compiled(self.folder, compiler, self.headers, text)
+            program = compiled(self.folder, compiler, self.header, text)
             wrong = differing(program, cases_of) if program else ["it isn't compiled\n"]
             print(f"{' '.join(compiler)}: {len(cases_of)} compared, {len(wrong)} differ")
             print("".join(f"FAILED {it}" for it in wrong[:3]), end="")
             self.count(not wrong)
 
-    def is_seen(self, compiler, headers, text, cases_of):
-        program = compiled(self.folder, compiler, headers, text)
+    def is_seen(self, header, text, cases_of):
+        program = compiled(self.folder, MISTAKEN, header, text)
         beside_manual = [it for it in cases_of if it[2] != (0,)]
         return program is not None and bool(differing(program, beside_manual))
 
-    def try_mistake(self, compiler, sets, what, changes):
-        headers = dict(self.headers)
-        is_there = True
-        for old, new in zip(changes[::2], changes[1::2]):
-            is_there = is_there and any(old in it for it in headers.values())
-            headers = {name: it.replace(old, new) for name, it in headers.items()}
-        is_seen = is_there and any(self.is_seen(compiler, headers, *it) for it in sets)
+    def try_mistake(self, sets, what, old, new):
+        header = self.header.replace(old, new)
+        is_there = header != self.header
+        is_seen = is_there and any(self.is_seen(header, *it) for it in sets)
         print(f"a mistake, {what}: " + ("seen" if is_seen else "FAILED, not seen" if is_there else "FAILED, not in the header"))
         self.count(is_seen)
-
-    def try_all(self, levels, sets, options, mistakes):
-        """Sets of lines by each compiler, and mistakes by gcc with these options."""
-        for compiler in levels:
-            self.try_level(compiler, sets)
-        for what, changes in mistakes.items() if shutil.which("gcc") else ():
-            self.try_mistake(("gcc", *options), sets, what, changes)
-
-
-def has_assembly():
-    return platform.machine() in ("x86_64", "AMD64") and sys.platform == "linux" and sys.maxsize > MASK
 
 
 def sets_of(pick, given):
@@ -374,13 +321,6 @@ def sets_of(pick, given):
     made, run, ahead = made_lines(pick, given.lines), made_run(pick, 600), made_ahead(pick)
     return [(text_of(made), list(cases(pick, made, given.states)) + many(made, given.many)), *((text_of(it), tried) for it, tried in (vectors(), landings())),
             *((text_of(it, Line.text), list(turns(pick, it, 100 * given.states))) for it in (run, ahead))]
-
-
-def guarded_sets(pick, given):
-    """A set of loads and stores on data between guard zones, each at a base that lies there, as in accepted code."""
-    size, bases = GUARDED_SIZE, [26, *FREE[1:]]
-    made = [it for it in made_lines(pick, 2 * given.lines) if it.is_access() and it.instruction.rs1 in bases]
-    return [(filled(text_of(made, size=size)), in_assembly(cases(pick, made, given.states, size)) + many(made, given.many, size))]
 
 
 def main():
@@ -391,21 +331,14 @@ def main():
     parser.add_argument("--seed", type=int, default=0)
     given = parser.parse_args()
     pick = random.Random(given.seed)
-    headers = {}
-    for name in HEADERS:
-        with open(os.path.join(INCLUDE, name), encoding="ascii") as file:
-            headers[name] = file.read()
+    with open(os.path.join(TOP, "crates/sfi_translate/include", HEADER), encoding="ascii") as file:
+        header = file.read()
     with tempfile.TemporaryDirectory() as folder:
-        tally, sets = Tally(folder, headers), sets_of(pick, given)
-        tally.try_all(PORTABLE, sets, ("-O1", "-DSFI_PORTABLE"), form_mistakes.NATIVE)
-        if has_assembly():
-            operands = made_operands(pick)
-            sets.append((text_of(operands), list(cases(pick, operands, 2))))
-            in_units = [(filled(text), in_assembly(cases_of)) for text, cases_of in sets]
-            tally.try_all(ASSEMBLY, in_units, ("-O1",), form_mistakes.X86_64)
-            tally.try_all(GUARDED, guarded_sets(pick, given), ("-O1", *GUARDED[0][2:]), form_mistakes.GUARDED)
-        else:
-            tally.skip("lines in instructions of x86-64", "this machine has others")
+        tally, sets = Tally(folder, header), sets_of(pick, given)
+        for compiler in COMPILERS:
+            tally.try_level(compiler, sets)
+        for what, (old, new) in form_mistakes.MISTAKES.items() if shutil.which(MISTAKEN[0]) else ():
+            tally.try_mistake(sets, what, old, new)
     print(f"{tally.passed} passed, {tally.failed} failed" + (f", {tally.skipped} skipped" if tally.skipped else ""))
     return 1 if tally.failed else 0
 

@@ -5,15 +5,9 @@
        ./image --rounds N --quantum Q --input HEX
 
    `sfi translate --whole` prints both in one, made by tools/whole_translation.py. */
-#if !defined(SFI_TESTED) && !defined(SFI_GUARDED)
-#define SFI_GUARDED
-#endif
-#if defined(SFI_GUARDED) && !defined(_GNU_SOURCE)
-#define _GNU_SOURCE
-#endif
 #include <stdio.h>
 #include <stdlib.h>
-#include "sfi_native_data.h"
+#include "sfi_native.h"
 #include "sfi_services.h"
 
 static const char *const CAUSES[] = { "", "", "Load", "Store", "Break", "Fetch" };
@@ -72,7 +66,7 @@ static void begin(sfi_u32 number) {
     struct running *it = &running[number];
     strcpy(it->state, "ready");
     it->is_ready = 1;
-    it->hart.data = sfi_new_data(s);
+    it->hart.data = calloc(1, s->data_size);
     sessions[number].output = malloc(SFI_OUTPUT_MOST);
     if (it->hart.data == NULL || sessions[number].output == NULL)
         exit(4);
@@ -135,7 +129,7 @@ int main(int count, char **words) {
         for (size_t k = 0; k < sessions[number].written; k++)
             printf("%02x", sessions[number].output[k]);
         printf("\n");
-        sfi_free_data(&sfi_sandboxes[number], it->hart.data);
+        free(it->hart.data);
     }
     return 0;
 }

@@ -1,8 +1,7 @@
 #!/usr/bin/env python3
 """Translates images to C, and compares the text with what another maker makes of the listing, and what the C programs print
 with what `sfi run` does, traps and steps included: the examples in each format, straight code, and random accepted images, in
-turns of several lengths, for a host and as whole programs, by gcc and by clang, in instructions of x86-64 and in C; images with
-accesses that are guarded; and a turn of each in WebAssembly, in node.
+turns of several lengths, for a host and as whole programs, by gcc and by clang; and a turn of each in WebAssembly, in node.
 
     examples/translate/test.py [--program SFI] [--images N] [--seed SEED]
 """
@@ -16,15 +15,13 @@ import tempfile
 sys.dont_write_bytecode = True
 import lines
 import corpus
-import guarded
 import trial
 import whole_translation
 from lines import HERE, TOP
 from suygapid.image.layout import MAGICS, Part, spelled
 
 INCLUDE = os.path.join(TOP, "crates/sfi_translate/include")
-GUARDED = (("gcc", "-O2"), ("clang", "-O1"))  # on x86-64 in its instructions, with guarded accesses where data are large enough
-COMPILERS = GUARDED + (("gcc", "-O2", "-DSFI_PORTABLE"), ("gcc", "-O2", "-DSFI_TESTED"), ("clang", "-O1", "-DSFI_PORTABLE"))
+COMPILERS = (("gcc", "-O2"), ("clang", "-O1"))
 TURNS = (("2", "2000"), ("50", "13"), ("1", "64"), ("1", "128"))
 REFUSED = [(3, "--rounds"), (3, "--rounds", "0"), (3, "--rounds", "10001"), (3, "--quantum", "1000001"), (3, "--quantum", "x"),
            (3, "--other", "1"), (2, "--input", "486"), (2, "--input", "4g")]
@@ -123,11 +120,6 @@ def is_as_listed(sfi, image):
     return printed([sfi, "translate"], digits.encode()).decode() == INCLUDE_LINE + lines.translation(sfi, digits)
 
 
-def compilers_of(all_of):
-    """Those of them that are there."""
-    return [it for it in all_of if shutil.which(it[0])]
-
-
 def try_images(sfi, compilers, folder, images):
     """What each image's programs print, each image by the next compiler, and whether it is the same."""
     for number, image in enumerate(images if compilers else []):
@@ -137,30 +129,20 @@ def try_images(sfi, compilers, folder, images):
                    f"  wanted {wanted[:200]}\n  found  {found[:200]}"), wanted == found
 
 
-def try_zones(sfi, images):
-    """Whether loads and stores of these images trap below the data and above them."""
-    zones = set().union(*(guarded.trapping_zones(printed([sfi, "run"], it.hex().encode()), it) for it in images))
-    yield f"accesses trap in {sorted(zones)} alone", len(zones) == 4
-
-
 def main():
     given = trial.options(__doc__)
     pick = random.Random(given.seed)
     skipped = 0
     tried = [("the front of whole programs is the header and the console", whole_translation.is_made())]
     images = [straight()] + corpus.examples(given.program) + [corpus.small_accepted(pick) for _ in range(given.images)]
-    large = guarded.images(pick, given.program, given.images // 2)
-    compilers = compilers_of(COMPILERS)
-    for name in ("gcc", "clang"):
-        if not shutil.which(name):
-            print(f"skipped: the translations by {name}: {name} isn't there")
-            skipped += 1
+    compilers = [it for it in COMPILERS if shutil.which(it[0])]
+    for name, *_ in set(COMPILERS) - set(compilers):
+        print(f"skipped: the translations by {name}: {name} isn't there")
+        skipped += 1
     tried += [(f"image {number} as its listing says: {image.hex()[:80]}..", is_as_listed(given.program, image))
-              for number, image in enumerate(images + large)]
-    tried += try_zones(given.program, large)
+              for number, image in enumerate(images)]
     with tempfile.TemporaryDirectory() as folder:
         tried += try_images(given.program, compilers, folder, images)
-        tried += try_images(given.program, compilers_of(GUARDED), folder, large)
         if has_wasm():
             tried += try_wasm(given.program, folder, images[:1] + images[-given.images:])
         else:

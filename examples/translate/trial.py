@@ -6,12 +6,14 @@ import measure
 INPUT = "00ff10203040506070809a0b0c0d0e0f11"
 
 
-def options(description):
-    """Those that the script is called with."""
+def options(description, **more):
+    """Those that the script is called with. More are paths, by their names."""
     parser = argparse.ArgumentParser(description=description, formatter_class=argparse.RawDescriptionHelpFormatter)
     parser.add_argument("--program", default=measure.PROGRAM, help="the program sfi")
     parser.add_argument("--images", type=int, default=12, help="how many random images (12)")
     parser.add_argument("--seed", type=int, default=0, help="of the random images (0)")
+    for name, path in more.items():
+        parser.add_argument(f"--{name}", default=path)
     return parser.parse_args()
 
 

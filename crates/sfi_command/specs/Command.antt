@@ -112,11 +112,11 @@ required_argument_rule name = record (new_rule name) { required = true }
 abbrev pub number_rule : Text → Rule
 number_rule name = record (value_rule name) { parser = Some (Unsigned 1 (2 ^ 64 - 1)) }
 
--- `exec IMAGE [--budget N]`
+-- `exec IMAGE [--budget N] [--interpret]`
 abbrev pub exec : Shape
 exec = record (new_shape (codes "exec")) {
   rules = record (required_argument_rule (codes "image")) { value_names = 1 }
-      ∷ number_rule (codes "budget") ∷ [];
+      ∷ number_rule (codes "budget") ∷ flag_rule (codes "interpret") ∷ [];
 }
 
 -- `convert [--raw]`

@@ -29,12 +29,23 @@ static sfi_u32 sfi_number(const uint8_t *at) {
     return number;
 }
 
+/* Four bytes at a time: table[k] has the remainder of each byte with k more behind it. */
 static sfi_u32 sfi_crc32(const uint8_t *bytes, size_t length) {
-    static const sfi_u32 half[16] = { 0, 0x1db71064, 0x3b6e20c8, 0x26d930ac, 0x76dc4190, 0x6b6b51f4, 0x4db26158, 0x5005713c,
-        0xedb88320, 0xf00f9344, 0xd6d6a3e8, 0xcb61b38c, 0x9b64c2b0, 0x86d3d2d4, 0xa00ae278, 0xbdbdf21c };
-    sfi_u32 crc = ~0u;
-    for (size_t k = 0; k < 2 * length; k++)  /* half a byte, the lower one first */
-        crc = crc >> 4 ^ half[(crc ^ bytes[k / 2] >> k % 2 * 4) & 15];
+    sfi_u32 table[4][256], crc = ~0u;
+    for (sfi_u32 k = 0; k < 256; k++) {
+        sfi_u32 entry = k;
+        for (int bit = 0; bit < 8; bit++)
+            entry = entry >> 1 ^ (entry & 1 ? 0xedb88320 : 0);
+        table[0][k] = entry;
+    }
+    for (sfi_u32 k = 0; k < 3 * 256; k++)
+        table[k / 256 + 1][k % 256] = table[k / 256][k % 256] >> 8 ^ table[0][table[k / 256][k % 256] & 255];
+    for (; length >= 4; bytes += 4, length -= 4) {
+        crc ^= sfi_number(bytes);
+        crc = table[3][crc & 255] ^ table[2][crc >> 8 & 255] ^ table[1][crc >> 16 & 255] ^ table[0][crc >> 24];
+    }
+    for (; length > 0; bytes++, length--)
+        crc = crc >> 8 ^ table[0][(crc ^ *bytes) & 255];
     return ~crc;
 }
 
@@ -54,20 +65,35 @@ __asm__(".pushsection .text\n.weak sfi_enter_code; .hidden sfi_enter_code\nsfi_e
 /* The turn that a thread is in. */
 static _Thread_local struct { const struct sfi_code *code; const uint8_t *data; } sfi_running __attribute__((tls_model("initial-exec")));
 
+/* The access at that offset in the text, or NULL. They are in order. */
+static const uint8_t *sfi_access_at(const struct sfi_code *code, uintptr_t offset) {
+    size_t low = 0, high = code->accesses;
+    while (low < high) {
+        const size_t middle = low + (high - low) / 2;
+        const uint8_t *const at = code->access + SFI_ACCESS * middle;
+        if (sfi_number(at) == offset)
+            return at;
+        if (sfi_number(at) < offset)
+            low = middle + 1;
+        else
+            high = middle;
+    }
+    return NULL;
+}
+
 /* Takes a fault if rip is an access of the running code and the address in a guard zone: goes out, the pc in edx and nothing owed. */
 static int sfi_takes_fault(uintptr_t address, greg_t registers[]) {
     const struct sfi_code *const code = sfi_running.code;
     const uintptr_t place = address - (uintptr_t)sfi_running.data;
     if (code == NULL || (place + SFI_ZONE >= SFI_ZONE && place - code->sandbox->data_size >= SFI_ZONE))
         return 0;
-    for (const uint8_t *at = code->access; at < code->access + SFI_ACCESS * code->accesses; at += SFI_ACCESS)
-        if ((uintptr_t)registers[REG_RIP] == (uintptr_t)code->text + sfi_number(at)) {
-            registers[REG_RDX] = sfi_number(at + 4);
-            registers[REG_R14] = (sfi_u32)registers[REG_R14] - sfi_number(at + 8);
-            registers[REG_RIP] = (greg_t)(uintptr_t)(code->text + code->exit);
-            return 1;
-        }
-    return 0;
+    const uint8_t *const at = sfi_access_at(code, (uintptr_t)registers[REG_RIP] - (uintptr_t)code->text);
+    if (at == NULL)
+        return 0;
+    registers[REG_RDX] = sfi_number(at + 4);
+    registers[REG_R14] = (sfi_u32)registers[REG_R14] - sfi_number(at + 8);
+    registers[REG_RIP] = (greg_t)(uintptr_t)(code->text + code->exit);
+    return 1;
 }
 
 static void sfi_unmap_code(struct sfi_code codes[], size_t count) {  /* while no turn of them is under way */
@@ -90,6 +116,13 @@ static int sfi_hold_registers(const uint8_t *places, struct sfi_code *code) {
     return 1;
 }
 
+static int sfi_is_ordered(const uint8_t *access, size_t accesses) {
+    for (size_t k = 1; k < accesses; k++)
+        if (sfi_number(access + SFI_ACCESS * (k - 1)) >= sfi_number(access + SFI_ACCESS * k))
+            return 0;
+    return 1;
+}
+
 /* Maps a sandbox's code: places, sizes (both before `end`), rows of the table, accesses and text, from `at`. Returns where it ends, or NULL. */
 static const uint8_t *sfi_map_sandbox(const uint8_t *at, const uint8_t *end, const struct sfi_sandbox *s, struct sfi_code *code) {
     const size_t exit = sfi_number(at + SFI_PLACES), accesses = sfi_number(at + SFI_PLACES + 4), units = s->code_size / s->unit;
@@ -104,7 +137,7 @@ static const uint8_t *sfi_map_sandbox(const uint8_t *at, const uint8_t *end, con
         .accesses = accesses };
     for (size_t unit = 0; unit < units; unit++)
         memcpy(code->table + 2 * s->unit * unit, entry + 8 * unit, 8);
-    if (!sfi_hold_registers(at, code))
+    if (!sfi_hold_registers(at, code) || !sfi_is_ordered(access, accesses))
         return NULL;
     memcpy(code->access, access, listed);
     memcpy(map, access + listed, exit);

@@ -9,20 +9,19 @@
 #define SFI_OTHERWISE(call)
 #endif
 
-enum { SERVICE_EXIT = 0, CALL_SIZE = 4, SLACK = 1020 }; /* SLACK: docs/IMAGE.md, typed registers */
+enum { WORD_SIZE = 4, CALL_SIZE = 4, SLACK = 1020 }; /* SLACK: docs/IMAGE.md, typed registers */
 enum { MAGIC_SIZE = 4 }; /* docs/IMAGE.md, the layout */
 enum { ECALL = 0x73 }; /* the instruction */
 enum { WRITTEN_MOST = 1 << 17, PAGES_ASKED = 4096 }; /* up to so many bytes zeros are just written; so many pages are asked for at once */
-enum { WORD_SIZE = 4, FOOTER_SIZE = 16, BELOW_END = 16 }; /* the table of names; where the first stack pointer is */
-
-/* `module` is the includer's. `entered` are the registers of a function that is called, but for x30 in words. `number` and `address`
-   are those of an exit or trap; of a call `number` is the gate's. */
+/* `module` is the includer's, and so are `entered`, the 32 registers of a function that is called, but for x30 in words. `number` and
+   `address` are those of an exit or trap; of a call `number` is the gate's. */
 struct native_sandbox {
     const struct sfi_sandbox *text;
     void *module;
+    const uint32_t *entered;
     struct sfi_hart hart;
     uint64_t steps;
-    uint32_t kind, number, address, entered[32];
+    uint32_t kind, number, address;
 };
 
 struct native_world {
@@ -117,28 +116,6 @@ static uint32_t tell(const struct native_sandbox *it, struct sfi_run_event *even
 
 /* ---- a world */
 
-/* How many bytes the image claims above the stack pointer of a function that a host enters: its last import entry, .room, says so
- * (docs/IMAGE.md). 0 where it claims none, or more than there are. */
-static uint32_t room_of(const struct sfi_sandbox *s) {
-    static const char name[] = "\5.room";
-    const uint32_t size = sizeof name - 1;
-    if (s->init < WORD_SIZE + size + FOOTER_SIZE)
-        return 0;
-    const uint8_t *const claim = s->first_data + s->init - FOOTER_SIZE - size - WORD_SIZE;
-    if (memcmp(claim + WORD_SIZE, name, size) || memcmp(s->first_data + s->init - MAGIC_SIZE, "SFIN", MAGIC_SIZE))
-        return 0;
-    const uint32_t room = word_at(claim);
-    return room <= s->data_size - BELOW_END ? room : 0;
-}
-
-/* The address of the first gate by which it exits, or 0. */
-static uint32_t exit_gate(const struct sfi_sandbox *s) {
-    for (uint32_t gate = 0; gate < s->gates; gate++)
-        if (s->gate[gate].service == SERVICE_EXIT)
-            return s->gate[gate].address;
-    return 0;
-}
-
 /* Makes pages zeros. Where a quarter is in memory, all are written; else those are, and the others handed back, whose next touch finds
    zeros. False where it can't be told which are in memory. */
 static bool clear_pages(uint8_t *pages, size_t count) {
@@ -189,9 +166,6 @@ static bool make_sandbox(const struct sfi_sandbox *s, struct native_sandbox *it)
     if (it->hart.data == NULL)
         return false;
     make_first(it);
-    memcpy(it->entered, it->hart.x, sizeof it->entered);
-    it->entered[1] = exit_gate(s);
-    it->entered[2] -= room_of(s);
     return true;
 }
 
@@ -345,7 +319,7 @@ bool sfi_run_enter(struct sfi_run_world *world, uint32_t sandbox, uint32_t pc, c
     struct native_sandbox *it = sandbox_at(world, sandbox);
     if (it == NULL || is_running(it) || !is_unit(it->text, pc))
         return false;
-    memcpy(it->hart.x, it->entered, sizeof it->entered);
+    memcpy(it->hart.x, it->entered, sizeof it->hart.x);
     memcpy(it->hart.x + 10, arguments, 8 * sizeof *arguments);
     if (it->text->unit == WORD_SIZE)
         it->hart.x[30] = pc;

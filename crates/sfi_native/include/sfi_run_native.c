@@ -14,6 +14,8 @@ uint8_t *sfi_native_data(struct sfi_run_world *world, uint32_t sandbox) {
     return NULL;
 }
 #else
+#include <malloc.h>
+
 #include "sfi_tool.h"
 
 #include "sfi_native_image.h"
@@ -55,6 +57,7 @@ struct shared {
     size_t length;
     struct sfi_image image;
     struct sfi_code codes[SFI_SANDBOXES_MOST];
+    uint32_t entered[SFI_SANDBOXES_MOST][32]; /* the registers of a function that a host enters */
     bool is_native;
 };
 
@@ -64,6 +67,17 @@ static void release(struct shared *it) {
     sfi_unmap_code(it->codes, it->is_native ? it->image.count : 0);
     free(it->bytes);
     free(it);
+}
+
+/* Hands back to the system what malloc keeps of the memory that a large image took for a moment. */
+static void give_back(size_t length) {
+    enum { LARGE = 1 << 16 };
+#ifdef __GLIBC__
+    if (length >= LARGE)
+        malloc_trim(0);
+#else
+    (void)length;
+#endif
 }
 
 /* What `sfi native` writes of the image, which is to be freed, or NULL. */
@@ -94,8 +108,25 @@ static bool compile(struct shared *it) {
     return is_mapped;
 }
 
-/* What is shared of an accepted image, or NULL where there is no memory. */
-static struct shared *share(const uint8_t *image, size_t length) {
+/* Has the interpreter say what registers hold where a host enters a function. Whether there was memory for that. */
+static bool read_entered(struct shared *it) {
+    static const uint32_t none[8];
+    struct sfi_run_world world = SFI_RUN_NO_WORLD;
+    struct sfi_run_registers found;
+    if (!sfi_stepped_instance(&it->stepped, &world))
+        return false;
+    for (uint32_t k = 0; k < it->image.count; k++) {
+        sfi_stepped_stop(&world, k);
+        sfi_stepped_enter(&world, k, it->image.sandboxes[k].start, none);
+        sfi_stepped_registers(&world, k, &found);
+        memcpy(it->entered[k], found.x, sizeof found.x);
+    }
+    sfi_stepped_free(&world);
+    return true;
+}
+
+/* What is shared of an accepted image, of which the module is made; NULL where there is no memory. */
+static struct shared *share(const uint8_t *image, size_t length, struct sfi_run_module stepped) {
     struct shared *const it = zeros(sizeof *it);
     uint8_t *const bytes = malloc(length);
     if (it != NULL && bytes != NULL) {
@@ -103,7 +134,8 @@ static struct shared *share(const uint8_t *image, size_t length) {
         it->uses = 1;
         it->bytes = bytes;
         it->length = length;
-        if (sfi_read_image(bytes, length, &it->image)) {
+        it->stepped = stepped;
+        if (sfi_read_image(bytes, length, &it->image) && read_entered(it)) {
             it->is_native = compile(it);
             return it;
         }
@@ -123,22 +155,24 @@ uint32_t sfi_run_module_new(const uint8_t *image, size_t length, struct sfi_run_
     const uint32_t status = sfi_stepped_module_new(image, length, &stepped, verdict);
     if (status != SFI_RUN_LOADED)
         return status;
-    struct shared *const it = share(image, length);
+    struct shared *const it = share(image, length, stepped);
     if (it == NULL) {
         sfi_stepped_module_free(&stepped);
         return SFI_RUN_NO_MEMORY;
     }
-    it->stepped = stepped;
     module->held = STEPPED;
     module->at = it;
+    give_back(length);
     return status;
 }
 
 void sfi_run_module_free(struct sfi_run_module *module) {
     struct shared *const it = shared_of(module);
     if (it != NULL) {
+        const size_t length = it->length;
         sfi_stepped_module_free(&it->stepped);
         release(it);
+        give_back(length);
     }
     module->held = 0;
     module->at = NULL;
@@ -179,8 +213,10 @@ static void end_sandboxes(struct native_sandbox *all, size_t count) {
 /* Makes the sandboxes of a module where nothing is: all of them, or none. */
 static bool make_of_module(struct shared *it, struct native_sandbox *all) {
     const bool is_made = make_sandboxes(it->image.sandboxes, it->image.count, all);
-    for (size_t k = 0; is_made && k < it->image.count; k++)
+    for (size_t k = 0; is_made && k < it->image.count; k++) {
         all[k].module = it;
+        all[k].entered = it->entered[k];
+    }
     if (is_made)
         __atomic_add_fetch(&it->uses, it->image.count, __ATOMIC_RELAXED);
     return is_made;

@@ -9,8 +9,8 @@
  *
  * - Proved are the checker, the compiler and the interpreter; that a world of native code does what sfi_run.h says is not
  *   (docs/THEOREM.md says what is trusted).
- * - The data of a native sandbox are a map between two guard zones, so that a process has room for some 20,000 of them
- *   (/proc/sys/vm/max_map_count); where there is none for a new world, that world goes step by step.
+ * - The data of a native sandbox are a map between two guard zones, of which a process has 20,000 at most, and fewer where other maps
+ *   take more than some thousand of its 65530; where there is none for a new world, that world goes step by step.
  * - The first native world handles SIGSEGV and SIGBUS: what is no sandbox's fault goes to the handler before. One that is set later has to
  *   hand on what isn't its own. These signals may not be blocked where turns are taken. A shared library stays loaded.
  * - sfi_run_reset of data above 128 KiB costs what the pages do that were touched.

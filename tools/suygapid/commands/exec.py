@@ -8,7 +8,7 @@ Standard input and output are the programs'. After what `sfi exec` says of a tra
 is known of the pc, that of the return address in x1.
 
 With a folder, a variable or words one program is run, whose host has files, a clock and random bytes: by the library libsfi_run,
-bindings/python/sfi_run/files.py. Where tools/build_native.py has built a host of native code one program is run by that instead.
+bindings/python/sfi_run/files.py. On Linux on x86-64 one program is run by native code (suygapid/native).
 """
 import argparse
 import os
@@ -29,7 +29,7 @@ TRAP = re.compile(r"^sandbox=(\d+) trap=(\w+) at=([0-9a-f]{8})", re.MULTILINE)
 PLACE = re.compile(r"^sandbox=(\d+) pc=([0-9a-f]{8}).*\n((?:x\d+=.*\n){4})", re.MULTILINE)
 ACCESSES = ("Load", "Store")
 READ_ONLY = ":ro"
-FILES, NONE = b"sfi_system", "none"  # the import of the gate for files, and what its address is where there is none
+FILES, NONE = b"sfi_system", str((1 << 32) - 1)  # the import of the gate for files, and an address that no gate has
 FAULT, TRAPPED, USED = 125, 126, 124  # statuses, as of `sfi exec`
 
 
@@ -72,29 +72,19 @@ def parsed(words):
     return options
 
 
-def with_instruction(options, made, said):
-    """What is said of where a program stands, with the instruction there, as `sfi exec` says it."""
-    pc = PLACE.search(said.decode()).group(2)
-    listing = subprocess.run([options.program, "dis"], input=as_text(made), stdout=subprocess.PIPE, check=False).stdout.decode()
-    line = next((it for it in listing.splitlines() if it.startswith(f"{pc} ")), pc)
-    return said.replace(f"pc={pc}\n".encode(), f"pc={line}\n".encode())
-
-
 def run_natively(options, made):
-    """The same by native code; None where that can't be."""
-    if options.interpret or len(options.programs) > 1 or not native.is_ready():
+    """The status of a program with a host that has files, by native code, and what is said of it on standard error; None where that
+    can't be."""
+    if options.interpret:
         return None
     folders = [word for host, guest, is_read_only in options.dir for word in ("--dir", host, guest, "ro" if is_read_only else "rw")]
     variables = [word for name, value in dict(options.env).items() for word in ("--env", f"{name}={value}")]
     words = [os.path.basename(options.programs[0]), *options.words]
-    gate = next((str(number) for _, number, name in names.lists(layout.parts(made)[0].init)[1] if name == FILES), NONE) if options.has_host else NONE
-    try:
-        found = native.run(options.program, made, as_text(made), [gate, *folders, *variables, "--", *words], options.budget)
-    except OSError as error:
-        raise Failed(FAULT, f"{options.program} can't be run: {error.strerror}") from error
+    gate = next((str(number) for _, number, name in names.lists(layout.parts(made)[0].init)[1] if name == FILES), NONE)
+    found = native.run(options.program, made, [gate, *folders, *variables, "--", *words], options.budget)
     if found is not None and found[0] < 0:
         raise Failed(FAULT, f"the host of native code ended by signal {-found[0]}")
-    return (found[0], with_instruction(options, made, found[1])) if found and found[1] and not options.has_host else found
+    return found
 
 
 def run(options, made):
@@ -102,9 +92,11 @@ def run(options, made):
     with tempfile.NamedTemporaryFile(suffix=".hex") as file:
         file.write(as_text(made))
         file.flush()
+        how = ["--interpret"] if options.interpret else []
         budget = [] if options.budget is None else ["--budget", options.budget]
         try:
-            done = subprocess.run([options.program, "exec", file.name, *budget], stderr=subprocess.PIPE, check=False)
+            words = [*native.program_words(options.program), "exec", *how, file.name, *budget]
+            done = subprocess.run(words, stderr=subprocess.PIPE, check=False)
         except OSError as error:
             raise Failed(FAULT, f"{options.program} can't be run: {error.strerror}") from error
     return done.returncode, done.stderr
@@ -158,7 +150,7 @@ def main():
     try:
         programs = [Elf(path) for path in options.programs]
         made = image(programs)
-        status, said = run_natively(options, made) or (run_with_files if options.has_host else run)(options, made)
+        status, said = run_natively(options, made) or run_with_files(options, made) if options.has_host else run(options, made)
         if said:
             tell(said)
             tell("".join(told(programs, said.decode("ascii", "replace"))).encode())

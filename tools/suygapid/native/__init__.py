@@ -1,5 +1,6 @@
-"""The host of sfi-exec that runs native code, for Linux on x86-64: exec.c, and how it is built and started. Where it isn't built, or
-can't run an image, sfi-exec goes step by step."""
+"""The host by which `sfi exec` and sfi-exec run native code, for Linux on x86-64: exec.c, and how it is built and started. Where it
+can't be built, or can't run an image, the program sfi goes step by step."""
+import contextlib
 import os
 import platform
 import shutil
@@ -34,11 +35,11 @@ def is_fresh() -> bool:
     return is_ready() and all(os.path.getmtime(it) <= os.path.getmtime(HOST) for it in sources)
 
 
-def make(is_anew: bool = False) -> Optional[str]:
-    """Builds the host, where this machine runs it and has a compiler and the headers, also anew if it is newer than these and that is
-    asked for. Returns its path, or None where there is none."""
+def make() -> Optional[str]:
+    """Builds the host, where this machine runs it and has a compiler and the headers, unless it is newer than these. Returns its path, or
+    None where there is none."""
     compiler = os.environ.get("CC") or next((it for it in ("gcc", "clang") if shutil.which(it)), None)
-    if is_possible() and compiler is not None and all(os.path.isdir(it) for it in INCLUDED) and (is_anew or not is_fresh()):
+    if is_possible() and compiler is not None and all(os.path.isdir(it) for it in INCLUDED) and not is_fresh():
         os.makedirs(os.path.dirname(HOST), exist_ok=True)
         fresh = f"{HOST}.{os.getpid()}"
         subprocess.run([compiler, *FLAGS, *(f"-I{it}" for it in INCLUDED), SOURCE, "-o", fresh], check=True)
@@ -46,19 +47,25 @@ def make(is_anew: bool = False) -> Optional[str]:
     return HOST if is_ready() else None
 
 
-def run(program: str, image: bytes, text: bytes, options: Sequence[str], budget: Optional[str]) -> Optional[tuple[int, bytes]]:
-    """Has the program sfi compile the image, of which `text` is the text that it reads, and runs it by these options of exec.c: the
-    status, and what is told of a run that didn't exit. None where the image isn't accepted, or can't be run so."""
-    with tempfile.TemporaryDirectory() as folder:
-        paths = [os.path.join(folder, it) for it in ("image", "native")]
-        with open(paths[0], "wb") as file:
-            file.write(image)
-        with open(paths[1], "wb") as file:
-            if subprocess.run([program, "native"], input=text, stdout=file, stderr=subprocess.DEVNULL, check=False).returncode != 0:
-                return None
-        reading, writing = os.pipe()
-        with open(reading, "rb") as told:
-            with subprocess.Popen([HOST, *paths, str(writing), budget or NO_BUDGET, *options], pass_fds=[writing]) as host:
-                os.close(writing)
-                said = told.read()
-            return (host.returncode, said.removeprefix(LOADED)) if said.startswith(LOADED) else None
+def program_words(program: str) -> list[str]:
+    """The words that run the program sfi, with `exec` by native code where the host is there or can be built."""
+    with contextlib.suppress(OSError, subprocess.SubprocessError):  # of a folder that can't be written, or a compiler
+        make()
+    return [HOST, "--program", program] if is_ready() else [program]
+
+
+def run(program: str, image: bytes, options: Sequence[str], budget: Optional[str]) -> Optional[tuple[int, bytes]]:
+    """Runs an image by native code that the program sfi makes, with these options of exec.c: the status, and what is told of a run that
+    didn't exit. None where the image isn't accepted, or can't be run so."""
+    begin = program_words(program)
+    if not is_ready():
+        return None
+    reading, writing = os.pipe()
+    with open(reading, "rb") as told, tempfile.NamedTemporaryFile() as file:
+        file.write(image)
+        file.flush()
+        words = [*begin, "--told", str(writing), file.name, budget or NO_BUDGET, *options]
+        with subprocess.Popen(words, pass_fds=[writing]) as host:
+            os.close(writing)
+            said = told.read()
+        return (host.returncode, said.removeprefix(LOADED)) if said.startswith(LOADED) else None

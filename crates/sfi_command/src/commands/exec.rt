@@ -25,6 +25,11 @@ pub(super) const EXEC: CommandRow = CommandRow {
             takes: Takes::Number("N"),
             about: "Steps that each sandbox may do at most; without it there is no bound to wait for",
         },
+        OptionRow {
+            name: "interpret",
+            takes: Takes::Nothing,
+            about: "Go step by step, also where native code would run the image",
+        },
     ],
     notes: "\
 Runs the sandboxes of an image file one after another: each begins when the one

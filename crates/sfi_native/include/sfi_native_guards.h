@@ -11,6 +11,8 @@
 #endif
 
 enum { SFI_ZONE = 4096 };  /* the bytes of a guard zone (docs/IMAGE.md), and of a page */
+enum { SFI_DATA_MOST = 20000 };  /* made and not freed: each takes 2 or 3 of the 65530 maps that Linux gives a process */
+static size_t sfi_data_count;
 
 /* Whether the fault at that address is one of a sandbox's access: then the registers are where it goes on. An includer has it. */
 static int sfi_takes_fault(uintptr_t address, greg_t registers[]);
@@ -80,7 +82,7 @@ static size_t sfi_room_of(const struct sfi_sandbox *s) {
 }
 
 /* Data of zeros between guard zones, or NULL. */
-static uint8_t *sfi_new_data(const struct sfi_sandbox *s) {
+static uint8_t *sfi_map_data(const struct sfi_sandbox *s) {
     const size_t room = sfi_room_of(s);
     uint8_t *const zone = mmap(NULL, room + 2 * SFI_ZONE, PROT_NONE, MAP_PRIVATE | MAP_ANONYMOUS | MAP_NORESERVE, -1, 0);
     if (zone == MAP_FAILED)
@@ -92,8 +94,19 @@ static uint8_t *sfi_new_data(const struct sfi_sandbox *s) {
     return zone + SFI_ZONE;
 }
 
+/* The same, or NULL also where as many are there as may be: the host keeps maps of its own. */
+static uint8_t *sfi_new_data(const struct sfi_sandbox *s) {
+    const size_t count = __atomic_add_fetch(&sfi_data_count, 1, __ATOMIC_RELAXED);
+    uint8_t *const data = count > SFI_DATA_MOST ? NULL : sfi_map_data(s);
+    if (data == NULL)
+        __atomic_sub_fetch(&sfi_data_count, 1, __ATOMIC_RELAXED);
+    return data;
+}
+
 static void sfi_free_data(const struct sfi_sandbox *s, uint8_t *data) {
-    if (data != NULL)
-        munmap(data - SFI_ZONE, sfi_room_of(s) + 2 * SFI_ZONE);
+    if (data == NULL)
+        return;
+    munmap(data - SFI_ZONE, sfi_room_of(s) + 2 * SFI_ZONE);
+    __atomic_sub_fetch(&sfi_data_count, 1, __ATOMIC_RELAXED);
 }
 #endif

@@ -1,5 +1,5 @@
-"""Images whose data are large enough for guarded accesses (sfi_native_data.h): random accepted ones, and programs that each
-access a place near an end of the data.
+"""Images whose data are whole pages, as native code wants them: random accepted ones, and programs that each access a place near an
+end of the data.
 """
 import struct
 import subprocess
