@@ -12,6 +12,7 @@ static Z_sfi_instance_t module;
 struct reach sfi_device_image_reach;
 
 static struct reach judged; /* the image that was accepted last: nothing while one is judged */
+static bool is_judging;     /* between pieces the firmware may call what it likes: nothing then is done in the module */
 
 enum { PIECE = 2048 }; /* bytes of an image that are judged at a time */
 
@@ -84,16 +85,31 @@ static enum sfi_device_status judge_pieces(const uint8_t *image, uint32_t length
     return verdict->status == SFI_ACCEPTED ? SFI_DEVICE_DONE : SFI_DEVICE_NOT_ACCEPTED;
 }
 
+/* Whether the bytes are memory that the module doesn't write. */
+static bool is_apart_from_module(const uint8_t *image, uint32_t length) {
+    uint64_t from = (uint32_t)(uintptr_t)image, to = from + length, own = (uint32_t)(uintptr_t)&sfi_device_checker_memory;
+    return (image != NULL || length == 0) && to <= (uint64_t)UINT32_MAX + 1 &&
+           (to <= own || from >= own + sizeof sfi_device_checker_memory);
+}
+
 enum sfi_device_status sfi_device_check(const uint8_t *image, uint32_t length, void (*between_pieces)(void *host),
                                         void *host, struct sfi_verdict *verdict) {
+    if (is_judging)
+        return SFI_DEVICE_BUSY;
+    if (!is_apart_from_module(image, length) || verdict == NULL)
+        return SFI_DEVICE_CHECKER_STOPPED;
     memset((uint8_t *)&sfi_device_checker_memory + MODULE_STACK, 0, sizeof sfi_device_checker_memory - MODULE_STACK);
     judged = (struct reach){0, 0};
     sfi_device_image_reach = (struct reach){in_module(image), length};
-    if (__builtin_setjmp(sfi_device_stopped) != 0)
+    is_judging = true;
+    if (__builtin_setjmp(sfi_device_stopped) != 0) {
+        is_judging = false;
         return SFI_DEVICE_CHECKER_STOPPED;
+    }
     Z_sfi_init_module();
     Z_sfi_instantiate(&module);
     enum sfi_device_status status = judge_pieces(image, length, between_pieces, host, verdict);
+    is_judging = false;
     if (status == SFI_DEVICE_DONE)
         judged = sfi_device_image_reach;
     return status;
@@ -111,7 +127,7 @@ static uint32_t told(struct module_part *place, const struct sfi_device_part *pa
 }
 
 bool sfi_device_are_apart(const struct sfi_device_part *one, const struct sfi_device_part *other) {
-    if (__builtin_setjmp(sfi_device_stopped) != 0)
+    if (is_judging || __builtin_setjmp(sfi_device_stopped) != 0)
         return false;
     return Z_sfiZ_sfi_c_apart(&module, told(&sfi_device_checker_memory.part, one),
                               told(&sfi_device_checker_memory.other_part, other));

@@ -7,7 +7,7 @@
 # The linker of Rattle's toolchain makes a WebAssembly module of the library, wasm-opt takes it from
 # 64 to 32 bits, wasm2c turns it into C, and gcc compiles that. In the environment, RATTLE is the
 # toolchain's folder, that of `rt doc` if absent; RISCV the compiler, riscv64-unknown-elf-gcc if
-# absent; CHECKER_FLAGS are further words for it. Ends in 3 where a tool or the library isn't there.
+# absent; MACHINE its -march, rv32imc if absent; CHECKER_FLAGS are further words for it. Ends in 3 where a tool or the library isn't there.
 set -euo pipefail
 here=$(cd "$(dirname "${BASH_SOURCE[0]}")" && pwd)
 riscv=${RISCV:-riscv64-unknown-elf-gcc}
@@ -59,7 +59,7 @@ fi
 
 # What wasm2c wrote wants headers of C: they are picolibc's. Nothing of a C library is linked.
 cp /usr/include/wasm-rt.h .
-machine=(-march=rv32imc -mabi=ilp32)
+machine=("-march=${MACHINE:-rv32imc}" -mabi=ilp32)
 flags=("${machine[@]}" --specs=picolibc.specs -std=c11 -Os -mcmodel=medany -msmall-data-limit=0)
 flags+=(-ffreestanding -fno-builtin -fno-jump-tables -ffunction-sections -fdata-sections)
 flags+=(-DNDEBUG -DWASM_RT_USE_STACK_DEPTH_COUNT=0)

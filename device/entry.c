@@ -1,7 +1,7 @@
 /* The registers of a sandbox at an entry. */
 #include "internal.h"
 
-enum { BUNDLE = 16, WORD = 4 };
+enum { BUNDLE = 16, WORD = 4, LEAST_DATA = 256 };
 
 uint32_t sfi_device_word_at(const uint8_t *bytes) {
     return bytes[0] | (uint32_t)bytes[1] << 8 | (uint32_t)bytes[2] << 16 | (uint32_t)bytes[3] << 24;
@@ -12,6 +12,12 @@ bool sfi_device_are_same(const uint8_t *one, const uint8_t *other, uint32_t leng
         if (one[k] != other[k])
             return false;
     return true;
+}
+
+bool sfi_device_is_data(uint32_t base, uint32_t size) {
+    bool is_power = size >= LEAST_DATA && (size & (size - 1)) == 0;
+    return is_power && base % size == 0 && base >= SFI_DEVICE_GUARD_ZONE &&
+           (uint64_t)base + size + SFI_DEVICE_GUARD_ZONE <= (uint64_t)UINT32_MAX + 1;
 }
 
 /* The bytes of a unit of code: a sandbox is entered at multiples of it. */
@@ -86,7 +92,8 @@ bool sfi_device_enter_again(struct sfi_device_sandbox *sandbox, uint32_t pc, con
     set_registers(sandbox, pc);
     sandbox->frame.x[SP] -= room_of(&sandbox->part);
     sandbox->frame.x[RA] = exit_gate(&sandbox->part);
-    memcpy(&sandbox->frame.x[A0], arguments, SFI_DEVICE_ARGUMENTS * sizeof arguments[0]);
+    if (arguments)
+        memcpy(&sandbox->frame.x[A0], arguments, SFI_DEVICE_ARGUMENTS * sizeof arguments[0]);
     sandbox->state = SFI_DEVICE_READY;
     return true;
 }

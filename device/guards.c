@@ -18,7 +18,8 @@ static struct trap trap_of(const struct sfi_device_firmware *firmware, uint32_t 
     uint32_t cause;
     frame.x[A1] = address;
     do {
-        firmware->interrupt_after(UINT32_MAX); /* it may have been due */
+        if (firmware->interrupt_after)
+            firmware->interrupt_after(UINT32_MAX); /* it may have been due */
         cause = sfi_device_enter(&frame);
     } while (cause == CAUSE_TIMER);
     return (struct trap){cause, frame.pc == (uint32_t)sfi_device_load_byte};

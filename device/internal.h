@@ -19,6 +19,9 @@ enum sfi_device_outcome sfi_device_serve(const struct sfi_device_firmware *firmw
 /* Makes of the caller at its gate what the answer says, which isn't GOES_ON; false where the turn ends */
 bool sfi_device_take_answer(struct sfi_device_sandbox *caller, const struct sfi_device_call *call, enum sfi_device_outcome outcome);
 
+/* entry.c: whether an image can have its data there, with both guard zones */
+bool sfi_device_is_data(uint32_t base, uint32_t size);
+
 /* trap.c */
 void sfi_device_stop_by_trap(struct sfi_device_sandbox *sandbox, uint32_t cause);
 

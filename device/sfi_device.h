@@ -3,7 +3,7 @@
  * judge an image, run its sandboxes by turns, and answer their calls at gates. docs/DEVICE.md says what a device owes the
  * theorem, and which of these calls keeps it.
  *
- * No call halts, waits or prints, or takes memory: each fault is an answer. Calls of one hart, one at a time; the checker's
+ * No call halts, waits or prints, or takes memory: each fault is an answer. No pointer is NULL but where that is said. Calls of one hart, one at a time; the checker's
  * may be interrupted by sfi_device_turn, in its between_pieces. All of it is GNU C11 (gcc or clang) and assembly, for a
  * processor with the extension M, and of C it asks for memcpy and memset alone. Each of its global names begins with
  * sfi_device_.
@@ -47,7 +47,11 @@ enum sfi_device_status {
     SFI_DEVICE_ENTRY_DIFFERS,       /* entry `other` of it isn't as it was written: it is locked, coarser, or not there */
     SFI_DEVICE_GUARD_IS_OPEN,       /* a load at `address`, in a guard zone, doesn't trap */
     SFI_DEVICE_DATA_IS_CLOSED,      /* a load at `address`, in the data, traps */
-    SFI_DEVICE_IS_MIRRORED          /* a store at `address`, in the data, changes the byte at `other` */
+    SFI_DEVICE_IS_MIRRORED,         /* a store at `address`, in the data, changes the byte at `other` */
+    SFI_DEVICE_BAD_PLACE,           /* no image can have its data there: their size is no power of two from 256 on, they don't begin
+                                       at a multiple of it, or a guard zone lies outside the addresses */
+    SFI_DEVICE_BAD_STORE,           /* sfi_device_store_open refuses the store of plug-in `other` */
+    SFI_DEVICE_BUSY                 /* it is called within a call of its kind */
 };
 
 /* What a fault's status doesn't speak of is 0. */
@@ -89,6 +93,7 @@ struct sfi_device_sandbox {
     struct sfi_device_frame frame;
     enum sfi_device_state state;
     uint32_t exit_code;         /* of EXITED */
+    bool has_reported;          /* by sfi_device_report, of sfi_device_plugins.h */
     const char *trap;           /* of TRAPPED: the name that `sfi run` gives it .. */
     uint32_t trap_address;      /* .. the first byte of the access, or else pc */
     uint64_t steps;
@@ -121,7 +126,7 @@ struct sfi_device_firmware {
     sfi_device_service *const *services;
     uint32_t service_count;
     void *host;                                 /* each service gets it */
-    void (*interrupt_after)(uint32_t ticks);    /* has the timer interrupt, once */
+    void (*interrupt_after)(uint32_t ticks);    /* has the timer interrupt, once; NULL: something else ends turns */
     /* Quiets an interrupt other than the timer's, of that cause without its highest bit, and says whether it is one of the
        firmware's: then the turn goes on, else the sandbox ends. It must not know one by which the processor tells of an
        access that failed: going on then lets code of the third format out. NULL where it has none */
@@ -132,14 +137,15 @@ struct sfi_device_firmware {
 
 /* Judges the image where it lies, in pieces, and after each of them calls between_pieces, if that isn't NULL, with host: in
    it a sandbox that is no part of the image may have a turn. After the first piece in which a rule is broken it stops: then
-   the verdict has no findings, unless it was the last. DONE where the image is accepted, NOT_ACCEPTED, or CHECKER_STOPPED. */
+   the verdict has no findings, unless it was the last. DONE where the image is accepted, NOT_ACCEPTED, BUSY within another
+   check, or CHECKER_STOPPED, also where the image isn't memory, or meets the checker's own. */
 enum sfi_device_status sfi_device_check(const uint8_t *image, uint32_t length, void (*between_pieces)(void *host),
                                         void *host, struct sfi_verdict *verdict);
 /* These three come after it. Its bytes stay as they were judged. */
 /* Tells the accepted image's sandbox of that number. DONE, NO_SANDBOX, NOT_ACCEPTED where that address and length aren't those
    of the image that was judged last, and accepted, or CHECKER_STOPPED. */
 enum sfi_device_status sfi_device_tell(const uint8_t *image, uint32_t length, uint32_t number, struct sfi_device_part *part);
-/* No region and no guard zone of one of them meets one of the other. */
+/* No region and no guard zone of one of them meets one of the other. False within a check. */
 bool sfi_device_are_apart(const struct sfi_device_part *one, const struct sfi_device_part *other);
 /* In moving.o alone: has the image's sandbox of that number lie at another place, in its bytes. False, and none of them is
    changed, where it can't lie there, or tell says NOT_ACCEPTED. */
@@ -154,7 +160,7 @@ void sfi_device_enter_start(struct sfi_device_sandbox *sandbox, const struct sfi
 /* Makes a sandbox that has stopped ready at pc, the first address of one of its bundles, or words, with arguments in a0
    to a7, in ra its first gate of service 0, and in x2 room above the stack as its image asks for. Its data stay. False,
    and nothing is changed, where it is ready or empty, pc isn't such, or its code isn't in place any more. A call that went on
-   is over: before it, the firmware forgets what a service keeps of that. */
+   is over: before it, the firmware forgets what a service keeps of that. Without arguments (NULL) each is 0. */
 bool sfi_device_enter_again(struct sfi_device_sandbox *sandbox, uint32_t pc, const uint32_t arguments[SFI_DEVICE_ARGUMENTS]);
 /* One turn of a sandbox: until the timer, a yield, an exit or a trap ends it. None of one that isn't ready. Called with
    interrupts off, on any stack. */

@@ -29,7 +29,8 @@ struct sfi_device_slot {
 
 enum sfi_device_news { SFI_DEVICE_NO_REPORT, SFI_DEVICE_OLDER_VERSION };
 
-/* What the firmware gives. Its guard zones are closed before the first call, and its code memory is nobody else's. */
+/* What the firmware gives. Its guard zones are closed before the first call, and its code memory is nobody else's. Its functions
+   call none of these. */
 struct sfi_device_slots {
     const struct sfi_device_firmware *firmware;
     struct sfi_device_slot *slots;
@@ -59,6 +60,7 @@ enum sfi_device_update {
 
 /* The first call: no slot has a version. */
 void sfi_device_clear_slots(const struct sfi_device_slots *all);
+/* NULL where there is no slot of that number; of each call below it is as if that had no version. */
 const struct sfi_version *sfi_device_current(const struct sfi_device_slots *all, uint32_t number);
 /* The first slot that has no version; `count` where each has one. */
 uint32_t sfi_device_free_slot(const struct sfi_device_slots *all);

@@ -7,7 +7,7 @@
  *     begin, write .., finish -> a new version, which the next choose starts
  *
  * Plain C11: store.c, sha256.c and bytes.h suffice, and memory is the caller's. Records have this processor's byte order. Calls
- * of one plug-in's store come one at a time.
+ * of one plug-in's store come one at a time, none within a function of its flash. No pointer is NULL but where that is said.
  */
 #ifndef SFI_DEVICE_STORE_H
 #define SFI_DEVICE_STORE_H
@@ -120,7 +120,7 @@ enum sfi_device_store_status sfi_device_store_keep(struct sfi_device_store *stor
 enum sfi_device_store_status sfi_device_store_reject(struct sfi_device_store *store);
 
 /* Begins an update, in the area that the chosen version isn't in, if its claim may be taken; where not the flash stays as it
-   is. An older update that wasn't finished is dropped. */
+   is. An older update that wasn't finished is dropped. A signature of NULL is 0s. */
 enum sfi_device_store_status sfi_device_store_begin(struct sfi_device_store *store, const struct sfi_device_claim *claim,
                                                     const uint8_t signature[SFI_DEVICE_SIGNATURE_SIZE]);
 /* Its next bytes, any number of them. Each answer but DONE ends the update. */

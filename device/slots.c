@@ -8,7 +8,11 @@
 #define DECIDED(call, ...) sfi_device_slots_##call(all->decided, all->count, __VA_ARGS__)
 
 const struct sfi_version *sfi_device_current(const struct sfi_device_slots *all, uint32_t number) {
-    return &all->decided[number].current;
+    return number < all->count ? &all->decided[number].current : NULL;
+}
+
+static bool is_in(const struct sfi_device_slots *all, uint32_t number, enum sfi_slot_state state) {
+    return number < all->count && all->decided[number].current.state == state;
 }
 
 static struct sfi_device_part *part_of(const struct sfi_device_slots *all, uint32_t number, const struct sfi_version *version) {
@@ -76,16 +80,16 @@ static bool start(const struct sfi_device_slots *all, uint32_t number) {
 }
 
 bool sfi_device_start_slot(const struct sfi_device_slots *all, uint32_t number) {
-    return sfi_device_current(all, number)->state == SFI_SLOT_GOOD && start(all, number);
+    return is_in(all, number, SFI_SLOT_GOOD) && start(all, number);
 }
 
 bool sfi_device_confirm_slot(const struct sfi_device_slots *all, uint32_t number) {
-    return DECIDED(confirm, number);
+    return number < all->count && DECIDED(confirm, number);
 }
 
 bool sfi_device_kill_slot(const struct sfi_device_slots *all, uint32_t number) {
-    struct sfi_device_sandbox *sandbox = all->slots[number].sandbox;
-    if (sandbox->state != SFI_DEVICE_READY)
+    struct sfi_device_sandbox *sandbox = number < all->count ? all->slots[number].sandbox : NULL;
+    if (sandbox == NULL || sandbox->state != SFI_DEVICE_READY)
         return false;
     sandbox->state = SFI_DEVICE_TRAPPED;
     sandbox->trap = "Killed";
@@ -95,13 +99,13 @@ bool sfi_device_kill_slot(const struct sfi_device_slots *all, uint32_t number) {
 
 bool sfi_device_call_slot(const struct sfi_device_slots *all, uint32_t number, uint32_t pc,
                           const uint32_t arguments[SFI_DEVICE_ARGUMENTS]) {
-    return sfi_device_current(all, number)->state == SFI_SLOT_GOOD && DECIDED(may_enter, number, pc) &&
+    return is_in(all, number, SFI_SLOT_GOOD) && DECIDED(may_enter, number, pc) &&
            sfi_device_enter_again(all->slots[number].sandbox, pc, arguments);
 }
 
 /* After this its place is anyone's: nothing is left of it that could be run, started or entered. */
 bool sfi_device_remove_slot(const struct sfi_device_slots *all, uint32_t number) {
-    if (!DECIDED(remove, number))
+    if (number >= all->count || !DECIDED(remove, number))
         return false;
     empty(all, number);
     for (uint32_t memory = 0; memory < SFI_DEVICE_VERSIONS; memory++)
@@ -124,7 +128,7 @@ static void run_slot(const struct sfi_device_slots *all, uint32_t number) {
         return;
     if (sandbox->state == SFI_DEVICE_READY)
         sfi_device_turn(all->firmware, sandbox, all->turn_ticks);
-    if (sfi_device_current(all, number)->state == SFI_SLOT_ON_TRIAL &&
+    if (is_in(all, number, SFI_SLOT_ON_TRIAL) &&
         (sandbox->state != SFI_DEVICE_READY || !DECIDED(turn, number)))
         roll_back(all, number);
 }
@@ -137,11 +141,11 @@ void sfi_device_run_slots(const struct sfi_device_slots *all) {
 /* ---- Updates */
 
 uint8_t *sfi_device_begin_update(const struct sfi_device_slots *all, uint32_t number) {
-    const struct sfi_version *other = &all->decided[number].other;
-    if (!DECIDED(begin, number))
+    if (number >= all->count || !DECIDED(begin, number))
         return NULL;
-    forget(all, number, other->memory);
-    return all->slots[number].images[other->memory];
+    const uint32_t memory = all->decided[number].other.memory;
+    forget(all, number, memory);
+    return all->slots[number].images[memory];
 }
 
 /* While an image is judged. The slot that it is for goes on with its current version. */
@@ -187,8 +191,7 @@ static enum sfi_device_update accept(const struct sfi_device_slots *all, uint32_
 
 enum sfi_device_update sfi_device_end_update(const struct sfi_device_slots *all, uint32_t number, uint32_t length, bool moves,
                                              enum sfi_device_status *status, struct sfi_verdict *verdict) {
-    const struct sfi_slot *slot = &all->decided[number];
-    if (slot->current.state == SFI_SLOT_ON_TRIAL || slot->other.state != SFI_SLOT_RECEIVING)
+    if (number >= all->count || is_in(all, number, SFI_SLOT_ON_TRIAL) || all->decided[number].other.state != SFI_SLOT_RECEIVING)
         return SFI_DEVICE_NOT_BEGUN;
     enum sfi_device_update outcome = accept(all, number, length, moves, status, verdict);
     if (outcome != SFI_DEVICE_STARTED) {

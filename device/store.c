@@ -35,14 +35,24 @@ static bool are_apart(uint64_t one, uint64_t one_size, uint64_t other, uint64_t 
     return one + one_size <= other || other + other_size <= one;
 }
 
-static bool are_places(const struct sfi_device_store *store) {
+static bool are_sizes(const struct sfi_device_store *store) {
     const struct sfi_device_flash *flash = store->flash;
     uint32_t sector = flash->sector_size, page = flash->page_size, area = store->area_size;
-    bool are_sizes = sector != 0 && sector % SFI_DEVICE_RECORD_SIZE == 0 && page != 0 && page <= SFI_DEVICE_PAGE_MOST &&
-                     (page & (page - 1)) == 0 && area != 0 && area % sector == 0 && store->trial_starts != 0;
-    return are_sizes && are_apart(store->areas[0], area, store->areas[1], area) &&
-           are_apart(store->areas[0], area, store->records, 2 * (uint64_t)sector) &&
-           are_apart(store->areas[1], area, store->records, 2 * (uint64_t)sector);
+    return sector != 0 && sector % SFI_DEVICE_RECORD_SIZE == 0 && page != 0 && page <= SFI_DEVICE_PAGE_MOST &&
+           (page & (page - 1)) == 0 && area != 0 && area % sector == 0 && store->trial_starts != 0;
+}
+
+/* Whether so many bytes from there on are addresses, and whole sectors, as those of the records are. */
+static bool are_sectors(const struct sfi_device_store *store, uint32_t from, uint64_t size) {
+    uint32_t sector = store->flash->sector_size;
+    return from + size <= (uint64_t)UINT32_MAX + 1 && from % sector == store->records % sector;
+}
+
+static bool are_places(const struct sfi_device_store *store) {
+    const uint64_t area = store->area_size, records = 2 * (uint64_t)store->flash->sector_size;
+    return are_sectors(store, store->records, records) && are_sectors(store, store->areas[0], area) &&
+           are_sectors(store, store->areas[1], area) && are_apart(store->areas[0], area, store->areas[1], area) &&
+           are_apart(store->areas[0], area, store->records, records) && are_apart(store->areas[1], area, store->records, records);
 }
 
 /* A counter without signatures would be anybody's to raise. */
@@ -260,7 +270,7 @@ enum sfi_device_store_status sfi_device_store_open(struct sfi_device_store *stor
     memset(&store->record, 0, sizeof store->record);
     store->is_chosen = store->is_taking = false;
     store->chosen = SFI_DEVICE_AREAS;
-    if (!are_functions(store) || !are_places(store))
+    if (!are_functions(store) || !are_sizes(store) || !are_places(store))
         return SFI_DEVICE_STORE_BAD_SETUP;
     read_latest(store);
     store->record.least_sequence = believed_least(store);
@@ -340,20 +350,20 @@ enum sfi_device_store_status sfi_device_store_begin(struct sfi_device_store *sto
                                                     const uint8_t signature[SFI_DEVICE_SIGNATURE_SIZE]) {
     if (!may_begin(store))
         return SFI_DEVICE_STORE_TOO_EARLY;
+    struct sfi_device_stored_version update = {.state = SFI_DEVICE_VERSION_NEW, .claim = *claim}; /* which may be the store's own */
+    if (signature)
+        memcpy(update.signature, signature, sizeof update.signature);
     store->is_taking = false;
-    memset(&store->update, 0, sizeof store->update);
-    store->update.state = SFI_DEVICE_VERSION_NEW;
-    store->update.claim = *claim;
-    memcpy(store->update.signature, signature, sizeof store->update.signature);
+    store->update = update;
     enum sfi_device_store_status status = judge_claim(store, &store->update);
-    if (status == SFI_DEVICE_STORE_DONE && claim->sequence <= latest_sequence(store))
+    if (status == SFI_DEVICE_STORE_DONE && update.claim.sequence <= latest_sequence(store))
         status = SFI_DEVICE_STORE_TOO_OLD;
     if (status != SFI_DEVICE_STORE_DONE)
         return status;
     store->target = area_for_update(store);
     store->taken = 0;
     memset(store->page, ERASED, sizeof store->page);
-    status = clear_area(store, store->target, claim->length);
+    status = clear_area(store, store->target, update.claim.length);
     store->is_taking = status == SFI_DEVICE_STORE_DONE;
     return status;
 }

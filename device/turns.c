@@ -26,7 +26,8 @@ void sfi_device_turn(const struct sfi_device_firmware *firmware, struct sfi_devi
         return;
     sandbox->frame.firmware = firmware;
     sandbox->frame.last_gate = sandbox->part.gate_count == 0 ? &sfi_device_no_gate : &sandbox->part.gates[sandbox->frame.last_gate_number];
-    firmware->interrupt_after(ticks);
+    if (firmware->interrupt_after)
+        firmware->interrupt_after(ticks);
     if (sfi_device_will_run)
         sfi_device_will_run(sandbox);
     do {

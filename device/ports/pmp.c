@@ -54,6 +54,8 @@ struct sfi_device_fault sfi_device_close_guards(uint32_t number, const struct sf
     uint64_t data_end = (uint64_t)part->data_base + part->data_size; /* the upper guard zone may end at 2^32 */
     if (number >= SFI_DEVICE_PMP_ENTRIES / ENTRIES_EACH)
         return (struct sfi_device_fault){SFI_DEVICE_NO_ENTRY, 0, 0};
+    if (!sfi_device_is_data(part->data_base, part->data_size))
+        return (struct sfi_device_fault){SFI_DEVICE_BAD_PLACE, 0, 0}; /* of 0 bytes the first entry would open all */
     sfi_device_protect(entry, sfi_device_power_of_two(part->data_base, part->data_size),
                        PMP_LOCKED | PMP_NAPOT | PMP_R | PMP_W);
     sfi_device_protect(entry + 1, part->data_base - SFI_DEVICE_GUARD_ZONE, PMP_LOCKED | PMP_OFF);

@@ -1,4 +1,4 @@
-//! The declarations of sfi_device.h and sfi_device_store.h, which say what each is. tests/layouts.rs compares them.
+//! The declarations of sfi_device.h, sfi_device_store.h and sfi_device_plugins.h, which say what each is. tests/layouts.rs compares them.
 #![allow(missing_docs)]
 use core::ffi::c_void;
 
@@ -11,9 +11,11 @@ macro_rules! numbers {
 }
 
 numbers!(Status: Done = 0, NotAccepted = 1, CheckerStopped = 2, NoSandbox = 3, NoGuards = 4, NoEntry = 5, NoMemory = 6,
-    CodeIsHost = 7, DataIsHost = 8, OtherRules = 9, EntryDiffers = 10, GuardIsOpen = 11, DataIsClosed = 12, IsMirrored = 13);
+    CodeIsHost = 7, DataIsHost = 8, OtherRules = 9, EntryDiffers = 10, GuardIsOpen = 11, DataIsClosed = 12, IsMirrored = 13,
+    BadPlace = 14, BadStore = 15, Busy = 16);
 numbers!(State: Empty = 0, Ready = 1, Exited = 2, Trapped = 3);
 numbers!(Outcome: Replied = 0, GoesOn = 1, Yielded = 2, Left = 3);
+numbers!(News: Starts = 0, IsRefused = 1, IsKept = 2, GaveUp = 3);
 numbers!(StoreStatus: Done = 0, BadSetup = 1, NoVersion = 2, FlashFailed = 3, TooEarly = 4, WrongLength = 5, TooOld = 6,
     NotSigned = 7, Differs = 8);
 
@@ -48,7 +50,7 @@ structs! {
         last_gate: *const Gate,
         last_gate_number: u32 }
     Sandbox {
-        part: Part, frame: Frame, state: State, exit_code: u32, trap: *const u8, trap_address: u32, steps: u64,
+        part: Part, frame: Frame, state: State, exit_code: u32, has_reported: bool, trap: *const u8, trap_address: u32, steps: u64,
     }
     Call { service: u32, a0: u32, a1: u32 }
     Firmware {
@@ -76,6 +78,15 @@ structs! {
         raise_counter: Option<unsafe extern "C" fn(host: *mut c_void, least_sequence: u32) -> bool>,
         record: Record, place: u32, is_chosen: bool, chosen: u32, is_taking: bool, target: u32, taken: u32,
         update: StoredVersion, page: [u8; 256],
+    }
+    Place { code_base: u32, code_size: u32, data_base: u32, data_size: u32 }
+    Plugin { store: Store, place: Place, image: *mut u8, sandbox: Sandbox, version: u32, turns: u32, is_kept: bool }
+    Plugins {
+        firmware: *const Firmware, plugins: *mut Plugin, count: u32, turn_ticks: u32, trial_turns: u32,
+        write_code: Option<unsafe extern "C" fn(address: u32, bytes: *const u8, length: u32)>,
+        feed: Option<unsafe extern "C" fn(host: *mut c_void)>,
+        tells: Option<unsafe extern "C" fn(host: *mut c_void, number: u32, news: News, version: u32)>,
+        is_open: bool, is_working: bool,
     }
     Sha256 { state: [u32; 8], length: u32, block: [u8; 64] }
 }
@@ -106,6 +117,15 @@ extern "C" {
     pub fn sfi_device_store_begin(store: *mut Store, claim: *const Claim, signature: *const u8) -> StoreStatus;
     pub fn sfi_device_store_write(store: *mut Store, bytes: *const u8, length: u32) -> StoreStatus;
     pub fn sfi_device_store_finish(store: *mut Store) -> StoreStatus;
+    pub fn sfi_device_exit(host: *mut c_void, caller: *mut Sandbox, call: *mut Call) -> Outcome;
+    pub fn sfi_device_yield(host: *mut c_void, caller: *mut Sandbox, call: *mut Call) -> Outcome;
+    pub fn sfi_device_report(host: *mut c_void, caller: *mut Sandbox, call: *mut Call) -> Outcome;
+    pub fn sfi_device_plugins_open(all: *mut Plugins) -> Fault;
+    pub fn sfi_device_plugins_run(all: *mut Plugins);
+    pub fn sfi_device_plugins_may_update(all: *const Plugins, number: u32) -> bool;
+    pub fn sfi_device_plugins_begin(all: *mut Plugins, number: u32, claim: *const Claim, signature: *const u8) -> StoreStatus;
+    pub fn sfi_device_plugins_write(all: *mut Plugins, number: u32, bytes: *const u8, length: u32) -> StoreStatus;
+    pub fn sfi_device_plugins_finish(all: *mut Plugins, number: u32) -> StoreStatus;
     pub fn sfi_device_sha256_begin(hash: *mut Sha256);
     pub fn sfi_device_sha256_add(hash: *mut Sha256, bytes: *const u8, length: u32);
     pub fn sfi_device_sha256_end(hash: *mut Sha256, digest: *mut u8);

@@ -87,39 +87,64 @@ impl Caller<'_> {
 }
 
 unsafe extern "C" fn answered<H, S: Service<H>>(host: *mut c_void, caller: *mut ffi::Sandbox, call: *mut Call) -> Outcome {
-    // SAFETY: `turn` has the library call it, with the host that `Firmware` borrows, and with a sandbox and a call of its own.
+    // SAFETY: the library calls it in a turn, with the host that `Firmware` borrows, and with a sandbox and a call of its own.
     unsafe { S::answer(&mut *host.cast::<H>(), &mut Caller { sandbox: &mut *caller }, &mut *call) }
 }
 
-/// What a firmware gives: a host, services by the numbers that images give their gates, and the timer.
+/// The entry of a table of services, for firmwares with such a host.
+#[repr(transparent)]
+pub struct Entry<H>(Option<ffi::Service>, PhantomData<fn(H) -> H>);
+
+impl<H> Entry<H> {
+    /// No service: the reply is `u32::MAX`, in a0.
+    pub const NONE: Self = Entry(None, PhantomData);
+    /// The caller exits with a0.
+    pub const EXIT: Self = Entry(Some(ffi::sfi_device_exit), PhantomData);
+    /// The caller's turn ends.
+    pub const YIELD: Self = Entry(Some(ffi::sfi_device_yield), PhantomData);
+    /// The caller works: [`crate::Plugins`] keeps its version.
+    pub const REPORT: Self = Entry(Some(ffi::sfi_device_report), PhantomData);
+
+    /// A service of the firmware's own.
+    pub const fn of<S: Service<H>>() -> Self {
+        Entry(Some(answered::<H, S>), PhantomData)
+    }
+}
+
+/// The processor that the firmware runs on.
+///
+/// # Safety
+/// The firmware runs in the mode that the library was built for, with interrupts off but in turns, and its traps come to the
+/// library. Neither function touches the firmware's host or a sandbox; `interrupt_after` has the timer interrupt once; and
+/// `answer_interrupt` knows no interrupt by which the processor tells of an access that failed.
+pub unsafe trait Machine {
+    /// Has the timer interrupt after so many ticks.
+    extern "C" fn interrupt_after(ticks: u32);
+    /// Quiets an interrupt other than the timer's, and says whether it is one of the firmware's.
+    fn answer_interrupt(_cause: u32) -> bool {
+        false
+    }
+}
+
+extern "C" fn answered_interrupt<M: Machine>(cause: u32) -> bool {
+    M::answer_interrupt(cause)
+}
+
+/// What a firmware gives: a host, services by the numbers that images give their gates, and its machine.
 pub struct Firmware<'host, H> {
-    raw: ffi::Firmware,
+    pub(crate) raw: ffi::Firmware,
     host: PhantomData<&'host mut H>,
 }
 
 impl<'host, H> Firmware<'host, H> {
-    /// The entry of a table of services.
-    pub const fn service<S: Service<H>>() -> Option<ffi::Service> {
-        Some(answered::<H, S>)
-    }
-
-    /// `answer_interrupt` quiets an interrupt other than the timer's, and says whether it is one of the firmware's.
-    ///
-    /// # Safety
-    /// Each service of the table is one that `service` of this type made. Neither function touches the host or a sandbox, and
-    /// `answer_interrupt` knows no interrupt by which the processor tells of an access that failed.
-    pub unsafe fn new(
-        host: &'host mut H,
-        services: &'host [Option<ffi::Service>],
-        interrupt_after: extern "C" fn(ticks: u32),
-        answer_interrupt: Option<extern "C" fn(cause: u32) -> bool>,
-    ) -> Self {
+    /// Of the machine the type is what counts.
+    pub fn new<M: Machine>(host: &'host mut H, services: &'host [Entry<H>], _machine: M) -> Self {
         let raw = ffi::Firmware {
-            services: services.as_ptr(),
+            services: services.as_ptr().cast(), // an entry is one of C
             service_count: length_in(services),
             host: (host as *mut H).cast(),
-            interrupt_after: Some(interrupt_after),
-            answer_interrupt,
+            interrupt_after: Some(M::interrupt_after),
+            answer_interrupt: Some(answered_interrupt::<M>),
         };
         Firmware { raw, host: PhantomData }
     }
@@ -127,7 +152,7 @@ impl<'host, H> Firmware<'host, H> {
     /// Tries that loads in the part's guard zones trap, and none in its data.
     ///
     /// # Safety
-    /// As of `Sandbox::turn`, before any interrupt but the timer's is on.
+    /// It is before any interrupt but the timer's is on, and a load there does nothing else.
     pub unsafe fn try_guards(&mut self, part: &Part) -> Status {
         // SAFETY: as the caller says.
         unsafe { ffi::sfi_device_try_guards(&self.raw, part).status }
@@ -161,11 +186,8 @@ impl<'image> Sandbox<'image> {
     }
 
     /// One turn, of at most so many ticks.
-    ///
-    /// # Safety
-    /// In M-mode or S-mode, as the library was built, with interrupts off.
-    pub unsafe fn turn<H>(&mut self, firmware: &mut Firmware<'_, H>, ticks: u32) {
-        // SAFETY: as the caller says.
+    pub fn turn<H>(&mut self, firmware: &mut Firmware<'_, H>, ticks: u32) {
+        // SAFETY: as `start` and `Machine` ask.
         unsafe { ffi::sfi_device_turn(&firmware.raw, &mut self.raw, ticks) }
     }
 

@@ -18,8 +18,8 @@ pub trait Device {
     fn program_page(&mut self, address: u32, bytes: &[u8]) -> bool;
     /// Whether the vendor signed a claim.
     fn is_signed(&mut self, claim: &Claim, signature: &[u8; 64]) -> bool;
-    /// From a trial's start to its end a watchdog resets the device.
-    fn watch(&mut self, on: bool);
+    /// From a trial's start to its end a watchdog resets the device, if it has one.
+    fn watch(&mut self, _on: bool) {}
     /// Whether the device has a counter.
     const HAS_COUNTER: bool = false;
     /// A counter that can't be set back, outside the flash: the least sequence number that runs.
@@ -76,7 +76,7 @@ unsafe extern "C" fn raise_counter<D: Device>(host: *mut c_void, least_sequence:
     unsafe { (*host.cast::<D>()).raise_counter(least_sequence) }
 }
 
-fn done(status: StoreStatus) -> Result<(), StoreStatus> {
+pub(crate) fn done(status: StoreStatus) -> Result<(), StoreStatus> {
     if status == StoreStatus::Done {
         Ok(())
     } else {
@@ -84,27 +84,35 @@ fn done(status: StoreStatus) -> Result<(), StoreStatus> {
     }
 }
 
+pub(crate) fn flash_of<D: Device>() -> ffi::Flash {
+    ffi::Flash {
+        sector_size: D::SECTOR_SIZE,
+        page_size: D::PAGE_SIZE,
+        read: Some(read::<D>),
+        erase_sector: Some(erase_sector::<D>),
+        program_page: Some(program_page::<D>),
+    }
+}
+
+/// One that isn't open, and has no flash and no host yet.
+pub(crate) fn raw_store<D: Device>(setup: &Setup) -> ffi::Store {
+    // SAFETY: zeros are such a store.
+    let mut raw = unsafe { MaybeUninit::<ffi::Store>::zeroed().assume_init() };
+    (raw.records, raw.areas) = (setup.records, setup.areas);
+    (raw.area_size, raw.trial_starts) = (setup.area_size, setup.trial_starts);
+    raw.is_signed = Some(is_signed::<D>);
+    raw.watch = Some(watch::<D>);
+    if D::HAS_COUNTER {
+        raw.read_counter = Some(read_counter::<D>);
+        raw.raise_counter = Some(raise_counter::<D>);
+    }
+    raw
+}
+
 impl<D: Device> Store<D> {
     /// Reads the latest record, after each reset.
     pub fn open(device: D, setup: Setup) -> Result<Self, StoreStatus> {
-        // SAFETY: zeros are a store that isn't open.
-        let mut raw = unsafe { MaybeUninit::<ffi::Store>::zeroed().assume_init() };
-        (raw.records, raw.areas) = (setup.records, setup.areas);
-        (raw.area_size, raw.trial_starts) = (setup.area_size, setup.trial_starts);
-        raw.is_signed = Some(is_signed::<D>);
-        raw.watch = Some(watch::<D>);
-        if D::HAS_COUNTER {
-            raw.read_counter = Some(read_counter::<D>);
-            raw.raise_counter = Some(raise_counter::<D>);
-        }
-        let flash = ffi::Flash {
-            sector_size: D::SECTOR_SIZE,
-            page_size: D::PAGE_SIZE,
-            read: Some(read::<D>),
-            erase_sector: Some(erase_sector::<D>),
-            program_page: Some(program_page::<D>),
-        };
-        let mut store = Store { raw, flash, device };
+        let mut store = Store { raw: raw_store::<D>(&setup), flash: flash_of::<D>(), device };
         done(store.call(|raw| unsafe { ffi::sfi_device_store_open(raw) }))?;
         Ok(store)
     }

@@ -15,7 +15,7 @@ fn name_in_c(name: &str) -> String {
 #[test]
 fn layouts() {
     let (mut wanted, mut program) = (String::new(), String::from("#include <stdio.h>\n"));
-    for header in ["sfi_device.h", "sfi_device_store.h"] {
+    for header in ["sfi_device.h", "sfi_device_store.h", "sfi_device_plugins.h"] {
         writeln!(program, "#include \"{header}\"").unwrap();
     }
     program += "int main(void) {\n";

@@ -3,8 +3,7 @@
 #define BOARD_H
 
 #include "../store/cfi_flash.h"
-#include "sfi_device.h"
-#include "sfi_device_store.h"
+#include "sfi_device_plugins.h"
 
 #ifdef __cplusplus
 extern "C" {
@@ -44,9 +43,6 @@ void interrupt_after(uint32_t ticks); /* of 100 ns */
 _Noreturn
 #endif
 void power_off(void);
-
-/* start.S: new code is executed from here on */
-void fence_code(void);
 
 void *memset(void *to, int byte, size_t length);
 void *memcpy(void *to, const void *from, size_t length);

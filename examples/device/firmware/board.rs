@@ -1,6 +1,6 @@
 //! board.h for Rust.
 use core::{ptr, slice};
-use sfi_device::{ffi, Claim, Device, Part};
+use sfi_device::{ffi, Claim, Device, Machine, Place};
 
 pub const SECTOR: u32 = 0x40000;
 
@@ -21,30 +21,26 @@ mod board_h {
         pub fn need(is_right: bool, what: *const u8);
         pub fn power_off() -> !;
         pub fn interrupt_after(ticks: u32);
-        pub fn fence_code();
     }
 }
 
-pub fn place(plugin: u32) -> Part {
-    let (code_base, data_base) = (0x8010_0000 + plugin * 0x10000, 0x8040_4000 + plugin * 0x4000);
-    let none = ffi::Gate { address: 0, service: 0 };
-    Part {
-        format: 0,
-        code_base,
-        code_size: 0x10000,
-        data_base,
-        data_size: 4096,
-        start: 0,
-        gate_count: 0,
-        first_count: 0,
-        code: ptr::null(),
-        first: ptr::null(),
-        gates: [none; 64],
+/// Asked for once for each plug-in.
+pub fn place(plugin: u32) -> Place {
+    let image = (0x8020_0000 + plugin * 0x40000) as *mut u8;
+    // SAFETY: board.ld has the firmware lie below, and updates come further up.
+    unsafe {
+        let image = slice::from_raw_parts_mut(image, SECTOR as usize);
+        Place::new(0x8010_0000 + plugin * 0x10000, 0x10000, 0x8040_4000 + plugin * 0x4000, 4096, image)
     }
 }
 
-pub fn image(plugin: u32) -> *mut u8 {
-    (0x8020_0000 + plugin * 0x40000) as *mut u8
+pub struct Board;
+
+// SAFETY: start.S stays in M-mode, with all interrupts off but the timer's, and has traps come to the library.
+unsafe impl Machine for Board {
+    extern "C" fn interrupt_after(ticks: u32) {
+        unsafe { board_h::interrupt_after(ticks) }
+    }
 }
 
 pub struct Flash {
@@ -68,15 +64,18 @@ impl Device for Flash {
     fn is_signed(&mut self, claim: &Claim, signature: &[u8; 64]) -> bool {
         unsafe { board_h::is_signed(ptr::addr_of_mut!(self.plugin).cast(), claim, signature.as_ptr()) }
     }
-    fn watch(&mut self, _on: bool) {}
 }
 
-pub fn next(plugin: u32) -> Option<(&'static Update, &'static [u8])> {
-    // SAFETY: updates stay where they came, each with its image behind it.
-    unsafe {
-        let update = board_h::next_update(plugin).as_ref()?;
-        Some((update, slice::from_raw_parts((update as *const Update).add(1).cast(), update.claim.length as usize)))
+impl Update {
+    pub fn image(&self) -> &[u8] {
+        // SAFETY: it came with so many bytes behind it, and stays.
+        unsafe { slice::from_raw_parts((self as *const Update).add(1).cast(), self.claim.length as usize) }
     }
+}
+
+pub fn next_update(plugin: u32) -> Option<&'static Update> {
+    // SAFETY: updates stay where they came.
+    unsafe { board_h::next_update(plugin).as_ref() }
 }
 
 /// `what` ends in a zero.
@@ -88,20 +87,15 @@ pub fn need(is_right: bool, what: &[u8]) {
     unsafe { board_h::need(is_right, what.as_ptr()) }
 }
 
-pub fn off() -> ! {
+/// Called by start.S.
+#[no_mangle]
+extern "C" fn main() -> ! {
+    crate::run();
     unsafe { board_h::power_off() }
-}
-
-pub extern "C" fn timer(ticks: u32) {
-    unsafe { board_h::interrupt_after(ticks) }
-}
-
-pub fn fence_code() {
-    unsafe { board_h::fence_code() }
 }
 
 #[panic_handler]
 fn panicked(_: &core::panic::PanicInfo<'_>) -> ! {
-    need(false, b"no panic\0");
-    off()
+    unsafe { board_h::need(false, b"no panic\0".as_ptr()) };
+    unsafe { board_h::power_off() }
 }

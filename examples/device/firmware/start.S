@@ -18,11 +18,6 @@ cleared:
         call    main
         j       power_off
 
-        .globl  fence_code
-fence_code:
-        fence.i
-        ret
-
         .globl  sfi_device_trap_of_host
 sfi_device_trap_of_host:                # the firmware's own traps
         la      a0, trapped

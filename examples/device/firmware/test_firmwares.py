@@ -29,12 +29,14 @@ SECONDS = 60
 PLACE_BYTES = range(8, 24)  # of an image: where its one sandbox's code and data lie
 NOT_SIGNED = "takes no update: 7"
 FLIPS = 8
+WRITES_BETWEEN_CUTS = 150
 CUTS = int(os.environ.get("CUTS", "8"))    # of each firmware
 REPORTS = """
         call report
 again:  call yield
         j    again
 """
+ENDLESS = "again:  j    again\n"
 TRAPS = "        lw   a0, -8(x0)\n"
 SOURCE = """.sandbox 4096
 .gate exit 0
@@ -78,8 +80,9 @@ def of(plugin, lines):
 @unittest.skipUnless(shutil.which("qemu-system-riscv32"), "qemu-system-riscv32 isn't there")
 @unittest.skipUnless(shutil.which("riscv64-unknown-elf-gcc"), "riscv64-unknown-elf-gcc isn't there")
 @unittest.skipUnless(SFI.is_file(), f"{SFI} isn't there: ./sfi makes it")
-class Firmwares(unittest.TestCase):
-    language = "c"
+class Built(unittest.TestCase):
+    """What the Makefile builds for a language, with a flash and inboxes."""
+    language = ""
 
     @staticmethod
     def compiler():
@@ -112,6 +115,22 @@ class Firmwares(unittest.TestCase):
                               stdout=subprocess.PIPE, timeout=SECONDS, check=True)
         return made.stdout.decode().splitlines()
 
+
+
+class Misuse(Built):
+    """Each wrong call of misuse.c has an answer, and none writes the flash but the update that begins."""
+    language = "misuse"
+
+    def test_answers(self):
+        self.send([update(0, 1, image_of(0, REPORTS, 1))], [])
+        *lines, last = self.power_on()
+        self.assertEqual(lines, ["61 right"])
+        self.assertEqual(last, "off after 1 writes")
+
+
+class Firmwares(Built):
+    language = "c"
+
     def send_updates(self):
         """Of the first plug-in the second version isn't accepted, the third traps, the fourth isn't signed, the fifth works."""
         good, traps = image_of(0, REPORTS, 1), image_of(0, TRAPS, 3)
@@ -132,8 +151,9 @@ class Firmwares(unittest.TestCase):
         self.send_updates()
         *_, last = self.power_on()
         writes = int(last.split()[2])
-        for number in range(CUTS):
-            cut_after = number * writes // CUTS
+        count = min(CUTS, writes)
+        for number in range(count):
+            cut_after = number * writes // count
             with self.subTest(cut_after=cut_after):
                 self.setUp()
                 *before, last = self.power_on(cut_after)
@@ -144,6 +164,31 @@ class Firmwares(unittest.TestCase):
                 for plugin in range(2):
                     if "keeps 1" in of(plugin, before):
                         self.assertIn(of(plugin, lines)[0].split()[0], ("starts", "refuses"))
+
+    def run_of_cuts(self, chance):
+        """From an empty flash on the power is cut after some writes, again and again, until an update's last. What was kept, or a newer
+        version, is started before any update is taken, and at last runs. How often it was cut."""
+        self.setUp()
+        self.send_updates()
+        cuts, kept = 0, [0, 0]
+        while True:
+            cut_after = chance.randrange(2 * WRITES_BETWEEN_CUTS)
+            *lines, last = self.power_on(cut_after)
+            for plugin, version in enumerate(kept):
+                said = of(plugin, lines)
+                if version and said:
+                    self.assertIn(said[0].split()[0], ("starts", "refuses"), lines)
+                kept[plugin] = max([version, *(int(it.split()[1]) for it in said if it.startswith("keeps"))])
+                if version and last != f"off after {cut_after} writes":
+                    self.assertIn(f"keeps {kept[plugin]}", said)
+            if last != f"off after {cut_after} writes":
+                return cuts
+            cuts += 1
+
+    def test_runs_of_cuts(self):
+        chance, cuts = random.Random(CUTS), 0
+        while cuts < CUTS:
+            cuts += self.run_of_cuts(chance)
 
     def test_flipped_bits(self):
         """What `sfi check` refuses, the firmware does; what lies elsewhere, too; and the other plug-in runs on."""
@@ -162,6 +207,25 @@ class Firmwares(unittest.TestCase):
                     self.assertEqual(of(0, lines)[2:], ["refuses 2", "starts 1", "keeps 1"])
                 else:
                     self.assertEqual(of(0, lines)[2], "starts 2")
+
+
+    def test_places(self):
+        """An image for the other plug-in's place is refused there, as is one of two sandboxes."""
+        good, other = image_of(0, REPORTS, 1), image_of(1, REPORTS, 1)
+        two = subprocess.run([SFI, "build", "--raw", *(word for place in PLACES for word in ("--at", place))], check=True,
+                             input=2 * SOURCE.format(REPORTS, 1).encode(), stdout=subprocess.PIPE).stdout
+        self.send([update(0, 1, good), update(0, 2, other), update(0, 3, two)], [update(1, 1, other)])
+        *lines, _ = self.power_on()
+        first = ["starts 1", "keeps 1"]
+        self.assertEqual((of(0, lines), of(1, lines)), ([*first, "refuses 2", *first, "refuses 3", *first], first))
+
+    def test_endless(self):
+        """A version that never reports gives way after its turns, while the other plug-in runs."""
+        good = image_of(0, REPORTS, 1)
+        self.send([update(0, 1, good), update(0, 2, image_of(0, ENDLESS, 2))], [update(1, 1, image_of(1, REPORTS, 1))])
+        *lines, _ = self.power_on()
+        first = ["starts 1", "keeps 1"]
+        self.assertEqual((of(0, lines), of(1, lines)), ([*first, "starts 2", "gives up 2", *first], first))
 
 
 class FirmwaresInCpp(Firmwares):

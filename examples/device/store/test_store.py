@@ -35,7 +35,7 @@ MISTAKES = (  # what, the text of store.c, and the text in its place
      "status = SFI_DEVICE_STORE_DONE"),
     ("the older version is started", "version->claim.sequence > store->record", "version->claim.sequence < store->record"),
     ("versions go back", "next.least_sequence = higher(next.least_sequence, version->claim.least_sequence)", "(void)higher"),
-    ("an update is taken again", "claim->sequence <= latest_sequence(store)", "claim->sequence < latest_sequence(store)"),
+    ("an update is taken again", "update.claim.sequence <= latest_sequence(store)", "update.claim.sequence < latest_sequence(store)"),
     ("signatures aren't asked for", "!is_signed(store, version)", "false"),
     ("the counter isn't raised", "!is_counter_behind(store) || store->raise", "true || store->raise"),
     ("what was kept before a cut is forgotten", "claimed <= store->record.least_sequence && is_signed", "false && is_signed"),
@@ -157,11 +157,26 @@ class Stores(unittest.TestCase):
     def test_setup(self):
         one = walk.Walk(self.library, 1, ONE_RECORD)
         right = bytes(one.store)
-        for field, value in (("flash", None), ("area_size", 0), ("area_size", 300), ("trial_starts", 0), ("records", one.store.areas[1])):
+        sector, areas = ONE_RECORD[0], list(one.store.areas)
+        beside = ((ctypes.c_uint32 * 2)(areas[0] + 16, areas[1]), (ctypes.c_uint32 * 2)(areas[0], 2 ** 32 - sector))
+        for field, value in (("flash", None), ("area_size", 0), ("area_size", 300), ("trial_starts", 0), ("records", areas[1]),
+                             ("records", 2 ** 32 - sector), *(("areas", it) for it in beside)):
             one.store = store.Store.from_buffer_copy(right)
             setattr(one.store, field, value)
             self.assertEqual(one.call("open"), "bad setup", field)
             self.assertEqual(one.call("choose", ctypes.byref(ctypes.c_uint32())), "too early", field)
+
+    def test_own_claim(self):
+        """An update that was broken off begins anew by the claim that the store has of it, and without a signature isn't signed."""
+        one = walk.Walk(self.library, 1, ONE_RECORD)
+        one.choose()
+        image = b"an image"
+        right = walk.right(1, 0, image)
+        claim, signature = right.claim(), right.signature()
+        self.assertEqual(one.call("begin", ctypes.byref(claim), signature), "done")
+        self.assertEqual(one.call("begin", ctypes.byref(one.store.update.claim), one.store.update.signature), "done")
+        self.assertEqual(one.call("begin", ctypes.byref(claim), None), "not signed")
+        self.assertEqual(one.call("write", image, len(image)), "too early")
 
     def mistakes(self, table, run):
         text = (store.DEVICE / "store.c").read_text(encoding="utf-8")

@@ -5,7 +5,7 @@ docs/DEVICE.md.
 
     examples/device/umode/compare.py [SFI]      # SFI is the program; ./sfi at the top if absent
 
-Wants what examples/device wants, and `make` in examples/c first. Each answer has to be the same in all of them.
+Wants what examples/device wants, and has `make` compile examples/c first. Each answer has to be the same in all of them.
 """
 import os
 import pathlib
@@ -100,6 +100,7 @@ def print_row(*cells):
 
 
 def main():
+    subprocess.run(["make", "-s", "-C", compiled.EXAMPLES], check=True)
     at_the_chip()
     with tempfile.TemporaryDirectory() as folder:
         print_row("", "in U-mode", "beside the host, in the three formats")
