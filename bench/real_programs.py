@@ -35,6 +35,25 @@ SETJMP = "".join(f"{name}:\n" + "".join(f" {word} {register}, {4 * number}(a0)\n
                  for name, word, end in (("setjmp", "sw", " li a0, 0\n ret\n"), ("longjmp", "lw", " seqz a0, a1\n add a0, a0, a1\n ret\n")))
 START = ".globl setjmp, longjmp\n" + SETJMP + compiled.START.replace("start:  call main\n", "start:  addi a1, sp, 4\n sw a1, 0(sp)\n mv a1, sp\n li a0, 1\n call _start\n")
 
+HEAP = """.globl __heap_more
+__heap_more:
+ lui a1, %hi(given)
+ lw a2, %lo(given)(a1)
+ lui a4, %hi(heap + {size})
+ addi a4, a4, %lo(heap + {size})
+ add a3, a2, a0
+ li a0, 0
+ bgtu a3, a4, none
+ sw a3, %lo(given)(a1)
+ mv a0, a2
+none: ret
+.data
+given: .4byte heap
+.bss
+.balign 16
+heap: .zero {size}
+"""
+
 
 def assembled(path, output):
     subprocess.run([TOOLS + "as", *AS, "-o", output, path], check=True)
@@ -66,7 +85,7 @@ def objects_of(name, tree, folder, include):
 
     heap = os.path.join(folder, "heap.s")
     size = programs.PROGRAMS[name].heap
-    measure.written(heap, f".globl __heap, __heap_size\n.bss\n.balign 16\n__heap: .zero {size}\n.data\n__heap_size: .4byte {size}\n".encode())
+    measure.written(heap, HEAP.format(size=size).encode())
     with ThreadPoolExecutor(os.cpu_count()) as pool:
         return [*pool.map(made, enumerate(programs.files_of(name, tree))), assembled(heap, heap + ".o")]
 

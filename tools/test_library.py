@@ -206,12 +206,6 @@ class Library(unittest.TestCase):
         for name in ("pthread", "threads", "dirent", "termios", "spawn", "iconv", "fenv"):
             self.assertFalse(os.path.exists(os.path.join(include, f"{name}.h")), name)
 
-    def test_own_heap(self):
-        text = "#include <stdlib.h>\nint main(void) { return malloc(200000) != NULL && malloc(200000) == NULL; }\n"
-        own = "char __heap[262144];\nconst unsigned __heap_size = sizeof __heap;\n"
-        for wanted, found in ((0, self.ran(text)), (1, self.ran(own + text)), (1, self.ran(text, "--heap", "262144"))):
-            self.assertEqual(found[0], f"sandbox=0 exit={wanted}")
-
     def test_what_is_not_called_costs_nothing(self):
         text = "void _start(void) {}\nint main(void) { return 0; }\n"
         self.assertEqual(self.names(text), self.names(text, "--library", "newlib"))

@@ -283,7 +283,7 @@ cp {self.folder}/main.asm "$2"
                               (["--import", "a,"], "argument --import: '' is no name of at most 255 letters, digits and _"),
                               (["--import", "put"], "argument --import: 'put' is the gate of service 1 already"),
                               (["--where", "x"], "argument --where: 'x' is no address of 32 bits in hexadecimal digits"),
-                              (["--data", "300"], "argument --data: '300' is no power of two from 256 to 1048576"),
+                              (["--data", "300"], "argument --memory/--data: '300' is no power of two from 256 to 1048576"),
                               (["--stack"], "argument --stack: expected one argument")]:
             status, output, lines = self.call(self.file, *options)
             self.assertEqual((status, output, lines[-1]), (2, "", f"sfi-cc: error: {told}"))
@@ -348,8 +348,9 @@ class Libraries(Calls):
             self.assertEqual((done.returncode, [line[:-16] for line in done.stderr.splitlines()]), (0, wanted))
 
     def test_too_much_data(self):
-        for size, told in (((1 << 20) + 100, "the data have 1048688 bytes, 112 more than there is room for"),
-                           ((1 << 20) - 4096, "1044480 bytes of data and 8192 of stack don't fit in 1048576, by 4112")):
+        for size, told in (((1 << 20) + 100, "the objects have 1048688 bytes, 112 more than the format allows"),
+                           ((1 << 20) - 4096, "1044480 bytes of objects and 8192 of stack don't fit in 1048576, by 4112 of stack: "
+                                              "the format allows no more")):
             self.assertEqual(self.made(f"char all[{size}];\nint main(void) {{ return all[(int)all & 255]; }}\n"),
                              (1, "", [f"sfi-cc: made.elf: {told}"]))
 

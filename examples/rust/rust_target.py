@@ -20,7 +20,6 @@ PLACE = os.path.join("lib", "rustlib", TARGET, "lib")  # where a compiler looks 
 OPTIONS = ["--edition=2021", "-Cpanic=abort", "-Cembed-bitcode=yes", "-Ccodegen-units=1"]
 # What each crate of a target stands on by name. Its functions are those of the converter's runtime.
 BUILTINS = "#![feature(compiler_builtins)]\n#![compiler_builtins]\n#![no_std]\n"
-HEAP = ["--heap", "98304"]
 WANTED = ("no rustc with its sources and an llc of its LLVM is there (Debian's packages rustc, rust-src and llvm, or others "
           "whose rustc RUSTC names)")
 
@@ -96,10 +95,6 @@ def write_assembly(llc, middle, given, assembly):
     tell(by_llc(llc, middle, [LEVELS.get(level, level)], assembly, RESERVED_IN_WORDS))
 
 
-def with_heap(given):
-    return given if "--heap" in given else [*HEAP, *given]
-
-
 def image(assembly, given):
     """Runs sfi-cc on a program's assembly; its status."""
-    return subprocess.run([f"{TOOLS}/sfi-cc", *with_heap(given), assembly], check=False).returncode
+    return subprocess.run([f"{TOOLS}/sfi-cc", *given, assembly], check=False).returncode

@@ -60,7 +60,7 @@ line_of() { # image, input
 }
 
 image_of() { # program, format; fails where sfi-cc does
-    ../../tools/sfi-cc --program "$sfi" --format "$2" --heap 98304 -o "$room/$1.image" "$room/$1.s" 2>"$room/messages"
+    ../../tools/sfi-cc --program "$sfi" --format "$2" -o "$room/$1.image" "$room/$1.s" 2>"$room/messages"
 }
 
 of_calls() { # program, format; what sfi-cc says of it

@@ -1,8 +1,8 @@
 /* The heap that --heap gives. */
-extern char __heap[];
-extern const unsigned __heap_size;
+void *__heap_more(int more);
 
 int main(int argc, char **argv) {
-    __heap[__heap_size - 1] = argc;
-    return argc == 1 && argv[0][0] == 0 && argv[1] == 0 ? __heap_size : 0;
+    char *heap = __heap_more(1000);
+    heap[999] = argc;
+    return heap && !__heap_more(1) && argc == 1 && argv[0][0] == 0 && argv[1] == 0 ? 1000 : 0;
 }

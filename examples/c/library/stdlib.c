@@ -9,22 +9,21 @@
 
 enum { ALIGNMENT = 16 };
 
-extern unsigned char __heap[]; /* of heap.c, or of `sfi-cc --heap` */
-extern const unsigned __heap_size;
-static size_t used;
+void *__heap_more(int more); /* of the runtime */
 
-/* Memory is given out from the heap's first byte on, each byte once, so it is zero. */
-OWN_GOES_FIRST void *malloc(size_t size) {
-    unsigned char *memory = __heap + used;
-    size_t room = __heap_size - used, taken = size ? size + -size % ALIGNMENT : ALIGNMENT;
-    if (size > room || taken > room)
-        return NULL;
-    used += taken;
-    return memory;
+/* Memory is given out from the heap's first byte on, each byte once. */
+static void *taken(size_t size) {
+    return size > INT_MAX - ALIGNMENT ? NULL : __heap_more(size ? size + -size % ALIGNMENT : ALIGNMENT);
 }
 
+OWN_GOES_FIRST void *malloc(size_t size) {
+    return taken(size);
+}
+
+/* A deep stack may have had the memory before. Of a call of malloc compilers would make one of calloc. */
 OWN_GOES_FIRST void *calloc(size_t count, size_t size) {
-    return size && count > SIZE_MAX / size ? NULL : malloc(count * size);
+    void *memory = size && count > SIZE_MAX / size ? NULL : taken(count * size);
+    return memory ? memset(memory, 0, count * size) : NULL;
 }
 
 /* The new bytes lie above the old ones, so all that is read lies in the heap, whatever the old size was. */

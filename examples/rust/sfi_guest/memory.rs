@@ -1,24 +1,22 @@
 //! Memory for `alloc`: blocks whose sizes are powers of two. Those that were freed are taken again by the next that asks
-//! for their size; the rest comes from the heap, an array whose size `--heap` says.
+//! for their size; the rest comes from the heap, by the sandbox's runtime.
 use core::alloc::{GlobalAlloc, Layout};
 use core::cell::Cell;
-use core::ptr::{addr_of, null_mut};
+use core::ptr::null_mut;
 
 const SMALLEST: usize = 8;
 /// A block lies at a multiple of its size, or of this, where that is less.
 const MOST_ALIGNED: usize = 64;
 
 extern "C" {
-    static __heap: u8;
-    static __heap_size: usize;
+    /// The next bytes of the heap, or of none its end; null where there is no room.
+    fn __heap_more(more: i32) -> *mut u8;
 }
 
 /// A block that was freed begins with the address of the next one of its size.
 type Block = *mut u8;
 
 struct Heap {
-    /// How many bytes at the heap's beginning are given out.
-    used: Cell<usize>,
     /// The last freed block of each size, by the size's logarithm.
     freed: [Cell<Block>; usize::BITS as usize],
 }
@@ -31,7 +29,6 @@ const NONE: Cell<Block> = Cell::new(null_mut());
 
 #[global_allocator]
 static HEAP: Heap = Heap {
-    used: Cell::new(0),
     freed: [NONE; usize::BITS as usize],
 };
 
@@ -50,17 +47,17 @@ impl Heap {
 
     /// A block that nobody had before; null where the heap's rest is smaller.
     fn fresh(&self, size: usize) -> Block {
-        // SAFETY: the linker puts both objects there, and nothing writes the second.
-        let (heap, room) = unsafe { (addr_of!(__heap) as Block, __heap_size) };
-        let used = self.used.get();
-        let skipped = (heap as usize + used).wrapping_neg() & (size.min(MOST_ALIGNED) - 1);
-        let (begin, rest) = (used + skipped, room.saturating_sub(used));
-        if rest.saturating_sub(skipped) < size {
-            return null_mut();
+        // SAFETY: without bytes nothing is given out.
+        let end = unsafe { __heap_more(0) } as usize;
+        let skipped = end.wrapping_neg() & (size.min(MOST_ALIGNED) - 1);
+        let wanted = size.checked_add(skipped).and_then(|it| i32::try_from(it).ok());
+        // SAFETY: what is given out is nobody else's.
+        let given = wanted.map_or(null_mut(), |it| unsafe { __heap_more(it) });
+        if given.is_null() {
+            return given;
         }
-        self.used.set(begin + size);
-        // SAFETY: `size` bytes from there on are in the heap.
-        unsafe { heap.add(begin) }
+        // SAFETY: `size` bytes from there on are those that were given out.
+        unsafe { given.add(skipped) }
     }
 }
 

@@ -20,7 +20,7 @@ from dataclasses import dataclass, replace
 from suygapid.cc.compilers import (
     CLANG, GCC, PLUS_PLUS_SOURCES, SOURCES, WITH_VALUE, Failed, compiled, default_compiler, is_clang, is_source, reserved, run, tell)
 from suygapid.cc.signatures import lines_of
-from suygapid.commands.options import add_program, add_version, address, place, region
+from suygapid.commands.options import add_memory, add_program, add_version, address, place, room
 from suygapid.elf import linking
 from suygapid.elf.elf import Wrong
 from suygapid.elf.image import as_text, image
@@ -90,8 +90,8 @@ def options_parser():
     parser.add_argument("--debug", action="store_true",
                         help=f"makes a slower program, by {' '.join(DEBUG)}, that traps where a pointer leads outside the data, the stack "
                              "meets the objects, or memory of malloc is misused")
-    parser.add_argument("--stack", type=number(0, 1 << 20), metavar="N", help="room for the stack at least, in bytes; 8192 if absent")
-    parser.add_argument("--data", type=region, metavar="N", help="the size of the data region, a power of two")
+    parser.add_argument("--stack", type=room, metavar="N", help="room for the stack at least, in bytes; 8192 if absent")
+    add_memory(parser)
     parser.add_argument("--sandbox", type=number(0, MOST_SANDBOXES - 1), default=0, metavar="N",
                         help="the place, counted from 0, where it lies: each program of an image has another")
     parser.add_argument("--at", type=place, metavar="CODE:DATA", help="the place where it lies, in hexadecimal, in that of --sandbox")
@@ -103,7 +103,8 @@ def options_parser():
     parser.add_argument("--library", action="append", default=[], metavar="NAME|FOLDER",
                         help=f"a C library ({', '.join(NAMED)}), or a folder of assembly, of which the program gets what it calls, "
                              "and of headers in `include`")
-    parser.add_argument("--heap", type=number(0, 1 << 20), metavar="N", help="the heap of the library's malloc, in bytes")
+    parser.add_argument("--heap", type=room, metavar="N",
+                        help="what malloc gives at most, in bytes; all between the objects and the stack's room if absent")
     parser.add_argument("--gate", type=gate, action="append", default=[], metavar="NAME=SERVICE",
                         help="another function that is a gate")
     parser.add_argument("--export", type=exported, dest="exports", action="extend", default=[], metavar="NAME,..",
@@ -329,12 +330,12 @@ def program_of(options, given, files, folder):
 
 def written(options, program):
     """What of a linked program is wanted: the ELF file, what lies at addresses, or the image, which has been checked."""
-    made = image([program], None, options.data)
+    made = image([program])
     tell(too_long_lists(made))
     if options.keep is not None:
         write(options.keep, program.content)
     if options.where:
-        return told(program, options.data, options.where)
+        return told(program, options.where)
     if options.output and options.output.endswith(".elf"):
         return program.content
     run([options.program, "check"], as_text(made))

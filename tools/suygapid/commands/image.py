@@ -1,6 +1,6 @@
 """From ELF files that tools/sfi-cc linked to an image, each of them a sandbox, in their order.
 
-    tools/sfi-image [--stack BYTES] [--data BYTES] [--at CODE:DATA ..] [--raw] [-o FILE] PROGRAM.elf ..
+    tools/sfi-image [--stack BYTES] [--memory SIZE] [--at CODE:DATA ..] [--raw] [-o FILE] PROGRAM.elf ..
 
 The image is hexadecimal text, as `sfi check` and `sfi run` read it. What is wrong with a file is told in a line on standard
 error, and the status is 1; it is 2 where a file can't be read or written. Nothing here is trusted: the checker reads the
@@ -9,24 +9,18 @@ image. docs/C.md says more.
 import argparse
 import sys
 
-from suygapid.commands.options import add_version, place, region
+from suygapid.commands.options import add_memory, add_version, place, room
 from suygapid.elf.elf import Elf, Wrong
 from suygapid.elf.image import as_text, image
-
-
-def count(text):
-    if not text.isdigit():
-        raise argparse.ArgumentTypeError(f"{text!r} is no number of bytes")
-    return int(text)
 
 
 def parsed(words):
     parser = argparse.ArgumentParser(prog="sfi-image", description=__doc__.split("\n", maxsplit=1)[0])
     parser.add_argument("programs", nargs="+", metavar="PROGRAM.elf", help="a linked program")
     parser.add_argument("-o", dest="output", metavar="FILE", help="where to write; standard output if absent")
-    parser.add_argument("--stack", type=count, metavar="BYTES",
+    parser.add_argument("--stack", type=room, metavar="BYTES",
                         help="room for the stack at least; what sfi-cc was given, or 8192, if absent")
-    parser.add_argument("--data", type=region, metavar="BYTES", help="the size of the data region, a power of two")
+    add_memory(parser)
     parser.add_argument("--at", type=place, action="append", default=[], metavar="CODE:DATA",
                         help="where the next program lies, in hexadecimal; it was linked there or with --movable")
     parser.add_argument("--raw", action="store_true", help="writes the image's bytes, and not their digits")
@@ -37,7 +31,7 @@ def parsed(words):
 def main():
     options = parsed(sys.argv[1:])
     try:
-        made = image([Elf(path) for path in options.programs], options.stack, options.data, options.at)
+        made = image([Elf(path) for path in options.programs], options.stack, options.memory, options.at)
         content = made if options.raw else as_text(made)
         with open(options.output or sys.stdout.fileno(), "wb", closefd=options.output is not None) as file:
             file.write(content)

@@ -4,7 +4,7 @@ import json
 import os
 
 from suygapid import TOP
-from suygapid.elf.image import SMALLEST, Place
+from suygapid.elf.image import SMALLEST, UNITS, Place
 from suygapid.image.layout import MOST_DATA
 
 
@@ -52,9 +52,28 @@ def place(text: str) -> Place:
     return address(code), address(data)
 
 
+def size(text: str) -> int:
+    """A number of bytes, also with a unit behind it; -1 where it is none."""
+    digits, unit = (text[:-1], UNITS[text[-1]]) if text[-1:] in UNITS else (text, 1)
+    return int(digits) * unit if digits.isdigit() else -1
+
+
+def room(text: str) -> int:
+    """The bytes of the heap or the stack."""
+    found = size(text)
+    if not 0 <= found <= MOST_DATA:
+        raise argparse.ArgumentTypeError(f"{text!r} is no number from 0 to {MOST_DATA}")
+    return found
+
+
 def region(text: str) -> int:
-    """The size of a data region that an option gives."""
-    size = int(text) if text.isdigit() else 0
-    if not SMALLEST <= size <= MOST_DATA or size & (size - 1):
+    """The size of a data region."""
+    found = size(text)
+    if not SMALLEST <= found <= MOST_DATA or found & (found - 1):
         raise argparse.ArgumentTypeError(f"{text!r} is no power of two from {SMALLEST} to {MOST_DATA}")
-    return size
+    return found
+
+
+def add_memory(parser: argparse.ArgumentParser) -> None:
+    parser.add_argument("--memory", "--data", type=region, metavar="SIZE",
+                        help="the size of the data region, a power of two, as 65536 or 64K: of objects, heap and stack")

@@ -1,7 +1,7 @@
 """From linked ELF files to an image. docs/IMAGE.md has the format. Nothing here is trusted: `sfi check` reads the image."""
 import struct
 from dataclasses import dataclass, replace
-from itertools import zip_longest
+from itertools import accumulate, zip_longest
 from typing import Iterable, Optional, Sequence
 
 from suygapid.elf.elf import Elf, Wrong
@@ -11,7 +11,10 @@ from suygapid.image.names import footer, moved_names
 
 SMALLEST = 256  # bytes of a region
 ADDRESSES = 1 << 32
-DEFAULT_STACK = 8192
+DEFAULT_STACK, DEFAULT_HEAP = 8192, 98304
+DEFAULT_MEMORY = SMALLEST  # bytes of the data region at least, where no option says how many it, the heap or the stack has
+HEAP_SIZE = "__heap_size"  # holds what the heap may give out, in programs that have one: runtime/heap.c
+UNITS = {"K": 1 << 10, "M": 1 << 20, "G": 1 << 30}  # of sizes that options give
 TOP = 16  # the first stack pointer lies so far below the data's end
 Place = tuple[int, int]  # where code and data begin
 BREAK = b"\x02\x90"  # c.ebreak fills the code up
@@ -21,6 +24,25 @@ BREAK = b"\x02\x90"  # c.ebreak fills the code up
 class Frame:
     function: str
     size: int
+
+
+@dataclass(frozen=True)
+class Memory:
+    """The bytes of the data region, of the objects at its beginning, and of the heap behind these at most; the rest is the stack's,
+    and so is what the heap hasn't given out."""
+    size: int
+    objects: int
+    heap: int
+
+    @property
+    def stack(self) -> int:
+        return self.size - self.objects - self.heap - TOP
+
+
+def spelled_size(size: int) -> str:
+    """A number of bytes as options take it."""
+    units = [unit for unit in UNITS if size and size % UNITS[unit] == 0]
+    return f"{size // UNITS[units[-1]]}{units[-1]}" if units else str(size)
 
 
 def power(count: int) -> int:
@@ -58,7 +80,7 @@ def used_by(elf: Elf) -> int:
     if used < 0:
         raise Wrong(f"{elf.name}: the data end below their beginning: link it by tools/sfi-cc")
     if used > MOST_DATA:
-        raise Wrong(f"{elf.name}: the data have {used} bytes, {used - MOST_DATA} more than there is room for")
+        raise Wrong(f"{elf.name}: the objects have {used} bytes, {used - MOST_DATA} more than the format allows")
     return used
 
 
@@ -67,35 +89,65 @@ def stack_of(elf: Elf, stack: Optional[int]) -> int:
     return elf.symbols.get("__sfi_stack", DEFAULT_STACK) if stack is None else stack
 
 
-def data_of(elf: Elf, stack: Optional[int]) -> bytes:
+def data_of(elf: Elf, stack: int, memory: Memory) -> bytes:
     """The first bytes of the data region, up to the last that isn't zero."""
-    base = elf.symbol("__sfi_data")
-    content = bytearray(used_by(elf))
-    for segment in elf.loaded():
-        if segment.is_code:
-            continue
+    base, data = elf.symbol("__sfi_data"), [segment for segment in elf.loaded() if not segment.is_code]
+    ends = [segment.address + len(segment.content) for segment in data]
+    content = bytearray(min(max([elf.symbol("__sfi_names_end"), *ends]) - base, memory.objects))
+    for segment in data:
         start = segment.address - base
-        if not 0 <= start <= start + len(segment.content) <= len(content):
+        if not 0 <= start <= start + len(segment.content) <= memory.objects:
             raise Wrong(f"{elf.name}: bytes at {segment.address:#x} lie outside the data: link it by tools/sfi-cc")
         content[start:start + len(segment.content)] = segment.content
-    at, table_end = footer(elf, stack_of(elf, stack))
+    at, table_end = footer(elf, stack)
     content[at - base:at - base + len(table_end)] = table_end
+    if HEAP_SIZE in elf.symbols:
+        struct.pack_into("<I", content, elf.symbols[HEAP_SIZE] - base, memory.heap)
     return bytes(content).rstrip(b"\0")
 
 
-def data_size(elf: Elf, stack: Optional[int], wanted: Optional[int]) -> int:
-    """The size of the data region: the one that is wanted, or the least that has room for the objects and the stack."""
-    used, above = used_by(elf), elf.symbol("__sfi_above") + TOP
-    stack = stack_of(elf, stack)
-    size = wanted or power(used + above + stack)
-    if used + above + stack > size or size > MOST_DATA:
-        most = min(size, MOST_DATA)
-        raise Wrong(f"{elf.name}: {used} bytes of data and {stack} of stack don't fit in {most}, by {used + above + stack - most}")
-    frame, room = deepest_frame(elf), size - used - above
-    if frame.size > room:
-        raise Wrong(f"{elf.name}: the frame of {frame.function} has {frame.size} bytes, and the stack has room for {room}: "
+def least_heap(elf: Elf, is_sized: bool) -> int:
+    """The bytes that the heap has to have, where there is one: as an option says, or, if none says the region's size, the library."""
+    if HEAP_SIZE not in elf.symbols:
+        return 0
+    return elf.symbols.get("__sfi_heap", 0 if is_sized else elf.symbols.get("__sfi_heap_least", DEFAULT_HEAP))
+
+
+def listed(counts: dict[str, int], unit: str = "") -> str:
+    """How many bytes what has, as words."""
+    first, *others = (f"{count} of {what}" for what, count in counts.items() if count)
+    words = [first.replace(" ", unit + " ", 1), *others]
+    return " and ".join([*filter(None, [", ".join(words[:-1])]), words[-1]])
+
+
+def check_room(elf: Elf, size: int, counts: dict[str, int], above: int) -> None:
+    """Whether objects, stack and heap of so many bytes, in this order, fit in the region, below what lies above the stack."""
+    most, needed = min(size, MOST_DATA), sum(counts.values()) + above
+    if needed <= most:
+        return
+    ends = accumulate(counts.values(), initial=above)
+    lacking = {what: max(0, min(count, end + count - most)) for (what, count), end in zip(counts.items(), ends)}
+    more = f"--memory {spelled_size(power(needed))} gives more" if power(needed) <= MOST_DATA else "the format allows no more"
+    raise Wrong(f"{elf.name}: {listed(counts, ' bytes')} don't fit in {most}, by {listed(lacking)}: {more}")
+
+
+def memory_of(elf: Elf, stack: Optional[int] = None, wanted: Optional[int] = None) -> Memory:
+    """How the data region is shared. It has the size that is wanted, or the least that has room for all."""
+    wanted, is_told = wanted or elf.symbols.get("__sfi_memory"), stack is not None or {"__sfi_heap", "__sfi_stack"} & elf.symbols.keys()
+    objects, stack, heap = used_by(elf), stack_of(elf, stack), least_heap(elf, wanted is not None)
+    above = elf.symbol("__sfi_above") + TOP
+    size = wanted or max(power(objects + stack + heap + above), SMALLEST if is_told else DEFAULT_MEMORY)
+    check_room(elf, size, {"objects": objects, "stack": stack, "heap": heap}, above)
+    base = elf.symbol("__sfi_data")
+    if base % size:
+        raise Wrong(f"{elf.name}: the data have {size} bytes, and lie at {base:#x}, which is no multiple of that: "
+                    f"link it with --memory {spelled_size(size)}, or another --at")
+    frame, room = deepest_frame(elf), size - objects - above
+    if frame.size > room - heap:
+        raise Wrong(f"{elf.name}: the frame of {frame.function} has {frame.size} bytes, and the stack has room for {room - heap}: "
                     f"give --stack {frame.size + TOP} or more")
-    return size
+    most = elf.symbols.get("__sfi_heap", size) if HEAP_SIZE in elf.symbols else 0
+    return Memory(size, objects, min(most, room - max(stack, frame.size)))
 
 
 @dataclass
@@ -127,8 +179,9 @@ class Sandbox(Part):
 
 
 def sandbox_of(elf: Elf, stack: Optional[int], wanted: Optional[int]) -> Sandbox:
-    made = Sandbox(elf.symbol("__sfi_code"), code_of(elf, format_of(elf)), elf.symbol("__sfi_data"), data_size(elf, stack, wanted),
-                   elf.entry, elf.gates(), data_of(elf, stack), path=elf.name)
+    memory = memory_of(elf, stack, wanted)
+    made = Sandbox(elf.symbol("__sfi_code"), code_of(elf, format_of(elf)), elf.symbol("__sfi_data"), memory.size,
+                   elf.entry, elf.gates(), data_of(elf, stack_of(elf, stack), memory), path=elf.name)
     made.check_place()
     return made
 

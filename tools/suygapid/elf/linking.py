@@ -13,6 +13,7 @@ from suygapid.library.archives import SMALL, Libraries, folders_of
 from suygapid.services import GATES
 
 CODE, DATA = 0x01000000, 0x00800000  # a sandbox's place is its number plus 1 times the first, its data lie the second above
+LARGE = 0x20000000  # where larger data begin, if they have no more bytes than that
 WORDS = ["-m", "elf32lriscv", "--no-relax", "--gc-sections", "-z", "noexecstack", "--no-warn-rwx-segments"]
 UNDEFINED = b"undefined"  # what the linker says of a symbol
 TOO_MANY_SMALL = b"the small objects and the room below them exceed"  # what the linker script says
@@ -21,15 +22,15 @@ START = ["-u", "_start"]  # what a C library does before main and after it, wher
 
 def place_of(options):
     """Where the code and the data begin."""
-    base = (options.sandbox + 1) * CODE
-    return options.at or (base, base + DATA)
+    base, memory = (options.sandbox + 1) * CODE, options.memory or 0
+    return options.at or (base, base + DATA if memory <= DATA else max(LARGE, memory) + options.sandbox * memory)
 
 
-def numbers_of(options, names):
-    """The numbers that the linker script asks for."""
+def numbers_of(options, names, libraries):
+    """The numbers that the linker script and what makes images of linked files ask for."""
     numbers = dict(zip(("__sfi_code_base", "__sfi_data_base"), place_of(options)))
-    if options.stack is not None:
-        numbers["__sfi_stack"] = options.stack
+    sizes = {"memory": options.memory, "stack": options.stack, "heap": options.heap, "heap_least": libraries.least_heap}
+    numbers.update((f"__sfi_{name}", size) for name, size in sizes.items() if size is not None)
     if options.api is not None:
         numbers[API] = options.api
     if names.exports or names.imports or options.gate:
@@ -74,11 +75,6 @@ class Names:
         room = os.path.join(folder, "gates")
         os.makedirs(room, exist_ok=True)
         return runtime.gate_object(room, name, self.gates[name], self.format, entry)
-
-
-def heap_of(options, folder):
-    """The object of the heap that was asked for."""
-    return [] if options.heap is None else [runtime.heap_object(folder, options.heap)]
 
 
 def ran_linker(words, libraries):
@@ -162,9 +158,9 @@ def words_of(options, libraries, objects, folder):
     own = [os.path.join(made, name) for name in ("libruntime.a", "libgates.a", "libmovable.a", *main)]
     heap = [os.path.join(made, "heap_checks.o"), "--wrap=exit_with"] if options.target.is_checking and libraries.have_heap else []
     fresh = os.path.join(folder, "program.elf")
-    first = [binutil("ld"), *WORDS, *numbers_of(options, names), *START]
+    first = [binutil("ld"), *WORDS, *numbers_of(options, names, libraries), *START]
     return fresh, first, [
         *runtime.EXCEPTIONS * libraries.have_exceptions, "-T", runtime.SCRIPT, *options.linker, "-o", fresh, os.path.join(made, "crt0.o"),
-        *(path for path in objects if path not in archives), *names.objects(folder), *heap_of(options, folder), *heap,
+        *(path for path in objects if path not in archives), *names.objects(folder), *heap,
         "--whole-archive", *libraries.whole, "--no-whole-archive",
         "--start-group", *archives, *named, *names.archives(folder), *libraries.archives, *own, "--end-group"]

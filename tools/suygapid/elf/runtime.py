@@ -12,7 +12,7 @@ from suygapid.services import GATES
 LIB = os.path.join(TOOLS, "suygapid", "runtime")
 SCRIPT = os.path.join(LIB, "sandbox.ld")
 EXCEPTIONS = ["-T", os.path.join(LIB, "exceptions.ld")]  # what goes before the script for a program that has them
-FUNCTIONS = [*(os.path.join(LIB, f"{name}.asm") for name in ("constructors", "runtime", "atomics", "stack_protector")),
+FUNCTIONS = [*(os.path.join(LIB, f"{name}.asm") for name in ("constructors", "runtime", "atomics", "stack_protector", "heap")),
              os.path.join(LIB, "save_restore.s")]
 HEAP_CHECKS = os.path.join(LIB, "heap_checks.asm")  # the malloc of programs that stop at mistakes
 OF_MOVABLE = [os.path.join(LIB, "movable.s"), os.path.join(LIB, "settle.asm")]  # what a moved program runs before all else
@@ -21,19 +21,6 @@ OVERRIDDEN = ("memcpy", "memmove", "memset", "memcmp", "strlen", "__cxa_pure_vir
               "_ZdaPvj")
 MADE_OF = (*CONVERTER, "suygapid/services.py", "suygapid/runtime/*.asm", "suygapid/runtime/*.s", "suygapid/cc/compilers.py",
            "suygapid/elf/*.py", "suygapid/library/archives.py", "../examples/c/gates.h")
-
-
-# The heap of a library's malloc, which goes before the library's own.
-HEAP = """\
-    .bss
-    .globl __heap
-    .p2align 4
-__heap: .zero {size}
-    .section .rodata
-    .globl __heap_size
-    .p2align 2
-__heap_size: .4byte {size}
-"""
 
 
 def ingredients(target: Target) -> list[str]:
@@ -55,12 +42,6 @@ def object_of(folder: str, assembly: str, target: Target) -> str:
 def gate_object(folder: str, name: str, service: int, image_format: str, entry: str = "") -> str:
     output = os.path.join(folder, name + ".o")
     assembled((stub(name, service, image_format) + entry).encode(), output)
-    return output
-
-
-def heap_object(folder: str, size: int) -> str:
-    output = os.path.join(folder, "heap.o")
-    assembled(HEAP.format(size=size).encode(), output)
     return output
 
 

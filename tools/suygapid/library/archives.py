@@ -89,7 +89,10 @@ class Libraries:
         first = [] if self.have_exceptions else [there for folder in folders for there in plus_plus.uncaught(folder)]
         self.whole = [archive_of(folder, options.target) for folder in first]  # what takes the place of parts of the others
         self.archives = [archive_of(folder, options.target) for folder in folders]
-        self.have_heap = any(os.path.exists(os.path.join(folder, mark)) for folder in folders for mark in (small_library.MARK, newlib.MARK))
+        is_small, is_newlib = (any(os.path.exists(os.path.join(folder, mark)) for folder in folders)
+                               for mark in (small_library.MARK, newlib.MARK))
+        self.have_heap = is_small or is_newlib
+        self.least_heap = small_library.HEAP if is_small else None  # where no option says what the heap has to have
         self.wanted = None  # what to install for floating point
         if softfloat.speaks_of_floats([path for path in objects if os.path.exists(path)]):
             folder = softfloat.folder_of(options.cc)

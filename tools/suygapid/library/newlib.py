@@ -71,7 +71,7 @@ def compile_all(compiler: str, folder: str) -> None:
     headers(tree, include)
     own = [word for word in OPTIONS if not (is_clang(compiler) and word in OF_GCC)]
     options = [*own, "-isystem", include, *(word for part in SEARCHED for word in ("-I", f"{tree}/{part}"))]
-    glue: list[Job] = [(os.path.join(GLUE, f"{name}.c"), f"sandbox-{name}", []) for name in ("system", "console", "heap", "pow", "sqrt")]
+    glue: list[Job] = [(os.path.join(GLUE, f"{name}.c"), f"sandbox-{name}", []) for name in ("system", "console", "pow", "sqrt")]
     compile_into(folder, compiler, options, [*jobs(tree), *glue])
     for name in WITHOUT_FUNCTIONS:
         os.remove(os.path.join(include, name))

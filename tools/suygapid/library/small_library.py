@@ -13,6 +13,7 @@ SOURCES = os.path.join(TOP, "examples", "c", "library")
 HEADERS = os.path.join(TOP, "examples", "c", "include")
 GATES = os.path.join(TOP, "examples", "c", "gates.h")
 MARK = "small-library-of-sfi-cc"  # a file that says what the folder is
+HEAP = 49152  # bytes at least; with the stack of 8192 and 8192 of other data they make a region of 65536
 WORD = re.compile(rb"\w+")
 MISSING = re.compile(rb":\d+: [^:\n]+: '?([\w/]+\.h)'?[: ]")  # a header that a compiler doesn't find
 # What newlib has of the C standard and beside it, and names that the small library's headers haven't.

@@ -1,11 +1,12 @@
 """Code in words for a search for mistakes: each address and each target of a jump is compared with what its masks make of it, and the
-stack pointer with the objects' end. Where they differ, an `ebreak` ends the run, where the masks would lead it on with data or code
+stack pointer with the heap's end. Where they differ, an `ebreak` ends the run, where the masks would lead it on with data or code
 of the program's that nobody meant."""
 from suygapid.passes.facts import STORES
 from suygapid.passes.in_words import MASKS_AFTER, InWords, needs_no_masks
 
 PASSES = ("known",)  # of the others some have an address masked, and so compared, elsewhere than where it is used
-END = "__sfi_end"  # of the objects: the stack has the room above
+END = "__sfi_end"  # of the objects
+HEAP_END = "__heap_end"  # holds the end of what the heap ever gave out, or of the objects: the stack has the room above
 
 
 def stopped_unless(branch):
@@ -17,6 +18,12 @@ def room_for(count):
     """What asks for room for so many bytes below the stack pointer."""
     limit, masks = f"{END}+{count}", [text.format("x29") for text in MASKS_AFTER]
     return [f"lui x29, %hi({limit})", *masks, f"addi x29, x29, %lo({limit})", *masks, *stopped_unless("bgeu sp, x29")]
+
+
+def look():
+    """What compares the stack pointer with the heap's end."""
+    masks = [text.format("x29") for text in MASKS_AFTER]
+    return [f"lw x29, %lo({HEAP_END})(x26)", *masks, *stopped_unless("bgeu sp, x29")]
 
 
 def is_frame(op):
@@ -42,11 +49,11 @@ class Checking(InWords):
 
     def piece(self, op, following):
         """Looks at the stack pointer after the frame is taken and registers are saved in it, so that a debugger finds the
-        caller's frame. In front of a frame that gets masks, which may lead above the stack, it asks for the frame's room."""
+        caller's frame. In front of a frame that gets masks, which may lead above the stack, it asks for the frame's room, too."""
         if self.is_lower and not (op.word in STORES and op.base == "sp"):
             self.look_at_stack()
         super().piece(op, following)
-        self.is_lower = self.is_lower or is_frame(op) and needs_no_masks(op, following)
+        self.is_lower = self.is_lower or is_frame(op)
 
     def label(self, name):
         self.look_at_stack()
@@ -54,15 +61,17 @@ class Checking(InWords):
 
     def look_at_stack(self):
         if self.is_lower:
-            self.write(None, ["\t" + text for text in room_for(0)])
+            self.write(None, ["\t" + text for text in look()])
         self.is_lower = False
 
     def one(self, op, following):
         if is_frame(op) and not needs_no_masks(op, following):
             self.wide(*room_for(-op.step))
+        if op.word == "sub" and op.written == "sp":  # by more than the region has, masks would lead anywhere in it
+            self.wide(*stopped_unless(f"bgeu x27, {op.operands[2]}"))
         super().one(op, following)
         if op.word in ("add", "sub") and op.written == "sp":
-            self.wide(*room_for(0))
+            self.wide(*look())
 
     def beside(self, text, begun):
         """Puts a soft item of the stack pointer beside the instruction that moves it."""

@@ -4,110 +4,142 @@
 	.attribute unaligned_access, 0
 	.attribute stack_align, 16
 	.text
+	.section	.text.place_in,"ax",@progbits
+place_in:
+.LFB12:
+	.cfi_startproc
+	add	a3,a0,a2
+	addi	a3,a3,31
+	neg	a5,a2
+	and	a3,a3,a5
+	mv	a4,a0
+	addi	a0,a3,-32
+	mv	a7,a4
+ #APP
+# 121 "../../tools/suygapid/runtime/heap_checks.c" 1
+	mv t1, sp
+# 0 "" 2
+ #NO_APP
+	beq	a0,a4,.L2
+	sub	a5,a0,a4
+	li	a6,31
+	bgtu	a5,a6,.L5
+	addi	a5,a2,-32
+	add	a5,a5,a3
+	j	.L3
+.L12:
+	add	a0,a5,a2
+	bgtu	a3,a6,.L11
+	mv	a5,a0
+.L3:
+	sub	a3,a5,a4
+	bne	a4,a5,.L12
+.L2:
+	lw	a5,0(a4)
+	add	a1,a1,a7
+	li	a0,0
+	add	a4,a4,a5
+	bgtu	a1,a4,.L1
+	bleu	a1,a7,.L1
+	addi	a0,a1,32
+	sgtu	a0,a0,t1
+	addi	a0,a0,-1
+	and	a0,a7,a0
+.L1:
+	ret
+.L11:
+	mv	a7,a5
+	j	.L2
+.L5:
+	mv	a7,a0
+	j	.L2
+	.cfi_endproc
+.LFE12:
 	.section	.text.found_from,"ax",@progbits
 found_from:
 .LFB14:
 	.cfi_startproc
+	addi	sp,sp,-32
+	.cfi_def_cfa_offset 32
 	lui	a5,%hi(__heap_size)
-	lw	a7,%lo(__heap_size)(a5)
-	lui	a5,%hi(__heap)
-	addi	a5,a5,%lo(__heap)
-	andi	a7,a7,-16
-	add	a7,a7,a5
-	bgeu	a0,a7,.L29
-	addi	sp,sp,-16
-	.cfi_def_cfa_offset 16
-	li	t1,1718771712
-	sw	s0,12(sp)
-	sw	s1,8(sp)
-	.cfi_offset 8, -4
-	.cfi_offset 9, -8
-	addi	t1,t1,1381
-	addi	t2,a2,-1
-	neg	t0,a2
-	li	t3,31
-	addi	s0,a2,-32
-.L2:
-	lw	a5,0(a0)
-	lw	a3,8(a0)
+	sw	s1,20(sp)
+	.cfi_offset 9, -12
+	lw	s1,%lo(__heap_size)(a5)
+	lui	a5,%hi(__sfi_end)
+	addi	a5,a5,%lo(__sfi_end)
+	andi	s1,s1,-16
+	sw	ra,28(sp)
+	sw	s0,24(sp)
+	sw	s2,16(sp)
+	sw	s3,12(sp)
+	sw	s4,8(sp)
+	.cfi_offset 1, -4
+	.cfi_offset 8, -8
+	.cfi_offset 18, -16
+	.cfi_offset 19, -20
+	.cfi_offset 20, -24
+	add	s1,s1,a5
+	bgeu	a0,s1,.L17
+	li	s2,1718771712
+	mv	s0,a0
+	mv	s3,a1
+	mv	s4,a2
+	addi	s2,s2,1381
+	j	.L14
+.L20:
+	add	s0,s0,a4
+	bgeu	s0,s1,.L17
+.L14:
+	lw	a5,0(s0)
+	lw	a3,8(s0)
 	mv	a4,a5
-	beq	a3,t1,.L34
-	add	a0,a0,a4
-	bltu	a0,a7,.L2
-.L40:
-	li	a0,0
-.L1:
-	lw	s0,12(sp)
-	.cfi_remember_state
-	.cfi_restore 8
-	lw	s1,8(sp)
-	.cfi_restore 9
-	addi	sp,sp,16
-	.cfi_def_cfa_offset 0
-	jr	ra
-.L37:
-	.cfi_restore_state
+	bne	a3,s2,.L20
+	add	a4,s0,a5
+	bgeu	a4,s1,.L19
+.L33:
 	lw	a3,8(a4)
-	bne	a3,t1,.L7
+	bne	a3,s2,.L32
 	lw	a4,0(a4)
 	add	a5,a5,a4
-	sw	a5,0(a0)
-.L34:
-	add	a4,a0,a5
-	bltu	a4,a7,.L37
-.L7:
-	addi	a5,a0,32
-	add	a5,a5,t2
-	and	a5,a5,t0
-	addi	a3,a5,-32
-	mv	s1,a0
-	beq	a3,a0,.L9
-	sub	a6,a3,a0
-	bgtu	a6,t3,.L13
-	add	a5,s0,a5
-	j	.L11
-.L39:
-	add	a6,a2,a5
-	bgtu	a3,t3,.L38
-	mv	a5,a6
-.L11:
-	sub	a3,a5,a0
-	bne	a0,a5,.L39
-.L10:
-	add	a5,a1,s1
-	bltu	a4,a5,.L33
-	bleu	a5,s1,.L33
-	bne	s1,zero,.L1
-.L33:
-	lw	a4,0(a0)
-	add	a0,a0,a4
-	bltu	a0,a7,.L2
-	j	.L40
-.L38:
-	mv	s1,a5
-	j	.L10
-.L9:
-	add	a5,a1,a0
-	bgtu	a5,a4,.L33
-	bleu	a5,a0,.L33
-	lw	s0,12(sp)
+	sw	a5,0(s0)
+	add	a4,s0,a5
+	bltu	a4,s1,.L33
+.L19:
+	mv	a2,s4
+	mv	a1,s3
+	mv	a0,s0
+	call	place_in
+	beq	a0,zero,.L17
+.L23:
+	lw	ra,28(sp)
 	.cfi_remember_state
+	.cfi_restore 1
+	mv	a0,s0
+	lw	s0,24(sp)
 	.cfi_restore 8
-	lw	s1,8(sp)
+	lw	s1,20(sp)
 	.cfi_restore 9
-	addi	sp,sp,16
+	lw	s2,16(sp)
+	.cfi_restore 18
+	lw	s3,12(sp)
+	.cfi_restore 19
+	lw	s4,8(sp)
+	.cfi_restore 20
+	addi	sp,sp,32
 	.cfi_def_cfa_offset 0
 	jr	ra
-.L13:
+.L32:
 	.cfi_restore_state
-	mv	s1,a3
-	j	.L10
-.L29:
-	.cfi_def_cfa_offset 0
-	.cfi_restore 8
-	.cfi_restore 9
-	li	a0,0
-	ret
+	mv	a2,s4
+	mv	a1,s3
+	mv	a0,s0
+	call	place_in
+	bne	a0,zero,.L23
+	lw	a4,0(s0)
+	j	.L20
+.L17:
+	li	s0,0
+	j	.L23
 	.cfi_endproc
 .LFE14:
 	.section	.rodata.say_address.str1.4,"aMS",@progbits,1
@@ -130,7 +162,7 @@ say_address:
 	li	a4,28
 	addi	a2,a2,%lo(.LC0)
 	li	a6,-4
-.L42:
+.L35:
 	srl	a5,a1,a4
 	andi	a5,a5,15
 	add	a5,a2,a5
@@ -138,7 +170,7 @@ say_address:
 	addi	a4,a4,-4
 	addi	a3,a3,1
 	sb	a5,-1(a3)
-	bne	a4,a6,.L42
+	bne	a4,a6,.L35
 	mv	a0,s0
 	call	strlen
 	mv	a1,a0
@@ -212,7 +244,7 @@ stop:
 	mv	a1,s3
 	addi	a0,a0,%lo(.LC2)
 	call	say_address
-	beq	s0,zero,.L47
+	beq	s0,zero,.L40
 	lw	a1,12(s0)
 	lui	a0,%hi(.LC3)
 	addi	a0,a0,%lo(.LC3)
@@ -220,8 +252,8 @@ stop:
 	lw	a4,8(s0)
 	li	a5,2002874368
 	addi	a5,a5,-1676
-	beq	a4,a5,.L50
-.L47:
+	beq	a4,a5,.L43
+.L40:
 	lui	a0,%hi(.LC5)
 	mv	a1,s1
 	addi	a0,a0,%lo(.LC5)
@@ -254,13 +286,13 @@ stop:
 	addi	sp,sp,32
 	.cfi_def_cfa_offset 0
 	jr	ra
-.L50:
+.L43:
 	.cfi_restore_state
 	lw	a1,16(s0)
 	lui	a0,%hi(.LC4)
 	addi	a0,a0,%lo(.LC4)
 	call	say_address
-	j	.L47
+	j	.L40
 	.cfi_endproc
 .LFE6:
 	.section	.rodata.look_at.str1.4,"aMS",@progbits,1
@@ -295,44 +327,44 @@ look_at:
 	.cfi_offset 19, -20
 	addi	a4,a4,1381
 	add	s2,s0,s2
-	beq	a3,a4,.L51
+	beq	a3,a4,.L44
 	mv	s1,a0
 	mv	s3,a1
 	addi	a5,a0,24
 	li	a2,251
-.L54:
-	beq	a5,s0,.L65
+.L47:
+	beq	a5,s0,.L58
 	lbu	a4,0(a5)
 	addi	a5,a5,1
-	beq	a4,a2,.L54
+	beq	a4,a2,.L47
 	lui	a0,%hi(.LC9)
 	mv	a3,s3
 	mv	a2,s1
 	mv	a1,s0
 	addi	a0,a0,%lo(.LC9)
 	call	stop
-.L65:
+.L58:
 	lw	a2,0(s1)
 	mv	a5,s2
 	li	a0,251
 	add	a2,s1,a2
-.L57:
-	bgeu	a5,a2,.L64
+.L50:
+	bgeu	a5,a2,.L57
 	lbu	a4,0(a5)
 	addi	a5,a5,1
-	beq	a4,a0,.L57
+	beq	a4,a0,.L50
 	lui	a0,%hi(.LC8)
 	mv	a3,s3
 	mv	a2,s1
 	mv	a1,s0
 	addi	a0,a0,%lo(.LC8)
 	call	stop
-.L64:
+.L57:
 	lw	a4,8(s1)
 	li	a5,2002874368
 	addi	a5,a5,-1676
-	beq	a4,a5,.L70
-.L51:
+	beq	a4,a5,.L63
+.L44:
 	lw	ra,28(sp)
 	.cfi_remember_state
 	.cfi_restore 1
@@ -347,15 +379,15 @@ look_at:
 	addi	sp,sp,32
 	.cfi_def_cfa_offset 0
 	jr	ra
-.L70:
+.L63:
 	.cfi_restore_state
 	mv	a5,s0
 	li	a3,221
-.L60:
-	bleu	s2,a5,.L51
+.L53:
+	bleu	s2,a5,.L44
 	lbu	a4,0(a5)
 	addi	a5,a5,1
-	beq	a4,a3,.L60
+	beq	a4,a3,.L53
 	mv	a1,s0
 	lw	s0,24(sp)
 	.cfi_restore 8
@@ -388,7 +420,7 @@ look_at:
 	.string	"there is no block, or something was written before it,"
 	.section	.text.block_of,"ax",@progbits
 block_of:
-.LFB20:
+.LFB21:
 	.cfi_startproc
 	addi	sp,sp,-16
 	.cfi_def_cfa_offset 16
@@ -404,11 +436,11 @@ block_of:
 	mv	s0,a0
 	mv	s1,a1
 	addi	s2,a0,-32
-	bne	a5,zero,.L72
-	lui	a5,%hi(__heap)
-	addi	a5,a5,%lo(__heap)
-	bgeu	s2,a5,.L78
-.L72:
+	bne	a5,zero,.L65
+	lui	a5,%hi(__sfi_end)
+	addi	a5,a5,%lo(__sfi_end)
+	bgeu	s2,a5,.L71
+.L65:
 	lui	a0,%hi(.LC10)
 	mv	a3,s1
 	li	a2,0
@@ -418,18 +450,18 @@ block_of:
 	lw	a4,-24(s0)
 	li	a5,2002874368
 	addi	a5,a5,-1676
-	beq	a4,a5,.L79
-.L74:
+	beq	a4,a5,.L72
+.L67:
 	li	a5,1970495488
 	addi	a5,a5,1380
-	beq	a4,a5,.L75
+	beq	a4,a5,.L68
 	lui	a0,%hi(.LC12)
 	mv	a3,s1
 	li	a2,0
 	mv	a1,s0
 	addi	a0,a0,%lo(.LC12)
 	call	stop
-.L75:
+.L68:
 	mv	a0,s2
 	mv	a1,s1
 	call	look_at
@@ -446,21 +478,21 @@ block_of:
 	addi	sp,sp,16
 	.cfi_def_cfa_offset 0
 	jr	ra
-.L78:
+.L71:
 	.cfi_restore_state
 	lui	a4,%hi(__heap_size)
 	lw	a4,%lo(__heap_size)(a4)
 	andi	a4,a4,-16
 	add	a5,a4,a5
-	bgtu	a0,a5,.L72
+	bgtu	a0,a5,.L65
 	lui	a5,%hi(cursor)
 	lw	a5,%lo(cursor)(a5)
-	beq	a5,zero,.L72
+	beq	a5,zero,.L65
 	lw	a4,-24(s0)
 	li	a5,2002874368
 	addi	a5,a5,-1676
-	bne	a4,a5,.L74
-.L79:
+	bne	a4,a5,.L67
+.L72:
 	lui	a0,%hi(.LC11)
 	mv	a3,s1
 	mv	a2,s2
@@ -468,249 +500,250 @@ block_of:
 	addi	a0,a0,%lo(.LC11)
 	call	stop
 	lw	a4,-24(s0)
-	j	.L74
+	j	.L67
 	.cfi_endproc
-.LFE20:
+.LFE21:
 	.section	.text.give_back.part.0,"ax",@progbits
 give_back.part.0:
-.LFB39:
+.LFB40:
 	.cfi_startproc
-	addi	sp,sp,-48
-	.cfi_def_cfa_offset 48
-	sw	s0,40(sp)
-	sw	s2,32(sp)
-	sw	s3,28(sp)
-	sw	s5,20(sp)
-	sw	ra,44(sp)
-	sw	s1,36(sp)
-	sw	s4,24(sp)
-	sw	s6,16(sp)
-	sw	s7,12(sp)
-	.cfi_offset 8, -8
+	addi	sp,sp,-32
+	.cfi_def_cfa_offset 32
+	sw	s1,20(sp)
+	sw	s2,16(sp)
+	sw	s3,12(sp)
+	sw	s4,8(sp)
+	sw	ra,28(sp)
+	sw	s0,24(sp)
+	sw	s5,4(sp)
+	sw	s6,0(sp)
+	.cfi_offset 9, -12
 	.cfi_offset 18, -16
 	.cfi_offset 19, -20
-	.cfi_offset 21, -28
-	.cfi_offset 1, -4
-	.cfi_offset 9, -12
 	.cfi_offset 20, -24
+	.cfi_offset 1, -4
+	.cfi_offset 8, -8
+	.cfi_offset 21, -28
 	.cfi_offset 22, -32
-	.cfi_offset 23, -36
-	mv	s5,a0
-	mv	s2,a1
+	mv	s4,a0
+	mv	s1,a1
 	call	block_of
 	lui	a4,%hi(calls)
 	lw	a5,%lo(calls)(a4)
 	lui	a3,%hi(__heap_size)
-	lw	s3,%lo(__heap_size)(a3)
+	lw	s2,%lo(__heap_size)(a3)
 	addi	a5,a5,1
 	sw	a5,%lo(calls)(a4)
 	andi	a5,a5,255
-	mv	s0,a0
-	beq	a5,zero,.L81
-.L84:
-	lw	a2,4(s0)
-	mv	a0,s5
+	mv	s3,a0
+	beq	a5,zero,.L74
+.L77:
+	lw	a2,4(s3)
 	li	a1,221
+	mv	a0,s4
 	call	memset
-	lui	s5,%hi(oldest)
+	lui	s6,%hi(oldest)
 	li	a5,2002874368
-	lw	a4,%lo(oldest)(s5)
+	lw	a4,%lo(oldest)(s6)
 	addi	a5,a5,-1676
-	sw	a5,8(s0)
-	sw	s2,16(s0)
-	sw	zero,20(s0)
-	beq	a4,zero,.L100
+	sw	a5,8(s3)
+	sw	s1,16(s3)
+	sw	zero,20(s3)
+	beq	a4,zero,.L91
 	lui	a4,%hi(youngest)
 	lw	a5,%lo(youngest)(a4)
-	sw	s0,20(a5)
-.L87:
-	lui	s7,%hi(waiting)
-	lw	a3,%lo(waiting)(s7)
-	lw	a5,0(s0)
-	sw	s0,%lo(youngest)(a4)
-	srli	s3,s3,2
-	add	a5,a5,a3
-	sw	a5,%lo(waiting)(s7)
-	bleu	a5,s3,.L80
-	lw	s0,%lo(oldest)(s5)
-	lui	s1,%hi(__heap)
-	li	s6,1718771712
-	lui	s4,%hi(cursor)
-	addi	s1,s1,%lo(__heap)
-	addi	s6,s6,1381
-.L89:
-	mv	a0,s0
-	mv	a1,s2
-	call	look_at
-	lw	a3,0(s0)
-	lw	a5,%lo(waiting)(s7)
-	mv	a4,s0
-	lw	s0,20(s0)
-	sub	a5,a5,a3
-	sw	s1,%lo(cursor)(s4)
-	sw	s0,%lo(oldest)(s5)
-	sw	a5,%lo(waiting)(s7)
-	sw	s6,8(a4)
-	bgtu	a5,s3,.L89
+	sw	s3,20(a5)
 .L80:
-	lw	ra,44(sp)
+	lui	s5,%hi(waiting)
+	lw	a3,%lo(waiting)(s5)
+	lw	a5,0(s3)
+	sw	s3,%lo(youngest)(a4)
+	lui	s3,%hi(__sfi_end)
+	add	a5,a5,a3
+	sw	a5,%lo(waiting)(s5)
+	srli	s2,s2,2
+	lui	s4,%hi(cursor)
+	addi	s3,s3,%lo(__sfi_end)
+	j	.L81
+.L82:
+	lw	s0,%lo(oldest)(s6)
+	mv	a0,s0
+	call	look_at
+	lw	a4,20(s0)
+	lw	a5,%lo(waiting)(s5)
+	lw	a3,0(s0)
+	sw	a4,%lo(oldest)(s6)
+	li	a4,1718771712
+	sub	a5,a5,a3
+	addi	a4,a4,1381
+	sw	a5,%lo(waiting)(s5)
+	sw	a4,8(s0)
+	sw	s3,%lo(cursor)(s4)
+.L81:
+	mv	a1,s1
+	li	a4,65536
+	bltu	s2,a5,.L82
+	bgtu	a5,a4,.L82
+	lw	ra,28(sp)
 	.cfi_remember_state
 	.cfi_restore 1
-	lw	s0,40(sp)
+	lw	s0,24(sp)
 	.cfi_restore 8
-	lw	s1,36(sp)
+	lw	s1,20(sp)
 	.cfi_restore 9
-	lw	s2,32(sp)
+	lw	s2,16(sp)
 	.cfi_restore 18
-	lw	s3,28(sp)
+	lw	s3,12(sp)
 	.cfi_restore 19
-	lw	s4,24(sp)
+	lw	s4,8(sp)
 	.cfi_restore 20
-	lw	s5,20(sp)
+	lw	s5,4(sp)
 	.cfi_restore 21
-	lw	s6,16(sp)
+	lw	s6,0(sp)
 	.cfi_restore 22
-	lw	s7,12(sp)
-	.cfi_restore 23
-	addi	sp,sp,48
+	addi	sp,sp,32
 	.cfi_def_cfa_offset 0
 	jr	ra
-.L81:
+.L74:
 	.cfi_restore_state
-	lui	s4,%hi(cursor)
-	lw	a5,%lo(cursor)(s4)
-	beq	a5,zero,.L84
-	lui	s1,%hi(__heap)
-	addi	a5,s1,%lo(__heap)
-	andi	s6,s3,-16
-	add	s6,s6,a5
-	addi	s1,s1,%lo(__heap)
-	j	.L85
-.L86:
+	lui	s6,%hi(cursor)
+	lw	a5,%lo(cursor)(s6)
+	beq	a5,zero,.L77
+	lui	s0,%hi(__sfi_end)
+	addi	a5,s0,%lo(__sfi_end)
+	andi	s5,s2,-16
+	add	s5,s5,a5
+	addi	s0,s0,%lo(__sfi_end)
+	j	.L78
+.L79:
 	call	look_at
-	lw	a4,0(s1)
-	lw	a5,%lo(cursor)(s4)
-	add	s1,s1,a4
-	beq	a5,zero,.L84
-.L85:
-	mv	a0,s1
-	mv	a1,s2
-	bgtu	s6,s1,.L86
-	j	.L84
-.L100:
-	sw	s0,%lo(oldest)(s5)
+	lw	a4,0(s0)
+	lw	a5,%lo(cursor)(s6)
+	add	s0,s0,a4
+	beq	a5,zero,.L77
+.L78:
+	mv	a0,s0
+	mv	a1,s1
+	bltu	s0,s5,.L79
+	j	.L77
+.L91:
+	sw	s3,%lo(oldest)(s6)
 	lui	a4,%hi(youngest)
-	j	.L87
+	j	.L80
 	.cfi_endproc
-.LFE39:
+.LFE40:
 	.section	.text.take,"ax",@progbits
 take:
-.LFB19:
+.LFB20:
 	.cfi_startproc
-	addi	sp,sp,-96
-	.cfi_def_cfa_offset 96
-	sw	s6,64(sp)
+	addi	sp,sp,-64
+	.cfi_def_cfa_offset 64
+	sw	s6,32(sp)
 	.cfi_offset 22, -32
 	lui	s6,%hi(cursor)
 	lw	a5,%lo(cursor)(s6)
-	sw	s0,88(sp)
-	sw	s3,76(sp)
-	sw	ra,92(sp)
-	sw	s1,84(sp)
-	sw	s2,80(sp)
-	sw	s4,72(sp)
-	sw	s5,68(sp)
-	sw	s7,60(sp)
-	.cfi_offset 8, -8
+	sw	s2,48(sp)
+	sw	s3,44(sp)
+	sw	ra,60(sp)
+	sw	s0,56(sp)
+	sw	s1,52(sp)
+	sw	s4,40(sp)
+	sw	s5,36(sp)
+	sw	s7,28(sp)
+	.cfi_offset 18, -16
 	.cfi_offset 19, -20
 	.cfi_offset 1, -4
+	.cfi_offset 8, -8
 	.cfi_offset 9, -12
-	.cfi_offset 18, -16
 	.cfi_offset 20, -24
 	.cfi_offset 21, -28
 	.cfi_offset 23, -36
-	sw	a0,12(sp)
-	mv	s0,a1
+	sw	a0,8(sp)
+	mv	s2,a1
 	mv	s3,a2
-	beq	a5,zero,.L138
+	beq	a5,zero,.L128
 	lui	a3,%hi(calls)
 	lw	a4,%lo(calls)(a3)
 	addi	a4,a4,1
 	sw	a4,%lo(calls)(a3)
 	andi	a4,a4,255
-	beq	a4,zero,.L126
-	lui	s2,%hi(__heap_size)
-.L105:
-	lw	a4,%lo(__heap_size)(s2)
-	lw	a3,12(sp)
-	bleu	a4,a3,.L106
-	addi	s2,a3,31
-	andi	s2,s2,-16
-	addi	s2,s2,32
-	lui	s1,%hi(__heap)
+	beq	a4,zero,.L116
+	lui	s1,%hi(__heap_size)
+.L96:
+	lw	a4,%lo(__heap_size)(s1)
+	lw	a3,8(sp)
+	sw	a4,12(sp)
+	bleu	a4,a3,.L97
+	addi	s1,a3,31
+	li	s7,1718771712
+	andi	s1,s1,-16
+	addi	a4,s7,1381
+	addi	s1,s1,32
+	lui	s0,%hi(__sfi_end)
 	lui	s4,%hi(oldest)
 	lui	s5,%hi(waiting)
-	j	.L110
-.L139:
-	mv	a2,s0
-	mv	a1,s2
-	addi	a0,s1,%lo(__heap)
+	sw	a4,4(sp)
+	j	.L101
+.L129:
 	call	found_from
-	bne	a0,zero,.L109
-	lw	s7,%lo(oldest)(s4)
-	beq	s7,zero,.L106
 	mv	a1,s3
+	mv	a5,a0
+	bne	a0,zero,.L100
+	lw	s7,%lo(oldest)(s4)
 	mv	a0,s7
+	beq	s7,zero,.L97
 	call	look_at
-	lw	a5,%lo(waiting)(s5)
-	lw	a4,0(s7)
+	lw	a4,%lo(waiting)(s5)
+	lw	a1,0(s7)
+	lw	a5,4(sp)
 	lw	a2,20(s7)
-	li	a3,1718771712
-	sub	a5,a5,a4
-	addi	a3,a3,1381
-	addi	a4,s1,%lo(__heap)
-	sw	a5,%lo(waiting)(s5)
+	addi	a3,s0,%lo(__sfi_end)
+	sub	a4,a4,a1
+	sw	a5,8(s7)
 	sw	a2,%lo(oldest)(s4)
-	sw	a3,8(s7)
-	sw	a4,%lo(cursor)(s6)
-	addi	a5,s1,%lo(__heap)
-.L110:
-	mv	a2,s0
-	mv	a1,s2
+	sw	a4,%lo(waiting)(s5)
+	sw	a3,%lo(cursor)(s6)
+	addi	a5,s0,%lo(__sfi_end)
+.L101:
+	mv	a2,s2
+	mv	a1,s1
 	mv	a0,a5
 	call	found_from
-	beq	a0,zero,.L139
+	mv	a5,a0
+	mv	a2,s2
+	mv	a1,s1
+	addi	a0,s0,%lo(__sfi_end)
+	beq	a5,zero,.L129
+.L100:
+	mv	a2,s2
+	mv	a0,a5
+	mv	a1,s1
+	sw	a5,4(sp)
+	call	place_in
+	lw	a5,4(sp)
+	mv	s2,a0
+	beq	a5,a0,.L109
+	lw	a4,0(a5)
+	sub	a3,s2,a5
+	sw	zero,4(s2)
+	sub	a4,a4,a3
+	sw	a4,0(s2)
+	li	a4,1718771712
+	addi	a4,a4,1381
+	sw	zero,12(s2)
+	sw	zero,16(s2)
+	sw	zero,20(s2)
+	sw	zero,24(s2)
+	sw	zero,28(s2)
+	sw	a4,8(s2)
+	sw	a3,0(a5)
 .L109:
-	add	a5,a0,s0
-	addi	a5,a5,31
-	neg	a4,s0
-	and	a5,a5,a4
-	addi	s1,a5,-32
-	beq	a0,s1,.L113
-	sub	a4,s1,a0
+	lw	a5,0(s2)
 	li	a3,31
-	bgtu	a4,a3,.L113
-	addi	s1,s0,-32
-	add	s1,s1,a5
-	beq	a0,s1,.L113
-.L140:
-	sub	a5,s1,a0
-	add	a4,s0,s1
-	bgtu	a5,a3,.L113
-	mv	s1,a4
-	bne	a0,s1,.L140
-.L113:
-	lw	a4,0(a0)
+	sub	a4,a5,s1
+	add	a5,s2,a5
+	bleu	a4,a3,.L105
 	add	a5,s2,s1
-	add	a3,a0,a4
-	bgtu	a5,a3,.L115
-	bleu	a5,s1,.L115
-	bne	a0,s1,.L141
-.L116:
-	lw	a4,0(s1)
-	li	a3,31
-	sub	a4,a4,s2
-	bleu	a4,a3,.L117
 	sw	a4,0(a5)
 	li	a4,1718771712
 	addi	a4,a4,1381
@@ -721,119 +754,116 @@ take:
 	sw	zero,24(a5)
 	sw	zero,28(a5)
 	sw	a4,8(a5)
-	sw	s2,0(s1)
-.L117:
-	lw	s2,12(sp)
+	sw	s1,0(s2)
+.L105:
+	lw	a4,12(sp)
+	addi	s0,s0,%lo(__sfi_end)
+	andi	a4,a4,-16
+	add	a4,a4,s0
+	bgeu	a5,a4,.L106
+	addi	a5,a5,32
+.L106:
+	lui	a4,%hi(__heap_end)
+	lw	a3,%lo(__heap_end)(a4)
+	bgeu	a3,a5,.L107
+	sw	a5,%lo(__heap_end)(a4)
+.L107:
+	lw	s1,8(sp)
 	li	a5,1970495488
 	addi	a5,a5,1380
-	sw	a5,8(s1)
+	sw	a5,8(s2)
 	li	a2,8
 	li	a1,251
-	sw	s2,4(s1)
-	sw	s3,12(s1)
-	addi	a0,s1,24
+	sw	s1,4(s2)
+	sw	s3,12(s2)
+	addi	a0,s2,24
 	call	memset
-	addi	s0,s1,32
-	mv	a2,s2
+	addi	s0,s2,32
+	mv	a2,s1
 	li	a1,205
 	mv	a0,s0
 	call	memset
-	lw	a2,0(s1)
-	addi	a0,s2,32
+	lw	a2,0(s2)
+	addi	a0,s1,32
 	li	a1,251
 	addi	a2,a2,-32
-	sub	a2,a2,s2
-	add	a0,s1,a0
+	sub	a2,a2,s1
+	add	a0,s2,a0
 	call	memset
-	sw	s1,%lo(cursor)(s6)
-	j	.L101
-.L126:
-	lui	s1,%hi(__heap)
-	lui	s2,%hi(__heap_size)
-	addi	s4,s1,%lo(__heap)
-.L104:
-	lw	a5,%lo(__heap_size)(s2)
-	addi	s1,s1,%lo(__heap)
-	andi	a5,a5,-16
-	add	s4,s4,a5
-.L107:
-	bleu	s4,s1,.L142
-	mv	a0,s1
-	mv	a1,s3
-	call	look_at
-	lw	a4,0(s1)
-	lw	a5,%lo(cursor)(s6)
-	add	s1,s1,a4
-	bne	a5,zero,.L107
-.L106:
-	lui	a5,%hi(__errno)
-	addi	a5,a5,%lo(__errno)
-	beq	a5,zero,.L111
-	call	__errno
-	li	a5,12
-	sw	a5,0(a0)
-.L111:
-	li	s0,0
-.L101:
-	lw	ra,92(sp)
+	sw	s2,%lo(cursor)(s6)
+.L92:
+	lw	ra,60(sp)
 	.cfi_remember_state
 	.cfi_restore 1
 	mv	a0,s0
-	lw	s0,88(sp)
+	lw	s0,56(sp)
 	.cfi_restore 8
-	lw	s1,84(sp)
+	lw	s1,52(sp)
 	.cfi_restore 9
-	lw	s2,80(sp)
+	lw	s2,48(sp)
 	.cfi_restore 18
-	lw	s3,76(sp)
+	lw	s3,44(sp)
 	.cfi_restore 19
-	lw	s4,72(sp)
+	lw	s4,40(sp)
 	.cfi_restore 20
-	lw	s5,68(sp)
+	lw	s5,36(sp)
 	.cfi_restore 21
-	lw	s6,64(sp)
+	lw	s6,32(sp)
 	.cfi_restore 22
-	lw	s7,60(sp)
+	lw	s7,28(sp)
 	.cfi_restore 23
-	addi	sp,sp,96
+	addi	sp,sp,64
 	.cfi_def_cfa_offset 0
 	jr	ra
-.L138:
+.L116:
 	.cfi_restore_state
-	lui	s2,%hi(__heap_size)
-	lw	s5,%lo(__heap_size)(s2)
+	lui	s0,%hi(__sfi_end)
+	lui	s1,%hi(__heap_size)
+	addi	s4,s0,%lo(__sfi_end)
+.L95:
+	lw	a5,%lo(__heap_size)(s1)
+	addi	s0,s0,%lo(__sfi_end)
+	andi	a5,a5,-16
+	add	s4,s4,a5
+	j	.L98
+.L99:
+	call	look_at
+	lw	a4,0(s0)
+	lw	a5,%lo(cursor)(s6)
+	add	s0,s0,a4
+	beq	a5,zero,.L97
+.L98:
+	mv	a0,s0
+	mv	a1,s3
+	bltu	s0,s4,.L99
+	lw	a5,%lo(cursor)(s6)
+	bne	a5,zero,.L96
+.L97:
+	lui	a5,%hi(__errno)
+	addi	a5,a5,%lo(__errno)
+	beq	a5,zero,.L102
+	call	__errno
+	li	a5,12
+	sw	a5,0(a0)
+.L102:
+	li	s0,0
+	j	.L92
+.L128:
+	lui	s1,%hi(__heap_size)
+	lw	s5,%lo(__heap_size)(s1)
 	li	a5,63
-	bgtu	s5,a5,.L143
+	bgtu	s5,a5,.L130
 	lui	a4,%hi(calls)
 	lw	a5,%lo(calls)(a4)
 	addi	a5,a5,1
 	sw	a5,%lo(calls)(a4)
-	j	.L106
-.L142:
-	lw	a5,%lo(cursor)(s6)
-	beq	a5,zero,.L106
-	j	.L105
-.L141:
-	sub	a3,s1,a0
-	sub	a4,a4,a3
-	sw	a4,0(s1)
-	li	a4,1718771712
-	addi	a4,a4,1381
-	sw	zero,4(s1)
-	sw	zero,12(s1)
-	sw	zero,16(s1)
-	sw	zero,20(s1)
-	sw	zero,24(s1)
-	sw	zero,28(s1)
-	sw	a4,8(s1)
-	sw	a3,0(a0)
-	j	.L116
-.L143:
-	lui	s1,%hi(__heap)
-	addi	s4,s1,%lo(__heap)
+	j	.L97
+.L130:
+	lui	s0,%hi(__sfi_end)
+	addi	s4,s0,%lo(__sfi_end)
 	li	a2,32
 	li	a1,0
-	addi	a0,s1,%lo(__heap)
+	addi	a0,s0,%lo(__sfi_end)
 	sw	s4,%lo(cursor)(s6)
 	call	memset
 	lui	a4,%hi(calls)
@@ -856,30 +886,15 @@ take:
 	sb	a3,11(s4)
 	sw	a5,%lo(calls)(a4)
 	andi	a5,a5,255
-	beq	a5,zero,.L104
-	addi	a5,s1,%lo(__heap)
-	j	.L105
-.L115:
-	li	s0,0
-	li	a2,32
-	li	a1,0
-	addi	a0,sp,16
-	call	memset
-	sw	zero,0(s0)
-	sw	zero,4(s0)
-	sw	zero,8(s0)
-	sw	zero,12(s0)
-	sw	zero,16(s0)
-	sw	zero,20(s0)
-	sw	zero,24(s0)
-	sw	zero,28(s0)
-	ebreak
+	beq	a5,zero,.L95
+	addi	a5,s0,%lo(__sfi_end)
+	j	.L96
 	.cfi_endproc
-.LFE19:
+.LFE20:
 	.section	.text.malloc,"ax",@progbits
 	.weak	malloc
 malloc:
-.LFB25:
+.LFB26:
 	.cfi_startproc
 	addi	sp,sp,-16
 	.cfi_def_cfa_offset 16
@@ -893,11 +908,11 @@ malloc:
 	.cfi_def_cfa_offset 0
 	tail	take
 	.cfi_endproc
-.LFE25:
+.LFE26:
 	.section	.text.calloc,"ax",@progbits
 	.weak	calloc
 calloc:
-.LFB26:
+.LFB27:
 	.cfi_startproc
 	addi	sp,sp,-16
 	.cfi_def_cfa_offset 16
@@ -906,15 +921,15 @@ calloc:
 	.cfi_offset 1, -4
 	.cfi_offset 8, -8
 	mv	a2,ra
-	beq	a1,zero,.L147
+	beq	a1,zero,.L134
 	mulhu	a5,a0,a1
-	bne	a5,zero,.L163
-.L147:
+	bne	a5,zero,.L150
+.L134:
 	mul	s0,a0,a1
 	li	a1,16
 	mv	a0,s0
 	call	take
-	beq	a0,zero,.L151
+	beq	a0,zero,.L138
 	mv	a2,s0
 	lw	s0,8(sp)
 	.cfi_remember_state
@@ -925,15 +940,15 @@ calloc:
 	addi	sp,sp,16
 	.cfi_def_cfa_offset 0
 	tail	memset
-.L163:
+.L150:
 	.cfi_restore_state
 	lui	a5,%hi(__errno)
 	addi	a5,a5,%lo(__errno)
-	beq	a5,zero,.L151
+	beq	a5,zero,.L138
 	call	__errno
 	li	a5,12
 	sw	a5,0(a0)
-.L151:
+.L138:
 	lw	ra,12(sp)
 	.cfi_restore 1
 	lw	s0,8(sp)
@@ -943,11 +958,11 @@ calloc:
 	.cfi_def_cfa_offset 0
 	jr	ra
 	.cfi_endproc
-.LFE26:
+.LFE27:
 	.section	.text.realloc,"ax",@progbits
 	.weak	realloc
 realloc:
-.LFB27:
+.LFB28:
 	.cfi_startproc
 	addi	sp,sp,-32
 	.cfi_def_cfa_offset 32
@@ -965,18 +980,18 @@ realloc:
 	.cfi_offset 20, -24
 	mv	s0,ra
 	mv	s1,a1
-	beq	a0,zero,.L175
+	beq	a0,zero,.L162
 	mv	a1,ra
 	mv	s2,a0
 	call	block_of
 	mv	a5,a0
 	li	s3,0
-	bne	s1,zero,.L176
-.L166:
+	bne	s1,zero,.L163
+.L153:
 	mv	a1,s0
 	mv	a0,s2
 	call	give_back.part.0
-.L164:
+.L151:
 	lw	ra,28(sp)
 	.cfi_remember_state
 	.cfi_restore 1
@@ -994,7 +1009,7 @@ realloc:
 	addi	sp,sp,32
 	.cfi_def_cfa_offset 0
 	jr	ra
-.L176:
+.L163:
 	.cfi_restore_state
 	mv	a2,s0
 	li	a1,16
@@ -1002,16 +1017,16 @@ realloc:
 	lw	s4,4(a5)
 	call	take
 	mv	s3,a0
-	beq	a0,zero,.L164
+	beq	a0,zero,.L151
 	mv	a2,s1
-	bleu	s1,s4,.L168
+	bleu	s1,s4,.L155
 	mv	a2,s4
-.L168:
+.L155:
 	mv	a1,s2
 	mv	a0,s3
 	call	memcpy
-	j	.L166
-.L175:
+	j	.L153
+.L162:
 	lw	s0,24(sp)
 	.cfi_restore 8
 	lw	s2,16(sp)
@@ -1031,17 +1046,17 @@ realloc:
 	.cfi_def_cfa_offset 0
 	tail	take
 	.cfi_endproc
-.LFE27:
+.LFE28:
 	.section	.text.free,"ax",@progbits
 	.weak	free
 free:
-.LFB28:
+.LFB29:
 	.cfi_startproc
 	addi	sp,sp,-16
 	.cfi_def_cfa_offset 16
 	sw	ra,12(sp)
 	.cfi_offset 1, -4
-	beq	a0,zero,.L177
+	beq	a0,zero,.L164
 	mv	a1,ra
 	lw	ra,12(sp)
 	.cfi_remember_state
@@ -1049,7 +1064,7 @@ free:
 	addi	sp,sp,16
 	.cfi_def_cfa_offset 0
 	tail	give_back.part.0
-.L177:
+.L164:
 	.cfi_restore_state
 	lw	ra,12(sp)
 	.cfi_restore 1
@@ -1057,11 +1072,11 @@ free:
 	.cfi_def_cfa_offset 0
 	jr	ra
 	.cfi_endproc
-.LFE28:
+.LFE29:
 	.section	.text.memalign,"ax",@progbits
 	.weak	memalign
 memalign:
-.LFB29:
+.LFB30:
 	.cfi_startproc
 	addi	sp,sp,-16
 	.cfi_def_cfa_offset 16
@@ -1071,9 +1086,9 @@ memalign:
 	li	a4,16
 	mv	a2,ra
 	mv	a0,a1
-	bgeu	a5,a4,.L181
+	bgeu	a5,a4,.L168
 	li	a5,16
-.L181:
+.L168:
 	lw	ra,12(sp)
 	.cfi_restore 1
 	mv	a1,a5
@@ -1081,11 +1096,11 @@ memalign:
 	.cfi_def_cfa_offset 0
 	tail	take
 	.cfi_endproc
-.LFE29:
+.LFE30:
 	.section	.text.aligned_alloc,"ax",@progbits
 	.weak	aligned_alloc
 aligned_alloc:
-.LFB42:
+.LFB43:
 	.cfi_startproc
 	addi	sp,sp,-16
 	.cfi_def_cfa_offset 16
@@ -1095,9 +1110,9 @@ aligned_alloc:
 	li	a4,16
 	mv	a2,ra
 	mv	a0,a1
-	bgeu	a5,a4,.L184
+	bgeu	a5,a4,.L171
 	li	a5,16
-.L184:
+.L171:
 	lw	ra,12(sp)
 	.cfi_restore 1
 	mv	a1,a5
@@ -1105,13 +1120,13 @@ aligned_alloc:
 	.cfi_def_cfa_offset 0
 	tail	take
 	.cfi_endproc
-.LFE42:
+.LFE43:
 	.section	.text.malloc_usable_size,"ax",@progbits
 	.weak	malloc_usable_size
 malloc_usable_size:
-.LFB31:
+.LFB32:
 	.cfi_startproc
-	beq	a0,zero,.L188
+	beq	a0,zero,.L175
 	addi	sp,sp,-16
 	.cfi_def_cfa_offset 16
 	mv	a1,ra
@@ -1124,15 +1139,15 @@ malloc_usable_size:
 	addi	sp,sp,16
 	.cfi_def_cfa_offset 0
 	jr	ra
-.L188:
+.L175:
 	li	a0,0
 	ret
 	.cfi_endproc
-.LFE31:
+.LFE32:
 	.section	.text._malloc_r,"ax",@progbits
 	.weak	_malloc_r
 _malloc_r:
-.LFB32:
+.LFB33:
 	.cfi_startproc
 	addi	sp,sp,-16
 	.cfi_def_cfa_offset 16
@@ -1147,11 +1162,11 @@ _malloc_r:
 	.cfi_def_cfa_offset 0
 	tail	take
 	.cfi_endproc
-.LFE32:
+.LFE33:
 	.section	.text._calloc_r,"ax",@progbits
 	.weak	_calloc_r
 _calloc_r:
-.LFB33:
+.LFB34:
 	.cfi_startproc
 	addi	sp,sp,-16
 	.cfi_def_cfa_offset 16
@@ -1161,15 +1176,15 @@ _calloc_r:
 	.cfi_offset 1, -4
 	.cfi_offset 8, -8
 	mv	a2,ra
-	beq	a5,zero,.L196
+	beq	a5,zero,.L183
 	mulhu	a4,a1,a5
-	bne	a4,zero,.L212
-.L196:
+	bne	a4,zero,.L199
+.L183:
 	mul	s0,a1,a5
 	li	a1,16
 	mv	a0,s0
 	call	take
-	beq	a0,zero,.L200
+	beq	a0,zero,.L187
 	mv	a2,s0
 	lw	s0,8(sp)
 	.cfi_remember_state
@@ -1180,15 +1195,15 @@ _calloc_r:
 	addi	sp,sp,16
 	.cfi_def_cfa_offset 0
 	tail	memset
-.L212:
+.L199:
 	.cfi_restore_state
 	lui	a5,%hi(__errno)
 	addi	a5,a5,%lo(__errno)
-	beq	a5,zero,.L200
+	beq	a5,zero,.L187
 	call	__errno
 	li	a5,12
 	sw	a5,0(a0)
-.L200:
+.L187:
 	lw	ra,12(sp)
 	.cfi_restore 1
 	lw	s0,8(sp)
@@ -1198,11 +1213,11 @@ _calloc_r:
 	.cfi_def_cfa_offset 0
 	jr	ra
 	.cfi_endproc
-.LFE33:
+.LFE34:
 	.section	.text._realloc_r,"ax",@progbits
 	.weak	_realloc_r
 _realloc_r:
-.LFB34:
+.LFB35:
 	.cfi_startproc
 	addi	sp,sp,-32
 	.cfi_def_cfa_offset 32
@@ -1220,19 +1235,19 @@ _realloc_r:
 	.cfi_offset 20, -24
 	mv	s1,ra
 	mv	s2,a2
-	beq	a1,zero,.L224
+	beq	a1,zero,.L211
 	mv	s0,a1
 	mv	a0,s0
 	mv	a1,ra
 	call	block_of
 	mv	a5,a0
 	li	s3,0
-	bne	s2,zero,.L225
-.L215:
+	bne	s2,zero,.L212
+.L202:
 	mv	a1,s1
 	mv	a0,s0
 	call	give_back.part.0
-.L213:
+.L200:
 	lw	ra,28(sp)
 	.cfi_remember_state
 	.cfi_restore 1
@@ -1250,7 +1265,7 @@ _realloc_r:
 	addi	sp,sp,32
 	.cfi_def_cfa_offset 0
 	jr	ra
-.L225:
+.L212:
 	.cfi_restore_state
 	mv	a2,s1
 	li	a1,16
@@ -1258,16 +1273,16 @@ _realloc_r:
 	lw	s4,4(a5)
 	call	take
 	mv	s3,a0
-	beq	a0,zero,.L213
+	beq	a0,zero,.L200
 	mv	a2,s2
-	bleu	s2,s4,.L217
+	bleu	s2,s4,.L204
 	mv	a2,s4
-.L217:
+.L204:
 	mv	a1,s0
 	mv	a0,s3
 	call	memcpy
-	j	.L215
-.L224:
+	j	.L202
+.L211:
 	lw	s0,24(sp)
 	.cfi_restore 8
 	lw	s1,20(sp)
@@ -1287,18 +1302,18 @@ _realloc_r:
 	.cfi_def_cfa_offset 0
 	tail	take
 	.cfi_endproc
-.LFE34:
+.LFE35:
 	.section	.text._free_r,"ax",@progbits
 	.weak	_free_r
 _free_r:
-.LFB35:
+.LFB36:
 	.cfi_startproc
 	addi	sp,sp,-16
 	.cfi_def_cfa_offset 16
 	sw	ra,12(sp)
 	.cfi_offset 1, -4
 	mv	a0,a1
-	beq	a1,zero,.L226
+	beq	a1,zero,.L213
 	mv	a1,ra
 	lw	ra,12(sp)
 	.cfi_remember_state
@@ -1306,7 +1321,7 @@ _free_r:
 	addi	sp,sp,16
 	.cfi_def_cfa_offset 0
 	tail	give_back.part.0
-.L226:
+.L213:
 	.cfi_restore_state
 	lw	ra,12(sp)
 	.cfi_restore 1
@@ -1314,11 +1329,11 @@ _free_r:
 	.cfi_def_cfa_offset 0
 	jr	ra
 	.cfi_endproc
-.LFE35:
+.LFE36:
 	.section	.text._memalign_r,"ax",@progbits
 	.weak	_memalign_r
 _memalign_r:
-.LFB36:
+.LFB37:
 	.cfi_startproc
 	addi	sp,sp,-16
 	.cfi_def_cfa_offset 16
@@ -1327,23 +1342,23 @@ _memalign_r:
 	li	a5,16
 	mv	a0,a2
 	mv	a2,ra
-	bgeu	a1,a5,.L230
+	bgeu	a1,a5,.L217
 	li	a1,16
-.L230:
+.L217:
 	lw	ra,12(sp)
 	.cfi_restore 1
 	addi	sp,sp,16
 	.cfi_def_cfa_offset 0
 	tail	take
 	.cfi_endproc
-.LFE36:
+.LFE37:
 	.section	.text._malloc_usable_size_r,"ax",@progbits
 	.weak	_malloc_usable_size_r
 _malloc_usable_size_r:
-.LFB37:
+.LFB38:
 	.cfi_startproc
 	mv	a5,a1
-	beq	a1,zero,.L236
+	beq	a1,zero,.L223
 	addi	sp,sp,-16
 	.cfi_def_cfa_offset 16
 	mv	a1,ra
@@ -1357,15 +1372,15 @@ _malloc_usable_size_r:
 	addi	sp,sp,16
 	.cfi_def_cfa_offset 0
 	jr	ra
-.L236:
+.L223:
 	li	a0,0
 	ret
 	.cfi_endproc
-.LFE37:
+.LFE38:
 	.section	.text.__wrap_exit_with,"ax",@progbits
 	.globl	__wrap_exit_with
 __wrap_exit_with:
-.LFB38:
+.LFB39:
 	.cfi_startproc
 	addi	sp,sp,-32
 	.cfi_def_cfa_offset 32
@@ -1384,29 +1399,29 @@ __wrap_exit_with:
 	.cfi_offset 9, -12
 	.cfi_offset 18, -16
 	mv	s3,a0
-	beq	a5,zero,.L244
+	beq	a5,zero,.L231
 	lui	a4,%hi(__heap_size)
 	lw	s1,%lo(__heap_size)(a4)
-	lui	s0,%hi(__heap)
-	addi	a5,s0,%lo(__heap)
+	lui	s0,%hi(__sfi_end)
+	addi	a5,s0,%lo(__sfi_end)
 	andi	s1,s1,-16
 	mv	s2,ra
 	add	s1,s1,a5
-	addi	s0,s0,%lo(__heap)
-.L243:
-	bgeu	s0,s1,.L244
+	addi	s0,s0,%lo(__sfi_end)
+.L230:
+	bgeu	s0,s1,.L231
 	mv	a0,s0
 	mv	a1,s2
 	call	look_at
 	lw	a4,0(s0)
 	lw	a5,%lo(cursor)(s4)
 	add	s0,s0,a4
-	bne	a5,zero,.L243
-.L244:
+	bne	a5,zero,.L230
+.L231:
 	mv	a0,s3
 	call	__real_exit_with
 	.cfi_endproc
-.LFE38:
+.LFE39:
 	.section	.sbss.calls,"aw",@nobits
 	.align	2
 calls:

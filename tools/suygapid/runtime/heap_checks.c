@@ -2,12 +2,12 @@
    that is no block. It says so on the console, with the addresses of the calls, and traps.
 
    The heap is a row of blocks, each a head, the bytes that are handed out, and a zone behind them. What is handed out, what is
-   freed and the zones are filled with bytes of their own. A block that is freed waits until the heap is a quarter full of
-   such ones, and nothing may write into it meanwhile. */
+   freed and the zones are filled with bytes of their own. A block that is freed waits until such ones have a quarter of the heap
+   or MOST_WAITING bytes, and nothing may write into it meanwhile. */
 typedef unsigned size;
 typedef unsigned char byte;
 
-enum { ALIGNMENT = 16, ZONE = 16, OFTEN = 256, NO_MEMORY = 12 };
+enum { ALIGNMENT = 16, ZONE = 16, OFTEN = 256, MOST_WAITING = 65536, NO_MEMORY = 12 };
 enum { FRESH = 0xcd, GONE = 0xdd, BESIDE = 0xfb }; /* an address of four of these lies outside the data */
 enum state { FREE = 0x66726565, USED = 0x75736564, WAITING = 0x77616974 };
 
@@ -20,8 +20,8 @@ struct block {
     byte zone[8];
 };
 
-extern byte __heap[]; /* of the library, or of `sfi-cc --heap` */
-extern const unsigned __heap_size;
+extern byte __sfi_end[], *__heap_end; /* where the heap begins, and the end of what it ever gave out; heap.c says more */
+extern const size __heap_size;
 int *__errno(void) __attribute__((weak)); /* newlib's */
 long put(const void *bytes, size length);
 _Noreturn void __real_exit_with(int code);
@@ -34,11 +34,11 @@ static struct block *oldest, *youngest; /* of those that wait */
 static size waiting, calls;
 
 static struct block *first(void) {
-    return (struct block *)__heap;
+    return (struct block *)__sfi_end;
 }
 
 static byte *end(void) {
-    return __heap + (__heap_size & -ALIGNMENT);
+    return __sfi_end + (__heap_size & -ALIGNMENT);
 }
 
 static struct block *after(const struct block *block) {
@@ -111,16 +111,18 @@ static void look_at_times(const void *found) {
 
 static void begin(void) {
     cursor = first();
-    *cursor = (struct block){.room = end() - __heap, .state = FREE};
+    *cursor = (struct block){.room = end() - __sfi_end, .state = FREE};
 }
 
 /* Where a block of some room, whose bytes are aligned, may lie in a free one: at its beginning, or with room for a block before
-   it. NULL where there is none. */
+   it. NULL where there is none, or a deep stack lies there. */
 static struct block *place_in(struct block *block, size room, size alignment) {
-    size at = (((size)bytes_of(block) + alignment - 1) & -alignment) - sizeof *block;
+    size stack, at = (((size)bytes_of(block) + alignment - 1) & -alignment) - sizeof *block;
+    __asm__("mv %0, sp" : "=r"(stack));
     while (at != (size)block && at - (size)block < sizeof *block)
         at += alignment;
-    return at + room <= (size)after(block) && at + room > at ? (struct block *)at : 0;
+    int has_room = at + room <= (size)after(block) && at + room > at && at + room + sizeof *block <= stack;
+    return has_room ? (struct block *)at : 0;
 }
 
 static void join_free(struct block *block) {
@@ -138,6 +140,15 @@ static struct block *found_from(struct block *block, size room, size alignment) 
             return block;
     }
     return 0;
+}
+
+/* What was ever given out ends behind a block, and behind the head of the next one. */
+static void move_end(struct block *block) {
+    byte *last = (byte *)after(block);
+    if (last < end())
+        last += sizeof *block;
+    if (last > __heap_end)
+        __heap_end = last;
 }
 
 /* Parts a free block in two. */
@@ -186,6 +197,7 @@ static void *take(size count, size alignment, const void *by) {
         block = part(block, (byte *)place - (byte *)block);
     if (block->room - room >= sizeof *block)
         part(block, room);
+    move_end(block);
     block->count = count, block->state = USED, block->taken = by;
     memset(block->zone, BESIDE, sizeof block->zone);
     memset(bytes_of(block), FRESH, count);
@@ -197,7 +209,7 @@ static void *take(size count, size alignment, const void *by) {
 /* The block of some bytes that are to be freed, or stops. */
 static struct block *block_of(void *bytes, const void *by) {
     struct block *block = (struct block *)bytes - 1;
-    if ((size)bytes % ALIGNMENT || (byte *)block < __heap || (byte *)bytes > end() || !cursor)
+    if ((size)bytes % ALIGNMENT || (byte *)block < __sfi_end || (byte *)bytes > end() || !cursor)
         stop("there is no block", bytes, 0, by);
     if (block->state == WAITING)
         stop("freed again is the block", bytes, block, by);
@@ -220,7 +232,7 @@ static void give_back(void *bytes, const void *by) {
         oldest = block;
     youngest = block;
     waiting += block->room;
-    while (waiting > __heap_size / 4)
+    while (waiting > __heap_size / 4 || waiting > MOST_WAITING)
         set_free(by);
 }
 

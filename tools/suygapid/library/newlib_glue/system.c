@@ -13,10 +13,7 @@ extern int errno;
 void *__dso_handle; /* what C++ hands to __cxa_atexit beside a destructor: the program, of which there is one */
 extern int _write(int stream, const void *bytes, size_t count);
 
-/* The heap of malloc. A program may have its own of these two. */
-extern char __heap[];
-extern const unsigned __heap_size;
-static unsigned used;
+void *__heap_more(int more); /* of the runtime */
 
 void _exit(int code) {
     for (;;)
@@ -24,13 +21,11 @@ void _exit(int code) {
 }
 
 void *_sbrk(ptrdiff_t more) {
-    if (more > 0 ? (unsigned)more > __heap_size - used : used < -(unsigned)more) {
-        errno = ENOMEM;
-        return (void *)-1;
-    }
-    char *before = __heap + used;
-    used += more;
-    return before;
+    void *before = __heap_more(more);
+    if (before)
+        return before;
+    errno = ENOMEM;
+    return (void *)-1;
 }
 
 static void tell(const char *text) {

@@ -1,0 +1,175 @@
+"""Tests of the memory that objects, heap and stack of a program share: `tools/unit_tests.py tools test_memory.py`. They are skipped
+where a compiler or the program isn't there."""
+import os
+import re
+import subprocess
+
+from testing import COMPILERS, GCC, NEWLIB, SFI, SFI_CC, SFI_IMAGE, TOOLS, Folder, formats_due, needs, needs_program
+
+STACK = 8192  # bytes of its room, unless an option says others
+TAKES = "#include <stdlib.h>\nint main(void) { return malloc(20) == NULL; }\n"
+# Takes links of 1000 bytes until there is no memory, gives them back, and answers how many; or the line where something is wrong.
+ALL = r"""#include <stdlib.h>
+#include <string.h>
+struct link { struct link *before; unsigned char bytes[996]; };
+int main(void) {
+    struct link *last = NULL, *next;
+    unsigned char count = 0;
+    int all = 0;
+    for (; (next = malloc(sizeof *next)); last = next, all++) {
+        memset(next, count++, sizeof *next);
+        next->before = last;
+    }
+    for (; last; last = next) {
+        for (int at = (count--, 0); at < 996; at++)
+            if (last->bytes[at] != count) exit(__LINE__);
+        next = last->before;
+        free(last);
+    }
+    return AGAIN && !malloc(500 * all) ? __LINE__ : 1000 + all;
+}
+"""
+# Memory that is taken below a stack of some 40000 bytes, which is more than its room, and after that.
+DEEP = r"""#include <stdlib.h>
+#include <string.h>
+static void *volatile taken;
+static int deep(int depth);
+static int (*volatile next)(int) = deep;
+static int deep(int depth) {
+    volatile unsigned char own[1000];
+    memset((void *)own, depth, sizeof own);
+    if (depth == 0)
+        taken = malloc(50000);
+    int sum = depth ? next(depth - 1) : 0;
+    for (int at = 0; at < 1000; at++)
+        sum += own[at] == depth;
+    return sum;
+}
+int main(void) {
+    unsigned char *big = malloc(60000);
+    memset(big, 170, 60000);
+    if (deep(39) != 40000 || taken) return 1;
+    for (int at = 0; at < 60000; at++)
+        if (big[at] != 170) return 2;
+    unsigned char *other = calloc(50, 1000);
+    if (!other) return 3;
+    for (int at = 0; at < 50000; at++)
+        if (other[at]) return 4;
+    return 42;
+}
+"""
+
+
+class Programs(Folder):
+    def call(self, text, *words):
+        """The status of sfi-cc, and what it says."""
+        source = self.write("memory.c", text)
+        done = subprocess.run([SFI_CC, "--program", SFI, "-w", "-o", self.path("memory.elf"), *words, source], capture_output=True, text=True, check=False)
+        return done.returncode, done.stderr
+
+    def built(self, text, *words):
+        status, told = self.call(text, *words)
+        self.assertEqual(status, 0, told)
+        return self.path("memory.elf")
+
+    def ran(self, text, *words):
+        """The exit code of a program, which `sfi exec` cuts off and `sfi run` doesn't."""
+        program = subprocess.run([SFI_IMAGE, self.built(text, *words)], stdout=subprocess.PIPE, check=True).stdout
+        done = subprocess.run([SFI, "run", "--rounds", "1000", "--quantum", "1000000"], input=program, stdout=subprocess.PIPE, check=True)
+        return int(re.search(rb"exit=(\d+)", done.stdout)[1])
+
+
+@needs(GCC)
+class Sizes(Programs):
+    """What is told of them, and what an image says, without the program."""
+
+    def size(self, *words, of_image=()):
+        image = subprocess.run([SFI_IMAGE, "--raw", *of_image, self.built(TAKES, *words)], stdout=subprocess.PIPE, check=True).stdout
+        return int.from_bytes(image[20:24], "little")
+
+    def test_sizes(self):
+        """The linked file keeps what sfi-cc was told."""
+        for words, of_image, size in (((), (), 65536), (("--stack", "64K"), (), 131072), (("--heap", "100000"), (), 131072),
+                                      (("--memory", "256K"), (), 262144), (("--data", "32768"), (), 32768), (("--memory", "1M"), ("--memory", "64K"), 65536),
+                                      (("--memory", "16K", "--heap", "3K", "--stack", "3K"), (), 16384), ((), ("--stack", "128K"), 262144)):
+            with self.subTest(words):
+                self.assertEqual(self.size("--program", self.write("accepts", "#!/bin/sh\ncat >/dev/null\n", 0o755), *words, of_image=of_image), size)
+
+    def test_what_has_no_room(self):
+        """The objects and the stack come first, so that the rest of what is missing is the heap's."""
+        told = r"sfi-cc: memory.elf: (\d+) bytes of objects, 8192 of stack and (\d+) of heap don't fit in (\d+), by(?: (\d+) of stack and)? (\d+) of heap: (.*)\n"
+        for words, more in ((("--heap", "60000", "--memory", "64K"), "--memory 128K gives more"), (("--heap", "1M"), "the format allows no more"),
+                            (("--heap", "60000", "--memory", "4K"), "--memory 128K gives more")):
+            status, said = self.call(TAKES, *words)
+            objects, heap, size, stack, missing, advice = re.fullmatch(told, said).groups()
+            self.assertEqual((status, advice), (1, more))
+            above = int(stack or 0) + int(missing) + int(size) - int(objects) - STACK - int(heap)
+            self.assertIn(above, range(16, 16 + 2304 + 1))  # what lies above the stack
+            self.assertEqual(missing == heap, stack is not None)
+        status, said = self.call(TAKES, "--memory", "8K")
+        self.assertRegex(said, r"^sfi-cc: memory.elf: \d+ bytes of objects and 8192 of stack don't fit in 8192, by \d+ of stack: --memory 16K gives more\n$")
+
+    def test_what_is_no_size(self):
+        for option, text, told in (("--memory", "300", "--memory/--data: '300' is no power of two from 256 to 1048576"),
+                                   ("--data", "2M", "--memory/--data: '2M' is no power of two from 256 to 1048576"),
+                                   ("--memory", "64k", "--memory/--data: '64k' is no power of two from 256 to 1048576"),
+                                   ("--heap", "1025K", "--heap: '1025K' is no number from 0 to 1048576"),
+                                   ("--stack", "K", "--stack: 'K' is no number from 0 to 1048576")):
+            status, said = self.call(TAKES, option, text)
+            self.assertEqual((status, said.splitlines()[-1]), (2, f"sfi-cc: error: argument {told}"))
+
+    def test_where(self):
+        """What lies between the objects and the region's end is the heap's and the stack's, and an overflow is told with both."""
+        said = subprocess.run([SFI_CC, "--memory", "128K", "--where", "0181f000", "--where", "017ffff0", self.write("memory.c", TAKES)],
+                              capture_output=True, text=True, check=True).stdout
+        self.assertRegex(said, r"^0181f000: in the memory of heap and stack, \d+ bytes behind the objects\n"
+                               r"017ffff0: in the guard zone, 16 bytes below the data: the stack has likely overflowed its room of 8704 bytes beside "
+                               r"the heap \(--stack gives more\), or a pointer is wrong\n$")
+
+
+@needs_program
+@needs(GCC)
+class Shared(Programs):
+    """What malloc gives, by programs that run."""
+
+    def gives(self, least, most, *words, again=0):
+        """All between the objects and the stack's room, whose links have 1000 to 1064 bytes."""
+        with self.subTest(words):
+            self.assertIn(self.ran(ALL, f"-DAGAIN={again}", *words) - 1000, range(least, most + 1))
+
+    def test_all_by_the_small_library(self):
+        for image_format in formats_due(0, 2):
+            for compiler in COMPILERS:
+                self.gives(116, 122, "--memory", "128K", "--cc", compiler, "--format", image_format)
+        self.gives(53, 57, "--memory", "64K", "--movable")
+        self.gives(19, 20, "--memory", "128K", "--heap", "20K")
+        self.gives(58, 61, "--memory", "128K", "--stack", "68000")
+        self.gives(110, 122, "--memory", "128K", "--debug")
+        self.gives(19, 20, "--heap", "21000", "--debug")
+
+    @needs(NEWLIB)
+    def test_all_by_newlib(self):
+        self.gives(110, 122, "--memory", "128K", "--library", "newlib", again=1)
+        self.gives(1000, 1032, "--memory", "1M", "--library", "newlib", again=1)
+        self.gives(19, 20, "--heap", "20K", "--library", "newlib", again=1)
+        self.gives(105, 122, "--memory", "128K", "--library", "newlib", "--debug", again=1)
+
+    def test_a_deep_stack(self):
+        for words in ((), ("--movable", "--at", "02000000:03000000"), ("--debug",)):
+            with self.subTest(words):
+                self.assertEqual(self.ran(DEEP, "--memory", "128K", *words), 42)
+
+    @needs(NEWLIB)
+    def test_a_deep_stack_with_newlib(self):
+        for words in ((), ("--debug",)):
+            self.assertEqual(self.ran(DEEP, "--memory", "128K", "--library", "newlib", *words), 42)
+
+    def test_debug_stops_at_the_heap(self):
+        """A stack that would do without what malloc has given."""
+        text = ("#include <stdlib.h>\nint deep(int n) {\n volatile char room[200]; room[n % 200] = 1; return n ? deep(n - 1) + room[n % 200] : 0; }\n"
+                "int main(void) { return TAKEN && !malloc(TAKEN) ? 3 : deep(300) > 0 ? 42 : 1; }\n")
+        for taken, status, told in ((100, 42, ""), (90000, 126, "memory.c:2")):
+            program = self.built(text, f"-DTAKEN={taken}", "--debug", "--memory", "128K")
+            done = subprocess.run([os.path.join(TOOLS, "sfi-exec"), "--program", SFI, program], capture_output=True, text=True, check=False)
+            self.assertEqual(done.returncode, status, done.stderr)
+            self.assertIn(told, done.stderr)
