@@ -3,6 +3,7 @@ checker isn't built; those of a cluster where no Python has Dask's `distributed`
 docs/IMAGE.md on the smallest image and on changes of it."""
 import contextlib
 import hashlib
+import io
 import json
 import os
 import pathlib
@@ -10,6 +11,7 @@ import pty
 import re
 import shutil
 import signal
+import sqlite3
 import subprocess
 import sys
 import time
@@ -20,6 +22,9 @@ import libraries
 from testing import SFI, TOOLS, TOP, Folder, needs_program
 
 PYTHON = TOP / "bindings" / "python"
+sys.path.append(str(PYTHON))
+from sfi_check.corpus import command
+
 SMALLEST = bytes.fromhex((TOP / "examples" / "smallest.hex").read_text(encoding="ascii"))
 BROKEN = SMALLEST.replace(bytes.fromhex("73001000"), bytes.fromhex("130c1c00"), 1)  # addi x24, x24, 1 at the code's first address
 SHORT = SMALLEST[:-1]
@@ -87,7 +92,21 @@ class Corpus(Folder):
         return self.run_words(TOOLS / "sfi-check", *words)
 
     def corpus(self, *words):
-        return self.run_words(TOOLS / "sfi-corpus", *words)
+        """`sfi-corpus`: what starts no processes of its own runs in this one, which spares a start of Python."""
+        if words[:1] not in (("report",), ("merge",)):
+            return self.run_words(TOOLS / "sfi-corpus", *words)
+        before, out, said = os.getcwd(), io.StringIO(), io.StringIO()
+        os.chdir(self.room)
+        try:
+            with contextlib.redirect_stdout(out), contextlib.redirect_stderr(said):
+                status = command.main(words)
+        finally:
+            os.chdir(before)
+        return status, out.getvalue().splitlines(), said.getvalue()
+
+    def change(self, database, script):
+        with contextlib.closing(sqlite3.connect(self.path(database))) as base:
+            base.executescript(script)
 
     def told(self, database="corpus.sqlite"):
         """What a database has of each file."""
@@ -217,8 +236,7 @@ class Kept(Corpus):
         image = self.image("one.image", BROKEN)
         for name in ("a", "b"):
             self.corpus("check", "--database", name, image)
-        subprocess.run([sys.executable, "-c", "import sqlite3; base = sqlite3.connect('b'); base.execute('update verdicts set status = 0');"
-                        "base.commit()"], cwd=self.room, check=True)
+        self.change("b", "update verdicts set status = 0")
         status, _, said = self.corpus("merge", "a", "b")
         self.assertEqual(status, 5)
         self.assertIn(f"different verdicts of one checker on the image {hashlib.sha256(BROKEN).hexdigest()}", said)
@@ -238,8 +256,8 @@ class Kept(Corpus):
         for name in ("pages", "table", "verdict"):
             self.assertEqual(self.corpus("check", "--database", name, image)[0], 1)
         (self.room / "pages").write_bytes((self.room / "pages").read_bytes()[:4096] + bytes(8192))
-        for name, change in (("table", "drop table verdicts; create table verdicts (other)"), ("verdict", "update verdicts set status = 9")):
-            subprocess.run([sys.executable, "-c", f"import sqlite3; sqlite3.connect({name!r}).executescript({change!r})"], cwd=self.room, check=True)
+        self.change("table", "drop table verdicts; create table verdicts (other)")
+        self.change("verdict", "update verdicts set status = 9")
         for words in (["check", "--database", "pages", image], ["report", "--database", "pages"], ["merge", "new", "pages"],
                       ["check", "--database", "table", image], ["report", "--database", "table", "--page", "page.html"],
                       ["merge", "new", "table"], ["report", "--database", "verdict"]):
@@ -249,13 +267,17 @@ class Kept(Corpus):
         self.assertEqual(self.corpus("check", "--database", "verdict", image)[0], 1)
 
     def test_words(self):
+        status, lines, said = self.corpus()
+        self.assertEqual((status, lines, said.startswith("usage: sfi-corpus")), (3, [], True))
         for words in ([], ["check"], ["seeds", "true"], ["seeds", "--count", "2"], ["merge", "a"], ["check", "--jobs", "0", "x"],
                       ["check", "--jobs", "2", "--scheduler", "x", "y"], ["check", "--jobs", "100000", "x"],
                       ["seeds", "--count", "1", "--seconds", "nan", "x"], ["seeds", "--count", "1", "--seconds", "-1", "x"],
                       ["seeds", "--count", "2", "--first", "9223372036854775807", "x"]):
-            status, lines, said = self.corpus(*words)
-            self.assertEqual((status, lines), (3, []), words)
-            self.assertIn("usage: sfi-corpus", said)
+            said = io.StringIO()
+            with self.subTest(words), contextlib.redirect_stderr(said), self.assertRaises(SystemExit) as ended:
+                command.parsed(words)
+            self.assertEqual(ended.exception.code, 3)
+            self.assertIn("usage: sfi-corpus", said.getvalue())
 
     def test_a_bar_on_a_terminal(self):
         """Of a Python that has tqdm; without a terminal nothing is said."""
@@ -310,7 +332,8 @@ class Engine(Corpus):
         self.assertTrue((self.room / "noted").exists())
 
     def test_workers_end_with_a_parent_that_is_killed(self):
-        words = [TOOLS / "sfi-corpus", "seeds", "--jobs", "3", "--count", "1000000000000", "touch"]
+        note = self.write("note", "#!/bin/sh\n[ $1 != 1 ] || : >1\n", 0o755)  # what a seed does last may come after the end of this test
+        words = [TOOLS / "sfi-corpus", "seeds", "--jobs", "3", "--count", "1000000000000", note]
         with subprocess.Popen(words, env=self.env, cwd=self.room, stdout=subprocess.PIPE, stderr=subprocess.PIPE) as run:
             while not (self.room / "1").exists():  # which the first seed makes
                 time.sleep(0.01)

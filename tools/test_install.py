@@ -366,7 +366,7 @@ class Scratch(Installing):
                 with self.changed(path, data):
                     done = self.release()
                 self.assertEqual(done.returncode, 1)
-                self.assertTrue(done.stderr.startswith(f"release.py: {said}"), done.stderr)
+                self.assertRegex(done.stderr, rf"(?m)^release\.py: {re.escape(said)}")
                 self.assertFalse((self.room / "made").exists())
 
     def test_what_is_not_built_is_told(self):
