@@ -11,6 +11,7 @@ tools/runtime_file.py makes. It wants gcc.
 """
 import dataclasses
 import os
+import shutil
 import struct
 import subprocess
 import sys
@@ -48,6 +49,7 @@ class Port:
 
 
 HERE = "{program} {trace} {digests}"
+WINE = shutil.which("wine") or "/usr/lib/wine/wine64"  # where Debian's package wine64 has it, which has no command
 BARE = ["riscv64-unknown-elf-gcc", "-O2", "-march=rv32imac", "-mabi=ilp32", "--specs=picolibc.specs", "--oslib=semihost", "--crt0=semihost",
         *(f"-Wl,--defsym=__{it}" for it in ("flash=0x80000000", "flash_size=0x400000", "ram=0x80400000", "ram_size=0xf000000", "stack_size=0x40000"))]
 ON_BARE = ("qemu-system-riscv32 -M virt -m 256M -bios none -nographic -monitor none -serial none "
@@ -60,15 +62,13 @@ PORTS = [
     Port("armv7", ["arm-linux-gnueabihf-gcc", "-O2", "-static"], f"qemu-arm {HERE}"),
     Port("riscv64", ["riscv64-linux-gnu-gcc", "-O2", "-static"], f"qemu-riscv64 {HERE}"),
     Port("riscv32", BARE, ON_BARE),
-    Port("MinGW", ["x86_64-w64-mingw32-gcc", "-O2"], "wine {program}.exe {trace} {digests}"),
+    Port("MinGW", ["x86_64-w64-mingw32-gcc", "-O2"], f"{WINE} {{program}}.exe {{trace}} {{digests}}"),
 ]
 
 
 def due(is_all):
     """The ports that are tried: all, or the first and by turns two of the others."""
-    others = PORTS[1:]
-    turn = 2 * testing.commits() % len(others)
-    return PORTS if is_all or os.environ.get(testing.EACH_FORMAT) else [PORTS[0], *(others + others)[turn:turn + 2]]
+    return PORTS if is_all else [PORTS[0], *testing.by_turns(PORTS[1:], 2)]
 
 
 # ---- traces

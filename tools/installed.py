@@ -17,8 +17,8 @@ from suygapid import native
 SHARE = "share/suygapid"  # the tools, at the places that they have in the repository
 NOTED = f"{SHARE}/installed"  # the list of all that was installed
 TOOLS = ("sfi-cc", "sfi-check", "sfi-corpus", "sfi-exec", "sfi-gdb", "sfi-image", "sfi-library", "sfi-map", "sfi-move", "sfi-trace")
-FOLDERS = ("tools/suygapid", "examples/c/include", "examples/c/library", "bindings/python", "bindings/rust", "bindings/node")
-SINGLE = ("tools/asm2elf", "examples/c/gates.h")
+FOLDERS = ("tools/suygapid", "examples/c/include", "examples/c/library", "bindings/python", "bindings/rust", "bindings/node", "device")
+SINGLE = ("tools/asm2elf", "examples/c/gates.h", "crates/sfi_c/include/sfi.h", "crates/sfi_slots/include/sfi_slots.h")
 PAGES = ("sfi.1", "sfi-cc.1", "sfi-check.1", "sfi-corpus.1", "sfi-exec.1", "sfi-gdb.1", "sfi-image.1", "sfi-library.1", "sfi-map.1",
          "sfi-move.1", "sfi-trace.1")
 DOCUMENTS = ("README.md", "CHANGELOG.md", "CONTRIBUTING.md", "SECURITY.md", "docs/*.md", "docs/*.png")  # at the same places below share/doc/suygapid
@@ -121,8 +121,9 @@ def all_libraries():
 
 def items():
     """All that is installed but the list of it."""
-    native.make()  # it lies among the tools
-    found = [Item("bin/sfi", TOP / "crates" / "sfi" / "out" / "sfi"), Item(f"{SHARE}/sfi", link="../../bin/sfi")]
+    host = native.make()  # it lies among the tools, and hands on what the program does
+    found = [Item(f"{SHARE}/sfi", TOP / "crates" / "sfi" / "out" / "sfi"),
+             Item("bin/sfi", link=f"../{SHARE}/{os.path.relpath(host, TOP) if host else 'sfi'}")]
     found += all_libraries()
     found += cmake_files()
     for tool in TOOLS:

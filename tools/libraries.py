@@ -72,13 +72,18 @@ def run(*words):
     subprocess.run(words, check=True)
 
 
-def make_static(crate, library, archive, room):
-    """Adds the C files to the library, each as a member of its own: a program that has such functions keeps its own."""
-    shutil.copyfile(library, archive)
+def add_c_files(crate, archive, room):
+    """Adds a crate's C files to a library, each as a member of its own: a program that has such functions keeps its own."""
     for file in C_FILES[crate]:
         member = os.path.join(room, f"{crate}_{os.path.basename(file)[:-2]}.o")
         run("gcc", "-std=c11", "-O2", "-fPIC", "-Wall", "-Wextra", "-Werror", "-c", path(crate, file), "-o", member)
         run("ar", "rcsD", archive, member)
+
+
+def make_static(crate, library, archive, room):
+    """The library, and its C files."""
+    shutil.copyfile(library, archive)
+    add_c_files(crate, archive, room)
 
 
 def link_shared(name, exported, archive, target, room, *options):
@@ -153,12 +158,12 @@ def compile_native(own, compiler=("gcc", "-O2")):
 
 def make_native_static(library, commands, archive, room):
     """One member of all that is its own, and the heap."""
-    member, own, heap = (os.path.join(room, it) for it in (f"{NATIVE}.o", "own.o", "sfi_run_heap.o"))
+    member, own = (os.path.join(room, it) for it in (f"{NATIVE}.o", "own.o"))
     compile_native(own)
     run("ld", "-r", own, *native_parts(library, commands, room), "-o", member)
     run("objcopy", *(f"--keep-global-symbol={it}" for it in native_calls()), member)
-    run("gcc", "-std=c11", "-O2", "-fPIC", "-Wall", "-Wextra", "-Werror", "-c", path("sfi_run", "c", "heap.c"), "-o", heap)
-    run("ar", "rcsD", archive, member, heap)
+    run("ar", "rcsD", archive, member)
+    add_c_files("sfi_run", archive, room)
 
 
 def make_native(library=None, commands=None, folder=None):

@@ -1,5 +1,6 @@
 """Tries packages as those who install them do: each in an empty folder, with nothing of this repository, of its toolchain or from
 a network. What is installed has to say of the smallest image, which is 64 times ebreak, by which cause it traps."""
+import contextlib
 import functools
 import hashlib
 import os
@@ -83,17 +84,22 @@ def hold(said, wanted, what):
 # ---- the trials, each in the empty folder `room`
 
 @functools.cache
-def with_pip():
-    """A folder with an environment that has pip, which takes seconds to make and installs into others. It goes as this process ends."""
+def pip():
+    """The command of a pip that installs into other environments: this Python's own, or else of one that is made with it, which takes
+    seconds and goes as this process ends."""
+    with tempfile.TemporaryDirectory() as room:
+        with contextlib.suppress(Fault):
+            run(room, sys.executable, "-m", "pip", "--python", sys.executable, "--version")
+            return [sys.executable, "-m", "pip"], None
     made = tempfile.TemporaryDirectory()
     run(made.name, sys.executable, "-m", "venv", "mine")
-    return made
+    return [f"{made.name}/mine/bin/pip"], made
 
 
 def wheel(path, room):
     run(room, sys.executable, "-m", "venv", "--without-pip", "mine")
-    pip = pathlib.Path(with_pip().name) / "mine" / "bin" / "pip"
-    run(room, pip, "--python", room / "mine" / "bin" / "python", "install", "--quiet", "--no-index", "--disable-pip-version-check", path)
+    words = ["--python", room / "mine" / "bin" / "python", "install", "--quiet", "--no-index", "--disable-pip-version-check", path]
+    run(room, *pip()[0], *words)
     hold(run(room, room / "mine" / "bin" / "python", "-c", PYTHON, given=IMAGE, HOME=str(room)), "BREAK", "the package for Python")
     (room / "smallest.image").write_bytes(IMAGE)
     hold(run(room, room / "mine" / "bin" / "sfi-check", "smallest.image", HOME=str(room)), JUDGED, "its sfi-check")

@@ -161,7 +161,7 @@ def make(folder, compiled=None):
     lacking = [it for maker in MAKERS for it in missing(maker)]
     if lacking:
         raise Failed(f"{' and '.join(dict.fromkeys(lacking))} isn't there")
-    return [maker(folder, compiled) if maker is debian else maker(folder) for maker in MAKERS]
+    return [wheel(folder), tarball(folder), crate(folder), debian(folder, compiled)]
 
 
 def main(words):

@@ -12,7 +12,7 @@ in one file of C each, can't be made (tools/checker_file.py, tools/runtime_file.
 tools/release_trial.py and tools/package_trial.py try.
 
 built.json in it has the commit and the logic. In it are also the libraries that sfi-cc would else compile and convert at their first use (tools/converted.py); where the
-compiler or sources aren't there, they aren't, as a line says.
+compiler or sources aren't there, they aren't, as a line says. So it is with the checkers for RV32 (tools/device_checkers.py).
 
 LOG is what `rt ci --anew > LOG` printed over this commit. Of it the page of evidence is made (tools/evidence.py), and both are
 in the folder `evidence` of the tar file. Without LOG neither is, as a line says; with one that proves nothing there is no release.
@@ -34,6 +34,7 @@ sys.dont_write_bytecode = True
 import checker_file
 import converted
 import definitions
+import device_checkers
 import evidence
 import installed
 import libraries
@@ -115,11 +116,20 @@ def library_files():
         return {}
 
 
+def device_files():
+    """The checkers for RV32; nothing where they can't be made, of which a line is printed."""
+    try:
+        return {path: ((TOP / path).read_bytes(), False) for path in device_checkers.make()}
+    except device_checkers.Failed as failed:
+        print(f"release.py: no checkers for RV32 are in it: {failed}", file=sys.stderr)
+        return {}
+
+
 def contents(log):
     """The bytes of each file of the release and whether it can be run, by its path."""
     paths = [it for it in git("ls-files", "-z").split("\0") if it] + built_files()
     files = {path: ((TOP / path).read_bytes(), os.access(TOP / path, os.X_OK)) for path in paths}
-    return files | {_built.FILE: (_built.noted().encode(), False)} | library_files() | evidence_files(log)
+    return files | {_built.FILE: (_built.noted().encode(), False)} | library_files() | device_files() | evidence_files(log)
 
 
 def checksums(files):

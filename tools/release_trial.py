@@ -1,11 +1,14 @@
 """Tries what a release holds, in the folder to which its tar file was unpacked: that each file has its checksum, and that the
 program, both WebAssembly modules, and the checker and the runtime in one file of C each say of the smallest image what they have to.
+And that firmwares are built with the checker for RV32, and do what their tests ask, where what these want is there.
 """
 import base64
 import hashlib
+import os
 import re
 import shutil
 import subprocess
+import sys
 import tempfile
 
 SUMS = "SHA256SUMS"
@@ -14,6 +17,8 @@ ACCEPTED = "accepted sandboxes=1 bundles=16\n"
 PROGRAM = "crates/sfi/out/sfi"
 CHECKER = "crates/sfi_c/out/suygapid_check.c"
 RUNTIME = "crates/sfi_run/out/suygapid_run.c"
+DEVICE = "device/out/rv32imac/libsfi_device_checker.a"
+FIRMWARES = "examples/device/firmware"
 HEADERS = ["crates/sfi_c/include/sfi.h", "crates/sfi_run/include/sfi_run.h"]
 # The page's module by the page's own script, which asks for nothing of a browser but in what loads it.
 PAGE_MODULE = """
@@ -93,6 +98,19 @@ def faults_of_text(top):
     return [] if same else ["page/sfi.wasm.js doesn't hold page/sfi.wasm"]
 
 
+def faults_of_device(top):
+    """What is wrong with the library of a device and its checker, where that is there, as the tests of firmwares find it."""
+    if not (top / DEVICE).is_file():
+        return []
+    known = {name: value for name, value in os.environ.items() if name not in ("SFI", "RATTLE")}
+    done = subprocess.run([sys.executable, "tools/unit_tests.py", FIRMWARES], cwd=top, stdout=subprocess.PIPE, stderr=subprocess.STDOUT,
+                          text=True, check=False, env={**known, "CHECKER": str(top / DEVICE), "CUTS": "1"})
+    lines = done.stdout.strip().splitlines() or ["nothing is said"]
+    for skipped in (it for it in lines if it.startswith("skipped: ")):
+        print(skipped, file=sys.stderr)
+    return [f"{DEVICE} isn't as the tests of {FIRMWARES} want it: {lines[-1]}"] if done.returncode else []
+
+
 def faults(top):
     """What is wrong with the release in this folder. Its files of C are tried where nothing else is."""
     missing = [it for it in ("node", "gcc") if not shutil.which(it)]
@@ -104,4 +122,4 @@ def faults(top):
     found = (faults_of_sums(top) + faults_of_run(PROGRAM, [top / PROGRAM, "check"], top, given, ACCEPTED) + faults_of_text(top)
              + faults_of_run("page/sfi.wasm", [*node, PAGE_MODULE], top, given, ACCEPTED)
              + faults_of_run("bindings/node/sfi_run.wasm", [*node, NODE_MODULE], top, given, "Break\n"))
-    return found or faults_of_files(top, image)
+    return found or faults_of_files(top, image) + faults_of_device(top)

@@ -15,7 +15,7 @@ import package_trial
 import packages
 import runtime_file
 import version
-from testing import needs
+from testing import by_turns, needs
 
 MAKERS = {".whl": packages.wheel, ".tgz": packages.tarball, ".crate": packages.crate, ".deb": packages.debian}
 COMPILED = {"tools/suygapid/made/a library/it.a": b"compiled"}  # what a release hands on
@@ -137,7 +137,7 @@ class Packages(unittest.TestCase):
                     step(top, top / "usr")
 
     def test_the_same_files_make_the_same_bytes(self):
-        for ending in MAKERS:
+        for ending in by_turns([*MAKERS], 2):
             with self.subTest(ending), tempfile.TemporaryDirectory() as room:
                 made = self.package(ending).read_bytes()
                 self.assertEqual(made_in(pathlib.Path(room), ending).read_bytes(), made)

@@ -13,7 +13,7 @@ from collections import Counter
 
 import libraries
 from suygapid.pictures.flame import DEEPEST
-from testing import GCC, SFI, TOOLS, TOP, Folder, needs
+from testing import GCC, SFI, TOOLS, TOP, Folder, formats_due, needs
 
 sys.path.append(str(TOP / "page"))
 import chromium
@@ -151,7 +151,7 @@ class Flames(Pictures):
     def test_calls_of_c(self):
         """A last call stands in its caller's place, and after a return no function is left."""
         file = self.write("calls.c", CALLS)
-        for image_format in ("words", "1", "2"):
+        for image_format in formats_due(0, 2):
             printed, (paths,), root = self.flame("-O2", "--format", image_format, file)
             steps = int(re.search(r" steps=(\d+) ", printed)[1])
             self.assertEqual((sum(paths.values()), self.own_steps(root)[1]), (steps, steps))
@@ -236,13 +236,20 @@ class Maps(Pictures):
 
 @unittest.skipUnless(CHROMIUM, "chromium isn't there")
 class Seen(Pictures):
-    """The pictures as Chromium draws them, each as a file that is opened."""
+    """The pictures as Chromium draws them, each as a file that is opened, by one after another."""
+
+    @classmethod
+    def setUpClass(cls):
+        super().setUpClass()
+        cls.page = chromium.Page(CHROMIUM, "about:blank", ready="true")
+        cls.addClassCleanup(cls.page.end)
 
     def seen(self, name):
         """The texts of a picture. They can be read: they are large enough, and lie in the picture, and those of a box in it, with nothing
         above them."""
-        page = chromium.Page(CHROMIUM, (self.room / name).as_uri(), ready=LOADED)
-        self.addCleanup(page.end)
+        page = self.page
+        page.call("Page.navigate", url=(self.room / name).as_uri())
+        page.wait(LOADED)
         self.assertEqual(page.value("document.documentElement.localName"), "svg")
         whole, texts = page.value(WHOLE), page.value(TEXTS)
         self.assertEqual((whole["x"], whole["y"]), (0, 0))

@@ -14,6 +14,7 @@ from unittest import mock
 import checker_file
 import converted
 import definitions
+import device_checkers
 import evidence
 import installed
 import libraries
@@ -119,7 +120,8 @@ class Whole(Folder):
         first, *pages, checker, runtime = (self.top / it for it in built)
         for where, what, how in ((release, "TOP", self.top), (release, "MADE", pages), (release, "stale", list), (libraries, "HEADERS", {}),
                                  (libraries, "native_there", list), (installed, "built", lambda: [first]), (checker_file, "missing", list), (checker_file, "make", lambda: checker),
-                                 (runtime_file, "missing", list), (runtime_file, "make", lambda: runtime), (native, "make", lambda: host), (converted, "files", dict)):
+                                 (runtime_file, "missing", list), (runtime_file, "make", lambda: runtime), (native, "make", lambda: host), (converted, "files", dict),
+                                 (device_checkers, "make", list)):
             patched = mock.patch.object(where, what, how)
             patched.start()
             self.addCleanup(patched.stop)

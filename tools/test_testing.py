@@ -1,4 +1,5 @@
-"""Tests of how tests say what isn't there: `tools/unit_tests.py tools test_testing.py`."""
+"""Tests of how tests say what isn't there, and take turns: `tools/unit_tests.py tools test_testing.py`."""
+import os
 import subprocess
 import unittest
 from unittest import mock
@@ -30,3 +31,15 @@ class Lacking(unittest.TestCase):
     def test_for_shells(self):
         done = subprocess.run([testing.TOOLS / "testing.py", "none-of-this-name", "sh"], capture_output=True, check=True)
         self.assertEqual(done.stdout, b"none-of-this-name isn't there\n")
+
+
+class Turns(unittest.TestCase):
+    def test_all_have_their_turn(self):
+        for things, count in (("abcdefg", 2), ("abcd", 2), ("abc", 1)):
+            found = []
+            for commits in range(len(things)):
+                with mock.patch("testing.commits", lambda commits=commits: commits), mock.patch.dict(os.environ, clear=True):
+                    found += testing.by_turns(things, count)
+            self.assertEqual({it: found.count(it) for it in things}, dict.fromkeys(things, count))
+        with mock.patch.dict(os.environ, {testing.EACH_FORMAT: "1"}):
+            self.assertEqual(testing.by_turns("abc", 1), ["a", "b", "c"])

@@ -26,19 +26,19 @@ EACH_FORMAT = "EACH_FORMAT"  # in the environment: what compilers make is tried 
 SOURCES = {it.name: it for it in (GCC_SOURCE, NEWLIB_SOURCE)}
 # By what tests name, what that stands on: the compilers of sandboxes, and what sfi-cc compiles of sources when it is first wanted.
 FLOATS, NEWLIB = "floating point", "newlib"
-PARTS = {GCC: OF_BINUTILS, CLANG: ("llc", *OF_BINUTILS), FLOATS: (GCC_SOURCE.name,), NEWLIB: (NEWLIB_SOURCE.name, GCC_SOURCE.name)}
+PARTS = {GCC: (GCC, *OF_BINUTILS), CLANG: (CLANG, "llc", *OF_BINUTILS), FLOATS: (GCC_SOURCE.name,), NEWLIB: (NEWLIB_SOURCE.name, GCC_SOURCE.name)}
 
 
 def is_there(name):
-    """Whether a command, a folder by its path, or one of Debian's packages of sources, is there."""
+    """Whether a command, also by its path, a folder by its path, or one of Debian's packages of sources, is there."""
     if name in SOURCES:
         return SOURCES[name].where() is not None
-    return os.path.isdir(name) if os.path.isabs(name) else shutil.which(name) is not None
+    return os.path.isabs(name) and os.path.isdir(name) or shutil.which(name) is not None
 
 
 def lacking(*names):
     """What of these commands, folders, packages of sources and names of PARTS isn't there: words that say so, or none."""
-    wanted = [part for name in names for part in ((name,) if name not in (FLOATS, NEWLIB) else ()) + PARTS.get(name, ())]
+    wanted = [part for name in names for part in PARTS.get(name, (name,))]
     missing = list(dict.fromkeys(it for it in wanted if not is_there(it)))
     *first, last = [f"Debian's package {it}" if it in SOURCES else it for it in missing] or [""]
     return f"{', '.join(first)} and {last} aren't there" if first else f"{last} isn't there" if last else ""
@@ -67,6 +67,14 @@ def sample():
     """Which of the six samples of compilers' tests is tried, in turns by the number of commits. They are fixed, so that
     what one run meets can be repeated."""
     return commits() % 6
+
+
+def by_turns(things, count):
+    """So many of a list's things, which the number of commits says: all of them in turn. By ./test --all each time all."""
+    if os.environ.get(EACH_FORMAT):
+        return list(things)
+    begin = count * commits() % len(things)
+    return [*things, *things][begin:begin + count]
 
 
 def formats_due(number, count):
