@@ -71,13 +71,13 @@ magic Sfiw = codes "SFIW"
 abbrev pub code_most : Format → ℕ
 code_most Sfi1 = 65536
 code_most Sfi2 = 1048576
-code_most Sfiw = 1048576
+code_most Sfiw = 16777216
 
 -- the largest data region
 abbrev pub data_most : Format → ℕ
 data_most Sfi1 = 1048576
 data_most Sfi2 = 1048576
-data_most Sfiw = 1048576
+data_most Sfiw = 1073741824
 
 -- the largest code region that is made of a source
 abbrev pub built_code_most : Format → ℕ

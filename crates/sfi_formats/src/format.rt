@@ -37,7 +37,8 @@ impl Format {
     {
         match self {
             Format::Sfi1 => 65536,
-            Format::Sfi2 | Format::Sfiw => 1_048_576,
+            Format::Sfi2 => 1_048_576,
+            Format::Sfiw => 16_777_216,
         }
     }
 
@@ -46,7 +47,8 @@ impl Format {
         ensures { result ≡ data_most self }
     {
         match self {
-            Format::Sfi1 | Format::Sfi2 | Format::Sfiw => 1_048_576,
+            Format::Sfi1 | Format::Sfi2 => 1_048_576,
+            Format::Sfiw => 1_073_741_824,
         }
     }
 

@@ -17,11 +17,11 @@ pub enum LayoutFault {
     Count,
     /// The bytes end before what is read next is whole.
     Short,
-    /// The code size is no power of two from 256 to the format's largest, 65536 or 1048576, or the
-    /// code base no multiple of it.
+    /// The code size is no power of two from 256 to the format's largest, 65536, 1048576 or
+    /// 16777216, or the code base no multiple of it.
     Code,
-    /// The data size is no power of two from 256 to the format's largest, 1048576 in each, or the
-    /// data base no multiple of it.
+    /// The data size is no power of two from 256 to the format's largest, 1048576 or 1073741824, or
+    /// the data base no multiple of it.
     Data,
     /// The 4096 addresses below the data, or those above it, reach past the first or last address.
     GuardRoom,
