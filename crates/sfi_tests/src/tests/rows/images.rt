@@ -114,7 +114,7 @@ put 0 53464957; $ sfi check
 ";
 
 /// Code, data, first data bytes and gates at the limits of a layout, and one step beyond.
-pub(super) const LIMITS: &str = "36 commands
+pub(super) const LIMITS: &str = "40 commands
 $ sfi check; $ sfi check --raw
 = code of 128 bytes, 128 there, in the first format; put 0 53464931; put 12 80000000; end 36 32 73001000; > layout fault 4 Code
 = code of 65536 bytes, 65536 there, in the first format; put 0 53464931; put 12 00000100; end 36 16384 73001000; > accepted sandboxes=1 bundles=4096
@@ -132,6 +132,8 @@ $ sfi check; $ sfi check --raw
 = data of 128 bytes; put 20 80000000; > layout fault 5 Data
 = data of 1048576 bytes; put 20 00001000; > accepted sandboxes=1 bundles=16
 = data of 2097152 bytes; put 20 00002000; > layout fault 5 Data
+= data of 1048576 bytes, in the second format; put 0 53464932; put 20 00001000; > accepted sandboxes=1 bundles=16
+= data of 2097152 bytes, in the second format; put 0 53464932; put 20 00002000; > layout fault 5 Data
 = as many first bytes; put 20 00001000; put 32 00001000; end 292 1048576 07; > accepted sandboxes=1 bundles=16
 = one more; put 20 00001000; put 32 01001000; end 292 1048577 07; > layout fault 9 Init
 = 64 gates; put 12 00080000; put 28 40000000; cut 36; text digits of 64 gates; + 64 73000000b3ff9001b3ef8f0167800f00; + 256 73001000
