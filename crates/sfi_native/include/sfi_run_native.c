@@ -80,11 +80,18 @@ static void give_back(size_t length) {
 #endif
 }
 
-/* What `sfi native` writes of the image, which is to be freed, or NULL. */
+static size_t all_code(const struct sfi_image *image) {
+    size_t size = 0;
+    for (size_t k = 0; k < image->count; k++)
+        size += image->sandboxes[k].code_size;
+    return size;
+}
+
+/* What `sfi native` writes of the image, which is to be freed, or NULL. First data make it no longer. */
 static uint8_t *compiled(const struct shared *it, size_t *length) {
     static const uint8_t words[] = "sfi\0native";
     enum { ROOM = 65536, GROWTH = 16 };
-    size_t room = ROOM + GROWTH * it->length;
+    size_t room = ROOM + GROWTH * all_code(&it->image);
     for (;;) {
         uint8_t *const file = malloc(room);
         if (file == NULL || (sfi_tool_answer(words, sizeof words, it->bytes, it->length, file, room, length) == SFI_TOOL_DONE && *length <= room))
