@@ -41,14 +41,16 @@ static inline uint32_t sfi_run_word_at(const uint8_t *at) {
     return at[0] | (uint32_t)at[1] << 8 | (uint32_t)at[2] << 16 | (uint32_t)at[3] << 24;
 }
 
-/* The CRC-32 of ISO 3309. */
+/* The CRC-32 of ISO 3309. table[k] is the remainder of a byte k with 32 bits behind it. */
 static inline uint32_t sfi_run_sum(const uint8_t *bytes, size_t length) {
-    uint32_t sum = UINT32_MAX;
-    for (size_t k = 0; k < length; k++) {
-        sum ^= bytes[k];
+    uint32_t table[256], sum = UINT32_MAX;
+    for (uint32_t k = 0; k < 256; k++) {
+        table[k] = k;
         for (int bit = 0; bit < 8; bit++)
-            sum = sum >> 1 ^ (sum & 1 ? 0xedb88320u : 0);
+            table[k] = table[k] >> 1 ^ (table[k] & 1 ? 0xedb88320u : 0);
     }
+    for (size_t k = 0; k < length; k++)
+        sum = sum >> 8 ^ table[(sum ^ bytes[k]) & 255];
     return ~sum;
 }
 
