@@ -8,7 +8,9 @@ from suygapid.image.layout import Part, spelled
 STUB = bytes.fromhex("73000000b3ff9001b3ef8f0167800f00")
 REGISTERS = [0, 1, 2, 2, 8, 9, 10, 24, 25, 26, 27, 31]
 NUMBERS = [0, 1, 2, 4, 15, 16, 17, 64, 65, 255, 256, 257, 4095, 4096, 65536, 131072, 1048576, 2097152, 0x1000000, 0x1001000, 0x1002000,
-           0x1800000, 0x7FFFFFFF, 0x80000000, 0xFFFFE000, 0xFFFFEF00, 0xFFFFFF00, 0xFFFFFFFF]
+           0x1800000, 0x2000000, 0x40000000, 0x7FFFFFFF, 0x80000000, 0xFFFFE000, 0xFFFFEF00, 0xFFFFFF00, 0xFFFFFFFF]
+LARGE_DATA = [(0x01800000, 1 << 21), (0x02000000, 1 << 24), (0x20000000, 1 << 29), (0x40000000, 1 << 30), (0x20000000, 1 << 30),
+              (0xC0000000, 1 << 30), (0x80000000, 1 << 31)]  # bases and sizes
 OPCODES = [0x37, 0x17, 0x6F, 0x67, 0x63, 0x03, 0x23, 0x13, 0x33, 0x0F, 0x73, 0x1F]
 
 
@@ -159,6 +161,11 @@ def with_data_near(pick, data):
     """The same with the first sandbox's data, of 256 bytes, near the code of the first or second one, where guard zones may meet it."""
     code, apart = pick.choice([0x1000000, 0x2000000]), pick.choice([256, 4096 - 256, 4096, 4096 + 256, 4096 + 512])
     return data[:16] + struct.pack("<2I", pick.choice([code + apart, code - apart]), 256) + data[24:]
+
+
+def with_large_data(pick, data):
+    """The same with a large data region of the first sandbox, at a multiple of its size or not."""
+    return data[:16] + struct.pack("<2I", *pick.choice(LARGE_DATA)) + data[24:]
 
 
 def small_image(seed):

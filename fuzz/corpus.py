@@ -117,7 +117,8 @@ def with_bits_in_front(pick, data):
 
 
 CODE_CHANGES = [with_bits, with_bits, with_word, with_word, with_piece, with_piece, with_registers, with_registers]
-CHANGES = CODE_CHANGES + [with_magic, with_length, with_bits_in_front, odd_images.with_number, odd_images.with_data_near]
+CHANGES = CODE_CHANGES + [with_magic, with_length, with_bits_in_front, odd_images.with_number, odd_images.with_data_near,
+                          odd_images.with_large_data]
 
 
 def mutant(pick, data, changes=tuple(CHANGES)):

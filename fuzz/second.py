@@ -120,7 +120,10 @@ def kinds(seed):
 
 def odd_ones(seed):
     """A large image of odd code in each format."""
-    return [*(odd_images.odd_image(seed, 2, 65536, format) for format in (1, 2)), odd_words.image(odd_words.large_sandboxes(seed))]
+    in_words = odd_words.large_sandboxes(seed)
+    longest = b"".join(code for code, _ in in_words) * 2  # which code in words alone may have
+    made = [*(odd_images.odd_image(seed, 2, 65536, format) for format in (1, 2)), odd_words.image(in_words), odd_words.image([(longest, [])])]
+    return [*made, images.MAGICS[2] + made[-1][4:]]
 
 
 def compare_whole(program, without, tally, in_c, seed):

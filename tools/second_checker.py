@@ -194,7 +194,8 @@ def spelled(it):
 # ---- layout
 
 MAGICS = {b"SFI1": 1, b"SFI2": 2, b"SFIW": 3}
-MOST_CODE = {1: 65536, 2: 1048576, 3: 1048576}
+MOST_CODE = {1: 65536, 2: 1048576, 3: 16777216}
+MOST_DATA = {1: 1048576, 2: 1048576, 3: 1073741824}
 FAULTS = "Magic Count Short Code Data GuardRoom Start Gates Init Overlap Trailing".split()
 BASE_OF_DATA, BASE_OF_CODE, CODE_MASK, DATA_MASK = 26, 24, 25, 27
 STUB = bytes.fromhex("73000000b3ff9001b3ef8f0167800f00")
@@ -232,7 +233,7 @@ def read_sandbox(reader, format, spans):
     code_base, code_size, data_base, data_size, start, gate_count, data_count = reader.numbers(7)
     code, data_end = range(code_base, code_base + code_size), data_base + data_size
     require(is_region(code_base, code_size, MOST_CODE[format]), "Code")
-    require(is_region(data_base, data_size, 1048576), "Data")
+    require(is_region(data_base, data_size, MOST_DATA[format]), "Data")
     require(data_base >= 4096 and data_end + 4096 <= 1 << 32, "GuardRoom")
     require(start % 16 == 0 and start in code, "Start")
     require(gate_count <= 64, "Gates")

@@ -2,6 +2,7 @@
 where a compiler or the program isn't there."""
 import os
 import re
+import struct
 import subprocess
 
 from testing import COMPILERS, GCC, NEWLIB, SFI, SFI_CC, SFI_IMAGE, TOOLS, Folder, formats_due, needs, needs_program
@@ -83,9 +84,17 @@ class Programs(Folder):
 class Sizes(Programs):
     """What is told of them, and what an image says, without the program."""
 
+    def numbers(self, program, *words):
+        """The bases of code and data, and the data's size, of the image of a program."""
+        image = subprocess.run([SFI_IMAGE, "--raw", *words, program], stdout=subprocess.PIPE, check=True).stdout
+        code, _, data, size = struct.unpack_from("<4I", image, 8)
+        return [code, data, size]
+
+    def place(self, text, *words):
+        return self.numbers(self.built(text, *words))
+
     def size(self, *words, of_image=()):
-        image = subprocess.run([SFI_IMAGE, "--raw", *of_image, self.built(TAKES, *words)], stdout=subprocess.PIPE, check=True).stdout
-        return int.from_bytes(image[20:24], "little")
+        return self.numbers(self.built(TAKES, *words), *of_image)[2]
 
     def test_sizes(self):
         """The linked file keeps what sfi-cc was told."""
@@ -95,10 +104,25 @@ class Sizes(Programs):
             with self.subTest(words):
                 self.assertEqual(self.size("--program", self.write("accepts", "#!/bin/sh\ncat >/dev/null\n", 0o755), *words, of_image=of_image), size)
 
+    def test_places(self):
+        """Where the data lie: behind the code, or, of more than 4 MiB or beside that much code, above the code of all sandboxes."""
+        sizes = {"64K": 1 << 16, "4M": 1 << 22, "8M": 1 << 23, "64M": 1 << 26, "512M": 1 << 29, "1G": 1 << 30}
+        for size, sandbox, base in (("64K", 0, 0x01800000), ("4M", 0, 0x01800000), ("4M", 15, 0x10800000), ("8M", 0, 0x20000000), ("8M", 15, 0x98000000),
+                                    ("64M", 1, 0x28000000), ("512M", 2, 0xA0000000), ("1G", 0, 0x40000000)):
+            with self.subTest(size=size, sandbox=sandbox):
+                self.assertEqual(self.place(TAKES, "--memory", size, "--sandbox", str(sandbox)), [(sandbox + 1) << 24, base, sizes[size]])
+        large = "char large[20000000];\nint main(void) { return large[(int)large & 255]; }\n"
+        self.assertEqual(self.place(large), [0x01000000, 0x20000000, 1 << 25])
+        self.assertEqual(self.place(large, "--at", "03000000:0a000000"), [0x03000000, 0x0A000000, 1 << 25])
+        self.assertEqual(self.call(large, "--at", "03000000:0b000000"),
+                         (1, "sfi-cc: memory.elf: the data have 33554432 bytes, and lie at 0xb000000, which is no multiple of that: "
+                             "link it with --memory 32M, or another --at\n"))
+
     def test_what_has_no_room(self):
         """The objects and the stack come first, so that the rest of what is missing is the heap's."""
         told = r"sfi-cc: memory.elf: (\d+) bytes of objects, 8192 of stack and (\d+) of heap don't fit in (\d+), by(?: (\d+) of stack and)? (\d+) of heap: (.*)\n"
-        for words, more in ((("--heap", "60000", "--memory", "64K"), "--memory 128K gives more"), (("--heap", "1M"), "the format allows no more"),
+        for words, more in ((("--heap", "60000", "--memory", "64K"), "--memory 128K gives more"), (("--heap", "1G"), "format words has room for no more"),
+                            (("--heap", "1M", "--format", "2"), "format 2 has room for no more"),
                             (("--heap", "60000", "--memory", "4K"), "--memory 128K gives more")):
             status, said = self.call(TAKES, *words)
             objects, heap, size, stack, missing, advice = re.fullmatch(told, said).groups()
@@ -110,13 +134,18 @@ class Sizes(Programs):
         self.assertRegex(said, r"^sfi-cc: memory.elf: \d+ bytes of objects and 8192 of stack don't fit in 8192, by \d+ of stack: --memory 16K gives more\n$")
 
     def test_what_is_no_size(self):
-        for option, text, told in (("--memory", "300", "--memory/--data: '300' is no power of two from 256 to 1048576"),
-                                   ("--data", "2M", "--memory/--data: '2M' is no power of two from 256 to 1048576"),
-                                   ("--memory", "64k", "--memory/--data: '64k' is no power of two from 256 to 1048576"),
-                                   ("--heap", "1025K", "--heap: '1025K' is no number from 0 to 1048576"),
-                                   ("--stack", "K", "--stack: 'K' is no number from 0 to 1048576")):
+        for option, text, told in (("--memory", "300", "--memory/--data: '300' is no power of two from 256 to 1073741824"),
+                                   ("--data", "2G", "--memory/--data: '2G' is no power of two from 256 to 1073741824"),
+                                   ("--memory", "64k", "--memory/--data: '64k' is no power of two from 256 to 1073741824"),
+                                   ("--heap", "1025M", "--heap: '1025M' is no number from 0 to 1073741824"),
+                                   ("--stack", "K", "--stack: 'K' is no number from 0 to 1073741824")):
             status, said = self.call(TAKES, option, text)
             self.assertEqual((status, said.splitlines()[-1]), (2, f"sfi-cc: error: argument {told}"))
+
+    def test_what_a_format_has_no_room_for(self):
+        for words, told in ((("--format", "2", "--memory", "2M"), "--memory 2M is more than format 2 has room for (at most 1M)"),
+                            (("--format", "1", "--memory", "1G"), "--memory 1G is more than format 1 has room for (at most 1M)")):
+            self.assertEqual(self.call(TAKES, *words), (1, f"sfi-cc: memory.elf: {told}\n"))
 
     def test_where(self):
         """What lies between the objects and the region's end is the heap's and the stack's, and an overflow is told with both."""

@@ -348,11 +348,19 @@ class Libraries(Calls):
             self.assertEqual((done.returncode, [line[:-16] for line in done.stderr.splitlines()]), (0, wanted))
 
     def test_too_much_data(self):
-        for size, told in (((1 << 20) + 100, "the objects have 1048688 bytes, 112 more than the format allows"),
-                           ((1 << 20) - 4096, "1044480 bytes of objects and 8192 of stack don't fit in 1048576, by 4112 of stack: "
-                                              "the format allows no more")):
-            self.assertEqual(self.made(f"char all[{size}];\nint main(void) {{ return all[(int)all & 255]; }}\n"),
+        for image_format, size, told in (
+                ("2", (1 << 20) + 100, "the objects have 1048688 bytes, 112 more than format 2 has room for (at most 1048576)"),
+                ("2", (1 << 20) - 4096, "1044480 bytes of objects and 8192 of stack don't fit in 1048576, by 4112 of stack: "
+                                        "format 2 has room for no more"),
+                ("words", (1 << 30) + 100, "the objects have 1073741936 bytes, 112 more than format words has room for (at most 1073741824)")):
+            self.assertEqual(self.made(f"char all[{size}];\nint main(void) {{ return all[(int)all & 255]; }}\n", "--format", image_format),
                              (1, "", [f"sfi-cc: made.elf: {told}"]))
+
+    def test_too_much_code(self):
+        for image_format, size in (("1", 1 << 16), ("2", 1 << 20)):
+            status, output, told = self.made(f"main: ret\n.rept {size // 16}\ncall main\n.endr\n", "--format", image_format, name="made.s")
+            self.assertEqual((status, output), (1, ""))
+            self.assertRegex(told[-1], rf"^sfi-cc: made.elf: the code has \d+ bytes, \d+ more than format {image_format} has room for \(at most {size}\)$")
 
 
 @needs_program

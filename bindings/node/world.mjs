@@ -6,7 +6,7 @@ import { Call, Ended, Exited, Meets, NoImage, NoName, NotEntered, NotReturned, N
   Refused, Stopped, Trapped, eventOf, hexadecimal } from "./told.mjs";
 
 export const EXIT = 0; // the service
-const MOST_DATA = 1 << 20;
+const SMALL = 1 << 20; // bytes for which there is room, also where the data have fewer
 const ARGUMENTS = 8;
 const LONGEST_NAME = 255;
 const REGISTERS = 33; // words of struct sfi_run_registers
@@ -280,7 +280,7 @@ export class Sandbox {
   }
 
   read(at, count) {
-    if (!Number.isInteger(count) || count < 0 || count > MOST_DATA) throw outside(at, count);
+    if (!Number.isInteger(count) || count < 0 || !this.#mayHave(count)) throw outside(at, count);
     const { library } = this.#open();
     const room = library.passage(count);
     if (!this.#call("read", word(at), BigInt(count), room, BigInt(count))) throw outside(at, count);
@@ -290,7 +290,7 @@ export class Sandbox {
   write(at, data) {
     const bytes = bytesOf(data);
     const count = bytes.length;
-    if (count > MOST_DATA || !this.#call("write", word(at), this.#open().library.pass(bytes), BigInt(count))) throw outside(at, count);
+    if (!this.#mayHave(count) || !this.#call("write", word(at), this.#open().library.pass(bytes), BigInt(count))) throw outside(at, count);
   }
 
   stop() {
@@ -300,6 +300,11 @@ export class Sandbox {
   reset() {
     this.#entered("reset");
     this.#seat.before = 0n;
+  }
+
+  /** Whether its data may have so many bytes: nothing larger is made room for. */
+  #mayHave(count) {
+    return count <= SMALL || count <= this.data.size;
   }
 
   /** a0 to a7, in the passage. Those that are left are 0. */

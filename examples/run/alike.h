@@ -2,7 +2,7 @@
 #include "host.h"
 #include <string.h>
 
-enum { MOST_DATA = 1 << 20 };
+enum { PIECE = 1 << 16 };
 
 static inline void wanted(bool is_so, const char *what) {
     if (is_so)
@@ -28,15 +28,24 @@ static inline bool answers(struct sfi_run_world *world, uint32_t i, const struct
            sfi_run_reply(world, i, call->a0 * 2654435761u + call->number, call->a1 + call->a2);
 }
 
+/* Whether these data of two sandboxes are the same. */
+static inline bool have_alike(struct sfi_run_world *one, struct sfi_run_world *other, uint32_t i, struct sfi_run_region data) {
+    uint8_t bytes[PIECE], others[PIECE];
+    for (uint32_t at = 0; at < data.size; at += PIECE) {
+        const uint32_t length = data.size - at < PIECE ? data.size - at : PIECE;
+        if (!sfi_run_read(one, i, data.base + at, length, bytes, PIECE) || !sfi_run_read(other, i, data.base + at, length, others, PIECE) ||
+            memcmp(bytes, others, length))
+            return false;
+    }
+    return true;
+}
+
 /* Whether two sandboxes of one image stand alike, but for their steps. */
 static inline bool stand_alike(struct sfi_run_world *one, struct sfi_run_world *other, uint32_t i) {
-    static uint8_t bytes[MOST_DATA], others[MOST_DATA];
     struct sfi_run_event event, also;
     struct sfi_run_registers registers, those;
     struct sfi_run_region data;
     sfi_run_event(one, i, &event), sfi_run_event(other, i, &also);
     return sfi_run_registers(one, i, &registers) && sfi_run_registers(other, i, &those) && sfi_run_data(one, i, &data) &&
-           sfi_run_read(one, i, data.base, data.size, bytes, MOST_DATA) &&
-           sfi_run_read(other, i, data.base, data.size, others, MOST_DATA) && !memcmp(&event, &also, sizeof event) &&
-           !memcmp(&registers, &those, sizeof registers) && !memcmp(bytes, others, data.size);
+           !memcmp(&event, &also, sizeof event) && !memcmp(&registers, &those, sizeof registers) && have_alike(one, other, i, data);
 }

@@ -44,6 +44,7 @@ __all__ = [
 __version__ = "0.1.0"
 
 Library = _library.Library
+_SMALL = 1 << 20  # bytes for which a read makes room, also where the data have fewer
 _ENGINES = {1: "interpreter", 2: "native"}  # enum sfi_run_engine
 
 
@@ -326,8 +327,9 @@ class Sandbox:
 
     def read(self, at: int, count: int) -> bytes:
         """The `count` bytes of its data from address `at` on. Raises OutsideData where one isn't of its data."""
-        room = ctypes.create_string_buffer(count) if 0 < count <= 1 << 20 else ctypes.create_string_buffer(1)
-        if not 0 <= count <= 1 << 20 or not self._call("read", _word(at), count, room, len(room)):
+        is_possible = 0 <= count <= _SMALL or 0 <= count <= self.data.size  # nothing larger is made room for
+        room = ctypes.create_string_buffer(max(count, 1) if is_possible else 1)
+        if not is_possible or not self._call("read", _word(at), count, room, len(room)):
             raise OutsideData(f"{count} bytes at {at:08x}")
         return room.raw[:count]
 

@@ -7,6 +7,8 @@ from suygapid import TOP
 from suygapid.elf.image import SMALLEST, UNITS, Place
 from suygapid.image.layout import MOST_DATA
 
+LARGEST = max(MOST_DATA.values())  # bytes of a region; what a format hasn't is refused when it is known
+
 
 def add_program(parser: argparse.ArgumentParser) -> None:
     parser.add_argument("--program", default=os.environ.get("SFI") or os.path.join(TOP, "sfi"), metavar="SFI",
@@ -61,16 +63,16 @@ def size(text: str) -> int:
 def room(text: str) -> int:
     """The bytes of the heap or the stack."""
     found = size(text)
-    if not 0 <= found <= MOST_DATA:
-        raise argparse.ArgumentTypeError(f"{text!r} is no number from 0 to {MOST_DATA}")
+    if not 0 <= found <= LARGEST:
+        raise argparse.ArgumentTypeError(f"{text!r} is no number from 0 to {LARGEST}")
     return found
 
 
 def region(text: str) -> int:
     """The size of a data region."""
     found = size(text)
-    if not SMALLEST <= found <= MOST_DATA or found & (found - 1):
-        raise argparse.ArgumentTypeError(f"{text!r} is no power of two from {SMALLEST} to {MOST_DATA}")
+    if not SMALLEST <= found <= LARGEST or found & (found - 1):
+        raise argparse.ArgumentTypeError(f"{text!r} is no power of two from {SMALLEST} to {LARGEST}")
     return found
 
 

@@ -65,13 +65,23 @@ def deepest_frame(elf: Elf) -> Frame:
     return Frame(elf.function_at(address), size)
 
 
-def code_of(elf: Elf, image_format: str) -> bytes:
+def most_of(mosts: dict[int, int], elf: Elf) -> int:
+    """The most bytes of a region in the format of a program."""
+    return mosts[FORMATS[NAMED[format_of(elf)]]]
+
+
+def code_size(elf: Elf) -> int:
+    """The bytes of the code region."""
+    return power(sum(len(segment.content) for segment in elf.loaded() if segment.is_code))
+
+
+def code_of(elf: Elf) -> bytes:
     """The code region's bytes."""
     text = b"".join(segment.content for segment in elf.loaded() if segment.is_code)
-    most = MOST_CODE[FORMATS[NAMED[image_format]]]
+    most = most_of(MOST_CODE, elf)
     if len(text) > most:
-        raise Wrong(f"{elf.name}: the code has {len(text)} bytes, {len(text) - most} more than format {image_format} has room for")
-    return text + BREAK * ((power(len(text)) - len(text)) // 2)
+        raise Wrong(f"{elf.name}: the code has {len(text)} bytes, {len(text) - most} more than format {format_of(elf)} has room for (at most {most})")
+    return text + BREAK * ((code_size(elf) - len(text)) // 2)
 
 
 def used_by(elf: Elf) -> int:
@@ -79,8 +89,9 @@ def used_by(elf: Elf) -> int:
     used = elf.symbol("__sfi_end") - elf.symbol("__sfi_data")
     if used < 0:
         raise Wrong(f"{elf.name}: the data end below their beginning: link it by tools/sfi-cc")
-    if used > MOST_DATA:
-        raise Wrong(f"{elf.name}: the objects have {used} bytes, {used - MOST_DATA} more than the format allows")
+    most = most_of(MOST_DATA, elf)
+    if used > most:
+        raise Wrong(f"{elf.name}: the objects have {used} bytes, {used - most} more than format {format_of(elf)} has room for (at most {most})")
     return used
 
 
@@ -122,27 +133,52 @@ def listed(counts: dict[str, int], unit: str = "") -> str:
 
 def check_room(elf: Elf, size: int, counts: dict[str, int], above: int) -> None:
     """Whether objects, stack and heap of so many bytes, in this order, fit in the region, below what lies above the stack."""
-    most, needed = min(size, MOST_DATA), sum(counts.values()) + above
+    largest, needed = most_of(MOST_DATA, elf), sum(counts.values()) + above
+    most = min(size, largest)
     if needed <= most:
         return
     ends = accumulate(counts.values(), initial=above)
     lacking = {what: max(0, min(count, end + count - most)) for (what, count), end in zip(counts.items(), ends)}
-    more = f"--memory {spelled_size(power(needed))} gives more" if power(needed) <= MOST_DATA else "the format allows no more"
+    more = f"--memory {spelled_size(power(needed))} gives more" if power(needed) <= largest else f"format {format_of(elf)} has room for no more"
     raise Wrong(f"{elf.name}: {listed(counts, ' bytes')} don't fit in {most}, by {listed(lacking)}: {more}")
 
 
+def wanted_of(elf: Elf, wanted: Optional[int]) -> Optional[int]:
+    """The size that is wanted for the data region, or with which the program was linked, if any."""
+    wanted, most = wanted or elf.symbols.get("__sfi_memory"), most_of(MOST_DATA, elf)
+    if wanted and wanted > most:
+        raise Wrong(f"{elf.name}: --memory {spelled_size(wanted)} is more than format {format_of(elf)} has room for (at most {spelled_size(most)})")
+    return wanted
+
+
+def above_stack(elf: Elf) -> int:
+    """The bytes between the first stack pointer and the data region's end."""
+    return elf.symbol("__sfi_above") + TOP
+
+
+def counts_of(elf: Elf, stack: Optional[int], wanted: Optional[int]) -> dict[str, int]:
+    """The bytes that what lies in the data region has at least, in that order."""
+    return {"objects": used_by(elf), "stack": stack_of(elf, stack), "heap": least_heap(elf, wanted is not None)}
+
+
+def memory_size(elf: Elf, stack: Optional[int] = None, wanted: Optional[int] = None) -> int:
+    """The bytes of the data region: as many as are wanted, or the least that have room for all."""
+    wanted, is_told = wanted_of(elf, wanted), stack is not None or {"__sfi_heap", "__sfi_stack"} & elf.symbols.keys()
+    counts, above = counts_of(elf, stack, wanted), above_stack(elf)
+    size = wanted or max(power(sum(counts.values()) + above), SMALLEST if is_told else DEFAULT_MEMORY)
+    check_room(elf, size, counts, above)
+    return size
+
+
 def memory_of(elf: Elf, stack: Optional[int] = None, wanted: Optional[int] = None) -> Memory:
-    """How the data region is shared. It has the size that is wanted, or the least that has room for all."""
-    wanted, is_told = wanted or elf.symbols.get("__sfi_memory"), stack is not None or {"__sfi_heap", "__sfi_stack"} & elf.symbols.keys()
-    objects, stack, heap = used_by(elf), stack_of(elf, stack), least_heap(elf, wanted is not None)
-    above = elf.symbol("__sfi_above") + TOP
-    size = wanted or max(power(objects + stack + heap + above), SMALLEST if is_told else DEFAULT_MEMORY)
-    check_room(elf, size, {"objects": objects, "stack": stack, "heap": heap}, above)
+    """How the data region is shared."""
+    size = memory_size(elf, stack, wanted)
+    objects, stack, heap = counts_of(elf, stack, wanted_of(elf, wanted)).values()
     base = elf.symbol("__sfi_data")
     if base % size:
         raise Wrong(f"{elf.name}: the data have {size} bytes, and lie at {base:#x}, which is no multiple of that: "
                     f"link it with --memory {spelled_size(size)}, or another --at")
-    frame, room = deepest_frame(elf), size - objects - above
+    frame, room = deepest_frame(elf), size - objects - above_stack(elf)
     if frame.size > room - heap:
         raise Wrong(f"{elf.name}: the frame of {frame.function} has {frame.size} bytes, and the stack has room for {room - heap}: "
                     f"give --stack {frame.size + TOP} or more")
@@ -180,7 +216,7 @@ class Sandbox(Part):
 
 def sandbox_of(elf: Elf, stack: Optional[int], wanted: Optional[int]) -> Sandbox:
     memory = memory_of(elf, stack, wanted)
-    made = Sandbox(elf.symbol("__sfi_code"), code_of(elf, format_of(elf)), elf.symbol("__sfi_data"), memory.size,
+    made = Sandbox(elf.symbol("__sfi_code"), code_of(elf), elf.symbol("__sfi_data"), memory.size,
                    elf.entry, elf.gates(), data_of(elf, stack_of(elf, stack), memory), path=elf.name)
     made.check_place()
     return made

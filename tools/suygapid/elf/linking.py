@@ -6,6 +6,7 @@ from suygapid.cc.compilers import Failed, ran, tell
 from suygapid.elf import moving
 from suygapid.elf import runtime
 from suygapid.elf.elf import Elf, Wrong
+from suygapid.elf.image import code_size, memory_size
 from suygapid.elf.tools import archived, assembled, binutil
 from suygapid.image.names import API, SERVICE, entries, marked, signatures
 from suygapid.library import plus_plus, small_library
@@ -13,22 +14,26 @@ from suygapid.library.archives import SMALL, Libraries, folders_of
 from suygapid.services import GATES
 
 CODE, DATA = 0x01000000, 0x00800000  # a sandbox's place is its number plus 1 times the first, its data lie the second above
-LARGE = 0x20000000  # where larger data begin, if they have no more bytes than that
+BESIDE = 0x00400000  # bytes at most of code, and of data, that lie so, with room for guard zones beside the data
+LARGE, APART = 0x20000000, 0x08000000  # where other data begin, above the code of 16 sandboxes, and how far apart at least
 WORDS = ["-m", "elf32lriscv", "--no-relax", "--gc-sections", "-z", "noexecstack", "--no-warn-rwx-segments"]
 UNDEFINED = b"undefined"  # what the linker says of a symbol
 TOO_MANY_SMALL = b"the small objects and the room below them exceed"  # what the linker script says
 START = ["-u", "_start"]  # what a C library does before main and after it, where one has it
 
 
-def place_of(options):
-    """Where the code and the data begin."""
-    base, memory = (options.sandbox + 1) * CODE, options.memory or 0
-    return options.at or (base, base + DATA if memory <= DATA else max(LARGE, memory) + options.sandbox * memory)
+def place_of(sandbox, code, data):
+    """Where code and data of so many bytes begin. Sandboxes of other numbers have other places, with a data region's size, or the
+    least distance, between their data, so that all 16 have room where none has more than 64 MiB."""
+    base = (sandbox + 1) * CODE
+    if max(code, data) <= BESIDE:
+        return base, base + DATA
+    return base, max(LARGE, data) + sandbox * max(APART, 2 * data)
 
 
-def numbers_of(options, names, libraries):
+def numbers_of(options, place, names, libraries):
     """The numbers that the linker script and what makes images of linked files ask for."""
-    numbers = dict(zip(("__sfi_code_base", "__sfi_data_base"), place_of(options)))
+    numbers = dict(zip(("__sfi_code_base", "__sfi_data_base"), place))
     sizes = {"memory": options.memory, "stack": options.stack, "heap": options.heap, "heap_least": libraries.least_heap}
     numbers.update((f"__sfi_{name}", size) for name, size in sizes.items() if size is not None)
     if options.api is not None:
@@ -92,7 +97,8 @@ def has_room(options, objects, folder):
     the room below them may be larger, too."""
     quiet = Namespace(**{**vars(options), "no_signatures": True})
     try:
-        _, first, last = words_of(quiet, Libraries(quiet, options.library, objects), objects, folder)
+        place = place_of(options.sandbox, 0, options.memory or 0)
+        _, first, last = words_of(quiet, place, Libraries(quiet, options.library, objects), objects, folder)
         ran([*first, *last])
     except Failed as failed:
         return TOO_MANY_SMALL not in failed.told
@@ -117,12 +123,21 @@ def linked(options, objects, folder):
 
 
 def linked_with(options, folders, objects, folder):
-    """The program that objects, archives and the libraries in some folders make. One that can be moved is linked a second time:
-    with the list of the addresses in its data, or, if there are none, without what sets them right."""
+    """The program that objects, archives and the libraries in some folders make. It is linked again where its code or data turn out to
+    have no room at the usual place."""
     libraries = Libraries(options, folders, objects)
     if libraries.have_exceptions and options.target.is_movable:
         raise Wrong("a program for any place has no exceptions: compile C++ with -fno-exceptions")
-    fresh, first, last = words_of(options, libraries, objects, folder)
+    place = options.at or place_of(options.sandbox, 0, options.memory or 0)
+    made = linked_at(options, place, libraries, objects, folder)
+    roomy = options.at or place_of(options.sandbox, code_size(made), memory_size(made))
+    return made if place == roomy else linked_at(options, roomy, libraries, objects, folder)
+
+
+def linked_at(options, place, libraries, objects, folder):
+    """The same at a place. A program that can be moved is linked a second time: with the list of the addresses in its data, or, if
+    there are none, without what sets them right."""
+    fresh, first, last = words_of(options, place, libraries, objects, folder)
     name = os.path.basename(options.output) if options.output else "the program"
 
     def program(*words):
@@ -147,7 +162,7 @@ def settling_of(program, folder):
     return [*moving.SETTLING, output]
 
 
-def words_of(options, libraries, objects, folder):
+def words_of(options, place, libraries, objects, folder):
     """The path of the program to be, and the linker's words, in two parts: the script, in the second, sees the numbers that
     stand before it."""
     made = runtime.folder_of(options.target)
@@ -158,7 +173,7 @@ def words_of(options, libraries, objects, folder):
     own = [os.path.join(made, name) for name in ("libruntime.a", "libgates.a", "libmovable.a", *main)]
     heap = [os.path.join(made, "heap_checks.o"), "--wrap=exit_with"] if options.target.is_checking and libraries.have_heap else []
     fresh = os.path.join(folder, "program.elf")
-    first = [binutil("ld"), *WORDS, *numbers_of(options, names, libraries), *START]
+    first = [binutil("ld"), *WORDS, *numbers_of(options, place, names, libraries), *START]
     return fresh, first, [
         *runtime.EXCEPTIONS * libraries.have_exceptions, "-T", runtime.SCRIPT, *options.linker, "-o", fresh, os.path.join(made, "crt0.o"),
         *(path for path in objects if path not in archives), *names.objects(folder), *heap,

@@ -11,8 +11,9 @@ from suygapid import services
 FORMATS = {b"SFI1": 1, b"SFI2": 2, b"SFIW": 3}
 MAGICS = {number: magic for magic, number in FORMATS.items()}
 NAMED = {"1": b"SFI1", "2": b"SFI2", "words": b"SFIW"}  # as options name them
-MOST_CODE = {1: 65536, 2: 1048576, 3: 1048576}
-MOST_DATA, GUARD, MOST_GATES, MOST_SANDBOXES = 1048576, 4096, 64, 16
+MOST_CODE = {1: 65536, 2: 1048576, 3: 16777216}  # bytes of a region, by the format
+MOST_DATA = {1: 1048576, 2: 1048576, 3: 1073741824}
+GUARD, MOST_GATES, MOST_SANDBOXES = 4096, 64, 16
 MOST_SERVICE = max(services.GATES.values())
 FAULTS = ["", "Magic", "Count", "Short", "Code", "Data", "GuardRoom", "Start", "Gates", "Init", "Overlap", "Trailing"]
 
@@ -116,7 +117,7 @@ def read_part(read, format, spans):
         return address % 16 == 0 and 0 <= address - code_base < code_size
 
     need(is_region(code_base, code_size, MOST_CODE[format]), "Code")
-    need(is_region(data_base, data_size, MOST_DATA), "Data")
+    need(is_region(data_base, data_size, MOST_DATA[format]), "Data")
     need(data_base >= GUARD and data_base + data_size + GUARD <= 1 << 32, "GuardRoom")
     need(is_start(start), "Start")
     need(gate_count <= MOST_GATES, "Gates")
