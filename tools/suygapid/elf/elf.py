@@ -5,6 +5,7 @@ from typing import Iterator, NamedTuple, Optional
 
 IMAGE = (b"SFI", b"534649")  # with which an image begins, as bytes and as text
 LOADED, EXECUTABLE = 1, 1  # a segment's kind, and its flag
+ALLOCATED = 2  # a section's flag: it has room in memory
 SYMBOLS = 2  # a section's kind
 NOTHING, OBJECT, FUNCTION = 0, 1, 2  # kinds of a symbol
 
@@ -65,6 +66,11 @@ class Elf:
 
     def bytes_of(self, header: tuple[int, ...]) -> bytes:
         return self.content[header[4]:header[4] + header[5]]
+
+    def offset(self, address: int) -> int:
+        """Where an address is in the file."""
+        header = next(it for it in self.headers if it[2] & ALLOCATED and it[3] <= address < it[3] + it[5])
+        return header[4] + address - header[3]
 
     def section(self, name: str) -> bytes:
         """A section's bytes, none where it isn't there."""

@@ -3,7 +3,7 @@ import os
 from argparse import Namespace
 
 from suygapid.cc.compilers import Failed, ran, tell
-from suygapid.elf import moving
+from suygapid.elf import islands, moving
 from suygapid.elf import runtime
 from suygapid.elf.elf import Elf, Wrong
 from suygapid.elf.image import code_size, memory_size
@@ -141,7 +141,14 @@ def linked_at(options, place, libraries, objects, folder):
     name = os.path.basename(options.output) if options.output else "the program"
 
     def program(*words):
-        ran_linker([*first, *words, *last], libraries)
+        def link(script, *more):
+            ran([*first, *words, *more, *(script if word == runtime.SCRIPT else word for word in last)])
+        try:
+            ran_linker([*first, *words, *last], libraries)
+        except Failed as failed:
+            if islands.TOO_FAR not in failed.told or not islands.is_alone(failed.told):
+                raise
+            islands.linked(link, fresh, runtime.SCRIPT, folder, name)
         return Elf(fresh, name)
 
     if not options.target.is_movable:

@@ -5,7 +5,7 @@ import struct
 from dataclasses import dataclass
 from typing import Optional
 
-from suygapid.elf.elf import Elf, Wrong
+from suygapid.elf.elf import ALLOCATED, Elf, Wrong
 from suygapid.isa.encoding import r_type
 
 MOVABLE = "__sfi_movable"  # a symbol that the linker script sees, and an image's tools
@@ -13,7 +13,7 @@ START = "_sfi_start_movable"  # in runtime/movable.s
 KEEPING = ["--emit-relocs", f"--defsym={MOVABLE}=1"]  # the linker's options
 SETTLING = ["-e", START]  # those of a program that has addresses in its data
 OWN = 2  # addresses in the data of what sets the others right
-RELOCATIONS, ALLOCATED, EXECUTABLE = 4, 2, 4  # a section's kind, and its flags
+RELOCATIONS, EXECUTABLE = 4, 4  # a section's kind, and its flag
 ADDRESS, UPPER = 1, 26  # R_RISCV_32, R_RISCV_HI20
 ABSOLUTE = 0xff00  # from here on no symbol is of a section
 PAGE = 4096  # bases are multiples of it, so that the lower part of an address is that of its place in the region
@@ -55,13 +55,8 @@ class Moving:
             return None
         return "code" if self.elf.headers[section][2] & EXECUTABLE else "data"
 
-    def offset(self, address):
-        """Where an address is in the file."""
-        segment = next(it for it in self.elf.headers if it[2] & ALLOCATED and it[3] <= address < it[3] + it[5])
-        return segment[4] + address - segment[3]
-
     def word(self, address):
-        return struct.unpack_from("<I", self.content, self.offset(address))[0]
+        return struct.unpack_from("<I", self.content, self.elf.offset(address))[0]
 
     # The data.
 
@@ -93,7 +88,7 @@ class Moving:
         added = next((at for at in (place + WORD, place + 2 * WORD) if self.adds(at, register)), None)
         if added is not None:
             base = self.bases.get(relocation.region, 0)
-            struct.pack_into("<I", self.content, self.offset(place), (upper - base) % (1 << 32))
+            struct.pack_into("<I", self.content, self.elf.offset(place), (upper - base) % (1 << 32))
             self.set_base(added, register, BASES.get(relocation.region))
         elif relocation.region and register not in MASKED:
             raise Wrong(f"{self.elf.name}: the code at {place:#x} can't be moved: compile all of it with --movable")
@@ -106,9 +101,9 @@ class Moving:
     def set_base(self, place, register, base):
         """Has the sum there be that with a base, or a nop."""
         if self.word(place) & 3 == 3:
-            struct.pack_into("<I", self.content, self.offset(place), long_add(register, base or 0))
+            struct.pack_into("<I", self.content, self.elf.offset(place), long_add(register, base or 0))
         else:
-            struct.pack_into("<H", self.content, self.offset(place), short_add(register, base) if base else 1)
+            struct.pack_into("<H", self.content, self.elf.offset(place), short_add(register, base) if base else 1)
 
     def made(self):
         """The program's bytes."""
@@ -116,7 +111,7 @@ class Moving:
             if relocation.kind == UPPER:
                 self.make_relative(relocation)
         first, end = self.elf.symbol("__sfi_places"), self.elf.symbol("__sfi_places_end")
-        at = self.offset(first) if first < end else 0
+        at = self.elf.offset(first) if first < end else 0
         if self.content[at:at + end - first] != self.encoded():
             raise Wrong(f"{self.elf.name}: the list of the addresses in its data isn't that of the first link")
         return bytes(self.content)
