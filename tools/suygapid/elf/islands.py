@@ -2,7 +2,8 @@
 
 A call or jump that leads farther goes by one or more others, its islands: `jal zero`, which changes no register. They lie between
 functions, in gaps that the linker script leaves. A program is linked for the places of its functions, and then with gaps until these
-have room; in the bytes of the last link the jumps are set. What reaches stays as it is, and a program in which all reach has none.
+have room, of copies of its objects whose jumps the linker leaves alone; they are set in what it makes last. What reaches is a jump as
+ever, and a program in which all reach has no islands.
 """
 import os
 import re
@@ -10,18 +11,17 @@ import struct
 from dataclasses import dataclass, field
 from typing import Callable, Iterator, Sequence
 
-from suygapid.elf.elf import Elf, Wrong
+from suygapid.elf.elf import ALLOCATED, Elf, Wrong
 from suygapid.elf.image import code_size, most_of
 from suygapid.image.layout import MOST_CODE
 from suygapid.isa.encoding import jal
 
 TOO_FAR = b"relocation truncated to fit: R_RISCV_JAL"  # what the linker says
-BESIDE = (b"additional relocation overflows omitted", b"warning:")  # what it may say, too
-KEEPING_ON = "--noinhibit-exec"  # has it write the program all the same
 REACH = 1 << 20
 SPACING = 7 << 16  # bytes of code between two gaps, so that there are some in reach in each direction
 WORD, ROOM, TRIALS = 4, 16, 10
-JAL, RELOCATIONS = 17, 4  # R_RISCV_JAL, and a kind of sections
+NONE, JAL, RELOCATIONS = 0, 17, 4  # kinds of relocations: none, and that of a jump; and a kind of sections
+JUMP = 0x6f  # the opcode of `jal`
 CODE_LINE = "*(.text.unlikely .text.unlikely.*) *(.text .text.*)\n"  # of the linker script: where functions lie
 INPUT = re.compile(r"^ (\.text\S*)\s+0x([0-9a-f]+)\s+0x([0-9a-f]+) (.+)$", re.M)  # a section, in the linker's map
 MEMBER = re.compile(r"(.*)\(([^()]*)\)")
@@ -51,6 +51,50 @@ class Gap:
 
     def end(self) -> int:
         return self.address + WORD * self.room
+
+
+ARCHIVE, MEMBER_HEADER, MEMBER_SIZE = b"!<arch>\n", 60, slice(48, 58)
+
+
+def free_jumps(content: bytearray, begin: int) -> None:
+    """Has the linker leave the jumps alone of an object that begins there in some bytes; what they name stays."""
+    if content[begin:begin + 6] != b"\x7fELF\x01\x01":
+        return
+    (headers,), (size, count) = struct.unpack_from("<I", content, begin + 32), struct.unpack_from("<2H", content, begin + 46)
+    for number in range(count):
+        _, kind, _, _, at, length = struct.unpack_from("<6I", content, begin + headers + number * size)
+        for place in range(begin + at + 4, begin + at + length, 12) if kind == RELOCATIONS else ():
+            if content[place] == JAL:
+                content[place] = NONE
+
+
+def with_free_jumps(path: str) -> bytes:
+    """The same of an object file or an archive."""
+    with open(path, "rb") as file:
+        content = bytearray(file.read())
+    if not content.startswith(ARCHIVE):
+        free_jumps(content, 0)
+        return bytes(content)
+    at = len(ARCHIVE)
+    while at < len(content):
+        free_jumps(content, at + MEMBER_HEADER)
+        at += MEMBER_HEADER + int(content[at:at + MEMBER_HEADER][MEMBER_SIZE])
+        at += at % 2
+    return bytes(content)
+
+
+def words_with_copies(words: Sequence[str], folder: str) -> list[str]:
+    """The linker's words with copies of the objects and archives, so made, in a folder."""
+    made, places = [], [word[2:] for word in words if word.startswith("-L")]
+    for number, word in enumerate(words):
+        named = [os.path.join(place, f"lib{word[2:]}.a") for place in places] if word.startswith("-l") else [word]
+        path = next(filter(os.path.isfile, named), "")
+        if path.endswith((".o", ".a")):
+            word = os.path.join(folder, f"{number}-{os.path.basename(path)}")
+            with open(word, "wb") as file:
+                file.write(with_free_jumps(path))
+        made.append(word)
+    return made
 
 
 def inputs_of(listing: str) -> list[Input]:
@@ -84,16 +128,11 @@ def reaches(place: int, target: int) -> bool:
 def jumps_of(elf: Elf) -> Iterator[tuple[int, int]]:
     """Where calls and jumps by name lie, and where they lead."""
     for header in elf.headers:
-        if header[1] == RELOCATIONS:
+        if header[1] == RELOCATIONS and elf.headers[header[7]][2] & ALLOCATED:
             symbols = list(struct.iter_unpack("<3I2BH", elf.bytes_of(elf.headers[header[6]])))
             for place, about, added in struct.iter_unpack("<2Ii", elf.bytes_of(header)):
-                if about & 255 == JAL and symbols[about >> 8][-1]:
+                if about & 255 == NONE and elf.content[elf.offset(place)] & 127 == JUMP:
                     yield place, symbols[about >> 8][1] + added
-
-
-def is_alone(said: bytes) -> bool:
-    """Whether the linker says of nothing else that fails."""
-    return all(TOO_FAR in line or line.endswith(b"':") or any(it in line for it in BESIDE) for line in said.splitlines())
 
 
 class Islands:
@@ -102,7 +141,7 @@ class Islands:
     def __init__(self, elf: Elf, gaps: Sequence[Gap]) -> None:
         self.elf, self.gaps = elf, gaps
         self.steps: dict[int, int] = {}  # by the place of a jump or an island, where it leads
-        waiting = [(place, target) for place, target in jumps_of(elf) if not reaches(place, target)]
+        waiting = list(jumps_of(elf))
         while waiting:
             place, target = waiting.pop()
             self.steps[place] = target if reaches(place, target) else self.island(place, target)
@@ -144,10 +183,10 @@ def with_room(gaps: Sequence[Gap]) -> bool:
 
 
 def linked(link: Callable[..., None], output: str, script: str, folder: str, name: str) -> None:
-    """Writes a program that has jumps which don't reach: `link` runs the linker with a script and further words. Where the code is
-    larger than its format has room for, the program is as the linker leaves it: no image is made of it."""
+    """Writes a program that has jumps which don't reach: `link` runs the linker on the copies, with a script and further words. Where
+    the code is larger than its format has room for, the program is as the linker leaves it: no image is made of it."""
     listing, changed = os.path.join(folder, "program.map"), os.path.join(folder, "islands.ld")
-    link(script, KEEPING_ON, "--emit-relocs", "-Map", listing)
+    link(script, "--emit-relocs", "-Map", listing)
     elf = Elf(output, name)
     if code_size(elf) > most_of(MOST_CODE, elf):
         return
@@ -162,13 +201,13 @@ def linked(link: Callable[..., None], output: str, script: str, folder: str, nam
             break
         with open(changed, "w", encoding="utf-8", errors="surrogateescape") as file:
             file.write(script_of(text, inputs, gaps))
-        link(changed, KEEPING_ON, "--emit-relocs")
+        link(changed, "--emit-relocs")
         elf = Elf(output, name)
         for number, gap in enumerate(gaps):
             gap.address = elf.symbol(f"far.jumps.{number}")
     else:
         raise Wrong(f"{name}: {TRIALS} links found no places for the jumps that lead far")
-    link(changed, KEEPING_ON)
+    link(changed)
     content = islands.set_in(Elf(output, name))
     with open(output, "wb") as file:
         file.write(content)

@@ -1,5 +1,6 @@
 """Links objects and archives to an ELF file of a sandbox."""
 import os
+import tempfile
 from argparse import Namespace
 
 from suygapid.cc.compilers import Failed, ran, tell
@@ -141,14 +142,14 @@ def linked_at(options, place, libraries, objects, folder):
     name = os.path.basename(options.output) if options.output else "the program"
 
     def program(*words):
-        def link(script, *more):
-            ran([*first, *words, *more, *(script if word == runtime.SCRIPT else word for word in last)])
         try:
             ran_linker([*first, *words, *last], libraries)
         except Failed as failed:
-            if islands.TOO_FAR not in failed.told or not islands.is_alone(failed.told):
+            if islands.TOO_FAR not in failed.told:
                 raise
-            islands.linked(link, fresh, runtime.SCRIPT, folder, name)
+            copies = islands.words_with_copies([*words, *last], tempfile.mkdtemp(dir=folder))
+            islands.linked(lambda script, *more: ran_linker([*first, *more, *(script if it == runtime.SCRIPT else it for it in copies)], libraries),
+                           fresh, runtime.SCRIPT, folder, name)
         return Elf(fresh, name)
 
     if not options.target.is_movable:
