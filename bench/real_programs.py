@@ -21,8 +21,9 @@ from typing import NamedTuple
 import compiled
 import measure
 import programs
-from compiled import RUNTIME, TOOLS, Count, answer, image, mean, section
+from compiled import DATA_SIZE, RUNTIME, TOOLS, Count, answer, image, mean, power_above, section
 from suygapid.cc.compilers import GCC, compiled as compiled_to
+from suygapid.commands.options import size as size_of
 from suygapid.elf.runtime import OVERRIDDEN
 from suygapid.kept import kept, root
 from suygapid.library.newlib import folder_of
@@ -74,6 +75,11 @@ def library():
     return folder, os.path.join(kept("plain", [folder], make), "library.a")
 
 
+def heap_of(program):
+    """The bytes that malloc may give: as many as the program says, or those of the data that it says in a sandbox."""
+    return size_of(program.memory) if program.memory else program.heap
+
+
 def objects_of(name, tree, folder, include):
     """The objects of a program's files and of its heap."""
     options = ["-fhosted", "-fbuiltin", "-isystem", include, *programs.options_of(name, tree, folder)]
@@ -84,8 +90,7 @@ def objects_of(name, tree, folder, include):
         return assembled(compiled_to(GCC, options, path, place, ())[0], place + ".o")
 
     heap = os.path.join(folder, "heap.s")
-    size = programs.PROGRAMS[name].heap
-    measure.written(heap, HEAP.format(size=size).encode())
+    measure.written(heap, HEAP.format(size=heap_of(programs.PROGRAMS[name])).encode())
     with ThreadPoolExecutor(os.cpu_count()) as pool:
         return [*pool.map(made, enumerate(programs.files_of(name, tree))), assembled(heap, heap + ".o")]
 
@@ -100,7 +105,8 @@ def without_sandbox(name, tree, folder):
     objects = objects_of(name, tree, folder, os.path.join(library_folder, "include"))
     subprocess.run([*words, *objects, archive], check=True)
     code = section(linked, ".text", folder)
-    return image(code, section(linked, ".data", folder)), len(code)
+    data_size = max(DATA_SIZE, power_above(heap_of(programs.PROGRAMS[name]) + DATA_SIZE))
+    return image(code, section(linked, ".data", folder), data_size), len(code)
 
 
 def measured(name, options, interpreter, folder):

@@ -43,7 +43,7 @@ HEADERS = {  # what configurations would make: GCC's, and one of Mbed TLS in C a
 MANGLED = re.compile(r"_[ZRD].{,157}", re.ASCII)
 MOST_MANGLED = 360
 SAMPLE = ("zlib", "cjson", "tinyxml2", "tinyscheme", "truetype")  # what builds in seconds
-NO_ROOM = "more than format 1 has room for"
+NO_ROOM = re.compile("more than format [12] has room for")
 KEYS = "/usr/share/keyrings/debian-archive-keyring.gpg"
 RUN = ("run", "--rounds", "10000", "--quantum", "1000000")
 
@@ -52,8 +52,8 @@ RUN = ("run", "--rounds", "10000", "--quantum", "1000000")
 class Program:
     """The packages of a program, the patterns of the first one's files and of those that are left out, options, inputs (ours,
     the package's, or those of the other examples, one after another where + joins them), the bytes that malloc and the stack
-    have, the folder of headers beside those of the files, and a file that the program has as data.h. A file of our own has its
-    main, if there is one of its name."""
+    have, the folder of headers beside those of the files, a file that the program has as data.h, and the size of the data, if
+    malloc has what the stack leaves of them. A file of our own has its main, if there is one of its name."""
     package: str
     files: str
     options: str = ""
@@ -64,6 +64,7 @@ class Program:
     library: str = "newlib"
     headers: str = "include"
     data: str = ""
+    memory: str = ""
 
     def is_plus_plus(self):
         return self.library == "c++"
@@ -99,6 +100,11 @@ PROGRAMS = {
     "tinyscheme": Program("tinyscheme", "scheme.c", "-D_POSIX_C_SOURCE=200809 -DSTANDALONE=0 -DUSE_DL=0", "init.scm+queens.scm", heap=800000),
     "lodepng": Program("lodepng", "lodepng.cpp", "-DLODEPNG_NO_COMPILE_DISK", library="c++"),
     "truetype": Program("libstb fonts-tuffy", "", headers=".", data="Tuffy_Bold.ttf"),
+    # In words alone: bundles have no room for these data.
+    "brotli_window": Program("brotli", "c/common/*.c c/enc/*.c c/dec/*.c", headers="c/include", memory="64M"),
+    "sqlite_memory": Program("libdbd-sqlite3-perl", "sqlite3.c", "-DSQLITE_OS_OTHER=1 -DSQLITE_THREADSAFE=0 -DSQLITE_OMIT_LOAD_EXTENSION "
+                             "-DSQLITE_TEMP_STORE=3", memory="32M"),
+    "picture": Program("libstb", "", headers=".", memory="16M"),
 }
 
 
@@ -227,7 +233,8 @@ def natively(name, tree, folder):
 def command_of(name, tree, folder, image_format, path):
     """The command that links a program there."""
     program = PROGRAMS[name]
-    return [SFI_CC, "--format", image_format, "--library", program.library, "--heap", str(program.heap), "--stack", str(program.stack),
+    room = ["--memory", program.memory] if program.memory else ["--heap", str(program.heap)]
+    return [SFI_CC, "--format", image_format, "--library", program.library, *room, "--stack", str(program.stack),
             *options_of(name, tree, folder), "-o", path, *files_of(name, tree)]
 
 
@@ -297,7 +304,7 @@ def try_format(place, image_format, native, options, results):
     name, tree, _ = place
     elf, image = built(*place, image_format, options)
     if elf is None:
-        tell = results.skip if NO_ROOM in image else results.fail
+        tell = results.skip if NO_ROOM.search(image) else results.fail
         return tell(f"{name}, format {image_format}", image.strip())
     for given, wanted in native.items():
         found = sandboxed(image, given_to(given, tree), options)
