@@ -283,7 +283,7 @@ cp {self.folder}/main.asm "$2"
                               (["--import", "a,"], "argument --import: '' is no name of at most 255 letters, digits and _"),
                               (["--import", "put"], "argument --import: 'put' is the gate of service 1 already"),
                               (["--where", "x"], "argument --where: 'x' is no address of 32 bits in hexadecimal digits"),
-                              (["--data", "300"], "argument --memory/--data: '300' is no power of two from 256 to 1048576"),
+                              (["--data", "300"], "argument --memory/--data: '300' is no power of two from 256 to 1073741824"),
                               (["--stack"], "argument --stack: expected one argument")]:
             status, output, lines = self.call(self.file, *options)
             self.assertEqual((status, output, lines[-1]), (2, "", f"sfi-cc: error: {told}"))
@@ -358,7 +358,7 @@ class Libraries(Calls):
 
     def test_too_much_code(self):
         for image_format, size in (("1", 1 << 16), ("2", 1 << 20)):
-            status, output, told = self.made(f"main: ret\n.rept {size // 16}\ncall main\n.endr\n", "--format", image_format, name="made.s")
+            status, output, told = self.made("\t.globl main\nmain:\n" + "\tcall main\n" * (size // 8), "--format", image_format, name="made.s")
             self.assertEqual((status, output), (1, ""))
             self.assertRegex(told[-1], rf"^sfi-cc: made.elf: the code has \d+ bytes, \d+ more than format {image_format} has room for \(at most {size}\)$")
 
