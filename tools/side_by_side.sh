@@ -1,5 +1,5 @@
 # How ./test runs its parts, one at a time or side by side. It sources this after examples/harness.sh, whose $room and
-# counts this uses. $times is a file to which each part adds a line `took SECONDS PART`.
+# counts this uses. $times is a file to which each part adds a line `took SECONDS PROCESSOR PART`, as tools/gate.py has it.
 results=()
 scripts=()
 lanes=$(($(nproc) / 2)) # how many scripts run at a time: some of them have several processes
@@ -8,9 +8,9 @@ groups=() # the processes that lead those beside this one
 
 # Adds what a part's last line counts. The part has failed where it has no such line or counts nothing, and where its
 # status says so though its line doesn't.
-judge_part() { # the part, its status, its seconds, the file of its output
+judge_part() { # the part, its status, its seconds and those of processors, the file of its output
     local last before=$failed
-    last=$(tail -n 1 "$4")
+    last=$(tail -n 1 "$5")
     if ! add_counts "$last"; then
         failed=$((failed + 1))
         last="no result, status $2: counted as failed"
@@ -19,25 +19,26 @@ judge_part() { # the part, its status, its seconds, the file of its output
         last="$last, but it ended in status $2: counted as failed"
     fi
     results+=("$1: $last")
-    mapfile -t -O "${#results[@]}" results < <(grep '^skipped: ' "$4" | sed 's/^/    /')
-    [ "$3" = none ] || echo "took $3 $1" >>"$times"
+    mapfile -t -O "${#results[@]}" results < <(grep '^skipped: ' "$5" | sed 's/^/    /')
+    [ "$3" = none ] || echo "took $3 $4 $1" >>"$times"
 }
 
 # Runs a part whose seconds it tells itself.
 run_part() { # a command line
     echo "==== $*"
     "$@" </dev/null 2>&1 | tee "$room/output"
-    judge_part "$*" "${PIPESTATUS[0]}" none "$room/output"
+    judge_part "$*" "${PIPESTATUS[0]}" none none "$room/output"
 }
 
 await() { # a file
     until [ -e "$1" ]; do sleep 0.2; done
 }
 
-# Runs one of the scripts, into files of its own: its process, its output, and its status and seconds once it has ended.
+# Runs one of the scripts, into files of its own: its process, its output, and once it has ended its status, its seconds, and
+# those of processors that it and what it waited for took.
 # Of those that begin with the same `GROUP:` one runs at a time.
 run_aside() { # its number
-    local group='' words begun status
+    local group='' words status TIMEFORMAT='%0R %0U %0S'
     read -r -a words <<<"${scripts[$1]}"
     echo "$BASHPID" >"$room/part$1.process"
     : >"$room/part$1.output"
@@ -47,10 +48,9 @@ run_aside() { # its number
         exec 9>"$room/group_$group"
         flock 9
     fi
-    begun=$SECONDS
-    "${words[@]}" </dev/null >"$room/part$1.output" 2>&1 9>&-
+    { time "${words[@]}" </dev/null >"$room/part$1.output" 2>&1 9>&-; } 2>"$room/part$1.seconds"
     status=$?
-    echo "$status $((SECONDS - begun))" >"$room/part$1.new"
+    echo "$status $(tail -n 1 "$room/part$1.seconds")" >"$room/part$1.new"
     mv "$room/part$1.new" "$room/part$1.ended"
 }
 
@@ -103,7 +103,7 @@ start_making() { # NAME; a command
 
 # Runs all that `scripts` lists, and prints and counts each in their order, the first that hasn't ended as it comes.
 run_scripts() {
-    local number status seconds words
+    local number status seconds user system words
     start_group start_scripts
     for number in "${!scripts[@]}"; do
         [[ ${scripts[number]} != "wait "* ]] || continue
@@ -112,9 +112,9 @@ run_scripts() {
         echo "==== ${words[*]}"
         await "$room/part$number.output"
         tail -s 0.2 -n +1 -f --pid="$(<"$room/part$number.process")" "$room/part$number.output"
-        status=none seconds=0 # where it was killed
-        [ ! -e "$room/part$number.ended" ] || read -r status seconds <"$room/part$number.ended"
-        judge_part "${words[*]}" "$status" "$seconds" "$room/part$number.output"
+        status=none seconds=0 user=0 system=0 # where it was killed
+        [ ! -e "$room/part$number.ended" ] || read -r status seconds user system <"$room/part$number.ended"
+        judge_part "${words[*]}" "$status" "$seconds" $((user + system)) "$room/part$number.output"
     done
     wait_for_groups
 }

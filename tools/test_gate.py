@@ -7,7 +7,7 @@ import unittest
 
 from toolchain import TOP
 
-EDITS = {"low": ["one.edit", "two.edit"], "middle": ["three.edit"], "high": ["four.edit"], "top": ["five.edit"], "bare": []}
+EDITS = {"low": ["one.edit", "two.edit"], "high": ["four.edit"], "bare": []}
 # Says what `rt ci` says of crates, prints the edits that it sees, as `rt ci` tries them, and ends in status 3.
 RT = """#!/bin/sh
 echo "rt: low is kept: an earlier run on this machine proved the same files over the same libraries"
@@ -16,12 +16,12 @@ sleep ${PAUSE:-0}
 echo "rt: middle: its tests are proved"
 echo "rt: middle: trying its must-fail edits (1)"
 echo "rt: high NOT PROVED"
+i=0; while [ $i -lt ${COUNT:-0} ]; do i=$((i + 1)); done
 sleep ${PAUSE:-0}
-echo "rt: must-fail middle/three.edit: refused, as it must be"
+echo "rt: middle: its tests passed"
 ls crates/*/must-fail/*.edit
 exit 3
 """
-TWO_DAYS = 172800
 
 
 def written(path, text):
@@ -45,144 +45,66 @@ class Gate(unittest.TestCase):
         written(f"{room.name}/bin/rt", RT)
         os.chmod(f"{room.name}/bin/rt", 0o755)
         self.environment = {**os.environ, "PATH": f"{room.name}/bin:{os.environ['PATH']}", "HOME": room.name}
-        self.environment.pop("GATE_BASE", None)
-        self.seconds = 1700000000
-
-    def git(self, *words):
-        identity = ["-c", "user.name=a", "-c", "user.email=a@b"]
-        dated = {**self.environment, "GIT_COMMITTER_DATE": f"{self.seconds} +0000"}
-        subprocess.run(["git", *identity, *words], cwd=self.top, env=dated, check=True, stdout=subprocess.DEVNULL)
-
-    def commit(self, later=60):
-        self.seconds += later
-        self.git("commit", "-q", "--allow-empty", "-m", "one more")
-
-    def begin(self):
-        """A repository whose files are two days old."""
-        self.git("init", "-q", "-b", "main")
-        self.git("add", ".")
-        self.commit()
-        self.commit(TWO_DAYS)
-
-    def change(self, path):
-        written(f"{self.top}/{path}", "# another text\n")
-        self.git("add", ".")
+        subprocess.run(["git", "init", "-q", self.top], env=self.environment, check=True)
 
     def tried(self, *words):
-        """The names of the edits that a run tries, and all that it prints."""
-        ran = subprocess.run(["tools/gate.py", *words], cwd=self.top, env=self.environment, stdout=subprocess.PIPE, text=True, check=False)
+        """The names of the edits that `rt ci` sees."""
+        ran = subprocess.run(["tools/gate.py", *words], cwd=self.top, env=self.environment, stdout=subprocess.PIPE, stderr=subprocess.DEVNULL,
+                             text=True, check=False)
         self.assertEqual(ran.returncode, 3)  # that of rt
-        lines = ran.stdout.splitlines()
-        return [os.path.basename(it) for it in lines if it.endswith(".edit")], lines
+        return sorted(os.path.basename(it) for it in ran.stdout.splitlines() if it.endswith(".edit"))
 
     def there(self):
         return sorted(it for _, _, files in os.walk(f"{self.top}/crates") for it in files if it.endswith(".edit"))
 
     every = sorted(it for edits in EDITS.values() for it in edits)
 
-    def test_six_commits_try_each_edit_once(self):
-        self.begin()
-        found = []
-        for _ in range(6):
-            self.commit()
-            found += self.tried()[0]
-            self.assertEqual(self.there(), self.every)
-        self.assertEqual(sorted(found), self.every)
+    def test_edits_wait_while_it_runs(self):
+        self.assertEqual(self.tried(), [])
+        self.assertEqual(self.there(), self.every)
 
-    def in_turns(self):
-        """Which edits each of six further commits tries that two days part from all others."""
-        found = []
-        for _ in range(6):
-            self.commit(TWO_DAYS)
-            found.append(set(self.tried()[0]))
-        return found
+    def test_all(self):
+        self.assertEqual(self.tried("--all"), self.every)
+        self.assertEqual(self.there(), self.every)
 
-    def test_a_crate_of_the_last_hours_is_tried_by_each(self):
-        self.begin()
-        self.change("crates/low/src/lib.rt")
-        self.commit()
-        for _ in range(2):
-            self.commit(3600)
-            self.assertLessEqual({"one.edit", "two.edit"}, set(self.tried()[0]))
-        self.assertEqual(sum("one.edit" in it for it in self.in_turns()), 1)
-
-    def test_what_differs_from_a_base_is_tried_by_each(self):
-        self.begin()
-        self.git("branch", "begun")
-        self.change("crates/high/specs/Laws.antt")
-        self.change("crates/top/README.md")  # neither code nor proofs
-        self.commit()
-        for base, times in (("", 1), ("begun", 6)):
-            self.environment["GATE_BASE"] = base
-            found = self.in_turns()
-            self.assertEqual([sum(edit in it for it in found) for edit in ("four.edit", "five.edit")], [times, 1])
-
-    def test_proofs_and_imports_change_no_edit(self):
-        self.begin()
-        self.git("branch", "begun")
-        self.change("crates/low/proofs/Facts.antt")
-        written(f"{self.top}/crates/high/src/lib.rt", "//! A crate.\nghost use Rattle.low.specs.Words.{one};\nmod other;\n")
-        self.git("add", ".")
-        self.environment["GATE_BASE"] = "begun"
-        found = self.in_turns()
-        self.assertEqual([sum(edit in it for it in found) for edit in ("one.edit", "four.edit")], [1, 1])
-
-    def test_what_differs_from_the_branch_of_all_is_tried_by_each(self):
-        self.begin()
-        self.git("update-ref", "refs/remotes/origin/main", "HEAD")
-        self.change("crates/high/must-fail/four.edit")
-        self.assertEqual(sum("four.edit" in it for it in self.in_turns()), 6)
-
-    def test_a_base_that_is_none(self):
-        self.begin()
-        self.environment["GATE_BASE"] = "nowhere"
-        ran = subprocess.run(["tools/gate.py"], cwd=self.top, env=self.environment, capture_output=True, text=True, check=False)
-        self.assertEqual((ran.returncode, ran.stdout, ran.stderr), (1, "", "gate.py: GATE_BASE is nowhere, which is no commit here\n"))
-
-    def test_what_is_left_out_is_named(self):
-        self.begin()
-        tried, lines = self.tried()
-        out = [crate for crate, edits in EDITS.items() if edits and not set(edits) <= set(tried)]
-        self.assertEqual(lines[1].split("`")[1], f"rt must-fail {' '.join(sorted(out))}")
+    def test_no_commits(self):
+        shutil.rmtree(f"{self.top}/.git")
+        self.environment["GIT_CEILING_DIRECTORIES"] = os.path.dirname(self.top)
+        self.assertEqual(self.tried(), [])
+        self.assertEqual(self.there(), self.every)
 
     def test_times(self):
-        self.begin()
-        self.environment["PAUSE"] = "1"
+        self.environment.update(PAUSE="1", COUNT="300000")
         self.tried()
         with open(f"{self.top}/out/times.txt", "a", encoding="utf-8") as file:
-            print("took 60 examples/test.sh sfi", file=file)
+            print("took 2 60 examples/test.sh sfi", file=file)
         ran = subprocess.run(["tools/gate.py", "--times"], cwd=self.top, env=self.environment, stdout=subprocess.PIPE, text=True, check=False)
         lines = ran.stdout.splitlines()
         self.assertEqual(lines[1:3], ["     0                low", "     0      1      1  middle"])
-        self.assertEqual(lines[4], "     60  examples/test.sh sfi")
-        self.assertEqual(sorted(lines[5:]), ["      0  rt ci: tests and programs", "      2  rt ci", "      2  rt ci: proofs and edits"])
+        self.assertEqual(lines[4], "      2             60  examples/test.sh sfi")
+        rows = {what: (int(seconds), int(processor)) for seconds, processor, what in (it.split(maxsplit=2) for it in lines[5:])}
+        self.assertEqual(set(rows), {"rt ci", "rt ci: proofs and edits", "rt ci: tests and programs"})
+        seconds, processor = rows["rt ci"]
+        self.assertGreaterEqual(seconds, 2)
+        self.assertTrue(1 <= processor < seconds, rows)
 
     def test_no_times(self):
         ran = subprocess.run(["tools/gate.py", "--times"], cwd=self.top, env=self.environment, capture_output=True, text=True, check=False)
         self.assertEqual((ran.returncode, ran.stdout, ran.stderr), (1, "", "gate.py: out/times.txt isn't there: ./test writes it\n"))
 
-    def test_all(self):
-        self.begin()
-        self.assertEqual(sorted(self.tried("--all")[0]), self.every)
-
-    def test_no_commits(self):
-        self.assertEqual(sorted(self.tried()[0]), self.every)
-
     def test_what_a_killed_run_left_is_put_back(self):
-        self.begin()
         aside = f"{self.top}/.git/sfi-edits/crates/low/must-fail"
         os.makedirs(aside)
         os.replace(f"{self.top}/crates/low/must-fail/one.edit", f"{aside}/one.edit")
-        self.assertEqual(sorted(self.tried("--all")[0]), self.every)
+        self.assertEqual(self.tried("--all"), self.every)
         self.assertEqual(self.there(), self.every)
 
     def test_a_run_that_is_ended_puts_all_back(self):
-        self.begin()
         self.environment["PAUSE"] = "3"
         process = subprocess.Popen(["tools/gate.py"], cwd=self.top, env=self.environment, stdout=subprocess.PIPE, text=True)
         while not process.stdout.readline().startswith("rt: middle"):
             pass
-        self.assertNotEqual(self.there(), self.every)
+        self.assertEqual(self.there(), [])
         process.terminate()
         process.communicate()
         self.assertEqual((process.returncode, self.there()), (143, self.every))
@@ -285,7 +207,7 @@ class SideBySide(unittest.TestCase):
     def test_seconds(self):
         self.run_with(2)
         with open(f"{self.room}/times", encoding="utf-8") as file:
-            self.assertRegex(file.read(), r"\Atook [12] \./part first 1 .*\ntook [01] \./part second (?s:.*)nothing_of_this_name\n\Z")
+            self.assertRegex(file.read(), r"\Atook [12] \d \./part first 1 .*\ntook [01] \d \./part second (?s:.*)nothing_of_this_name\n\Z")
 
     def test_what_runs_ends_with_the_gate(self):
         written(f"{self.room}/scripts", SCRIPTS.replace("{top}", str(TOP)).replace("first 1 ", "first 600 "))

@@ -1,0 +1,242 @@
+"""Tests of tools/edits.py, over a small repository and a kit of their own."""
+import os
+import shutil
+import subprocess
+import tempfile
+import unittest
+
+from toolchain import TOP
+
+# What each edit's new text stands for: the prover refuses the function, or only the whole crate; nobody does; or the text isn't read.
+EDITS = {"low/one_is_two": "refused", "low/two_is_one": "elsewhere", "high/three_is_four": "refused", "high/three_has_most": "refused",
+         "high/five_is_six": "refused", "top/six_is_none": "refused"}
+# The text in whose place that comes, but for those in a method.
+OLD = {"low/one_is_two": "fn one() {", "high/three_is_four": "fn three() {", "high/three_has_most": "const MOST: u32 = 4;", "top/six_is_none": "fn six() {"}
+SOURCE = """ghost use Rattle.std.specs.Prelude.{◌≡◌};
+ghost use Rattle.%s.specs.Words.{word};
+const MOST: u32 = 4;
+fn %s() {
+}
+
+impl<'a> Shape for Square<'a> {
+    pub(crate) fn side() {
+        4
+    }
+}
+"""
+# Its check takes --only, and says what the new text stands for.
+KIT = '''
+import os, re, types
+
+class Crate:
+    def __init__(self, folder, root, known):
+        self.folder, self.name, self.rlib = folder, os.path.basename(folder), f"{folder}/out/rlib/it.rlib"
+    def below(self):
+        return [] if self.name == "low" else [Crate(f"{os.path.dirname(self.folder)}/low", "", {})]
+    def build_rlib(self, flags, anew):
+        print("builds", self.name)
+        return 0
+
+rtlib = types.SimpleNamespace(Crate=Crate, guarded=lambda: [], lock=lambda crates: [])
+
+def read_edit(path, folder):
+    with open(path, encoding="utf-8") as file:
+        return {"src/lib.rt": re.findall("^new: (.*)", file.read(), re.MULTILINE)[0]}, None
+
+def unread(line, texts):
+    return "nonsense" in line
+
+def checked(crate, texts, flags, kept):
+    said = texts.get("src/lib.rt", "as it is")
+    asked = flags.count("--only")
+    proved = asked - 1 if said in ("refused", "nonsense") else asked
+    first = f"src/lib.rt:4:1: {said} {' '.join(flags[2:])}"
+    return types.SimpleNamespace(returncode=int(proved < asked), stdout=f"{first}\\nonly={asked} proved={0 if os.environ.get('NONE_PROVED') else proved}\\n")
+
+def must_fail(crate, path, flags):
+    said = read_edit(path, crate.folder)[0]["src/lib.rt"]
+    name = f"must-fail {crate.name}/{os.path.basename(path)}"
+    return said == "elsewhere", f"{name}: {'refused in the whole crate' if said == 'elsewhere' else 'NOT REFUSED'}"
+'''
+TWO_DAYS = 172800
+
+
+def written(path, text):
+    os.makedirs(os.path.dirname(path), exist_ok=True)
+    with open(path, "w", encoding="utf-8") as file:
+        file.write(text)
+
+
+class Edits(unittest.TestCase):
+    def setUp(self):
+        room = tempfile.TemporaryDirectory()
+        self.addCleanup(room.cleanup)
+        self.room, self.top = room.name, f"{room.name}/repository"
+        written(f"{self.top}/crates.txt", "# a comment: none\nlow:\nhigh: low\ntop: low\nbare:\n")
+        for crate, function in (("low", "one"), ("high", "three"), ("top", "six"), ("bare", "none")):
+            written(f"{self.top}/crates/{crate}/src/lib.rt", SOURCE % (crate, function))
+            written(f"{self.top}/crates/{crate}/specs/Words.antt", "word : ℕ\n")
+            os.makedirs(f"{self.top}/crates/{crate}/out/rlib/it.rlib")
+        for edit, new in EDITS.items():
+            self.write_edit(edit, OLD.get(edit, "        4"), new)
+        for tool in ("edits.py", "toolchain.py", "build_library.py"):
+            os.makedirs(f"{self.top}/tools", exist_ok=True)
+            shutil.copy(f"{TOP}/tools/{tool}", f"{self.top}/tools/{tool}")
+        written(f"{self.room}/kit/bin/rt", KIT)
+        written(f"{self.room}/bin/rt", f"#!/bin/sh\necho {self.room}/kit/START-HERE.md\n")
+        os.chmod(f"{self.room}/bin/rt", 0o755)
+        self.environment = {**os.environ, "PATH": f"{self.room}/bin:{os.environ['PATH']}", "HOME": self.room}
+        self.environment.pop("GATE_BASE", None)
+        self.seconds = 1700000000
+
+    def write_edit(self, edit, old, new):
+        crate, name = edit.split("/")
+        written(f"{self.top}/crates/{crate}/must-fail/{name}.edit", f"# A note.\nfile: src/lib.rt\nold: {old}\nnew: {new}\n")
+
+    def git(self, *words):
+        identity = ["-c", "user.name=a", "-c", "user.email=a@b"]
+        dated = {**self.environment, "GIT_COMMITTER_DATE": f"{self.seconds} +0000"}
+        subprocess.run(["git", *identity, *words], cwd=self.top, env=dated, check=True, stdout=subprocess.DEVNULL)
+
+    def commit(self, later=60):
+        self.seconds += later
+        self.git("add", "crates", "crates.txt")
+        self.git("commit", "-q", "--allow-empty", "-m", "one more")
+
+    def begin(self):
+        """A repository whose files are two days old."""
+        self.git("init", "-q", "-b", "main")
+        self.commit()
+        self.commit(TWO_DAYS)
+
+    def run_with(self, *words):
+        ran = subprocess.run(["tools/edits.py", *words], cwd=self.top, env=self.environment, capture_output=True, text=True, check=False)
+        return ran.returncode, ran.stdout.splitlines(), ran.stderr
+
+    def due(self):
+        return self.run_with("--list")[1]
+
+    def in_turns(self):
+        """How often each edit is due after six further commits that two days part from all others."""
+        found = []
+        for _ in range(6):
+            self.commit(TWO_DAYS)
+            found += self.due()
+        return {it: found.count(it) for it in EDITS}
+
+    def change(self, path, text="\n// more\n"):
+        with open(f"{self.top}/{path}", "a", encoding="utf-8") as file:
+            file.write(text)
+
+    # ---- which are due
+
+    def test_six_commits_try_each_edit_once(self):
+        self.begin()
+        self.assertEqual(self.in_turns(), dict.fromkeys(EDITS, 1))
+
+    def test_a_file_that_differs(self):
+        self.begin()
+        self.git("branch", "begun")
+        self.change("crates/high/src/lib.rt")
+        self.change("crates/top/README.md")
+        self.commit()
+        for base, times in (("", 1), ("begun", 6)):
+            self.environment["GATE_BASE"] = base
+            self.assertEqual(self.in_turns(), {it: times if it.startswith("high/") else 1 for it in EDITS})
+
+    def test_a_file_of_the_last_hours_and_one_that_is_not_committed(self):
+        self.begin()
+        self.change("crates/top/src/lib.rt")
+        self.commit()
+        self.commit(3600)
+        self.change("crates/low/must-fail/one_is_two.edit", "# another note\n")
+        self.assertLessEqual({"top/six_is_none", "low/one_is_two"}, set(self.due()))
+
+    def test_what_differs_from_the_branch_of_all(self):
+        self.begin()
+        self.git("update-ref", "refs/remotes/origin/main", "HEAD")
+        self.change("crates/high/must-fail/five_is_six.edit", "# another note\n")
+        self.assertEqual(self.in_turns(), {it: 6 if it == "high/five_is_six" else 1 for it in EDITS})
+
+    def test_definitions_that_a_file_names(self):
+        self.begin()
+        self.git("branch", "begun")
+        self.environment["GATE_BASE"] = "begun"
+        written(f"{self.top}/crates/top/src/lib.rt", SOURCE.replace("%s.specs", "low.specs") % "six")
+        self.commit()
+        self.git("branch", "-f", "begun")
+        self.change("crates/low/specs/Words.antt")
+        self.change("crates/bare/specs/Words.antt")
+        self.assertEqual(self.in_turns(), {it: 1 if it.startswith("high/") else 6 for it in EDITS})
+
+    def test_proofs_and_imports_change_no_edit(self):
+        self.begin()
+        self.git("branch", "begun")
+        self.environment["GATE_BASE"] = "begun"
+        written(f"{self.top}/crates/low/proofs/Facts.antt", "a fact\n")
+        self.change("crates/high/src/lib.rt", "ghost use Rattle.low.specs.Words.{one};\nmod other;\n")
+        self.assertEqual(self.in_turns(), dict.fromkeys(EDITS, 1))
+
+    def test_of_what_changed_so_many(self):
+        self.begin()
+        self.git("branch", "begun")
+        self.environment["GATE_BASE"] = "begun"
+        for number in range(70):
+            self.write_edit(f"low/more_{number}", "fn one() {", "refused")
+        self.change("crates/low/src/lib.rt")
+        found = self.due()
+        self.assertEqual(len(set(found)), len(found))
+        self.assertEqual(len([it for it in found[:60] if it.startswith("low/")]), 60)
+        self.assertLess(len(found), 76)
+        said = self.run_with()[1]
+        self.assertEqual(said[:2], [f"edits.py: {len(found)} of 76 must-fail edits are tried, since 2 commits stand here; `rt must-fail` tries all",
+                                    f"edits.py: more changed: {72 - len([it for it in found if it.startswith('low/')])} edits wait for their turn"])
+
+    def test_a_base_that_is_none(self):
+        self.begin()
+        self.environment["GATE_BASE"] = "nowhere"
+        self.assertEqual(self.run_with(), (1, [], "edits.py: GATE_BASE is nowhere, which is no commit here\n"))
+
+    def test_no_commits(self):
+        self.assertEqual(sorted(self.due()), sorted(EDITS))
+
+    # ---- what becomes of them
+
+    def test_each_is_tried_by_its_functions(self):
+        status, said, _ = self.run_with("high", "low/one_is_two")
+        self.assertEqual((status, said[1], said[-1]), (0, "low without edits: 1 functions are proved", "5 passed, 0 failed"))
+        self.assertEqual(said[2:-1], ["must-fail low/one_is_two: refused, as it must be: src/lib.rt:4:1: refused --only one",
+                                      "must-fail high/five_is_six: refused, as it must be: src/lib.rt:4:1: refused --only SquareShape::side",
+                                      "must-fail high/three_has_most: refused, as it must be: src/lib.rt:4:1: refused --only three",
+                                      "must-fail high/three_is_four: refused, as it must be: src/lib.rt:4:1: refused --only three"])
+
+    def test_what_its_functions_let_through_is_tried_whole(self):
+        self.assertEqual(self.run_with("low/two_is_one")[1][2:], ["must-fail low/two_is_one.edit: refused in the whole crate", "2 passed, 0 failed"])
+
+    def test_what_nobody_refuses_and_what_cannot_be_read(self):
+        for new in ("passes", "nonsense"):
+            self.write_edit("top/six_is_none", "fn six() {", new)
+            status, said, _ = self.run_with("top")
+            self.assertEqual((status, said[2:]), (1, ["FAILED must-fail top/six_is_none.edit: NOT REFUSED", "1 passed, 1 failed"]))
+
+    def test_functions_that_are_not_proved_as_they_are(self):
+        self.environment["NONE_PROVED"] = "1"
+        status, said, _ = self.run_with("top")
+        self.assertEqual((status, said[1], said[-1]), (1, "FAILED top without edits: only=1 proved=0", "1 passed, 1 failed"))
+
+    def test_libraries_that_are_not_there(self):
+        lower = f"{self.top}/crates/low/out/rlib"
+        self.assertNotIn("builds low", self.run_with("top")[1])
+        written(f"{lower}/stamp", "of an earlier check")
+        self.assertIn("builds low", self.run_with("top")[1])
+        self.assertNotIn("builds low", self.run_with("low")[1])
+        shutil.rmtree(lower)
+        self.assertIn("builds low", self.run_with("top")[1])
+
+    def test_no_such_edits(self):
+        status, _, errors = self.run_with("nothing")
+        self.assertEqual((status, errors), (1, "edits.py: no edits have these names\n"))
+
+
+if __name__ == "__main__":
+    unittest.main()
