@@ -6,6 +6,7 @@ import os
 import pathlib
 import subprocess
 import sys
+import time
 from concurrent.futures import ThreadPoolExecutor
 from unittest import mock
 
@@ -114,6 +115,19 @@ class Made(Folder):
         os.rename(first, self.path(f"made/{os.path.basename(first)}"))
         self.assertEqual(kept.kept("library", ["text"], self.fail), self.path(f"made/{os.path.basename(first)}"))
         self.assertEqual(os.path.dirname(kept.kept("library", ["texts"], lambda folder: None)), self.path("home/sfi-cc"))
+
+    def test_two_at_once(self):
+        """One makes it, and the other waits."""
+        made = []
+
+        def make(folder):
+            time.sleep(0.2)
+            made.append(folder)
+
+        with ThreadPoolExecutor(2) as pool:
+            first, second = pool.map(lambda _: kept.kept("library", ["text"], make), range(2))
+        self.assertEqual((len(made), first), (1, second))
+        self.assertEqual(os.listdir(self.path("home/sfi-cc")), [os.path.basename(first)])
 
     def test_for_a_release(self):
         """Each file of the folders is packed where `kept` looks for it."""

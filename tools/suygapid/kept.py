@@ -1,9 +1,11 @@
 """Folders that are made once and kept, below $XDG_CACHE_HOME, or ~/.cache where that isn't set. A release brings some."""
+import contextlib
+import fcntl
 import hashlib
 import os
 import sys
 import tempfile
-from typing import Callable, Iterable, Optional
+from typing import Callable, Iterable, Iterator, Optional
 
 from suygapid import TOOLS
 
@@ -49,10 +51,24 @@ def released(name: str) -> Optional[str]:
     return place if os.path.isdir(place) else None
 
 
+@contextlib.contextmanager
+def alone(place: str) -> Iterator[None]:
+    """Waits while another run makes what goes there, where files can be locked."""
+    path = f"{place}.lock"
+    with open(path, "w", encoding="ascii") as file:
+        with contextlib.suppress(OSError):
+            fcntl.flock(file, fcntl.LOCK_EX)
+        try:
+            yield
+        finally:
+            with contextlib.suppress(FileNotFoundError):
+                os.remove(path)
+
+
 def kept(name: str, words: Iterable[str], make: Callable[[str], object], long: Optional[str] = None) -> str:
     """The folder of a name that `make` fills; `words` are all that it is made of, so that another goes by another name;
-    `long` is what to tell where it isn't there, if that takes long, beside where it is kept. It is whole as soon as it is there:
-    two runs at once may make it, and one of theirs stays."""
+    `long` is what to tell where it isn't there, if that takes long, beside where it is kept. It is whole as soon as it is there.
+    Of two runs at once one makes it; where files can't be locked both may, and one of theirs stays."""
     whole = name_of(name, words)
     place = os.path.join(root(), whole)
     there = place if os.path.isdir(place) else released(whole)
@@ -61,7 +77,9 @@ def kept(name: str, words: Iterable[str], make: Callable[[str], object], long: O
     if long:
         tell_once(f"{long}, once: kept in {place}")
     os.makedirs(root(), exist_ok=True)
-    with tempfile.TemporaryDirectory(dir=root(), prefix=f"{name}-new-") as room:
+    with alone(place), tempfile.TemporaryDirectory(dir=root(), prefix=f"{name}-new-") as room:
+        if os.path.isdir(place):
+            return place
         fresh = os.path.join(room, name)
         os.mkdir(fresh)
         make(fresh)
