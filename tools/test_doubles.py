@@ -3,7 +3,7 @@ and newlib_glue/sqrt.c there: `tools/unit_tests.py tools`. The wanted bits are t
 are skipped where a compiler, GCC's sources or the program isn't there."""
 import subprocess
 
-from testing import COMPILERS, FLOATS, SFI, SFI_CC, TOOLS, Folder, formats_due, needs, needs_a_compiler, needs_program
+from testing import COMPILERS, FLOATS, SFI, SFI_CC, TOOLS, Folder, by_turns, formats_due, needs, needs_a_compiler, needs_program
 
 FOLDER = TOOLS / "suygapid" / "library"
 SHARED, DOUBLES, QUOTIENTS, CONVERSIONS = (FOLDER / name for name in ("doubles.h", "doubles.c", "double_quotients.c",
@@ -248,7 +248,7 @@ class Doubles(Folder):
 
     @needs("gcc")
     def test_mistakes_are_found(self):
-        for mistake, change in MISTAKES.items():
+        for mistake, change in by_turns(MISTAKES.items(), 8):
             self.assertRegex(self.against_the_machine(300000, *change), " in place of ", mistake)
 
     @needs_program

@@ -71,8 +71,9 @@ def sample():
 
 def by_turns(things, count):
     """So many of a list's things, which the number of commits says: all of them in turn. By ./test --all each time all."""
+    things = list(things)
     if os.environ.get(EACH_FORMAT):
-        return list(things)
+        return things
     begin = count * commits() % len(things)
     return [*things, *things][begin:begin + count]
 

@@ -8,8 +8,10 @@ import tempfile
 import unittest
 
 sys.dont_write_bytecode = True
+sys.path.append(os.path.join(os.path.dirname(os.path.abspath(__file__)), "..", "..", "..", "tools"))
 import hostile
 import store
+import testing
 import walk
 from flash import PIECES, Misused
 
@@ -180,7 +182,7 @@ class Stores(unittest.TestCase):
 
     def mistakes(self, table, run):
         text = (store.DEVICE / "store.c").read_text(encoding="utf-8")
-        for what, old, new in table:
+        for what, old, new in testing.by_turns(table, -(-len(table) // 3)):
             with self.subTest(what):
                 self.assertEqual(text.count(old), 1, "it stands there once")
                 with tempfile.TemporaryDirectory() as room, self.assertRaises((walk.Wrong, Misused)):

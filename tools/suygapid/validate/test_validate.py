@@ -10,7 +10,7 @@ from suygapid.cc.compilers import compiled, reserved
 from suygapid.validate.files import compilers_object, rewritten_object
 from suygapid.validate.mistakes import MISTAKES, MOVABLE
 from suygapid.validate.validating import complaints
-from testing import COMPILERS, OF_BINUTILS, TOOLS, TOP, Folder, formats_due, needs, needs_a_compiler
+from testing import COMPILERS, OF_BINUTILS, TOOLS, TOP, Folder, by_turns, formats_due, needs, needs_a_compiler
 
 EXAMPLES = ("arithmetic", "base64", "crc32", "hash", "json", "lz", "matrix", "regex", "sha256", "sort", "stack", "wordcount")
 PASSES = os.path.join(os.path.dirname(os.path.abspath(__file__)), "passes.s")
@@ -75,7 +75,7 @@ class Mistakes(Validation):
             for path in self.outputs("right", kind).values():
                 self.assertEqual(complaints(self.left, rewritten_object(path), bool(kind)), [])
         with ThreadPoolExecutor(2) as pool:
-            for name, lines in pool.map(self.found, range(len(MISTAKES))):
+            for name, lines in pool.map(self.found, by_turns(range(len(MISTAKES)), -(-len(MISTAKES) // 3))):
                 with self.subTest(name):
                     self.assertTrue(lines, "the mistake changes nothing")
                     self.assertTrue(all(lines), "the mistake isn't seen")
@@ -126,7 +126,7 @@ class Examples(Validation):
         return found
 
     def test_nothing_to_say(self):
-        pairs = [(compiler, name) for compiler in COMPILERS for name in EXAMPLES]
+        pairs = by_turns([(compiler, name) for name in EXAMPLES for compiler in COMPILERS], 8)
         cases = [(*pair, formats_due(number, 6)) for number, pair in enumerate(pairs)]
         with ThreadPoolExecutor(2) as pool:
             for case, found in zip(cases, pool.map(lambda case: self.one(*case), cases)):
