@@ -2,8 +2,7 @@
 # counts this uses. $times is a file to which each part adds a line `took SECONDS PROCESSOR PART`, as tools/gate.py has it.
 results=()
 scripts=()
-lanes=$(($(nproc) / 2)) # how many scripts run at a time: some of them have several processes
-((lanes > 0)) || lanes=1
+lanes=$((($(nproc) * 3 + 2) / 4)) # how many scripts run at a time: two of two processors, three of four, as some have several processes
 groups=() # the processes that lead those beside this one
 
 # Adds what a part's last line counts. The part has failed where it has no such line or counts nothing, and where its
