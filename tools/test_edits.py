@@ -37,7 +37,7 @@ class Crate:
         print("builds", self.name)
         return 0
 
-rtlib = types.SimpleNamespace(Crate=Crate, guarded=lambda: [], lock=lambda crates: [])
+rtlib = types.SimpleNamespace(Crate=Crate, guarded=lambda: [])
 
 def read_edit(path, folder):
     with open(path, encoding="utf-8") as file:
