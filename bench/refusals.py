@@ -1,9 +1,9 @@
 #!/usr/bin/env python3
 """What the program does where an allocation is refused: each in turn.
 
-    bench/refusals.py [--program PATH]
+    bench/refusals.py [--all] [--program PATH]
 
-Tries the commands in the table of crates/sfi_hostile_tests, and more. Loads refuse.c before the C library, and lets the Nth
+Tries the commands in the table of crates/sfi_hostile_tests, and more: a third of them, by turns, without --all, which `./test --all` says, too. Loads refuse.c before the C library, and lets the Nth
 allocation of a run fail, for N from 1 on, until there is none left to fail.
 Each run has to end in status 4 with nothing printed, or as it does with ample memory. It prints a line for each command, and a
 last line `N passed, M failed`, in which a command counts as failed where a run of it ended otherwise. It wants gcc.
@@ -13,11 +13,15 @@ import os
 import re
 import shutil
 import subprocess
+import sys
 import tempfile
 
 import measure
 
 TOP = os.path.dirname(measure.HERE)
+sys.path.append(os.path.join(TOP, "tools"))
+import testing
+
 EXAMPLES = os.path.join(TOP, "examples")
 TABLE = os.path.join(TOP, "crates", "sfi_hostile_tests", "src", "tests", "commands.rt")
 
@@ -97,16 +101,19 @@ def keeps_its_word(program, words, text, library):
 def main():
     options = argparse.ArgumentParser(description="Refuses each allocation in turn.")
     options.add_argument("--program", default=measure.PROGRAM)
+    options.add_argument("--all", action="store_true", help="tries all commands")
     given = options.parse_args()
     program = measure.program_at(given.program)
-    all_commands = commands(program)
+    tried = commands(program)
+    if not given.all:
+        tried = testing.by_turns(tried, -(-len(tried) // 3))
     if not shutil.which("gcc"):
         print("skipped: refused allocations: gcc isn't there")
-        print(f"0 passed, 0 failed, {len(all_commands)} skipped")
+        print(f"0 passed, 0 failed, {len(tried)} skipped")
         return
     with tempfile.TemporaryDirectory() as folder:
         library = measure.compiled("refuse.c", os.path.join(folder, "refuse.so"), "-shared", "-fPIC")
-        kept = [keeps_its_word(program, words, text, library) for words, text in all_commands]
+        kept = [keeps_its_word(program, words, text, library) for words, text in tried]
     measure.end(kept)
 
 

@@ -19,10 +19,10 @@ SHOWN = 3  # how many cases of each comparison that differ are printed, with wha
 MOST_SECONDS = 120  # of one command
 
 
-def options(about, rounds):
+def options(about, rounds, seed=0):
     """A parser with the options that all scripts have."""
     parser = argparse.ArgumentParser(description=about, formatter_class=argparse.RawDescriptionHelpFormatter)
-    parser.add_argument("seeds", nargs="*", type=int, default=[0], metavar="SEED", help="each makes cases of its own (0)")
+    parser.add_argument("seeds", nargs="*", type=int, default=[seed], metavar="SEED", help=f"each makes cases of its own ({seed})")
     parser.add_argument("--rounds", type=int, default=rounds, help=f"cases of each seed ({rounds})")
     parser.add_argument("--round", type=int, help="the case of this number alone, to see a failure again")
     parser.add_argument("--seconds", type=float, default=0, help="go on with further seeds for so long")

@@ -8,7 +8,8 @@ Each case is an image of the examples, one of random code, or either with change
 and then with a fault. Compared are the status and all lines: of `check --report` each finding with its place, its rule and the
 instruction, and the verdict. So are all examples, and large images in each format. The checker in C, in both of its ways,
 gives the verdicts of the images in bundles, and the findings of the large ones and examples; and its ways are compared on twice
-as many odd images. `--without V5` drops the findings of that rule from the second checker's: then it has to fail.
+as many odd images. Without a seed the number of commits says which of six it is. `--without V5` drops the findings of that rule
+from the second checker's: then it has to fail.
 """
 import functools
 import itertools
@@ -27,6 +28,7 @@ import measure
 import odd_images
 import odd_words
 import second_checker
+import testing
 
 TEXTS, BYTES, FAULTS = "check --report", "check --raw", "text with a fault"
 EXAMPLES, LARGE, KINDS = "examples", "large images", "the kinds of bench/images.py are accepted"
@@ -139,7 +141,7 @@ def compare_whole(program, without, tally, in_c, seed):
 
 
 def main(words=None):
-    parser = fuzzing.options(__doc__, 10000)
+    parser = fuzzing.options(__doc__, 3000, testing.sample())  # 18,000 in all turns
     parser.add_argument("--without", metavar="RULE", help="drop the findings of this rule from the second checker's")
     given = parser.parse_args(words)
     has_c = fuzzing.has_gcc()

@@ -6,13 +6,15 @@
     tools/edits.py --list      # prints which are due, and tries none
 
 An edit shows that a contract is sharp. `rt must-fail` checks a whole crate for each, and once more before the first. This has
-the prover check the functions in which the edited lines stand, and those that they call (`rattle check --only`): these are
-refused in the whole crate, too. What isn't refused so, as a definition that others are proved by, is tried as rt does it. Of one
-crate, by turns, the same functions are checked as they are: they have to be proved.
+the prover check the functions in which the edited lines stand, and those that they call (`rattle check --only`): what is
+refused so is refused in the whole crate, too. Edits in the bodies of several functions are tried at once: a proof takes of another
+function its contract alone, so each of these functions that isn't proved refuses its own edit. What isn't refused at once is tried
+alone, and what isn't then, as a definition that others are proved by, as rt does it. Of one crate, by turns, the same functions are
+checked as they are: they have to be proved.
 
 Due are
 
-- of what changed at most 60: edits that differ, or of which a file differs, import lines aside; then those of which a file
+- of what changed at most 40: edits that differ, or of which a file differs, import lines aside; then those of which a file
   names definitions, of its own crate or a lower one, in a file that differs. It differs from $GATE_BASE, a name of git's;
   without that from where HEAD left origin/main; and where there is none or HEAD is in it, from what stood here three hours
   before the last commit;
@@ -33,13 +35,15 @@ import toolchain
 from build_library import is_marked
 
 PARTS = 6
-MOST = 60  # of what changed: some 20 seconds of a processor each
+MOST = 40  # of what changed: some 10 to 20 seconds of a processor each
+AT_ONCE = 6
 HOURS = 3  # longer than it takes to make and to hand in what is merged at once
 LANES = max(1, len(os.sched_getaffinity(0)) // 2)  # beside the other scripts of ./test
 IMPORT = re.compile(r"^(?:ghost |pub )*(?:use|pub mod|mod) .*\n", re.MULTILINE)
 DEFINITIONS = re.compile(r"\bRattle\.(\w+)\.specs\.((?:\w+\.)*)(?=\{|\w+;)")
 FUNCTION = re.compile(r"^([ \t]*)(?:pub(?:\([^)]*\))? )?(?:const |unsafe )*fn (\w+)", re.MULTILINE)
 IMPL = re.compile(r"^impl(?:<[^{]*?>)?\s+(?:(?:\w+::)*(\w+)(?:<[^{]*?>)?\s+for\s+)?(\w+)", re.MULTILINE)
+BODY = re.compile(r"\{$", re.MULTILINE)  # of a function: at the end of its first line, or alone in a line behind its contract
 ASKED = re.compile(r"only=(\d+) proved=(\d+)")
 
 
@@ -61,21 +65,48 @@ class Edit:
         found = (it for file in self.files for it in DEFINITIONS.findall(read(file)))
         return {f"crates/{crate}/specs/{module.rstrip('.').replace('.', '/')}.antt" for crate, module in found}
 
+    def pairs(self):
+        """Of each pair the file, from the crate's folder on, the old text and the new one."""
+        file = old = ""
+        for line in self.text.split("\n"):
+            word, _, rest = line.partition(":")
+            if word == "file":
+                file = rest.strip()
+            elif word == "old":
+                old = rest.removeprefix(" ")
+            elif word == "new":
+                yield file, old, rest.removeprefix(" ")
+
     def functions(self):
         """The functions in which its old texts stand, as the prover takes their names. Where a text stands before all functions of
         its file, as a constant, that one of them is meant whose name the edit's begins with."""
-        found, file = [], ""
-        for line in self.text.splitlines():
-            word, _, rest = line.partition(": ")
-            if word == "file":
-                file = rest.strip()
-            elif word == "old" and file.startswith("src/"):
+        found = []
+        for file, old, _ in self.pairs():
+            if file.startswith("src/"):
                 text = read(f"crates/{self.crate}/{file}")
-                at = text.find(rest) + len(rest)
-                begun = [it for it in FUNCTION.finditer(text) if it.start() < at][-1:]
                 named = [it for it in FUNCTION.finditer(text) if self.name.startswith(f"{it[2]}_")]
-                found += [name_of(file, text, it) for it in begun or named]
+                found += [name_of(file, text, it) for it in begun_at(text, old) or named]
         return list(dict.fromkeys(found))
+
+    def is_of_a_body(self):
+        """Whether all that it changes stands in the body of one function, which is in no cycle of calls."""
+        for file, old, new in self.pairs():
+            text = read(f"crates/{self.crate}/{file}")
+            begun = begun_at(text, old)
+            body = BODY.search(text, begun[0].start()) if begun and not re.search(r"\bfn\b", new) and "#[cycle(" not in text else None
+            if not file.startswith("src/") or body is None or text.find(old) < body.end():
+                return False
+        return len(self.functions()) == 1
+
+    def applied(self, texts):
+        """These texts of files with its changes, or None where an old text doesn't stand there once."""
+        texts = dict(texts)
+        for file, old, new in self.pairs():
+            text = texts.get(file, read(f"crates/{self.crate}/{file}"))
+            if text.count(old) != 1:
+                return None
+            texts[file] = text.replace(old, new)
+        return texts
 
 
 @functools.cache
@@ -85,6 +116,12 @@ def read(path):
         return ""
     with open(path, encoding="utf-8") as file:
         return file.read()
+
+
+def begun_at(text, old):
+    """The last function that begins before an old text, or with it, in a list; or none."""
+    at = text.find(old) + len(old)
+    return [it for it in FUNCTION.finditer(text) if it.start() < at][-1:]
 
 
 def name_of(file, text, function):
@@ -143,6 +180,19 @@ def due(edits, number):
     return [*changed[:MOST], *turn], len([it for it in changed[MOST:] if it not in turn])
 
 
+def batches(edits):
+    """Lists of those that are tried at once: of bodies of one crate, each of another function; all others alone."""
+    found = []
+    for edit in edits:
+        fitting = [it for it in found if edit.is_of_a_body() and it[0].is_of_a_body() and it[0].crate == edit.crate and len(it) < AT_ONCE
+                   and all(other.functions() != edit.functions() for other in it)]
+        if fitting:
+            fitting[0].append(edit)
+        else:
+            found.append([edit])
+    return found
+
+
 class Trial:
     """Tries edits by rt's own parts."""
 
@@ -167,6 +217,23 @@ class Trial:
         lines = ran.stdout.rstrip("\n").split("\n")
         asked = ASKED.fullmatch(lines[-1])
         return asked and (ran.returncode, int(asked[1]), int(asked[2])), lines
+
+    def attempt_some(self, edits):
+        """Of each of these edits of a crate, whether the prover refuses it, and what to say."""
+        texts, tried = {}, []
+        for it in edits if len(edits) > 1 else []:
+            changed = it.applied(texts)
+            texts, tried = (texts, tried) if changed is None else (changed, [*tried, it])
+        refused = self.refused_at_once(tried, texts) if tried else []
+        return [(True, f"must-fail {it}: refused, as it must be, beside others") if it in refused else self.attempt(it) for it in edits]
+
+    def refused_at_once(self, edits, texts):
+        """Those of these edits whose functions aren't proved, by their own bodies, in these texts."""
+        ended, lines = self.only(self.crate(edits[0].crate), texts, [it.functions()[0] for it in edits])
+        if not ended or ended[0] != 1 or any(self.rt.unread(it, texts) for it in lines):
+            return []
+        unproved = [it.removesuffix(": not proved") for it in lines if it.startswith("fn ") and it.endswith(": not proved")]
+        return [it for it in edits if any(name.endswith((f"::{it.functions()[0]}", f" {it.functions()[0]}")) for name in unproved)]
 
     def attempt(self, edit):
         """Whether the prover refuses an edit, and what to say."""
@@ -196,13 +263,12 @@ def try_edits(edits, number):
     some = [it for it in edits if it.functions() and it.crate == edits[number % len(edits)].crate]
     failed = 0
     with ThreadPoolExecutor(LANES) as pool:
-        tasks = [pool.submit(trial.is_proved, some)] if some else []
-        tasks += [pool.submit(trial.attempt, it) for it in edits]
-        for task in tasks:
-            is_well, text = task.result()
+        tasks = [pool.submit(lambda: [trial.is_proved(some)])] if some else []
+        tasks += [pool.submit(trial.attempt_some, it) for it in batches(edits)]
+        for is_well, text in (row for task in tasks for row in task.result()):
             print(text if is_well else f"FAILED {text}", flush=True)
             failed += not is_well
-    print(f"{len(tasks) - failed} passed, {failed} failed")
+    print(f"{len(edits) + bool(some) - failed} passed, {failed} failed")
     return failed
 
 

@@ -11,15 +11,19 @@ from toolchain import TOP
 EDITS = {"low/one_is_two": "refused", "low/two_is_one": "elsewhere", "high/three_is_four": "refused", "high/three_has_most": "refused",
          "high/five_is_six": "refused", "top/six_is_none": "refused"}
 # The text in whose place that comes, but for those in a method.
-OLD = {"low/one_is_two": "fn one() {", "high/three_is_four": "fn three() {", "high/three_has_most": "const MOST: u32 = 4;", "top/six_is_none": "fn six() {"}
+OLD = {"low/one_is_two": "    body of one", "high/three_is_four": "    body of three", "high/three_has_most": "const MOST: u32 = 4;",
+       "top/six_is_none": "    body of six"}
 SOURCE = """ghost use Rattle.std.specs.Prelude.{◌≡◌};
 ghost use Rattle.%s.specs.Words.{word};
 const MOST: u32 = 4;
 fn %s() {
+    body of %s
 }
 
 impl<'a> Shape for Square<'a> {
-    pub(crate) fn side() {
+    pub(crate) fn side()
+        ensures { word }
+    {
         4
     }
 }
@@ -40,23 +44,28 @@ class Crate:
 rtlib = types.SimpleNamespace(Crate=Crate, guarded=lambda: [])
 
 def read_edit(path, folder):
-    with open(path, encoding="utf-8") as file:
-        return {"src/lib.rt": re.findall("^new: (.*)", file.read(), re.MULTILINE)[0]}, None
+    with open(path, encoding="utf-8") as file, open(f"{folder}/src/lib.rt", encoding="utf-8") as source:
+        old, new = re.findall("^(?:old|new): (.*)", file.read(), re.MULTILINE)
+        return {"src/lib.rt": source.read().replace(old, new)}, None
 
 def unread(line, texts):
     return "nonsense" in line
 
 def checked(crate, texts, flags, kept):
-    said = texts.get("src/lib.rt", "as it is")
-    asked = flags.count("--only")
-    proved = asked - 1 if said in ("refused", "nonsense") else asked
-    first = f"src/lib.rt:4:1: {said} {' '.join(flags[2:])}"
-    return types.SimpleNamespace(returncode=int(proved < asked), stdout=f"{first}\\nonly={asked} proved={0 if os.environ.get('NONE_PROVED') else proved}\\n")
+    text = texts.get("src/lib.rt", "")
+    asked = [word for word in flags[2:] if word != "--only"]
+    head, *functions = re.split("^(?=fn |    pub)", text, flags=re.MULTILINE)
+    wrong = [it for it in functions if "refused" in head + it or "nonsense" in it]
+    unproved = [it for it in asked if any(f"fn {it.split('::')[-1]}(" in part for part in wrong)]
+    lines = [f"src/lib.rt:4:1: {'nonsense' if 'nonsense' in text else 'not so'}"] + [f"fn {crate.name}::{it}: not proved" for it in unproved]
+    with open(os.path.join(os.environ["HOME"], "checked"), "a") as log:
+        print(*asked, file=log)
+    proved = 0 if os.environ.get("NONE_PROVED") else len(asked) - len(unproved)
+    return types.SimpleNamespace(returncode=int(bool(unproved)), stdout="\\n".join([*lines, f"only={len(asked)} proved={proved}", ""]))
 
 def must_fail(crate, path, flags):
-    said = read_edit(path, crate.folder)[0]["src/lib.rt"]
-    name = f"must-fail {crate.name}/{os.path.basename(path)}"
-    return said == "elsewhere", f"{name}: {'refused in the whole crate' if said == 'elsewhere' else 'NOT REFUSED'}"
+    text, name = read_edit(path, crate.folder)[0]["src/lib.rt"], f"must-fail {crate.name}/{os.path.basename(path)}"
+    return "elsewhere" in text, f"{name}: {'refused in the whole crate' if 'elsewhere' in text else 'NOT REFUSED'}"
 '''
 TWO_DAYS = 172800
 
@@ -74,7 +83,7 @@ class Edits(unittest.TestCase):
         self.room, self.top = room.name, f"{room.name}/repository"
         written(f"{self.top}/crates.txt", "# a comment: none\nlow:\nhigh: low\ntop: low\nbare:\n")
         for crate, function in (("low", "one"), ("high", "three"), ("top", "six"), ("bare", "none")):
-            written(f"{self.top}/crates/{crate}/src/lib.rt", SOURCE % (crate, function))
+            written(f"{self.top}/crates/{crate}/src/lib.rt", SOURCE % (crate, function, function))
             written(f"{self.top}/crates/{crate}/specs/Words.antt", "word : ℕ\n")
             os.makedirs(f"{self.top}/crates/{crate}/out/rlib/it.rlib")
         for edit, new in EDITS.items():
@@ -162,7 +171,7 @@ class Edits(unittest.TestCase):
         self.begin()
         self.git("branch", "begun")
         self.environment["GATE_BASE"] = "begun"
-        written(f"{self.top}/crates/top/src/lib.rt", SOURCE.replace("%s.specs", "low.specs") % "six")
+        written(f"{self.top}/crates/top/src/lib.rt", SOURCE % ("low", "six", "six"))
         self.commit()
         self.git("branch", "-f", "begun")
         self.change("crates/low/specs/Words.antt")
@@ -182,12 +191,12 @@ class Edits(unittest.TestCase):
         self.git("branch", "begun")
         self.environment["GATE_BASE"] = "begun"
         for number in range(70):
-            self.write_edit(f"low/more_{number}", "fn one() {", "refused")
+            self.write_edit(f"low/more_{number}", "    body of one", "refused")
         self.change("crates/low/src/lib.rt")
         found = self.due()
         self.assertEqual(len(set(found)), len(found))
-        self.assertEqual(len([it for it in found[:60] if it.startswith("low/")]), 60)
-        self.assertLess(len(found), 76)
+        self.assertEqual(len([it for it in found[:40] if it.startswith("low/")]), 40)
+        self.assertLess(len(found), 56)
         said = self.run_with()[1]
         self.assertEqual(said[:2], [f"edits.py: {len(found)} of 76 must-fail edits are tried, since 2 commits stand here; `rt must-fail` tries all",
                                     f"edits.py: more changed: {72 - len([it for it in found if it.startswith('low/')])} edits wait for their turn"])
@@ -202,20 +211,43 @@ class Edits(unittest.TestCase):
 
     # ---- what becomes of them
 
+    def checks(self):
+        """The functions of each check, in the order of their names."""
+        with open(f"{self.room}/checked", encoding="utf-8") as file:
+            return sorted(file.read().splitlines())
+
     def test_each_is_tried_by_its_functions(self):
         status, said, _ = self.run_with("high", "low/one_is_two")
         self.assertEqual((status, said[1], said[-1]), (0, "low without edits: 1 functions are proved", "5 passed, 0 failed"))
-        self.assertEqual(said[2:-1], ["must-fail low/one_is_two: refused, as it must be: src/lib.rt:4:1: refused --only one",
-                                      "must-fail high/five_is_six: refused, as it must be: src/lib.rt:4:1: refused --only SquareShape::side",
-                                      "must-fail high/three_has_most: refused, as it must be: src/lib.rt:4:1: refused --only three",
-                                      "must-fail high/three_is_four: refused, as it must be: src/lib.rt:4:1: refused --only three"])
+        refused = "refused, as it must be"
+        self.assertEqual(said[2:-1], [f"must-fail low/one_is_two: {refused}: src/lib.rt:4:1: not so", f"must-fail high/five_is_six: {refused}, beside others",
+                                      f"must-fail high/three_is_four: {refused}, beside others",
+                                      f"must-fail high/three_has_most: {refused}: src/lib.rt:4:1: not so"])
+        self.assertEqual(self.checks(), ["SquareShape::side three", "one", "one", "three"])
 
     def test_what_its_functions_let_through_is_tried_whole(self):
         self.assertEqual(self.run_with("low/two_is_one")[1][2:], ["must-fail low/two_is_one.edit: refused in the whole crate", "2 passed, 0 failed"])
 
+    def test_what_is_let_through_beside_others_is_tried_alone(self):
+        for new, status, told in (("elsewhere", 0, "must-fail high/five_is_six.edit: refused in the whole crate"),
+                                  ("passes", 1, "FAILED must-fail high/five_is_six.edit: NOT REFUSED")):
+            self.write_edit("high/five_is_six", "        4", new)
+            found, said, _ = self.run_with("high/five_is_six", "high/three_is_four")
+            self.assertEqual((found, said[2:4]), (status, [told, "must-fail high/three_is_four: refused, as it must be, beside others"]))
+            self.assertEqual(self.checks()[:2], ["SquareShape::side"] + ["SquareShape::side three"])
+            os.remove(f"{self.room}/checked")
+
+    def test_what_is_never_tried_beside_others(self):
+        """Where an edit of a contract may have another function refused, of two of one function, and one that adds a function."""
+        for old, new in (("        ensures { word }", "        ensures { refused }"), ("    body of three", "refused"), ("        4", "4 } fn more() { refused")):
+            self.write_edit("high/five_is_six", old, new)
+            self.run_with("high/five_is_six", "high/three_is_four")
+            self.assertEqual(len(self.checks()), 3, old)
+            os.remove(f"{self.room}/checked")
+
     def test_what_nobody_refuses_and_what_cannot_be_read(self):
         for new in ("passes", "nonsense"):
-            self.write_edit("top/six_is_none", "fn six() {", new)
+            self.write_edit("top/six_is_none", "    body of six", new)
             status, said, _ = self.run_with("top")
             self.assertEqual((status, said[2:]), (1, ["FAILED must-fail top/six_is_none.edit: NOT REFUSED", "1 passed, 1 failed"]))
 

@@ -1,5 +1,5 @@
 #!/usr/bin/env python3
-"""Does to libsfi_run_native what may break it: builds library.c with each compiler and with sanitizers, and runs its tests, among them
+"""Does to libsfi_run_native what may break it: builds library.c with gcc, and by turns with clang or sanitizers, and runs its tests, among them
 threads that share a module, a fork, a host with its own handler of SIGSEGV, and more worlds than there are maps. And loads the shared
 library into a process that has libsfi_run, too.
 
@@ -19,6 +19,7 @@ TOP = os.path.dirname(os.path.dirname(HERE))
 sys.path += [os.path.join(TOP, it) for it in ("bench", "tools")]
 import libraries
 import measure
+import testing
 
 TESTS = ("engines", "calls-back", "threads", "stack", "forks", "handler-before", "handler-after", "maps")
 # Each build, with tests that it leaves out: sanitizers want larger stacks than the least, and maps of their own.
@@ -76,7 +77,7 @@ def tried(given, folder):
     images = built_images(given.program, folder)
     yield "beside libsfi_run", is_its_own(given, images[0], folder)
     parts = libraries.native_parts(given.library, given.commands, folder)
-    for compiler, left_out in BUILDS:
+    for compiler, left_out in [BUILDS[0], *testing.by_turns(BUILDS[1:], 1)]:
         if not shutil.which(compiler[0]):
             continue
         path = host(compiler, parts, folder)

@@ -1,8 +1,8 @@
 #!/usr/bin/env python3
 """Whether lines mean in sfi_native.h what the manual says of their instructions: lines of all kinds are done once by the C
 function and once by sfi_step, from random registers and data, and random code is run by sfi_turn, beside fuzz/machine.py; and
-some lines whose values the manual states. By gcc and clang, without optimization, with it, and under sanitizers. Then the header
-gets one mistake after another (form_mistakes.py), and the comparison has to see each.
+some lines whose values the manual states. By gcc and clang, without optimization, with it, and under sanitizers, of which
+three have their turn. Then the header gets mistakes (form_mistakes.py), a third of them by turns, and the comparison has to see each.
 
     examples/translate/forms.py [--states N] [--many N] [--lines N] [--seed SEED]
 
@@ -22,6 +22,7 @@ sys.dont_write_bytecode = True
 import lines
 import form_mistakes
 import machine
+import testing
 from lines import HERE, TOP
 from suygapid.image import layout
 from suygapid.isa.decoding import Instruction
@@ -335,9 +336,10 @@ def main():
         header = file.read()
     with tempfile.TemporaryDirectory() as folder:
         tally, sets = Tally(folder, header), sets_of(pick, given)
-        for compiler in COMPILERS:
+        for compiler in testing.by_turns(COMPILERS, 3):
             tally.try_level(compiler, sets)
-        for what, (old, new) in form_mistakes.MISTAKES.items() if shutil.which(MISTAKEN[0]) else ():
+        mistakes = testing.by_turns(form_mistakes.MISTAKES.items(), -(-len(form_mistakes.MISTAKES) // 3))
+        for what, (old, new) in mistakes if shutil.which(MISTAKEN[0]) else ():
             tally.try_mistake(sets, what, old, new)
     print(f"{tally.passed} passed, {tally.failed} failed" + (f", {tally.skipped} skipped" if tally.skipped else ""))
     return 1 if tally.failed else 0

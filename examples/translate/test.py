@@ -1,7 +1,8 @@
 #!/usr/bin/env python3
 """Translates images to C, and compares the text with what another maker makes of the listing, and what the C programs print
 with what `sfi run` does, traps and steps included: the examples in each format, straight code, and random accepted images, in
-turns of several lengths, for a host and as whole programs, by gcc and by clang; and a turn of each in WebAssembly, in node.
+turns of several lengths, for a host and as whole programs, by gcc and by clang; and a turn of each in WebAssembly, in node. Half of them are compiled
+each time, by turns.
 
     examples/translate/test.py [--program SFI] [--images N] [--seed SEED]
 """
@@ -15,6 +16,7 @@ import tempfile
 sys.dont_write_bytecode = True
 import lines
 import corpus
+import testing
 import trial
 import whole_translation
 from lines import HERE, TOP
@@ -142,7 +144,7 @@ def main():
     tried += [(f"image {number} as its listing says: {image.hex()[:80]}..", is_as_listed(given.program, image))
               for number, image in enumerate(images)]
     with tempfile.TemporaryDirectory() as folder:
-        tried += try_images(given.program, compilers, folder, images)
+        tried += try_images(given.program, compilers, folder, testing.by_turns(images, -(-len(images) // 2)))
         if has_wasm():
             tried += try_wasm(given.program, folder, images[:1] + images[-given.images:])
         else:
