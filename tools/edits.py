@@ -44,6 +44,7 @@ DEFINITIONS = re.compile(r"\bRattle\.(\w+)\.specs\.((?:\w+\.)*)(?=\{|\w+;)")
 FUNCTION = re.compile(r"^([ \t]*)(?:pub(?:\([^)]*\))? )?(?:const |unsafe )*fn (\w+)", re.MULTILINE)
 IMPL = re.compile(r"^impl(?:<[^{]*?>)?\s+(?:(?:\w+::)*(\w+)(?:<[^{]*?>)?\s+for\s+)?(\w+)", re.MULTILINE)
 BODY = re.compile(r"\{$", re.MULTILINE)  # of a function: at the end of its first line, or alone in a line behind its contract
+UNPROVED = re.compile(r"fn (\S+): (?:not proved|no proof)(?!.* which is not proved)")  # by itself, not by what it calls
 ASKED = re.compile(r"only=(\d+) proved=(\d+)")
 
 
@@ -232,8 +233,8 @@ class Trial:
         ended, lines = self.only(self.crate(edits[0].crate), texts, [it.functions()[0] for it in edits])
         if not ended or ended[0] != 1 or any(self.rt.unread(it, texts) for it in lines):
             return []
-        unproved = [it.removesuffix(": not proved") for it in lines if it.startswith("fn ") and it.endswith(": not proved")]
-        return [it for it in edits if any(name.endswith((f"::{it.functions()[0]}", f" {it.functions()[0]}")) for name in unproved)]
+        unproved = [found[1] for found in map(UNPROVED.match, lines) if found]
+        return [it for it in edits if any(f"::{name}".endswith(f"::{it.functions()[0]}") for name in unproved)]
 
     def attempt(self, edit):
         """Whether the prover refuses an edit, and what to say."""

@@ -57,7 +57,9 @@ def checked(crate, texts, flags, kept):
     head, *functions = re.split("^(?=fn |    pub)", text, flags=re.MULTILINE)
     wrong = [it for it in functions if "refused" in head + it or "nonsense" in it]
     unproved = [it for it in asked if any(f"fn {it.split('::')[-1]}(" in part for part in wrong)]
-    lines = [f"src/lib.rt:4:1: {'nonsense' if 'nonsense' in text else 'not so'}"] + [f"fn {crate.name}::{it}: not proved" for it in unproved]
+    how = {"three": "not proved; it calls `side`, which is not proved" if "caller" in text else "not proved",
+           "SquareShape::side": "no proof: expected answers in ./proofs; `search` did not prove `returns`"}
+    lines = [f"src/lib.rt:4:1: {'nonsense' if 'nonsense' in text else 'not so'}"] + [f"fn {crate.name}::{it}: {how.get(it)}" for it in unproved]
     with open(os.path.join(os.environ["HOME"], "checked"), "a") as log:
         print(*asked, file=log)
     proved = 0 if os.environ.get("NONE_PROVED") else len(asked) - len(unproved)
@@ -236,6 +238,13 @@ class Edits(unittest.TestCase):
             self.assertEqual((found, said[2:4]), (status, [told, "must-fail high/three_is_four: refused, as it must be, beside others"]))
             self.assertEqual(self.checks()[:2], ["SquareShape::side"] + ["SquareShape::side three"])
             os.remove(f"{self.room}/checked")
+
+    def test_what_may_not_be_proved_since_it_calls_another_is_tried_alone(self):
+        self.write_edit("high/three_is_four", "    body of three", "refused caller")
+        said = self.run_with("high/five_is_six", "high/three_is_four")[1]
+        self.assertEqual(said[2:4], ["must-fail high/five_is_six: refused, as it must be, beside others",
+                                     "must-fail high/three_is_four: refused, as it must be: src/lib.rt:4:1: not so"])
+        self.assertEqual(self.checks(), ["SquareShape::side three"] * 2 + ["three"])
 
     def test_what_is_never_tried_beside_others(self):
         """Where an edit of a contract may have another function refused, of two of one function, and one that adds a function."""
