@@ -74,11 +74,13 @@ fn main() {
         None if source.is_file() => Some(compiled(&source)),
         None => places().into_iter().find(|it| it.is_file()),
     };
-    let Some(library) = found.and_then(|it| it.canonicalize().ok()) else {
-        panic!(
+    let library = found
+        .and_then(|it| it.canonicalize().ok())
+        .unwrap_or_else(|| {
+            panic!(
             "{NAME} isn't found: SFI_RUN_LIBRARY has to name it, or ./install to have installed it"
-        );
-    };
+        )
+        });
     println!("cargo:rerun-if-changed={}", library.display());
     println!(
         "cargo:rustc-link-search=native={}",
@@ -89,7 +91,6 @@ fn main() {
         "cargo:rustc-link-lib=static={}",
         stem.trim_start_matches("lib")
     );
-    println!("cargo:rustc-check-cfg=cfg(native)");
     let bytes = fs::read(&library).unwrap();
     if bytes.windows(NATIVE_CALL.len()).any(|it| it == NATIVE_CALL) {
         println!("cargo:rustc-cfg=native");

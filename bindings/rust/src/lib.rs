@@ -21,6 +21,8 @@
 //!
 //! Whatever the sandbox does, and whatever is written, entered and replied, it reads and writes its own data alone. What it
 //! leaves there, and passes in a call, may be any bytes and numbers at all: test them before you rely on them.
+#![deny(missing_docs)]
+#![allow(unknown_lints, unexpected_cfgs)] // build.rs sets `native`
 use std::ptr;
 
 mod calls;

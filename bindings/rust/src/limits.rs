@@ -15,12 +15,13 @@ pub(crate) struct Limit<'world> {
 impl Limit<'_> {
     /// Why no more turn of a run may begin, if so.
     pub(crate) fn cause(&self) -> Option<NotReturned> {
-        if self.interrupt.is_some_and(|it| it.load(Ordering::Acquire)) {
+        let is_set = |it: &AtomicBool| it.load(Ordering::Acquire);
+        if self.interrupt.map_or(false, is_set) {
             return Some(NotReturned::Interrupted);
         }
         let is_late = |deadline| Instant::now() >= deadline;
         self.deadline
-            .is_some_and(is_late)
+            .map_or(false, is_late)
             .then_some(NotReturned::TimedOut)
     }
 

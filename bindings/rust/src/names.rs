@@ -157,11 +157,11 @@ fn words_of(letter: u8) -> Option<usize> {
 
 /// Whether a text is a signature: letters of parameters in brackets, which take at most eight words, and that of a result.
 pub(crate) fn is_signature(text: &str) -> bool {
-    let [b'(', parameters @ .., b')', result] = text.as_bytes() else {
-        return false;
-    };
-    let words: Option<usize> = parameters.iter().copied().map(words_of).sum();
-    words.is_some_and(|words| words <= 8) && b"ychktiulmfdpsv".contains(result)
+    if let [b'(', parameters @ .., b')', result] = text.as_bytes() {
+        let words: Option<usize> = parameters.iter().copied().map(words_of).sum();
+        return words.map_or(false, |words| words <= 8) && b"ychktiulmfdpsv".contains(result);
+    }
+    false
 }
 
 /// The signature that the first claim about a name has which can be read, of entries that aren't too many.

@@ -474,8 +474,9 @@ impl Function {
 
     /// How many bytes of the stack a call may take: half of what is left where the stack pointer is so far below the data's end.
     fn most(&self, used: u32) -> u32 {
-        let Some(size) = self.stack else {
-            return ROOM;
+        let size = match self.stack {
+            Some(size) => size,
+            None => return ROOM,
         };
         let frames = u64::from(used).saturating_sub(u64::from(self.above) + TOP);
         (u64::from(size).saturating_sub(frames) / 2) as u32
