@@ -1,6 +1,7 @@
 """Tests of sfi-cc: `tools/unit_tests.py tools`. Where a compiler or the program isn't there, stand-ins that
 print or fail as the test wants show what becomes of each step; the tests of the real ones are skipped."""
 import os
+import shutil
 import struct
 import subprocess
 import sys
@@ -71,6 +72,16 @@ class Steps(Calls):
                               env={**os.environ, "PATH": self.folder})
         self.assertEqual((done.returncode, done.stdout, done.stderr), (2, "", f"sfi-cc: {GCC} can't be run: No such file or directory:"
                                                                               " Debian's package gcc-riscv64-unknown-elf has it\n"))
+
+    @needs("clang", "llc")
+    def test_an_assembler_that_is_not_there(self):
+        for name in ("clang", "llc"):
+            os.symlink(shutil.which(name), self.path(name))
+        done = subprocess.run([sys.executable, SFI_CC, "--no-cache", self.write("main.c", "int main(void) { return 0; }\n")], capture_output=True, text=True,
+                              check=False, env={**os.environ, "PATH": self.folder})
+        self.assertEqual((done.returncode, done.stdout), (2, ""))
+        self.assertEqual(done.stderr.splitlines()[-1], "sfi-cc: riscv64-unknown-elf-as can't be run: No such file or directory:"
+                                                       " Debian's package binutils-riscv64-unknown-elf has it")
 
     def test_compiler_fails(self):
         compiler = self.write("failing", "#!/bin/sh\necho main.c:1: error >&2\nexit 1\n", 0o755)

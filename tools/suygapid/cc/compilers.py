@@ -32,7 +32,8 @@ WITH_MACROS = (".S", ".sx")  # assembly that a preprocessor goes over first
 ASSEMBLY = (".s", ".asm")
 OWN_CONVENTION = re.compile(r"^(define (?:\w+ )*?|.*?\b(?:call|invoke) (?:\w+ )*?)fastcc ")
 WITH_VALUE = ("-I", "-D", "-U", "-include", "-imacros", "-isystem", "-iquote", "-idirafter", "-x", "-Xclang", "-mllvm")
-PACKAGES = {GCC: "gcc-riscv64-unknown-elf", CLANG: "clang", "llc": "llvm"}  # of Debian
+OF_BINUTILS = {f"riscv64-unknown-elf-{it}": "binutils-riscv64-unknown-elf" for it in ("addr2line", "ar", "as", "ld", "objcopy")}
+PACKAGES = {GCC: "gcc-riscv64-unknown-elf", CLANG: "clang", "llc": "llvm", **OF_BINUTILS}  # of Debian
 
 
 class Failed(Exception):
