@@ -21,7 +21,8 @@ FOLDERS = ("tools/suygapid", "examples/c/include", "examples/c/library", "bindin
 SINGLE = ("tools/asm2elf", "examples/c/gates.h", "crates/sfi_c/include/sfi.h", "crates/sfi_slots/include/sfi_slots.h")
 PAGES = ("sfi.1", "sfi-cc.1", "sfi-check.1", "sfi-corpus.1", "sfi-exec.1", "sfi-gdb.1", "sfi-image.1", "sfi-library.1", "sfi-map.1",
          "sfi-move.1", "sfi-trace.1")
-DOCUMENTS = ("README.md", "CHANGELOG.md", "CONTRIBUTING.md", "SECURITY.md", "docs/*.md", "docs/*.png")  # at the same places below share/doc/suygapid
+DOCUMENTS = ("README.md", "CHANGELOG.md", "CONTRIBUTING.md", "SECURITY.md", "docs/*.md", "docs/*.png", "examples/*.s", "examples/smallest.hex",
+             "examples/c/hello.c")  # at the same places below share/doc/suygapid
 # What `find_package(suygapid)` of CMake reads, and by which it judges whether this version is the one asked for.
 CMAKE = """\
 get_filename_component(_suygapid_folder "${CMAKE_CURRENT_LIST_DIR}" REALPATH)

@@ -7,7 +7,7 @@
 - the tarball for node, with the runtime as a WebAssembly module, by `npm pack`;
 - the crate for Rust, with the runtime in one file of C, which it compiles, by `cargo package`;
 - the package for Debian and its like, of all that `./install` puts below a prefix, by dpkg-deb; that of a release has the compiled
-  libraries of tools/converted.py, too.
+  libraries of tools/converted.py and the checkers of tools/device_checkers.py, too.
 
 The program and the libraries have to be built, and bindings/node/sfi_run.wasm made (tools/build_node.py). The same commit and the
 same built files make the same packages. tools/package_trial.py installs and uses each.
@@ -22,6 +22,8 @@ import sys
 import tempfile
 
 sys.dont_write_bytecode = True
+import converted
+import device_checkers
 import installed
 import libraries
 import runtime_file
@@ -30,6 +32,8 @@ import version
 TOP = installed.TOP
 BINDINGS = TOP / "bindings"
 NODE_MODULE = BINDINGS / "node" / "sfi_run.wasm"
+# The folders of which a release hands on what it made: what else may lie there isn't packed.
+HANDED_ON = (f"{converted.MADE}/", f"{device_checkers.FOLDER}/")
 # Where Debian has what others have elsewhere.
 OF_DEBIAN = {"share/zsh/site-functions/": "share/zsh/vendor-completions/"}
 CONTROL = """\
@@ -94,6 +98,10 @@ def crate(folder):
         return shutil.copyfile(packed, folder / packed.name)
 
 
+def is_handed_on(item):
+    return item.place.startswith(tuple(f"{installed.SHARE}/{it}" for it in HANDED_ON))
+
+
 def debian_item(item):
     """An item of an installation where Debian has it."""
     for usual, other in OF_DEBIAN.items():
@@ -132,7 +140,7 @@ def debian(folder, compiled=None):
     """The path of the package for Debian. `compiled` are the bytes of files that a release has beside the tools, by their paths."""
     with tempfile.TemporaryDirectory() as made:
         room = pathlib.Path(made) / "package"
-        for item in map(debian_item, installed.items()):
+        for item in (debian_item(it) for it in installed.items() if not is_handed_on(it)):
             (room / "usr" / item.place).parent.mkdir(parents=True, exist_ok=True)
             item.put(room / "usr")
         put_more(room / "usr" / installed.SHARE, compiled or {})

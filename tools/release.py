@@ -2,21 +2,21 @@
 """Makes a release: a tar file with all files of the commit that is checked out, and what is built of them, where it lies in
 the repository; and the packages of tools/packages.py.
 
-    tools/release.py [--log LOG] [--tar] [FOLDER]     # LOG is out/ci.log, and FOLDER out/release, if absent; --tar: no packages
+    tools/release.py [--log LOG] [--without PART].. [FOLDER]     # LOG is out/ci.log, and FOLDER out/release, if absent
 
 FOLDER gets suygapid-VERSION-x86_64-linux.tar.gz, the packages and, with .sha256 at its end, the checksum of each. In the tar file
 SHA256SUMS has that of every other file. The same commit, the same built files and the same LOG make the same bytes: owners,
 times and the order of the files don't depend on where and when it is made. Nothing is made where a file isn't committed,
-where what is built is missing, empty or older than a source, where suygapid_check.c and suygapid_run.c, the checker and the runtime
-in one file of C each, can't be made (tools/checker_file.py, tools/runtime_file.py), or where what is packed doesn't do what
-tools/release_trial.py and tools/package_trial.py try.
+where what is built is missing, empty or older than a source, where a part can't be made and isn't left out, or where what is packed
+doesn't do what tools/release_trial.py and tools/package_trial.py try. `./test` builds all that a release wants but LOG. built.json in
+it has the commit and the logic.
 
-built.json in it has the commit and the logic. In it are also the libraries that sfi-cc would else compile and convert at their first use (tools/converted.py); where the
-compiler or sources aren't there, they aren't, as a line says. So it is with the checkers for RV32 (tools/device_checkers.py).
-
-LOG is what `rt ci --anew > LOG` printed over this commit. Of it the page of evidence is made (tools/evidence.py), and both are
-in the folder `evidence` of the tar file. Without LOG neither is, as a line says; with one that proves nothing there is no release.
-`./test` after that run builds all that a release wants.
+The parts that `--without` leaves out:
+    libraries   those that sfi-cc would else compile and convert at their first use (tools/converted.py)
+    checkers    the checker for RV32, as static libraries (tools/device_checkers.py)
+    evidence    the folder `evidence` with LOG, which is what `rt ci --anew > LOG` printed over this commit, and the page that
+                tools/evidence.py makes of it
+    packages    those of tools/packages.py
 """
 import argparse
 import gzip
@@ -54,6 +54,10 @@ MADE = [TOP / it for it in ("page/made.js", "page/sfi.wasm", "page/sfi.wasm.js",
 MADE_CRATES = ["sfi_tool_c", "sfi_run"]
 
 
+class Lacking(Exception):
+    """Why a part of a release can't be made."""
+
+
 def fail(text):
     sys.exit(f"release.py: {text}")
 
@@ -70,12 +74,20 @@ def stale():
             if any(sfi.is_changed(it, time) for crate in crates for it in sfi.needed_crates(crate))]
 
 
+def native_libraries():
+    """The paths of the libraries for native code."""
+    found = libraries.native_there()
+    if not found:
+        fail("the libraries for native code can't be made: tools/build_library.py sfi_tool_c builds what they are made of")
+    return found
+
+
 def built_files():
     """The paths of what is built, from the top on: as rt built it, and as programs are linked with it."""
     found = [str(path.relative_to(TOP)) for path in [*installed.built(), *MADE]]
     for crate in libraries.HEADERS:
         found += [os.path.relpath(path, TOP) for path in libraries.make(crate)]
-    found += [os.path.relpath(path, TOP) for path in libraries.native_there()]
+    found += [os.path.relpath(path, TOP) for path in native_libraries()]
     for name, maker in (("suygapid_check.c", checker_file), ("suygapid_run.c", runtime_file)):
         lacking = [it.removeprefix(f"{TOP}/") for it in maker.missing()]
         if lacking:
@@ -92,44 +104,46 @@ def built_files():
 
 
 def evidence_files(log):
-    """The page of evidence and the log of which it is made; nothing where there is no log, of which a line is printed."""
+    """The page of evidence and the log of which it is made."""
     if not log.is_file():
-        print(f"release.py: no evidence is in it: there is no {log}: {evidence.NO_LOG}", file=sys.stderr)
-        return {}
+        raise Lacking(f"there is no {log}, which `rt ci --anew > {log}` makes, and takes long")
     sfi, time = toolchain.sfi(), log.stat().st_mtime
     if any(sfi.is_changed(it, time) for it in definitions.crate_names()):
-        fail(f"{log} is older than a source")
+        raise Lacking(f"{log} is older than a source")
     text = log.read_text(encoding="utf-8", errors="replace")
     page = evidence.page(text, evidence.kit())
     faults, _ = verify_evidence.judged(page)
     if faults:
-        fail(f"{log} isn't the log of a whole `rt ci --anew` over this commit: {faults[0]}")
+        raise Lacking(f"{log} isn't the log of a whole `rt ci --anew` over this commit: {faults[0]}")
     return {evidence.RELEASED: (page.encode(), False), "evidence/ci.log": (log.read_bytes(), False)}
 
 
-def library_files():
-    """The libraries as sfi-cc keeps them; nothing where they can't be made, of which a line is printed."""
-    try:
-        return converted.files()
-    except converted.Failed as failed:
-        print(f"release.py: no converted libraries are in it: {failed}", file=sys.stderr)
-        return {}
-
-
 def device_files():
-    """The checkers for RV32; nothing where they can't be made, of which a line is printed."""
+    """The checkers for RV32."""
+    return {path: ((TOP / path).read_bytes(), False) for path in device_checkers.make()}
+
+
+# What makes the files of each part that a release may lack, of the log.
+PARTS = {"libraries": lambda _log: converted.files(), "checkers": lambda _log: device_files(), "evidence": evidence_files}
+PACKAGES = "packages"
+
+
+def part_files(name, log):
+    """The files of a part. Ends where it can't be made."""
     try:
-        return {path: ((TOP / path).read_bytes(), False) for path in device_checkers.make()}
-    except device_checkers.Failed as failed:
-        print(f"release.py: no checkers for RV32 are in it: {failed}", file=sys.stderr)
-        return {}
+        return PARTS[name](log)
+    except (Lacking, converted.Failed, device_checkers.Failed) as lacking:
+        return fail(f"{name}: {lacking}; by --without {name} a release is made that lacks this part")
 
 
-def contents(log):
+def contents(log, without):
     """The bytes of each file of the release and whether it can be run, by its path."""
     paths = [it for it in git("ls-files", "-z").split("\0") if it] + built_files()
     files = {path: ((TOP / path).read_bytes(), os.access(TOP / path, os.X_OK)) for path in paths}
-    return files | {_built.FILE: (_built.noted().encode(), False)} | library_files() | device_files() | evidence_files(log)
+    files[_built.FILE] = _built.noted().encode(), False
+    for name in (it for it in PARTS if it not in without):
+        files |= part_files(name, log)
+    return files
 
 
 def checksums(files):
@@ -160,7 +174,7 @@ def try_out(name, packed_bytes):
 
 def tried_packages(room, files):
     """The packages, made in the folder `room` beside a release of these files. Ends where one can't be made, or isn't as it has to be."""
-    compiled = {path: data for path, (data, _) in files.items() if path.startswith(f"{converted.MADE}/")}
+    compiled = {path: data for path, (data, _) in files.items() if path.startswith(packages.HANDED_ON)}
     try:
         made = packages.make(room, compiled)
     except packages.Failed as failed:
@@ -171,7 +185,7 @@ def tried_packages(room, files):
     return {it.name: it.read_bytes() for it in made}
 
 
-def release(folder, log, has_packages):
+def release(folder, log, without):
     missing = [str(it.relative_to(TOP)) for it in [*installed.built(), *MADE] if not it.is_file()]
     if missing:
         fail(f"{' and '.join(missing)} isn't built")
@@ -180,13 +194,13 @@ def release(folder, log, has_packages):
     late = stale()
     if late:
         fail(f"{late[0].relative_to(TOP)} is older than a source of it")
-    files = contents(log)
+    files = contents(log, without)
     files[release_trial.SUMS] = checksums(files), False
     name = f"suygapid-{version.version()}-{MACHINE}"
     whole = packed(name, files, int(git("log", "-1", "--format=%ct")))
     try_out(name, whole)
     made = {f"{name}.tar.gz": gzip.compress(whole, compresslevel=9, mtime=0)}
-    if has_packages:
+    if PACKAGES not in without:
         with tempfile.TemporaryDirectory() as room:
             made |= tried_packages(pathlib.Path(room), files)
     folder.mkdir(parents=True, exist_ok=True)
@@ -194,16 +208,18 @@ def release(folder, log, has_packages):
         (folder / name).write_bytes(data)
         (folder / f"{name}.sha256").write_text(f"{hashlib.sha256(data).hexdigest()}  {name}\n", encoding="utf-8")
         print(folder / name)
+    if without:
+        print(f"release.py: left out: {', '.join(sorted(without))}", file=sys.stderr)
 
 
 def main():
     parser = argparse.ArgumentParser(description=__doc__, formatter_class=argparse.RawDescriptionHelpFormatter)
     parser.add_argument("--log", type=pathlib.Path, default=TOP / "out" / "ci.log")
-    parser.add_argument("--tar", action="store_true")
+    parser.add_argument("--without", metavar="PART", action="append", choices=[*PARTS, PACKAGES], default=[])
     parser.add_argument("folder", nargs="?", type=pathlib.Path, default=TOP / "out" / "release")
     options = parser.parse_args()
     os.environ[_built.STATED] = git("rev-parse", "--short=12", "HEAD").strip()
-    release(options.folder, options.log, not options.tar)
+    release(options.folder, options.log, {*options.without})
 
 
 if __name__ == "__main__":

@@ -1,5 +1,6 @@
 """Tries what a release holds, in the folder to which its tar file was unpacked: that each file has its checksum, and that the
-program, both WebAssembly modules, and the checker and the runtime in one file of C each say of the smallest image what they have to.
+program, the host of native code, both WebAssembly modules, and the checker and the runtime in one file of C each say of the smallest
+image what they have to.
 And that firmwares are built with the checker for RV32, and do what their tests ask, where what these want is there.
 """
 import base64
@@ -15,6 +16,10 @@ SUMS = "SHA256SUMS"
 SMALLEST = "examples/smallest.hex"
 ACCEPTED = "accepted sandboxes=1 bundles=16\n"
 PROGRAM = "crates/sfi/out/sfi"
+HOST_OF_NATIVE = "tools/suygapid/native/out/exec"
+NO_GATE = str((1 << 32) - 1)
+TRAPPED = 126  # its status, and what it tells of the smallest image, which is 64 times ebreak, where it runs it
+TOLD = "loaded\nsandbox=0 trap=Break at=01000000 steps=0\n"
 CHECKER = "crates/sfi_c/out/suygapid_check.c"
 RUNTIME = "crates/sfi_run/out/suygapid_run.c"
 DEVICE = "device/out/rv32imac/libsfi_device_checker.a"
@@ -30,7 +35,6 @@ const module = new Module();
 module.calls = (await WebAssembly.instantiate(readFileSync("page/sfi.wasm"))).instance.exports;
 process.stdout.write(new Tool(module).answer(["check"], readFileSync(0)).text);
 """
-# The smallest image is 64 times ebreak.
 NODE_MODULE = """
 import { readFileSync } from "node:fs";
 const { load } = await import(`file://${process.cwd()}/bindings/node/index.mjs`);
@@ -71,6 +75,18 @@ def faults_of_run(what, words, top, given, wanted):
         return []
     said = (done.stderr or done.stdout).decode(errors="replace").strip().splitlines()
     return [f"{what} doesn't say {wanted.strip()!r} of {SMALLEST}: {said[-1] if said else f'status {done.returncode}'}"]
+
+
+def faults_of_native(top, image):
+    """What is wrong with the host of native code, which tells by standard error."""
+    with tempfile.NamedTemporaryFile() as file:
+        file.write(bytes.fromhex(image))
+        file.flush()
+        words = [top / HOST_OF_NATIVE, "--program", top / PROGRAM, "--told", "2", file.name, "1000", NO_GATE, "--", "smallest"]
+        done = subprocess.run(words, capture_output=True, text=True, errors="replace", check=False)
+    if (done.returncode, done.stderr[:len(TOLD)]) == (TRAPPED, TOLD):
+        return []
+    return [f"{HOST_OF_NATIVE} doesn't tell a Break of {SMALLEST}: status {done.returncode}: {done.stderr.strip()[:200]}"]
 
 
 def faults_of_c(what, words, top, image, wanted):
@@ -122,4 +138,4 @@ def faults(top):
     found = (faults_of_sums(top) + faults_of_run(PROGRAM, [top / PROGRAM, "check"], top, given, ACCEPTED) + faults_of_text(top)
              + faults_of_run("page/sfi.wasm", [*node, PAGE_MODULE], top, given, ACCEPTED)
              + faults_of_run("bindings/node/sfi_run.wasm", [*node, NODE_MODULE], top, given, "Break\n"))
-    return found or faults_of_files(top, image) + faults_of_device(top)
+    return found + faults_of_native(top, image) or faults_of_files(top, image) + faults_of_device(top)

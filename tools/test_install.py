@@ -55,6 +55,8 @@ int main(void) {
     return 0;
 }
 """
+# What isn't tried here: tools/test_release_trial.py tries each part by stand-ins, others the parts.
+WITHOUT = [word for part in ("libraries", "checkers", "packages") for word in ("--without", part)]
 # The smallest image is 64 times ebreak: of a first turn, the trap Break.
 TOLD = {"sfi_c": (CHECKER, f"0 {version.version()}\n"), "sfi_run": (RUNNER, f"0 4 3 {version.version()}\n")}
 
@@ -256,6 +258,7 @@ class Removing(Installing):
 
 
 @unittest.skipUnless(all(it.is_file() for it in release.MADE), "the page or node's module isn't made: tools/build_page.py, tools/build_node.py")
+@unittest.skipUnless(os.path.isfile(libraries.built("sfi_tool_c")), "the library of all commands isn't built: tools/build_library.py sfi_tool_c")
 @unittest.skipIf(NO_FILES, f"suygapid_check.c and suygapid_run.c can't be made: there is no {' and no '.join(NO_FILES)}")
 @needs("node", "rt")
 class Scratch(Installing):
@@ -283,8 +286,10 @@ class Scratch(Installing):
         env = {**os.environ, "GIT_COMMITTER_DATE": "2026-11-25T12:00:00Z"}
         for words in (["init", "-q"], ["add", "-A"], ["-c", "user.name=a", "-c", "user.email=a@b", "commit", "-qm", "all"]):
             subprocess.run(["git", "-C", top, *words], env=env, check=True)
-        # The last are those of which a release's suygapid_check.c and suygapid_run.c are made, and the latter, which takes a minute.
-        more = map(pathlib.Path, (checker_file.LIBRARY, wasm_module.kept_path("sfi_run"), runtime_file.TARGET))
+        # The last are those of which a release's suygapid_check.c and suygapid_run.c are made, and the latter, which takes a minute; the
+        # library of all commands, and those that are linked here.
+        more = map(pathlib.Path, (checker_file.LIBRARY, wasm_module.kept_path("sfi_run"), runtime_file.TARGET, libraries.built("sfi_tool_c"),
+                                  *(it for crate in libraries.HEADERS for it in libraries.make(crate)), *libraries.native_there()))
         for path in [*installed.built(), *release.MADE, *(it for it in more if it.is_file())]:
             place = top / path.relative_to(TOP)
             place.parent.mkdir(parents=True, exist_ok=True)
@@ -294,7 +299,7 @@ class Scratch(Installing):
     def release(self):
         """A release with a log that says that all is proved."""
         log = self.write("log", test_evidence.log_of(definitions.crate_names()))
-        return run(sys.executable, self.top / "tools" / "release.py", "--tar", "--log", log, self.room / "made")
+        return run(sys.executable, self.top / "tools" / "release.py", *WITHOUT, "--log", log, self.room / "made")
 
     @contextlib.contextmanager
     def changed(self, path, data=None):

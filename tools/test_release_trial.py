@@ -1,5 +1,5 @@
-"""Tests of tools/release_trial.py, with stand-ins for what a release holds: each damage is told. And of
-tools/release.py with such stand-ins, and with logs of proofs."""
+"""Tests of tools/release_trial.py, with stand-ins for what a release holds: each damage is told. Of tools/release.py with
+such stand-ins, and with logs of proofs. And that documents have what tools/newcomer.py types."""
 import base64
 import contextlib
 import hashlib
@@ -7,6 +7,7 @@ import io
 import os
 import pathlib
 import subprocess
+import sys
 import tarfile
 import unittest
 from unittest import mock
@@ -18,6 +19,7 @@ import device_checkers
 import evidence
 import installed
 import libraries
+import newcomer
 import package_trial
 import packages
 import release
@@ -34,6 +36,7 @@ WASM = bytes([0, 97, 115, 109, 1, 0, 0, 0])  # the empty module
 FILES = {
     release_trial.SMALLEST: (TOP / release_trial.SMALLEST).read_bytes(),
     release_trial.PROGRAM: SAYS.encode(),
+    release_trial.HOST_OF_NATIVE: f"#!/bin/sh\ncat >&2 <<END\n{release_trial.TOLD}END\nexit {release_trial.TRAPPED}\n".encode(),
     "page/module.js": b'class Module {}\nclass Tool { answer() { return { text: "accepted sandboxes=1 bundles=16\\n" }; } }\n',
     "page/sfi.wasm": WASM,
     "page/sfi.wasm.js": f'const SFI_WASM = "{base64.b64encode(WASM).decode()}";\n'.encode(),
@@ -56,7 +59,7 @@ DAMAGES = [
     [(release_trial.PROGRAM, SAYS.encode() + b"exit 1\n", "crates/sfi/out/sfi doesn't say"),
      ("page/sfi.wasm.js", b"", "page/sfi.wasm.js doesn't hold page/sfi.wasm"),
      ("page/module.js", b"class Module {}\n", "page/sfi.wasm doesn't say")],
-    [("page/sfi.wasm", b"", "page/sfi.wasm doesn't say")],
+    [("page/sfi.wasm", b"", "page/sfi.wasm doesn't say"), (release_trial.HOST_OF_NATIVE, b"#!/bin/sh\nexit 126\n", f"{release_trial.HOST_OF_NATIVE} doesn't tell")],
     [(release_trial.CHECKER, b"int main(void) { return 0; }\n", f"{release_trial.CHECKER} doesn't say"),
      (release_trial.RUNTIME, FILES[release_trial.RUNTIME].replace(b"= SFI_RUN_BREAK", b"= SFI_RUN_FETCH"), f"{release_trial.RUNTIME} doesn't say 'Break'")],
     [(release_trial.CHECKER, b"int main(void) {\n", f"{release_trial.CHECKER} isn't compiled"),
@@ -111,27 +114,40 @@ class Whole(Folder):
             (self.top / path).parent.mkdir(parents=True, exist_ok=True)
             (self.top / path).write_bytes(data)
             (self.top / path).chmod(0o755)
-        host = self.top / "tools" / "exec"
-        host.parent.mkdir(exist_ok=True)
-        host.write_bytes(b"a host of native code")
-        (self.top / ".gitignore").write_text("\n".join((*built, "tools/exec")), encoding="utf-8")
+        host = self.top / release_trial.HOST_OF_NATIVE
+        (self.top / ".gitignore").write_text("\n".join((*built, release_trial.HOST_OF_NATIVE)), encoding="utf-8")
+        env = {**os.environ, "GIT_AUTHOR_DATE": "2026-11-25T12:00:00Z", "GIT_COMMITTER_DATE": "2026-11-25T12:00:00Z"}
         for words in (["init", "-q"], ["add", "-A"], ["-c", "user.name=a", "-c", "user.email=a@b", "commit", "-qm", "all"]):
-            subprocess.run(["git", "-C", self.top, *words], check=True)
+            subprocess.run(["git", "-C", self.top, *words], check=True, env=env)
         first, *pages, checker, runtime = (self.top / it for it in built)
         for where, what, how in ((release, "TOP", self.top), (release, "MADE", pages), (release, "stale", list), (libraries, "HEADERS", {}),
-                                 (libraries, "native_there", list), (installed, "built", lambda: [first]), (checker_file, "missing", list), (checker_file, "make", lambda: checker),
+                                 (release, "native_libraries", list), (installed, "built", lambda: [first]), (checker_file, "missing", list), (checker_file, "make", lambda: checker),
                                  (runtime_file, "missing", list), (runtime_file, "make", lambda: runtime), (native, "make", lambda: host), (converted, "files", dict),
-                                 (device_checkers, "make", list)):
+                                 (device_checkers, "make", list), (release, "try_out", self.try_out)):
             patched = mock.patch.object(where, what, how)
             patched.start()
             self.addCleanup(patched.stop)
 
-    def release(self, made="made", has_packages=False):
+    tried: dict[bytes, str] = {}
+    really_try = staticmethod(release.try_out)
+
+    def try_out(self, name, packed_bytes):
+        """Tries each tar file once."""
+        if packed_bytes not in self.tried:
+            try:
+                self.really_try(name, packed_bytes)
+                self.tried[packed_bytes] = ""
+            except SystemExit as ended:
+                self.tried[packed_bytes] = str(ended.code)
+        if self.tried[packed_bytes]:
+            sys.exit(self.tried[packed_bytes])
+
+    def release(self, made="made", without=("evidence", "packages")):
         """What was printed on standard output, the paths of what was made, or why nothing was; and on standard error."""
         printed, said = io.StringIO(), io.StringIO()
         with contextlib.redirect_stdout(printed), contextlib.redirect_stderr(said):
             try:
-                release.release(self.room / made, self.room / "log", has_packages)
+                release.release(self.room / made, self.room / "log", without)
             except SystemExit as ended:
                 return ended.code, said.getvalue()
         return printed.getvalue().strip(), said.getvalue()
@@ -140,8 +156,23 @@ class Whole(Folder):
         made, said = self.release()
         with tarfile.open(made) as tar:
             names = sorted(it.partition("/")[2] for it in tar.getnames())
-        self.assertEqual(names, sorted([*FILES, ".gitignore", "SHA256SUMS", "built.json", "tools/exec"]))
-        self.assertIn("no evidence is in it", said)
+        self.assertEqual(names, sorted([*FILES, ".gitignore", "SHA256SUMS", "built.json"]))
+        self.assertEqual(said, "release.py: left out: evidence, packages\n")
+
+    def test_a_part_that_cannot_be_made(self):
+        """There is no release, unless it is left out: then it isn't made."""
+        def fails(*_):
+            raise device_checkers.Failed("none is built")
+
+        for name, where, what, why in (("checkers", device_checkers, "make", "none is built"), ("libraries", converted, "files", "none is built"),
+                                       ("evidence", release, "TOP", f"there is no {self.room}/log")):
+            with self.subTest(name), mock.patch.object(where, what, self.top if what == "TOP" else fails):
+                others = {"evidence", "packages"} - {name}
+                said = self.release(without=others)[0]
+                self.assertTrue(said.startswith(f"release.py: {name}: {why}"), said)
+                self.assertIn(f"--without {name}", said)
+                self.assertFalse((self.room / "made").exists())
+                self.assertIn(name, self.release(name, without={*others, name})[1])
 
     def test_the_same_files_make_the_same_bytes(self):
         made, another = (pathlib.Path(self.release(it)[0]) for it in ("made", "another"))
@@ -155,7 +186,7 @@ class Whole(Folder):
 
     def test_packages(self):
         with mock.patch.object(packages, "make", self.make_packages), mock.patch.object(package_trial, "faults", lambda path: []):
-            made = self.release(has_packages=True)[0].split("\n")
+            made = self.release(without={"evidence"})[0].split("\n")
         self.assertEqual(made[1], str(self.room / "made" / "a.deb"))
         for it in map(pathlib.Path, made):
             said = pathlib.Path(f"{it}.sha256").read_text(encoding="utf-8")
@@ -163,9 +194,9 @@ class Whole(Folder):
 
     def test_packages_with_faults(self):
         with mock.patch.object(packages, "make", self.make_packages), mock.patch.object(package_trial, "faults", lambda path: [f"{path.name}: bad"]):
-            self.assertEqual(self.release(has_packages=True)[0], "release.py: nothing is released: a.deb: bad")
+            self.assertEqual(self.release(without={"evidence"})[0], "release.py: nothing is released: a.deb: bad")
         with mock.patch.object(packages, "missing", lambda _: ["npm"]):
-            self.assertEqual(self.release(has_packages=True)[0], "release.py: nothing is released: npm isn't there")
+            self.assertEqual(self.release(without={"evidence"})[0], "release.py: nothing is released: npm isn't there")
         self.assertFalse((self.room / "made").exists())
 
     def test_nothing_is_released(self):
@@ -208,29 +239,23 @@ class EvidenceOfARelease(Folder):
             cls.addClassCleanup(patched.stop)
 
     def files(self, text=None, time=None):
-        """What a release has of a log with this text, and what is said."""
+        """What a release has of a log with this text, or why it has nothing."""
         log = pathlib.Path(self.path("log"))
         if text is not None:
             log.write_text(text, encoding="utf-8")
         if time is not None:
             os.utime(log, (time, time))
-        said = io.StringIO()
-        with contextlib.redirect_stderr(said), mock.patch.object(evidence, "kit", return_value=test_evidence.KIT):
-            try:
-                return release.evidence_files(log), said.getvalue()
-            except SystemExit as ended:
-                return None, ended.code
+        with mock.patch.object(evidence, "kit", return_value=test_evidence.KIT):
+            return release.evidence_files(log)
 
     def test_no_log(self):
-        found, said = self.files()
-        self.assertEqual(found, {})
-        self.assertIn("no evidence is in it: there is no", said)
-        self.assertEqual((said.count("\n"), "rt ci --anew" in said), (1, True))
+        with self.assertRaisesRegex(release.Lacking, f"^there is no {self.path('log')}, which `rt ci --anew > "):
+            self.files()
 
     def test_a_log(self):
         text = test_evidence.log_of(definitions.crate_names())
-        found, said = self.files(text)
-        self.assertEqual((sorted(found), said), (["evidence/ci.log", "evidence/page.txt"], ""))
+        found = self.files(text)
+        self.assertEqual(sorted(found), ["evidence/ci.log", "evidence/page.txt"])
         self.assertEqual(found["evidence/ci.log"], (text.encode(), False))
         self.assertEqual(verify_evidence.judged(found["evidence/page.txt"][0].decode())[0], [])
 
@@ -238,10 +263,25 @@ class EvidenceOfARelease(Folder):
         crates = definitions.crate_names()
         for text, time, why in (("", None, "isn't the log of a whole"), (test_evidence.log_of(crates[1:]), None, f"{crates[0]} isn't proved"),
                                 (test_evidence.log_of(crates), 1, "is older than a source")):
-            with self.subTest(why):
-                found, said = self.files(text, time)
-                self.assertIsNone(found)
-                self.assertIn(why, said)
+            with self.subTest(why), self.assertRaisesRegex(release.Lacking, why):
+                self.files(text, time)
+
+
+class Newcomer(unittest.TestCase):
+    """tools/newcomer.py, which is for releases, as far as no Debian is wanted."""
+
+    def test_documents_have_what_is_typed(self):
+        for name, way in newcomer.WAYS.items():
+            with self.subTest(name):
+                typed = way(newcomer.Documents(TOP)).steps
+                self.assertTrue(typed and all(it.words.strip() for it in typed))
+                self.assertEqual([it for step in typed for it in step.words.split() if it.startswith(("tools/sfi", "./sfi")) and name == "apt"], [])
+
+    def test_without_debootstrap(self):
+        printed = io.StringIO()
+        with mock.patch.object(newcomer, "missing", lambda: "debootstrap isn't there"), contextlib.redirect_stdout(printed):
+            newcomer.main(["none"])
+        self.assertEqual(printed.getvalue(), "skipped: newcomer.py: debootstrap isn't there\n0 passed, 0 failed, 1 skipped\n")
 
 
 if __name__ == "__main__":
