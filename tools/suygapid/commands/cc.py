@@ -41,6 +41,9 @@ LONG = 300_000  # bytes of assembly that take much longer to convert than to lin
 DEBUG = ["-Og", "-g", "-fstack-protector-strong"]  # what goes before the compiler's options that are given
 KEEPING = "known,sharing,stepping"  # passes that leave the stack pointer, variables and the order of instructions as they were
 
+EPILOG = "`sfi-cc hello.c > hello.hex && sfi exec hello.hex` runs a program. Debian's package gcc-riscv64-unknown-elf has what it takes, or " \
+         "clang, llvm and binutils-riscv64-unknown-elf together; options that aren't listed go to the compiler."
+
 
 def gate(text):
     name, mark, service = text.partition("=")
@@ -75,7 +78,7 @@ def number(low, high):
 
 def options_parser():
     parser = argparse.ArgumentParser(prog="sfi-cc", usage="sfi-cc [OPTIONS] [OPTIONS OF THE COMPILER] FILE ..",
-                                     description=__doc__.split("\n", maxsplit=1)[0], allow_abbrev=False)
+                                     description=__doc__.split("\n", maxsplit=1)[0], epilog=EPILOG, allow_abbrev=False)
     parser.add_argument("-o", dest="output", metavar="FILE",
                         help="where to write: the linked program if it ends in .elf, the image's bytes if in .image, else its digits; "
                              "standard output if absent")
