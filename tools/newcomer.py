@@ -25,7 +25,7 @@ import version
 
 TOP = pathlib.Path(__file__).resolve().parent.parent
 SUITE, MIRROR = "bookworm", "http://deb.debian.org/debian"
-HOME = "/home/new"
+HOME, ARCHIVES = "/home/new", "var/cache/apt/archives"
 PATH = "/usr/local/sbin:/usr/local/bin:/usr/sbin:/usr/bin:/sbin:/bin"
 UNPACKED = f"{version.NAME}-{version.version()}-x86_64-linux"
 EXITED = " || [ $? = 105 ]"  # the status of the program that README.md runs last
@@ -181,6 +181,14 @@ def debian(folder):
     return root
 
 
+def link_new(source, target):
+    """Has a folder have each of Debian's packages that another one has, so that none is fetched twice."""
+    target.mkdir(parents=True, exist_ok=True)
+    for path in source.glob("*.deb"):
+        if not (target / path.name).exists():
+            os.link(path, target / path.name)
+
+
 class Root:
     """A Debian of its own, in a namespace of its own, so that nothing of it stays mounted or runs on."""
 
@@ -188,7 +196,9 @@ class Root:
         self.top = folder / name
         shutil.rmtree(self.top, ignore_errors=True)
         subprocess.run(["cp", "-a", "--reflink=auto", debian(folder), self.top], check=True)
+        link_new(folder / "packages", self.top / ARCHIVES)
         self.run(Step(f"useradd -m -d {HOME} new && apt-get update -qq && apt-get install -qq -y {' '.join(packages)}", (), True))
+        link_new(self.top / ARCHIVES, folder / "packages")
 
     def run(self, step):
         """What a step prints. A user's has no network."""
