@@ -18,7 +18,8 @@ ACCEPTED = "accepted sandboxes=1 bundles=16\n"
 PROGRAM = "crates/sfi/out/sfi"
 HOST_OF_NATIVE = "tools/suygapid/native/out/exec"
 NO_GATE = str((1 << 32) - 1)
-TRAPPED = 126  # its status, and what it tells of the smallest image, which is 64 times ebreak, where it runs it
+TRAPPED = 126  # its status, and what it tells, of this text's image
+EBREAK = ".sandbox 4096\n        ebreak\n"
 TOLD = "loaded\nsandbox=0 trap=Break at=01000000 steps=0\n"
 CHECKER = "crates/sfi_c/out/suygapid_check.c"
 RUNTIME = "crates/sfi_run/out/suygapid_run.c"
@@ -77,16 +78,16 @@ def faults_of_run(what, words, top, given, wanted):
     return [f"{what} doesn't say {wanted.strip()!r} of {SMALLEST}: {said[-1] if said else f'status {done.returncode}'}"]
 
 
-def faults_of_native(top, image):
+def faults_of_native(top):
     """What is wrong with the host of native code, which tells by standard error."""
     with tempfile.NamedTemporaryFile() as file:
-        file.write(bytes.fromhex(image))
+        file.write(subprocess.run([top / PROGRAM, "build"], input=EBREAK.encode(), stdout=subprocess.PIPE, check=False).stdout)
         file.flush()
-        words = [top / HOST_OF_NATIVE, "--program", top / PROGRAM, "--told", "2", file.name, "1000", NO_GATE, "--", "smallest"]
+        words = [top / HOST_OF_NATIVE, "--program", top / PROGRAM, "--told", "2", file.name, "1000", NO_GATE, "--", "image"]
         done = subprocess.run(words, capture_output=True, text=True, errors="replace", check=False)
     if (done.returncode, done.stderr[:len(TOLD)]) == (TRAPPED, TOLD):
         return []
-    return [f"{HOST_OF_NATIVE} doesn't tell a Break of {SMALLEST}: status {done.returncode}: {done.stderr.strip()[:200]}"]
+    return [f"{HOST_OF_NATIVE} doesn't tell that native code stops at an ebreak: status {done.returncode}: {done.stderr.strip()[:200]}"]
 
 
 def faults_of_c(what, words, top, image, wanted):
@@ -138,4 +139,4 @@ def faults(top):
     found = (faults_of_sums(top) + faults_of_run(PROGRAM, [top / PROGRAM, "check"], top, given, ACCEPTED) + faults_of_text(top)
              + faults_of_run("page/sfi.wasm", [*node, PAGE_MODULE], top, given, ACCEPTED)
              + faults_of_run("bindings/node/sfi_run.wasm", [*node, NODE_MODULE], top, given, "Break\n"))
-    return found + faults_of_native(top, image) or faults_of_files(top, image) + faults_of_device(top)
+    return found + faults_of_native(top) or faults_of_files(top, image) + faults_of_device(top)

@@ -17,12 +17,14 @@ import sys
 import time
 import unittest
 import zipfile
+from unittest import mock
 
 import libraries
 from testing import SFI, TOOLS, TOP, Folder, needs_program
 
 PYTHON = TOP / "bindings" / "python"
 sys.path.append(str(PYTHON))
+from sfi_check import command as check
 from sfi_check.corpus import command
 
 SMALLEST = bytes.fromhex((TOP / "examples" / "smallest.hex").read_text(encoding="ascii"))
@@ -69,6 +71,9 @@ class Corpus(Folder):
     @classmethod
     def setUpClass(cls):
         cls.env = {**os.environ, "SFI_C_LIBRARY": libraries.make("sfi_c")[1], "PYTHONDONTWRITEBYTECODE": "1"}
+        patched = mock.patch.dict(os.environ, SFI_C_LIBRARY=cls.env["SFI_C_LIBRARY"])
+        patched.start()
+        cls.addClassCleanup(patched.stop)
 
     def image(self, name, data):
         path = self.room / name
@@ -88,21 +93,26 @@ class Corpus(Folder):
         done = subprocess.run(words, capture_output=True, text=True, check=False, env=env or self.env, cwd=self.room, user=user)
         return done.returncode, done.stdout.splitlines(), done.stderr
 
-    def check(self, *words):
-        return self.run_words(TOOLS / "sfi-check", *words)
-
-    def corpus(self, *words):
-        """`sfi-corpus`: what starts no processes of its own runs in this one, which spares a start of Python."""
-        if words[:1] not in (("report",), ("merge",)):
-            return self.run_words(TOOLS / "sfi-corpus", *words)
+    def run_here(self, main, *words):
+        """The same of a command's function in this process, which spares a start of Python, and git and rt what they are asked then."""
         before, out, said = os.getcwd(), io.StringIO(), io.StringIO()
         os.chdir(self.room)
         try:
             with contextlib.redirect_stdout(out), contextlib.redirect_stderr(said):
-                status = command.main(words)
+                status = main(list(map(str, words)))
+        except SystemExit as ended:
+            status = ended.code
         finally:
             os.chdir(before)
         return status, out.getvalue().splitlines(), said.getvalue()
+
+    def check(self, *words):
+        """`sfi-check`."""
+        return self.run_here(check.main, *words)
+
+    def corpus(self, *words):
+        """`sfi-corpus`."""
+        return self.run_here(command.main, *words)
 
     def change(self, database, script):
         with contextlib.closing(sqlite3.connect(self.path(database))) as base:
@@ -315,7 +325,8 @@ class Seeds(Corpus):
         self.assertEqual(self.corpus("seeds", "--count", "2", "--", "test", "{}", "-lt", "9")[0], 0)
         status, lines, _ = self.corpus("seeds", "--count", "1", "--seconds", "0.2", "--", "sh", "-c", "sleep 9 # {}")
         self.assertEqual((status, lines[0].split(" after")[0]), (1, "seed 1 ended in status 124"))
-        self.assertEqual(self.corpus("seeds", "--count", "1", "--", os.fsdecode(b"/none/\xff"))[0], 1)
+        status, lines, said = self.corpus("seeds", "--count", "1", "--", os.fsdecode(b"/none/\xff"))
+        self.assertEqual((status, lines[0].split(" after")[0], said), (1, "seed 1 ended in status 127", ""))
         for _ in range(2):  # what can't be run isn't known from before
             self.assertEqual(self.corpus("seeds", "--count", "1", "/none/x")[1][-1], "1 seeds run, 1 differ, 0 known from before")
 

@@ -44,6 +44,6 @@ def run(case: Case) -> Ended:
     except subprocess.TimeoutExpired as late:
         status, output = NEVER_ENDED, (late.stdout or b"") + f"no end after {case.seconds} seconds\n".encode()
     except OSError as error:
-        status, output = NOT_RUN, f"{case.words[0]}: {error.strerror}\n".encode()
+        status, output = NOT_RUN, f"{case.words[0]}: {error.strerror}\n".encode(errors="surrogateescape")
     told = output.decode(errors="replace")
     return Ended(case.seed, status, time.monotonic() - begun, told if status else told.rstrip().rpartition("\n")[2], built_words())
