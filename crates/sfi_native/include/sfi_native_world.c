@@ -123,11 +123,13 @@ static bool clear_pages(uint8_t *pages, size_t count) {
     size_t there = 0;
     if (mincore(pages, count * SFI_ZONE, found))
         return false;
-    for (size_t page = 0; page < count; page++)
+    const bool is_none = memchr(found, 1, count) == NULL; /* told soonest */
+    for (size_t page = 0; page < count && !is_none; page++)
         there += found[page] & 1;
+    const bool are_alike = is_none || there >= count / 4;
     for (size_t first = 0, end; first < count; first = end) {
         const bool is_written = there >= count / 4 || found[first] & 1;
-        for (end = first + 1; end < count && (there >= count / 4 || (found[end] & 1) == is_written); end++)
+        for (end = are_alike ? count : first + 1; end < count && (found[end] & 1) == is_written; end++)
             ;
         const size_t size = (end - first) * SFI_ZONE;
         if (is_written || madvise(pages + first * SFI_ZONE, size, MADV_DONTNEED))
