@@ -9,8 +9,8 @@ An edit shows that a contract is sharp. `rt must-fail` checks a whole crate for 
 the prover check the functions in which the edited lines stand, and those that they call (`rattle check --only`): what is
 refused so is refused in the whole crate, too. Edits in the bodies of several functions are tried at once: a proof takes of another
 function its contract alone, so each of these functions that isn't proved refuses its own edit. What isn't refused at once is tried
-alone, and what isn't then, as a definition that others are proved by, as rt does it. Of one crate, by turns, the same functions are
-checked as they are: they have to be proved.
+alone, and what isn't then, as a definition that others are proved by, as rt does it. Of one crate, by turns, some of these functions
+are checked as they are: they have to be proved.
 
 Due are
 
@@ -261,7 +261,7 @@ def try_edits(edits, number):
     crates = [trial.crate(it) for it in dict.fromkeys(it.crate for it in edits)]
     if not trial.make_ready(crates):
         return len(edits) + 1
-    some = [it for it in edits if it.functions() and it.crate == edits[number % len(edits)].crate]
+    some = [it for it in edits if it.functions() and it.crate == edits[number % len(edits)].crate][:AT_ONCE]
     failed = 0
     with ThreadPoolExecutor(LANES) as pool:
         tasks = [pool.submit(lambda: [trial.is_proved(some)])] if some else []
