@@ -66,6 +66,10 @@ due() { # one of how many has its turn; tests: a line for each of them and each 
 
 formats_due() { due 2 it | cut -d' ' -f2; } # of tests that all take their turn at once
 
+has_turn() { # a number, and one of how many has its turn
+    [ -n "${EACH_FORMAT:-}" ] || [ $(((commits + $1) % $2)) = 0 ]
+}
+
 in_format() { # a source text's file, a format; the text in that format
     grep -v '^\.format' "$1" | sed "1i .format $2"
 }

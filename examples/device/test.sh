@@ -5,8 +5,8 @@
 # print. test_checker.sh has the checker judge images on the device.
 #
 #     examples/device/test.sh [SFI]             # SFI is the program; ./sfi at the top if absent
-#     ALL=1 examples/device/test.sh [SFI]       # every input, more sizes of data, turns by the real
-#                                               # clock, and a checker without room for its stack
+#     ALL=1 examples/device/test.sh [SFI]       # every input, more sizes of data, turns of each length and
+#                                               # by the real clock, and a checker without room for its stack
 #
 # What is compared depends on no clock but that of QEMU which counts instructions (--steps), or on none: a machine that is
 # busy with other things gives the same lines.
@@ -30,12 +30,16 @@ build() { # a source, a format; the image on one line
 
 # Turns of 10 ms are longer than most runs, those of 10 us some 10000 instructions: the clock of
 # --steps counts these. Where sandboxes wait for each other, their steps depend on how long turns
-# are, and only their states and output are compared.
+# are, and only their states and output are compared. Each image has one of the lengths, by turns, where `each` doesn't say all.
 turns=(10000 10)
+each=$all
+compared=0
 compare() { # what is tried, its image, input, `steps` or `no steps`
-    local wanted turn found
+    local wanted turn found number=$((compared++))
     wanted=$("$SFI" run --rounds 10000 --quantum 1000000 --input "$3" <"$2")
     for turn in "${turns[@]}"; do
+        number=$((number + 1))
+        [ -n "$each" ] || has_turn "$number" ${#turns[@]} || continue
         found=$(run --steps --seconds "$seconds" --turn "$turn" --input "$3" <"$2")
         if [ "$4" = steps ]; then
             report "$1, turns of $turn us" "$wanted" "$found"
@@ -64,7 +68,7 @@ compare_examples() { # format
 }
 
 # The last input of each program, or all of them. In bundles a third of the programs are tried.
-compare_programs() { # format
+compare_programs() { # format; in words, too, one of how many has its turn
     local program input last='' number=0
     while read -r program input _; do
         if [ "$program" = "$last" ]; then
@@ -73,7 +77,7 @@ compare_programs() { # format
             number=$((number + 1))
         fi
         last=$program
-        [ -n "$all" ] || is_due "$1" "$number" 3 || continue
+        [ -n "$all" ] || { is_due "$1" "$number" 3 && { [ "$1" != words ] || has_turn "$number" "${2:-1}"; }; } || continue
         c_image "$program" "$1" "$room/image.hex" || report "$program, format $1" image none
         compare "$program on $input, format $1" "$room/image.hex" \
             "$(../c/inputs.py "$input" | digits_of)" steps
@@ -184,10 +188,14 @@ compare_accesses() { # data size, format, base register
     done
 }
 
+# Each size in one of the formats, by turns; sp is without masks, and in 16 bits where the offset allows that.
+number=0
 for size in 256 2048 4096 ${all:+512 1024 65536}; do
-    compare_accesses "$size" 1 a0
-    compare_accesses "$size" 2 sp # without masks, and in 16 bits where the offset allows that
-    compare_accesses "$size" words gp
+    for way in "1 a0" "2 sp" "words gp"; do
+        [ -z "$all" ] && ! has_turn "$number" 3 || compare_accesses "$size" $way
+        number=$((number + 1))
+    done
+    number=$((number + 1))
 done
 
 code_at=0x01000000 data_at=0x01800000

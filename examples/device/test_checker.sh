@@ -46,7 +46,7 @@ try_checker() {
     turns=(10000)
     for format in $formats; do
         compare_examples "$format"
-        compare_programs "$format"
+        compare_programs "$format" 3
         judge_flips "$format"
     done
     for ((number = 0; number < ${#attacks[@]}; number++)); do
