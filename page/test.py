@@ -1,5 +1,6 @@
 #!/usr/bin/env python3
-"""Tries the page in headless Chromium: what it shows of each example, in each format, has to be what the program prints.
+"""Tries the page in headless Chromium: what it shows of each example, in words, and by turns in the other formats, has to be what the
+program prints.
 
     page/test.py [--program PATH] [--file] [--shots FOLDER] [--measure]
 
@@ -21,9 +22,10 @@ import threading
 PAGE = os.path.dirname(os.path.abspath(__file__))
 TOP = os.path.dirname(PAGE)
 sys.dont_write_bytecode = True
+sys.path.append(os.path.join(TOP, "tools"))
 import chromium
+import testing
 
-FORMATS = ["1", "2", "words"]
 POKES = 6
 ROUNDS = 40
 MADE = ["made.js", "sfi.wasm", "sfi.wasm.js"]
@@ -296,9 +298,9 @@ def try_page(page, options):
         return shoot(page, options.shots)
     if options.measure:
         return measure(page, program)
-    for example in json.loads(page.value("JSON.stringify(EXAMPLES)")):
+    for number, example in enumerate(json.loads(page.value("JSON.stringify(EXAMPLES)"))):
         is_source = "typed" not in example and example["group"] != "Images"
-        for form in FORMATS if is_source else [None]:
+        for form in testing.formats_due(number, 3) if is_source else [None]:
             try_example(page, program, example, form)
     try_hand(page, program)
     return expect("the page's complaints", page.complaints, [])

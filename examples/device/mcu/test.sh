@@ -226,10 +226,11 @@ try_chip() {
         return
         ;;
     esac
-    try_accesses 1 a0 "${accesses[@]}"
-    # Each of them in the other sandbox, too
-    [ "$sandboxes_most" != 2 ] || try_accesses 1 a0 "${accesses[@]:1}" "${accesses[0]}"
-    try_accesses words gp "${accesses[@]}"
+    # Each chip by turns has one of these: a format, the other sandbox for each of them, the other format.
+    ! has_turn "$chips" 3 || try_accesses 1 a0 "${accesses[@]}"
+    ! has_turn $((chips + 1)) 3 || try_accesses 1 a0 "${accesses[@]:1}" "${accesses[0]}"
+    ! has_turn $((chips + 2)) 3 || try_accesses words gp "${accesses[@]}"
+    chips=$((chips + 1))
     try_far "$sandboxes_most"
     try_handler
     try_mirrors "$data_at + 0x1000" "$code_at"
@@ -252,6 +253,7 @@ try_chip() {
     esac
 }
 
+chips=0 # whose memory has been tried
 while read -r chip _; do
     try_chip
 done <chips/table

@@ -46,7 +46,7 @@ try_pads() { # format
 try_without_pmp() {
     local format
     for format in 1 2; do
-        try_pads "$format"
+        ! has_turn "$format" 2 || try_pads "$format"
         build "$room/pair.s" "$format" >"$room/image.hex"
         report "$chip: no PMP: words between two sandboxes, format $format" \
             "$("$SFI" run --rounds 100 --quantum 1000000 <"$room/image.hex" | without_steps)" "$(without_pmp)"
