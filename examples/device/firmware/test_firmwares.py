@@ -15,9 +15,10 @@ import unittest
 sys.dont_write_bytecode = True
 HERE = pathlib.Path(__file__).resolve().parent
 TOP = HERE.parents[2]
-sys.path += [str(HERE.parent / "store"), str(TOP / "examples" / "rust")]
+sys.path += [str(HERE.parent / "store"), str(TOP / "examples" / "rust"), str(TOP / "tools")]
 import checker
 import rust_target
+import testing
 import walk
 
 SFI = pathlib.Path(os.environ.get("SFI", TOP / "crates" / "sfi" / "out" / "sfi"))
@@ -30,7 +31,8 @@ PLACE_BYTES = range(8, 24)  # of an image: where its one sandbox's code and data
 NOT_SIGNED = "takes no update: 7"
 FLIPS = 8
 WRITES_BETWEEN_CUTS = 150
-CUTS = int(os.environ.get("CUTS", "8"))    # of each firmware
+CUTS = int(os.environ.get("CUTS", "8"))    # of a firmware
+LANGUAGES = ("c", "cpp", "rust")
 REPORTS = """
         call report
 again:  call yield
@@ -129,7 +131,11 @@ class Misuse(Built):
 
 
 class Firmwares(Built):
+    """The library is the same in each language: one has all cuts and flipped bits, by turns, and the others two."""
     language = "c"
+
+    def share(self, count):
+        return count if self.language in testing.by_turns(LANGUAGES, 1) or "CUTS" in os.environ else 2
 
     def send_updates(self):
         """Of the first plug-in the second version isn't accepted, the third traps, the fourth isn't signed, the fifth works."""
@@ -151,7 +157,7 @@ class Firmwares(Built):
         self.send_updates()
         *_, last = self.power_on()
         writes = int(last.split()[2])
-        count = min(CUTS, writes)
+        count = min(self.share(CUTS), writes)
         for number in range(count):
             cut_after = number * writes // count
             with self.subTest(cut_after=cut_after):
@@ -187,13 +193,13 @@ class Firmwares(Built):
 
     def test_runs_of_cuts(self):
         chance, cuts = random.Random(CUTS), 0
-        while cuts < CUTS:
+        while cuts < self.share(CUTS):
             cuts += self.run_of_cuts(chance)
 
     def test_flipped_bits(self):
         """What `sfi check` refuses, the firmware does; what lies elsewhere, too; and the other plug-in runs on."""
         chance, good = random.Random(1), image_of(0, REPORTS, 1)
-        for _ in range(FLIPS):
+        for _ in range(self.share(FLIPS)):
             at, flipped = chance.randrange(8, len(good)), bytearray(good)
             flipped[at] ^= 1 << chance.randrange(8)
             checked = subprocess.run([SFI, "check"], input=bytes(flipped), stdout=subprocess.DEVNULL, check=False)
