@@ -136,9 +136,9 @@ class Planted(testing.Folder):
     @testing.needs_program
     def test_escapes_are_found_without_a_rule(self):
         findings = calls.findings_by(verdicts.Judge(self.folder))
-        for format, rules in verdicts.NAMES.items():
-            for rule in rules:
-                self.found_without(rule, format, findings)
+        pairs = [(rule, format) for format, rules in verdicts.NAMES.items() for rule in rules]
+        for rule, format in testing.by_turns(pairs, -(-len(pairs) // 3)):
+            self.found_without(rule, format, findings)
 
     def found_without(self, rule, format, findings):
         """An image that the program refuses for this rule alone has a run that isn't safe."""
@@ -155,7 +155,7 @@ class Planted(testing.Folder):
     def test_calls_find_a_fault_of_the_model(self):
         judge = verdicts.Judge(self.folder)
         images_of = calls.image_maker(testing.SFI, judge)
-        for name, planted in worlds.PLANTS.items():
+        for name, planted in testing.by_turns(worlds.PLANTS.items(), -(-len(worlds.PLANTS) // 3)):
             tally = fuzzing.Tally()
             self.found(tally, lambda pick: calls.World(pick, images_of, worlds.Model(judge), planted(judge), tally).live(), name)
 
@@ -163,7 +163,7 @@ class Planted(testing.Folder):
     @testing.needs_program
     def test_beside_finds_a_fault_of_the_model(self):
         judge, images = verdicts.Judge(self.folder), beside.images_of(testing.SFI)
-        for name, planted in worlds.PLANTS_BESIDE.items():
+        for name, planted in testing.by_turns(worlds.PLANTS_BESIDE.items(), -(-len(worlds.PLANTS_BESIDE) // 3)):
             tally = fuzzing.Tally()
 
             def try_one(pick):
@@ -239,7 +239,7 @@ class Native(unittest.TestCase):
 
 class Files(unittest.TestCase):
     def test_each_mistake_of_the_host_is_seen(self):
-        for name in files.MISTAKES:
+        for name in testing.by_turns(files.MISTAKES, 3):
             done = subprocess.run([sys.executable, files.__file__, "--rounds", "100", "--plant", name], stdout=subprocess.PIPE, text=True,
                                   check=False)
             self.assertEqual(done.returncode, 1, f"{name}: {done.stdout}")
