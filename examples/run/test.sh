@@ -126,12 +126,17 @@ image() { # a source, a format, a name: the image as text and as bytes
     in_format "$1" "$2" | "$SFI" build >"$room/$3.hex" && xxd -r -p "$room/$3.hex" >"$room/$3.image"
 }
 
+# Hosts in C have turns of each length, those in other languages of one of them, in turns from one call of this to the next.
+beside=0
 beside_run() { # what is tried, the image's name, the input, and the lengths: rounds:quantum
-    local what=$1 name=$2 input=$3 length language wanted found
+    local what=$1 name=$2 input=$3 length language wanted found number
     shift 3
+    number=$((beside++))
     for length; do
         wanted=$("$SFI" run --rounds "${length%:*}" --quantum "${length#*:}" --input "$input" <"$room/$name.hex")
+        number=$((number + 1))
         for language in $(languages console); do
+            [ "$language" = C ] || has_turn "$number" $# || continue
             found=$(${hosts[$language console]} "$room/$name.image" "${length%:*}" "${length#*:}" "$input" 2>&1)
             report "$what, ${length%:*} turns of ${length#*:} steps, in $language" "$wanted" "$found"
         done
@@ -354,7 +359,8 @@ header_in_c() {
         says_so "calls that fail, format $format" "all is so" "$room/failed_calls" "$room/failed_calls.image"
         says_so "runs that are cut short, format $format" "all is so" "$room/limit" "$room/failed_calls.image" \
             "$room"/{on,turn,squares,words}.image
-        says_so "ends by other threads, under ThreadSanitizer, format $format" "all is so" "$room/limit_watched" "$room/failed_calls.image"
+        ! is_due "$format" 0 2 ||
+            says_so "ends by other threads, under ThreadSanitizer, format $format" "all is so" "$room/limit_watched" "$room/failed_calls.image"
         image "$here/squares.s" "$format" kept
         says_so "snapshots, format $format" "all is so" "$room/snapshot" "$room/kept.image" \
             "$(sha256sum <"$room/kept.image" | cut -d ' ' -f 1)" "$room/kept.snapshot"
@@ -430,7 +436,9 @@ bindings() {
     own_tests Python env SFI="$plain" SFI_RUN_LIBRARY="$runtime.so" "$top/tools/unit_tests.py" "$top/bindings/python/tests"
     [ -z "${hosts[node add]:-}" ] || own_tests node node "$top/bindings/node/test.mjs"
     has cargo || return
-    for kind in "" --release; do # arithmetic that overflows panics in the first alone
+    for kind in "" --release; do # arithmetic that overflows panics in the first alone; each engine has one of them
+        [ -z "$commands" ]
+        has_turn $((${#kind} + $?)) 2 || continue
         succeeds "cargo test $kind" env -C "$top/bindings/rust" SFI="$plain" SFI_RUN_LIBRARY="$runtime.a" cargo test -q --locked $kind
     done
     [ ! -f "$room/kept.snapshot" ] ||
