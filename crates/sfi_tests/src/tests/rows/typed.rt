@@ -207,7 +207,7 @@ put 0 53464957; $ sfi check; $ sfi check --raw
 ";
 
 /// Layouts, and larger regions.
-pub(super) const LAYOUTS: &str = "30 commands
+pub(super) const LAYOUTS: &str = "28 commands
 put 0 53464957; $ sfi check; $ sfi check --raw
 = start in a bundle; put 24 04000001; > layout fault 7 Start
 = a gate in a bundle; put 28 01000000; insert 36 0400000100000000; > layout fault 8 Gates
@@ -215,7 +215,6 @@ put 0 53464957; $ sfi check; $ sfi check --raw
 = code of 128 bytes; put 12 80000000; end 36 32 73001000; > layout fault 4 Code
 = code of 131072 bytes; put 12 00000200; end 36 32768 73001000; > accepted sandboxes=1 bundles=8192
 = code of 1048576 bytes; put 12 00001000; end 36 262144 73001000; > accepted sandboxes=1 bundles=65536
-= code of 16777216 bytes; put 12 00000001; put 16 00000003; end 36 4194304 73001000; > accepted sandboxes=1 bundles=1048576
 = code of 16777216 bytes, 256 there; put 12 00000001; put 16 00000003; > layout fault 3 Short
 = code of 33554432 bytes; put 8 00000002; put 12 00000002; put 16 00000006; put 24 00000002; > layout fault 4 Code
 = data of 128 bytes; put 20 80000000; > layout fault 5 Data
@@ -224,6 +223,12 @@ put 0 53464957; $ sfi check; $ sfi check --raw
 = data of 2147483648 bytes; put 16 00000080; put 20 00000080; > layout fault 5 Data
 = x2 owed at each 16 bytes' end; put 12 00200000; end 36 512 2320b100938212009382120013014100; put 8212 2320b100730010007300100073001000; > accepted sandboxes=1 bundles=512
 = x2 owed and not used; put 12 00200000; end 36 512 93821200938212009382120013014100; put 8212 73001000730010007300100073001000; > refused findings=511 first=V10 sandbox=0 at=01000010
+";
+
+/// The largest code.
+pub(super) const LARGEST: &str = "1 commands
+put 0 53464957; $ sfi check --raw
+= code of 16777216 bytes; put 12 00000001; put 16 00000003; end 36 4194304 73001000; > accepted sandboxes=1 bundles=1048576
 ";
 
 /// Runs.
