@@ -6,8 +6,9 @@ and the sandbox runs from there up to the time that is wanted, while what is not
 else in the past, what came after it is forgotten."""
 from __future__ import annotations
 
-from collections.abc import Callable
+from collections.abc import Callable, Iterator
 from dataclasses import dataclass, field
+from itertools import zip_longest
 from typing import NamedTuple, Optional
 
 from sfi_run import Call, Event, Exited, NotEntered, Ready, Registers, Trapped, World
@@ -19,6 +20,8 @@ ANYWHERE = Until()
 MOST = 1 << 32  # more steps than one turn makes
 BETWEEN = 1000000  # steps from one checkpoint to the next, at first
 CHECKPOINTS = 64  # the most of them: of more each second one goes, and new ones are twice as far apart
+PIECE = 1 << 16  # bytes of data that a checkpoint shares with an earlier one where they are the same
+ZEROS = bytes(PIECE)
 CLOSE = 1000  # steps before a time that is gone back to, where a checkpoint is for the next steps back
 
 
@@ -37,7 +40,11 @@ class Checkpoint:
     time: int
     place: int
     registers: Registers
-    data: bytes = field(repr=False)
+    pieces: tuple[bytes, ...] = field(repr=False)  # of the data; those that are as in an earlier one are the same object
+
+    @property
+    def data(self) -> bytes:
+        return b"".join(self.pieces)
 
 
 @dataclass(frozen=True)
@@ -60,6 +67,7 @@ class History:
         self.done: list[Done] = []
         self.place = 0  # how many of these are done
         self.near: Optional[Checkpoint] = None
+        self.checkpoints: list[Checkpoint] = []
         self.checkpoints = [self.checkpoint()]
 
     @property
@@ -154,9 +162,17 @@ class History:
 
     # Checkpoints.
 
-    def checkpoint(self) -> Checkpoint:
+    def pieces(self) -> Iterator[tuple[int, bytes]]:
+        """The data, each piece with its address."""
         data = self.box.data
-        return Checkpoint(self.time, self.place, self.box.registers, self.box.read(data.base, data.size))
+        for at in range(data.base, data.base + data.size, PIECE):
+            yield at, self.box.read(at, min(PIECE, data.base + data.size - at))
+
+    def checkpoint(self) -> Checkpoint:
+        before = self.checkpoints[-1].pieces if self.checkpoints else ()
+        pieces = ((now, (then, ZEROS)) for (_, now), then in zip_longest(self.pieces(), before))
+        return Checkpoint(self.time, self.place, self.box.registers,
+                          tuple(next((it for it in known if it == now), now) for now, known in pieces))
 
     def can_be_taken_up(self) -> bool:
         """Whether the sandbox stands where its registers can be set, which is not so in the midst of a mask."""
@@ -186,7 +202,9 @@ class History:
     # Back.
 
     def take_up(self, point: Checkpoint) -> None:
-        self.box.write(self.box.data.base, point.data)
+        for (at, now), then in zip(list(self.pieces()), point.pieces):
+            if now != then:
+                self.box.write(at, then)
         self.box.registers = point.registers
         self.begun, self.place = point.time - self.box.steps, point.place
         self.settle()
