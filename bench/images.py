@@ -155,7 +155,8 @@ def image(kind, sandboxes=16, code_size=65536, init=0, format=1, seed=0):
         code, code_base = code_of(seed + n, code_size, format), 0x01000000 * (n + 1)
         bundles = [code.bundle(kind, at) for at in range(0, code_size - 16, 16)]
         bundles.append(struct.pack("<H", 0x9002) * 8)  # c.ebreak: control can't run off the end
-        parts.append(Part(code_base, b"".join(bundles), code_base + 0x800000, 1048576, code_base, init=bytes(init)))
+        data_base = code_base + 0x800000 if code_size < 0x800000 else 0x20000000 + 0x200000 * n  # beside the code, or above all code
+        parts.append(Part(code_base, b"".join(bundles), data_base, 1048576, code_base, init=bytes(init)))
     return spelled(MAGICS[format], parts)
 
 

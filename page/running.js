@@ -3,6 +3,7 @@
 
 const REGISTERS = "zero ra sp gp tp t0 t1 t2 s0 s1 a0 a1 a2 a3 a4 a5 a6 a7 s2 s3 s4 s5 s6 s7 s8 s9 s10 s11 t3 t4 t5 t6".split(" ");
 const MOST_STEPS = 20_000_000, MOST_TO_CALL = 1_000_000, QUANTUM = 1000, MOST_DATA_ROWS = 60;
+const HALF = 1 << 19; // bytes that are looked at from each end of larger data
 const CONTROLS = ["step", "call", "go", "reset"];
 
 // A world of the image as it is now, from its start.
@@ -32,6 +33,18 @@ function stateText(event, pc) {
     return event.kind === "trapped" ? `trapped: ${CAUSES[event.number]} at ${hex8(event.a0)}` : `${event.kind} at ${hex8(pc)}`;
 }
 
+// The data, or both ends of them.
+function lookedAt(world, i, region) {
+    if (region.size <= 2 * HALF) return world.read(i, region.base, region.size);
+    const data = new Uint8Array(2 * HALF);
+    data.set(world.read(i, region.base, HALF));
+    data.set(world.read(i, region.base + region.size - HALF, HALF), HALF);
+    return data;
+}
+
+// How many bytes of the data aren't looked at before a byte of these.
+const skipped = (region, k) => k < HALF ? 0 : Math.max(0, region.size - 2 * HALF);
+
 // Shows the sandbox that is looked at, and marks what changed since it was shown last.
 function tell() {
     const world = now.world, i = now.which;
@@ -43,15 +56,15 @@ function tell() {
         $("steps").textContent = $("where").textContent = "";
         return;
     }
-    const event = world.event(i), registers = world.registers(i), region = world.region(i), data = world.read(i, region.base, region.size);
+    const event = world.event(i), registers = world.registers(i), region = world.region(i), data = lookedAt(world, i, region);
     const old = now.before && now.before.which === i ? now.before : null, changed = [];
     if (old) for (let k = 0; k < data.length && changed.length < 2000; k++) if (data[k] !== old.data[k]) changed.push(k);
-    now.touched = { sandbox: i, list: changed };
+    now.touched = { sandbox: i, list: changed.map((k) => k + skipped(region, k)) };
     $("steps").textContent = `${world.steps(i).toLocaleString("en")} steps`;
     $("state").className = event.kind === "trapped" ? "trap" : "";
     $("state").textContent = stateText(event, registers[0]);
     showRegisters(registers, old);
-    showData(region, data, new Set(changed), (registers[3] - region.base) >> 4);
+    showData(region, data, new Set(changed), registers[3] - region.base);
     showOutput(world, i);
     drawMap();
     now.before = { which: i, registers, data };
@@ -81,16 +94,16 @@ function showOutput(world, i) {
 function dataLine(region, data, row, changed) {
     const bytes = Array.from(data.subarray(row * 16, row * 16 + 16));
     const digits = bytes.map((byte, k) => `<b class="${changed.has(row * 16 + k) ? "changed" : byte ? "" : "zero"}">${HEX[byte]}</b>${k % 4 === 3 ? " " : ""}`);
-    return `<div><u>${hex8(region.base + row * 16)}</u> ${digits.join("")}${escaped(bytes.map(shown).join(""))}</div>`;
+    return `<div><u>${hex8(region.base + row * 16 + skipped(region, row * 16))}</u> ${digits.join("")}${escaped(bytes.map(shown).join(""))}</div>`;
 }
 
 // The first rows, those that hold anything, that changed, and that of the stack pointer.
-function showData(region, data, changed, stackRow) {
+function showData(region, data, changed, stack) {
     const made = [], gap = '<div class="zero">⋯</div>';
     let count = 0;
     for (let row = 0; row * 16 < data.length; row++) {
         const bytes = data.subarray(row * 16, row * 16 + 16), isFresh = bytes.some((_, k) => changed.has(row * 16 + k));
-        const wanted = isFresh || count < MOST_DATA_ROWS && (row < 4 || row === stackRow || bytes.some((it) => it));
+        const wanted = isFresh || count < MOST_DATA_ROWS && (row < 4 || row === stack - skipped(region, row * 16) >> 4 || bytes.some((it) => it));
         if (wanted) made.push(dataLine(region, data, row, changed));
         else if (made[made.length - 1] !== gap) made.push(gap);
         count += wanted;
