@@ -11,7 +11,7 @@ from suygapid.isa.encoding import b_type, jal, s_type
 CODE_BASE, DATA_SIZE = 0x01000000, 256
 REGISTERS = [0, 1, 2, 2, 3, 4, 5, 8, 10, 24, 25, 26, 26, 27, 28, 29, 30, 31]
 NUMBERS = [0, 0, 1, 4, -4, 16, -16, 1019, 1020, 1020, 1021, -1020, -1020, -1021, 2047, -2048]
-NOP = struct.pack("<I", 0x13)
+NOP, EBREAK = struct.pack("<I", 0x13), struct.pack("<I", 0x100073)
 
 
 def and_(rd, a, b):
@@ -149,7 +149,7 @@ def repaired(code, gates, but=()):
         for place, rule in found:
             at = place & ~3
             for place in {at, max(at - 4, 0)} if rule in ("V10", "V11") else {at}:
-                code[place : place + 4] = NOP if place + 4 < len(code) else struct.pack("<I", 0x100073)
+                code[place : place + 4] = NOP if place + 4 < len(code) else EBREAK
     return None
 
 

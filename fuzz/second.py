@@ -123,7 +123,7 @@ def kinds(seed):
 def odd_ones(seed):
     """A large image of odd code in each format."""
     in_words = odd_words.large_sandboxes(seed)
-    longest = b"".join(code for code, _ in in_words) * 2  # which code in words alone may have
+    longest = in_words[0][0] + odd_words.EBREAK * 31 * 16384  # 2 MiB, which code in words alone may have
     made = [*(odd_images.odd_image(seed, 2, 65536, format) for format in (1, 2)), odd_words.image(in_words), odd_words.image([(longest, [])])]
     return [*made, images.MAGICS[2] + made[-1][4:]]
 
