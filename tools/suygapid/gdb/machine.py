@@ -55,7 +55,7 @@ class Machine:
     def __init__(self, elf, given):
         self.image, self.given = image([elf]), given
         self.scratch, self.start = SCRATCH[format_of(elf)], elf.symbol("__sfi_code")
-        self.code = code_of(elf, format_of(elf))
+        self.code = code_of(elf)
         self.breaks, self.watches = set(), set()
         self.say, self.is_interrupted = print, lambda: False
         self.restart()
