@@ -4,7 +4,11 @@ import os
 import re
 import struct
 import subprocess
+import unittest
+from itertools import combinations, product
 
+from suygapid.elf.linking import place_of
+from suygapid.image.layout import GUARD, MOST_SANDBOXES
 from testing import COMPILERS, GCC, NEWLIB, SFI, SFI_CC, SFI_IMAGE, TOOLS, Folder, formats_due, needs, needs_program
 
 STACK = 8192  # bytes of its room, unless an option says others
@@ -78,6 +82,29 @@ class Programs(Folder):
         program = subprocess.run([SFI_IMAGE, self.built(text, *words)], stdout=subprocess.PIPE, check=True).stdout
         done = subprocess.run([SFI, "run", "--rounds", "1000", "--quantum", "1000000"], input=program, stdout=subprocess.PIPE, check=True)
         return int(re.search(rb"exit=(\d+)", done.stdout)[1])
+
+
+class Places(unittest.TestCase):
+    SIZES = [(256, 256), (1 << 22, 1 << 22), (1 << 22, 1 << 23), (1 << 23, 256), (1 << 24, 1 << 26), (256, 1 << 26)]  # of code and data
+
+    def spans(self, sandbox, code, data):
+        code_base, data_base = place_of(sandbox, code, data)
+        self.assertEqual((code_base % code, data_base % data), (0, 0))
+        self.assertLessEqual(data_base + data + GUARD, 1 << 32)
+        return [range(code_base, code_base + code), range(data_base - GUARD, data_base + data + GUARD)]
+
+    def test_all_lie_apart(self):
+        """Sixteen sandboxes of whatever size, up to 16 MiB of code and 64 MiB of data."""
+        for one, other in combinations(range(MOST_SANDBOXES), 2):
+            for first, second in product(self.SIZES, repeat=2):
+                for here, there in product(self.spans(one, *first), self.spans(other, *second)):
+                    self.assertTrue(here.stop <= there.start or there.stop <= here.start, (one, first, other, second))
+
+    def test_the_largest(self):
+        for size, sandboxes in ((1 << 27, 14), (1 << 28, 7), (1 << 29, 3), (1 << 30, 1)):
+            for sandbox in range(sandboxes):
+                here, there = self.spans(sandbox, 1 << 24, size)
+                self.assertLessEqual(here.stop, there.start)
 
 
 @needs(GCC)
