@@ -115,13 +115,15 @@ def faults_of_text(top):
     return [] if same else ["page/sfi.wasm.js doesn't hold page/sfi.wasm"]
 
 
-def faults_of_device(top):
-    """What is wrong with the library of a device and its checker, where that is there, as the tests of firmwares find it."""
+def faults_of_device(top, *names):
+    """What is wrong with the library of a device and its checker, where that is there, as the tests of firmwares find it, or those
+    with these names."""
     if not (top / DEVICE).is_file():
         return []
     known = {name: value for name, value in os.environ.items() if name not in ("SFI", "RATTLE")}
-    done = subprocess.run([sys.executable, "tools/unit_tests.py", FIRMWARES], cwd=top, stdout=subprocess.PIPE, stderr=subprocess.STDOUT,
-                          text=True, check=False, env={**known, "CHECKER": str(top / DEVICE), "CUTS": "1"})
+    words = [sys.executable, "tools/unit_tests.py", FIRMWARES, "test_*.py", *names]
+    done = subprocess.run(words, cwd=top, stdout=subprocess.PIPE, stderr=subprocess.STDOUT, text=True, check=False,
+                          env={**known, "CHECKER": str(top / DEVICE), "CUTS": "1"})
     lines = done.stdout.strip().splitlines() or ["nothing is said"]
     for skipped in (it for it in lines if it.startswith("skipped: ")):
         print(skipped, file=sys.stderr)

@@ -13,7 +13,7 @@ from collections import Counter
 
 import libraries
 from suygapid.pictures.flame import DEEPEST
-from testing import GCC, SFI, TOOLS, TOP, Folder, formats_due, needs
+from testing import GCC, SFI, TOOLS, TOP, Folder, by_turns, formats_due, needs
 
 sys.path.append(str(TOP / "page"))
 import chromium
@@ -126,7 +126,7 @@ class Flames(Pictures):
         return {it.split()[2]: int(it.split()[0]) for it in printed if re.match(r" *\d+ +[\d.]+%", it)}
 
     def test_steps_are_those_of_the_profile(self):
-        for file in ("hanoi.s", "fibonacci.s", "sort.s"):
+        for file in by_turns(("hanoi.s", "fibonacci.s", "sort.s"), 1):
             printed, (paths,), root = self.flame(TOP / "examples" / file)
             own, whole = self.own_steps(root)
             by_paths = Counter()
