@@ -27,6 +27,7 @@ TOP = pathlib.Path(__file__).resolve().parent.parent
 SUITE, MIRROR = "bookworm", "http://deb.debian.org/debian"
 HOME, ARCHIVES = "/home/new", "var/cache/apt/archives"
 PATH = "/usr/local/sbin:/usr/local/bin:/usr/sbin:/usr/bin:/sbin:/bin"
+SHARED = 'mount -t tmpfs -o mode=1777 none /dev/shm && exec "$@"'  # which processes of Python share, as on any Debian
 UNPACKED = f"{version.NAME}-{version.version()}-x86_64-linux"
 EXITED = " || [ $? = 105 ]"  # the status of the program that README.md runs last
 GREETING = "hello 42"  # what each host of docs/EMBEDDING.md prints
@@ -203,8 +204,8 @@ class Root:
     def run(self, step):
         """What a step prints. A user's has no network."""
         apart = ["--mount", "--pid", "--fork"] if step.by_root else ["--mount", "--pid", "--fork", "--net"]
-        words = ["unshare", *apart, f"--root={self.top}", "--mount-proc=/proc", "env", "-i", f"PATH={PATH}", "DEBIAN_FRONTEND=noninteractive",
-                 "LC_ALL=C.UTF-8", "TERM=dumb"]
+        words = ["unshare", *apart, f"--root={self.top}", "--mount-proc=/proc", "sh", "-c", SHARED, "sh", "env", "-i", f"PATH={PATH}",
+                 "DEBIAN_FRONTEND=noninteractive", "LC_ALL=C.UTF-8", "TERM=dumb"]
         words += ["HOME=/root"] if step.by_root else ["runuser", "-u", "new", "--", "env", f"HOME={HOME}"]
         folder = HOME if (self.top / HOME[1:]).is_dir() else "/"
         done = subprocess.run([*words, "sh", "-e", "-c", f"cd {folder}\n{step.words}"], stdin=subprocess.DEVNULL, stdout=subprocess.PIPE,
