@@ -24,7 +24,8 @@ import release_trial
 import version
 
 TOP = pathlib.Path(__file__).resolve().parent.parent
-SUITE, MIRROR = "bookworm", "http://deb.debian.org/debian"
+MIRROR = "http://deb.debian.org/debian"
+BOOKWORM, TRIXIE = "bookworm", "trixie"  # the latter has the node that README.md asks for
 HOME, ARCHIVES = "/home/new", "var/cache/apt/archives"
 PATH = "/usr/local/sbin:/usr/local/bin:/usr/sbin:/usr/bin:/sbin:/bin"
 SHARED = 'mount -t tmpfs -o mode=1777 none /dev/shm && exec "$@"'  # which processes of Python share, as on any Debian
@@ -53,6 +54,7 @@ class Way:
     packages: tuple
     files: tuple
     steps: list = field(default_factory=list)
+    suite: str = BOOKWORM
 
 
 class Documents:
@@ -153,7 +155,7 @@ def by_pip(documents):
 def by_npm(documents):
     source = documents.block("docs/EMBEDDING.md", 'from "suygapid"')
     return Way(("nodejs", "npm"), ("*.tgz", "plugin.image"), [
-        Step(documents.line("README.md", "npm install")), Step(written("host.mjs", source) + "node host.mjs", (GREETING,))])
+        Step(documents.line("README.md", "npm install")), Step(written("host.mjs", source) + "node host.mjs", (GREETING,))], TRIXIE)
 
 
 def by_cargo(documents):
@@ -171,13 +173,13 @@ WAYS = {"tar": by_tar, "apt": by_debian, "pip": by_pip, "npm": by_npm, "cargo": 
 # ---- Debian
 
 
-def debian(folder):
+def debian(folder, suite):
     """The root of a fresh Debian, which is made once."""
-    root, done = folder / SUITE, folder / f"{SUITE}.done"
+    root, done = folder / suite, folder / f"{suite}.done"
     if not done.exists():
         shutil.rmtree(root, ignore_errors=True)
         folder.mkdir(parents=True, exist_ok=True)
-        subprocess.run(["debootstrap", "--variant=minbase", SUITE, root, MIRROR], check=True, stdout=subprocess.DEVNULL)
+        subprocess.run(["debootstrap", "--variant=minbase", suite, root, MIRROR], check=True, stdout=subprocess.DEVNULL)
         done.touch()
     return root
 
@@ -193,12 +195,12 @@ def link_new(source, target):
 class Root:
     """A Debian of its own, in a namespace of its own, so that nothing of it stays mounted or runs on."""
 
-    def __init__(self, folder, name, packages):
+    def __init__(self, folder, name, way):
         self.top = folder / name
         shutil.rmtree(self.top, ignore_errors=True)
-        subprocess.run(["cp", "-a", "--reflink=auto", debian(folder), self.top], check=True)
+        subprocess.run(["cp", "-a", "--reflink=auto", debian(folder, way.suite), self.top], check=True)
         link_new(folder / "packages", self.top / ARCHIVES)
-        self.run(Step(f"useradd -m -d {HOME} new && apt-get update -qq && apt-get install -qq -y {' '.join(packages)}", (), True))
+        self.run(Step(f"useradd -m -d {HOME} new && apt-get update -qq && apt-get install -qq -y {' '.join(way.packages)}", (), True))
         link_new(self.top / ARCHIVES, folder / "packages")
 
     def run(self, step):
@@ -219,7 +221,7 @@ class Root:
 
 def go(name, way, release, folder):
     """Goes a way. plugin.image is kept beside the roots."""
-    root = Root(folder, name, way.packages)
+    root = Root(folder, name, way)
     home = root.top / HOME[1:]
     for path in [path for it in way.files for path in (*release.glob(it), *folder.glob(it))]:
         shutil.copy(path, home)

@@ -4,6 +4,7 @@ import { setFlagsFromString } from "node:v8";
 
 export const VERSION = "0.1.0";
 const NUMBER = VERSION.split(".").reduce((number, part) => number * 256 + Number(part), 0);
+const OLDEST = 20; // the oldest node, of which an older one says of the module that it is wrong
 const TOLD_BYTES = 256; // more than any struct that a call writes
 // A module with a memory whose addresses have 64 bits, and nothing else.
 const WIDE = Uint8Array.of(0, 97, 115, 109, 1, 0, 0, 0, 5, 3, 1, 4, 0);
@@ -20,6 +21,7 @@ export class Library {
 
   /** The module of that path, or the one that SFI_RUN_MODULE names, or the one beside this file. */
   static async load(path = process.env.SFI_RUN_MODULE || new URL("sfi_run.wasm", import.meta.url)) {
+    if (parseInt(process.versions.node) < OLDEST) throw new Error(`node ${OLDEST} or later is wanted, and this is ${process.versions.node}`);
     if (!WebAssembly.validate(WIDE)) setFlagsFromString("--experimental-wasm-memory64"); // before node 24
     const bytes = await readFile(path).catch((cause) => {
       throw new Error(`${cause.message}; tools/build_node.py makes the module, or SFI_RUN_MODULE has to name it`, { cause });
