@@ -10,6 +10,7 @@ import tarfile
 import tempfile
 import unittest
 import zipfile
+from unittest import mock
 
 import package_trial
 import packages
@@ -18,6 +19,8 @@ import version
 from testing import by_turns, needs
 
 MAKERS = {".whl": packages.wheel, ".tgz": packages.tarball, ".crate": packages.crate, ".deb": packages.debian}
+# The crate compiles the runtime: here without optimization, which takes a fraction of the time. tools/release.py tries it as it is.
+COMPILER = '#!/bin/sh\nfor word; do shift; [ "$word" = -O2 ] || set -- "$@" "$word"; done\nexec cc -O0 "$@"\n'
 COMPILED = {"tools/suygapid/made/a library/it.a": b"compiled"}  # what a release hands on
 
 
@@ -59,6 +62,11 @@ class Packages(unittest.TestCase):
         room = tempfile.TemporaryDirectory()
         cls.addClassCleanup(room.cleanup)
         cls.room, cls.made = pathlib.Path(room.name), {}
+        (cls.room / "cc").write_text(COMPILER, encoding="utf-8")
+        (cls.room / "cc").chmod(0o755)
+        patched = mock.patch.dict(os.environ, CC=str(cls.room / "cc"))
+        patched.start()
+        cls.addClassCleanup(patched.stop)
 
     def package(self, ending):
         """The package with this ending, made once."""
