@@ -8,7 +8,7 @@ use Rattle.sfi_formats.specs.declared.format.Format.{Format}
 use Rattle.sfi_image.specs.declared.fault.LayoutFault.TheVariants.{Short}
 use Rattle.sfi_image.specs.declared.fields.Fields.{Fields}
 use Rattle.sfi_image.specs.declared.span.Span.{Span}
-use Rattle.sfi_image.specs.Spelling.{part, gate, number, spans}
+use Rattle.sfi_image.specs.Spelling.{part, gate, number}
 use Rattle.sfi_image.specs.Parts.{IsRightPart}
 use Rattle.sfi_image.specs.FieldTests.{FieldTest, IsFirstFault, fault_of, field_tests}
 use Rattle.sfi_image.specs.FieldTests.FieldTest.{Code, Data, GuardRoom, Start, Gates, Init, Overlap}
@@ -35,7 +35,7 @@ no_test_is_short Gates e = absurd cc
 no_test_is_short Init e = absurd cc
 no_test_is_short Overlap e = absurd cc
 
-not_short : (before : List Span) (f : Fields) (ts : List FieldTest) → IsFirstFault before f ts (Some Short) → ⊥
+not_short : (before : List Part) (f : Fields) (ts : List FieldTest) → IsFirstFault before f ts (Some Short) → ⊥
 not_short before f [] e = absurd cc
 not_short before f (t ∷ ts) (inl h) = not_short before f ts h.1
 not_short before f (t ∷ ts) (inr h) = no_test_is_short t h.1
@@ -53,7 +53,7 @@ parts_bound [] right = omega arith
 parts_bound (p ∷ ps) right =
     omega (arith, length-append (part p) (flat_map part ps), part_bound p (All-head IsRightPart p ps right), parts_bound ps (All-tail IsRightPart p ps right))
 
-body_bound : (before : List Span) (f : Fields) (bytes : List ℕ) → Region f → IsBodyFault f bytes Short → length bytes < part_most
+body_bound : (before : List Part) (f : Fields) (bytes : List ℕ) → Region f → IsBodyFault f bytes Short → length bytes < part_most
 body_bound before f bytes r (gs, rest, e, w, are, inl h) =
     let gates = r.gate_count in omega (arith, h.0, h.1, ap length e, length-append (flat_map gate gs) rest, length-gates gs)
 body_bound before f bytes r (gs, rest, e, w, are, inr (inl h)) = let is = h.6 in absurd cc
@@ -63,7 +63,7 @@ body_bound before f bytes r (gs, rest, e, w, are, inr (inr h)) =
     let init = r.init_len in
     omega (arith, h.0, h.1, ap length e, length-append (flat_map gate gs) rest, length-gates gs)
 
-part_fault_bound : (format : Format) (before : List Span) (bytes : List ℕ) → IsPartFault format before bytes Short → length bytes < part_most + 28
+part_fault_bound : (format : Format) (before : List Part) (bytes : List ℕ) → IsPartFault format before bytes Short → length bytes < part_most + 28
 part_fault_bound format before bytes (inl h) = omega (arith, h.0)
 part_fault_bound format before bytes (inr (f, rest, e, words, kind, inl h)) = absurd (not_short before f field_tests h)
 part_fault_bound format before bytes (inr (f, rest, e, words, kind, inr h)) =
@@ -71,7 +71,7 @@ part_fault_bound format before bytes (inr (f, rest, e, words, kind, inr h)) =
 
 parts_fault_bound : (format : Format) (n : ℕ) (bytes : List ℕ) → n ≤ 16 → ArePartsFault format n bytes Short → length bytes < 17 * part_most - 100
 parts_fault_bound format n bytes few (ps, rest, e, right, are, inl h) =
-    omega (arith, h.0, few, part_fault_bound format (spans ps) rest h.1, parts_bound ps right.each, ap length e, length-append (flat_map part ps) rest)
+    omega (arith, h.0, few, part_fault_bound format ps rest h.1, parts_bound ps right.each, ap length e, length-append (flat_map part ps) rest)
 parts_fault_bound format n bytes few (ps, rest, e, right, are, inr h) = let is = h.2 in absurd cc
 
 count_bound : (format : Format) (bytes : List ℕ) → IsCountFault format bytes Short → length bytes < 17 * part_most - 96

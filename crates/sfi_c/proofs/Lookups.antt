@@ -12,6 +12,7 @@ use Rattle.sfi_image.proofs.Seeking.{length-gates, length-part, sandbox_lies}
 use Rattle.std.proofs.lemmas.List.Elements.{All-head, All-tail, All-from_recursion}
 use Rattle.sfi_image.specs.declared.span.Span.{Span}
 use Rattle.sfi_places.specs.Beside.{AreBeside}
+use Rattle.sfi_image.proofs.ClearZones.{clear_of_no_zones}
 use Rattle.sfi_c.specs.Moves.{AreToldApart}
 use Rattle.std.specs.Prelude.{slice_get}
 use Rattle.sfi_image.proofs.Facts.{one_image, never_both}
@@ -82,11 +83,15 @@ beside bytes others number further p q one other h g of_p of_q =
     let is = of_p.told_is in
     let too = of_q.told_is in
     rw (is, too) (
-      λ apart. two (λ (s : Span). All (λ (t : Span). AreApart s t) (spans (q ∷ []))) p
-          (two (AreApart (code_region p)) q apart.code_code apart.code_guarded) (two (AreApart (guarded_region p)) q apart.guarded_code apart.guarded_guarded),
+      λ apart. record {
+        apart = two (λ (s : Span). All (λ (t : Span). AreApart s t) (spans (q ∷ []))) p
+            (two (AreApart (code_region p)) q apart.code_code apart.code_guarded) (two (AreApart (guarded_region p)) q apart.guarded_code apart.guarded_guarded);
+        clear = clear_of_no_zones (p ∷ []) (spans (q ∷ []));
+        other_clear = clear_of_no_zones (q ∷ []) (spans (p ∷ []));
+      },
       λ all.
-          let code = first (λ (s : Span). All (λ (t : Span). AreApart s t) (spans (q ∷ []))) p all in
-          let guarded = second (λ (s : Span). All (λ (t : Span). AreApart s t) (spans (q ∷ []))) p all in
+          let code = first (λ (s : Span). All (λ (t : Span). AreApart s t) (spans (q ∷ []))) p all.apart in
+          let guarded = second (λ (s : Span). All (λ (t : Span). AreApart s t) (spans (q ∷ []))) p all.apart in
           record {
             code_code = first (AreApart (code_region p)) q code;
             code_guarded = second (AreApart (code_region p)) q code;

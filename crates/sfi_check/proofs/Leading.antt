@@ -10,7 +10,7 @@ use Rattle.sfi_check.specs.private.{IsTakenOff, Steps}
 use Rattle.sfi_check.proofs.Tallying.{fault_onwards}
 use Rattle.sfi_image.proofs.Facts.{whole_bundles}
 
-code_test : (before : List Span) (f : Fields) → IsFirstFault before f field_tests None → IsCodeRegion f.format f.code_base f.code_size
+code_test : (before : List Part) (f : Fields) → IsFirstFault before f field_tests None → IsCodeRegion f.format f.code_base f.code_size
 code_test before f (inl h) = h.0
 code_test before f (inr h) = let e = h.1 in absurd cc
 
@@ -38,7 +38,7 @@ pub bundle_within : (x : ImagePrefix) (b : BundlePlace) → IsRightPrefix x → 
 bundle_within x b right w =
     let i = in_code x b w in
     let there = rw (i.front_is) at right in
-    let placed = whole_bundles i.fields.format i.fields.code_base i.fields.code_size there.0.words.code_base (code_test (spans i.before) i.fields there.0.passed) in
+    let placed = whole_bundles i.fields.format i.fields.code_base i.fields.code_size there.0.words.code_base (code_test i.before i.fields there.0.passed) in
     let whole = placed.2 in
     let even = there.2 in
     let inside = there.3 in

@@ -30,7 +30,7 @@ adds_of t u v w sandbox n found next is a kept few =
 stretch_small : (x : ImagePrefix) (most : ℕ) → IsRightPrefix x → IsStretchLength x most → most ≤ 2 ^ 24
 stretch_small (InCode n ps f gs code) most right is =
     let inside = is.bundles.inside in
-    let size = (region (spans ps) f right.0.words right.0.passed).code_size in
+    let size = (region ps f right.0.words right.0.passed).code_size in
     omega (arith, inside, size)
 stretch_small Empty most right is = omega (arith, is)
 stretch_small (AfterMagic format) most right is = omega (arith, is)
@@ -51,7 +51,7 @@ parts_few (p ∷ ps) right =
 
 opened_few : (n : ℕ) (ps : List Part) (f : Fields) (gs : List Gate) (code : List ℕ) → IsOpened n ps f gs → length code ≤ f.code_size → bundle_count ps + length code / 16 ≤ bundles_most
 opened_few n ps f gs code o le =
-    let size = (region (spans ps) f o.words o.passed).code_size in
+    let size = (region ps f o.words o.passed).code_size in
     omega (arith, o.before.at_most, o.more, parts_few ps o.before.right.each, size, le)
 
 front_few : (x : ImagePrefix) → IsRightPrefix x → front_bundles x ≤ bundles_most

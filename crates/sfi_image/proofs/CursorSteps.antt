@@ -106,7 +106,7 @@ one_more bytes n ps f count all s len old new h l =
 -- all of its code may be taken
 pub code_taken : (r : LayoutReader) (n : ℕ) (ps : List Part) (f : Fields) (gs : List Gate) → StandsFor r (InCode n ps f gs []) → MayTake r f.code_size
 code_taken r n ps f gs h =
-    let reg = region (spans ps) f h.right.0.words h.right.0.passed in
+    let reg = region ps f h.right.0.words h.right.0.passed in
     let some = reg.some in
     let size_is = reg.size_is in
     (inr (InCode n ps f gs [], h), rw (h.kept.0, h.kept.1.head.fields, h.kept.1.code_read) (record { some = omega arith; whole = omega arith; inside = omega arith }))

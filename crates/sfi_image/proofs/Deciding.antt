@@ -1,8 +1,8 @@
 -- Each test of a layout is passed or not.
-use Rattle.sfi_image.proofs.Prelude.{◌≡◌, ℕ, ◌+◌, ◌%◌, ◌<◌, ◌≤◌, List, [], ◌∷◌, ◌++◌, refl, arith, ◌⊎◌, inl, inr, suc, Option, Some, None, count_ones, All, AllPairs, cases_lt, cases_eq, eqb-true, eq-eqb, All-nil, All-cons, All-head, All-tail, code_most, data_most, Gate, Fields, Span, LayoutFault, Holds, AreApart, code_span, spans_of, IsRegion, HasGuardRoom, IsBundleStart, gates_most, service_most, AreGates, FieldTest, Passes, IsFirstFault, fault_of}
+use Rattle.sfi_image.proofs.Prelude.{◌≡◌, ℕ, ◌+◌, ◌%◌, ◌<◌, ◌≤◌, List, [], ◌∷◌, ◌++◌, refl, arith, ◌⊎◌, inl, inr, suc, Option, Some, None, count_ones, All, AllPairs, cases_lt, cases_eq, eqb-true, eq-eqb, All-nil, All-cons, All-head, All-tail, code_most, data_most, has_one_step, Bool, true, false, Gate, Part, AreApartWith, AreClear, IsClear, zone_end, zone_ends_of, zone_ends, spans, data_span, IsOneBit, IsClearOfZero, Fields, Span, LayoutFault, Holds, AreApart, code_span, spans_of, IsRegion, HasGuardRoom, IsBundleStart, gates_most, service_most, AreGates, FieldTest, Passes, IsFirstFault, fault_of}
 use Rattle.sfi_image.specs.FieldTests.FieldTest.{Code, Data, GuardRoom, Start, Gates, Init, Overlap}
 use Rattle.std.proofs.lemmas.List.Kept.{AllPairs-cons}
-use Rattle.sfi_image.proofs.Regions.{region_test, not_region}
+use Rattle.sfi_image.proofs.Regions.{region_test, not_region, one_bit_test}
 
 abbrev pub Decided : Type 0 → Type 0
 Decided P = P ⊎ (¬ P)
@@ -115,19 +115,50 @@ decided_gates region gs =
     let ascending = decided_pairs (λ (g h : Gate). g.address < h.address) (λ g h. decided_lt g.address h.address) gs in
     decided_as (λ all. record { starts = all.0; services = all.1.0; ascending = all.1.1 }) (λ are. (are.starts, (are.services, are.ascending))) (decided_both starts (decided_both services ascending))
 
+-- ---- what formats with one step ask
+
+-- what is asked under a condition
+decided_where : {P : Type 0} (b : Bool) → Decided P → Decided (b ≡ true → P)
+decided_where true (inl p) = inl (λ is. p)
+decided_where true (inr not) = inr (λ f. not (f refl))
+decided_where false d = inl (λ is. absurd cc)
+
+pub decided_one_bit : (base size : ℕ) → Decided (IsOneBit base size)
+decided_one_bit base size =
+    decided_as (λ both. (one_bit_test base size).0 both) (λ one. (one_bit_test base size).1 one) (decided_both (cases_eq (count_ones base) 1) (decided_le size base))
+
+pub decided_clear : (code_at data_at : Span) → Decided (IsClearOfZero code_at data_at)
+decided_clear code_at data_at =
+    decided_as (λ all. record { code_above = all.0; data_above = all.1.0; code_below = all.1.1 }) (λ clear. (clear.code_above, (clear.data_above, clear.code_below)))
+    (decided_both (decided_le (zone_end data_at.size) code_at.base) (decided_both (decided_le (zone_end data_at.size) data_at.base) (decided_le (code_at.base + code_at.size + 4096) 4294967296)))
+
+decided_clear_of : (end : ℕ) (s : Span) → Decided (IsClear end s)
+decided_clear_of end s =
+    decided_as (λ both. record { above = both.0; below = both.1 }) (λ clear. (clear.above, clear.below)) (decided_both (decided_le end s.base) (decided_le (s.base + s.size + 4096) 4294967296))
+
+pub decided_all_clear : (ends : List ℕ) (ss : List Span) → Decided (AreClear ends ss)
+decided_all_clear ends ss = decided_all (λ (s : Span). All (λ end. IsClear end s) ends) (λ s. decided_all (λ end. IsClear end s) (λ end. decided_clear_of end s) ends) ss
+
+decided_apart_with : (before : List Part) (f : Fields) → Decided (AreApartWith before f)
+decided_apart_with before f =
+    decided_as (λ both. record { apart = both.0; clear = both.1 }) (λ lies. (lies.apart, lies.clear))
+    (decided_both (decided_pairs AreApart decided_apart (spans before ++ spans_of f)) (decided_all_clear (zone_ends before ++ zone_ends_of f) (spans before ++ spans_of f)))
+
 -- ---- the tests of the fields
 
-pub decided_test : (before : List Span) (f : Fields) (t : FieldTest) → Decided (Passes before f t)
+pub decided_test : (before : List Part) (f : Fields) (t : FieldTest) → Decided (Passes before f t)
 decided_test before f Code = decided_region f.code_base f.code_size 256 (code_most f.format)
-decided_test before f Data = decided_region f.data_base f.data_size 256 (data_most f.format)
-decided_test before f GuardRoom = decided_guard_room f.data_base f.data_size
+decided_test before f Data =
+    decided_both (decided_region f.data_base f.data_size 256 (data_most f.format)) (decided_where (has_one_step f.format) (decided_one_bit f.data_base f.data_size))
+decided_test before f GuardRoom =
+    decided_both (decided_guard_room f.data_base f.data_size) (decided_where (has_one_step f.format) (decided_clear (code_span f) (data_span f)))
 decided_test before f Start = decided_bundle_start (code_span f) f.start
 decided_test before f Gates = decided_le f.gate_count gates_most
 decided_test before f Init = decided_le f.init_len f.data_size
-decided_test before f Overlap = decided_pairs AreApart decided_apart (before ++ spans_of f)
+decided_test before f Overlap = decided_apart_with before f
 
 -- one of the tests is the first that fails, or none does
-pub some_first_fault : (before : List Span) (f : Fields) (ts : List FieldTest) → (found : Option LayoutFault) × IsFirstFault before f ts found
+pub some_first_fault : (before : List Part) (f : Fields) (ts : List FieldTest) → (found : Option LayoutFault) × IsFirstFault before f ts found
 some_first_fault before f [] = (None, refl)
 some_first_fault before f (t ∷ ts) =
     elim (decided_test before f t) [

@@ -1,6 +1,6 @@
 -- The bytes of prefixes that follow one another, and that what they hold is right.
-use Rattle.sfi_image.proofs.Prelude.{◌≡◌, ℕ, ◌≤◌, List, [], ◌∷◌, ◌++◌, length, refl, sym, ap, ◌∙◌, subst, arith, append_assoc, inl, inr, eqb_tells, AllPairs, flat_map, flat_map-append, append-nil, All-push, Format, magic, Gate, Fields, Part, number, fields, fields_of, gate, part, AreApart, spans, spans_of, IsRightPart, AreOf, ImagePrefix, prefix_bytes, head, IsHead, IsOpened, IsRightPrefix, part_of, after_parts, after_init, after_code, after_gates, Follows, Empty, AfterMagic, AfterCount, InGates, InCode, InInit, Whole}
-use Rattle.sfi_image.proofs.Tests.{right_part, spans_push}
+use Rattle.sfi_image.proofs.Prelude.{◌≡◌, ℕ, ◌≤◌, List, [], ◌∷◌, ◌++◌, length, refl, sym, ap, ◌∙◌, subst, arith, append_assoc, inl, inr, eqb_tells, AllPairs, flat_map, flat_map-append, append-nil, All-push, Format, magic, Gate, Fields, Part, number, fields, fields_of, gate, part, AreApart, AreApartWith, spans, spans_of, IsRightPart, AreOf, ImagePrefix, prefix_bytes, head, IsHead, IsOpened, IsRightPrefix, part_of, after_parts, after_init, after_code, after_gates, Follows, Empty, AfterMagic, AfterCount, InGates, InCode, InInit, Whole}
+use Rattle.sfi_image.proofs.Tests.{right_part, one_more_right}
 use Rattle.sfi_image.proofs.Formats.{same_format}
 
 -- ---- bytes
@@ -74,13 +74,10 @@ pub finished : (n : ℕ) (ps : List Part) (f : Fields) (gs : List Gate) (code in
 finished n ps f gs code init opened g c i =
     let p = part_of f gs code init in
     let same = fields_again f gs code init g c i in
-    let both = right_part (spans ps) p f same opened.words opened.passed opened.gate_words opened.gates in
+    let both = right_part ps p f same opened.words opened.passed opened.gate_words opened.gates in
     record {
       at_least = opened.before.at_least;
       at_most = opened.before.at_most;
       one_format = All-push (λ (q : Part). q.format ≡ f.format) ps p opened.before.one_format refl;
-      right = record {
-        each = All-push IsRightPart ps p opened.before.right.each both.0;
-        apart = subst (AllPairs AreApart) (ap (λ (h : Fields). spans ps ++ spans_of h) (sym same) ∙ sym (spans_push ps p)) both.1;
-      };
+      right = one_more_right ps p opened.before.right.each both.0 (subst (AreApartWith ps) (sym same) both.1);
     }

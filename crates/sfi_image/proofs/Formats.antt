@@ -4,7 +4,7 @@ use Rattle.sfi_formats.proofs.Formats.{length_of_magic}
 use Rattle.sfi_formats.proofs.Facts.{limits_are_small}
 use Rattle.sfi_formats.specs.Formats.{has_words}
 use Rattle.sfi_image.specs.Numbers.{in_format, all_in_format}
-use Rattle.sfi_image.proofs.Prelude.{◌≡◌, ℕ, ◌+◌, ◌^◌, ◌≤◌, false, List, [], ◌∷◌, ◌++◌, length, get_or, take, refl, ap, ◌∙◌, arith, length-append, Format, Sfi1, Sfi2, Sfiw, magic, code_most, data_most, Part, view, views, format_of, AreOf, All-map, subst, All, AllPairs, length-map, Span, fields_of, AreApart, spans_of, spans, IsRightPart, IsRightLayout}
+use Rattle.sfi_image.proofs.Prelude.{◌≡◌, ℕ, ◌+◌, ◌^◌, ◌≤◌, false, List, [], ◌∷◌, ◌++◌, length, get_or, take, refl, ap, ◌∙◌, arith, length-append, Format, Sfi1, Sfi2, Sfiw, magic, code_most, data_most, Part, view, views, format_of, AreOf, All-map, subst, All, AllPairs, length-map, Span, fields_of, AreApart, spans_of, spans, IsRightPart, IsRightLayout, AreClear, zone_ends, All-nil, sym}
 
 -- ==== What holds of each format, and of parts of one.
 
@@ -87,7 +87,9 @@ part_in_second p bundles right =
         multiple = right.data_placed.multiple;
         base_is = right.data_placed.base_is;
       };
+      one_bit = λ one_step. absurd cc;
       guard_room = right.guard_room;
+      zone_room = λ one_step. absurd cc;
       start = right.start;
       gate_count = right.gate_count;
       init_len = right.init_len;
@@ -109,6 +111,11 @@ same_spans : (ps : List Part) → spans ps ≡ spans (all_in_format Sfi2 ps)
 same_spans [] = refl
 same_spans (p ∷ ps) = ap (λ (l : List Span). spans_of (fields_of p) ++ l) (same_spans ps)
 
+-- the second format has no zone at zero
+no_zones : (ps : List Part) → zone_ends (all_in_format Sfi2 ps) ≡ []
+no_zones [] = refl
+no_zones (p ∷ ps) = no_zones ps
+
 pub right_in_second : (ps : List Part) → has_words (format_of ps) ≡ false → IsRightLayout ps → IsRightLayout (all_in_format Sfi2 ps)
 right_in_second ps bundles layout =
     let each : All (λ p. has_words p.format ≡ false) ps = λ k d lt. ap has_words (layout.one_format k d lt) ∙ bundles in
@@ -122,5 +129,6 @@ right_in_second ps bundles layout =
       right = record {
         each = each_in_second ps each layout.right.each;
         apart = subst (λ (l : List Span). AllPairs AreApart l) (same_spans ps) layout.right.apart;
+        clear = subst (λ (ends : List ℕ). AreClear ends (spans (all_in_format Sfi2 ps))) (sym (no_zones ps)) (λ k d lt. All-nil _);
       };
     }

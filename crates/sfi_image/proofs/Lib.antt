@@ -1,5 +1,6 @@
 pub mod Prelude
 pub mod Tests
+pub mod ClearZones
 pub mod OneReading
 pub mod Deciding
 pub mod Fronts

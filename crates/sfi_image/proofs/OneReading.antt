@@ -1,19 +1,19 @@
 -- Bytes have one image or one fault.
-use Rattle.sfi_image.proofs.Prelude.{◌≡◌, ℕ, ◌+◌, ◌<◌, ◌≤◌, List, [], ◌∷◌, ◌++◌, length, take, refl, sym, ap, subst, ◌∙◌, arith, append_assoc, inl, inr, ◌⊎◌, Some, None, Option, Result, Ok, Err, All, AllPairs, flat_map, flat_map-append, length-append, append-nil, Format, magic, Gate, Fields, Span, LayoutFault, Count, Short, Trailing, Part, fields_of, format_of, number, gate, part, spelling, AreGateWords, AreApart, code_span, spans_of, spans, AreGates, IsRightPart, AreOf, AreRight, FieldTest, IsFirstFault, field_tests, IsImage, IsBodyFault, IsPartFault, ArePartsFault, IsCountFault, IsFault}
+use Rattle.sfi_image.proofs.Prelude.{◌≡◌, ℕ, ◌+◌, ◌<◌, ◌≤◌, List, [], ◌∷◌, ◌++◌, length, take, refl, sym, ap, subst, ◌∙◌, arith, append_assoc, inl, inr, ◌⊎◌, Some, None, Option, Result, Ok, Err, All, AllPairs, flat_map, flat_map-append, length-append, append-nil, Format, magic, Gate, Fields, Span, LayoutFault, Count, Short, Trailing, Part, fields_of, format_of, number, gate, part, spelling, AreGateWords, AreApart, AreApartWith, code_span, spans_of, spans, AreGates, IsRightPart, AreOf, AreRight, FieldTest, IsFirstFault, field_tests, IsImage, IsBodyFault, IsPartFault, ArePartsFault, IsCountFault, IsFault}
 use Rattle.sfi_image.specs.declared.fault.ImageFault.{ImageFault}
 use Rattle.sfi_image.specs.private.{Reads}
 use Rattle.sfi_image.specs.declared.fault.LayoutFault.TheVariants.{Gates}
 use Rattle.sfi_image.specs.declared.fault.ImageFault.TheVariants as errors
 use Rattle.sfi_formats.proofs.Formats.{length_of_magic}
 use Rattle.sfi_image.proofs.Formats.{one_magic, length-magic, take-magic}
-use Rattle.sfi_image.proofs.Tests.{front_gates, front_apart, part_passes}
+use Rattle.sfi_image.proofs.Tests.{front_gates, middle_apart, part_passes}
 use Rattle.sfi_image.proofs.Regions.{right_words}
 use Rattle.sfi_image.proofs.Fronts.{same_front, same_number, same_gate, same_fields, same_part, same_list, fronts, GoesOn, length-gate, length-fields, part_split}
 
 -- ---- the fields
 
 -- one test at most is the first that fails
-pub one_field_fault : (before : List Span) (f : Fields) (ts : List FieldTest) (j k : Option LayoutFault) → IsFirstFault before f ts j → IsFirstFault before f ts k → j ≡ k
+pub one_field_fault : (before : List Part) (f : Fields) (ts : List FieldTest) (j k : Option LayoutFault) → IsFirstFault before f ts j → IsFirstFault before f ts k → j ≡ k
 one_field_fault before f [] j k a b = a ∙ sym b
 one_field_fault before f (t ∷ ts) j k (inl a) (inl b) = one_field_fault before f ts j k a.1 b.1
 one_field_fault before f (t ∷ ts) j k (inl a) (inr b) = absurd (b.0 a.0)
@@ -89,16 +89,16 @@ no_body_fault f gs rest k wa ra all long (hs, more, eb, wb, rb, b) =
 -- ---- a sandbox
 
 -- what is wrong of these fields and what follows them
-abbrev AfterFields : List Span → Fields → List ℕ → LayoutFault → Type 0
+abbrev AfterFields : List Part → Fields → List ℕ → LayoutFault → Type 0
 AfterFields before f rest k = IsFirstFault before f field_tests (Some k) ⊎ (IsFirstFault before f field_tests None × IsBodyFault f rest k)
 
-after_fields : (before : List Span) (f : Fields) (rest : List ℕ) (j k : LayoutFault) → AfterFields before f rest j → AfterFields before f rest k → j ≡ k
+after_fields : (before : List Part) (f : Fields) (rest : List ℕ) (j k : LayoutFault) → AfterFields before f rest j → AfterFields before f rest k → j ≡ k
 after_fields before f rest j k (inl a) (inl b) = same_some j k (one_field_fault before f field_tests (Some j) (Some k) a b)
 after_fields before f rest j k (inl a) (inr b) = absurd (not_some j (one_field_fault before f field_tests None (Some j) b.0 a))
 after_fields before f rest j k (inr a) (inl b) = absurd (not_some k (one_field_fault before f field_tests None (Some k) a.0 b))
 after_fields before f rest j k (inr a) (inr b) = one_body_fault f rest j k a.1 b.1
 
-one_part_fault : (format : Format) (before : List Span) (bytes : List ℕ) (j k : LayoutFault) → IsPartFault format before bytes j → IsPartFault format before bytes k → j ≡ k
+one_part_fault : (format : Format) (before : List Part) (bytes : List ℕ) (j k : LayoutFault) → IsPartFault format before bytes j → IsPartFault format before bytes k → j ≡ k
 one_part_fault format before bytes j k (inl a) (inl b) = a.1 ∙ sym b.1
 one_part_fault format before bytes j k (inl a) (inr (g, more, eb, wb, fb, b)) = absurd (omega (arith, a.0, ap length eb, length-fields g more))
 one_part_fault format before bytes j k (inr (f, rest, ea, wa, fa, a)) (inl b) = absurd (omega (arith, b.0, ap length ea, length-fields f rest))
@@ -107,7 +107,7 @@ one_part_fault format before bytes j k (inr (f, rest, ea, wa, fa, a)) (inr (g, m
     after_fields before g more j k (subst (λ (t : List ℕ). AfterFields before g t j) same.1 (subst (λ (h : Fields). AfterFields before h rest j) same.0 a)) b
 
 -- a right sandbox that lies apart from those before has no fault
-no_part_fault : (format : Format) (before : List Span) (p : Part) (after : List ℕ) (k : LayoutFault) → p.format ≡ format → IsRightPart p → AllPairs AreApart (before ++ spans_of (fields_of p))
+no_part_fault : (format : Format) (before : List Part) (p : Part) (after : List ℕ) (k : LayoutFault) → p.format ≡ format → IsRightPart p → AreApartWith before (fields_of p)
     → IsPartFault format before (part p ++ after) k → ⊥
 no_part_fault format before p after k kind right apart (inl b) = omega (arith, b.0, ap length (part_split p after), length-fields (fields_of p) (flat_map gate p.gates ++ (p.code ++ (p.init ++ after))))
 no_part_fault format before p after k kind right apart (inr (g, more, eb, wb, fb, b)) =
@@ -126,7 +126,7 @@ no_part_fault format before p after k kind right apart (inr (g, more, eb, wb, fb
 -- what is wrong after these sandboxes
 abbrev AfterParts : Format → ℕ → List Part → List ℕ → LayoutFault → Type 0
 AfterParts format n ps rest k =
-    ((length ps < n) × IsPartFault format (spans ps) rest k)
+    ((length ps < n) × IsPartFault format ps rest k)
     ⊎ ((length ps ≡ n) × (0 < length rest) × (k ≡ Trailing))
 
 -- right, and of this format
@@ -146,14 +146,12 @@ after_parts_count format n ps rest k (inr a) = omega (arith, a.0)
 parts_go_on : (format : Format) (n : ℕ) (xs ps : List Part) (rest : List ℕ) (k : LayoutFault) → AreRight xs → length xs ≤ n
     → GoesOn part (RightOf format) (same_right format) xs ps rest → AfterParts format n ps rest k → ⊥
 parts_go_on format n xs ps rest k right le on (inl a) =
-    let spelled : spans xs ≡ (spans ps ++ spans_of (fields_of on.0)) ++ spans on.1 =
-    ap spans on.4 ∙ flat_map-append (λ q. spans_of (fields_of q)) ps (on.0 ∷ on.1) ∙ sym (append_assoc (spans ps) (spans_of (fields_of on.0)) (spans on.1)) in
-    let apart = front_apart (spans ps ++ spans_of (fields_of on.0)) (spans on.1) (subst (AllPairs AreApart) spelled right.apart) in
-    no_part_fault format (spans ps) on.0 on.2 k on.3.0 on.3.1 apart (subst (λ (t : List ℕ). IsPartFault format (spans ps) t k) on.5 a.1)
+    let apart = middle_apart ps on.0 on.1 (subst AreRight on.4 right) in
+    no_part_fault format ps on.0 on.2 k on.3.0 on.3.1 apart (subst (λ (t : List ℕ). IsPartFault format ps t k) on.5 a.1)
 parts_go_on format n xs ps rest k right le on (inr a) = omega (arith, a.0, le, ap length on.4, length-append ps (on.0 ∷ on.1))
 
 after_parts : (format : Format) (n : ℕ) (ps : List Part) (rest : List ℕ) (j k : LayoutFault) → AfterParts format n ps rest j → AfterParts format n ps rest k → j ≡ k
-after_parts format n ps rest j k (inl a) (inl b) = one_part_fault format (spans ps) rest j k a.1 b.1
+after_parts format n ps rest j k (inl a) (inl b) = one_part_fault format ps rest j k a.1 b.1
 after_parts format n ps rest j k (inl a) (inr b) = absurd (omega (arith, a.0, b.0))
 after_parts format n ps rest j k (inr a) (inl b) = absurd (omega (arith, a.0, b.0))
 after_parts format n ps rest j k (inr a) (inr b) = a.2 ∙ sym b.2

@@ -1,12 +1,12 @@
 -- Sandboxes that are to be written have one fault at most, that of their bytes.
-use Rattle.sfi_image.proofs.Prelude.{◌≡◌, ℕ, ◌≤◌, List, [], ◌∷◌, ◌++◌, length, refl, sym, ap, subst, ◌∙◌, arith, append_assoc, inl, inr, ◌⊎◌, Some, None, Result, Ok, Err, IfErr, All, AllPairs, flat_map, flat_map-append, length-append, All-cons, All-head, All-tail, Format, Span, LayoutFault, Part, format_of, fields_of, gate, part, number, spelling, AreGateWords, AreWords, AreApart, code_region, spans_of, spans, AreGates, IsRightPart, AreOf, AreRight, IsRightLayout, field_tests, IsBodyFault, IsPartFault, ArePartsFault, IsFault, IfLayout}
+use Rattle.sfi_image.proofs.Prelude.{◌≡◌, ℕ, ◌≤◌, List, [], ◌∷◌, ◌++◌, length, refl, sym, ap, subst, ◌∙◌, arith, append_assoc, inl, inr, ◌⊎◌, Some, None, Result, Ok, Err, IfErr, All, AllPairs, flat_map, flat_map-append, length-append, All-cons, All-head, All-tail, Format, Span, LayoutFault, Part, format_of, fields_of, gate, part, number, spelling, AreGateWords, AreWords, AreApart, AreApartWith, code_region, spans_of, spans, AreGates, IsRightPart, AreOf, AreRight, IsRightLayout, field_tests, IsBodyFault, IsPartFault, ArePartsFault, IsFault, IfLayout}
 use Rattle.sfi_image.specs.Faults.{HasWrongGate, HasFault, HasWrongPart, HaveFault}
 use Rattle.sfi_image.specs.declared.fault.ImageFault.{ImageFault}
 use Rattle.sfi_image.specs.private.{Reads}
 use Rattle.std.proofs.Common.{append-nil}
 use Rattle.sfi_image.specs.declared.fault.LayoutFault.TheVariants as faults
 use Rattle.sfi_image.specs.declared.fault.ImageFault.TheVariants as errors
-use Rattle.sfi_image.proofs.Tests.{front_gates, flat_split, front_apart, part_passes}
+use Rattle.sfi_image.proofs.Tests.{front_gates, flat_split, middle_apart, part_passes}
 use Rattle.sfi_image.proofs.Regions.{right_words}
 use Rattle.sfi_image.proofs.Fronts.{part_split}
 use Rattle.sfi_image.proofs.OneReading.{one_field_fault, same_some, not_some, no_fault}
@@ -35,7 +35,7 @@ gate_fault p rest words (front, g, more, split, right, wrong) =
       inr (inl (omega (arith, count), g, flat_map gate more ++ rest, refl, all_middle AreGateWords front g more w, wrong, refl)),
     )
 
-part_fault : (before : List Span) (p : Part) (rest : List ℕ) (k : LayoutFault) → AreWords p → HasFault before p k → IsPartFault p.format before (part p ++ rest) k
+part_fault : (before : List Part) (p : Part) (rest : List ℕ) (k : LayoutFault) → AreWords p → HasFault before p k → IsPartFault p.format before (part p ++ rest) k
 part_fault before p rest k words (inl h) = inr (fields_of p, flat_map gate p.gates ++ (p.code ++ (p.init ++ rest)), part_split p rest, words.fields, refl, inl h)
 part_fault before p rest k words (inr h) =
     inr (
@@ -59,7 +59,7 @@ parts_fault format ps k are words (front, p, more, split, right, wrong) =
       bytes,
       right,
       all_front (λ (q : Part). q.format ≡ format) front (p ∷ more) are',
-      inl (omega (arith, count), subst (λ (f : Format). IsPartFault f (spans front) (part p ++ flat_map part more) k) (all_middle (λ (q : Part). q.format ≡ format) front p more are') (part_fault (spans front) p (flat_map part more) k (all_middle AreWords front p more w) wrong)),
+      inl (omega (arith, count), subst (λ (f : Format). IsPartFault f front (part p ++ flat_map part more) k) (all_middle (λ (q : Part). q.format ≡ format) front p more are') (part_fault front p (flat_map part more) k (all_middle AreWords front p more w) wrong)),
     )
 
 pub as_read : (ps : List Part) (k : LayoutFault) → length ps ≤ 16 → AreOf (format_of ps) ps → All AreWords ps → HaveFault ps k → IsFault (spelling ps) k
@@ -94,22 +94,19 @@ same_split (w ∷ xs) (z ∷ ys) x y r s e =
     ]
 
 -- right sandboxes go on where a wrong one stands
-right_goes_on : (xs ys : List Part) (y : Part) (k : LayoutFault) → AreRight xs → Goes xs ys y → HasFault (spans ys) y k → ⊥
+right_goes_on : (xs ys : List Part) (y : Part) (k : LayoutFault) → AreRight xs → Goes xs ys y → HasFault ys y k → ⊥
 right_goes_on xs ys y k right (more, is) wrong =
     let each = subst (All IsRightPart) is right.each in
     let one : IsRightPart y = all_middle IsRightPart ys y more each in
-    let spelled : spans xs ≡ (spans ys ++ spans_of (fields_of y)) ++ spans more =
-    ap spans is ∙ flat_map-append (λ q. spans_of (fields_of q)) ys (y ∷ more) ∙ sym (append_assoc (spans ys) (spans_of (fields_of y)) (spans more)) in
-    let apart = front_apart (spans ys ++ spans_of (fields_of y)) (spans more) (subst (AllPairs AreApart) spelled right.apart) in
-    right_has_none (spans ys) y k one apart wrong
+    right_has_none ys y k one (middle_apart ys y more (subst AreRight is right)) wrong
   where
-    right_has_none : (before : List Span) (p : Part) (k : LayoutFault) → IsRightPart p → AllPairs AreApart (before ++ spans_of (fields_of p)) → HasFault before p k → ⊥
+    right_has_none : (before : List Part) (p : Part) (k : LayoutFault) → IsRightPart p → AreApartWith before (fields_of p) → HasFault before p k → ⊥
     right_has_none before p k right apart (inl h) = not_some k (one_field_fault before (fields_of p) field_tests None (Some k) (part_passes before p right apart) h)
     right_has_none before p k right apart (inr (passed, (front, g, more, split, ok, wrong), is)) =
         let all = subst (AreGates (code_region p)) (split ∙ sym (append_assoc front (g ∷ []) more)) right.gates in
         wrong (front_gates (code_region p) (front ++ g ∷ []) more all)
 
-one_of_part : (before : List Span) (p : Part) (j k : LayoutFault) → HasFault before p j → HasFault before p k → j ≡ k
+one_of_part : (before : List Part) (p : Part) (j k : LayoutFault) → HasFault before p j → HasFault before p k → j ≡ k
 one_of_part before p j k (inl a) (inl b) = same_some j k (one_field_fault before (fields_of p) field_tests (Some j) (Some k) a b)
 one_of_part before p j k (inl a) (inr b) = absurd (not_some j (one_field_fault before (fields_of p) field_tests None (Some j) b.0 a))
 one_of_part before p j k (inr a) (inl b) = absurd (not_some k (one_field_fault before (fields_of p) field_tests None (Some k) a.0 b))
@@ -121,7 +118,7 @@ one_fault ps j k (inl a) (inr b) = absurd (a.0 (b.0, b.1))
 one_fault ps j k (inr a) (inl b) = absurd (b.0 (a.0, a.1))
 one_fault ps j k (inr (_, _, (front, p, more, is, right, wrong))) (inr (_, _, (start, q, rest, same, good, bad))) =
     elim (same_split front start p q more rest (sym is ∙ same)) [
-      | inl both ↦ one_of_part (spans start) q j k (subst (λ x. HasFault (spans start) x j) both.1 (subst (λ x. HasFault (spans x) p j) both.0 wrong)) bad
+      | inl both ↦ one_of_part start q j k (subst (λ x. HasFault start x j) both.1 (subst (λ x. HasFault x p j) both.0 wrong)) bad
       | inr (inl on) ↦ absurd (right_goes_on front start q k right on bad)
       | inr (inr on) ↦ absurd (right_goes_on start front p j good on wrong)
     ]

@@ -68,7 +68,7 @@ code_next r reader is =
     let f = at.2 in
     let right = at.5.right in
     let k = at.5.kept.1 in
-    let reg = region (spans at.1) f right.0.words right.0.passed in
+    let reg = region at.1 f right.0.words right.0.passed in
     let even = right.2 in
     let less = right.3 in
     let size = reg.size_is in
@@ -92,7 +92,7 @@ gate_next r reader is =
     let at = by_gates r x.0 x.1 is in
     let right = at.4.right in
     let k = at.4.kept.1 in
-    let reg = region (spans at.1) at.2 right.0.words right.0.passed in
+    let reg = region at.1 at.2 right.0.words right.0.passed in
     let count' : r.fields.gate_count ≡ at.2.gate_count = ap (λ (y : Fields). y.gate_count) k.fields in
     record {
       more = omega (arith, ap length k.gates, length-map at.3 (λ (g : Gate). g.address), right.1);
@@ -110,7 +110,7 @@ init_next r reader is =
     let at = by_init r x.0 x.1 is in
     let right = at.6.right in
     let k = at.6.kept in
-    let reg = region (spans at.1) at.2 right.0.words right.0.passed in
+    let reg = region at.1 at.2 right.0.words right.0.passed in
     let len' : r.fields.init_len ≡ at.2.init_len = ap (λ (y : Fields). y.init_len) k.1.fields in
     record { less = omega (arith, k.2, right.3); few = omega (arith, reg.init_len) }
 
@@ -186,7 +186,7 @@ pub stretch_kept : (r : LayoutReader) (x : ImagePrefix) (len : ℕ) → StandsFo
     → IsStretchLength x len
 stretch_kept r (InCode n ps f gs code) len h is e =
     let k = h.kept.1 in
-    let reg = region (spans ps) f h.right.0.words h.right.0.passed in
+    let reg = region ps f h.right.0.words h.right.0.passed in
     let base_is = reg.base_is in
     let even = h.right.2 in
     let less = h.right.3 in
@@ -202,7 +202,7 @@ bounds : (r : LayoutReader) (n : ℕ) (ps : List Part) (f : Fields) (gs : List G
     → (r.fields.code_base + r.code_read ≤ end) × (end - (r.fields.code_base + r.code_read) < 2 ^ 32)
 bounds r n ps f gs code end h e =
     let k = h.kept.1 in
-    let reg = region (spans ps) f h.right.0.words h.right.0.passed in
+    let reg = region ps f h.right.0.words h.right.0.passed in
     let limit = reg.end in
     let at = r.fields.code_base + r.code_read in
     let base' : r.fields.code_base ≡ f.code_base = ap (λ (y : Fields). y.code_base) k.head.fields in

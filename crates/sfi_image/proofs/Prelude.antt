@@ -1,5 +1,5 @@
 -- Words of std and of definitions that many proofs of this crate use.
-pub use Rattle.std.proofs.Common.{◌≡◌, ℕ, ◌+◌, ◌-◌, ◌*◌, ◌^◌, ◌<◌, ◌≤◌, length, ap, ◌∙◌, ⊎_elim, arith, List, [], ◌∷◌, ◌++◌, take, refl, sym, append_assoc, inl, inr, ◌⊎◌, ◌%◌, suc, Option, Some, None, subst, get_or, drop, map, lt_trans, ltb, ◌↔◌, IsTrue, Bool, true, Result, Ok, Err, eqb, ◌/◌, false, zero, below_more, ◌==◌, rules}
+pub use Rattle.std.proofs.Common.{◌≡◌, ℕ, ◌+◌, ◌-◌, ◌*◌, ◌^◌, ◌<◌, ◌≤◌, length, ap, ◌∙◌, ⊎_elim, arith, List, [], ◌∷◌, ◌++◌, take, refl, sym, append_assoc, inl, inr, ◌⊎◌, ◌%◌, suc, Option, Some, None, subst, subst₂, get_or, drop, map, lt_trans, ltb, ◌↔◌, IsTrue, Bool, true, Result, Ok, Err, eqb, ◌/◌, false, zero, below_more, ◌==◌, rules}
 pub use Rattle.std.specs.Prelude.{count_ones, slice_get, nat_lt, IfErr, nat_le, ◌≢◌, slice_index_or}
 pub use Rattle.std.proofs.lemmas.Bool.{cases_lt, cases_eq, eqb-true, eq-eqb, ltb-true, lt-ltb, cases_Bool, ne_eqb}
 pub use Rattle.std.proofs.lemmas.Bool.Decides.{eqb_tells, nat_tests, Decides-eqb}
@@ -9,7 +9,7 @@ pub use Rattle.std.proofs.lemmas.List.Elements.{All-head, All-tail, All-nil, All
 pub use Rattle.std.proofs.lemmas.Nat.{pow-add, pow_below, from_le_bytes-to_le_bytes_4, le_bytes_4, zero_from_ones, ones_le_self}
 pub use Rattle.std.proofs.lemmas.Result.{err_from_is_err_and}
 pub use Rattle.std.specs.List.{All, flat_map, AllPairs, AllByRecursion}
-pub use Rattle.sfi_formats.specs.Formats.{code_most, data_most}
+pub use Rattle.sfi_formats.specs.Formats.{code_most, data_most, has_one_step}
 unfoldable pub use Rattle.sfi_formats.specs.Formats.{magic}
 pub use Rattle.sfi_formats.specs.Limits.{bundle_size, gates_most, service_most}
 pub use Rattle.sfi_formats.specs.declared.format.Format.{Format}
@@ -18,10 +18,10 @@ pub use Rattle.sfi_image.specs.Sources.{IsBounded}
 pub use Rattle.sfi_image.specs.Faults.{IsFault, IsBodyFault, IsPartFault, ArePartsFault, IsCountFault, IsGateShort, IsGateWrong, AreContentsShort, IfLayout}
 pub use Rattle.sfi_image.specs.Prefixes.{prefix_bytes, head, IsRightPrefix, CutShort, Trails, WholeIsImage, ImagePrefix, IsHead, IsOpened, part_of, after_parts, after_init, after_code, after_gates, Follows, want_of, HasFaultWhateverFollows, IsLengthOf, AreBundlesWithin, IsLongestStretch, IsStretchLength}
 pub use Rattle.sfi_image.specs.Prefixes.ImagePrefix.{Empty, AfterMagic, AfterCount, InGates, InCode, InInit, Whole}
-pub use Rattle.sfi_image.specs.Parts.{AreGates, is_gate_of, IsImage, IsRightPart, AreOf, AreRight, IsRightLayout, IsCodeRegion, IsRegion, HasGuardRoom, IsBundleStart}
-pub use Rattle.sfi_image.specs.FieldTests.{FieldTest, Passes, IsFirstFault, fault_of, field_tests}
+pub use Rattle.sfi_image.specs.Parts.{AreGates, is_gate_of, IsImage, IsRightPart, AreOf, AreRight, IsRightLayout, IsCodeRegion, IsRegion, HasGuardRoom, IsBundleStart, IsOneBit, IsMaskedBase, IsClearOfZero, HasZoneRoom}
+pub use Rattle.sfi_image.specs.FieldTests.{FieldTest, AreApartWith, Passes, IsFirstFault, fault_of, field_tests}
 pub use Rattle.sfi_image.specs.Keeping.{LayoutReader, StandsFor, Leads, AreAhead, is_one_of, KeepsHead, KeepsFields, KeepsCode, AreRest}
-pub use Rattle.sfi_image.specs.Spelling.{Holds, AreApart, code_span, spans_of, spans, code_region, guarded_span, Part, fields_of, IsWord, format_of, views, view}
+pub use Rattle.sfi_image.specs.Spelling.{Holds, AreApart, IsClear, AreClear, zone_ends_of, zone_ends, zone_end, code_span, spans_of, spans, code_region, data_span, guarded_span, Part, fields_of, IsWord, format_of, views, view}
 pub use Rattle.sfi_image.specs.Numbers.{AreWords, AreFieldWords, AreGateWords}
 unfoldable pub use Rattle.sfi_image.specs.Spelling.{number, fields, gate, part, spelling}
 pub use Rattle.sfi_image.specs.declared.fault.LayoutFault.{LayoutFault}

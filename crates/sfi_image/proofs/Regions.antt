@@ -7,7 +7,7 @@ use Rattle.std.proofs.Math.Arith.{mod-mul}
 use Rattle.std.proofs.lemmas.Nat.{mod_below, mod_low, mod-mul-add, or_comm, or_shifted, pow_pos}
 use Rattle.std.proofs.lemmas.Nat.Bits.{and_high}
 use Rattle.std.specs.Int.Bits.{bit_and, bit_or}
-use Rattle.sfi_image.proofs.Prelude.{◌≡◌, ℕ, zero, suc, ◌/◌, ◌%◌, ◌^◌, ◌<◌, ◌≤◌, refl, ap, ◌∙◌, arith, ◌⊎◌, inl, inr, eqb, IsTrue, ◌↔◌, ◌≢◌, count_ones, zero_from_ones, ones_le_self, cases_lt, eqb-true, eq-eqb, IsRegion, ◌+◌, ◌-◌, ◌*◌, length, ⊎_elim, pow-add, pow_below, Format, code_most, bundle_size, Part, AreWords, IsCodeRegion, IsRightPart}
+use Rattle.sfi_image.proofs.Prelude.{◌≡◌, ℕ, zero, suc, ◌/◌, ◌%◌, ◌^◌, ◌<◌, ◌≤◌, refl, ap, ◌∙◌, arith, ◌⊎◌, inl, inr, eqb, IsTrue, ◌↔◌, ◌≢◌, count_ones, zero_from_ones, ones_le_self, cases_lt, eqb-true, eq-eqb, IsRegion, ◌+◌, ◌-◌, ◌*◌, length, ⊎_elim, pow-add, pow_below, Format, code_most, bundle_size, Part, AreWords, IsCodeRegion, IsOneBit, IsRightPart}
 
 -- ==== Powers of two, multiples and spans.
 
@@ -50,6 +50,13 @@ pub not_region : (base size least most : ℕ) → (count_ones size ≢ 1) ⊎ ((
 not_region base size least most (inl bad) r = bad (ap count_ones r.size_is ∙ ones_of_power r.power)
 not_region base size least most (inr (inl low)) r = omega (arith, r.at_least)
 not_region base size least most (inr (inr high)) r = omega (arith, r.at_most)
+
+-- a single bit is tested by its count
+pub one_bit_test : (base size : ℕ) → ((count_ones base ≡ 1) × (size ≤ base)) ↔ IsOneBit base size
+one_bit_test base size = (
+  λ both. let power = power_of_ones base both.0 in record { power = power.0; base_is = power.1; no_lower = both.1 },
+  λ one. (ap count_ones one.base_is ∙ ones_of_power one.power, one.no_lower),
+)
 
 -- ==== Code regions are whole bundles, and end within the addresses; so each number of a right sandbox has 32 bits.
 

@@ -6,7 +6,7 @@ use Rattle.sfi_image.specs.declared.want.Stage.TheVariants as stage
 use Rattle.sfi_image.proofs.Fronts.{IsBytes, Spelled, IsBytes-from_all, IsBytes-drop, number_front, gate_front, fields_front}
 use Rattle.sfi_image.proofs.Deciding.{decided_le, decided_both, decided_same, decided_gates, some_first_fault}
 use Rattle.sfi_image.proofs.Standing.{magic_leads, count_leads}
-use Rattle.sfi_image.proofs.Steps.{fields_leads, gate_on, code_leads, init_leads, magic_fault, count_fault, fields_fault, gate_wrong, cut_short, trails, whole_is_image}
+use Rattle.sfi_image.proofs.Steps.{fields_lead, gate_on, code_leads, init_leads, magic_fault, count_fault, fields_wrong, gate_wrong, cut_short, trails, whole_is_image}
 use Rattle.sfi_image.proofs.Places.{code_next, init_next}
 
 -- the bytes are an image or have a fault
@@ -47,13 +47,13 @@ some_magic s =
 
 -- the fields pass their tests, or fail one
 after_fields : (n : ℕ) → AreRead n → (r : LayoutReader) (format : Format) (count : ℕ) (ps : List Part) (rest : List ℕ) → StandsFor r (AfterCount format count ps) → length rest < suc n
-    → (f : Spelled fields AreFieldWords 28 rest) → f.item.format ≡ format → (found : Option LayoutFault) → IsFirstFault r.spans f.item field_tests found → IsRead (prefix_bytes (AfterCount format count ps) ++ rest)
+    → (f : Spelled fields AreFieldWords 28 rest) → f.item.format ≡ format → (found : Option LayoutFault) → IsFirstFault ps f.item field_tests found → IsRead (prefix_bytes (AfterCount format count ps) ++ rest)
 after_fields n further r format count ps rest h lt f kind (Some k) failed =
-    wrong (AfterCount format count ps) (fields f.item) f.rest rest k (fields_fault r (AfterCount format count ps) (fields f.item) f.item k h h.kept.0 refl f.fits (kind ∙ sym h.kept.1.of) failed) f.bytes_are
+    wrong (AfterCount format count ps) (fields f.item) f.rest rest k (fields_wrong r format count ps (fields f.item) f.item k h refl f.fits (kind ∙ sym h.kept.1.of) failed) f.bytes_are
 after_fields n further r format count ps rest h lt f kind None passed =
     on n further (AfterCount format count ps) (fields f.item) f.rest rest
     (record { next = stage_after_gates 0 f.item.gate_count; count = r.count; begun = r.begun + 1; spans = r.spans ++ spans_of f.item; fields = f.item; gates = []; passed = 0; code_read = 0; init_read = 0 })
-    (fields_leads r _ (AfterCount format count ps) (fields f.item) f.item h h.kept.0 refl f.fits (kind ∙ sym h.kept.1.of) passed refl refl refl refl refl refl refl refl refl) f.bytes_are (omega (arith, f.len)) f.small lt
+    (fields_lead r _ format count ps (fields f.item) f.item h refl f.fits (kind ∙ sym h.kept.1.of) passed refl refl refl refl refl refl refl refl refl) f.bytes_are (omega (arith, f.len)) f.small lt
 
 step : (n : ℕ) → AreRead n → AreRead (suc n)
 step n further r Empty rest h small lt =
@@ -85,7 +85,7 @@ step n further r (AfterCount format count ps) rest h small lt =
       | inl short ↦ inr (Short, cut_short (AfterCount format count ps) rest h.right short)
       | inr long ↦
           let f = fields_front format rest long small in
-          let found = some_first_fault r.spans f.0.item field_tests in
+          let found = some_first_fault ps f.0.item field_tests in
           after_fields n further r format count ps rest h lt f.0 f.1 found.0 found.1
     ]
 step n further r (InGates count ps f gs) rest h small lt =

@@ -31,7 +31,7 @@ none_of : (format : Format) → AreOf format []
 none_of format = λ k d h. absurd (omega arith)
 
 none_right : AreRight []
-none_right = record { each = λ k d h. absurd (omega arith); apart = λ i j d h e. absurd (omega arith) }
+none_right = record { each = λ k d h. absurd (omega arith); apart = λ i j d h e. absurd (omega arith); clear = λ k d h. absurd (omega arith) }
 
 pub count_leads : (old : LayoutReader) (x : ImagePrefix) (s : List ℕ) (n : ℕ) → StandsFor old x → old.next ≡ stage.Count → s ≡ number n → 1 ≤ n → n ≤ 16
     → Leads x s (record old { next = stage.Fields; count = n; begun = 0 })
@@ -130,7 +130,7 @@ pub record Region (f : Fields) : Type 0 where
   pub gate_count : f.gate_count ≤ 64
   pub code_size : f.code_size ≤ 2 ^ 24
 
-pub region : (before : List Span) (f : Fields) → AreFieldWords f → IsFirstFault before f field_tests None → Region f
+pub region : (before : List Part) (f : Fields) → AreFieldWords f → IsFirstFault before f field_tests None → Region f
 region before f words passed =
     let all = all_pass before f field_tests passed in
     let w = whole_bundles f.format f.code_base f.code_size words.code_base all.0 in
@@ -141,7 +141,7 @@ region before f words passed =
       base = w.1;
       base_is = w.3;
       end = w.4;
-      init_len = omega (arith, all.1.1.1.1.1.0, all.1.0.at_most, data_at_most f.format);
+      init_len = omega (arith, all.1.1.1.1.1.0, all.1.0.0.at_most, data_at_most f.format);
       gate_count = all.1.1.1.1.0;
       code_size = omega (arith, all.0.at_most, code_at_most f.format);
     }
@@ -196,7 +196,7 @@ pub gates_stand : (r : LayoutReader) (n : ℕ) (ps : List Part) (f : Fields) (gs
 gates_stand r n ps f gs opened le k passed code_read init_read is =
     elim (eqb_tells (length gs) f.gate_count) [
       | inl e ↦
-          let reg = region (spans ps) f opened.words opened.passed in
+          let reg = region ps f opened.words opened.passed in
           let some = reg.some in
           rw (e.0) (record {
             right = (opened, e.1, refl, omega arith);

@@ -3,7 +3,7 @@ use Rattle.std.proofs.Math.Seq.{take-append_seam}
 use Rattle.sfi_image.specs.declared.fault.LayoutFault.TheVariants as faults
 use Rattle.sfi_image.specs.declared.want.Stage.TheVariants as stage
 use Rattle.sfi_image.proofs.Standing.{leads, gates_stand, code_stand, init_stand, rest_from, region}
-use Rattle.sfi_image.proofs.Prelude.{◌≡◌, ◌↔◌, IsTrue, Bool, true, false, Option, slice_get, ℕ, ◌+◌, ◌-◌, ◌<◌, ◌≤◌, ◌⊎◌, List, [], ◌∷◌, ◌++◌, length, map, take, drop, refl, sym, ap, ◌∙◌, subst, arith, append_assoc, inl, inr, None, Some, All, flat_map, length-append, length_push, append-nil, map_push, length-map, All-push, Format, magic, Gate, Fields, Span, LayoutFault, Part, number, fields, gate, part, IsWord, AreFieldWords, AreGateWords, code_span, spans, spans_of, AreGates, IsFirstFault, field_tests, IsFault, IsPartFault, IsGateShort, IsGateWrong, AreContentsShort, ImagePrefix, AreBundlesWithin, prefix_bytes, head, IsHead, IsOpened, IsRightPrefix, after_init, after_code, after_gates, HasFaultWhateverFollows, Empty, AfterMagic, AfterCount, InGates, InCode, InInit, LayoutReader, StandsFor, Leads, stage_after_init, stage_after_code, stage_after_gates, count_below, format_of, spelling, CutShort, Trails, WholeIsImage, Whole}
+use Rattle.sfi_image.proofs.Prelude.{◌≡◌, ◌↔◌, IsTrue, Bool, true, false, Option, slice_get, ℕ, ◌+◌, ◌-◌, ◌<◌, ◌≤◌, ◌⊎◌, List, [], ◌∷◌, ◌++◌, length, map, take, drop, refl, sym, ap, ◌∙◌, subst, arith, append_assoc, inl, inr, None, Some, All, flat_map, length-append, length_push, append-nil, map_push, length-map, All-push, Format, magic, Gate, Fields, Span, LayoutFault, Part, number, fields, gate, part, IsWord, AreFieldWords, AreGateWords, code_span, spans, spans_of, AreGates, AreOf, IsFirstFault, field_tests, IsFault, IsPartFault, IsGateShort, IsGateWrong, AreContentsShort, ImagePrefix, AreBundlesWithin, prefix_bytes, head, IsHead, IsOpened, IsRightPrefix, after_init, after_code, after_gates, HasFaultWhateverFollows, Empty, AfterMagic, AfterCount, InGates, InCode, InInit, LayoutReader, StandsFor, Leads, stage_after_init, stage_after_code, stage_after_gates, count_below, format_of, spelling, CutShort, Trails, WholeIsImage, Whole}
 
 -- ==== Where each step leads, and which faults it meets.
 
@@ -13,17 +13,21 @@ none_gates region = record { starts = λ k d h. absurd (omega arith); services =
 none_words : All AreGateWords []
 none_words = λ k d h. absurd (omega arith)
 
-pub fields_leads : (old new : LayoutReader) (x : ImagePrefix) (s : List ℕ) (f : Fields) → StandsFor old x → old.next ≡ stage.Fields → s ≡ fields f → AreFieldWords f
-    → f.format ≡ old.fields.format → IsFirstFault old.spans f field_tests None → new.count ≡ old.count → new.begun ≡ old.begun + 1 → new.spans ≡ old.spans ++ spans_of f → new.fields ≡ f → new.gates ≡ []
-    → new.passed ≡ 0 → new.code_read ≡ 0 → new.init_read ≡ 0 → new.next ≡ stage_after_gates 0 f.gate_count → Leads x s new
-fields_leads old new (AfterCount format n ps) s f' h is e words kind passed count begun spans_are fields_are gates p c i to =
+-- what is said of these fields after the sandboxes that the reader's spans are of
+abbrev pub AfterSpans : LayoutReader → Fields → Option LayoutFault → Type 0
+AfterSpans r f found = (ps : List Part) → AreOf f.format ps → r.spans ≡ spans ps → IsFirstFault ps f field_tests found
+
+pub fields_lead : (old new : LayoutReader) (format : Format) (n : ℕ) (ps : List Part) (s : List ℕ) (f : Fields) → StandsFor old (AfterCount format n ps) → s ≡ fields f → AreFieldWords f
+    → f.format ≡ old.fields.format → IsFirstFault ps f field_tests None → new.count ≡ old.count → new.begun ≡ old.begun + 1 → new.spans ≡ old.spans ++ spans_of f → new.fields ≡ f → new.gates ≡ []
+    → new.passed ≡ 0 → new.code_read ≡ 0 → new.init_read ≡ 0 → new.next ≡ stage_after_gates 0 f.gate_count → Leads (AfterCount format n ps) s new
+fields_lead old new format n ps s f' h e words kind passed count begun spans_are fields_are gates p c i to =
     let k = h.kept.1 in
     let of : f'.format ≡ format = kind ∙ k.of in
     let opened : IsOpened n ps f' [] = record {
       before = subst (λ (g : Format). IsHead g n ps) (sym of) h.right.0;
       more = h.right.1;
       words = words;
-      passed = subst (λ (b : List Span). IsFirstFault b f' field_tests None) k.spans passed;
+      passed = passed;
       gate_words = none_words;
       gates = none_gates (code_span f');
     } in
@@ -34,6 +38,13 @@ fields_leads old new (AfterCount format n ps) s f' h is e words kind passed coun
       fields = fields_are;
       gates = gates;
     }) p c i to)
+
+pub fields_leads : (old new : LayoutReader) (x : ImagePrefix) (s : List ℕ) (f : Fields) → StandsFor old x → old.next ≡ stage.Fields → s ≡ fields f → AreFieldWords f
+    → f.format ≡ old.fields.format → AfterSpans old f None → new.count ≡ old.count → new.begun ≡ old.begun + 1 → new.spans ≡ old.spans ++ spans_of f → new.fields ≡ f → new.gates ≡ []
+    → new.passed ≡ 0 → new.code_read ≡ 0 → new.init_read ≡ 0 → new.next ≡ stage_after_gates 0 f.gate_count → Leads x s new
+fields_leads old new (AfterCount format n ps) s f' h is e words kind passed count begun spans_are fields_are gates p c i to =
+    fields_lead old new format n ps s f' h e words kind (passed ps (subst (λ (g : Format). AreOf g ps) (sym (kind ∙ h.kept.1.of)) h.right.0.one_format) h.kept.1.spans)
+    count begun spans_are fields_are gates p c i to
 fields_leads old new _ s f' h is e words kind passed count begun spans_are fields_are gates p c i to = let k = h.kept.0 in absurd cc
 
 -- the reader takes another gate, which may come next
@@ -140,7 +151,7 @@ init_leads old new _ s h is some room count begun spans_are fields_are gates i t
 
 -- ---- faults
 
-pub head_fault : (format : Format) (n : ℕ) (ps : List Part) (rest : List ℕ) (k : LayoutFault) → IsHead format n ps → length ps < n → IsPartFault format (spans ps) rest k
+pub head_fault : (format : Format) (n : ℕ) (ps : List Part) (rest : List ℕ) (k : LayoutFault) → IsHead format n ps → length ps < n → IsPartFault format ps rest k
     → IsFault (head format n ps ++ rest) k
 head_fault format n ps rest k h lt wrong =
     inr (inr (
@@ -168,11 +179,16 @@ count_fault old (AfterMagic format) s m h is e word wrong =
     λ more. inr (inr (format, s ++ more, append_assoc (magic format) s more, inr (m, more, ap (λ (t : List ℕ). t ++ more) e, word, inl (λ r. wrong r.0 r.1, refl))))
 count_fault old _ s m h is e word wrong = let k = h.kept.0 in absurd cc
 
-pub fields_fault : (old : LayoutReader) (x : ImagePrefix) (s : List ℕ) (f : Fields) (k : LayoutFault) → StandsFor old x → old.next ≡ stage.Fields → s ≡ fields f → AreFieldWords f
-    → f.format ≡ old.fields.format → IsFirstFault old.spans f field_tests (Some k) → HasFaultWhateverFollows (prefix_bytes x ++ s) k
-fields_fault old (AfterCount format n ps) s f' k' h is e words kind wrong =
+pub fields_wrong : (old : LayoutReader) (format : Format) (n : ℕ) (ps : List Part) (s : List ℕ) (f : Fields) (k : LayoutFault) → StandsFor old (AfterCount format n ps) → s ≡ fields f → AreFieldWords f
+    → f.format ≡ old.fields.format → IsFirstFault ps f field_tests (Some k) → HasFaultWhateverFollows (prefix_bytes (AfterCount format n ps) ++ s) k
+fields_wrong old format n ps s f' k' h e words kind wrong =
     λ more. rw (append_assoc (head format n ps) s more) (head_fault format n ps (s ++ more) k' h.right.0 h.right.1
-    (inr (f', more, ap (λ (t : List ℕ). t ++ more) e, words, kind ∙ h.kept.1.of, inl (subst (λ (b : List Span). IsFirstFault b f' field_tests (Some k')) h.kept.1.spans wrong))))
+    (inr (f', more, ap (λ (t : List ℕ). t ++ more) e, words, kind ∙ h.kept.1.of, inl wrong)))
+
+pub fields_fault : (old : LayoutReader) (x : ImagePrefix) (s : List ℕ) (f : Fields) (k : LayoutFault) → StandsFor old x → old.next ≡ stage.Fields → s ≡ fields f → AreFieldWords f
+    → f.format ≡ old.fields.format → AfterSpans old f (Some k) → HasFaultWhateverFollows (prefix_bytes x ++ s) k
+fields_fault old (AfterCount format n ps) s f' k' h is e words kind wrong =
+    fields_wrong old format n ps s f' k' h e words kind (wrong ps (subst (λ (g : Format). AreOf g ps) (sym (kind ∙ h.kept.1.of)) h.right.0.one_format) h.kept.1.spans)
 fields_fault old _ s f' k' h is e words kind wrong = let k = h.kept.0 in absurd cc
 
 -- a gate that may not come next
@@ -210,7 +226,7 @@ cut_short (InGates n ps f gs) rest right less =
     let regroup : (head f.format n ps ++ (fields f ++ flat_map gate gs)) ++ rest ≡ head f.format n ps ++ (fields f ++ (flat_map gate gs ++ rest)) = simp append_assoc in
     rw (regroup) (body_fault n ps f gs rest faults.Short right.0 (inl (right.1, less, refl)))
 cut_short (InCode n ps f gs code) rest right less =
-    let reg = region (spans ps) f right.0.words right.0.passed in
+    let reg = region ps f right.0.words right.0.passed in
     let size = reg.size_is in
     let even = right.2 in
     let inside = right.3 in

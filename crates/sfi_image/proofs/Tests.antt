@@ -1,5 +1,5 @@
 -- What passes the tests of a layout: fields, spans that lie apart, gates that follow one another.
-use Rattle.sfi_image.proofs.Prelude.{◌≡◌, List, [], ◌∷◌, ◌++◌, refl, sym, subst, inl, inr, Option, None, All, AllPairs, AllByRecursion, Fields, Span, LayoutFault, Part, fields_of, AreFieldWords, AreGateWords, AreApart, code_span, spans_of, AreGates, IsRightPart, FieldTest, Passes, IsFirstFault, field_tests, ℕ, ◌+◌, ◌-◌, ◌<◌, length, get_or, ap, ◌∙◌, arith, append_assoc, below_more, length-append, get_or_append_left, get_or_default, get_or-append_right, All-push, guarded_span, flat_map-append, append-nil, All-from_recursion, spans, IsBounded, zero, suc, ◌≤◌, map, ltb, ◌↔◌, IsTrue, slice_get, Some, flat_map, cases_lt, ltb-true, lt-ltb, length-map, length_push, get_or_push, service_most, Gate, IsBundleStart}
+use Rattle.sfi_image.proofs.Prelude.{◌≡◌, List, [], ◌∷◌, ◌++◌, refl, sym, subst, subst₂, inl, inr, Option, None, All, AllPairs, AllByRecursion, Fields, Span, LayoutFault, Part, fields_of, AreFieldWords, AreGateWords, AreApart, code_span, spans_of, AreGates, IsRightPart, AreRight, AreApartWith, AreClear, IsClear, zone_ends_of, zone_ends, FieldTest, Passes, IsFirstFault, field_tests, ℕ, ◌+◌, ◌-◌, ◌<◌, length, get_or, ap, ◌∙◌, arith, append_assoc, below_more, length-append, get_or_append_left, get_or_default, get_or-append_right, All-push, guarded_span, flat_map-append, append-nil, All-from_recursion, spans, IsBounded, zero, suc, ◌≤◌, map, ltb, ◌↔◌, IsTrue, slice_get, Some, flat_map, cases_lt, ltb-true, lt-ltb, length-map, length_push, get_or_push, service_most, Gate, IsBundleStart}
 use Rattle.sfi_image.specs.FieldTests.FieldTest.{Code, Data, GuardRoom, Start, Gates, Init, Overlap}
 use Rattle.sfi_image.proofs.Formats.{code_at_most, data_at_most}
 use Rattle.std.proofs.lemmas.List.Quantifiers.{all_pairs_push}
@@ -9,31 +9,33 @@ use Rattle.std.specs.Option.{option_map}
 -- ==== What fields that pass their tests are.
 
 -- where no test fails, each is passed
-pub all_pass : (before : List Span) (f : Fields) (ts : List FieldTest) → IsFirstFault before f ts None → AllByRecursion (Passes before f) ts
+pub all_pass : (before : List Part) (f : Fields) (ts : List FieldTest) → IsFirstFault before f ts None → AllByRecursion (Passes before f) ts
 all_pass before f [] h = tt
 all_pass before f (t ∷ ts) (inl h) = (h.0, all_pass before f ts h.1)
 all_pass before f (t ∷ ts) (inr h) = let e = h.1 in absurd cc
 
 -- and the other way round
-pub none_fails : (before : List Span) (f : Fields) (ts : List FieldTest) → AllByRecursion (Passes before f) ts → IsFirstFault before f ts None
+pub none_fails : (before : List Part) (f : Fields) (ts : List FieldTest) → AllByRecursion (Passes before f) ts → IsFirstFault before f ts None
 none_fails before f [] h = refl
 none_fails before f (t ∷ ts) h = inl (h.0, none_fails before f ts h.1)
 
 -- after six tests that are passed, the seventh
-pub at_overlap : (before : List Span) (f : Fields) (found : Option LayoutFault) → Passes before f Code → Passes before f Data → Passes before f GuardRoom
+pub at_overlap : (before : List Part) (f : Fields) (found : Option LayoutFault) → Passes before f Code → Passes before f Data → Passes before f GuardRoom
     → Passes before f Start → Passes before f Gates → Passes before f Init → IsFirstFault before f (Overlap ∷ []) found → IsFirstFault before f field_tests found
 at_overlap before f found code guarded room start gates init last = inl (code, inl (guarded, inl (room, inl (start, inl (gates, inl (init, last))))))
 
 -- a sandbox whose fields pass and whose gates are right is right, and its spans lie apart from those before
-pub right_part : (before : List Span) (p : Part) (f : Fields) → fields_of p ≡ f → AreFieldWords f → IsFirstFault before f field_tests None
-    → All AreGateWords p.gates → AreGates (code_span f) p.gates → IsRightPart p × AllPairs AreApart (before ++ spans_of f)
+pub right_part : (before : List Part) (p : Part) (f : Fields) → fields_of p ≡ f → AreFieldWords f → IsFirstFault before f field_tests None
+    → All AreGateWords p.gates → AreGates (code_span f) p.gates → IsRightPart p × AreApartWith before f
 right_part before p f is words passed gate_words gates =
     let all = all_pass before (fields_of p) field_tests (subst (λ (g : Fields). IsFirstFault before g field_tests None) (sym is) passed) in (
       record {
         code_base = (subst AreFieldWords (sym is) words).code_base;
         code_placed = all.0;
-        data_placed = all.1.0;
-        guard_room = all.1.1.0;
+        data_placed = all.1.0.0;
+        one_bit = all.1.0.1;
+        guard_room = all.1.1.0.0;
+        zone_room = all.1.1.0.1;
         start = all.1.1.1.0;
         gate_count = all.1.1.1.1.0;
         init_len = all.1.1.1.1.1.0;
@@ -43,9 +45,9 @@ right_part before p f is words passed gate_words gates =
     )
 
 -- the fields of a right sandbox that lies apart from those before pass
-pub part_passes : (before : List Span) (p : Part) → IsRightPart p → AllPairs AreApart (before ++ spans_of (fields_of p)) → IsFirstFault before (fields_of p) field_tests None
+pub part_passes : (before : List Part) (p : Part) → IsRightPart p → AreApartWith before (fields_of p) → IsFirstFault before (fields_of p) field_tests None
 part_passes before p right apart =
-    none_fails before (fields_of p) field_tests (right.code_placed, (right.data_placed, (right.guard_room, (right.start, (right.gate_count, (right.init_len, (apart, tt)))))))
+    none_fails before (fields_of p) field_tests (right.code_placed, ((right.data_placed, right.one_bit), ((right.guard_room, right.zone_room), (right.start, (right.gate_count, (right.init_len, (apart, tt)))))))
 
 -- ==== Spans that lie apart, and those of sandboxes.
 
@@ -94,6 +96,40 @@ two_pushed old mid new two a b first then_ are = then_ ∙ ap (λ (t : List Span
 -- the spans of one more
 pub spans_push : (ps : List Part) (p : Part) → spans (ps ++ p ∷ []) ≡ spans ps ++ spans_of (fields_of p)
 spans_push ps p = flat_map-append (λ q. spans_of (fields_of q)) ps (p ∷ []) ∙ ap (λ (t : List Span). spans ps ++ t) (append-nil (spans_of (fields_of p)))
+
+-- the ends of zones of one more
+pub zone_ends_push : (ps : List Part) (p : Part) → zone_ends (ps ++ p ∷ []) ≡ zone_ends ps ++ zone_ends_of (fields_of p)
+zone_ends_push ps p = flat_map-append (λ q. zone_ends_of (fields_of q)) ps (p ∷ []) ∙ ap (λ (t : List ℕ). zone_ends ps ++ t) (append-nil (zone_ends_of (fields_of p)))
+
+-- a right sandbox that lies apart from right ones makes one more
+pub one_more_right : (ps : List Part) (p : Part) → All IsRightPart ps → IsRightPart p → AreApartWith ps (fields_of p) → AreRight (ps ++ p ∷ [])
+one_more_right ps p each right lies = record {
+  each = All-push IsRightPart ps p each right;
+  apart = subst (AllPairs AreApart) (sym (spans_push ps p)) lies.apart;
+  clear = subst₂ AreClear (sym (zone_ends_push ps p)) (sym (spans_push ps p)) lies.clear;
+}
+
+-- the elements at the front have what all have
+pub All-front : {X : Type 0} (P : X → Type 0) (xs ys : List X) → All P (xs ++ ys) → All P xs
+All-front P xs ys all k d lt = subst P (get_or_append_left xs ys d k lt) (all k d (omega (arith, length-append xs ys)))
+
+-- spans at the front lie clear of the zones at the front where all do
+pub front_clear : (es more : List ℕ) (xs ys : List Span) → AreClear (es ++ more) (xs ++ ys) → AreClear es xs
+front_clear es more xs ys clear k d lt =
+    All-front (λ end. IsClear end (get_or xs k d)) es more (All-front (λ s. All (λ end. IsClear end s) (es ++ more)) xs ys clear k d lt)
+
+-- a sandbox in the middle of right ones lies apart from those before it
+pub middle_apart : (ps : List Part) (p : Part) (more : List Part) → AreRight (ps ++ p ∷ more) → AreApartWith ps (fields_of p)
+middle_apart ps p more right = record {
+  apart = front_apart (spans ps ++ spans_of (fields_of p)) (spans more) (subst (AllPairs AreApart) spelled right.apart);
+  clear = front_clear (zone_ends ps ++ zone_ends_of (fields_of p)) (zone_ends more) (spans ps ++ spans_of (fields_of p)) (spans more) (subst₂ AreClear ended spelled right.clear);
+}
+  where
+    spelled : spans (ps ++ p ∷ more) ≡ (spans ps ++ spans_of (fields_of p)) ++ spans more
+    spelled = flat_map-append (λ q. spans_of (fields_of q)) ps (p ∷ more) ∙ sym (append_assoc (spans ps) (spans_of (fields_of p)) (spans more))
+
+    ended : zone_ends (ps ++ p ∷ more) ≡ (zone_ends ps ++ zone_ends_of (fields_of p)) ++ zone_ends more
+    ended = flat_map-append (λ q. zone_ends_of (fields_of q)) ps (p ∷ more) ∙ sym (append_assoc (zone_ends ps) (zone_ends_of (fields_of p)) (zone_ends more))
 
 -- spans of right sandboxes hold an address and end below 2 ^ 64
 pub right_bounded : (p : Part) → IsRightPart p → All IsBounded (spans_of (fields_of p))

@@ -11,7 +11,7 @@ use Rattle.sfi_image.specs.declared.part.Gate.{Gate}
 use Rattle.sfi_image.specs.declared.fields.Fields.{Fields}
 use Rattle.sfi_image.specs.declared.span.Span.{Span}
 use Rattle.sfi_image.specs.declared.fault.LayoutFault.TheVariants.{Magic, Count, Short, Code, Data, GuardRoom, Start, Gates, Init, Overlap, Trailing}
-use Rattle.sfi_image.specs.Spelling.{Part, number, fields, gate, part, IsWord, fields_of, code_span, spans, code_region}
+use Rattle.sfi_image.specs.Spelling.{Part, number, fields, gate, part, IsWord, fields_of, code_span, code_region}
 use Rattle.sfi_image.specs.Numbers.{magic_bytes, number_bytes, fields_bytes, gate_bytes, AreFieldWords, AreGateWords}
 use Rattle.sfi_image.specs.Parts.{AreGates, AreOf, AreRight}
 use Rattle.sfi_image.specs.FieldTests.{IsFirstFault, field_tests}
@@ -62,7 +62,7 @@ IsBodyFault f bytes k = (gs : List Gate) × (rest : List ℕ)
     × (IsGateShort f gs rest k ⊎ (IsGateWrong f gs rest k ⊎ AreContentsShort f gs rest k))
 
 -- the fields are cut short, or fail a test, or pass them all before a wrong body
-abbrev pub IsPartFault : Format → List Span → List ℕ → LayoutFault → Type 0
+abbrev pub IsPartFault : Format → List Part → List ℕ → LayoutFault → Type 0
 IsPartFault format before bytes k =
     ((length bytes < fields_bytes) × (k ≡ Short))
     ⊎ ((f : Fields) × (rest : List ℕ) × (bytes ≡ fields f ++ rest) × AreFieldWords f
@@ -73,7 +73,7 @@ IsPartFault format before bytes k =
 abbrev pub ArePartsFault : Format → ℕ → List ℕ → LayoutFault → Type 0
 ArePartsFault format n bytes k =
     (ps : List Part) × (rest : List ℕ) × (bytes ≡ flat_map part ps ++ rest) × AreRight ps
-    × AreOf format ps × (((length ps < n) × IsPartFault format (spans ps) rest k)
+    × AreOf format ps × (((length ps < n) × IsPartFault format ps rest k)
     ⊎ ((length ps ≡ n) × (0 < length rest) × (k ≡ Trailing)))
 
 -- the count is cut short, or not from 1 to the most, or the sandboxes after it are wrong
@@ -101,9 +101,8 @@ abbrev pub HasWrongGate : Span → List Gate → Type 0
 HasWrongGate region gs = (front : List Gate) × (g : Gate) × (more : List Gate)
     × (gs ≡ front ++ g ∷ more) × AreGates region front × (¬ AreGates region (front ++ g ∷ []))
 
--- after sandboxes with these spans the sandbox's fields fail a test, or pass them all and a gate is
--- wrong
-abbrev pub HasFault : List Span → Part → LayoutFault → Type 0
+-- after these sandboxes the sandbox's fields fail a test, or pass them all and a gate is wrong
+abbrev pub HasFault : List Part → Part → LayoutFault → Type 0
 HasFault before p k =
     IsFirstFault before (fields_of p) field_tests (Some k)
     ⊎ (IsFirstFault before (fields_of p) field_tests None
@@ -112,7 +111,7 @@ HasFault before p k =
 -- after right sandboxes the next one has the fault
 abbrev pub HasWrongPart : List Part → LayoutFault → Type 0
 HasWrongPart ps k = (front : List Part) × (p : Part) × (more : List Part)
-    × (ps ≡ front ++ p ∷ more) × AreRight front × HasFault (spans front) p k
+    × (ps ≡ front ++ p ∷ more) × AreRight front × HasFault front p k
 
 -- there is no sandbox, or too many, or the first wrong one has the fault
 abbrev pub HaveFault : List Part → LayoutFault → Type 0

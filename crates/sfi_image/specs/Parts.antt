@@ -1,10 +1,10 @@
 -- Right sandboxes: regions, reserved registers and gates; and images of them.
-use Rattle.std.specs.Prelude.{◌≡◌, ℕ, ◌+◌, ◌*◌, ◌%◌, ◌^◌, ◌≤◌, ◌-◌, ◌<◌, ◌==◌, ◌||◌, Bool, false, List, [], ◌∷◌, length, slice_index}
+use Rattle.std.specs.Prelude.{◌≡◌, ℕ, ◌+◌, ◌*◌, ◌%◌, ◌^◌, ◌≤◌, ◌-◌, ◌<◌, ◌==◌, ◌||◌, Bool, true, false, List, [], ◌∷◌, length, slice_index}
 use Rattle.sfi_formats.specs.Limits.{bundle_size, word_size, guard, region_least, service_most, gates_most, sandboxes_most}
 use Rattle.sfi_formats.specs.declared.format.Format.{Format}
-use Rattle.sfi_formats.specs.Formats.{code_most, data_most, unit, code_base_register, code_mask_register, data_base_register, data_mask_register}
+use Rattle.sfi_formats.specs.Formats.{code_most, data_most, unit, code_base_register, code_mask_register, data_base_register, data_mask_register, has_one_step}
 use Rattle.sfi_image.specs.declared.span.Span.{Span}
-use Rattle.sfi_image.specs.Spelling.{Holds, code_region, data_region, AreApart, spans, Part, format_of, IsWord, spelling}
+use Rattle.sfi_image.specs.Spelling.{Holds, code_region, data_region, AreApart, spans, zone_end, zone_ends, AreClear, Part, format_of, IsWord, spelling}
 use Rattle.sfi_image.specs.declared.reserved.Reserved.{Reserved}
 use Rattle.std.specs.List.{All, AllPairs}
 use Rattle.sfi_image.specs.declared.part.Gate.{Gate}
@@ -32,6 +32,31 @@ IsDataRegion format base size = IsRegion base size region_least (data_most forma
 pub record HasGuardRoom (base size : ℕ) : Type 0 where
   pub below : guard ≤ base
   pub above : base + size + guard ≤ 2 ^ 32
+
+-- ---- of formats whose mask of data has one step; of others nothing is asked
+
+-- The base is a single bit, and no lower than the size. So what a number has in common with the mask,
+-- base + size - 1, lies below the size, or in the data.
+pub record IsOneBit (base size : ℕ) : Type 0 where
+  pub power : ℕ
+  pub base_is : base ≡ 2 ^ power
+  pub no_lower : size ≤ base
+
+-- a data region of this format may have this base, as far as its masks need it
+abbrev pub IsMaskedBase : Format → ℕ → ℕ → Type 0
+IsMaskedBase format base size = has_one_step format ≡ true → IsOneBit base size
+
+-- the zone at zero ends below the code and below the data, and its last addresses begin above the code
+pub record IsClearOfZero (code_at data_at : Span) : Type 0 where
+  pub code_above : zone_end data_at.size ≤ code_at.base
+  pub data_above : zone_end data_at.size ≤ data_at.base
+  pub code_below : code_at.base + code_at.size + guard ≤ 2 ^ 32
+
+-- a sandbox of this format may have these regions, as far as its own zone at zero goes
+abbrev pub HasZoneRoom : Format → Span → Span → Type 0
+HasZoneRoom format code_at data_at = has_one_step format ≡ true → IsClearOfZero code_at data_at
+
+-- ---- units of code
 
 -- the address is a multiple of `size`, the bytes of a unit of code, in the region
 pub record IsStart (size : ℕ) (region : Span) (at : ℕ) : Type 0 where
@@ -91,16 +116,19 @@ pub record IsRightPart (p : Part) : Type 0 where
   pub code_base : IsWord p.code_base
   pub code_placed : IsCodeRegion p.format p.code_base (length p.code)
   pub data_placed : IsDataRegion p.format p.data_base p.data_size
+  pub one_bit : IsMaskedBase p.format p.data_base p.data_size
   pub guard_room : HasGuardRoom p.data_base p.data_size
+  pub zone_room : HasZoneRoom p.format (code_region p) (data_region p)
   pub start : IsBundleStart (code_region p) p.start
   pub gate_count : length p.gates ≤ gates_most
   pub init_len : length p.init ≤ p.data_size
   pub gates : AreGates (code_region p) p.gates
 
--- each part is right by itself, and no two of all their spans meet
+-- each part is right by itself, no two of all their spans meet, and none meets a zone at zero
 pub record AreRight (ps : List Part) : Type 0 where
   pub each : All IsRightPart ps
   pub apart : AllPairs AreApart (spans ps)
+  pub clear : AreClear (zone_ends ps) (spans ps)
 
 -- each part has this format
 abbrev pub AreOf : Format → List Part → Type 0

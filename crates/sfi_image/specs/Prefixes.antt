@@ -9,7 +9,7 @@ use Rattle.sfi_image.specs.declared.fields.Fields.{Fields}
 use Rattle.sfi_image.specs.declared.fault.LayoutFault.{LayoutFault}
 use Rattle.sfi_image.specs.declared.want.Want.{Want}
 use Rattle.sfi_image.specs.declared.want.Want.TheVariants as wants
-use Rattle.sfi_image.specs.Spelling.{Part, format_of, number, fields, gate, part, code_span, spans}
+use Rattle.sfi_image.specs.Spelling.{Part, format_of, number, fields, gate, part, code_span}
 use Rattle.sfi_image.specs.Numbers.{magic_bytes, number_bytes, fields_bytes, gate_bytes, AreFieldWords, AreGateWords}
 use Rattle.sfi_image.specs.Parts.{AreGates, is_gate_of, AreOf, AreRight, IsImage}
 use Rattle.sfi_image.specs.FieldTests.{IsFirstFault, field_tests}
@@ -59,7 +59,7 @@ pub record IsOpened (n : ℕ) (ps : List Part) (f : Fields) (gs : List Gate) : T
   pub before : IsHead f.format n ps
   pub more : length ps < n
   pub words : AreFieldWords f
-  pub passed : IsFirstFault (spans ps) f field_tests None
+  pub passed : IsFirstFault ps f field_tests None
   pub gate_words : All AreGateWords gs
   pub gates : AreGates (code_span f) gs
 

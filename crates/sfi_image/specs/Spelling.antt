@@ -1,11 +1,11 @@
 -- What a sandbox's part of an image holds, the bytes of an image, and the spans of addresses that
 -- its fields give.
-use Rattle.std.specs.Prelude.{ℕ, ◌^◌, ◌<◌, List, [], ◌∷◌, ◌++◌, length, map, ◌+◌, ◌-◌, ◌≤◌, ◌⊎◌}
-use Rattle.std.specs.List.{flat_map}
+use Rattle.std.specs.Prelude.{ℕ, ◌^◌, ◌<◌, ◌≡◌, true, List, [], ◌∷◌, ◌++◌, length, map, cond, ◌+◌, ◌-◌, ◌≤◌, ◌⊎◌}
+use Rattle.std.specs.List.{All, flat_map}
 use Rattle.std.specs.Int.{w32, to_le_bytes}
 use Rattle.sfi_formats.specs.declared.format.Format.{Format}
 use Rattle.sfi_formats.specs.declared.format.Format.TheVariants.{Sfi1}
-use Rattle.sfi_formats.specs.Formats.{magic}
+use Rattle.sfi_formats.specs.Formats.{magic, has_one_step}
 use Rattle.sfi_image.specs.declared.part.Gate.{Gate}
 use Rattle.sfi_image.specs.declared.fields.Fields.{Fields}
 use Rattle.sfi_image.specs.declared.part.SandboxPart.{SandboxPart}
@@ -157,3 +157,37 @@ guarded_region p = guarded_span (fields_of p)
 -- the spans of all these sandboxes
 abbrev pub spans : List Part → List Span
 spans ps = flat_map (λ p. spans_of (fields_of p)) ps
+
+-- ---- zones at zero, of formats whose mask of data has one step
+
+-- Where the zone at zero of data of this size ends. The mask leads into the data or to an address below
+-- their size, and an access lies less than a guard zone beside that: so the zone at zero are the
+-- addresses below this one, and the last `guard` addresses below 2 ^ 32.
+abbrev pub zone_end : ℕ → ℕ
+zone_end size = size + guard
+
+-- the address lies in the zone at zero of data of this size
+abbrev pub InZoneAtZero : ℕ → ℕ → Type 0
+InZoneAtZero size at = (at < zone_end size) ⊎ ((2 ^ 32 ≤ at + guard) × (at < 2 ^ 32))
+
+-- The address lies beside data that lie there, in a sandbox of this format: in a guard zone on one of
+-- their sides; or, where the mask of data has one step, in the zone at zero.
+abbrev pub InZones : Format → Span → ℕ → Type 0
+InZones format s at = InGuards s at ⊎ ((has_one_step format ≡ true) × InZoneAtZero s.size at)
+
+-- where the zone at zero of a sandbox with these fields ends, if its format has one
+abbrev pub zone_ends_of : Fields → List ℕ
+zone_ends_of f = cond (has_one_step f.format) (zone_end f.data_size ∷ []) []
+
+-- where the zones at zero of all these sandboxes end
+abbrev pub zone_ends : List Part → List ℕ
+zone_ends ps = flat_map (λ p. zone_ends_of (fields_of p)) ps
+
+-- the span lies clear of a zone at zero that ends there: above its first addresses and below its last
+pub record IsClear (end : ℕ) (s : Span) : Type 0 where
+  pub above : end ≤ s.base
+  pub below : s.base + s.size + guard ≤ 2 ^ 32
+
+-- each of the spans lies clear of each zone at zero with one of these ends
+abbrev pub AreClear : List ℕ → List Span → Type 0
+AreClear ends ss = All (λ s. All (λ end. IsClear end s) ends) ss

@@ -11,10 +11,32 @@ use Rattle.sfi_image.specs.declared.want.OtherWant.{OtherWant}
 use Rattle.sfi_image.specs.declared.want.OtherWant.TheVariants as others
 use Rattle.sfi_image.specs.declared.want.Stage.{Stage}
 use Rattle.sfi_image.specs.declared.want.Stage.TheVariants as stage
-use Rattle.sfi_image.specs.Spelling.{Part, fields_of}
+use Rattle.sfi_image.specs.Spelling.{Part, fields_of, spans_of}
+use Rattle.sfi_image.specs.Parts.{IsRightPart}
+use Rattle.sfi_image.specs.FieldTests.{AreApartWith}
+use Rattle.sfi_image.specs.declared.fields.OwnSpans.{OwnSpans}
+use Rattle.sfi_image.specs.declared.span.Span.{Span}
+use Rattle.sfi_formats.specs.Limits.{guard}
 use Rattle.sfi_image.specs.Numbers.{magic_bytes, number_bytes, fields_bytes, gate_bytes}
 use Rattle.sfi_image.specs.declared.fault.ImageFault.{ImageFault}
 use Rattle.sfi_image.specs.Faults.{IfLayout}
+
+-- ==== A sandbox after others.
+
+-- the sandbox is right and lies apart from these, and its spans are those kept of it
+pub record FitsAfter (before : List Part) (p : Part) (own : OwnSpans) : Type 0 where
+  pub own_are : (own.code ∷ own.guarded ∷ []) ≡ spans_of (fields_of p)
+  pub right : IsRightPart p
+  pub lies : AreApartWith before (fields_of p)
+
+-- ==== Zones at zero.
+
+-- Where the zones at zero of sandboxes with these spans end: the spans are two for each, the second of
+-- which is the data region with its guard zones.
+abbrev pub ends_below : List Span → List ℕ
+ends_below [] = []
+ends_below (code ∷ []) = []
+ends_below (code ∷ guarded ∷ more) = (guarded.size - guard) ∷ ends_below more
 
 -- ==== What a cursor reads.
 

@@ -1,14 +1,15 @@
 //! The seven fields of a sandbox and their tests.
-ghost use Rattle.std.specs.Prelude.{◌≡◌, ◌≤◌, ◌↔◌, IsTrue, IfOk, IfErr, Some, None};
+ghost use Rattle.std.specs.Prelude.{◌≡◌, ◌≤◌, ◌↔◌, List, IsTrue, IfOk, IfErr, Some, None};
 ghost use Rattle.std.specs.List.{All, AllPairs};
 ghost use Rattle.sfi_formats.specs.Limits.{guard};
-ghost use Rattle.sfi_image.specs.Spelling.{AreApart, code_span, guarded_span, with_guards};
+ghost use Rattle.sfi_image.specs.Spelling.{Part, AreApart, code_span, data_span, guarded_span, spans, with_guards};
 ghost use Rattle.sfi_image.specs.Sources.{IsBounded};
-ghost use Rattle.sfi_image.specs.Parts.{IsRegion, IsBundleStart, HasGuardRoom};
-ghost use Rattle.sfi_image.specs.FieldTests.{IsFirstFault, field_tests};
+ghost use Rattle.sfi_image.specs.Parts.{IsRegion, IsDataRegion, IsBundleStart, IsOneBit, IsMaskedBase, IsClearOfZero, HasGuardRoom, HasZoneRoom, AreOf};
+ghost use Rattle.sfi_image.specs.FieldTests.{AreApartWith, IsFirstFault, field_tests};
 
 use crate::fault::LayoutFault;
 use crate::span::{Span, are_all_apart};
+use crate::zones::{are_clear_of_zones, zone_end};
 use sfi_formats::{BUNDLE_SIZE, Format, GATES_MOST, REGION_LEAST};
 
 /// The seven numbers at the head of a sandbox, and its image's format.
@@ -41,9 +42,9 @@ pub(crate) struct OwnSpans {
     pub(crate) guarded: Span,
 }
 
-const GUARD: u64 = sfi_formats::GUARD as u64;
+pub(crate) const GUARD: u64 = sfi_formats::GUARD as u64;
 
-const TOP: u64 = 1 << 32;
+pub(crate) const TOP: u64 = 1 << 32;
 
 /// Tells whether the size is a power of two within the bounds, and the base a multiple of it.
 pub fn is_region(base: u32, size: u32, least: u32, most: u32) -> bool
@@ -64,6 +65,49 @@ pub fn has_guard_room(base: u32, size: u32) -> bool
         return false;
     }
     base + u64::from(size) + GUARD <= TOP
+}
+
+/// Tells whether the base is a single bit, and no lower than the size.
+pub fn is_one_bit(base: u32, size: u32) -> bool
+    ensures { IsTrue result ↔ IsOneBit base size }
+{
+    base.is_power_of_two() && size <= base
+}
+
+/// Tells whether the zone at zero of the data ends below the code and below the data, and its last
+/// addresses begin above the code.
+fn is_clear_of_zero(fields: &Fields) -> bool
+    ensures { IsTrue result ↔ IsClearOfZero (code_span fields.now) (data_span fields.now) }
+{
+    let end = zone_end(fields.data_size);
+    if end > u64::from(fields.code_base) || end > u64::from(fields.data_base) {
+        return false;
+    }
+    u64::from(fields.code_base) + u64::from(fields.code_size) + GUARD <= TOP
+}
+
+/// Whether the data region may lie where it does.
+fn is_data_region(fields: &Fields) -> bool
+    ensures { IsTrue result ↔
+        (IsDataRegion fields.now.format fields.now.data_base fields.now.data_size
+        × IsMaskedBase fields.now.format fields.now.data_base fields.now.data_size) }
+{
+    let most = fields.format.data_most();
+    if !is_region(fields.data_base, fields.data_size, REGION_LEAST, most) {
+        return false;
+    }
+    !fields.format.has_one_step() || is_one_bit(fields.data_base, fields.data_size)
+}
+
+/// Whether there is room for the guard zones, and for a zone at zero where there is one.
+fn has_room(fields: &Fields) -> bool
+    ensures { IsTrue result ↔ (HasGuardRoom fields.now.data_base fields.now.data_size
+        × HasZoneRoom fields.now.format (code_span fields.now) (data_span fields.now)) }
+{
+    if !has_guard_room(fields.data_base, fields.data_size) {
+        return false;
+    }
+    !fields.format.has_one_step() || is_clear_of_zero(fields)
 }
 
 /// Whether the address is a bundle start of the code region.
@@ -97,6 +141,24 @@ pub fn with_guards(base: u32, size: u32) -> Span
     }
 }
 
+/// Whether a sandbox with these fields and these spans may lie beside the sandboxes before it, whose
+/// spans are `before`.
+fn are_apart_with(before: &[Span], fields: &Fields, own: &OwnSpans) -> bool
+    requires bounded { All IsBounded before.now }
+    requires apart { AllPairs AreApart before.now }
+    requires code { IsBounded own.now.code }
+    requires guarded { IsBounded own.now.guarded }
+    requires code_is { own.now.code ≡ code_span fields.now }
+    requires guarded_is { own.now.guarded ≡ guarded_span fields.now }
+    ensures { (ps : List Part) → AreOf fields.now.format ps → before.now ≡ spans ps
+        → IsTrue result ↔ AreApartWith ps fields.now }
+{
+    if !are_all_apart(before, own.code, own.guarded) {
+        return false;
+    }
+    !fields.format.has_one_step() || are_clear_of_zones(before, own.code, own.guarded)
+}
+
 /// The spans of a sandbox with these fields, or the first test that they fail. `before` are the
 /// spans of the sandboxes before it.
 pub(crate) fn spans_after(before: &[Span], fields: &Fields) -> Result<OwnSpans, LayoutFault>
@@ -104,8 +166,10 @@ pub(crate) fn spans_after(before: &[Span], fields: &Fields) -> Result<OwnSpans, 
     requires apart { AllPairs AreApart before.now }
     ensures code { IfOk result (λ own. own.code ≡ code_span fields.now) }
     ensures guarded { IfOk result (λ own. own.guarded ≡ guarded_span fields.now) }
-    ensures passed { IfOk result (λ own. IsFirstFault before.now fields.now field_tests None) }
-    ensures fault { IfErr result (λ k. IsFirstFault before.now fields.now field_tests (Some k)) }
+    ensures passed { (ps : List Part) → AreOf fields.now.format ps → before.now ≡ spans ps
+        → IfOk result (λ own. IsFirstFault ps fields.now field_tests None) }
+    ensures fault { (ps : List Part) → AreOf fields.now.format ps → before.now ≡ spans ps
+        → IfErr result (λ k. IsFirstFault ps fields.now field_tests (Some k)) }
 {
     if !is_region(
         fields.code_base,
@@ -115,15 +179,10 @@ pub(crate) fn spans_after(before: &[Span], fields: &Fields) -> Result<OwnSpans, 
     ) {
         return Err(LayoutFault::Code);
     }
-    if !is_region(
-        fields.data_base,
-        fields.data_size,
-        REGION_LEAST,
-        fields.format.data_most(),
-    ) {
+    if !is_data_region(fields) {
         return Err(LayoutFault::Data);
     }
-    if !has_guard_room(fields.data_base, fields.data_size) {
+    if !has_room(fields) {
         return Err(LayoutFault::GuardRoom);
     }
     if !is_bundle_start(fields, fields.start) {
@@ -139,7 +198,7 @@ pub(crate) fn spans_after(before: &[Span], fields: &Fields) -> Result<OwnSpans, 
         code: code_span(fields),
         guarded: with_guards(fields.data_base, fields.data_size),
     };
-    if !are_all_apart(before, own.code, own.guarded) {
+    if !are_apart_with(before, fields, &own) {
         return Err(LayoutFault::Overlap);
     }
     Ok(own)

@@ -1,15 +1,15 @@
 //! Whether sandboxes have a right layout, before they are written.
-ghost use Rattle.std.specs.Prelude.{◌≡◌, ◌++◌, ◌∷◌, [], OnOk, IfOk, IfErr};
+ghost use Rattle.std.specs.Prelude.{◌≡◌, List, OnOk, IfOk, IfErr};
 ghost use Rattle.std.specs.Bool.{OnTrue, OnFalse};
 ghost use Rattle.std.specs.List.{All, AllPairs};
-ghost use Rattle.sfi_image.specs.Spelling.{view, views, fields_of, IsWord};
+ghost use Rattle.sfi_image.specs.Spelling.{Part, view, views, IsWord};
 ghost use Rattle.sfi_image.specs.Numbers.{AreFieldWords, AreGateWords};
-ghost use Rattle.sfi_image.specs.Spelling.{AreApart, code_span, spans_of};
+ghost use Rattle.sfi_image.specs.Spelling.{AreApart, code_span, spans};
 ghost use Rattle.sfi_image.specs.Sources.{IsBounded};
-ghost use Rattle.sfi_image.specs.Parts.{AreGates};
-ghost use Rattle.sfi_image.specs.Parts.{IsRightPart, IsRightLayout};
+ghost use Rattle.sfi_image.specs.Parts.{AreGates, AreOf};
+ghost use Rattle.sfi_image.specs.Parts.{IsRightLayout};
 ghost use Rattle.sfi_image.specs.Faults.{HasWrongGate, HasFault, HaveFault};
-ghost use Rattle.sfi_image.specs.private.{capped, capped_fields};
+ghost use Rattle.sfi_image.specs.private.{capped, capped_fields, FitsAfter};
 ghost use Rattle.sfi_image.specs.Faults.{IfLayout};
 
 use crate::fault::{ImageFault, LayoutFault};
@@ -82,12 +82,10 @@ fn part_spans(
 ) -> Result<OwnSpans, LayoutFault>
     requires bounded { All IsBounded before.now }
     requires apart { AllPairs AreApart before.now }
-    ensures spans { IfOk result (λ own.
-        (own.code ∷ own.guarded ∷ []) ≡ spans_of (fields_of (view format part.now))) }
-    ensures right { IfOk result (λ own. IsRightPart (view format part.now)) }
-    ensures apart { IfOk result (λ own.
-        AllPairs AreApart (before.now ++ spans_of (fields_of (view format part.now)))) }
-    ensures fault { IfErr result (λ k. HasFault before.now (view format part.now) k) }
+    ensures fits { (ps : List Part) → AreOf format ps → before.now ≡ spans ps
+        → IfOk result (λ own. FitsAfter ps (view format part.now) own) }
+    ensures fault { (ps : List Part) → AreOf format ps → before.now ≡ spans ps
+        → IfErr result (λ k. HasFault ps (view format part.now) k) }
 {
     let fields = fields_of_part(format, part);
     let own = spans_after(before, &fields)?;

@@ -30,6 +30,7 @@ mod reserved;
 mod span;
 mod want;
 mod writing;
+mod zones;
 
 pub use arrays::{GateArray, SpanArray};
 pub use bundle::BundlePlace;

@@ -11,7 +11,8 @@ use Rattle.sfi_formats.proofs.Facts.{limits_have_room}
 use Rattle.sfi_rewrite.proofs.Sizes.{size_of-cons}
 use Rattle.sfi_formats.specs.Formats.{unit}
 use Rattle.sfi_formats.specs.declared.format.Format.TheVariants.{Sfi1, Sfi2, Sfiw}
-use Rattle.sfi_image.specs.Spelling.{Holds}
+use Rattle.sfi_image.specs.Spelling.{Holds, spans}
+use Rattle.sfi_image.proofs.ClearZones.{no_one_bit, no_zone_room, clear_of_no_zones}
 use Rattle.sfi_rewrite.specs.declared.placed.PlacedName.TheVariants.{Gate, Code, Data, Unknown}
 use Rattle.sfi_link.specs.declared.names.NameKind.{NameKind}
 use Rattle.sfi_link.specs.declared.names.NameKind.TheVariants as kind
@@ -122,7 +123,9 @@ right_with given number p code placed made lies =
       code_base = lies.word;
       code_placed = lies.code;
       data_placed = lies.«data»;
+      one_bit = no_one_bit p.format (place_of given number).data_base p.data_size;
       guard_room = lies.guard_room;
+      zone_room = no_zone_room p.format _ _;
       start = record { held = (omega arith, omega arith); aligned = omega arith };
       gate_count = omega arith;
       init_len = omega arith;
@@ -164,7 +167,7 @@ pub linked_is_right : (given : List Place) (placed : List Placement) (parts : Li
 linked_is_right given placed parts is few linked =
     let all = all_right given 0 placed parts is.each linked.each in
     let count = all.1 in
-    record { at_least_one = omega arith; at_most = omega arith; one_format = one_format given 0 placed parts is linked.each; right = record { each = all.0; apart = linked.apart } }
+    record { at_least_one = omega arith; at_most = omega arith; one_format = one_format given 0 placed parts is linked.each; right = record { each = all.0; apart = linked.apart; clear = clear_of_no_zones parts (spans parts) } }
 
 -- ==== The map of a source, name by name.
 

@@ -1,5 +1,5 @@
 -- An image with other first data bytes in one of its sandboxes.
-use Rattle.std.proofs.Common.{◌≡◌, ◌∙◌, ℕ, zero, suc, ◌+◌, ◌-◌, ◌<◌, ◌≤◌, ◌^◌, List, [], ◌∷◌, ◌++◌, length, Some, refl, sym, ap, subst, arith, take, drop, append_assoc}
+use Rattle.std.proofs.Common.{◌≡◌, ◌∙◌, ℕ, zero, suc, ◌+◌, ◌-◌, ◌<◌, ◌≤◌, ◌^◌, List, [], ◌∷◌, ◌++◌, length, Some, refl, sym, ap, subst, subst₂, arith, take, drop, append_assoc}
 use Rattle.std.specs.Prelude.{slice_get}
 use Rattle.std.specs.List.{All, AllPairs, flat_map}
 use Rattle.std.proofs.lemmas.List.{length-append}
@@ -9,7 +9,7 @@ use Rattle.sfi_formats.specs.declared.format.Format.{Format}
 use Rattle.sfi_formats.specs.declared.place.Place.{Place}
 use Rattle.sfi_image.specs.declared.fields.Fields.{Fields}
 use Rattle.sfi_image.specs.declared.span.Span.{Span}
-use Rattle.sfi_image.specs.Spelling.{Part, fields_of, format_of, spans, spans_of, AreApart, number, fields, gate, part, spelling}
+use Rattle.sfi_image.specs.Spelling.{Part, fields_of, format_of, spans, spans_of, AreApart, AreClear, zone_ends, zone_ends_of, number, fields, gate, part, spelling}
 use Rattle.sfi_image.specs.Parts.{IsImage, IsRightPart, IsRightLayout}
 use Rattle.sfi_image.specs.Prefixes.{head}
 use Rattle.sfi_image.specs.Keeping.{LiesAt, sandbox_offset}
@@ -47,6 +47,11 @@ same_spans n first [] = refl
 same_spans zero first (p ∷ qs) = refl
 same_spans (suc n) first (p ∷ qs) = ap (λ (l : List Span). spans_of (fields_of p) ++ l) (same_spans n first qs)
 
+same_ends : (n : ℕ) (first : List ℕ) (qs : List Part) → zone_ends (with_first n first qs) ≡ zone_ends qs
+same_ends n first [] = refl
+same_ends zero first (p ∷ qs) = refl
+same_ends (suc n) first (p ∷ qs) = ap (λ (l : List ℕ). zone_ends_of (fields_of p) ++ l) (same_ends n first qs)
+
 all_but : (P : Part → Type 0) (n : ℕ) (first : List ℕ) (qs : List Part) → All P qs → ((q : Part) → slice_get qs n ≡ Some q → P q → P (with first q)) → All P (with_first n first qs)
 all_but P n first [] all there = all
 all_but P zero first (q ∷ qs) all there = All-cons P (with first q) qs (there q refl (All-head P q qs all)) (All-tail P q qs all)
@@ -75,7 +80,9 @@ right first q room r = record {
   code_base = r.code_base;
   code_placed = r.code_placed;
   data_placed = r.data_placed;
+  one_bit = r.one_bit;
   guard_room = r.guard_room;
+  zone_room = r.zone_room;
   start = r.start;
   gate_count = r.gate_count;
   init_len = room;
@@ -95,6 +102,7 @@ right_layout n first qs q here room layout =
       right = record {
         each = all_but IsRightPart n first qs layout.right.each (λ x e r. right first x (let is : x ≡ q = cc in subst (λ (y : Part). length first ≤ y.data_size) (sym is) room) r);
         apart = subst (λ (l : List Span). AllPairs AreApart l) (sym (same_spans n first qs)) layout.right.apart;
+        clear = subst₂ AreClear (sym (same_ends n first qs)) (sym (same_spans n first qs)) layout.right.clear;
       };
     }
 

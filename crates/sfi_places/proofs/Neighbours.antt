@@ -1,12 +1,14 @@
 -- Sandboxes beside one another, and that what one does to its own data is to the other a change by others.
-use Rattle.std.proofs.Common.{◌≡◌, ◌≢◌, ℕ, zero, suc, ◌+◌, ◌<◌, ◌≤◌, ◌⊎◌, List, [], ◌∷◌, length, Some, None, refl, sym, ap, ◌∙◌, subst, inl, inr, arith}
+use Rattle.std.proofs.Common.{◌≡◌, ◌≢◌, ℕ, zero, suc, ◌+◌, ◌<◌, ◌≤◌, ◌⊎◌, List, [], ◌∷◌, length, get_or, Some, None, refl, sym, ap, ◌∙◌, subst, inl, inr, arith}
 use Rattle.std.specs.Prelude.{slice_get}
 use Rattle.std.specs.List.{All, AllPairs}
-use Rattle.std.proofs.lemmas.List.Elements.{All-head, All-tail, All-from_recursion}
+use Rattle.std.proofs.lemmas.List.Elements.{All-head, All-tail, All-nil, All-append, All-from_recursion}
 use Rattle.std.proofs.lemmas.Option.{same_Some}
 use Rattle.rv_step.specs.Step.{Stepped}
 use Rattle.sfi_image.specs.declared.span.Span.{Span}
-use Rattle.sfi_image.specs.Spelling.{Part, Holds, AreApart, spans, code_region, data_region, guarded_region}
+use Rattle.sfi_image.proofs.Tests.{All-front}
+use Rattle.sfi_image.proofs.ClearZones.{All-rest, clear_of_rest}
+use Rattle.sfi_image.specs.Spelling.{Part, fields_of, Holds, AreApart, IsClear, AreClear, zone_ends, zone_ends_of, spans, code_region, data_region, guarded_region}
 use Rattle.sfi_safe_runs.specs.Runs.{InGuard, Zones, Empty, Padded, Steps}
 use Rattle.sfi_safe_runs.specs.Safety.{writable_region}
 use Rattle.sfi_safe_runs.proofs.Facts.{safe_turns_as, changes_anyway}
@@ -23,33 +25,40 @@ first P p all = All-head P (code_region p) (guarded_region p ∷ []) all
 second : (P : Span → Type 0) (p : Part) → All P (spans (p ∷ [])) → P (guarded_region p)
 second P p all = All-head P (guarded_region p) [] (All-tail P (code_region p) (guarded_region p ∷ []) all)
 
--- of two sandboxes
+-- of two sandboxes, and their zones at zero
 pub record SpansApart (p q : Part) : Type 0 where
   pub code_code : AreApart (code_region p) (code_region q)
   pub code_guarded : AreApart (code_region p) (guarded_region q)
   pub guarded_code : AreApart (guarded_region p) (code_region q)
   pub guarded_guarded : AreApart (guarded_region p) (guarded_region q)
+  pub clear : AreClear (zone_ends (p ∷ [])) (spans (q ∷ []))
+  pub other_clear : AreClear (zone_ends (q ∷ [])) (spans (p ∷ []))
 
 AllApart : Part → Span → Type 0
 AllApart q s = All (λ (t : Span). AreApart s t) (spans (q ∷ []))
 
 pub are_beside : (p q : Part) → SpansApart p q → AreBeside (p ∷ []) (q ∷ [])
 unfolding AllApart
-are_beside p q apart =
-    two (AllApart q) p
-    (two (AreApart (code_region p)) q apart.code_code apart.code_guarded)
-    (two (AreApart (guarded_region p)) q apart.guarded_code apart.guarded_guarded)
+are_beside p q lie = record {
+  apart = two (AllApart q) p
+      (two (AreApart (code_region p)) q lie.code_code lie.code_guarded)
+      (two (AreApart (guarded_region p)) q lie.guarded_code lie.guarded_guarded);
+  clear = lie.clear;
+  other_clear = lie.other_clear;
+}
 
 pub spans_apart : (p q : Part) → AreBeside (p ∷ []) (q ∷ []) → SpansApart p q
 unfolding AllApart
 spans_apart p q beside =
-    let code = first (AllApart q) p beside in
-    let guarded = second (AllApart q) p beside in
+    let code = first (AllApart q) p beside.apart in
+    let guarded = second (AllApart q) p beside.apart in
     record {
       code_code = first (AreApart (code_region p)) q code;
       code_guarded = second (AreApart (code_region p)) q code;
       guarded_code = first (AreApart (guarded_region p)) q guarded;
       guarded_guarded = second (AreApart (guarded_region p)) q guarded;
+      clear = beside.clear;
+      other_clear = beside.other_clear;
     }
 
 -- ---- of one layout
@@ -61,9 +70,33 @@ in_spans P (x ∷ ps) zero p at all =
     (two P x (All-head P (code_region x) (guarded_region x ∷ spans ps) all) (All-head P (guarded_region x) (spans ps) (All-tail P (code_region x) (guarded_region x ∷ spans ps) all)))
 in_spans P (x ∷ ps) (suc i) p at all = in_spans P ps i p at (All-tail P (guarded_region x) (spans ps) (All-tail P (code_region x) (guarded_region x ∷ spans ps) all))
 
+-- no two spans of these sandboxes meet, and none meets a zone at zero
+abbrev AreLaid : List Part → Type 0
+AreLaid ps = AllPairs AreApart (spans ps) × AreClear (zone_ends ps) (spans ps)
+
+others_laid : (x : Part) (ps : List Part) → AreLaid (x ∷ ps) → AreLaid ps
+others_laid x ps laid = (
+  λ k l d less below. laid.0 (suc (suc k)) (suc (suc l)) d (omega (arith, less)) (omega (arith, below)),
+  clear_of_rest (zone_ends_of (fields_of x)) (zone_ends ps) (spans ps) (λ k d lt. laid.1 (suc (suc k)) d (omega (arith, lt))),
+)
+
+-- what the ends of all zones have, the end of one has
+in_ends : (P : ℕ → Type 0) (ps : List Part) (i : ℕ) (p : Part) → slice_get ps i ≡ Some p → All P (zone_ends ps) → All P (zone_ends (p ∷ []))
+in_ends P [] i p at all = absurd (cc)
+in_ends P (x ∷ ps) zero p at all =
+    subst (λ (y : Part). All P (zone_ends (y ∷ []))) (same_Some x p at)
+    (All-append P (zone_ends_of (fields_of x)) [] (All-front P (zone_ends_of (fields_of x)) (zone_ends ps) all) (All-nil P))
+in_ends P (x ∷ ps) (suc i) p at all = in_ends P ps i p at (All-rest P (zone_ends_of (fields_of x)) (zone_ends ps) all)
+
+-- the spans of one sandbox lie clear of the zone of another
+one_clear : (ps : List Part) (i j : ℕ) (p q : Part) → AreClear (zone_ends ps) (spans ps) → slice_get ps i ≡ Some p → slice_get ps j ≡ Some q → AreClear (zone_ends (p ∷ [])) (spans (q ∷ []))
+one_clear ps i j p q clear at there =
+    in_spans (λ (s : Span). All (λ end. IsClear end s) (zone_ends (p ∷ []))) ps j q there (λ k d lt. in_ends (λ end. IsClear end (get_or (spans ps) k d)) ps i p at (clear k d lt))
+
 -- the first sandbox and a later one
-first_apart : (x : Part) (ps : List Part) (i : ℕ) (p : Part) → AllPairs AreApart (spans (x ∷ ps)) → slice_get ps i ≡ Some p → SpansApart x p
-first_apart x ps i p pairs at =
+first_apart : (x : Part) (ps : List Part) (i : ℕ) (p : Part) → AreLaid (x ∷ ps) → slice_get ps i ≡ Some p → SpansApart x p
+first_apart x ps i p laid at =
+    let pairs = laid.0 in
     let code : All (AreApart (code_region x)) (spans ps) = λ k d below. pairs 0 (suc (suc k)) d (omega arith) (omega (arith, below)) in
     let guarded : All (AreApart (guarded_region x)) (spans ps) = λ k d below. pairs 1 (suc (suc k)) d (omega arith) (omega (arith, below)) in
     let of_code = in_spans (AreApart (code_region x)) ps i p at code in
@@ -73,6 +106,8 @@ first_apart x ps i p pairs at =
       code_guarded = second (AreApart (code_region x)) p of_code;
       guarded_code = first (AreApart (guarded_region x)) p of_guarded;
       guarded_guarded = second (AreApart (guarded_region x)) p of_guarded;
+      clear = one_clear (x ∷ ps) 0 (suc i) x p laid.1 refl at;
+      other_clear = one_clear (x ∷ ps) (suc i) 0 p x laid.1 at refl;
     }
 
 turned : (p q : Part) → SpansApart p q → SpansApart q p
@@ -81,18 +116,20 @@ turned p q apart = record {
   code_guarded = λ a there here. apart.guarded_code a here there;
   guarded_code = λ a there here. apart.code_guarded a here there;
   guarded_guarded = λ a there here. apart.guarded_guarded a here there;
+  clear = apart.other_clear;
+  other_clear = apart.clear;
 }
 
-any_apart : (ps : List Part) (i j : ℕ) (p q : Part) → AllPairs AreApart (spans ps) → i ≢ j → slice_get ps i ≡ Some p → slice_get ps j ≡ Some q → SpansApart p q
+any_apart : (ps : List Part) (i j : ℕ) (p q : Part) → AreLaid ps → i ≢ j → slice_get ps i ≡ Some p → slice_get ps j ≡ Some q → SpansApart p q
 any_apart [] i j p q pairs ne at there = absurd (cc)
 any_apart (x ∷ ps) zero zero p q pairs ne at there = absurd (ne refl)
 any_apart (x ∷ ps) zero (suc j) p q pairs ne at there = subst (λ (y : Part). SpansApart y q) (same_Some x p at) (first_apart x ps j q pairs there)
 any_apart (x ∷ ps) (suc i) zero p q pairs ne at there = subst (λ (y : Part). SpansApart p y) (same_Some x q there) (turned x p (first_apart x ps i p pairs at))
 any_apart (x ∷ ps) (suc i) (suc j) p q pairs ne at there =
-    any_apart ps i j p q (λ k l d less below. pairs (suc (suc k)) (suc (suc l)) d (omega (arith, less)) (omega (arith, below))) (λ e. ne (ap suc e)) at there
+    any_apart ps i j p q (others_laid x ps pairs) (λ e. ne (ap suc e)) at there
 
 pub right_are_beside : RightAreBeside
-right_are_beside ps i j p q right ne at there = are_beside p q (any_apart ps i j p q right.apart ne at there)
+right_are_beside ps i j p q right ne at there = are_beside p q (any_apart ps i j p q (right.apart, right.clear) ne at there)
 
 -- ---- changes by others
 

@@ -1,11 +1,12 @@
 -- Layouts and clean images at another place, and beside one another.
-use Rattle.std.proofs.Common.{suc, List, [], ◌∷◌, ◌++◌, get_or, sym, subst, arith, ◌≡◌, ℕ, ◌+◌, ◌*◌, ◌%◌, ◌<◌, ◌≤◌, length, map, refl, ◌∙◌}
+use Rattle.std.proofs.Common.{suc, List, [], ◌∷◌, ◌++◌, get_or, sym, subst, subst₂, arith, ◌≡◌, ℕ, ◌+◌, ◌*◌, ◌%◌, ◌<◌, ◌≤◌, length, map, refl, ◌∙◌}
 use Rattle.std.specs.List.{All, AllPairs}
 use Rattle.std.proofs.lemmas.Grind.{flat_map-append}
 use Rattle.std.proofs.lemmas.List.Elements.{All-head, All-tail, All-append, All-map}
 use Rattle.std.proofs.lemmas.List.Kept.{AllPairs-cons}
 use Rattle.sfi_image.specs.declared.span.Span.{Span}
-use Rattle.sfi_image.specs.Spelling.{Part, fields_of, AreApart, spans, spans_of, IsWord, code_region}
+use Rattle.sfi_image.specs.Spelling.{Part, fields_of, AreApart, AreClear, zone_ends, zone_ends_of, spans, spans_of, IsWord, code_region}
+use Rattle.sfi_image.proofs.ClearZones.{clear_of_both, clear_of_front, both_clear}
 use Rattle.sfi_image.specs.Parts.{IsRightPart, IsBundleStart, IsCodeRegion}
 use Rattle.sfi_safe_runs.specs.Safety.{RunsSafely}
 use Rattle.sfi_safe_runs.specs.Calling.{CallsTyped}
@@ -30,28 +31,58 @@ both (x ∷ xs) ys a b cross =
     (All-append (AreApart x) xs ys (λ k d below. a 0 (suc k) d (omega arith) (omega (arith, below))) (All-head (λ (s : Span). All (λ (t : Span). AreApart s t) ys) x xs cross))
     (both xs ys (λ i j d less below. a (suc i) (suc j) d (omega (arith, less)) (omega (arith, below))) b (All-tail (λ (s : Span). All (λ (t : Span). AreApart s t) ys) x xs cross))
 
+spans_of_both : (ps qs : List Part) → spans (ps ++ qs) ≡ spans ps ++ spans qs
+spans_of_both ps qs = flat_map-append (λ (p : Part). spans_of (fields_of p)) ps qs
+
 pub beside_is_as_one : BesideIsAsOne
 beside_is_as_one ps qs a b cross = (
   record {
     each = All-append IsRightPart ps qs a.layout.right.each b.layout.right.each;
-    apart = subst (λ (l : List Span). AllPairs AreApart l) (sym (flat_map-append (λ (p : Part). spans_of (fields_of p)) ps qs)) (both (spans ps) (spans qs) a.layout.right.apart b.layout.right.apart cross);
+    apart = subst (λ (l : List Span). AllPairs AreApart l) (sym (spans_of_both ps qs)) (both (spans ps) (spans qs) a.layout.right.apart b.layout.right.apart cross.apart);
+    clear = subst₂ AreClear (sym (flat_map-append (λ (p : Part). zone_ends_of (fields_of p)) ps qs)) (sym (spans_of_both ps qs))
+        (both_clear (zone_ends ps ++ zone_ends qs) (spans ps) (spans qs)
+        (clear_of_both (zone_ends ps) (zone_ends qs) (spans ps) a.layout.right.clear cross.other_clear)
+        (clear_of_both (zone_ends ps) (zone_ends qs) (spans qs) cross.clear b.layout.right.clear));
   },
   record { each = All-append RunsSafely ps qs (all_safe ps a).each (all_safe qs b).each },
   record { each = All-append CallsTyped ps qs (all_call ps a).each (all_call qs b).each },
 )
 
-one_with_all : (p : Part) (qs : List Part) → All (λ (q : Part). AreBeside (p ∷ []) (q ∷ [])) qs → All (λ (s : Span). All (λ (t : Span). AreApart s t) (spans qs)) (spans_of (fields_of p))
+-- the spans of the second lie apart from those of one of the first
+one_with_all : (p : Part) (qs : List Part) → All (λ (q : Part). All (λ (s : Span). All (AreApart s) (spans (q ∷ []))) (spans (p ∷ []))) qs → All (λ (s : Span). All (AreApart s) (spans qs)) (spans_of (fields_of p))
 one_with_all p [] h = λ k d below. λ i e less. absurd (omega arith)
 one_with_all p (q ∷ qs) h = λ k d below.
     All-append (AreApart (get_or (spans_of (fields_of p)) k d)) (spans_of (fields_of q)) (spans qs)
-    (All-head (λ (o : Part). AreBeside (p ∷ []) (o ∷ [])) q qs h k d below) (one_with_all p qs (All-tail (λ (o : Part). AreBeside (p ∷ []) (o ∷ [])) q qs h) k d below)
+    (All-head (λ (o : Part). All (λ (s : Span). All (AreApart s) (spans (o ∷ []))) (spans (p ∷ []))) q qs h k d below)
+    (one_with_all p qs (All-tail (λ (o : Part). All (λ (s : Span). All (AreApart s) (spans (o ∷ []))) (spans (p ∷ []))) q qs h) k d below)
+
+all_with_all : (ps qs : List Part) → All (λ (p : Part). All (λ (q : Part). All (λ (s : Span). All (AreApart s) (spans (q ∷ []))) (spans (p ∷ []))) qs) ps → All (λ (s : Span). All (AreApart s) (spans qs)) (spans ps)
+all_with_all [] qs h = λ k d below. absurd (omega arith)
+all_with_all (p ∷ ps) qs h =
+    let P : Part → Type 0 = λ (o : Part). All (λ (q : Part). All (λ (s : Span). All (AreApart s) (spans (q ∷ []))) (spans (o ∷ []))) qs in
+    All-append (λ (s : Span). All (AreApart s) (spans qs)) (spans_of (fields_of p)) (spans ps)
+    (one_with_all p qs (All-head P p ps h)) (all_with_all ps qs (All-tail P p ps h))
+
+-- the spans of the second lie clear of the zones of one of the first
+one_clear : (p : Part) (qs : List Part) → All (λ (q : Part). AreClear (zone_ends (p ∷ [])) (spans (q ∷ []))) qs → AreClear (zone_ends_of (fields_of p)) (spans qs)
+one_clear p [] h = λ k d below. absurd (omega arith)
+one_clear p (q ∷ qs) h =
+    let P : Part → Type 0 = λ (o : Part). AreClear (zone_ends (p ∷ [])) (spans (o ∷ [])) in
+    both_clear (zone_ends_of (fields_of p)) (spans_of (fields_of q)) (spans qs)
+    (clear_of_front (zone_ends_of (fields_of p)) [] (spans (q ∷ [])) (All-head P q qs h)) (one_clear p qs (All-tail P q qs h))
+
+all_clear : (ps qs : List Part) → All (λ (p : Part). All (λ (q : Part). AreClear (zone_ends (p ∷ [])) (spans (q ∷ []))) qs) ps → AreClear (zone_ends ps) (spans qs)
+all_clear [] qs h = λ k d below. λ i e less. absurd (omega arith)
+all_clear (p ∷ ps) qs h =
+    let P : Part → Type 0 = λ (o : Part). All (λ (q : Part). AreClear (zone_ends (o ∷ [])) (spans (q ∷ []))) qs in
+    clear_of_both (zone_ends_of (fields_of p)) (zone_ends ps) (spans qs) (one_clear p qs (All-head P p ps h)) (all_clear ps qs (All-tail P p ps h))
 
 pub beside_by_pairs : BesideByPairs
-beside_by_pairs [] qs h = λ k d below. absurd (omega arith)
-beside_by_pairs (p ∷ ps) qs h =
-    let P : Part → Type 0 = λ (o : Part). All (λ (q : Part). AreBeside (o ∷ []) (q ∷ [])) qs in
-    All-append (λ (s : Span). All (λ (t : Span). AreApart s t) (spans qs)) (spans_of (fields_of p)) (spans ps)
-    (one_with_all p qs (All-head P p ps h)) (beside_by_pairs ps qs (All-tail P p ps h))
+beside_by_pairs ps qs h = record {
+  apart = all_with_all ps qs (λ k d lt i e less. (h k d lt i e less).apart);
+  clear = all_clear ps qs (λ k d lt i e less. (h k d lt i e less).clear);
+  other_clear = all_clear qs ps (λ i e less k d lt. (h k d lt i e less).other_clear);
+}
 
 -- ==== The layout's tests at another place, and an image there.
 
@@ -83,11 +114,13 @@ module _ (code data_at : ℕ) (p : Part) (right : IsRightPart p) (address : IsWo
       (ascending gs (All-tail (λ (g : Gate). IsBundleStart (code_region p) g.address) g gs starts) (λ i j d less below. pairs (suc i) (suc j) d (omega (arith, less)) (omega (arith, below))))
 
 pub moved_is_right : MovedIsRight
-moved_is_right code data_at p right address region data_region room = record {
+moved_is_right code data_at p right address region data_region one_bit room zone_room = record {
   code_base = address;
   code_placed = region;
   data_placed = data_region;
+  one_bit = one_bit;
   guard_room = room;
+  zone_room = zone_room;
   start = start_moves code data_at p right address region p.start right.start;
   gate_count = subst (λ (n : ℕ). n ≤ gates_most) (sym (length-map p.gates (moved_gate p.code_base code))) right.gate_count;
   init_len = right.init_len;

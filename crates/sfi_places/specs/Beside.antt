@@ -2,7 +2,7 @@
 use Rattle.std.specs.Prelude.{◌≡◌, ◌≢◌, ℕ, List, [], ◌∷◌, ◌++◌, Some, slice_get}
 use Rattle.std.specs.List.{All}
 use Rattle.sfi_image.specs.declared.span.Span.{Span}
-use Rattle.sfi_image.specs.Spelling.{Part, Holds, AreApart, spans, code_region, guarded_region}
+use Rattle.sfi_image.specs.Spelling.{Part, Holds, AreApart, AreClear, spans, zone_ends, code_region, guarded_region}
 use Rattle.sfi_image.specs.Parts.{AreRight}
 use Rattle.rv_mem.specs.Bytes.{Bytes, byte_at}
 use Rattle.rv_step.specs.State.{Hart, State}
@@ -12,9 +12,12 @@ use Rattle.sfi_safe_runs.specs.Safety.{AllRunSafely, RunsSafelyFromAs}
 use Rattle.sfi_safe_runs.specs.Calling.{AllCallTyped}
 use Rattle.sfi_safety.specs.Clean.{IsClean}
 
--- no code region and no data with its guard zones of the first image meets one of the second
-abbrev pub AreBeside : List Part → List Part → Type 0
-AreBeside ps qs = All (λ (s : Span). All (λ (t : Span). AreApart s t) (spans qs)) (spans ps)
+-- no code region and no data with its guard zones of the first image meets one of the second, nor a
+-- zone at zero of the other
+pub record AreBeside (ps qs : List Part) : Type 0 where
+  pub apart : All (λ (s : Span). All (λ (t : Span). AreApart s t) (spans qs)) (spans ps)
+  pub clear : AreClear (zone_ends ps) (spans qs)
+  pub other_clear : AreClear (zone_ends qs) (spans ps)
 
 -- all that a world asks of the sandboxes of one clean image holds of those of two clean images that
 -- lie beside one another: each passes its tests, no two of all their spans meet, each runs safely,

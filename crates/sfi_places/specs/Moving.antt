@@ -3,8 +3,8 @@ use Rattle.std.specs.Prelude.{◌≡◌, ◌⊎◌, ◌-◌, ◌+◌, ℕ, List,
 use Rattle.sfi_image.specs.declared.fields.Fields.{Fields}
 use Rattle.sfi_image.specs.declared.part.Gate.{Gate}
 use Rattle.sfi_image.specs.declared.span.Span.{Span}
-use Rattle.sfi_image.specs.Spelling.{Part, IsWord, spelling, fields_of, code_span, data_span}
-use Rattle.sfi_image.specs.Parts.{IsRightPart, IsRightLayout, IsCodeRegion, IsDataRegion, HasGuardRoom, IsImage}
+use Rattle.sfi_image.specs.Spelling.{Part, IsWord, spelling, fields_of, code_span, data_span, code_region, data_region}
+use Rattle.sfi_image.specs.Parts.{IsRightPart, IsRightLayout, IsCodeRegion, IsDataRegion, IsMaskedBase, HasGuardRoom, HasZoneRoom, IsImage}
 use Rattle.sfi_safety.specs.Clean.{IsAccepted}
 use Rattle.sfi_rules.specs.declared.finding.Finding.{Finding}
 use Rattle.sfi_rules.specs.Findings.{AreFindings}
@@ -62,7 +62,9 @@ abbrev pub MovedIsRight : Type 0
 MovedIsRight =
     (code data_at : ℕ) (p : Part) → IsRightPart p → IsWord code
     → IsCodeRegion p.format code (length p.code) → IsDataRegion p.format data_at p.data_size
-    → HasGuardRoom data_at p.data_size → IsRightPart (moved code data_at p)
+    → IsMaskedBase p.format data_at p.data_size → HasGuardRoom data_at p.data_size
+    → HasZoneRoom p.format (code_region (moved code data_at p)) (data_region (moved code data_at p))
+    → IsRightPart (moved code data_at p)
 
 -- ---- of an image
 

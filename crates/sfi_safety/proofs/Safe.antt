@@ -18,6 +18,7 @@ use Rattle.sfi_word_safety.proofs.Effects.{Leads as WordLeads}
 use Rattle.sfi_word_safety.proofs.Facts.{turn_keeps as words_turn_keeps}
 use Rattle.sfi_word_safety.proofs.Stepping.{only, step_leads as word_step_leads, place_replied, good_calls as good_words_call}
 use Rattle.sfi_rules.proofs.Facts.{in_bundles, in_words}
+use Rattle.sfi_image.proofs.ClearZones.{others_right}
 use Rattle.sfi_word_safety.specs.Code as words
 use Rattle.sfi_word_safety.proofs.Facts as words_facts
 
@@ -162,12 +163,6 @@ clean_calls sandbox p clean = clean_calls_as plain sandbox p tt clean
 -- the first sandbox's code lies apart from its data and guards, and the others are right too
 first_apart : (p : Part) (ps : List Part) → AreRight (p ∷ ps) → AreApart (code_region p) (guarded_region p)
 first_apart p ps right = right.apart 0 1 (code_region p) (omega arith) (omega arith)
-
-others_right : (p : Part) (ps : List Part) → AreRight (p ∷ ps) → AreRight ps
-others_right p ps right = record {
-  each = λ k d below. right.each (suc k) d (omega (arith, below));
-  apart = λ i j d less below. right.apart (suc (suc i)) (suc (suc j)) d (omega (arith, less)) (omega (arith, below));
-}
 
 -- what holds of every sandbox without a finding holds of each
 each_clean : (Q : Part → Type 0) → ((sandbox : ℕ) (p : Part) → IsCleanPart sandbox p → Q p) → (sandbox : ℕ) (ps : List Part) (found : List Finding) → AreRight ps → found ≡ [] → AreFindingsFrom sandbox ps found → All Q ps

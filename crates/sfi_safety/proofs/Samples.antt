@@ -11,6 +11,8 @@ use Rattle.sfi_safe_runs.proofs.Stepping.{read_all}
 use Rattle.sfi_rules.proofs.Findings.{of_bundles}
 use Rattle.std.specs.Prelude.{MatchBool}
 use Rattle.sfi_image.specs.Parts.{reserved_of}
+use Rattle.sfi_image.specs.Spelling.{spans, data_region}
+use Rattle.sfi_image.proofs.ClearZones.{no_one_bit, no_zone_room, clear_of_no_zones}
 
 -- ---- the samples' layout
 
@@ -75,7 +77,9 @@ module _ (s : Sample) (is : IsSample s) where
         code_base = omega arith;
         code_placed = record { power = 8; size_is = size; at_least = omega (arith, size); at_most = omega (arith, size, code_at_least s.format); multiple = 65536; base_is = sym (ap (λ (n : ℕ). 65536 * n) size) };
         data_placed = record { power = 8; size_is = refl; at_least = omega arith; at_most = omega (arith, data_at_least s.format); multiple = 98304; base_is = refl };
+        one_bit = no_one_bit s.format 0x01800000 256;
         guard_room = record { below = omega arith; above = omega arith };
+        zone_room = no_zone_room s.format (code_region (sandbox s)) (data_region (sandbox s));
         start = record { held = (omega arith, omega (arith, size)); aligned = refl };
         gate_count = few;
         init_len = omega arith;
@@ -98,7 +102,7 @@ module _ (s : Sample) (is : IsSample s) where
     at_least_one = omega arith;
     at_most = omega arith;
     one_format = one;
-    right = record { each = only; apart = pairs_apart };
+    right = record { each = only; apart = pairs_apart; clear = clear_of_no_zones (sandbox s ∷ []) (spans (sandbox s ∷ [])) };
   }
     where
       one : AreOf s.format (sandbox s ∷ [])

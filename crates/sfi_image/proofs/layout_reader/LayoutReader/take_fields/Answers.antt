@@ -1,7 +1,7 @@
-use Rattle.sfi_image.proofs.Prelude.{ap, length, refl, sym, subst, arith, List, None, Some, All, AllPairs, Span, fields, AreApart, IsBounded, IsFirstFault, field_tests, length_push}
+use Rattle.sfi_image.proofs.Prelude.{◌∙◌, ap, length, refl, sym, subst, arith, Some, All, AllPairs, fields, AreApart, IsBounded, length_push}
 use Rattle.sfi_image.proofs.Tests.{two_pushed, two_spans}
 use Rattle.sfi_image.proofs.Places.{fields_next}
-use Rattle.sfi_image.proofs.Steps.{fields_leads, fields_fault, no_rest}
+use Rattle.sfi_image.proofs.Steps.{AfterSpans, fields_leads, fields_fault, no_rest}
 use Rattle.sfi_image.proofs.layout_reader.LayoutReader.take_fields.Goals as goal
 
 pub spans_after-requires-clause-bounded : goal.spans_after-requires-clause-bounded
@@ -12,7 +12,7 @@ spans_after-requires-clause-apart c = subst (AllPairs AreApart) (sym c.as_slice.
 
 pub returns-in-Err-clause-takes : goal.returns-in-Err-clause-takes
 returns-in-Err-clause-takes c =
-    let wrong = subst (λ (b : List Span). IsFirstFault b c.fields_at.result.0 field_tests (Some c.in-Err.fault)) c.as_slice.ensures c.in-Err.ensures.fault in (
+    let wrong : AfterSpans c.args.self.now c.fields_at.result.0 (Some c.in-Err.fault) = λ ps of is. c.in-Err.ensures.fault ps of (c.as_slice.ensures ∙ is) in (
       refl,
       λ x h. fields_fault c.args.self.now x c.args.bytes.now c.fields_at.result.0 c.in-Err.fault h c.requires.next
           (no_rest c.args.bytes.now (fields c.fields_at.result.0) _ c.fields_at.ensures.front (omega (arith, c.fields_at.ensures.len, c.requires.len))) c.fields_at.ensures.words c.fields_at.ensures.format wrong,
@@ -36,5 +36,5 @@ returns-clause-takes c =
     let old = c.args.self.now in
     λ x h. fields_leads old _ x c.args.bytes.now c.fields_at.result.0 h c.requires.next
     (no_rest c.args.bytes.now (fields c.fields_at.result.0) _ c.fields_at.ensures.front (omega (arith, c.fields_at.ensures.len, c.requires.len))) c.fields_at.ensures.words c.fields_at.ensures.format
-    (subst (λ (b : List Span). IsFirstFault b c.fields_at.result.0 field_tests None) c.as_slice.ensures c.in-Ok.ensures.passed) refl refl
+    (λ ps of is. c.in-Ok.ensures.passed ps of (c.as_slice.ensures ∙ is)) refl refl
     (two_pushed old.spans c.push.new.self c.push-2.new.self _ _ _ c.push.ensures c.push-2.ensures (two_spans _ _ c.fields_at.result.0 c.in-Ok.ensures.code c.in-Ok.ensures.guarded)) refl c.clear.ensures refl refl refl c.stage_after_gates-self.ensures

@@ -1,0 +1,73 @@
+//! Zones at zero, of formats whose mask of data has one step: that all spans lie clear of them.
+ghost use Rattle.std.specs.Prelude.{◌≡◌, ◌≤◌, ◌++◌, ◌-◌, ◌↔◌, ◌∷◌, [], ℕ, IsTrue};
+ghost use Rattle.std.specs.List.{All};
+ghost use Rattle.sfi_formats.specs.Limits.{guard};
+ghost use Rattle.sfi_image.specs.Sources.{IsBounded};
+ghost use Rattle.sfi_image.specs.Spelling.{IsClear, AreClear, zone_end};
+ghost use Rattle.sfi_image.specs.private.{ends_below};
+
+use crate::fields::{GUARD, TOP};
+use crate::span::Span;
+
+/// Where the zone at zero of data of this size ends.
+pub(crate) fn zone_end(size: u32) -> u64
+    ensures { result ≡ zone_end size }
+{
+    u64::from(size) + GUARD
+}
+
+/// Where the zone at zero ends of data that with a guard zone on each side have this span.
+fn zone_end_of(guarded: Span) -> u64
+    ensures { result ≡ guarded.size - guard }
+{
+    guarded.size.saturating_sub(GUARD)
+}
+
+/// Where the largest zone at zero ends, of sandboxes with these spans: a code region and a data region
+/// with its guard zones of each. It is 0 where there are none.
+fn largest_end(spans: &[Span]) -> u64
+    ensures { (most : ℕ) → (result ≤ most) ↔ All (λ end. end ≤ most) (ends_below spans.now) }
+{
+    let mut largest = 0;
+    for number in 0..spans.len() / 2 {
+        largest = largest.max(zone_end_of(spans[2 * number + 1]));
+    }
+    largest
+}
+
+/// Whether the span lies clear of a zone at zero that ends there.
+fn is_clear(end: u64, span: Span) -> bool
+    requires { IsBounded span }
+    ensures { IsTrue result ↔ IsClear end span }
+{
+    end <= span.base && span.base + span.size <= TOP - GUARD
+}
+
+/// Whether each of the spans does.
+fn are_clear(end: u64, spans: &[Span]) -> bool
+    requires { All IsBounded spans.now }
+    ensures { IsTrue result ↔ All (λ s. IsClear end s) spans.now }
+{
+    for span in spans {
+        if !is_clear(end, *span) {
+            return false;
+        }
+    }
+    true
+}
+
+/// Whether the spans `before`, of sandboxes, and the spans `code` and `guarded` of another one, lie
+/// clear of the zones at zero of all these.
+pub(crate) fn are_clear_of_zones(before: &[Span], code: Span, guarded: Span) -> bool
+    requires bounded { All IsBounded before.now }
+    requires code { IsBounded code }
+    requires guarded { IsBounded guarded }
+    ensures { IsTrue result ↔ AreClear (ends_below before.now ++ (guarded.size - guard) ∷ [])
+        (before.now ++ code ∷ guarded ∷ []) }
+{
+    let end = largest_end(before).max(zone_end_of(guarded));
+    if !is_clear(end, code) || !is_clear(end, guarded) {
+        return false;
+    }
+    are_clear(end, before)
+}
