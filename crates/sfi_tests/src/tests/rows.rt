@@ -318,11 +318,6 @@ fn typed_limits(rt: HostRuntime) -> Result<(), Fail> {
 }
 
 #[test]
-fn largest_code(rt: HostRuntime) -> Result<(), Fail> {
-    try_rows(&rt, rt.alloc(), typed::LARGEST)
-}
-
-#[test]
 fn text_limits(rt: HostRuntime) -> Result<(), Fail> {
     try_rows(&rt, rt.alloc(), builds::LIMITS)?;
     try_rows(&rt, rt.alloc(), builds::LISTED)

@@ -225,12 +225,6 @@ put 0 53464957; $ sfi check; $ sfi check --raw
 = x2 owed and not used; put 12 00200000; end 36 512 93821200938212009382120013014100; put 8212 73001000730010007300100073001000; > refused findings=511 first=V10 sandbox=0 at=01000010
 ";
 
-/// The largest code.
-pub(super) const LARGEST: &str = "1 commands
-put 0 53464957; $ sfi check --raw
-= code of 16777216 bytes; put 12 00000001; put 16 00000003; end 36 4194304 73001000; > accepted sandboxes=1 bundles=1048576
-";
-
 /// Runs.
 pub(super) const RUNS: &str = "32 commands
 put 0 53464957; $ sfi run; $ sfi run --rounds 1000 --quantum 1
