@@ -110,7 +110,7 @@ class CheckerFile(testing.Folder):
 
     def compare_moved(self, library, data, number, part):
         """Its bases, start, gates and names at another place, as docs/IMAGE.md has them in the bytes."""
-        code_base, data_base = 0x60000000, 0x70000000
+        code_base, data_base = 0xE0000000, 0xF0000000 if part.data_size < 1 << 28 else 0x80000000
         front = part.code_offset - 28 - 8 * len(part.gates)
         wanted = bytearray(data)
         places = [(front, code_base), (front + 8, data_base), (front + 16, part.start - part.code_base + code_base)]
