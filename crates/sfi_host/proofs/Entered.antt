@@ -1,5 +1,8 @@
 -- An image in a memory: its sandboxes one after another, and what is where.
 use Rattle.sfi_host.proofs.Prelude.{◌≡◌, ℕ, suc, ◌+◌, ◌<◌, List, [], ◌∷◌, ◌++◌, length, map, get_or, drop, Some, slice_get, sym, ap, ◌∙◌, subst, arith, append_assoc, append-nil, map-append, length-map, Format, Bytes, Part, IsRightPart, IsRightLayout, Sandbox, first_seat, with_part, with_parts, seat_of, seats_of, Seat, ◌≢◌, zero, ◌-◌, ◌%◌, ◌^◌, ◌≤◌, ◌==◌, ◌⊎◌, inl, inr, ⊎_elim, true, false, refl, length-append, length-replicate, get_or_from_slice_get, slice_get_within, slice_index, replicate, Contains, AllPairs, cases_lt, eqb-true, eqb-false, byte_at, addresses, with_bytes, added, Span, Holds, AreApart, code_region, guarded_region, spans, InCode, InData, InGuard, first_data}
+use Rattle.sfi_safe_runs.proofs.Stepping as stepping
+use Rattle.sfi_formats.proofs.Formats.{two_steps}
+use Rattle.sfi_safe_runs.proofs.Stepping.{guarded}
 use Rattle.sfi_host.specs.Modules.{part_of, parts_of}
 use Rattle.sfi_host.specs.declared.modules.ModulePart.{ModulePart}
 use Rattle.std.proofs.Math.ListN.{get_or-map, get_or-append}
@@ -135,15 +138,13 @@ abbrev region : ℕ → ℕ → Span
 region base size = record { base = base; size = size }
 
 pub guard_in : (p : Part) (a : ℕ) → IsRightPart p → InGuard p a → Holds (guarded_region p) a
-guard_in p a right (inl low) = let room : 4096 ≤ p.data_base = right.guard_room.below in (omega arith, omega arith)
-guard_in p a right (inr high) = let room : 4096 ≤ p.data_base = right.guard_room.below in (omega arith, omega arith)
+guard_in p a right guard = guarded p a (two_steps p.format) right (inr guard)
 
 pub data_guarded : (p : Part) (a : ℕ) → IsRightPart p → InData p a → Holds (guarded_region p) a
 data_guarded p a right h = let room : 4096 ≤ p.data_base = right.guard_room.below in (omega arith, omega arith)
 
 pub guard_not_data : (p : Part) (a : ℕ) → IsRightPart p → InGuard p a → InData p a → ⊥
-guard_not_data p a right (inl low) h = let room : 4096 ≤ p.data_base = right.guard_room.below in omega arith
-guard_not_data p a right (inr high) h = omega arith
+guard_not_data p a right guard h = stepping.guard_not_data p a right guard h
 
 at_region : (base size a : ℕ) → base + size ≤ 2 ^ 32 → Contains (addresses base size) a → Holds (region base size) a
 at_region base size a fits c =

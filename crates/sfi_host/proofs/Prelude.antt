@@ -16,7 +16,7 @@ pub use Rattle.rv_step.specs.Rows.{LeadTo}
 pub use Rattle.rv_step.specs.declared.outcome.Outcome.{Outcome}
 pub use Rattle.sfi_formats.specs.declared.format.Format.{Format}
 pub use Rattle.sfi_image.specs.Parts.{IsRightPart, IsRightLayout}
-pub use Rattle.sfi_image.specs.Spelling.{Holds, code_region, AreApart, guarded_region, spans, with_guards, InGuards, Part, view, views}
+pub use Rattle.sfi_image.specs.Spelling.{Holds, code_region, AreApart, guarded_region, spans, with_guards, InZones, Part, view, views}
 pub use Rattle.sfi_image.specs.declared.span.Span.{Span}
 pub use Rattle.sfi_safe_runs.specs.Runs.{InCode, HasCode, InData, InGuard, StaysOutside, IsGate, IsChange, IsEntry, IsReply, IsTurn, Steps, Replies, Changes, KeepsBytes, IsRun, KeepsReserved}
 pub use Rattle.sfi_safe_runs.specs.Safety.{AllRunSafely, IsSafeState, IsSafeTurn, IsSafeRun, IsSafeStep, IsTrap, RunsSafely}

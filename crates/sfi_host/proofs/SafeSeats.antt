@@ -1,5 +1,5 @@
 -- What leaves a sandbox safe.
-use Rattle.sfi_host.proofs.Prelude.{◌≡◌, ◌≢◌, ℕ, ◌+◌, ◌^◌, ◌<◌, ◌≤◌, List, [], length, true, refl, sym, ap, ◌∙◌, subst, arith, get_or-set_other, slice_index, slice_set, Ecall, Bytes, IsMemory, byte_at, address_after, Hart, IsHart, IsState, past, Stands, Part, Holds, InGuards, AreApart, with_guards, code_region, guarded_region, InCode, InData, InGuard, IsEntry, Replies, Changes, KeepsBytes, KeepsReserved, IsReply, GoesSafelyFrom, Ready, IsEnterable, IsWhole, Bounds, bounds_of, one_more, Way, Replied, Exit, word, with_arguments, after_way, status_after, Seat, state_in, IsSafeSeat, StaysOutside, StaysSafe}
+use Rattle.sfi_host.proofs.Prelude.{◌≡◌, ◌≢◌, ℕ, ◌+◌, ◌^◌, ◌<◌, ◌≤◌, List, [], length, true, refl, sym, ap, ◌∙◌, subst, arith, get_or-set_other, slice_index, slice_set, Ecall, Bytes, IsMemory, byte_at, address_after, Hart, IsHart, IsState, past, Stands, Part, Holds, InZones, AreApart, with_guards, code_region, guarded_region, InCode, InData, InGuard, IsEntry, Replies, Changes, KeepsBytes, KeepsReserved, IsReply, GoesSafelyFrom, Ready, IsEnterable, IsWhole, Bounds, bounds_of, one_more, Way, Replied, Exit, word, with_arguments, after_way, status_after, Seat, state_in, IsSafeSeat, StaysOutside, StaysSafe}
 use Rattle.sfi_host.specs.Hosts.{a0_register, a1_register}
 use Rattle.sfi_host.specs.Laws.{CallsAreTyped, AnswersAreReplies}
 use Rattle.sfi_host.specs.Worlds.{StoppedItself}
@@ -59,7 +59,7 @@ module _ (m : Bytes) (s : Seat) (seat : IsSafeSeat m s) where
     code_in a inside = subst (λ (b : Bounds). Holds b.code a) (sym is) inside
 
     pub guard_mine : (a : ℕ) → InGuard p a → InGuard seat.part a
-    guard_mine a guard = subst (λ (b : Bounds). InGuards b.data a) (sym is ∙ seat.bounds) guard
+    guard_mine a guard = subst (λ (b : Bounds). InZones b.format b.data a) (sym is ∙ seat.bounds) guard
 
     pub guard_guarded : (a : ℕ) → InGuard p a → Holds (with_guards s.bounds.data) a
     guard_guarded a guard = subst (λ (b : Bounds). Holds (with_guards b.data) a) (sym seat.bounds) (parts.guard_in seat.part a seat.right (guard_mine a guard))

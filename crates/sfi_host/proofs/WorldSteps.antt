@@ -1,5 +1,5 @@
 -- World steps of the sandboxes of a safe world are a run to each of them.
-use Rattle.sfi_host.proofs.Prelude.{◌≡◌, inl, inr, ℕ, ◌+◌, ◌<◌, List, [], ◌∷◌, length, Option, Some, None, slice_get, sym, ap, ◌∙◌, subst, ◌≢◌, ◌==◌, cond, true, false, ◌++◌, set, refl, Bytes, byte_at, State, Part, Holds, InGuards, InCode, InData, InGuard, IsGate, HasCode, Steps, Replies, Changes, KeepsBytes, IsTurn, IsRun, IsSafeState, IsSafeTurn, IsSafeRun, Bounds, bounds_of, Slot, eqb-true, eqb-false, same_Some, after_turns, Status, Ready, Reply, Machine, Seat, Sandboxes, slot_of, slots_of, state_in, IsSafeWorld, StaysSafe}
+use Rattle.sfi_host.proofs.Prelude.{◌≡◌, inl, inr, ℕ, ◌+◌, ◌<◌, List, [], ◌∷◌, length, Option, Some, None, slice_get, sym, ap, ◌∙◌, subst, ◌≢◌, ◌==◌, cond, true, false, ◌++◌, set, refl, Bytes, byte_at, State, Part, Holds, InZones, InCode, InData, InGuard, IsGate, HasCode, Steps, Replies, Changes, KeepsBytes, IsTurn, IsRun, IsSafeState, IsSafeTurn, IsSafeRun, Bounds, bounds_of, Slot, eqb-true, eqb-false, same_Some, after_turns, Status, Ready, Reply, Machine, Seat, Sandboxes, slot_of, slots_of, state_in, IsSafeWorld, StaysSafe}
 use Rattle.sfi_host.specs.WorldSteps.{StepsAlone, WorldStep, after_world_step, AreWorldSteps, own_turn, own_turns, turns_to, IsRunBetween, AreRuns, AreSafeRuns}
 use Rattle.sfi_image.specs.declared.part.Gate.{Gate}
 use Rattle.sfi_safe_runs.specs.Runs.{Turn, after_turn}
@@ -18,10 +18,10 @@ module _ (q p : Part) (same : bounds_of q ≡ bounds_of p) (m : Bytes) (there : 
   in_data a h = subst (λ (b : Bounds). Holds b.data a) same h
 
   in_guard : (a : ℕ) → InGuard q a → InGuard p a
-  in_guard a h = subst (λ (b : Bounds). InGuards b.data a) same h
+  in_guard a h = subst (λ (b : Bounds). InZones b.format b.data a) same h
 
   guard_in : (a : ℕ) → InGuard p a → InGuard q a
-  guard_in a h = subst (λ (b : Bounds). InGuards b.data a) (sym same) h
+  guard_in a h = subst (λ (b : Bounds). InZones b.format b.data a) (sym same) h
 
   is_gate : (a : ℕ) → IsGate q a → IsGate p a
   is_gate a h = subst (λ (b : Bounds). (k : ℕ) × (g : Gate) × (slice_get b.gates k ≡ Some g) × (g.address ≡ a)) same h

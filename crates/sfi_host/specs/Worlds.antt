@@ -9,7 +9,7 @@ use Rattle.rv_step.specs.declared.outcome.Cause.TheVariants as cause
 use Rattle.rv_step.specs.Step.{accessed, Stands, Stepped, IsStep}
 use Rattle.rv_step.specs.State.{State, Hart, IsState}
 use Rattle.sfi_image.specs.declared.part.Gate.{Gate}
-use Rattle.sfi_image.specs.Spelling.{Holds, InGuards, AreApart, with_guards, code_region, guarded_region, Part}
+use Rattle.sfi_image.specs.Spelling.{Holds, InZones, AreApart, with_guards, code_region, guarded_region, Part}
 use Rattle.sfi_host.specs.declared.status.Status.{Status}
 use Rattle.sfi_host.specs.declared.status.Status.TheVariants.{Ready, Exited, Trapped, Stopped}
 use Rattle.sfi_host.specs.Slots.{Bounds, bounds_of, own, Slot, state_of, bytes_in, IsWhole, span_of}
@@ -44,10 +44,10 @@ pub record TouchesGuard (b : Bounds) (s : State) (i : Instr) (at : ℕ) : Type 0
   pub is_at : IsAt b s i
   pub count : ℕ
   pub accesses : accessed i s.hart ≡ addresses at count
-  pub within : (a : ℕ) → Contains (addresses at count) a → Holds b.data a ⊎ InGuards b.data a
+  pub within : (a : ℕ) → Contains (addresses at count) a → Holds b.data a ⊎ InZones b.format b.data a
   pub address : ℕ
   pub among : Contains (addresses at count) address
-  pub guard : InGuards b.data address
+  pub guard : InZones b.format b.data address
 
 -- A sandbox with this status stopped by itself, if it has exited or trapped: it is at the ecall of
 -- one of its gates, at its ebreak, or at its load or store that touches a guard zone. No other trap

@@ -1,5 +1,7 @@
 -- The lines that a turn comes to are ready: an access lies in the data, or touches a guard zone.
-use Rattle.std.proofs.Common.{◌≡◌, ℕ, ◌+◌, ◌-◌, ◌%◌, ◌^◌, ◌<◌, ◌≤◌, ◌⊎◌, Bool, true, false, refl, sym, ap, subst, arith, inl, inr}
+use Rattle.std.proofs.Common.{◌≡◌, ℕ, ◌+◌, ◌-◌, ◌%◌, ◌^◌, ◌<◌, ◌≤◌, ◌⊎◌, Bool, true, false, refl, sym, ap, subst, arith, inl, inr, ◌∙◌}
+use Rattle.sfi_formats.proofs.Formats.{two_steps}
+use Rattle.std.proofs.lemmas.Bool.{false≢true}
 use Rattle.std.specs.Prelude.{ℤ, pos, negsuc, int_le, ◌+ℤ◌}
 use Rattle.std.proofs.lemmas.Int.{ints}
 use Rattle.rv_word.specs.Spelling.{IsImm12, offset_by}
@@ -57,8 +59,9 @@ module _ (base size value n : ℕ) (low : 4096 ≤ base) (high : base + size + 4
 
 around : (p : Part) (a : ℕ) → IsRightPart p → InData p a ⊎ InGuard p a → IsAround p.data_base p.data_size a
 around p a right (inl (from, below)) = (omega (arith, from), omega (arith, below))
-around p a right (inr (inl (from, below))) = (omega (arith, from, right.guard_room.below), omega (arith, below))
-around p a right (inr (inr (from, below))) = (omega (arith, from), omega (arith, below))
+around p a right (inr (inl (inl (from, below)))) = (omega (arith, from, right.guard_room.below), omega (arith, below))
+around p a right (inr (inl (inr (from, below)))) = (omega (arith, from), omega (arith, below))
+around p a right (inr (inr zone)) = absurd (false≢true (sym (two_steps p.format) ∙ zone.0))
 
 module _ (p : Part) (g : Going) (right : IsRightPart p) (same : fixed p g.state.hart ≡ g.state.hart) where
   -- an access to the data, or to a guard zone

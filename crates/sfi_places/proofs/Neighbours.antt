@@ -1,5 +1,6 @@
 -- Sandboxes beside one another, and that what one does to its own data is to the other a change by others.
-use Rattle.std.proofs.Common.{◌≡◌, ◌≢◌, ℕ, zero, suc, ◌+◌, ◌<◌, ◌≤◌, ◌⊎◌, List, [], ◌∷◌, length, get_or, Some, None, refl, sym, ap, ◌∙◌, subst, inl, inr, arith}
+use Rattle.std.proofs.Common.{◌≡◌, ◌≢◌, ℕ, zero, suc, ◌+◌, ◌<◌, ◌≤◌, ◌⊎◌, List, [], ◌∷◌, length, get_or, Some, None, refl, sym, ap, ◌∙◌, subst, inl, inr, arith, true}
+use Rattle.sfi_formats.specs.Formats.{has_one_step}
 use Rattle.std.specs.Prelude.{slice_get}
 use Rattle.std.specs.List.{All, AllPairs}
 use Rattle.std.proofs.lemmas.List.Elements.{All-head, All-tail, All-nil, All-append, All-from_recursion}
@@ -8,7 +9,7 @@ use Rattle.rv_step.specs.Step.{Stepped}
 use Rattle.sfi_image.specs.declared.span.Span.{Span}
 use Rattle.sfi_image.proofs.Tests.{All-front}
 use Rattle.sfi_image.proofs.ClearZones.{All-rest, clear_of_rest}
-use Rattle.sfi_image.specs.Spelling.{Part, fields_of, Holds, AreApart, IsClear, AreClear, zone_ends, zone_ends_of, spans, code_region, data_region, guarded_region}
+use Rattle.sfi_image.specs.Spelling.{Part, fields_of, Holds, AreApart, IsClear, AreClear, zone_ends, zone_ends_of, spans, code_region, data_region, guarded_region, InGuards, InZoneAtZero, zone_end}
 use Rattle.sfi_safe_runs.specs.Runs.{InGuard, Zones, Empty, Padded, Steps}
 use Rattle.sfi_safe_runs.specs.Safety.{writable_region}
 use Rattle.sfi_safe_runs.proofs.Facts.{safe_turns_as, changes_anyway}
@@ -133,9 +134,31 @@ right_are_beside ps i j p q right ne at there = are_beside p q (any_apart ps i j
 
 -- ---- changes by others
 
-guard_guarded : (p : Part) (a : ℕ) → InGuard p a → Holds (guarded_region p) a
-guard_guarded p a (inl (from, below)) = (omega arith, omega arith)
-guard_guarded p a (inr (from, below)) = (omega arith, omega arith)
+guards_guarded : (p : Part) (a : ℕ) → InGuards (data_region p) a → Holds (guarded_region p) a
+guards_guarded p a (inl (from, below)) = (omega arith, omega arith)
+guards_guarded p a (inr (from, below)) = (omega arith, omega arith)
+
+-- where the second sandbox has a zone at zero, the spans of the first lie clear of it
+both_clear : (p q : Part) → AreClear (zone_ends (q ∷ [])) (spans (p ∷ [])) → has_one_step q.format ≡ true → IsClear (zone_end q.data_size) (code_region p) × IsClear (zone_end q.data_size) (guarded_region p)
+both_clear p q clear one_step =
+    let ends : zone_ends (q ∷ []) ≡ zone_end q.data_size ∷ [] = rw (one_step) refl in
+    let all = subst (λ (es : List ℕ). AreClear es (spans (p ∷ []))) ends clear in (
+      All-head (λ end. IsClear end (code_region p)) (zone_end q.data_size) [] (first (λ (s : Span). All (λ end. IsClear end s) (zone_end q.data_size ∷ [])) p all),
+      All-head (λ end. IsClear end (guarded_region p)) (zone_end q.data_size) [] (second (λ (s : Span). All (λ end. IsClear end s) (zone_end q.data_size ∷ [])) p all),
+    )
+
+out_of_zone : (size a : ℕ) (s : Span) → IsClear (zone_end size) s → InZoneAtZero size a → Holds s a → ⊥
+out_of_zone size a s clear (inl low) held = omega (arith, held.0, clear.above)
+out_of_zone size a s clear (inr (high, word)) held = omega (arith, held.1, clear.below)
+
+-- a guard of the second lies outside the spans of the first
+guard_outside : (p q : Part) (a : ℕ) → SpansApart p q → InGuard q a → (Holds (code_region p) a → ⊥) × (Holds (guarded_region p) a → ⊥)
+guard_outside p q a apart (inl sides) =
+    let there = guards_guarded q a sides in
+    (λ own. apart.code_guarded a own there, λ own. apart.guarded_guarded a own there)
+guard_outside p q a apart (inr zone) =
+    let clear = both_clear p q apart.other_clear zone.0 in
+    (out_of_zone q.data_size a (code_region p) clear.0 zone.1, out_of_zone q.data_size a (guarded_region p) clear.1 zone.1)
 
 pub are_others : ChangesBesideAreOthers
 are_others p q h m n beside stays =
@@ -145,9 +168,7 @@ are_others p q h m n beside stays =
       registers = refl;
       bytes = record {
         code = λ a inside. stays a (λ own. apart.code_code a own inside) (λ own. apart.guarded_code a own inside);
-        guards = λ a guard none.
-            let guarded = guard_guarded q a guard in
-            stays a (λ own. apart.code_guarded a own guarded) (λ own. apart.guarded_guarded a own guarded) ∙ none;
+        guards = λ a guard none. let outside = guard_outside p q a apart guard in stays a outside.0 outside.1 ∙ none;
       };
     }
 

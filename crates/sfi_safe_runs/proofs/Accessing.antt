@@ -98,10 +98,10 @@ module _ (p : Part) (room : HasGuardRoom p.data_base p.data_size) where
   near a low high =
       let below : 4096 ≤ p.data_base = room.below in
       ⊎_elim
-      (λ (less : a < p.data_base). inr (inl (omega arith, omega arith)))
+      (λ (less : a < p.data_base). inr (inl (inl (omega arith, omega arith))))
       (λ (more : p.data_base ≤ a). ⊎_elim
       (λ (less : a < p.data_base + p.data_size). inl (more, less))
-      (λ (more : p.data_base + p.data_size ≤ a). inr (inr (more, omega arith)))
+      (λ (more : p.data_base + p.data_size ≤ a). inr (inl (inr (more, omega arith))))
       (cases_lt a (p.data_base + p.data_size)))
       (cases_lt a p.data_base)
 

@@ -2,7 +2,7 @@
 use Rattle.sfi_formats.specs.Formats.{has_stack, is_data_register_in}
 use Rattle.sfi_formats.proofs.Formats.{data_registers}
 use Rattle.sfi_image.specs.Parts.{IsBundleStart, reserved_for, reserved_of}
-use Rattle.sfi_image.specs.Spelling.{data_region}
+use Rattle.sfi_image.specs.Spelling.{data_region, InZoneAtZero}
 use Rattle.sfi_safe_runs.specs.Runs.{StackInData, AreWordsTyped}
 use Rattle.sfi_safe_runs.specs.Laws.{BundlesAskTheSame, WordsAsk, FirstFormatAsksNoStack, HasEntries}
 use Rattle.std.specs.Cmp.{nat_cmp_total, unsigned_tied}
@@ -141,8 +141,13 @@ outside p a right apart guard = by_order guard
         (cases_lt a p.code_base)
 
     by_order : InGuard p a → (a < p.code_base) ⊎ (p.code_base + length p.code ≤ a)
-    by_order (inl (from, below)) = let room' = room in not_in from (omega arith)
-    by_order (inr (from, below)) = not_in (omega arith) below
+    by_order (inl (inl (from, below))) = let room' = room in not_in from (omega arith)
+    by_order (inl (inr (from, below))) = not_in (omega arith) below
+    by_order (inr zone) = by_zone zone.1
+      where
+        by_zone : InZoneAtZero p.data_size a → (a < p.code_base) ⊎ (p.code_base + length p.code ≤ a)
+        by_zone (inl low) = let code = (right.zone_room zone.0).code_above in inl (omega arith)
+        by_zone (inr (high, word)) = let code = (right.zone_room zone.0).code_below in inr (omega arith)
 
 -- where the code is known to end within the addresses
 pub entered_at : (p : Part) → p.code_base + length p.code ≤ 2 ^ 32 → (h : Hart) → IsRightPart p → AreApart (code_region p) (guarded_region p) → ((k : ℕ) → slice_index p.code k < 256)

@@ -1,5 +1,7 @@
 -- What a step keeps, and what stands where the machine reads.
 use Rattle.sfi_safe_runs.proofs.Prelude.{◌≡◌, ◌≢◌, ℕ, suc, ◌+◌, ◌<◌, ◌≤◌, ◌⊎◌, List, [], ◌∷◌, length, map, Option, Some, None, Bool, true, false, cond, ◌==◌, refl, sym, ap, ◌∙◌, subst, inl, inr, ⊎_elim, arith, add-zero, slice_index, slice_get, is_some, IsSome, range_with_len, or_cases, eqb-true, false≢true, offset_by, Instr, Load, Store, LoadKind, Bytes, byte_at, bytes_at, addresses, loaded, Next, Call, Trap, Outcome, Accesses, Hart, State, register, Stepped, Stands, IsStep, effect, after_load, next, unchanged, load_size, store_size, Gate, Part, Holds, AreApart, code_region, guarded_region, IsRightPart, is_gate_of, InData, InGuard, IsGate, HasCode, HasEmptyGuards, IsTrap, address_after, IsSafeState}
+use Rattle.sfi_formats.proofs.Formats.{two_steps}
+use Rattle.sfi_formats.specs.Formats.{has_one_step}
 use Rattle.rv_step.specs.declared.outcome.Cause.TheVariants as cause
 use Rattle.rv_step.proofs.Facts.{one_instruction, step_is_effect, other_bytes_stay, accessed_is_there, stopped_stays}
 use Rattle.std.specs.Prelude.{take, drop}
@@ -10,7 +12,7 @@ use Rattle.sfi_image.proofs.Facts.{code_ends}
 use Rattle.sfi_safe_runs.specs.Runs.{InCode, StaysOutside, Zones, Empty, Padded, HasGuards}
 use Rattle.sfi_safe_runs.specs.Safety.{TrapsIn, IsSafeStepAs, writable_region}
 use Rattle.sfi_safe_runs.specs.Calling.{KeepsAllAs}
-use Rattle.sfi_image.specs.Spelling.{data_region}
+use Rattle.sfi_image.specs.Spelling.{data_region, InZoneAtZero}
 
 -- ==== What a step keeps, if its accesses fall into the data and the guards.
 
@@ -33,10 +35,37 @@ gate_of (g ∷ gates) a h =
     (λ (e : is_gate_of gates a ≡ true). let x = gate_of gates a e in (suc x.0, x.1, x.2, x.3))
     (or_cases (g.address == a) (is_gate_of gates a) h)
 
-pub guarded : (p : Part) (a : ℕ) → IsRightPart p → InData p a ⊎ InGuard p a → Holds (guarded_region p) a
-guarded p a right (inl (from, below)) = let room : 4096 ≤ p.data_base = right.guard_room.below in (omega arith, omega arith)
-guarded p a right (inr (inl (from, below))) = let room : 4096 ≤ p.data_base = right.guard_room.below in (omega arith, omega arith)
-guarded p a right (inr (inr (from, below))) = let room : 4096 ≤ p.data_base = right.guard_room.below in (omega arith, omega arith)
+-- where there is no zone at zero, the data and the guard zones are one span
+pub guarded : (p : Part) (a : ℕ) → has_one_step p.format ≡ false → IsRightPart p → InData p a ⊎ InGuard p a → Holds (guarded_region p) a
+guarded p a two_steps right (inl (from, below)) = let room : 4096 ≤ p.data_base = right.guard_room.below in (omega arith, omega arith)
+guarded p a two_steps right (inr (inl (inl (from, below)))) = let room : 4096 ≤ p.data_base = right.guard_room.below in (omega arith, omega arith)
+guarded p a two_steps right (inr (inl (inr (from, below)))) = let room : 4096 ≤ p.data_base = right.guard_room.below in (omega arith, omega arith)
+guarded p a two_steps right (inr (inr zone)) = absurd (false≢true (sym two_steps ∙ zone.0))
+
+-- what lies in the zone at zero lies in neither region
+zone_apart : (p : Part) (a : ℕ) → IsRightPart p → has_one_step p.format ≡ true → InZoneAtZero p.data_size a → (Holds (code_region p) a → ⊥) × (Holds (data_region p) a → ⊥)
+zone_apart p a right one_step (inl low) =
+    let clear = right.zone_room one_step in
+    let code = clear.code_above in
+    let inside = clear.data_above in
+    (λ held. omega (arith, held.0), λ held. omega (arith, held.0))
+zone_apart p a right one_step (inr (high, word)) =
+    let code = (right.zone_room one_step).code_below in
+    let room = right.guard_room.above in
+    (λ held. omega (arith, held.1), λ held. omega (arith, held.1))
+
+-- the data and the guards are no code
+pub not_code : (p : Part) (a : ℕ) → IsRightPart p → AreApart (code_region p) (guarded_region p) → InData p a ⊎ InGuard p a → Holds (code_region p) a → ⊥
+not_code p a right apart (inl (from, below)) held = let room : 4096 ≤ p.data_base = right.guard_room.below in apart a held (omega arith, omega arith)
+not_code p a right apart (inr (inl (inl (from, below)))) held = let room : 4096 ≤ p.data_base = right.guard_room.below in apart a held (omega arith, omega arith)
+not_code p a right apart (inr (inl (inr (from, below)))) held = let room : 4096 ≤ p.data_base = right.guard_room.below in apart a held (omega arith, omega arith)
+not_code p a right apart (inr (inr zone)) held = (zone_apart p a right zone.0 zone.1).0 held
+
+-- and the guards are no data
+pub guard_not_data : (p : Part) (a : ℕ) → IsRightPart p → InGuard p a → InData p a → ⊥
+guard_not_data p a right (inl (inl (from, below))) held = let room : 4096 ≤ p.data_base = right.guard_room.below in omega (arith, held.0)
+guard_not_data p a right (inl (inr (from, below))) held = omega (arith, held.1)
+guard_not_data p a right (inr zone) held = (zone_apart p a right zone.0 zone.1).1 held
 
 none_there : (o : Option ℕ) → IsSome o → o ≡ None → ⊥
 none_there None some e = cc
@@ -86,7 +115,7 @@ module _ (p : Part) (right : IsRightPart p) (apart : AreApart (code_region p) (g
     pub code_stays : HasCode p r.state.memory
     code_stays k below =
         other_bytes_stay s i n r (p.code_base + k) stands step
-        (λ has. apart (p.code_base + k) (omega arith, omega (arith, below)) (guarded p (p.code_base + k) right (near (p.code_base + k) has)))
+        (λ has. not_code p (p.code_base + k) right apart (near (p.code_base + k) has) (omega arith, omega (arith, below)))
         ∙ kept.code k below
 
     -- ---- where the guard zones are empty
@@ -120,7 +149,7 @@ module _ (p : Part) (right : IsRightPart p) (apart : AreApart (code_region p) (g
 
     stays : (z : Zones) → HasGuards z p s.memory → StaysOutside (writable_region z p) s.memory r.state.memory
     stays Empty empty = data_alone p s i n r stands step near (λ a has guard. traps empty a has guard r.outcome refl)
-    stays Padded any = λ a out. other_bytes_stay s i n r a stands step (λ has. out (guarded p a right (near a has)))
+    stays Padded any = λ a out. other_bytes_stay s i n r a stands step (λ has. out (guarded p a (two_steps p.format) right (near a has)))
 
     -- the step is safe, if it calls at a gate alone
     pub step_safe : (r.outcome ≡ Call → IsGate p s.hart.pc) → IsSafeStepAs zones p s r

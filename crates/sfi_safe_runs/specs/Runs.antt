@@ -5,7 +5,7 @@ use Rattle.sfi_formats.specs.Formats.{code_base_register, code_mask_register, da
 use Rattle.sfi_formats.specs.declared.format.Format.{Format}
 use Rattle.sfi_image.specs.declared.part.Gate.{Gate}
 use Rattle.sfi_image.specs.declared.span.Span.{Span}
-use Rattle.sfi_image.specs.Spelling.{Part, Holds, InGuards, IsNear, code_region, data_region}
+use Rattle.sfi_image.specs.Spelling.{Part, Holds, InZones, IsNear, code_region, data_region}
 use Rattle.sfi_image.specs.Parts.{IsStart, IsWordStart, HasReserved, reserved_of}
 use Rattle.rv_comp.specs.Fronts.{Spells}
 use Rattle.rv_mem.specs.Bytes.{Bytes, byte_at, address_after}
@@ -26,9 +26,10 @@ InCode p a = Holds (code_region p) a
 abbrev pub InData : Part → ℕ → Type 0
 InData p a = Holds (data_region p) a
 
--- the address is one of the guard zones, on each side of the data
+-- the address is one of the guard zones, on each side of the data, or of the zone at zero, where masks
+-- have one step
 abbrev pub InGuard : Part → ℕ → Type 0
-InGuard p a = InGuards (data_region p) a
+InGuard p a = InZones p.format (data_region p) a
 
 -- the address is that of a listed gate
 abbrev pub IsGate : Part → ℕ → Type 0

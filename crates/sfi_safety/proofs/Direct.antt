@@ -1,5 +1,6 @@
 -- Runs with direct gates are as runs of the image's own code, in a memory in which the springboards' bytes are the image's: each turn is one there.
 use Rattle.sfi_safety.proofs.Prelude.{◌≡◌, ℕ, zero, suc, ◌+◌, ◌-◌, ◌%◌, ◌^◌, ◌<◌, ◌≤◌, ◌⊎◌, List, [], ◌∷◌, length, refl, sym, ap, ◌∙◌, subst, inl, inr, ⊎_elim, cases_lt, arith, Option, Some, None, All, unit, Format, Sfi1, Sfi2, Sfiw, Instr, Ecall, Next, Call, Trap, Outcome, Accesses, address_after, Hart, State, Stepped, Stands, IsStep, unchanged, Part, Gate, IsRightPart, IsBundleStart, AreApart, code_region, guarded_region, InData, InGuard, InCode, IsGate, IsUnitStart, HasCode, IsTyped, Bytes, byte_at, Turn, Steps, Replies, Changes, after_step, after_turn, after_turns, IsSafeState}
+use Rattle.sfi_formats.proofs.Formats.{two_steps}
 use Rattle.std.specs.Prelude.{IfSome, slice_get}
 use Rattle.rv_step.specs.Laws.{AgreeHere, IsSameStep}
 use Rattle.rv_comp.specs.declared.front.Front.TheVariants.{Read}
@@ -10,7 +11,7 @@ use Rattle.sfi_safe_runs.specs.Safety.{IsTrap, TrapsIn, writable_region, IsSafeS
 use Rattle.sfi_safe_runs.specs.Calling.{KeepsAllAs, IsCalling, CallsTypedAs}
 use Rattle.sfi_safe_runs.specs.Runs.{KeepsReserved, Zones, Empty, Padded, Direct, Setting, by_ecall, IsDirect, IsInBoard, HasEcall, HasCodeAs, HasGuards, KeepsGuards, KeepsBytesAs, StaysOutside, IsEntryAs, IsReplyAs, IsChangeAs, IsTurnAs, IsRunAs}
 use Rattle.sfi_safe_runs.proofs.Entries.{bytes_over, there, elsewhere}
-use Rattle.sfi_safe_runs.proofs.Stepping.{stands_there, guarded, data_alone}
+use Rattle.sfi_safe_runs.proofs.Stepping.{stands_there, guarded, data_alone, not_code}
 use Rattle.sfi_safe_runs.proofs.SafeRuns.{no_change}
 use Rattle.sfi_word_safety.proofs.Places.{bundles_whole}
 
@@ -114,7 +115,7 @@ module _ (p : Part) (right : IsRightPart p) (direct : List ℕ) where
   module _ (apart : AreApart (code_region p) (guarded_region p)) where
     -- data and guard zones are in no springboard
     near_out : (a : ℕ) → InData p a ⊎ InGuard p a → IsInBoard p direct a → ⊥
-    near_out a near board = apart a (in_code a board) (guarded p a right near)
+    near_out a near board = not_code p a right apart near (in_code a board)
 
     whole_guards : (z : Zones) (m : Bytes) → HasCodeAs (Direct direct) p m → HasGuards z p m → HasGuards z p (whole m)
     whole_guards Empty m code empty = λ a guard. whole_same m code a (near_out a (inr guard)) ∙ empty a guard
@@ -258,7 +259,7 @@ module _ (p : Part) (right : IsRightPart p) (direct : List ℕ) where
 
             stays : (z : Zones) → TrapsIn z p own q.0 → StaysOutside (writable_region z p) s.memory r.state.memory
             stays Empty traps = data_alone p s i n r stands_here step near (λ a has guard. subst (λ (o : Outcome). IsTrap o) (sym same_step.outcome) (traps i n own_safe.present.stands a has guard))
-            stays Padded any = λ a out. other_bytes_stay s i n r a stands_here step (λ has. out (guarded p a right (near a has)))
+            stays Padded any = λ a out. other_bytes_stay s i n r a stands_here step (λ has. out (guarded p a (two_steps p.format) right (near a has)))
 
             step_safe : IsSafeStepAs zones p s r
             step_safe = record {

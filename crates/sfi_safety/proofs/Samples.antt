@@ -1,5 +1,6 @@
 -- The samples: their layout, their image, where they are entered, and their steps.
 use Rattle.sfi_safety.proofs.Prelude.{◌≡◌, ℕ, zero, suc, ◌+◌, ◌-◌, ◌*◌, ◌%◌, ◌^◌, ◌<◌, ◌≤◌, ◌⊎◌, List, [], ◌∷◌, ◌++◌, length, replicate, take, drop, Option, Some, inl, inr, refl, sym, ap, subst, ◌∙◌, arith, get_or, get_or-drop, get_or-take, slice_index, true, false, nat_lt, All, list_all, and_parts, ltb-true, Instr, Ebreak, Spells, Format, Sfi1, Sfi2, Sfiw, has_words, code_most, data_most, Bytes, byte_at, bytes_at, addresses, address_after, Accesses, Hart, IsHart, State, Stepped, Stands, IsStep, effect, next, unchanged, Call, AreGates, Part, AreGateWords, AreApart, code_region, guarded_region, IsBundleStart, IsRightPart, IsRightLayout, AreOf, Finding, AreFindings, AreFindingsInBundles, InData, InGuard, IsGate, HasReserved, HasCode, IsUnitStart, IsTyped, Turn, Steps, IsEntry, IsRun, IsTurn, after_turn, after_step, IsSafeRun, HasOneFinding, HasUnsafeRun, IsNeeded, BreaksNoOther, BreaksAloneInBundle, Bool, false≢true, Sample, sandbox, bytes_of, words_of, Rule, InCode, unit, BreaksAlone, BreaksAloneInWord}
+use Rattle.sfi_formats.proofs.Formats.{two_steps}
 use Rattle.rv_comp.specs.declared.front.Front.TheVariants.{Read}
 use Rattle.sfi_image.specs.declared.span.Span.{Span}
 use Rattle.sfi_formats.specs.Limits.{gates_most}
@@ -217,8 +218,9 @@ module _ (s : Sample) (is : IsSample s) (m : Bytes) (code : HasCode (sandbox s) 
     where
       far : InData (sandbox s) a ⊎ InGuard (sandbox s) a → ⊥
       far (inl (from, under)) = omega arith
-      far (inr (inl (from, under))) = omega arith
-      far (inr (inr (from, under))) = omega arith
+      far (inr (inl (inl (from, under)))) = omega arith
+      far (inr (inl (inr (from, under)))) = omega arith
+      far (inr (inr zone)) = absurd (false≢true (sym (two_steps s.format) ∙ zone.0))
 
   -- where the instruction calls at no gate, the run isn't safe
   pub calls_elsewhere : effect i n h m ≡ unchanged Call h m → (IsGate (sandbox s) h.pc → ⊥) → HasUnsafeRun (sandbox s) (record { hart = h; memory = m })

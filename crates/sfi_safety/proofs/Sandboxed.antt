@@ -62,8 +62,10 @@ module _ (s : Sample) (is : IsSample s) (m : Bytes) (code : HasCode (sandbox s) 
       }
     where
       not_guard : (a : ℕ) → InGuard (sandbox s) a → a ≡ 0x018000f0 → ⊥
-      not_guard a (inl (from, below)) same = omega arith
-      not_guard a (inr (from, below)) same = omega arith
+      not_guard a (inl (inl (from, below))) same = omega arith
+      not_guard a (inl (inr (from, below))) same = omega arith
+      not_guard a (inr (one_step, inl low)) same = omega arith
+      not_guard a (inr (one_step, inr (high, word))) same = omega arith
 
   pub changed_code : HasCode (sandbox s) changed
   changed_code k below = let size = size s is in in_data (0x01000000 + k) (λ same. omega arith) ∙ code k below

@@ -72,8 +72,10 @@ reached p at right apart small start =
         (cases_lt a p.data_base)
 
     out_of_guards : (a : ℕ) → InGuard p a → (a < p.data_base) ⊎ (p.data_base + p.data_size ≤ a)
-    out_of_guards a (inl (from, less)) = inl (omega (arith, less, right.guard_room.below))
-    out_of_guards a (inr (from, less)) = inr from
+    out_of_guards a (inl (inl (from, less))) = inl (omega (arith, less, right.guard_room.below))
+    out_of_guards a (inl (inr (from, less))) = inr from
+    out_of_guards a (inr (one_step, inl low)) = let clear = (right.zone_room one_step).data_above in inl (omega arith)
+    out_of_guards a (inr (one_step, inr (high, word))) = let room = right.guard_room.above in inr (omega arith)
 
 -- ---- from a state that a run comes to, steps lead to one
 
