@@ -1,5 +1,6 @@
 //! The cells of pages: writes to several of them, and copies.
 ghost use Rattle.std.specs.Prelude.{◌≡◌, ◌+◌, ◌<◌, ◌≤◌, length, slice_index, vec_capacity, vec_len, ℕ};
+ghost use Rattle.std.specs.Bool.{OnTrue};
 ghost use Rattle.std.specs.Int.{bytes_low_first};
 ghost use Rattle.rv_mem.specs.private.Frames.{with_two, with_four, Puts, MarksRun, GainsFrame};
 
@@ -72,6 +73,20 @@ pub(crate) fn mark_cells(cells: &mut [u8], place: usize, count: usize, front: &[
     write_cells(cells, place, &front[start..start + given]);
     put_same(cells, place + given, count - given, 0);
     put_same(cells, place + PAGE, count, 1);
+}
+
+/// Whether the `count` bytes of `front` from place `from` on are zeros, as those past its end are.
+pub(crate) fn are_zeros(front: &[u8], from: usize, count: usize) -> bool
+    ensures { OnTrue result ((j : ℕ) → j < count → slice_index front.now (from + j) ≡ 0) }
+{
+    let start = from.min(front.len());
+    let given = count.min(front.len() - start);
+    for byte in &front[start..start + given] {
+        if *byte != 0 {
+            return false;
+        }
+    }
+    true
 }
 
 /// Lengthens by zeros, in room that is there.

@@ -8,7 +8,7 @@ ghost use Rattle.rv_mem.specs.Bytes.{IsMemory, count_of, byte_at, loaded, stored
 ghost use Rattle.rv_mem.specs.Frames.{ArePages, frame_of, cell_at, values_of};
 ghost use Rattle.rv_mem.specs.private.Frames.{KeepsFrames, HaveFrames, kept_in, run_of};
 
-use crate::cells::{append_frame, copy_cells, mark_cells, write_halfword, write_word};
+use crate::cells::{append_frame, are_zeros, copy_cells, mark_cells, write_halfword, write_word};
 use crate::fault::AddFault;
 use crate::memory::{Memory, Width};
 use crate::page_table::PageTable;
@@ -218,7 +218,7 @@ impl Pages {
         ensures kept { KeepsFrames self.old.table self.new.table }
     {
         if self.frame_number(at) <= ZEROS {
-            if from as usize >= front.len() && self.put_zeros(at, count) {
+            if are_zeros(front, from as usize, count as usize) && self.put_zeros(at, count) {
                 return;
             }
             self.own_frame(at / PAGE);
