@@ -14,6 +14,9 @@ use crate::sandbox::Sandbox;
 use rv_mem::Memory;
 use std::alloc::{AllocError, Global};
 
+/// How many bytes of a region are copied at once, at most.
+const PIECE: u32 = 65536;
+
 /// The bytes that a memory has in a region; it has one at each of its addresses.
 fn region_bytes<M: Memory>(alloc: Global, region: Region, from: &M) -> Result<Vec<u8>, AllocError>
     requires { IsWhole (span_of region) (bytes_in (span_of region) (M.bytes from.now)) }
@@ -28,8 +31,8 @@ fn region_bytes<M: Memory>(alloc: Global, region: Region, from: &M) -> Result<Ve
     Ok(bytes)
 }
 
-/// Adds a region's bytes, as another memory has them.
-fn copy_region<M: Memory>(
+/// Adds a region's bytes, all at once, as another memory has them.
+fn copy_piece<M: Memory>(
     alloc: Global,
     region: Region,
     from: &M,
@@ -45,6 +48,30 @@ fn copy_region<M: Memory>(
         Ok(()) => Ok(()),
         Err(_) => Err(AllocError),
     }
+}
+
+/// Adds a region's bytes, a piece at a time, as another memory has them.
+fn copy_region<M: Memory>(
+    alloc: Global,
+    region: Region,
+    from: &M,
+    to: &mut M,
+) -> Result<(), AllocError>
+    requires whole { IsWhole (span_of region) (bytes_in (span_of region) (M.bytes from.now)) }
+    requires end { region.base + region.size ≤ 2 ^ 32 }
+    ensures { OnOk result
+        (CopiesRegion (span_of region) (M.bytes from.now) (M.bytes to.old) (M.bytes to.new)) }
+{
+    let mut done = 0;
+    while done < region.size {
+        let piece = Region {
+            base: region.base + done,
+            size: PIECE.min(region.size - done),
+        };
+        copy_piece(alloc, piece, from, to)?;
+        done += piece.size;
+    }
+    Ok(())
 }
 
 /// Adds a sandbox's code and data, as another memory has them.
