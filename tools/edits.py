@@ -35,7 +35,7 @@ import toolchain
 from build_library import is_marked
 
 PARTS = 6
-MOST = 40  # of what changed: some 10 to 20 seconds of a processor each
+MOST = 40  # of what changed: some 45 seconds of a processor each, as a mean: 10 where a function is refused by itself
 AT_ONCE = 6
 HOURS = 3  # longer than it takes to make and to hand in what is merged at once
 LANES = max(1, len(os.sched_getaffinity(0)) // 2)  # beside the other scripts of ./test
