@@ -24,7 +24,6 @@ import release_trial
 import version
 
 TOP = pathlib.Path(__file__).resolve().parent.parent
-MIRROR = "http://deb.debian.org/debian"
 BOOKWORM, TRIXIE = "bookworm", "trixie"  # the latter has the node that README.md asks for
 HOME, ARCHIVES = "/home/new", "var/cache/apt/archives"
 PATH = "/usr/local/sbin:/usr/local/bin:/usr/sbin:/usr/bin:/sbin:/bin"
@@ -180,7 +179,7 @@ def debian(folder, suite):
     if not done.exists():
         shutil.rmtree(root, ignore_errors=True)
         folder.mkdir(parents=True, exist_ok=True)
-        subprocess.run(["debootstrap", "--variant=minbase", suite, root, MIRROR], check=True, stdout=subprocess.DEVNULL)
+        subprocess.run(["debootstrap", "--variant=minbase", suite, root], check=True, stdout=subprocess.DEVNULL)
         done.touch()
     return root
 
