@@ -10,6 +10,7 @@ for one more check of each crate that has any.
 The edits that are left out wait in git's own folder, or in out/ where there is none, while `rt ci` runs, and are put back however it ends. What a killed
 run left there is put back by the next.
 
+What `rt ci` printed goes to out/ci.log, too: where it took nothing that earlier runs kept, a release has it (tools/release.py).
 What it and its parts took goes to out/times.txt, one a line: `took SECONDS PROCESSOR PART`, where PROCESSOR is the seconds of all
 processors; and as `at SECONDS STEP CRATE` how long after it began `rt ci` said that a crate or its tests are proved, or that its
 edits are begun. `./test` adds its scripts.
@@ -25,6 +26,7 @@ import time
 
 TOP = os.path.dirname(os.path.dirname(os.path.abspath(__file__)))
 TIMES = os.path.join("out", "times.txt")
+LOG = os.path.join("out", "ci.log")
 # What `rt ci` says of a crate while it proves, and what it says first once it has proved all and tried all edits.
 STEPS = {
     "proof": re.compile(r"rt: (\w+) (?:proved$|is kept: )"),
@@ -69,14 +71,15 @@ def processor_seconds(process):
     return sum(map(int, fields[11:15])) / os.sysconf("SC_CLK_TCK")
 
 
-def run_timed(file):
-    """Runs `rt ci`, prints what it says, writes to a file what its parts took, and gives its status."""
+def run_timed(file, log):
+    """Runs `rt ci`, prints what it says, and to the file `log`, writes to `file` what its parts took, and gives its status."""
     begun, judged = time.monotonic(), None
     with subprocess.Popen(["rt", "ci"], stdout=subprocess.PIPE, stderr=subprocess.STDOUT) as process:
         try:
             for raw in process.stdout:
                 sys.stdout.buffer.write(raw)
                 sys.stdout.flush()
+                log.write(raw)
                 line, now = raw.decode(errors="replace").rstrip("\n"), time.monotonic() - begun
                 for step, form in STEPS.items():
                     if found := form.match(line):
@@ -101,8 +104,8 @@ def run_without(edits, aside):
     os.makedirs(os.path.dirname(TIMES), exist_ok=True)
     try:
         set_aside(edits, aside)
-        with open(TIMES, "w", encoding="utf-8") as file:
-            return run_timed(file)
+        with open(TIMES, "w", encoding="utf-8") as file, open(LOG, "wb") as log:
+            return run_timed(file, log)
     finally:
         put_back(aside)
 

@@ -8,8 +8,8 @@ FOLDER gets suygapid-VERSION-x86_64-linux.tar.gz, the packages and, with .sha256
 SHA256SUMS has that of every other file. The same commit, the same built files and the same LOG make the same bytes: owners,
 times and the order of the files don't depend on where and when it is made. Nothing is made where a file isn't committed,
 where what is built is missing, empty or older than a source, where a part can't be made and isn't left out, or where what is packed
-doesn't do what tools/release_trial.py and tools/package_trial.py try. `./test` builds all that a release wants but LOG. built.json in
-it has the commit and the logic.
+doesn't do what tools/release_trial.py and tools/package_trial.py try. `./test` makes all that a release wants, LOG too if nothing that
+earlier runs on this machine kept was taken. built.json in it has the commit and the logic.
 
 The parts that `--without` leaves out:
     libraries   those that sfi-cc would else compile and convert at their first use (tools/converted.py)
@@ -106,7 +106,7 @@ def built_files():
 def evidence_files(log):
     """The page of evidence and the log of which it is made."""
     if not log.is_file():
-        raise Lacking(f"there is no {log}, which `rt ci --anew > {log}` makes, and takes long")
+        raise Lacking(f"there is no {log}, which ./test makes on a new machine, and `rt ci --anew > {log}` on any; both take long")
     sfi, time = toolchain.sfi(), log.stat().st_mtime
     if any(sfi.is_changed(it, time) for it in definitions.crate_names()):
         raise Lacking(f"{log} is older than a source")

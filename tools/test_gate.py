@@ -19,8 +19,17 @@ echo "rt: high NOT PROVED"
 i=0; while [ $i -lt ${COUNT:-0} ]; do i=$((i + 1)); done
 sleep ${PAUSE:-0}
 echo "rt: middle: its tests passed"
-ls crates/*/must-fail/*.edit
+ls crates/*/must-fail/*.edit 2>/dev/null
 exit 3
+"""
+
+# What it prints where there are no edits.
+SAID = """rt: low is kept: an earlier run on this machine proved the same files over the same libraries
+rt: middle proved
+rt: middle: its tests are proved
+rt: middle: trying its must-fail edits (1)
+rt: high NOT PROVED
+rt: middle: its tests passed
 """
 
 
@@ -62,6 +71,11 @@ class Gate(unittest.TestCase):
     def test_edits_wait_while_it_runs(self):
         self.assertEqual(self.tried(), [])
         self.assertEqual(self.there(), self.every)
+
+    def test_log(self):
+        self.tried()
+        with open(f"{self.top}/out/ci.log", encoding="utf-8") as file:
+            self.assertEqual(file.read(), SAID)
 
     def test_all(self):
         self.assertEqual(self.tried("--all"), self.every)

@@ -249,7 +249,7 @@ class EvidenceOfARelease(Folder):
             return release.evidence_files(log)
 
     def test_no_log(self):
-        with self.assertRaisesRegex(release.Lacking, f"^there is no {self.path('log')}, which `rt ci --anew > "):
+        with self.assertRaisesRegex(release.Lacking, f"^there is no {self.path('log')}, which ./test makes on a new machine, and `rt ci --anew > "):
             self.files()
 
     def test_a_log(self):
