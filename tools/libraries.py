@@ -25,7 +25,7 @@ import version
 
 HEADERS = {"sfi_c": "sfi.h", "sfi_run": "sfi_run.h"}
 MORE_HEADERS = {"sfi_c": [], "sfi_run": ["sfi_run_serve.h", "sfi_run_limit.h", "sfi_run_snapshot.h",
-                                         "sfi_run_files.h"]}  # which declare no call of the library
+                                         "sfi_run_sizes.h", "sfi_run_files.h"]}  # which declare no call of the library
 C_FILES = {"sfi_c": [], "sfi_run": ["c/heap.c"]}
 
 

@@ -15,6 +15,8 @@ export interface Finding { readonly sandbox: number; readonly address: number; r
 export declare class Refused extends Error { readonly findings: number; readonly first: Finding }
 /** Bytes that are no image, by the layout's `fault` of that number, 1 to 11. */
 export declare class NoImage extends Error { readonly fault: number }
+/** A sandbox that has `size` bytes of `what`, of which the host takes `most`. */
+export declare class TooLarge extends Error { readonly sandbox: number; readonly what: "code" | "data"; readonly size: number; readonly most: number }
 /** A name for which there is no address. `why` is the number by which sfi_run.h tells the reason. */
 export declare class NoName extends Error { readonly why: number }
 /** Why a call of a function is over without a result: it can't be entered there; its sandbox is in the midst of a run; it
@@ -268,6 +270,13 @@ export declare namespace snapshots {
   /** A world of the image, or of a module of it, whose sandboxes are those of the snapshot. Throws WrongSnapshot where that is of
    * another image, cut or changed, and what `load` does. */
   function restore(image: Bytes | Module, snapshot: Bytes, library?: Library): Promise<World>;
+}
+
+/** A host's own limits, below those of images' formats, before memory is asked for. */
+export declare namespace sizes {
+  /** Throws TooLarge where a sandbox of the image has more bytes of code or of data than that. Nothing else is looked at: of bytes that
+   * are no image nothing is said, and `load` refuses them. */
+  function check(image: Bytes, most?: { code?: number; data?: number }): void;
 }
 
 /** An image that is checked and decoded once. Its worlds share the decoded code, which nothing writes, and each has its data,

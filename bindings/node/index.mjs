@@ -3,7 +3,8 @@ export { Console } from "./console.mjs";
 export { Library, NoMemory, VERSION } from "./library.mjs";
 export { Module } from "./module.mjs";
 export { Plugin, byCall } from "./plugin.mjs";
+export * as sizes from "./sizes.mjs";
 export * as snapshots from "./snapshots.mjs";
 export { Call, Cause, Ended, Exited, Meets, NoImage, NoName, NotEntered, NotReturned, NotRunning, NotTaken, NotWaiting, OutsideData,
-  Ready, Refused, Stopped, TooLong, Trapped, WrongArguments, WrongSignature, WrongSnapshot } from "./told.mjs";
+  Ready, Refused, Stopped, TooLarge, TooLong, Trapped, WrongArguments, WrongSignature, WrongSnapshot } from "./told.mjs";
 export { load } from "./world.mjs";

@@ -7,6 +7,7 @@ import { Call, Cause, Console, Ended, Exited, Library, Meets, Module, NoImage, N
 import { callTests } from "./test_calls.mjs";
 import { limitTests } from "./test_limits.mjs";
 import { signatureTests } from "./test_signatures.mjs";
+import { sizeTests } from "./test_sizes.mjs";
 import { snapshotTests } from "./test_snapshots.mjs";
 import { valueTests } from "./test_values.mjs";
 
@@ -407,7 +408,7 @@ function matches(error, wanted) {
 }
 
 let [passed, failed] = [0, 0];
-const others = { ...callTests(built), ...limitTests(built), ...signatureTests, ...snapshotTests(built, LOOPS), ...valueTests(built) };
+const others = { ...callTests(built), ...limitTests(built), ...signatureTests, ...sizeTests, ...snapshotTests(built, LOOPS), ...valueTests(built) };
 for (const [name, test] of Object.entries({ ...tests, ...others })) {
   if (process.argv[2] && !name.includes(process.argv[2])) continue;
   try {

@@ -22,6 +22,13 @@ export class NoImage extends Error {
   }
 }
 
+export class TooLarge extends Error {
+  constructor(sandbox, what, size, most) {
+    super(`sandbox ${sandbox} has ${size} bytes of ${what}, and this host takes at most ${most}`);
+    Object.assign(this, { sandbox, what, size, most });
+  }
+}
+
 export class NoName extends Error {
   constructor(name, why) {
     super(`${name}: ${WHY[why] ?? why}`);

@@ -346,7 +346,9 @@ header_in_c() {
     says_so "names and signatures" "all is so" "$room/names"
     succeeds "the header of limits in C" "${checked[@]}" -Wconversion -x c -fsyntax-only "$top/crates/sfi_run/include/sfi_run_limit.h"
     succeeds "the headers in C99" gcc -std=c99 "${warnings[@]}" -Wconversion -x c -fsyntax-only \
-        "$top/crates/sfi_run/include"/sfi_run_{serve,snapshot}.h
+        "$top/crates/sfi_run/include"/sfi_run_{serve,snapshot,sizes}.h
+    succeeds "sizes.c" "${checked[@]}" "$here/sizes.c" -o "$room/sizes"
+    says_so "a host's own limits" "all is so" "$room/sizes"
     succeeds "threads.c" "${checked[@]}" "$here/threads.c" "$runtime.a" -o "$room/threads"
     succeeds "memory.c" "${checked[@]}" "$here/memory.c" "$runtime.a" $wrapped -o "$room/memory"
     succeeds "modules.c" "${checked[@]}" "$here/modules.c" "$runtime.a" $wrapped -o "$room/modules"
@@ -399,7 +401,7 @@ header_in_cpp() {
     local standard
     for standard in c++98 c++17; do
         succeeds "the headers in $standard" g++ -std=$standard "${warnings[@]}" -Wconversion -x c++ -fsyntax-only \
-            "$top/crates/sfi_run/include"/sfi_run_{serve,snapshot}.h
+            "$top/crates/sfi_run/include"/sfi_run_{serve,snapshot,sizes}.h
     done
     succeeds "the header of limits in C++" g++ -std=c++11 "${warnings[@]}" -Wconversion -x c++ -fsyntax-only \
         "$top/crates/sfi_run/include/sfi_run_limit.h"

@@ -31,6 +31,7 @@ mod errors;
 mod limits;
 pub mod modules;
 pub mod names;
+pub mod sizes;
 pub mod snapshots;
 mod sums;
 mod sys;
