@@ -13,15 +13,15 @@ code_base_register = 24
 abbrev pub code_mask_register : ℕ
 code_mask_register = 25
 
--- it holds the data base
+-- it holds the data base, unless it is a data register
 abbrev pub data_base_register : ℕ
 data_base_register = 26
 
--- it holds the data size less 1: the mask of a data address
+-- it holds the mask of a data address
 abbrev pub data_mask_register : ℕ
 data_mask_register = 27
 
--- in it the expansions of code in bundles make addresses; in words it holds offsets
+-- in it the expansions of code in bundles make addresses
 abbrev pub scratch : ℕ
 scratch = 31
 
@@ -31,7 +31,7 @@ stack_pointer = 2
 
 -- ---- the typed registers of code in words
 
--- a data register of each format, x2, x3, x4 or x29: it holds an address in the data region or near it
+-- a data register of each format in words, x2, x3, x4 or x29: it holds an address in the data region or near it
 abbrev pub is_data_register : ℕ → Bool
 is_data_register r = (r == 2) || (r == 3) || (r == 4) || (r == 29)
 

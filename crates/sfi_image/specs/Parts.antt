@@ -1,5 +1,5 @@
 -- Right sandboxes: regions, reserved registers and gates; and images of them.
-use Rattle.std.specs.Prelude.{◌≡◌, ℕ, ◌+◌, ◌*◌, ◌%◌, ◌^◌, ◌≤◌, ◌-◌, ◌<◌, ◌==◌, ◌||◌, Bool, true, false, List, [], ◌∷◌, length, slice_index}
+use Rattle.std.specs.Prelude.{◌≡◌, ℕ, ◌+◌, ◌*◌, ◌%◌, ◌^◌, ◌≤◌, ◌-◌, ◌<◌, ◌==◌, ◌||◌, Bool, true, false, if◌then◌else◌, List, [], ◌∷◌, length, slice_index}
 use Rattle.sfi_formats.specs.Limits.{bundle_size, word_size, guard, region_least, service_most, gates_most, sandboxes_most}
 use Rattle.sfi_formats.specs.declared.format.Format.{Format}
 use Rattle.sfi_formats.specs.Formats.{code_most, data_most, unit, code_base_register, code_mask_register, data_base_register, data_mask_register, has_one_step}
@@ -73,25 +73,31 @@ IsWordStart = IsStart word_size
 
 -- ==== What the reserved registers hold.
 
--- what the reserved registers hold while a sandbox runs whose code, in units of `unit_size` bytes,
--- lies in the first span, and its data in the second
-abbrev pub reserved_for : ℕ → Span → Span → Reserved
-reserved_for unit_size code_at data_at = record {
+-- The mask of a data address: the data size less 1. Where a mask has one step, it has the base's bit, too.
+abbrev pub data_mask_of : Format → Span → ℕ
+data_mask_of format data_at =
+    if has_one_step format then data_at.base + data_at.size - 1 else data_at.size - 1
+
+-- what the reserved registers hold while a sandbox of this format runs whose code lies in the first span,
+-- and its data in the second; x26 only at first, where a mask has one step
+abbrev pub reserved_for : Format → Span → Span → Reserved
+reserved_for format code_at data_at = record {
   code_base = code_at.base;
-  code_mask = code_at.size - unit_size;
+  code_mask = code_at.size - unit format;
   data_base = data_at.base;
-  data_mask = data_at.size - 1;
+  data_mask = data_mask_of format data_at;
 }
 
 -- what the reserved registers hold while this sandbox runs
 abbrev pub reserved_of : Part → Reserved
-reserved_of p = reserved_for (unit p.format) (code_region p) (data_region p)
+reserved_of p = reserved_for p.format (code_region p) (data_region p)
 
--- the reserved registers hold these values
-pub record HasReserved (values : Reserved) (registers : List ℕ) : Type 0 where
+-- The reserved registers of this format hold these values. Where a mask has one step, x26 is none of them,
+-- but a data register.
+pub record HasReserved (format : Format) (values : Reserved) (registers : List ℕ) : Type 0 where
   pub code_base : slice_index registers code_base_register ≡ values.code_base
   pub code_mask : slice_index registers code_mask_register ≡ values.code_mask
-  pub data_base : slice_index registers data_base_register ≡ values.data_base
+  pub data_base : has_one_step format ≡ false → slice_index registers data_base_register ≡ values.data_base
   pub data_mask : slice_index registers data_mask_register ≡ values.data_mask
 
 -- ==== The gates of a sandbox.

@@ -166,14 +166,24 @@ spans ps = flat_map (λ p. spans_of (fields_of p)) ps
 abbrev pub zone_end : ℕ → ℕ
 zone_end size = size + guard
 
+-- the address is one of the first `size`, or at most `far` bytes below 0, modulo 2 ^ 32, or above the last
+-- of them
+abbrev pub IsNearZero : ℕ → ℕ → ℕ → Type 0
+IsNearZero size far at = (at < size + far) ⊎ ((2 ^ 32 ≤ at + far) × (at < 2 ^ 32))
+
 -- the address lies in the zone at zero of data of this size
 abbrev pub InZoneAtZero : ℕ → ℕ → Type 0
-InZoneAtZero size at = (at < zone_end size) ⊎ ((2 ^ 32 ≤ at + guard) × (at < 2 ^ 32))
+InZoneAtZero size = IsNearZero size guard
 
--- The address lies beside data that lie there, in a sandbox of this format: in a guard zone on one of
--- their sides; or, where the mask of data has one step, in the zone at zero.
+-- The address lies in a zone of a sandbox of this format whose data are the span: in a guard zone on one
+-- of their sides; or, where the mask of data has one step, in the zone at zero.
 abbrev pub InZones : Format → Span → ℕ → Type 0
 InZones format s at = InGuards s at ⊎ ((has_one_step format ≡ true) × InZoneAtZero s.size at)
+
+-- The address is near the span, the data of a sandbox of this format; or, where the mask of data has one
+-- step, so near the first addresses, as many as the data have.
+abbrev pub IsNearIn : Format → Span → ℕ → ℕ → Type 0
+IsNearIn format s far at = IsNear s far at ⊎ ((has_one_step format ≡ true) × IsNearZero s.size far at)
 
 -- where the zone at zero of a sandbox with these fields ends, if its format has one
 abbrev pub zone_ends_of : Fields → List ℕ

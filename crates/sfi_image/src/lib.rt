@@ -43,7 +43,7 @@ pub use layout_reader::LayoutReader;
 pub use lookup::sandbox_of;
 pub use part::{Gate, SandboxPart};
 pub use reading::parse_image;
-pub use reserved::Reserved;
+pub use reserved::{Reserved, data_mask_of};
 pub use sfi_formats::Format;
 pub use span::{Span, are_all_apart};
 pub use want::{Stage, Want};

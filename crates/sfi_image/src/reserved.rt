@@ -1,10 +1,10 @@
 //! What the reserved registers hold.
 
-ghost use Rattle.std.specs.Prelude.{◌≡◌};
+ghost use Rattle.std.specs.Prelude.{◌≡◌, ◌+◌, ◌<◌, ◌≤◌, ◌^◌};
 ghost use Rattle.sfi_formats.specs.declared.format.Format.{Format};
 ghost use Rattle.sfi_image.specs.Spelling.{view};
 ghost use Rattle.sfi_image.specs.Parts.{IsRightPart};
-ghost use Rattle.sfi_image.specs.Parts.{reserved_of};
+ghost use Rattle.sfi_image.specs.Parts.{reserved_of, data_mask_of};
 
 use crate::part::SandboxPart;
 use sfi_formats::Format;
@@ -17,10 +17,23 @@ pub struct Reserved {
     pub code_base: u32,
     /// x25: the code size less the size of a unit of code, so that a masked offset is that of a unit.
     pub code_mask: u32,
-    /// x26: the first address of the data region.
+    /// x26: the first address of the data region. Where the format's mask of data has one step, x26 holds
+    /// it at first, and is a data register.
     pub data_base: u32,
-    /// x27: the data size less 1.
+    /// x27: the data size less 1. Where the format's mask of data has one step, the data base and that.
     pub data_mask: u32,
+}
+
+/// What x27 holds: the mask of an address of data with this base and size.
+pub fn data_mask_of(format: Format, base: u32, size: u32) -> u32
+    requires some { 1 ≤ size }
+    requires end { base + size < 2 ^ 32 }
+    ensures { result ≡ data_mask_of format (record { base = base; size = size }) }
+{
+    if format.has_one_step() {
+        return base + size - 1;
+    }
+    size - 1
 }
 
 impl Reserved {
@@ -33,7 +46,7 @@ impl Reserved {
             code_base: part.code_base,
             code_mask: part.code.len() as u32 - format.unit(),
             data_base: part.data_base,
-            data_mask: part.data_size - 1,
+            data_mask: data_mask_of(format, part.data_base, part.data_size),
         }
     }
 }
