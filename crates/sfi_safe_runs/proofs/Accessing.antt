@@ -122,7 +122,7 @@ module _ (p : Part) (room : HasGuardRoom p.data_base p.data_size) where
       let e : address_after (offset_by v (negsuc n)) k ≡ v - suc n + k = omega (arith, back') in
       near (address_after (offset_by v (negsuc n)) k) (omega arith) (omega arith)
 
-  one_address : (at n a : ℕ) → Contains (addresses at n) a → (k : ℕ) × (k < n) × (a ≡ address_after at k)
+  pub one_address : (at n a : ℕ) → Contains (addresses at n) a → (k : ℕ) × (k < n) × (a ≡ address_after at k)
   one_address at n a (k, below, is) =
       let within : k < n = omega (arith, below, length-map (range_with_len 0 n) (address_after at), length-range_with_len 0 n) in
       (k, within, sym is ∙ get_or-map-range_with_len (address_after at) 0 n k k _ within (omega arith))
@@ -214,7 +214,7 @@ pub count_kept : (r value : ℕ) (h : Hart) → length (with_register h r value)
 count_kept r value h =
     cond_both (r == 0) h.registers (set h.registers r value) (λ (l : List ℕ). length l ≡ length h.registers) (λ e. refl) (λ e. length-set h.registers r value)
 
-pub reserved_kept : (p : Part) (r value : ℕ) (h : Hart) → is_reserved r ≡ false → HasReserved (reserved_of p) h.registers → HasReserved (reserved_of p) (with_register h r value).registers
+pub reserved_kept : (p : Part) (r value : ℕ) (h : Hart) → is_reserved r ≡ false → HasReserved p.format (reserved_of p) h.registers → HasReserved p.format (reserved_of p) (with_register h r value).registers
 reserved_kept p r value h free has =
     let a = or_parts ((r == 24) || (r == 25) || (r == 26)) (r == 27) free in
     let b = or_parts ((r == 24) || (r == 25)) (r == 26) a.0 in
@@ -222,6 +222,6 @@ reserved_kept p r value h free has =
     record {
       code_base = kept r value 24 h (λ e. eqb-false r 24 c.0 (sym e)) ∙ has.code_base;
       code_mask = kept r value 25 h (λ e. eqb-false r 25 c.1 (sym e)) ∙ has.code_mask;
-      data_base = kept r value 26 h (λ e. eqb-false r 26 b.1 (sym e)) ∙ has.data_base;
+      data_base = λ two. kept r value 26 h (λ e. eqb-false r 26 b.1 (sym e)) ∙ has.data_base two;
       data_mask = kept r value 27 h (λ e. eqb-false r 27 a.1 (sym e)) ∙ has.data_mask;
     }

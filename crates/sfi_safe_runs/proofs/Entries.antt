@@ -1,8 +1,11 @@
 -- Where sandboxes are entered: what the formats ask, and that a right layout has it.
-use Rattle.sfi_formats.specs.Formats.{has_stack, is_data_register_in}
-use Rattle.sfi_formats.proofs.Formats.{data_registers}
-use Rattle.sfi_image.specs.Parts.{IsBundleStart, reserved_for, reserved_of}
-use Rattle.sfi_image.specs.Spelling.{data_region, InZoneAtZero}
+use Rattle.sfi_formats.specs.Formats.{has_stack, is_data_register, is_data_register_in, has_one_step}
+use Rattle.sfi_formats.proofs.Formats.{one_step_in_words}
+use Rattle.sfi_image.specs.Parts.{IsBundleStart, data_mask_of, reserved_of}
+use Rattle.sfi_image.specs.Spelling.{data_region, InZoneAtZero, IsNearIn}
+use Rattle.sfi_image.specs.declared.reserved.Reserved.{Reserved}
+use Rattle.std.specs.Prelude.{◌&&◌}
+use Rattle.std.proofs.lemmas.Bool.{and_parts}
 use Rattle.sfi_safe_runs.specs.Runs.{StackInData, AreWordsTyped}
 use Rattle.sfi_safe_runs.specs.Laws.{BundlesAskTheSame, WordsAsk, FirstFormatAsksNoStack, HasEntries}
 use Rattle.std.specs.Cmp.{nat_cmp_total, unsigned_tied}
@@ -52,17 +55,37 @@ of_bundle p a none start = record { held = start.held; aligned = ap (λ (u : ℕ
 pub of_stack : (p : Part) (registers : List ℕ) → has_words p.format ≡ false → StackInData p registers → IsTyped p registers
 of_stack p registers none stack = record { stack = stack; words = λ has. absurd (false≢true (sym none ∙ has)) }
 
+-- code in bundles has no masks of one step
+pub bundles_two_steps : (f : Format) → has_words f ≡ false → has_one_step f ≡ false
+bundles_two_steps f none = by (has_one_step f) refl
+  where
+    by : (one : Bool) → has_one_step f ≡ one → has_one_step f ≡ false
+    by true e = absurd (false≢true (sym none ∙ one_step_in_words f e))
+    by false e = e
+
+pub two_step_mask : (f : Format) (s : Span) → has_one_step f ≡ false → data_mask_of f s ≡ s.size - 1
+two_step_mask f s two = rw two refl
+
+pub one_step_mask : (f : Format) (s : Span) → has_one_step f ≡ true → data_mask_of f s ≡ s.base + s.size - 1
+one_step_mask f s one = rw one refl
+
+same_reserved : (p : Part) (u mask : ℕ) → unit p.format ≡ u → data_mask_of p.format (data_region p) ≡ mask
+    → reserved_of p ≡ record { code_base = p.code_base; code_mask = length p.code - u; data_base = p.data_base; data_mask = mask }
+same_reserved p u mask e m =
+    ap (λ (v : ℕ). let r : Reserved = record { code_base = p.code_base; code_mask = length p.code - v; data_base = p.data_base; data_mask = data_mask_of p.format (data_region p) } in r) e
+    ∙ ap (λ (v : ℕ). let r : Reserved = record { code_base = p.code_base; code_mask = length p.code - u; data_base = p.data_base; data_mask = v } in r) m
+
 pub bundles_ask : BundlesAskTheSame
 bundles_ask p none = (
   λ a. (to_bundle p a none, of_bundle p a none),
-  ap (λ (u : ℕ). reserved_for u (code_region p) (data_region p)) (bundles p.format none),
+  same_reserved p 16 (p.data_size - 1) (bundles p.format none) (two_step_mask p.format (data_region p) (bundles_two_steps p.format none)),
   λ registers. (λ typed. typed.stack, of_stack p registers none),
 )
 
 pub words_asks : WordsAsk
 words_asks p has = (
   λ a. (to_word p a has, of_word p a has),
-  ap (λ (u : ℕ). reserved_for u (code_region p) (data_region p)) (words p.format has),
+  same_reserved p 4 (data_mask_of p.format (data_region p)) (words p.format has) refl,
   λ registers. (λ typed. typed.words has, of_words_typed p registers has),
 )
 
@@ -151,7 +174,7 @@ outside p a right apart guard = by_order guard
 
 -- where the code is known to end within the addresses
 pub entered_at : (p : Part) → p.code_base + length p.code ≤ 2 ^ 32 → (h : Hart) → IsRightPart p → AreApart (code_region p) (guarded_region p) → ((k : ℕ) → slice_index p.code k < 256)
-    → IsHart h → IsUnitStart p h.pc → HasReserved (reserved_of p) h.registers → IsTyped p h.registers → (m : Bytes) × IsEntry p (record { hart = h; memory = m })
+    → IsHart h → IsUnitStart p h.pc → HasReserved p.format (reserved_of p) h.registers → IsTyped p h.registers → (m : Bytes) × IsEntry p (record { hart = h; memory = m })
 entered_at p end h right apart small hart start reserved typed = (
   bytes_over empty p.code_base p.code,
   record {
@@ -188,48 +211,54 @@ even_unit Sfi1 a even = omega arith
 even_unit Sfi2 a even = omega arith
 even_unit Sfiw a even = omega arith
 
--- a data register is one of four
-pub data_register : (f : Format) (d : ℕ) → is_data_register_in f d ≡ true → (d ≡ 2) ⊎ ((d ≡ 3) ⊎ ((d ≡ 4) ⊎ (d ≡ 29)))
-data_register format d is =
+-- a data register is one of four, or one of two more where masks have one step
+pub data_register : (f : Format) (d : ℕ) → is_data_register_in f d ≡ true → (d ≡ 2) ⊎ ((d ≡ 3) ⊎ ((d ≡ 4) ⊎ ((d ≡ 29) ⊎ ((has_one_step f ≡ true) × ((d ≡ 26) ⊎ (d ≡ 31))))))
+data_register f d is =
     ⊎_elim
+    (λ (four : is_data_register d ≡ true). ⊎_elim
     (λ (e : ((d == 2) || (d == 3) || (d == 4)) ≡ true). ⊎_elim
-    (λ (f : ((d == 2) || (d == 3)) ≡ true). ⊎_elim (λ (g : (d == 2) ≡ true). inl (eqb-true d 2 g)) (λ (g : (d == 3) ≡ true). inr (inl (eqb-true d 3 g))) (or_cases (d == 2) (d == 3) f))
-    (λ (f : (d == 4) ≡ true). inr (inr (inl (eqb-true d 4 f))))
+    (λ (e : ((d == 2) || (d == 3)) ≡ true). ⊎_elim (λ (g : (d == 2) ≡ true). inl (eqb-true d 2 g)) (λ (g : (d == 3) ≡ true). inr (inl (eqb-true d 3 g))) (or_cases (d == 2) (d == 3) e))
+    (λ (e : (d == 4) ≡ true). inr (inr (inl (eqb-true d 4 e))))
     (or_cases ((d == 2) || (d == 3)) (d == 4) e))
-    (λ (e : (d == 29) ≡ true). inr (inr (inr (eqb-true d 29 e))))
-    (or_cases ((d == 2) || (d == 3) || (d == 4)) (d == 29) (sym (data_registers format d) ∙ is))
+    (λ (e : (d == 29) ≡ true). inr (inr (inr (inl (eqb-true d 29 e)))))
+    (or_cases ((d == 2) || (d == 3) || (d == 4)) (d == 29) four))
+    (λ (two : (((d == 26) || (d == 31)) && has_one_step f) ≡ true).
+    let both = and_parts ((d == 26) || (d == 31)) (has_one_step f) two in
+    inr (inr (inr (inr (both.1, ⊎_elim (λ (e : (d == 26) ≡ true). inl (eqb-true d 26 e)) (λ (e : (d == 31) ≡ true). inr (eqb-true d 31 e)) (or_cases (d == 26) (d == 31) both.0))))))
+    (or_cases (is_data_register d) (((d == 26) || (d == 31)) && has_one_step f) is)
 
--- where the four are near the data region, each data register is
-pub each_near : (f : Format) (data_at : Span) (registers : List ℕ)
-    → IsNear data_at slack (slice_index registers 2) → IsNear data_at slack (slice_index registers 3) → IsNear data_at slack (slice_index registers 4) → IsNear data_at slack (slice_index registers 29)
-    → (d : ℕ) → is_data_register_in f d ≡ true → IsNear data_at slack (slice_index registers d)
-each_near f data_at registers second third fourth last d is = elim (data_register f d is) [
-  | inl e ↦ at e second
-  | inr others ↦ elim others [
-    | inl e ↦ at e third
-    | inr rest ↦ elim rest [
-      | inl e ↦ at e fourth
-      | inr e ↦ at e last
-    ]
-  ]
-]
+-- where these lie beside the data, each data register does
+pub each_beside : (f : Format) (data_at : Span) (registers : List ℕ)
+    → IsNearIn f data_at slack (slice_index registers 2) → IsNearIn f data_at slack (slice_index registers 3) → IsNearIn f data_at slack (slice_index registers 4) → IsNearIn f data_at slack (slice_index registers 29)
+    → (has_one_step f ≡ true → IsNearIn f data_at slack (slice_index registers 26)) → (has_one_step f ≡ true → IsNearIn f data_at slack (slice_index registers 31))
+    → (d : ℕ) → is_data_register_in f d ≡ true → IsNearIn f data_at slack (slice_index registers d)
+each_beside f data_at registers second third fourth last base offset d is = by (data_register f d is)
   where
-    at : {r : ℕ} → d ≡ r → IsNear data_at slack (slice_index registers r) → IsNear data_at slack (slice_index registers d)
-    at e near = subst (λ (x : ℕ). IsNear data_at slack (slice_index registers x)) (sym e) near
+    at : {r : ℕ} → d ≡ r → IsNearIn f data_at slack (slice_index registers r) → IsNearIn f data_at slack (slice_index registers d)
+    at e beside = subst (λ (x : ℕ). IsNearIn f data_at slack (slice_index registers x)) (sym e) beside
 
-at_base : (p : Part) (a : ℕ) → 1 ≤ p.data_size → a ≡ p.data_base → IsNear (data_region p) slack a
-at_base p a some e = record { low = omega arith; high = omega arith }
+    by : (d ≡ 2) ⊎ ((d ≡ 3) ⊎ ((d ≡ 4) ⊎ ((d ≡ 29) ⊎ ((has_one_step f ≡ true) × ((d ≡ 26) ⊎ (d ≡ 31)))))) → IsNearIn f data_at slack (slice_index registers d)
+    by (inl e) = at e second
+    by (inr (inl e)) = at e third
+    by (inr (inr (inl e))) = at e fourth
+    by (inr (inr (inr (inl e)))) = at e last
+    by (inr (inr (inr (inr (one, inl e))))) = at e (base one)
+    by (inr (inr (inr (inr (one, inr e))))) = at e (offset one)
+
+at_base : (p : Part) (a : ℕ) → 1 ≤ p.data_size → a ≡ p.data_base → IsNearIn p.format (data_region p) slack a
+at_base p a some e = inl (record { low = omega arith; high = omega arith })
 
 -- registers with x2 in the data region, the other data registers at its beginning, x30 at that entry and x31 at 0 are typed
 pub typed_when : (p : Part) (at : ℕ) (registers : List ℕ) → 1 ≤ p.data_size → IsUnitStart p at → InData p (slice_index registers 2)
     → (has_words p.format ≡ true → slice_index registers 3 ≡ p.data_base) → (has_words p.format ≡ true → slice_index registers 4 ≡ p.data_base) → (has_words p.format ≡ true → slice_index registers 29 ≡ p.data_base)
-    → (has_words p.format ≡ true → slice_index registers 30 ≡ at) → slice_index registers 31 ≡ 0 → IsTyped p registers
-typed_when p at registers some start stack third fourth last code offset =
-    let base : (d : ℕ) → slice_index registers d ≡ p.data_base → IsNear (data_region p) slack (slice_index registers d) = λ d is. at_base p (slice_index registers d) some is in
+    → slice_index registers 26 ≡ p.data_base → (has_words p.format ≡ true → slice_index registers 30 ≡ at) → slice_index registers 31 ≡ 0 → IsTyped p registers
+typed_when p at registers some start stack third fourth last base code offset =
+    let held : (d : ℕ) → slice_index registers d ≡ p.data_base → IsNearIn p.format (data_region p) slack (slice_index registers d) = λ d is. at_base p (slice_index registers d) some is in
     record {
       stack = λ has. stack;
       words = λ has. record {
-        each_data = each_near p.format (data_region p) registers (record { low = omega (arith, stack.0); high = omega (arith, stack.1) }) (base 3 (third has)) (base 4 (fourth has)) (base 29 (last has));
+        each_data = each_beside p.format (data_region p) registers (inl (record { low = omega (arith, stack.0); high = omega (arith, stack.1) })) (held 3 (third has)) (held 4 (fourth has)) (held 29 (last has))
+            (λ one. held 26 base) (λ one. inr (one, inl (omega arith)));
         code = subst (IsWordStart (code_region p)) (sym (code has)) (to_word p at has start);
         offset = λ _. omega arith;
       };
@@ -240,7 +269,15 @@ abbrev entry : Part → ℕ → Hart
 entry p at =
     let bare : Hart = record { pc = at; registers = replicate 32 0 } in
     with_register (with_register (with_register (with_register (with_register (with_register (with_register (with_register (with_register bare
-    2 p.data_base) 3 p.data_base) 4 p.data_base) 29 p.data_base) 30 at) 24 p.code_base) 25 (length p.code - unit p.format)) 26 p.data_base) 27 (p.data_size - 1)
+    2 p.data_base) 3 p.data_base) 4 p.data_base) 29 p.data_base) 30 at) 24 p.code_base) 25 (length p.code - unit p.format)) 26 p.data_base) 27 (data_mask_of p.format (data_region p))
+
+-- the mask has 32 bits
+pub mask_fits : (p : Part) → p.data_base + p.data_size + 4096 ≤ 2 ^ 32 → data_mask_of p.format (data_region p) < 2 ^ 32
+mask_fits p above = by (has_one_step p.format) refl
+  where
+    by : (one : Bool) → has_one_step p.format ≡ one → data_mask_of p.format (data_region p) < 2 ^ 32
+    by true e = let is = one_step_mask p.format (data_region p) e in omega arith
+    by false e = let is = two_step_mask p.format (data_region p) e in omega arith
 
 entry_is : (p : Part) (at : ℕ) → p.code_base + length p.code ≤ 2 ^ 32 → IsRightPart p → IsUnitStart p at → IsHart (entry p at)
 entry_is p at end right start =
@@ -249,15 +286,15 @@ entry_is p at end right start =
     let bare : IsHart (record { pc = at; registers = replicate 32 0 }) = record { even = even_unit p.format at start.aligned; address = here; count = refl; words = zero_words 32; zero = refl } in
     let base : p.data_base < 2 ^ 32 = omega arith in
     let mask : length p.code - unit p.format < 2 ^ 32 = (let some = some_unit p.format in omega arith) in
-    let data_mask : p.data_size - 1 < 2 ^ 32 = omega arith in
-    register_is _ 27 (p.data_size - 1) (register_is _ 26 p.data_base (register_is _ 25 (length p.code - unit p.format) (register_is _ 24 p.code_base (register_is _ 30 at
+    let data_mask : data_mask_of p.format (data_region p) < 2 ^ 32 = mask_fits p above in
+    register_is _ 27 (data_mask_of p.format (data_region p)) (register_is _ 26 p.data_base (register_is _ 25 (length p.code - unit p.format) (register_is _ 24 p.code_base (register_is _ 30 at
     (register_is _ 29 p.data_base (register_is _ 4 p.data_base (register_is _ 3 p.data_base (register_is _ 2 p.data_base bare base) base) base) base) here) right.code_base) mask) base) data_mask
 
-entry_reserved : (p : Part) (at : ℕ) → HasReserved (reserved_of p) (entry p at).registers
-entry_reserved p at = record { code_base = refl; code_mask = refl; data_base = refl; data_mask = refl }
+entry_reserved : (p : Part) (at : ℕ) → HasReserved p.format (reserved_of p) (entry p at).registers
+entry_reserved p at = record { code_base = refl; code_mask = refl; data_base = λ two. refl; data_mask = refl }
 
 entry_typed : (p : Part) (at : ℕ) → 1 ≤ p.data_size → IsUnitStart p at → IsTyped p (entry p at).registers
-entry_typed p at some start = typed_when p at (entry p at).registers some start (omega arith, omega arith) (λ has. refl) (λ has. refl) (λ has. refl) (λ has. refl) refl
+entry_typed p at some start = typed_when p at (entry p at).registers some start (omega arith, omega arith) (λ has. refl) (λ has. refl) (λ has. refl) refl (λ has. refl) refl
 
 pub entries : HasEntries
 entries p at right apart small start =

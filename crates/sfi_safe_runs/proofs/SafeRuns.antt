@@ -85,13 +85,13 @@ pub entry_keeps : (z : Zones) (p : Part) (s : State) → IsEntryAs (by_ecall z) 
 entry_keeps z p s entry = record { count = entry.state.hart.count; reserved = entry.reserved; code = entry.code; guards = entry.guards }
 
 -- what a reply keeps, of which only this is asked
-pub kept_after : (z : Zones) (p : Part) (s after : State) → KeepsAllAs z p s → length after.hart.registers ≡ 32 → KeepsReserved s.hart after.hart → KeepsBytesAs (by_ecall z) p s.memory after.memory → KeepsAllAs z p after
+pub kept_after : (z : Zones) (p : Part) (s after : State) → KeepsAllAs z p s → length after.hart.registers ≡ 32 → KeepsReserved p.format s.hart after.hart → KeepsBytesAs (by_ecall z) p s.memory after.memory → KeepsAllAs z p after
 kept_after z p s after kept count reserved bytes = record {
   count = count;
   reserved = record {
     code_base = reserved.code_base ∙ kept.reserved.code_base;
     code_mask = reserved.code_mask ∙ kept.reserved.code_mask;
-    data_base = reserved.data_base ∙ kept.reserved.data_base;
+    data_base = λ two. reserved.data_base two ∙ kept.reserved.data_base two;
     data_mask = reserved.data_mask ∙ kept.reserved.data_mask;
   };
   code = code_kept z p s.memory after.memory bytes kept.code;
@@ -104,7 +104,7 @@ reply_keeps z p s after kept r = kept_after z p s after kept r.state.hart.count 
 pub change_keeps : (z : Zones) (p : Part) (s after : State) → KeepsAllAs z p s → IsChangeAs (by_ecall z) p s after → KeepsAllAs z p after
 change_keeps z p s after kept c = record {
   count = ap length c.registers ∙ kept.count;
-  reserved = subst (λ (l : List ℕ). HasReserved (reserved_of p) l) (sym c.registers) kept.reserved;
+  reserved = subst (λ (l : List ℕ). HasReserved p.format (reserved_of p) l) (sym c.registers) kept.reserved;
   code = code_kept z p s.memory after.memory c.bytes kept.code;
   guards = guards_kept z p s.memory after.memory c.bytes.guards kept.guards;
 }

@@ -95,7 +95,7 @@ replies_anyway t p s right state code typed e = (
     asked = asks t.calls p s right code e;
     state = record { hart = goes_on p s.hart right e state.hart; memory = state.memory };
     pc = refl;
-    reserved = record { code_base = refl; code_mask = refl; data_base = refl; data_mask = refl };
+    reserved = record { code_base = refl; code_mask = refl; data_base = λ two. refl; data_mask = refl };
     typed = typed;
     bytes = record { code = λ a own. refl; guards = keeps_guards t.zones p s.memory };
   },

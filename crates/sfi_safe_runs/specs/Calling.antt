@@ -60,7 +60,7 @@ pub record AllCallTyped (ps : List Part) : Type 0 where
 -- the guard zones are as they should be
 pub record KeepsAllAs (zones : Zones) (p : Part) (s : State) : Type 0 where
   pub count : length s.hart.registers ≡ 32
-  pub reserved : HasReserved (reserved_of p) s.hart.registers
+  pub reserved : HasReserved p.format (reserved_of p) s.hart.registers
   pub code : HasCode p s.memory
   pub guards : HasGuards zones p s.memory
 

@@ -1,5 +1,5 @@
 -- What holds of runs, whatever the rules.
-use Rattle.std.specs.Prelude.{◌≡◌, ◌≢◌, ◌↔◌, ◌<◌, slice_index, ℕ, List, Some, true, false}
+use Rattle.std.specs.Prelude.{◌≡◌, ◌≢◌, ◌↔◌, ◌<◌, ◌-◌, slice_index, length, ℕ, List, Some, true, false}
 use Rattle.rv_mem.specs.Bytes.{Bytes, IsMemory, byte_at}
 use Rattle.rv_step.specs.declared.outcome.Outcome.TheVariants.{Trap}
 use Rattle.rv_step.specs.declared.outcome.Cause.TheVariants.{Fetch, Illegal}
@@ -8,7 +8,7 @@ use Rattle.rv_step.specs.Step.{Stepped, IsStep}
 use Rattle.sfi_formats.specs.declared.format.Format.TheVariants.{Sfi1}
 use Rattle.sfi_formats.specs.Formats.{has_words}
 use Rattle.sfi_formats.specs.Limits.{bundle_size, word_size}
-use Rattle.sfi_image.specs.Parts.{IsRightPart, IsBundleStart, reserved_for, reserved_of, HasReserved, IsWordStart}
+use Rattle.sfi_image.specs.Parts.{IsRightPart, IsBundleStart, data_mask_of, reserved_of, HasReserved, IsWordStart}
 use Rattle.sfi_image.specs.Spelling.{AreApart, code_region, data_region, guarded_region, Part}
 use Rattle.sfi_safe_runs.specs.Runs.{InGuard, IsUnitStart, StackInData, StaysOutside, IsTyped, AreWordsTyped, Zones, Padded, Calls, Direct, Setting, IsInBoard, HasCodeAs, HasEcall, Turn, IsTurn, IsTurnAs, IsEntry, IsEntryAs, IsChange, IsChangeAs, IsReplyAs, after_turn}
 use Rattle.sfi_safe_runs.specs.Safety.{IsSafeState, IsSafeStateAs, IsSafeTurn, IsSafeTurnAs, RunsSafelyFrom, RunsSafelyFromAs}
@@ -47,7 +47,7 @@ abbrev pub CanBeEntered : Type 0
 CanBeEntered =
     (p : Part) (h : Hart) → IsRightPart p → AreApart (code_region p) (guarded_region p)
     → ((k : ℕ) → slice_index p.code k < 256)
-    → IsHart h → IsUnitStart p h.pc → HasReserved (reserved_of p) h.registers → IsTyped p h.registers
+    → IsHart h → IsUnitStart p h.pc → HasReserved p.format (reserved_of p) h.registers → IsTyped p h.registers
     → (m : Bytes) × IsEntry p (record { hart = h; memory = m })
 
 -- a sandbox that passes its tests, whose code is of bytes and lies apart from its data and guards,
@@ -102,21 +102,31 @@ RepliesAnyway = (t : Setting) (p : Part) (s : State) → IsRightPart p → IsSta
 -- ---- what the formats ask
 
 -- In a format without words a sandbox is entered at bundle starts, x25 holds the code size less a
--- bundle's, and no register but a stack pointer has a type.
+-- bundle's, x27 the data size less 1, and no register but a stack pointer has a type.
 abbrev pub BundlesAskTheSame : Type 0
 BundlesAskTheSame =
     (p : Part) → has_words p.format ≡ false
     → ((a : ℕ) → IsUnitStart p a ↔ IsBundleStart (code_region p) a)
-    × (reserved_of p ≡ reserved_for bundle_size (code_region p) (data_region p))
+    × (reserved_of p ≡ record {
+      code_base = p.code_base;
+      code_mask = length p.code - bundle_size;
+      data_base = p.data_base;
+      data_mask = p.data_size - 1;
+    })
     × ((registers : List ℕ) → IsTyped p registers ↔ StackInData p registers)
 
 -- In a format of words a sandbox is entered at words' starts, x25 holds the code size less a word's,
--- and six registers have types.
+-- and registers have types.
 abbrev pub WordsAsk : Type 0
 WordsAsk =
     (p : Part) → has_words p.format ≡ true
     → ((a : ℕ) → IsUnitStart p a ↔ IsWordStart (code_region p) a)
-    × (reserved_of p ≡ reserved_for word_size (code_region p) (data_region p))
+    × (reserved_of p ≡ record {
+      code_base = p.code_base;
+      code_mask = length p.code - word_size;
+      data_base = p.data_base;
+      data_mask = data_mask_of p.format (data_region p);
+    })
     × ((registers : List ℕ) → IsTyped p registers ↔ AreWordsTyped p.format (code_region p) (data_region p) registers)
 
 -- in the first format no register has a type: nothing is asked of x2, at an entry, after a reply or

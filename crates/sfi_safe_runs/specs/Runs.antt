@@ -5,7 +5,7 @@ use Rattle.sfi_formats.specs.Formats.{code_base_register, code_mask_register, da
 use Rattle.sfi_formats.specs.declared.format.Format.{Format}
 use Rattle.sfi_image.specs.declared.part.Gate.{Gate}
 use Rattle.sfi_image.specs.declared.span.Span.{Span}
-use Rattle.sfi_image.specs.Spelling.{Part, Holds, InZones, IsNear, code_region, data_region}
+use Rattle.sfi_image.specs.Spelling.{Part, Holds, InZones, IsNearIn, code_region, data_region}
 use Rattle.sfi_image.specs.Parts.{IsStart, IsWordStart, HasReserved, reserved_of}
 use Rattle.rv_comp.specs.Fronts.{Spells}
 use Rattle.rv_mem.specs.Bytes.{Bytes, byte_at, address_after}
@@ -52,17 +52,18 @@ StackInData p registers = has_stack p.format ≡ true → InData p (slice_index 
 
 -- ---- of code in words
 
--- each typed register of code in words of this format holds what its type says, in a sandbox with these
--- regions
+-- Each typed register of code in words of this format holds what its type says, in a sandbox with these
+-- regions: a data register an address in the data or near them, or where masks have one step near zero.
 pub record AreWordsTyped (f : Format) (code_at data_at : Span) (registers : List ℕ) : Type 0 where
-  pub each_data : (d : ℕ) → is_data_register_in f d ≡ true → IsNear data_at slack (slice_index registers d)
+  pub each_data : (d : ℕ) → is_data_register_in f d ≡ true → IsNearIn f data_at slack (slice_index registers d)
   pub code : IsWordStart code_at (slice_index registers code_register)
   pub offset : has_one_step f ≡ false → slice_index registers offset_register < data_at.size
 
 -- ---- of any format
 
 -- The typed registers of its format hold what their types say: x2 lies in the data region where it is
--- a stack pointer, and in words six registers are typed. The first format has none, so nothing is asked.
+-- a stack pointer, and in words six registers are typed, or one more where masks have one step. The first
+-- format has none, so nothing is asked.
 pub record IsTyped (p : Part) (registers : List ℕ) : Type 0 where
   pub stack : StackInData p registers
   pub words : has_words p.format ≡ true → AreWordsTyped p.format (code_region p) (data_region p) registers
@@ -152,7 +153,7 @@ HasGuards Padded p m = Unit {0}
 pub record IsEntryAs (t : Setting) (p : Part) (s : State) : Type 0 where
   pub state : IsState s
   pub start : IsUnitStart p s.hart.pc
-  pub reserved : HasReserved (reserved_of p) s.hart.registers
+  pub reserved : HasReserved p.format (reserved_of p) s.hart.registers
   pub typed : IsTyped p s.hart.registers
   pub code : HasCodeAs t.calls p s.memory
   pub guards : HasGuards t.zones p s.memory
@@ -170,11 +171,12 @@ pub record KeepsBytesAs (t : Setting) (p : Part) (before after : Bytes) : Type 0
   pub code : (a : ℕ) → IsOwnCode t.calls p a → byte_at after a ≡ byte_at before a
   pub guards : KeepsGuards t.zones p before after
 
--- the reserved registers stay
-pub record KeepsReserved (before after : Hart) : Type 0 where
+-- the reserved registers of this format stay
+pub record KeepsReserved (f : Format) (before after : Hart) : Type 0 where
   pub code_base : register after code_base_register ≡ register before code_base_register
   pub code_mask : register after code_mask_register ≡ register before code_mask_register
-  pub data_base : register after data_base_register ≡ register before data_base_register
+  pub data_base : has_one_step f ≡ false
+      → register after data_base_register ≡ register before data_base_register
   pub data_mask : register after data_mask_register ≡ register before data_mask_register
 
 -- the image has an ecall at the address, whatever the memory has there
@@ -197,7 +199,7 @@ pub record IsReplyAs (t : Setting) (p : Part) (before after : State) : Type 0 wh
   pub asked : Asks t.calls p before size
   pub state : IsState after
   pub pc : after.hart.pc ≡ address_after before.hart.pc 4
-  pub reserved : KeepsReserved before.hart after.hart
+  pub reserved : KeepsReserved p.format before.hart after.hart
   pub typed : IsTyped p after.hart.registers
   pub bytes : KeepsBytesAs t p before.memory after.memory
 
