@@ -1,5 +1,5 @@
 -- What each instruction does, and what passes a test of the rules.
-use Rattle.sfi_word_safety.proofs.Prelude.{◌≡◌, ◌≢◌, ℕ, ◌<◌, true, false, ◌&&◌, ◌||◌, ◌==◌, refl, sym, ap, ◌∙◌, arith, ⊎_elim, Option, Some, None, ℤ, pos, negsuc, and_parts, or_cases, eqb-true, eq-eqb, false≢true, leb-true, ltb-true, destination, is_register, writes_register, Instr, Op, OpImm, Or, Addi, is_data_register_in, is_or, is_small, is_pointer_step, ◌+◌, ◌*◌, ◌%◌, ◌^◌, ◌≤◌, ◌⊎◌, List, length, Bool, cond, not, Format, has_one_step, two_steps, is_reserved_in, subst, inl, inr, slice_index, is_some, not-false, offset_by, Load, Store, Branch, Jal, Jalr, Lui, Auipc, Fence, Ecall, Ebreak, RegOp, LoadKind, Bytes, bytes_at, address_after, addresses, loaded, Hart, register, with_register, with_pc, past, even_of, effect, after_load, next, unchanged, word, result_of, load_size, store_size, is_taken, extended, Outcome, Next, Call, Trap, Part, is_gate_of, IsGate, breaks_reserved, ends_region, IsWordStart, HasReserved, is_word_start, breaks_ecall, breaks_jump, breaks_target}
+use Rattle.sfi_word_safety.proofs.Prelude.{◌≡◌, ◌≢◌, ℕ, ◌<◌, true, false, ◌&&◌, ◌||◌, ◌==◌, refl, sym, ap, ◌∙◌, arith, ⊎_elim, Option, Some, None, ℤ, pos, negsuc, and_parts, or_cases, eqb-true, eq-eqb, false≢true, leb-true, ltb-true, destination, is_register, writes_register, Instr, Op, OpImm, Or, Addi, is_data_register_in, is_or, is_small, is_pointer_step, ◌+◌, ◌*◌, ◌%◌, ◌^◌, ◌≤◌, ◌⊎◌, List, length, Bool, cond, not, Format, has_one_step, is_reserved_in, subst, inl, inr, slice_index, is_some, not-false, offset_by, Load, Store, Branch, Jal, Jalr, Lui, Auipc, Fence, Ecall, Ebreak, RegOp, LoadKind, Bytes, bytes_at, address_after, addresses, loaded, Hart, register, with_register, with_pc, past, even_of, effect, after_load, next, unchanged, word, result_of, load_size, store_size, is_taken, extended, Outcome, Next, Call, Trap, Part, is_gate_of, IsGate, breaks_reserved, ends_region, IsWordStart, HasReserved, is_word_start, breaks_ecall, breaks_jump, breaks_target}
 use Rattle.sfi_safe_runs.proofs.Accessing.{IsWithin, kept, count_kept, written}
 use Rattle.std.specs.Prelude.{nat_le, nat_lt}
 use Rattle.rv_step.specs.declared.outcome.Cause.TheVariants as cause
@@ -131,11 +131,11 @@ not_reserved f i r free is e = by (destination i) e free
     by None e g = cc
     by (Some d) e g = let same : d ≡ r = cc in false≢true (sym g ∙ ap (is_reserved_in f) same ∙ is)
 
-pub reserved_stay : (p : Part) (i : Instr) (h h' : Hart) → Writes i h h' → breaks_reserved p.format i ≡ false → HasReserved (reserved_of p) h.registers → HasReserved (reserved_of p) h'.registers
+pub reserved_stay : (p : Part) (i : Instr) (h h' : Hart) → Writes i h h' → breaks_reserved p.format i ≡ false → HasReserved p.format (reserved_of p) h.registers → HasReserved p.format (reserved_of p) h'.registers
 reserved_stay p i h h' w free has = record {
   code_base = others_stay i h h' 24 w (not_reserved p.format i 24 free refl) ∙ has.code_base;
   code_mask = others_stay i h h' 25 w (not_reserved p.format i 25 free refl) ∙ has.code_mask;
-  data_base = others_stay i h h' 26 w (not_reserved p.format i 26 free (rw (two_steps p.format) refl)) ∙ has.data_base;
+  data_base = λ two. others_stay i h h' 26 w (not_reserved p.format i 26 free (rw two refl)) ∙ has.data_base two;
   data_mask = others_stay i h h' 27 w (not_reserved p.format i 27 free refl) ∙ has.data_mask;
 }
 

@@ -1,20 +1,33 @@
 -- What is known of the typed registers before an instruction, and what it makes of that.
-use Rattle.sfi_word_safety.proofs.Prelude.{◌≡◌, ℕ, ◌+◌, ◌<◌, ◌≤◌, ◌⊎◌, List, ◌∷◌, length, true, false, not, ◌&&◌, ◌||◌, ◌==◌, refl, sym, ap, ◌∙◌, subst, inl, inr, ⊎_elim, arith, Option, Some, None, ℤ, slice_index, bit_and, bit_or, and_parts, or_cases, eqb-true, eq-eqb, not-false, false≢true, cases_Bool, offset_by, InRange, IsImm12, destination, is_register, writes_register, Instr, Op, OpImm, Load, Store, Branch, Jal, Jalr, Ecall, Addi, And, Or, Add, Bytes, address_after, Accesses, Hart, register, effect, word, result_of, load_size, store_size, is_masking, is_placing, Part, Piece, is_jump, InData, InGuard, is_data_register_in, IsWordStart, IsNear, HasReserved, AreWordsTyped, places, masks, begins_placing, begins_masking, begins_using, begins_code, is_pointer_step, uses, is_small, may_access, breaks_access, may_write_data, breaks_data_of, breaks_data, may_write_code, breaks_code, breaks_offset, IsRightPart, has_words, ◌-◌, IsKnown, IsCodeKnown, AreKnown, Format, has_one_step, two_steps, is_or}
+use Rattle.sfi_word_safety.proofs.Prelude.{◌≡◌, ℕ, ◌+◌, ◌<◌, ◌≤◌, ◌⊎◌, List, ◌∷◌, length, true, false, not, ◌&&◌, ◌||◌, ◌==◌, refl, sym, ap, ◌∙◌, subst, inl, inr, ⊎_elim, arith, Option, Some, None, ℤ, slice_index, bit_and, bit_or, and_parts, or_cases, eqb-true, eq-eqb, not-false, false≢true, cases_Bool, offset_by, InRange, IsImm12, destination, is_register, writes_register, Instr, Op, OpImm, Load, Store, Branch, Jal, Jalr, Ecall, Addi, And, Or, Add, Bytes, address_after, Accesses, Hart, register, effect, word, result_of, load_size, store_size, is_masking, is_placing, Part, Piece, is_jump, InData, InGuard, is_data_register_in, IsWordStart, IsNear, HasReserved, AreWordsTyped, places, masks, begins_placing, begins_masking, begins_using, begins_code, is_pointer_step, uses, is_small, may_access, breaks_access, may_write_data, breaks_data_of, breaks_data, may_write_code, breaks_code, breaks_offset, IsRightPart, has_words, ◌-◌, IsKnown, IsCodeKnown, AreKnown, Format, has_one_step, IsNearIn, is_or, Bool, cond}
 use Rattle.sfi_formats.specs.Formats.{code_most, data_most}
-use Rattle.sfi_safe_runs.proofs.Accessing.{imm12_within, near_access, stepped, used, first_address, load_sized, store_sized, load_range, store_range, masked_code}
-use Rattle.sfi_safe_runs.proofs.Entries.{words as word_unit}
+use Rattle.sfi_safe_runs.proofs.Accessing.{imm12_within, first_address, load_sized, store_sized, load_range, store_range, masked_code}
+use Rattle.sfi_safe_runs.proofs.Beside.{one_step_placed, beside_access, beside_stepped, beside_used}
+use Rattle.sfi_safe_runs.proofs.Entries.{words as word_unit, two_step_mask, one_step_mask}
 use Rattle.sfi_safe_runs.proofs.Accessing as at
 use Rattle.sfi_pairs.proofs.Facts.{masking_is, placing_is}
 use Rattle.sfi_word_safety.proofs.Effects.{data_register, writes_it, writes_other, or_is, step_is, small_within, writes, others_stay, result_there, step_there, is_flow}
 use Rattle.sfi_image.specs.Parts.{reserved_of}
 use Rattle.sfi_image.specs.Spelling.{code_region, data_region}
 
--- no format has masks of one step, so a mask ends by `or d, x31, x26`
-places_is : (f : Format) (d : ℕ) (i : Instr) → places f d i ≡ is_or d 31 26 i
-places_is f d i = rw (two_steps f) refl
+-- where a mask has two steps, it ends by `or d, x31, x26`
+places_two : (f : Format) (d : ℕ) (i : Instr) → has_one_step f ≡ false → places f d i ≡ true → i ≡ Op Or d 31 26
+places_two f d i two h = or_is d 31 26 i (rw two at h)
 
-placing_left : (f : Format) (d : ℕ) (later : List Piece) → (has_one_step f || begins_placing f d later) ≡ true → begins_placing f d later ≡ true
-placing_left f d later h = rw (two_steps f) at h
+-- where it has one, by `and d, a, x27`, with which it begins, too
+places_one : (f : Format) (d : ℕ) (i : Instr) → has_one_step f ≡ true → places f d i ≡ true → (a : ℕ) × (i ≡ Op And d a 27)
+places_one f d i one h = masking_is 27 d i (rw one at h)
+
+masks_one : (f : Format) (d : ℕ) (i : Instr) → has_one_step f ≡ true → masks f d i ≡ true → (a : ℕ) × (i ≡ Op And d a 27)
+masks_one f d i one h = masking_is 27 d i (rw one at h)
+
+placing_left : (f : Format) (d : ℕ) (later : List Piece) → has_one_step f ≡ false → (has_one_step f || begins_placing f d later) ≡ true → begins_placing f d later ≡ true
+placing_left f d later two h = rw two at h
+
+-- what isn't so in either case isn't so
+neither : (one : Bool) → cond one false false ≡ false
+neither true = refl
+neither false = refl
 
 step_range : (d : ℕ) (imm : ℤ) → InRange (OpImm Addi d d imm) → IsImm12 imm
 unfolding InRange
@@ -38,7 +51,7 @@ record IsPlain (i : Instr) : Type 0 where
   pub placing : (b t : ℕ) → is_placing b t i ≡ false
   pub masking : (m t : ℕ) → is_masking m t i ≡ false
 
-near_here : (p : Part) (d v : ℕ) (x : Piece) (later : List Piece) → IsPlain x.instr → IsKnown p d v (x ∷ later) → IsNear (data_region p) 1020 v
+near_here : (p : Part) (d v : ℕ) (x : Piece) (later : List Piece) → IsPlain x.instr → IsKnown p d v (x ∷ later) → IsNearIn p.format (data_region p) 1020 v
 near_here p d v x later plain (inl lies) = lies
 near_here p d v x later plain (inr (inl h)) = absurd (false≢true (sym (plain.places p.format d) ∙ h))
 near_here p d v x later plain (inr (inr (inl h))) = absurd (false≢true (sym (plain.masks p.format d) ∙ (and_parts (masks p.format d x.instr) (has_one_step p.format || begins_placing p.format d later) h).0))
@@ -49,9 +62,9 @@ start_here p v x later plain (inl start) = start
 start_here p v x later plain (inr h) = absurd (false≢true (sym (plain.placing 24 30) ∙ h.0))
 
 flow_plain : (i : Instr) → is_flow i ≡ true → IsPlain i
-flow_plain (Branch condition rs1 rs2 offset) h = record { places = λ f d. rw (two_steps f) refl; masks = λ f d. rw (two_steps f) refl; uses = λ d. refl; placing = λ b t. refl; masking = λ m t. refl }
-flow_plain (Jal rd offset) h = record { places = λ f d. rw (two_steps f) refl; masks = λ f d. rw (two_steps f) refl; uses = λ d. refl; placing = λ b t. refl; masking = λ m t. refl }
-flow_plain (Jalr rd rs1 imm) h = record { places = λ f d. rw (two_steps f) refl; masks = λ f d. rw (two_steps f) refl; uses = λ d. refl; placing = λ b t. refl; masking = λ m t. refl }
+flow_plain (Branch condition rs1 rs2 offset) h = record { places = λ f d. neither (has_one_step f); masks = λ f d. neither (has_one_step f); uses = λ d. refl; placing = λ b t. refl; masking = λ m t. refl }
+flow_plain (Jal rd offset) h = record { places = λ f d. neither (has_one_step f); masks = λ f d. neither (has_one_step f); uses = λ d. refl; placing = λ b t. refl; masking = λ m t. refl }
+flow_plain (Jalr rd rs1 imm) h = record { places = λ f d. neither (has_one_step f); masks = λ f d. neither (has_one_step f); uses = λ d. refl; placing = λ b t. refl; masking = λ m t. refl }
 flow_plain _ h = absurd (false≢true h)
 
 flow_jumps : (i : Instr) → is_flow i ≡ true → (r : ℕ) → destination i ≡ Some r → is_jump i ≡ true
@@ -71,7 +84,7 @@ pub code_at_flow : (p : Part) (registers : List ℕ) (x : Piece) (later : List P
 code_at_flow p registers x later flow known = start_here p _ x later (flow_plain x.instr flow) known.code
 
 ecall_plain : IsPlain Ecall
-ecall_plain = record { places = λ f d. rw (two_steps f) refl; masks = λ f d. rw (two_steps f) refl; uses = λ d. refl; placing = λ b t. refl; masking = λ m t. refl }
+ecall_plain = record { places = λ f d. neither (has_one_step f); masks = λ f d. neither (has_one_step f); uses = λ d. refl; placing = λ b t. refl; masking = λ m t. refl }
 
 pub typed_at_ecall : (p : Part) (registers : List ℕ) (x : Piece) (later : List Piece) → Ecall ≡ x.instr → AreKnown p registers (x ∷ later) → AreWordsTyped p.format (code_region p) (data_region p) registers
 typed_at_ecall p registers x later e known =
@@ -84,51 +97,56 @@ typed_at_ecall p registers x later e known =
 
 -- ---- accesses
 
-module _ (p : Part) (words : has_words p.format ≡ true) (right : IsRightPart p) (h : Hart) (reserved : HasReserved (reserved_of p) h.registers) where
+module _ (p : Part) (words : has_words p.format ≡ true) (right : IsRightPart p) (h : Hart) (reserved : HasReserved p.format (reserved_of p) h.registers) where
   -- the base of an access lies near, or twice as far and the offset is small
   base_lies : (x : Piece) (later : List Piece) (base : ℕ) (imm : ℤ) → AreKnown p h.registers (x ∷ later) → ((d : ℕ) → places p.format d x.instr ≡ false) → ((d : ℕ) → masks p.format d x.instr ≡ false)
       → ((d : ℕ) → uses d x.instr ≡ true → is_small imm ≡ true) → may_access p.format base ≡ true
-      → IsNear (data_region p) 1020 (register h base) ⊎ (IsNear (data_region p) (1020 + 2048) (register h base) × (is_small imm ≡ true))
+      → IsNearIn p.format (data_region p) 1020 (register h base) ⊎ (IsNearIn p.format (data_region p) (1020 + 2048) (register h base) × (is_small imm ≡ true))
   base_lies x later base imm known none none' small may =
       ⊎_elim
       (λ (is : is_data_register_in p.format base ≡ true). by (known.each_data base is))
-      (λ (is : (base == 26) ≡ true).
-      let e : register h base ≡ p.data_base = ap (λ (r : ℕ). register h r) (eqb-true base 26 is) ∙ reserved.data_base in
-      let some : 256 ≤ p.data_size = right.data_placed.at_least in
-      inl (record { low = omega arith; high = omega arith }))
+      (λ (is : (base == 26) ≡ true). on_base (eqb-true base 26 is) (has_one_step p.format) refl)
       (or_cases (is_data_register_in p.format base) (base == 26) may)
     where
-      by : IsKnown p base (register h base) (x ∷ later) → IsNear (data_region p) 1020 (register h base) ⊎ (IsNear (data_region p) (1020 + 2048) (register h base) × (is_small imm ≡ true))
+      by : IsKnown p base (register h base) (x ∷ later) → IsNearIn p.format (data_region p) 1020 (register h base) ⊎ (IsNearIn p.format (data_region p) (1020 + 2048) (register h base) × (is_small imm ≡ true))
       by (inl lies) = inl lies
       by (inr (inl e)) = absurd (false≢true (sym (none base) ∙ e))
       by (inr (inr (inl e))) = absurd (false≢true (sym (none' base) ∙ (and_parts (masks p.format base x.instr) (has_one_step p.format || begins_placing p.format base later) e).0))
       by (inr (inr (inr (lies, used_here)))) = inr (lies, small base used_here)
 
-  access_near : (v : ℕ) (imm : ℤ) (n a : ℕ) → IsImm12 imm → n ≤ 4 → IsNear (data_region p) 1020 v ⊎ (IsNear (data_region p) (1020 + 2048) v × (is_small imm ≡ true)) → Rattle.std.specs.List.Contains (Rattle.rv_mem.specs.Bytes.addresses (offset_by v imm) n) a → InData p a ⊎ InGuard p a
-  access_near v imm n a range few (inl lies) has = near_access p right.guard_room v 1020 2048 imm n a lies (imm12_within imm range) (omega arith) few has
-  access_near v imm n a range few (inr (lies, small)) has = near_access p right.guard_room v (1020 + 2048) 1020 imm n a lies (small_within imm small) (omega arith) few has
+      -- x26 is a data register, or holds the data base
+      on_base : base ≡ 26 → (one : Bool) → has_one_step p.format ≡ one → IsNearIn p.format (data_region p) 1020 (register h base) ⊎ (IsNearIn p.format (data_region p) (1020 + 2048) (register h base) × (is_small imm ≡ true))
+      on_base same true e = by (known.each_data base (rw (same, e) refl))
+      on_base same false e =
+          let at : register h base ≡ p.data_base = ap (λ (r : ℕ). register h r) same ∙ reserved.data_base e in
+          let some : 256 ≤ p.data_size = right.data_placed.at_least in
+          inl (inl (record { low = omega arith; high = omega arith }))
+
+  access_near : (v : ℕ) (imm : ℤ) (n a : ℕ) → IsImm12 imm → n ≤ 4 → IsNearIn p.format (data_region p) 1020 v ⊎ (IsNearIn p.format (data_region p) (1020 + 2048) v × (is_small imm ≡ true)) → Rattle.std.specs.List.Contains (Rattle.rv_mem.specs.Bytes.addresses (offset_by v imm) n) a → InData p a ⊎ InGuard p a
+  access_near v imm n a range few (inl lies) has = beside_access p right.guard_room v 1020 2048 imm n a lies (imm12_within imm range) (omega arith) few has
+  access_near v imm n a range few (inr (lies, small)) has = beside_access p right.guard_room v (1020 + 2048) 1020 imm n a lies (small_within imm small) (omega arith) few has
 
   pub accesses_near : (i : Instr) (n : ℕ) (later : List Piece) → InRange i → breaks_access p.format i ≡ false → AreKnown p h.registers (record { instr = i; size = n } ∷ later) → (a : ℕ) → Accesses i h a → InData p a ⊎ InGuard p a
   accesses_near (Load kind rd rs1 imm) n later range free known a has =
       access_near (register h rs1) imm (load_size kind) a (load_range kind rd rs1 imm range) (load_sized kind).most
-      (base_lies (record { instr = Load kind rd rs1 imm; size = n }) later rs1 imm known (λ d. rw (two_steps p.format) refl) (λ d. rw (two_steps p.format) refl) (λ d u. (and_parts (rs1 == d) (is_small imm) (and_parts ((rs1 == d) && is_small imm) (not (rd == 0)) u).0).1) (not-false _ free)) has
+      (base_lies (record { instr = Load kind rd rs1 imm; size = n }) later rs1 imm known (λ d. neither (has_one_step p.format)) (λ d. neither (has_one_step p.format)) (λ d u. (and_parts (rs1 == d) (is_small imm) (and_parts ((rs1 == d) && is_small imm) (not (rd == 0)) u).0).1) (not-false _ free)) has
   accesses_near (Store width rs1 rs2 imm) n later range free known a has =
       access_near (register h rs1) imm (store_size width) a (store_range width rs1 rs2 imm range) (store_sized width).most
-      (base_lies (record { instr = Store width rs1 rs2 imm; size = n }) later rs1 imm known (λ d. rw (two_steps p.format) refl) (λ d. rw (two_steps p.format) refl) (λ d u. (and_parts (rs1 == d) (is_small imm) u).1) (not-false _ free)) has
+      (base_lies (record { instr = Store width rs1 rs2 imm; size = n }) later rs1 imm known (λ d. neither (has_one_step p.format)) (λ d. neither (has_one_step p.format)) (λ d u. (and_parts (rs1 == d) (is_small imm) u).1) (not-false _ free)) has
   accesses_near other n later range free known a (k, below, is) = absurd (omega arith)
 
   -- a use that fell into the data leaves its base near them
-  uses_back : (d : ℕ) (i : Instr) → uses d i ≡ true → IsNear (data_region p) (1020 + 2048) (register h d) → ((a : ℕ) → Accesses i h a → InData p a) → IsNear (data_region p) 1020 (register h d)
+  uses_back : (d : ℕ) (i : Instr) → uses d i ≡ true → IsNearIn p.format (data_region p) (1020 + 2048) (register h d) → ((a : ℕ) → Accesses i h a → InData p a) → IsNear (data_region p) 1020 (register h d)
   uses_back d (Load kind rd rs1 imm) u lies inside =
       let parts = and_parts (rs1 == d) (is_small imm) (and_parts ((rs1 == d) && is_small imm) (not (rd == 0)) u).0 in
       let e = eqb-true rs1 d parts.0 in
       let inside' = inside (address_after (offset_by (register h rs1) imm) 0) (first_address _ (load_size kind) (load_sized kind).some) in
-      used p right.guard_room (register h d) imm lies (small_within imm parts.1) (subst (λ (r : ℕ). InData p (address_after (offset_by (register h r) imm) 0)) e inside')
+      beside_used p right.guard_room (register h d) imm lies (small_within imm parts.1) (subst (λ (r : ℕ). InData p (address_after (offset_by (register h r) imm) 0)) e inside')
   uses_back d (Store width rs1 rs2 imm) u lies inside =
       let parts = and_parts (rs1 == d) (is_small imm) u in
       let e = eqb-true rs1 d parts.0 in
       let inside' = inside (address_after (offset_by (register h rs1) imm) 0) (first_address _ (store_size width) (store_sized width).some) in
-      used p right.guard_room (register h d) imm lies (small_within imm parts.1) (subst (λ (r : ℕ). InData p (address_after (offset_by (register h r) imm) 0)) e inside')
+      beside_used p right.guard_room (register h d) imm lies (small_within imm parts.1) (subst (λ (r : ℕ). InData p (address_after (offset_by (register h r) imm) 0)) e inside')
   uses_back d _ u lies inside = absurd (false≢true u)
 
   -- ---- after the instruction
@@ -145,15 +163,44 @@ module _ (p : Part) (words : has_words p.format ≡ true) (right : IsRightPart p
     clash r i e dest none = writes_other r x.instr none (ap destination e ∙ dest)
 
     data_stays : (d : ℕ) → IsKnown p d (register h d) (x ∷ later) → writes_register d x.instr ≡ false → ((a : ℕ) → Accesses x.instr h a → InData p a) → IsKnown p d (register after d) later
-    data_stays d (inl lies) none inside = inl (subst (λ (a : ℕ). IsNear (data_region p) 1020 a) (sym (stays d none)) lies)
-    data_stays d (inr (inl e)) none inside = absurd (clash d (Op Or d 31 26) (or_is d 31 26 x.instr (sym (places_is p.format d x.instr) ∙ e)) refl none)
-    data_stays d (inr (inr (inl e))) none inside = inr (inl (placing_left p.format d later (and_parts (masks p.format d x.instr) (has_one_step p.format || begins_placing p.format d later) e).1))
-    data_stays d (inr (inr (inr (lies, used_here)))) none inside =
-        inl (subst (λ (a : ℕ). IsNear (data_region p) 1020 a) (sym (stays d none)) (uses_back d x.instr used_here lies inside))
+    data_stays d (inl lies) none inside = inl (subst (λ (a : ℕ). IsNearIn p.format (data_region p) 1020 a) (sym (stays d none)) lies)
+    data_stays d (inr (inl e)) none inside = by (has_one_step p.format) refl
+      where
+        by : (one : Bool) → has_one_step p.format ≡ one → IsKnown p d (register after d) later
+        by true one = let is = places_one p.format d x.instr one e in absurd (clash d (Op And d is.0 27) is.1 refl none)
+        by false two = absurd (clash d (Op Or d 31 26) (places_two p.format d x.instr two e) refl none)
+    data_stays d (inr (inr (inl e))) none inside = by (has_one_step p.format) refl
+      where
+        both : (masks p.format d x.instr ≡ true) × ((has_one_step p.format || begins_placing p.format d later) ≡ true)
+        both = and_parts (masks p.format d x.instr) (has_one_step p.format || begins_placing p.format d later) e
 
-    step_near : (d : ℕ) (imm : ℤ) → x.instr ≡ OpImm Addi d d imm → IsKnown p d (register h d) (x ∷ later) → IsNear (data_region p) 1020 (register h d)
+        by : (one : Bool) → has_one_step p.format ≡ one → IsKnown p d (register after d) later
+        by true one = let is = masks_one p.format d x.instr one both.0 in absurd (clash d (Op And d is.0 27) is.1 refl none)
+        by false two = inr (inl (placing_left p.format d later two both.1))
+    data_stays d (inr (inr (inr (lies, used_here)))) none inside =
+        inl (subst (λ (a : ℕ). IsNearIn p.format (data_region p) 1020 a) (sym (stays d none)) (inl (uses_back d x.instr used_here lies inside)))
+
+    -- the last step of a mask leads into the data, or where it is the only one also below their size
+    data_placed : (d : ℕ) → d < length h.registers → (d ≡ 0 → ⊥) → places p.format d x.instr ≡ true → IsNearIn p.format (data_region p) 1020 (register after d)
+    data_placed d within some e = by (has_one_step p.format) refl
+      where
+        by : (one : Bool) → has_one_step p.format ≡ one → IsNearIn p.format (data_region p) 1020 (register after d)
+        by true one =
+            let is = places_one p.format d x.instr one e in
+            let value : register after d ≡ bit_and (register h is.0) (register h 27) = result_there x.instr And d is.0 27 x.size h m is.1 some within in
+            let mask : register h 27 ≡ p.data_base + p.data_size - 1 = reserved.data_mask ∙ one_step_mask p.format (data_region p) one in
+            subst (λ (a : ℕ). IsNearIn p.format (data_region p) 1020 a) (sym (value ∙ ap (λ n. bit_and (register h is.0) n) mask)) (one_step_placed p (register h is.0) 1020 right one)
+        by false two =
+            let value : register after d ≡ bit_or (register h 31) (register h 26) = result_there x.instr Or d 31 26 x.size h m (places_two p.format d x.instr two e) some within in
+            let value' : register after d ≡ bit_or (register h 31) p.data_base = value ∙ ap (λ n. bit_or (register h 31) n) (reserved.data_base two) in
+            let lies = at.placed p.data_base p.data_size 256 (data_most p.format) (register h 31) right.data_placed (known.offset two) in
+            let from : p.data_base ≤ bit_or (register h 31) p.data_base = lies.from in
+            let below : bit_or (register h 31) p.data_base < p.data_base + p.data_size = lies.below in
+            inl (record { low = omega arith; high = omega arith })
+
+    step_near : (d : ℕ) (imm : ℤ) → x.instr ≡ OpImm Addi d d imm → IsKnown p d (register h d) (x ∷ later) → IsNearIn p.format (data_region p) 1020 (register h d)
     step_near d imm e known = near_here p d (register h d) (record { instr = OpImm Addi d d imm; size = x.size }) later
-        (record { places = λ f d. rw (two_steps f) refl; masks = λ f d. rw (two_steps f) refl; uses = λ d. refl; placing = λ b t. refl; masking = λ m t. refl })
+        (record { places = λ f d. neither (has_one_step f); masks = λ f d. neither (has_one_step f); uses = λ d. refl; placing = λ b t. refl; masking = λ m t. refl })
         (subst (λ (i : Instr). IsKnown p d (register h d) (record { instr = i; size = x.size } ∷ later)) e known)
 
     data_written : (d : ℕ) → is_data_register_in p.format d ≡ true → writes_register d x.instr ≡ true → breaks_data p.format x.instr later ≡ false → IsKnown p d (register after d) later
@@ -164,20 +211,14 @@ module _ (p : Part) (words : has_words p.format ≡ true) (right : IsRightPart p
         let may : may_write_data p.format d x.instr later ≡ true = not-false _ (rw is at free') in
         ⊎_elim
         (λ (l : (places p.format d x.instr || (not (is_jump x.instr) && begins_masking p.format d later)) ≡ true). ⊎_elim
-        (λ (e : places p.format d x.instr ≡ true).
-        let value : register after d ≡ bit_or (register h 31) (register h 26) = result_there x.instr Or d 31 26 x.size h m (or_is d 31 26 x.instr (sym (places_is p.format d x.instr) ∙ e)) o.some within in
-        let value' : register after d ≡ bit_or (register h 31) p.data_base = value ∙ ap (λ n. bit_or (register h 31) n) reserved.data_base in
-        let lies = at.placed p.data_base p.data_size 256 (data_most p.format) (register h 31) right.data_placed (known.offset (two_steps p.format)) in
-        let from : p.data_base ≤ bit_or (register h 31) p.data_base = lies.from in
-        let below : bit_or (register h 31) p.data_base < p.data_base + p.data_size = lies.below in
-        inl (record { low = omega arith; high = omega arith }))
+        (λ (e : places p.format d x.instr ≡ true). inl (data_placed d within o.some e))
         (λ (e : (not (is_jump x.instr) && begins_masking p.format d later) ≡ true). inr (inr (inl (and_parts (not (is_jump x.instr)) (begins_masking p.format d later) e).1)))
         (or_cases (places p.format d x.instr) (not (is_jump x.instr) && begins_masking p.format d later) l))
         (λ (l : (is_pointer_step d x.instr && begins_using d later) ≡ true).
         let both = and_parts (is_pointer_step d x.instr) (begins_using d later) l in
         let step = step_is d x.instr both.0 in
         let value : register after d ≡ result_of Add (register h d) (word step.0) = step_there x.instr d d x.size step.0 h m step.1 o.some within in
-        inr (inr (inr (subst (λ (a : ℕ). IsNear (data_region p) (1020 + 2048) a) (sym value) (stepped p right.guard_room (register h d) step.0 (step_near d step.0 step.1 (known.each_data d is)) (imm12_within step.0 (step_range d step.0 (subst (λ (i : Instr). InRange i) step.1 range)))), both.1))))
+        inr (inr (inr (subst (λ (a : ℕ). IsNearIn p.format (data_region p) (1020 + 2048) a) (sym value) (beside_stepped p right.guard_room (register h d) step.0 (step_near d step.0 step.1 (known.each_data d is)) (imm12_within step.0 (step_range d step.0 (subst (λ (i : Instr). InRange i) step.1 range)))), both.1))))
         (or_cases (places p.format d x.instr || (not (is_jump x.instr) && begins_masking p.format d later)) (is_pointer_step d x.instr && begins_using d later) may)
 
     data_after : (d : ℕ) → is_data_register_in p.format d ≡ true → breaks_data p.format x.instr later ≡ false → ((a : ℕ) → Accesses x.instr h a → InData p a) → IsKnown p d (register after d) later
@@ -230,7 +271,7 @@ module _ (p : Part) (words : has_words p.format ≡ true) (right : IsRightPart p
         let mask = masking_is 27 31 x.instr may in
         let value : register after 31 ≡ bit_and (register h mask.0) (register h 27) = result_there x.instr And 31 mask.0 27 x.size h m mask.1 (λ z. omega arith) within in
         let below = at.offset_below p.data_base p.data_size 256 (data_most p.format) (register h mask.0) right.data_placed in
-        subst (λ (a : ℕ). a < p.data_size) (sym (value ∙ ap (λ n. bit_and (register h mask.0) n) reserved.data_mask)) below)
+        subst (λ (a : ℕ). a < p.data_size) (sym (value ∙ ap (λ n. bit_and (register h mask.0) n) (reserved.data_mask ∙ two_step_mask p.format (data_region p) two))) below)
         (λ (none : writes_register 31 x.instr ≡ false). subst (λ (a : ℕ). a < p.data_size) (sym (stays 31 none)) (known.offset two))
         (cases_Bool (writes_register 31 x.instr))
 
@@ -251,7 +292,7 @@ module _ (p : Part) (words : has_words p.format ≡ true) (right : IsRightPart p
         let plain = flow_plain x.instr flow in
         record {
           each_data = λ d is.
-              subst (λ (a : ℕ). IsNear (data_region p) 1020 a)
+              subst (λ (a : ℕ). IsNearIn p.format (data_region p) 1020 a)
               (sym (flow_other d flow (λ e. not_data d is e)))
               (near_here p d (register h d) x later plain (known.each_data d is));
           code = subst (λ (a : ℕ). IsWordStart (code_region p) a) (sym (flow_other 30 flow not_code)) (start_here p (register h 30) x later plain known.code);

@@ -20,7 +20,7 @@ pub use Rattle.rv_step.specs.declared.outcome.Outcome.{Outcome}
 pub use Rattle.rv_step.specs.declared.outcome.Outcome.TheVariants.{Next, Call, Trap}
 pub use Rattle.sfi_pairs.specs.Pairs.{is_masking, is_placing, is_small, uses}
 pub use Rattle.sfi_formats.specs.Formats.{is_reserved, is_reserved_in, is_data_register_in, has_words, has_one_step}
-pub use Rattle.sfi_image.specs.Spelling.{Part, IsNear}
+pub use Rattle.sfi_image.specs.Spelling.{Part, IsNear, IsNearIn}
 pub use Rattle.sfi_image.specs.Parts.{is_gate_of, IsRightPart, HasReserved, IsWordStart}
 pub use Rattle.sfi_rules.specs.Readings.{Piece, IsReading, rest_of, is_jump}
 pub use Rattle.sfi_rules.specs.Rules.{is_empty, ends_region}
@@ -35,4 +35,3 @@ pub use Rattle.sfi_rules.specs.declared.finding.Finding.{Finding}
 pub use Rattle.sfi_rules.specs.declared.owed.Owed.TheVariants.{Nothing, Mask, PlaceOnly, MaskOrUse, Code}
 pub use Rattle.sfi_rules.specs.words.Findings.{fails_data, fails_code}
 pub use Rattle.sfi_formats.specs.declared.format.Format.{Format}
-pub use Rattle.sfi_formats.proofs.Formats.{two_steps}

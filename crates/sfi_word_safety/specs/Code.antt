@@ -1,7 +1,7 @@
 -- Accepted code in words, and the places where its runs stand.
 use Rattle.std.specs.Prelude.{◌≡◌, ◌+◌, ℕ, List, [], ◌∷◌, true, false, length, ◌%◌, ◌<◌, ◌⊎◌, Option, IfSome, drop, slice_index, bit_and}
 use Rattle.sfi_formats.specs.Formats.{has_words, is_data_register_in, code_register, offset_register, has_one_step}
-use Rattle.sfi_image.specs.Spelling.{Part, AreApart, code_region, data_region, guarded_region, IsNear}
+use Rattle.sfi_image.specs.Spelling.{Part, AreApart, code_region, data_region, guarded_region, IsNearIn}
 use Rattle.sfi_image.specs.Parts.{is_gate_of, IsRightPart, reserved_of, IsWordStart}
 use Rattle.sfi_rules.specs.Readings.{Piece, IsReading, rest_of}
 use Rattle.sfi_rules.specs.words.Rules.{breaks_width, breaks_ecall, breaks_reserved, breaks_access, breaks_jump, breaks_target, breaks_end, breaks_data, breaks_code, breaks_offset, begins_placing, begins_masking, begins_using, begins_code}
@@ -46,14 +46,14 @@ pub record IsCleanInWords (p : Part) : Type 0 where
 
 -- ==== Where a run stands: a place of the code's reading, and what the typed registers hold there.
 
--- What is known of a data register before these pieces. It lies near the data; or the first piece ends
--- its mask, or they begin with its mask; or it lies a step further, and the first piece uses it.
+-- What is known of a data register before these pieces. It holds what its type says; or the first piece
+-- ends its mask, or they begin with its mask; or it lies a step further, and the first piece uses it.
 abbrev pub IsKnown : Part → ℕ → ℕ → List Piece → Type 0
 IsKnown p d value pieces =
-    IsNear (data_region p) slack value
+    IsNearIn p.format (data_region p) slack value
     ⊎ ((begins_placing p.format d pieces ≡ true)
     ⊎ ((begins_masking p.format d pieces ≡ true)
-    ⊎ (IsNear (data_region p) (slack + 2048) value × (begins_using d pieces ≡ true))))
+    ⊎ (IsNearIn p.format (data_region p) (slack + 2048) value × (begins_using d pieces ≡ true))))
 
 -- What is known of the code register before these pieces: it is a word's start; or it is masked,
 -- and placed by the first piece.
