@@ -129,7 +129,7 @@ module _ (p : Part) (right : IsRightPart p) (direct : List ℕ) where
     module _ (zones : Zones) (IsGood : State → Type 0)
         (enters : (s : State) → KeepsAllAs zones p s → IsUnitStart p s.hart.pc → IsTyped p s.hart.registers → IsGood s)
         (keeps : (s : State) (turn : Turn) → IsGood s → IsTurnAs (by_ecall zones) p s turn → IsSafeState p s × IsSafeTurnAs zones p s turn × IfSome (after_turn turn) IsGood)
-        (replies : (s after : State) (n : ℕ) → IsGood s → Stands s Ecall n → after.hart.pc ≡ address_after s.hart.pc 4 → length after.hart.registers ≡ 32 → KeepsReserved s.hart after.hart → IsTyped p after.hart.registers → KeepsBytesAs (by_ecall zones) p s.memory after.memory → IsGood after)
+        (replies : (s after : State) (n : ℕ) → IsGood s → Stands s Ecall n → after.hart.pc ≡ address_after s.hart.pc 4 → length after.hart.registers ≡ 32 → KeepsReserved p.format s.hart after.hart → IsTyped p after.hart.registers → KeepsBytesAs (by_ecall zones) p s.memory after.memory → IsGood after)
         (fits : (s : State) (i : Instr) (n : ℕ) → IsGood s → Stands s i n → s.hart.pc % unit p.format + n ≤ unit p.format)
         (goes : (s : State) (i : Instr) (n : ℕ) (r : Stepped) → IsGood s → Stands s i n → IsStep s r → r.outcome ≡ Next → (r.state.hart.pc ≡ address_after s.hart.pc n) ⊎ IsUnitStart p r.state.hart.pc)
         (typed : (s : State) (n : ℕ) → IsGood s → Stands s Ecall n → IsTyped p s.hart.registers) where

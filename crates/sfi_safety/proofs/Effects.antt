@@ -32,7 +32,7 @@ pub record Here (sandbox : ℕ) (p : Part) (h : Hart) (i : Instr) (n : ℕ) : Ty
 -- the registers keep what no turn changes, and pc is at a place
 pub record IsGoodHart (sandbox : ℕ) (p : Part) (h : Hart) : Type 0 where
   pub count : length h.registers ≡ 32
-  pub reserved : HasReserved (reserved_of p) h.registers
+  pub reserved : HasReserved p.format (reserved_of p) h.registers
   pub place : IsAtPlace sandbox p h
 
 -- pc is at the next instruction, or at a bundle's start
@@ -76,7 +76,7 @@ accesses_near sandbox p h other n right here a (k, below, is) = absurd (omega ar
 
 -- ---- each instruction
 
-module _ (sandbox : ℕ) (p : Part) (h : Hart) (m : Bytes) (right : IsRightPart p) (bundles : has_words p.format ≡ false) (count : length h.registers ≡ 32) (reserved : HasReserved (reserved_of p) h.registers) where
+module _ (sandbox : ℕ) (p : Part) (h : Hart) (m : Bytes) (right : IsRightPart p) (bundles : has_words p.format ≡ false) (count : length h.registers ≡ 32) (reserved : HasReserved p.format (reserved_of p) h.registers) where
   good_writing : (pc rd value : ℕ) → is_reserved rd ≡ false → IsAtPlace sandbox p (with_register (with_pc h pc) rd value) → IsGoodHart sandbox p (with_register (with_pc h pc) rd value)
   good_writing pc rd value free place = record {
     count = count_kept rd value (with_pc h pc) ∙ count;

@@ -171,7 +171,7 @@ module _ (f : Format) where
     asked = stands gate gate_sample m entry.code (hart 0x01000000 0x01800000 0) 0 4 Ecall refl (omega arith) ecall_spelled;
     state = record { hart = is_hart 0x01000004 refl (omega arith); memory = entry.state.memory };
     pc = refl;
-    reserved = record { code_base = refl; code_mask = refl; data_base = refl; data_mask = refl };
+    reserved = record { code_base = refl; code_mask = refl; data_base = λ two. refl; data_mask = refl };
     typed = entry.typed;
     bytes = record { code = λ a inside. refl; guards = λ a guard none. none };
   }

@@ -1,7 +1,8 @@
 -- What the registers hold after a pair, and where the stack pointer lies.
 use Rattle.sfi_rules.specs.Readings.{follows_pair, writes_stack, is_stack_pair, begins_pair, ends_pair, precedes_pair, is_jump}
 use Rattle.std.specs.Prelude.{bit_and, bit_or}
-use Rattle.sfi_safe_runs.proofs.Entries.{bundles as bundle_unit}
+use Rattle.sfi_safe_runs.proofs.Entries.{bundles as bundle_unit, bundles_two_steps, two_step_mask}
+use Rattle.sfi_image.specs.Spelling.{data_region}
 use Rattle.sfi_safe_runs.proofs.Accessing.{written, masked_data, masked_code}
 use Rattle.sfi_pairs.proofs.Facts.{masking_is, placing_is}
 use Rattle.sfi_safety.proofs.Prelude.{◌≡◌, ◌≢◌, ℕ, ◌-◌, ◌<◌, List, [], ◌∷◌, length, true, not, ◌&&◌, ◌==◌, sym, ap, ◌∙◌, subst, arith, slice_index, and_parts, and_from, not-true, false≢true, eqb-false, And, Or, Instr, Op, InRange, code_most, data_most, Hart, register, result_of, Part, code_region, IsBundleStart, InData, Leaves, follows_mask, WritesResult, InstructionLeaves, RegOp, is_masking, is_placing, is_reserved, false, Bool, ◌||◌, refl, inl, inr, ⊎_elim, cases_Bool, or_cases, or_left, or_right, not-false, Jal, Jalr, has_stack, BundlePlace, Piece, InstrInBundle, may_write_stack, breaks_stack, StackInData, StackInDataBefore, follows_data_pair}
@@ -70,7 +71,9 @@ leaves_after p before after i earlier right bundles count reserved range writes 
       let pair = pair_parts 27 26 t i earlier h in
       let x = had.data_mask t pair.mask_before in
       let value = after_placing 26 t i before after pair.placing pair.target count range writes in
-      let value' : register after t ≡ bit_or (bit_and x.0 (p.data_size - 1)) p.data_base = value ∙ ap (λ n. bit_or n (register before 26)) x.1 ∙ ap (λ n. bit_or (bit_and x.0 (p.data_size - 1)) n) reserved.data_base in
+      let two = bundles_two_steps p.format bundles in
+      let masked : register before t ≡ bit_and x.0 (p.data_size - 1) = x.1 ∙ ap (λ n. bit_and x.0 n) (two_step_mask p.format (data_region p) two) in
+      let value' : register after t ≡ bit_or (bit_and x.0 (p.data_size - 1)) p.data_base = value ∙ ap (λ n. bit_or n (register before 26)) masked ∙ ap (λ n. bit_or (bit_and x.0 (p.data_size - 1)) n) (reserved.data_base two) in
       let placed = masked_data p.data_base p.data_size 256 (data_most p.format) x.0 right.data_placed in
       subst (λ n. InData p n) (sym value') (placed.from, placed.below);
   code_pair = λ t h.

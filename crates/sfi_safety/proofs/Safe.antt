@@ -52,7 +52,7 @@ module _ (zones : Zones) (sandbox : ℕ) (p : Part) (clean : AreCleanBundles san
       by (inr start) = inr (of_bundle p r.state.hart.pc clean.bundles start)
 
 -- a reply, whatever its memory but the code and the guard zones
-replied : (zones : Zones) (sandbox : ℕ) (p : Part) (clean : AreCleanBundles sandbox p) (s : State) (n : ℕ) → IsGoodAs zones sandbox p s → Stands s Ecall n → (after : State) → after.hart.pc ≡ address_after s.hart.pc 4 → length after.hart.registers ≡ 32 → KeepsReserved s.hart after.hart → IsTyped p after.hart.registers → KeepsBytesAs (by_ecall zones) p s.memory after.memory → IsGoodAs zones sandbox p after
+replied : (zones : Zones) (sandbox : ℕ) (p : Part) (clean : AreCleanBundles sandbox p) (s : State) (n : ℕ) → IsGoodAs zones sandbox p s → Stands s Ecall n → (after : State) → after.hart.pc ≡ address_after s.hart.pc 4 → length after.hart.registers ≡ 32 → KeepsReserved p.format s.hart after.hart → IsTyped p after.hart.registers → KeepsBytesAs (by_ecall zones) p s.memory after.memory → IsGoodAs zones sandbox p after
 replied zones sandbox p clean s n good asked after pc count reserved typed bytes = record {
   kept = kept_after zones p s after good.kept count reserved bytes;
   place = standing.place_replied sandbox p s clean good.place good.kept.code good.kept.count good.kept.reserved after.hart n asked pc typed;
@@ -102,7 +102,7 @@ module _ (p : Part) (clean : IsCleanInWords p) (s : State) (i : Instr) (n : ℕ)
       by (inr (start, flow)) = inr (of_word p r.state.hart.pc clean.words start)
 
 -- a reply, whatever its memory but the code and the guard zones
-word_replied : (p : Part) (clean : IsCleanInWords p) (s : State) (n : ℕ) → IsGoodInWords p s → Stands s Ecall n → (after : State) → after.hart.pc ≡ address_after s.hart.pc 4 → length after.hart.registers ≡ 32 → KeepsReserved s.hart after.hart → IsTyped p after.hart.registers → KeepsBytes p s.memory after.memory → IsGoodInWords p after
+word_replied : (p : Part) (clean : IsCleanInWords p) (s : State) (n : ℕ) → IsGoodInWords p s → Stands s Ecall n → (after : State) → after.hart.pc ≡ address_after s.hart.pc 4 → length after.hart.registers ≡ 32 → KeepsReserved p.format s.hart after.hart → IsTyped p after.hart.registers → KeepsBytes p s.memory after.memory → IsGoodInWords p after
 word_replied p clean s n good asked after pc count reserved typed bytes = record {
   kept = kept_after Empty p s after good.kept count reserved bytes;
   place = place_replied p clean s good after.hart n asked pc typed;

@@ -7,7 +7,7 @@ use Rattle.sfi_formats.specs.Limits.{gates_most}
 use Rattle.sfi_formats.proofs.Facts.{limits_have_room}
 use Rattle.std.proofs.Common.{length-append, length-take, length-drop}
 use Rattle.sfi_safe_runs.proofs.Facts.{can_be_entered}
-use Rattle.sfi_safe_runs.proofs.Entries.{bundles as bundle_unit, of_bundle, of_stack}
+use Rattle.sfi_safe_runs.proofs.Entries.{bundles as bundle_unit, bundles_two_steps, two_step_mask, of_bundle, of_stack}
 use Rattle.sfi_safe_runs.proofs.Stepping.{read_all}
 use Rattle.sfi_rules.proofs.Findings.{of_bundles}
 use Rattle.std.specs.Prelude.{MatchBool}
@@ -153,7 +153,7 @@ abbrev pub first : ℕ → Bytes → State
 first pc m = record { hart = hart pc 0x01800000 0; memory = m }
 
 -- a run may begin with such a hart
-pub enters_with : (s : Sample) → IsSample s → (h : Hart) → IsHart h → IsUnitStart (sandbox s) h.pc → HasReserved (reserved_of (sandbox s)) h.registers → IsTyped (sandbox s) h.registers → (m : Bytes) × IsEntry (sandbox s) (record { hart = h; memory = m })
+pub enters_with : (s : Sample) → IsSample s → (h : Hart) → IsHart h → IsUnitStart (sandbox s) h.pc → HasReserved (sandbox s).format (reserved_of (sandbox s)) h.registers → IsTyped (sandbox s) h.registers → (m : Bytes) × IsEntry (sandbox s) (record { hart = h; memory = m })
 enters_with s is h hart start reserved typed = can_be_entered (sandbox s) h (right_part s is) (apart s is) (bytes_small (s.first_words ++ (words_of (replicate 52 Ebreak) ++ s.last_words))) hart start reserved typed
 
 -- in code in bundles, at the bundle of that number
@@ -163,7 +163,7 @@ enters s is bundles n few =
     let at = 0x01000000 + 16 * n in
     let start : IsBundleStart (code_region (sandbox s)) at = record { held = (omega arith, omega (arith, size)); aligned = omega arith } in
     let mask : length (sandbox s).code - unit s.format ≡ 240 = ap (λ (u : ℕ). length (sandbox s).code - u) (bundle_unit s.format bundles) ∙ ap (λ (n : ℕ). n - 16) size in
-    let reserved : HasReserved (reserved_of (sandbox s)) (hart at 0x01800000 0).registers = record { code_base = refl; code_mask = sym mask; data_base = refl; data_mask = refl } in
+    let reserved : HasReserved (sandbox s).format (reserved_of (sandbox s)) (hart at 0x01800000 0).registers = record { code_base = refl; code_mask = sym mask; data_base = λ two. refl; data_mask = sym (two_step_mask s.format (data_region (sandbox s)) (bundles_two_steps s.format bundles)) } in
     enters_with s is (hart at 0x01800000 0) (is_hart at (omega arith) (omega arith)) (of_bundle (sandbox s) at bundles start) reserved (of_stack (sandbox s) (hart at 0x01800000 0).registers bundles (λ has. (omega arith, omega arith)))
 
 -- ---- what stands there

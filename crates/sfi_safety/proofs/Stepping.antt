@@ -72,7 +72,7 @@ module _ (sandbox : ℕ) (p : Part) (s : State) (clean : AreCleanBundles sandbox
   typed_at_ecall n asked = of_stack p s.hart.registers clean.bundles (stack_here p at.earlier at.here at.later s.hart.registers (sym (ap is_of_pair (only Ecall n asked).0)) at.stack)
 
   -- a reply to an ecall here leads to the place after it
-  pub place_replied : length s.hart.registers ≡ 32 → HasReserved (reserved_of p) s.hart.registers → (after : Hart) (n : ℕ) → Stands s Ecall n → after.pc ≡ address_after s.hart.pc 4 → IsTyped p after.registers → IsAtPlace sandbox p after
+  pub place_replied : length s.hart.registers ≡ 32 → HasReserved p.format (reserved_of p) s.hart.registers → (after : Hart) (n : ℕ) → Stands s Ecall n → after.pc ≡ address_after s.hart.pc 4 → IsTyped p after.registers → IsAtPlace sandbox p after
   place_replied count reserved after n asked pc typed =
       let e = only Ecall n asked in
       let four : n ≡ 4 = ecall_is_wide asked.bytes n asked.spelled in

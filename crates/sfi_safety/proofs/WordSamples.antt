@@ -1,8 +1,11 @@
 -- The samples in words: where they are entered, what they are read as, and what is found.
 use Rattle.sfi_safety.proofs.Prelude.{◌≡◌, ℕ, ◌+◌, ◌-◌, ◌*◌, ◌%◌, ◌^◌, ◌<◌, [], ◌∷◌, ◌++◌, length, replicate, true, refl, sym, ap, ◌∙◌, arith, has_words, Bytes, Hart, IsHart, IsEntry, HasReserved, IsUnitStart, IsTyped, AreFindings, IsNeeded, BreaksNoOther, HasUnsafeRun, unit, Rule, Sample, sandbox, suc, ◌==◌, Bool, List, take, drop, filter, cond, Some, None, subst, append-nil, add-zero, Instr, Ebreak, spelling, Sfiw, BundlePlace, Finding, bundle_place, bundle_bytes, Piece, IsReading, IsLongestReading, rest_of, is_empty, rest_finding, all_rules, w32, to_le_bytes, Nothing, V8, IsOwedBefore, BreaksAloneInWord, words_of, bytes_of}
 use Rattle.sfi_image.specs.Parts.{IsWordStart, reserved_of}
-use Rattle.sfi_image.specs.Spelling.{IsNear, code_region, data_region}
-use Rattle.sfi_safe_runs.proofs.Entries.{words as word_unit, of_word, of_words_typed, each_near}
+use Rattle.sfi_image.specs.Spelling.{IsNearIn, code_region, data_region}
+use Rattle.std.proofs.Common.{inl, inr}
+use Rattle.sfi_formats.proofs.Formats.{two_steps}
+use Rattle.sfi_formats.specs.Formats.{has_one_step}
+use Rattle.sfi_safe_runs.proofs.Entries.{words as word_unit, two_step_mask, of_word, of_words_typed, each_beside}
 use Rattle.sfi_safety.proofs.Samples.{IsSample, size, each_below, enters_with, needed_from}
 use Rattle.std.proofs.Math.Bool.{and-false}
 use Rattle.sfi_rules.specs.declared.owed.Owed.{Owed}
@@ -41,10 +44,11 @@ module _ (s : Sample) (is : IsSample s) (has : has_words s.format ≡ true) wher
       let at = 0x01000000 + 4 * n in
       let mask : length (sandbox s).code - unit s.format ≡ 252 = ap (λ (u : ℕ). length (sandbox s).code - u) (word_unit s.format has) ∙ ap (λ (n : ℕ). n - 4) size in
       let start : IsUnitStart (sandbox s) at = of_word (sandbox s) at has (record { held = (omega arith, omega (arith, size, few)); aligned = omega arith }) in
-      let reserved : HasReserved (reserved_of (sandbox s)) (at_word at).registers = record { code_base = refl; code_mask = sym mask; data_base = refl; data_mask = refl } in
-      let base : IsNear (data_region (sandbox s)) 1020 0x01800000 = record { low = omega arith; high = omega arith } in
+      let reserved : HasReserved (sandbox s).format (reserved_of (sandbox s)) (at_word at).registers = record { code_base = refl; code_mask = sym mask; data_base = λ two. refl; data_mask = sym (two_step_mask s.format (data_region (sandbox s)) (two_steps s.format)) } in
+      let base : IsNearIn s.format (data_region (sandbox s)) 1020 0x01800000 = inl (record { low = omega arith; high = omega arith }) in
+      let none : has_one_step s.format ≡ true → IsNearIn s.format (data_region (sandbox s)) 1020 0 = λ one. inr (one, inl (omega (arith, size))) in
       let code : IsWordStart (code_region (sandbox s)) 0x010000fc = record { held = (omega arith, omega (arith, size)); aligned = refl } in
-      let typed : IsTyped (sandbox s) (at_word at).registers = of_words_typed (sandbox s) (at_word at).registers has (record { each_data = each_near s.format (data_region (sandbox s)) (at_word at).registers base base base base; code = code; offset = λ _. omega arith }) in
+      let typed : IsTyped (sandbox s) (at_word at).registers = of_words_typed (sandbox s) (at_word at).registers has (record { each_data = each_beside s.format (data_region (sandbox s)) (at_word at).registers base base base base (λ one. base) none; code = code; offset = λ _. omega arith }) in
       enters_with s is (at_word at) (is_hart at (omega arith) (omega (arith, few))) start reserved typed
 
   -- with that one finding, and a run from the word of that number that is not safe

@@ -19,7 +19,7 @@ abbrev pub InstructionLeaves : Type 0
 InstructionLeaves =
     (p : Part) (before after : Hart) (i : Instr) (earlier : List Instr) → IsRightPart p
     → has_words p.format ≡ false
-    → length before.registers ≡ 32 → HasReserved (reserved_of p) before.registers → InRange i
+    → length before.registers ≡ 32 → HasReserved p.format (reserved_of p) before.registers → InRange i
     → WritesResult i before after
     → Leaves p earlier before.registers → Leaves p (i ∷ earlier) after.registers
 
