@@ -4,7 +4,7 @@ use Rattle.sfi_host.specs.Changing.{called_back_hart, MayCallBackAt, PutBackIsCh
 use Rattle.sfi_host.specs.Waiting.{IsAtCall}
 use Rattle.sfi_formats.specs.declared.format.Format.{Format}
 use Rattle.sfi_formats.specs.Formats.{unit, is_data_register_in}
-use Rattle.sfi_safe_runs.proofs.Entries.{even_unit, each_near}
+use Rattle.sfi_safe_runs.proofs.Entries.{even_unit, each_beside}
 use Rattle.sfi_host.proofs.Entries.{pc_kept}
 use Rattle.sfi_host.proofs.Worlds.{map_get}
 use Rattle.sfi_host.proofs.SafeSeats as keep
@@ -12,7 +12,7 @@ use Rattle.sfi_host.proofs.WorldBytes.{no_slot, seat_at, slot_is}
 use Rattle.sfi_host.proofs.Changing.{AfterTurn, IsKept, turn_taken}
 use Rattle.sfi_host.proofs.SafeSeats.{halted}
 use Rattle.sfi_safe_runs.specs.Runs.{AreWordsTyped}
-use Rattle.sfi_image.specs.Spelling.{IsNear}
+use Rattle.sfi_image.specs.Spelling.{IsNearIn}
 use Rattle.sfi_image.specs.declared.span.Span.{Span}
 use Rattle.sfi_host.specs.private.Setting.{LieNear}
 use Rattle.std.specs.Prelude.{slice_index}
@@ -144,12 +144,12 @@ module _ (w : Sandboxes) (m : Bytes) (items : List Sandbox) (view : world_of m i
 
 -- ---- it is an entry
 
--- the four data registers are all
-pub all_near : (f : Format) (at : Span) (registers : List ℕ) → LieNear at registers → (d : ℕ) → is_data_register_in f d ≡ true → IsNear at slack (slice_index registers d)
-all_near f at registers near = each_near f at registers near.x2 near.x3 near.x4 near.x29
+-- these data registers are all
+pub all_near : (f : Format) (at : Span) (registers : List ℕ) → LieNear f at registers → (d : ℕ) → is_data_register_in f d ≡ true → IsNearIn f at slack (slice_index registers d)
+all_near f at registers near = each_beside f at registers near.x2 near.x3 near.x4 near.x29 near.x26 near.x31
 
-pub typed_near : (f : Format) (code_at data_at : Span) (registers : List ℕ) → AreWordsTyped f code_at data_at registers → LieNear data_at registers
-typed_near f code_at data_at registers typed = record { x2 = typed.each_data 2 refl; x3 = typed.each_data 3 refl; x4 = typed.each_data 4 refl; x29 = typed.each_data 29 refl }
+pub typed_near : (f : Format) (code_at data_at : Span) (registers : List ℕ) → AreWordsTyped f code_at data_at registers → LieNear f data_at registers
+typed_near f code_at data_at registers typed = record { x2 = typed.each_data 2 refl; x3 = typed.each_data 3 refl; x4 = typed.each_data 4 refl; x29 = typed.each_data 29 refl; x26 = λ one. typed.each_data 26 (rw one refl); x31 = λ one. typed.each_data 31 (rw one refl) }
 
 module _ (m : Bytes) (s : Seat) (safe_before_set : IsSafeSeat m s) (h : Hart) (hart : IsHart h) where
   of_part : (p : Part) → IsEntryHart (bounds_of p) h → (b : Bounds) → b ≡ bounds_of p → s.bounds ≡ b → HasCode p m → IsEntry p (record { hart = h; memory = m })

@@ -6,7 +6,8 @@ use Rattle.sfi_host.specs.Worlds.{StoppedItself}
 use Rattle.sfi_formats.specs.Formats.{has_stack, has_words, has_one_step, is_data_register_in}
 use Rattle.sfi_safe_runs.specs.Runs.{IsTyped}
 use Rattle.sfi_image.specs.Parts.{IsWordStart}
-use Rattle.sfi_image.specs.Spelling.{IsNear, data_region}
+use Rattle.sfi_formats.specs.declared.format.Format.{Format}
+use Rattle.sfi_image.specs.Spelling.{IsNearIn, data_region}
 use Rattle.rv_step.proofs.States.{register_is, after_is}
 use Rattle.sfi_safe_runs.proofs.Facts.{goes_on_safely}
 use Rattle.sfi_host.proofs.Entered as parts
@@ -36,11 +37,11 @@ abbrev pub KeepsOthers : Hart → Hart → Type 0
 KeepsOthers before after = (r : ℕ) → r ≢ a0_register → r ≢ a1_register → slice_index after.registers r ≡ slice_index before.registers r
 
 -- a0 and a1 are none of the reserved registers
-reserved_kept : (before after : Hart) → KeepsOthers before after → KeepsReserved before after
-reserved_kept before after kept = record {
+reserved_kept : (f : Format) (before after : Hart) → KeepsOthers before after → KeepsReserved f before after
+reserved_kept f before after kept = record {
   code_base = kept 24 (λ e. cc) (λ e. cc);
   code_mask = kept 25 (λ e. cc) (λ e. cc);
-  data_base = kept 26 (λ e. cc) (λ e. cc);
+  data_base = λ two. kept 26 (λ e. cc) (λ e. cc);
   data_mask = kept 27 (λ e. cc) (λ e. cc);
 }
 
@@ -88,8 +89,7 @@ module _ (m : Bytes) (s : Seat) (seat : IsSafeSeat m s) where
           let w = typed.words (ap (λ (b : Bounds). has_words b.format) same ∙ has) in
           record {
             each_data = λ d is.
-                let near = w.each_data d (ap (λ (b : Bounds). is_data_register_in b.format d) same ∙ is) in
-                record { low = subst (λ (b : Bounds). b.data.base ≤ slice_index registers d + 1020) same near.low; high = subst (λ (b : Bounds). slice_index registers d < b.data.base + b.data.size + 1020) same near.high };
+                subst (λ (b : Bounds). IsNearIn b.format b.data 1020 (slice_index registers d)) same (w.each_data d (ap (λ (b : Bounds). is_data_register_in b.format d) same ∙ is));
             code = record { held = subst (λ (b : Bounds). Holds b.code (slice_index registers 30)) same w.code.held; aligned = w.code.aligned };
             offset = λ two. subst (λ (b : Bounds). slice_index registers 31 < b.data.size) same (w.offset (ap (λ (b : Bounds). has_one_step b.format) same ∙ two));
           };
@@ -107,7 +107,7 @@ module _ (m : Bytes) (s : Seat) (seat : IsSafeSeat m s) where
           let w = typed.words has in
           record {
             each_data = λ d is.
-                subst (λ (a : ℕ). IsNear (data_region p) 1020 a)
+                subst (λ (a : ℕ). IsNearIn p.format (data_region p) 1020 a)
                 (sym (kept d (λ e. let z : is_data_register_in p.format 10 ≡ true = subst (λ (r : ℕ). is_data_register_in p.format r ≡ true) e is in cc) (λ e. let z : is_data_register_in p.format 11 ≡ true = subst (λ (r : ℕ). is_data_register_in p.format r ≡ true) e is in cc)))
                 (w.each_data d is);
             code = subst (IsWordStart (code_region p)) (sym (kept 30 (λ e. cc) (λ e. cc))) w.code;
@@ -119,7 +119,7 @@ module _ (m : Bytes) (s : Seat) (seat : IsSafeSeat m s) where
     pub is_reply : (size : ℕ) → Stands (state_in m s) Ecall size → (n : Bytes) (h : Hart) → StaysOutside s.bounds.data m n → IsState (record { hart = h; memory = n })
         → h.pc ≡ address_after s.hart.pc 4 → KeepsOthers s.hart h → IsTyped p s.hart.registers → IsReply p (state_in m s) (record { hart = h; memory = n })
     is_reply size stands n h stays state pc kept typed =
-        record { size = size; asked = stands; state = state; pc = pc; reserved = reserved_kept s.hart h kept; typed = typed_kept h kept typed; bytes = own_kept n stays }
+        record { size = size; asked = stands; state = state; pc = pc; reserved = reserved_kept p.format s.hart h kept; typed = typed_kept h kept typed; bytes = own_kept n stays }
 
   -- where code and guard zones are kept it is safe, if it goes on safely or has stopped itself
   pub again : (n : Bytes) (t : Seat) → t.bounds ≡ s.bounds → IsState (state_in n t) → KeepsBytes seat.part m n → IsWhole s.bounds.data n

@@ -2,10 +2,10 @@
 use Rattle.sfi_host.proofs.Prelude.{◌≡◌, ◌≢◌, Bool, true, false, cond, ℕ, zero, suc, ◌+◌, ◌-◌, ◌%◌, ◌^◌, ◌<◌, ◌≤◌, List, [], ◌∷◌, length, Some, is_some, slice_get, refl, sym, ap, ◌∙◌, subst, arith, get_or_from_slice_get, slice_get_within, slice_index, replicate, map, None, Bytes, IsMemory, byte_at, Hart, IsHart, with_register, Part, Span, code_region, Holds, IsRightPart, IsRightLayout, InGuard, RunsSafely, AllRunSafely, CallsTyped, AllCallTyped, IsEnterable, AreEnterable, Bounds, bounds_of, fresh_hart, first_hart, first_seat, with_parts, AreEntered, HaveFirstData, Seat, IsSafeSeat, LiesOutside, IsSafeWorld}
 use Rattle.rv_step.proofs.States.{register_is}
 use Rattle.sfi_formats.specs.Formats.{unit, has_words}
-use Rattle.sfi_image.specs.Parts.{IsBundleStart, HasReserved, reserved_of}
+use Rattle.sfi_image.specs.Parts.{IsBundleStart, HasReserved, data_mask_of, reserved_of}
 use Rattle.sfi_image.specs.Spelling.{data_region}
 use Rattle.sfi_safe_runs.specs.Runs.{IsUnitStart, IsTyped}
-use Rattle.sfi_safe_runs.proofs.Entries.{zero_words, some_unit, typed_when, words, of_bundle}
+use Rattle.sfi_safe_runs.proofs.Entries.{zero_words, some_unit, mask_fits, typed_when, words, of_bundle}
 use Rattle.sfi_host.specs.Loading.{with_typed}
 use Rattle.sfi_image.proofs.Facts.{code_ends}
 use Rattle.sfi_host.proofs.SafeSeats.{ready_safe}
@@ -27,18 +27,18 @@ first_is p end right =
     let stack : p.data_base + p.data_size - 16 < 2 ^ 32 = omega arith in
     let mask : length p.code - unit p.format < 2 ^ 32 = (let some = some_unit p.format in omega arith) in
     let base : p.data_base < 2 ^ 32 = omega arith in
-    let data_mask : p.data_size - 1 < 2 ^ 32 = omega arith in
-    register_is _ 27 (p.data_size - 1) (register_is _ 26 p.data_base (register_is _ 25 (length p.code - unit p.format) (register_is _ 24 p.code_base
+    let data_mask : data_mask_of p.format (data_region p) < 2 ^ 32 = mask_fits p above in
+    register_is _ 27 (data_mask_of p.format (data_region p)) (register_is _ 26 p.data_base (register_is _ 25 (length p.code - unit p.format) (register_is _ 24 p.code_base
     (register_is _ 2 (p.data_base + p.data_size - 16) (typed_is (has_words p.format) (data_region p) _ bare base) stack) right.code_base) mask) base) data_mask
 
 -- ---- an entry's typed registers
 
 -- what registers are at an entry at pc
-pub record AreFresh (words : Bool) (unit_size : ℕ) (code_at data_at : Span) (pc : ℕ) (registers : List ℕ) : Type 0 where
+pub record AreFresh (words : Bool) (unit_size mask : ℕ) (code_at data_at : Span) (pc : ℕ) (registers : List ℕ) : Type 0 where
   pub code_base : slice_index registers 24 ≡ code_at.base
   pub code_mask : slice_index registers 25 ≡ code_at.size - unit_size
   pub data_base : slice_index registers 26 ≡ data_at.base
-  pub data_mask : slice_index registers 27 ≡ data_at.size - 1
+  pub data_mask : slice_index registers 27 ≡ mask
   pub stack : Holds data_at (slice_index registers 2)
   pub third : words ≡ true → slice_index registers 3 ≡ data_at.base
   pub fourth : words ≡ true → slice_index registers 4 ≡ data_at.base
@@ -47,15 +47,15 @@ pub record AreFresh (words : Bool) (unit_size : ℕ) (code_at data_at : Span) (p
   pub offset : slice_index registers 31 ≡ 0
 
 -- the fresh hart, by whether code is in words and by the unit
-abbrev hart_by : Bool → ℕ → Span → Span → ℕ → Hart
-hart_by words unit_size code_at data_at pc =
+abbrev hart_by : Bool → ℕ → ℕ → Span → Span → ℕ → Hart
+hart_by words unit_size mask code_at data_at pc =
     let bare : Hart = record { pc = pc; registers = replicate 32 0 } in
-    with_register (with_register (with_register (with_register (with_register (cond words (with_typed data_at bare) bare) 2 (data_at.base + data_at.size - 16)) 24 code_at.base) 25 (code_at.size - unit_size)) 26 data_at.base) 27 (data_at.size - 1)
+    with_register (with_register (with_register (with_register (with_register (cond words (with_typed data_at bare) bare) 2 (data_at.base + data_at.size - 16)) 24 code_at.base) 25 (code_at.size - unit_size)) 26 data_at.base) 27 mask
 
-fresh_by : (words : Bool) (unit_size : ℕ) (code_at data_at : Span) (pc : ℕ) → 16 ≤ data_at.size → AreFresh words unit_size code_at data_at pc (hart_by words unit_size code_at data_at pc).registers
-fresh_by true unit_size code_at data_at pc least =
+fresh_by : (words : Bool) (unit_size mask : ℕ) (code_at data_at : Span) (pc : ℕ) → 16 ≤ data_at.size → AreFresh words unit_size mask code_at data_at pc (hart_by words unit_size mask code_at data_at pc).registers
+fresh_by true unit_size mask code_at data_at pc least =
     record { code_base = refl; code_mask = refl; data_base = refl; data_mask = refl; stack = (omega arith, omega arith); third = λ _. refl; fourth = λ _. refl; last = λ _. refl; code = λ _. refl; offset = refl }
-fresh_by false unit_size code_at data_at pc least = record {
+fresh_by false unit_size mask code_at data_at pc least = record {
   code_base = refl;
   code_mask = refl;
   data_base = refl;
@@ -68,36 +68,36 @@ fresh_by false unit_size code_at data_at pc least = record {
   offset = refl;
 }
 
-pc_by : (words : Bool) (unit_size : ℕ) (code_at data_at : Span) (pc : ℕ) → (hart_by words unit_size code_at data_at pc).pc ≡ pc
-pc_by true unit_size code_at data_at pc = refl
-pc_by false unit_size code_at data_at pc = refl
+pc_by : (words : Bool) (unit_size mask : ℕ) (code_at data_at : Span) (pc : ℕ) → (hart_by words unit_size mask code_at data_at pc).pc ≡ pc
+pc_by true unit_size mask code_at data_at pc = refl
+pc_by false unit_size mask code_at data_at pc = refl
 
 -- the registers of a fresh hart, in the words of sandboxes
 abbrev pub AreFreshOf : Bounds → ℕ → List ℕ → Type 0
-AreFreshOf b pc registers = AreFresh (has_words b.format) (unit b.format) b.code b.data pc registers
+AreFreshOf b pc registers = AreFresh (has_words b.format) (unit b.format) (data_mask_of b.format b.data) b.code b.data pc registers
 
 pub fresh_are : (b : Bounds) (pc : ℕ) → 16 ≤ b.data.size → AreFreshOf b pc (fresh_hart b.format b.code b.data pc).registers
-fresh_are b pc least = fresh_by (has_words b.format) (unit b.format) b.code b.data pc least
+fresh_are b pc least = fresh_by (has_words b.format) (unit b.format) (data_mask_of b.format b.data) b.code b.data pc least
 
 -- its stack pointer, once it is set
-stack_by : (words : Bool) (unit_size : ℕ) (code_at data_at : Span) (pc v : ℕ) → slice_index (with_register (hart_by words unit_size code_at data_at pc) 2 v).registers 2 ≡ v
-stack_by true unit_size code_at data_at pc v = refl
-stack_by false unit_size code_at data_at pc v = refl
+stack_by : (words : Bool) (unit_size mask : ℕ) (code_at data_at : Span) (pc v : ℕ) → slice_index (with_register (hart_by words unit_size mask code_at data_at pc) 2 v).registers 2 ≡ v
+stack_by true unit_size mask code_at data_at pc v = refl
+stack_by false unit_size mask code_at data_at pc v = refl
 
 pub stack_set : (b : Bounds) (pc v : ℕ) → slice_index (with_register (fresh_hart b.format b.code b.data pc) 2 v).registers 2 ≡ v
-stack_set b pc v = stack_by (has_words b.format) (unit b.format) b.code b.data pc v
+stack_set b pc v = stack_by (has_words b.format) (unit b.format) (data_mask_of b.format b.data) b.code b.data pc v
 
 pub fresh_pc : (b : Bounds) (pc : ℕ) → (fresh_hart b.format b.code b.data pc).pc ≡ pc
-fresh_pc b pc = pc_by (has_words b.format) (unit b.format) b.code b.data pc
+fresh_pc b pc = pc_by (has_words b.format) (unit b.format) (data_mask_of b.format b.data) b.code b.data pc
 
-pub reserved_at : (p : Part) (pc : ℕ) (registers : List ℕ) → AreFreshOf (bounds_of p) pc registers → HasReserved (reserved_of p) registers
-reserved_at p pc registers fresh = record { code_base = fresh.code_base; code_mask = fresh.code_mask; data_base = fresh.data_base; data_mask = fresh.data_mask }
+pub reserved_at : (p : Part) (pc : ℕ) (registers : List ℕ) → AreFreshOf (bounds_of p) pc registers → HasReserved p.format (reserved_of p) registers
+reserved_at p pc registers fresh = record { code_base = fresh.code_base; code_mask = fresh.code_mask; data_base = λ two. fresh.data_base; data_mask = fresh.data_mask }
 
 pub typed_at : (p : Part) (pc : ℕ) (registers : List ℕ) → 16 ≤ p.data_size → IsUnitStart p pc → AreFreshOf (bounds_of p) pc registers → IsTyped p registers
 typed_at p pc registers least start fresh =
     let low = fresh.stack.0 in
     let high = fresh.stack.1 in
-    typed_when p pc registers (omega arith) start (omega arith, omega arith) fresh.third fresh.fourth fresh.last fresh.code fresh.offset
+    typed_when p pc registers (omega arith) start (omega arith, omega arith) fresh.third fresh.fourth fresh.last fresh.data_base fresh.code fresh.offset
 
 -- an image's start is one of a unit
 pub start_unit : (p : Part) (a : ℕ) → IsBundleStart (code_region p) a → IsUnitStart p a

@@ -72,7 +72,7 @@ hart_of pc registers = with_registers (record { pc = pc; registers = replicate 3
 -- and the typed ones of its format. All else is arbitrary.
 pub record IsEntryHart (b : Bounds) (h : Hart) : Type 0 where
   pub start : IsStart (unit b.format) b.code h.pc
-  pub reserved : HasReserved (reserved_for (unit b.format) b.code b.data) h.registers
+  pub reserved : HasReserved b.format (reserved_for b.format b.code b.data) h.registers
   pub stack : has_stack b.format ≡ true → Holds b.data (register h stack_pointer)
   pub words : has_words b.format ≡ true → AreWordsTyped b.format b.code b.data h.registers
 

@@ -54,10 +54,10 @@ abbrev pub typed_for : Format → Span → Hart → Hart
 typed_for format data_at h = cond (has_words format) (with_typed data_at h) h
 
 -- the hart at pc with all registers 0 but these: the typed ones, the stack pointer, which lies
--- `first_frame` bytes below the data's end, and the reserved ones
+-- `first_frame` bytes below the data's end, and the reserved ones, also x26 where it is a typed one
 abbrev pub fresh_hart : Format → Span → Span → ℕ → Hart
 fresh_hart format code_at data_at pc =
-    let r = reserved_for (unit format) code_at data_at in
+    let r = reserved_for format code_at data_at in
     with_register
     (with_register
     (with_register

@@ -17,7 +17,7 @@ use sfi_formats::{
     CODE_BASE_REGISTER, CODE_MASK_REGISTER, CODE_REGISTER, DATA_BASE_REGISTER, DATA_MASK_REGISTER,
     FIRST_FRAME, Format, STACK_POINTER,
 };
-use sfi_image::Gate;
+use sfi_image::{Gate, data_mask_of};
 use sfi_names::room_at_end;
 use std::sync::ArcSlice;
 
@@ -84,7 +84,10 @@ pub(crate) fn fresh_cpu(format: Format, code_at: Region, data_at: Region, pc: u3
         code_at.size - format.unit(),
     );
     cpu.set_reg(Reg::numbered(DATA_BASE_REGISTER), data_at.base);
-    cpu.set_reg(Reg::numbered(DATA_MASK_REGISTER), data_at.size - 1);
+    cpu.set_reg(
+        Reg::numbered(DATA_MASK_REGISTER),
+        data_mask_of(format, data_at.base, data_at.size),
+    );
     cpu
 }
 

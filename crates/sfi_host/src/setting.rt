@@ -1,9 +1,9 @@
 //! Registers that are set from outside.
 ghost use Rattle.std.specs.Prelude.{◌≡◌, ◌≢◌, ◌%◌, ◌+◌, ◌<◌, ◌≤◌, ◌^◌, ◌↔◌, IfSome, IsTrue, None, true, false};
 ghost use Rattle.rv_step.specs.State.{IsHart, register};
-ghost use Rattle.sfi_formats.specs.Formats.{has_stack, has_words, has_one_step, offset_register, stack_pointer, unit};
+ghost use Rattle.sfi_formats.specs.Formats.{has_stack, has_words, has_one_step, data_base_register, offset_register, stack_pointer, unit};
 ghost use Rattle.sfi_formats.specs.Limits.{slack};
-ghost use Rattle.sfi_image.specs.Spelling.{Holds, IsNear};
+ghost use Rattle.sfi_image.specs.Spelling.{Holds, IsNear, IsNearIn, IsNearZero};
 ghost use Rattle.sfi_image.specs.Parts.{IsStart, HasReserved, reserved_for};
 ghost use Rattle.sfi_safe_runs.specs.Runs.{AreWordsTyped};
 ghost use Rattle.sfi_host.specs.Changing.{called_back_hart};
@@ -20,8 +20,9 @@ use rv_step::Cpu;
 use rv_word::Reg;
 use sfi_formats::{
     CODE_BASE_REGISTER, CODE_MASK_REGISTER, CODE_REGISTER, DATA_BASE_REGISTER, DATA_MASK_REGISTER,
-    OFFSET_REGISTER, SLACK, STACK_POINTER,
+    Format, OFFSET_REGISTER, SLACK, STACK_POINTER,
 };
+use sfi_image::data_mask_of;
 
 /// Puts values into the registers from x0 on.
 fn set_all(cpu: &mut Cpu, registers: &[u32; 32])
@@ -67,14 +68,32 @@ fn is_near(region: Region, at: u32) -> bool
     u64::from(region.base) <= at + slack && at < end + slack
 }
 
-/// Whether the data registers of code in words hold addresses in the region or near it.
-fn lie_near(region: Region, cpu: &Cpu) -> bool
-    ensures { IsTrue result ↔ LieNear (span_of region) cpu.now.registers }
+/// Whether the address is one of the first `size`, or at most `SLACK` bytes outside them, modulo 2^32.
+fn is_near_zero(size: u32, at: u32) -> bool
+    ensures { IsTrue result ↔ IsNearZero size slack at }
 {
-    is_near(region, cpu.reg(Reg::numbered(2)))
-        && is_near(region, cpu.reg(Reg::numbered(3)))
-        && is_near(region, cpu.reg(Reg::numbered(4)))
-        && is_near(region, cpu.reg(Reg::numbered(29)))
+    let (at, slack) = (u64::from(at), u64::from(SLACK));
+    at < u64::from(size) + slack || (1 << 32) <= at + slack
+}
+
+/// Whether a data register of code in words of this format may hold the address.
+fn may_be_data(format: Format, region: Region, at: u32) -> bool
+    ensures { IsTrue result ↔ IsNearIn format (span_of region) slack at }
+{
+    is_near(region, at) || (format.has_one_step() && is_near_zero(region.size, at))
+}
+
+/// Whether the data registers that each format in words has hold what their type says.
+fn lie_near(format: Format, region: Region, cpu: &Cpu) -> bool
+    ensures { IsTrue result ↔ LieNear format (span_of region) cpu.now.registers }
+{
+    may_be_data(format, region, cpu.reg(Reg::numbered(2)))
+        && may_be_data(format, region, cpu.reg(Reg::numbered(3)))
+        && may_be_data(format, region, cpu.reg(Reg::numbered(4)))
+        && may_be_data(format, region, cpu.reg(Reg::numbered(29)))
+        && (!format.has_one_step()
+            || (may_be_data(format, region, cpu.reg(Reg::numbered(DATA_BASE_REGISTER)))
+                && may_be_data(format, region, cpu.reg(Reg::numbered(OFFSET_REGISTER)))))
 }
 
 impl Sandbox {
@@ -89,14 +108,27 @@ impl Sandbox {
     fn holds_reserved(&self, cpu: &Cpu) -> bool
         requires code_size { 16 ≤ self.now.code.size }
         requires data_size { 16 ≤ self.now.data.size }
-        ensures { IsTrue result ↔ HasReserved
-            (reserved_for (unit self.now.format) (span_of self.now.code) (span_of self.now.data))
+        requires data_end { self.now.data.base + self.now.data.size < 2 ^ 32 }
+        ensures { IsTrue result ↔ HasReserved self.now.format
+            (reserved_for self.now.format (span_of self.now.code) (span_of self.now.data))
             cpu.now.registers }
     {
+        let mask = data_mask_of(self.format, self.data.base, self.data.size);
         cpu.reg(Reg::numbered(CODE_BASE_REGISTER)) == self.code.base
             && cpu.reg(Reg::numbered(CODE_MASK_REGISTER)) == self.code.size - self.format.unit()
-            && cpu.reg(Reg::numbered(DATA_BASE_REGISTER)) == self.data.base
-            && cpu.reg(Reg::numbered(DATA_MASK_REGISTER)) == self.data.size - 1
+            && self.holds_data_base(cpu)
+            && cpu.reg(Reg::numbered(DATA_MASK_REGISTER)) == mask
+    }
+
+    /// Whether x26 holds the data base, where it isn't a data register.
+    fn holds_data_base(&self, cpu: &Cpu) -> bool
+        ensures { IsTrue result ↔ (has_one_step self.now.format ≡ false
+            → register cpu.now data_base_register ≡ self.now.data.base) }
+    {
+        if self.format.has_one_step() {
+            return true;
+        }
+        cpu.reg(Reg::numbered(DATA_BASE_REGISTER)) == self.data.base
     }
 
     /// Whether x31 is below the data size, where it holds an offset.
@@ -117,7 +149,10 @@ impl Sandbox {
             ↔ AreWordsTyped self.now.format (span_of self.now.code) (span_of self.now.data) cpu.now.registers }
     {
         let code = cpu.reg(Reg::numbered(CODE_REGISTER));
-        lie_near(self.data, cpu) && self.code.holds(code) && code % 4 == 0 && self.holds_offset(cpu)
+        lie_near(self.format, self.data, cpu)
+            && self.code.holds(code)
+            && code % 4 == 0
+            && self.holds_offset(cpu)
     }
 
     /// Whether the stack pointer lies in the data, where the format has one.
@@ -146,6 +181,7 @@ impl Sandbox {
     pub(crate) fn may_hold(&self, cpu: &Cpu) -> bool
         requires code_size { 16 ≤ self.now.code.size }
         requires data_size { 16 ≤ self.now.data.size }
+        requires data_end { self.now.data.base + self.now.data.size < 2 ^ 32 }
         ensures { IsTrue result ↔ IsEntryHart (seat_of self.now).bounds cpu.now }
     {
         self.begins_at(cpu.pc())

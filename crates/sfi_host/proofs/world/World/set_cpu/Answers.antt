@@ -19,7 +19,7 @@ may_hold-requires g c =
     let x = c.index.result.now in
     let there = seat_at items c.args.i x (found_there items items c.args.i x refl (omega (arith, c.len.ensures, c.if-place-len.false)) c.index.ensures) in
     let z = sizes (g.M.Memory.bytes c.self.inside.memory) (seat_of x) (c.self.invariant.0.each c.args.i (seat_of x) there) in
-    record { code_size = z.0; data_size = z.1 }
+    record { code_size = z.0; data_size = z.1; data_end = z.2 }
 
 pub returns-then-not-may_hold-clause-may : goal.returns-then-not-may_hold-clause-may
 returns-then-not-may_hold-clause-may g c =
