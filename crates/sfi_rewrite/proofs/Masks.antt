@@ -3,7 +3,11 @@ use Rattle.sfi_rewrite.proofs.Prelude.{◌≡◌, ℕ, ◌+◌, ◌-◌, ◌*◌
 use Rattle.std.proofs.Common.{mul_assoc}
 use Rattle.std.proofs.lemmas.Nat.{and_mask, div-add-mod', mod_low, pow-add, or_shifted, or_comm, mod-mul-add}
 use Rattle.rv_step.specs.Step.{result_of}
-use Rattle.sfi_image.specs.Parts.{IsRegion, reserved_for}
+use Rattle.std.proofs.Common.{false}
+use Rattle.std.proofs.Common.{refl}
+use Rattle.sfi_formats.specs.declared.format.Format.{Format}
+use Rattle.sfi_formats.specs.Formats.{has_one_step, unit}
+use Rattle.sfi_image.specs.Parts.{IsRegion, data_mask_of, reserved_for}
 use Rattle.sfi_image.proofs.Formats.{data_at_most}
 use Rattle.sfi_image.proofs.Regions.{exponent_le}
 use Rattle.sfi_image.proofs.Facts.{masked_unit}
@@ -39,10 +43,11 @@ moved_data base size most x region =
     ∙ ap (λ n. n + x % 2 ^ k) (sym base_is) ∙ ap (λ n. base + x % n) (sym region.size_is)
 
 -- masked by x27 and x26, while a sandbox of these regions runs, a number becomes an address of the
--- data region
-pub masked_data : (u : ℕ) (c d : Span) (h : Hart) (x : ℕ) → AreRegions c d → HasReserved (reserved_for u c d) h.registers → bit_or (bit_and x (register h 27)) (register h 26) ≡ masked d x
-masked_data u c d h x regions reserved =
-    ap (λ n. bit_or (bit_and x n) (register h 26)) reserved.data_mask ∙ ap (λ n. bit_or (bit_and x (d.size - 1)) n) reserved.data_base
+-- data region, where masks have two steps
+pub masked_data : (f : Format) → has_one_step f ≡ false → (c d : Span) (h : Hart) (x : ℕ) → AreRegions c d → HasReserved f (reserved_for f c d) h.registers → bit_or (bit_and x (register h 27)) (register h 26) ≡ masked d x
+masked_data f two c d h x regions reserved =
+    let mask : data_mask_of f d ≡ d.size - 1 = rw two refl in
+    ap (λ n. bit_or (bit_and x n) (register h 26)) (reserved.data_mask ∙ mask) ∙ ap (λ n. bit_or (bit_and x (d.size - 1)) n) (reserved.data_base two)
     ∙ moved_data d.base d.size (data_most regions.format) x regions.data_placed
 
 -- what lies in the region is its own address there
@@ -56,14 +61,14 @@ masked_held c d x regions held =
     let rest : x % d.size ≡ x - q * d.size = rest_of q d.size x (omega arith) (omega arith) in
     omega arith
 
-pub unmasked_data : (u : ℕ) (c d : Span) (h : Hart) (x : ℕ) → AreRegions c d → HasReserved (reserved_for u c d) h.registers → Holds d x → bit_or (bit_and x (register h 27)) (register h 26) ≡ x
-unmasked_data u c d h x regions reserved held = masked_data u c d h x regions reserved ∙ masked_held c d x regions held
+pub unmasked_data : (f : Format) → has_one_step f ≡ false → (c d : Span) (h : Hart) (x : ℕ) → AreRegions c d → HasReserved f (reserved_for f c d) h.registers → Holds d x → bit_or (bit_and x (register h 27)) (register h 26) ≡ x
+unmasked_data f two c d h x regions reserved held = masked_data f two c d h x regions reserved ∙ masked_held c d x regions held
 
 -- a unit's start that lies in the code stays as it is under x25 and x24
-pub unmasked_code : (u : ℕ) (c d : Span) (h : Hart) (x : ℕ) → u ≤ 8 → AreRegions c d → HasReserved (reserved_for (2 ^ u) c d) h.registers → Holds c x → x % 2 ^ u ≡ 0
+pub unmasked_code : (f : Format) (u : ℕ) → unit f ≡ 2 ^ u → (c d : Span) (h : Hart) (x : ℕ) → u ≤ 8 → AreRegions c d → HasReserved f (reserved_for f c d) h.registers → Holds c x → x % 2 ^ u ≡ 0
     → bit_or (bit_and x (register h 25)) (register h 24) ≡ x
-unmasked_code u c d h x short regions reserved held aligned =
-    ap (λ n. bit_or (bit_and x n) (register h 24)) reserved.code_mask ∙ ap (λ n. bit_or (bit_and x (c.size - 2 ^ u)) n) reserved.code_base
+unmasked_code f u is c d h x short regions reserved held aligned =
+    ap (λ n. bit_or (bit_and x n) (register h 24)) (reserved.code_mask ∙ ap (λ n. c.size - n) is) ∙ ap (λ n. bit_or (bit_and x (c.size - 2 ^ u)) n) reserved.code_base
     ∙ unmoved u c.base c.size (code_most regions.format) x short regions.code_placed held.0 held.1 aligned
 
 -- ---- sums

@@ -1,5 +1,8 @@
 -- States in which the expansions of a load, of an indirect jump and of writes of the stack pointer stand.
 use Rattle.sfi_rewrite.proofs.Prelude.{◌≡◌, ℕ, zero, suc, ◌+◌, ◌-◌, ◌%◌, ◌^◌, ◌<◌, ◌≤◌, List, [], ◌∷◌, ◌++◌, length, take, drop, replicate, true, false, Option, Some, None, refl, sym, ap, subst, ◌∙◌, ⊎_elim, arith, get_or-drop, slice_index, nat_lt, Contains, pos, flat_map, list_all, and_parts, ltb-true, cases_lt, And, Or, Instr, Op, Load, Jalr, Bytes, IsMemory, byte_at, bytes_at, addresses, address_after, with_bytes, number_of, Hart, IsHart, Stands, effect, after_load, Wide, State, AreRegions, IsAskedOf, TransparencyCanBeMet, Next, Trap, spelling, Lw, Span, Sfi2, ints, get_or-take, BundleSlot}
+use Rattle.sfi_formats.specs.declared.format.Format.{Format}
+use Rattle.sfi_formats.specs.declared.format.Format.TheVariants.{Sfi1}
+use Rattle.sfi_formats.specs.Formats.{has_one_step, unit}
 use Rattle.rv_word.specs.Spelling.{InRange}
 use Rattle.rv_comp.specs.Fronts.{Spells}
 use Rattle.rv_mem.specs.Bytes.{in_front}
@@ -206,32 +209,32 @@ abbrev pub state_of : ℕ → List ℕ → State
 state_of unit_size words = record { hart = hart_with unit_size 0x01000000; memory = with_code words }
 
 -- three instructions that stand at the code base, for one
-pub asked_of : (unit_size : ℕ) → list_all (λ x. nat_lt x (2 ^ 32)) (hart_with unit_size 0x01000000).registers ≡ true
+pub asked_of : (f : Format) → has_one_step f ≡ false → list_all (λ x. nat_lt x (2 ^ 32)) (hart_with (unit f) 0x01000000).registers ≡ true
     → (i j k l : Instr) → IsSpelled j → IsSpelled k → IsSpelled l
-    → IsAskedOf unit_size i (Wide j ∷ Wide k ∷ Wide l ∷ []) code_at data_at (state_of unit_size (words_of (j ∷ k ∷ l ∷ [])))
-asked_of unit_size masks i j k l first second third =
+    → IsAskedOf f i (Wide j ∷ Wide k ∷ Wide l ∷ []) code_at data_at (state_of (unit f) (words_of (j ∷ k ∷ l ∷ [])))
+asked_of f two masks i j k l first second third =
     let words = words_of (j ∷ k ∷ l ∷ []) in record {
       regions = regions;
-      is_state = record { hart = is_hart unit_size masks; memory = is_memory words refl (words_small (j ∷ k ∷ l ∷ [])) };
-      reserved = record { code_base = refl; code_mask = refl; data_base = refl; data_mask = refl };
+      is_state = record { hart = is_hart (unit f) masks; memory = is_memory words refl (words_small (j ∷ k ∷ l ∷ [])) };
+      reserved = record { code_base = refl; code_mask = refl; data_base = λ _. refl; data_mask = rw two refl };
       stand = (
-        stands words refl unit_size 0 j (omega arith) refl first,
-        (stands words refl unit_size 4 k (omega arith) refl second, (stands words refl unit_size 8 l (omega arith) refl third, tt)),
+        stands words refl (unit f) 0 j (omega arith) refl first,
+        (stands words refl (unit f) 4 k (omega arith) refl second, (stands words refl (unit f) 8 l (omega arith) refl third, tt)),
       );
     }
 
 -- slots that are an expansion in that state
-abbrev pub meets : (unit_size : ℕ) (i : Instr) (IsExpanded : List BundleSlot → Type 0) (slots : List BundleSlot) (words : List ℕ) → IsExpanded slots
-    → IsAskedOf unit_size i slots code_at data_at (state_of unit_size words) → Meets unit_size i IsExpanded
-meets unit_size i IsExpanded slots words expansion asked =
-    record { slots = slots; expansion = expansion; code_at = code_at; data_at = data_at; state = state_of unit_size words; asked = asked }
+abbrev pub meets : (f : Format) (i : Instr) (IsExpanded : List BundleSlot → Type 0) (slots : List BundleSlot) (words : List ℕ) → IsExpanded slots
+    → IsAskedOf f i slots code_at data_at (state_of (unit f) words) → Meets f i IsExpanded
+meets f i IsExpanded slots words expansion asked =
+    record { slots = slots; expansion = expansion; code_at = code_at; data_at = data_at; state = state_of (unit f) words; asked = asked }
 
 -- ---- the samples
 
 -- the three instructions are the expansion
 abbrev three_meet : (i j k l : Instr) → IsSpelled j → IsSpelled k → IsSpelled l → IsPlainExpansion Sfi2 false i (Wide j ∷ Wide k ∷ Wide l ∷ []) → MeetsExpansion Sfi2 i
 three_meet i j k l first second third expansion =
-    meets 16 i (IsPlainExpansion Sfi2 false i) (Wide j ∷ Wide k ∷ Wide l ∷ []) (words_of (j ∷ k ∷ l ∷ [])) expansion (asked_of 16 refl i j k l first second third)
+    meets Sfi1 i (IsPlainExpansion Sfi2 false i) (Wide j ∷ Wide k ∷ Wide l ∷ []) (words_of (j ∷ k ∷ l ∷ [])) expansion (asked_of Sfi1 refl refl i j k l first second third)
 
 load_met : MeetsTransparent Sfi2 sample_load
 load_met = (

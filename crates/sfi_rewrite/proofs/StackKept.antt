@@ -1,5 +1,6 @@
 -- What each expansion does.
 use Rattle.sfi_rewrite.proofs.Prelude.{◌≡◌, ◌≢◌, ℕ, ◌+◌, ◌*◌, ◌%◌, ◌^◌, next, ◌==◌, ◌&&◌, List, [], ◌∷◌, Bool, true, false, Option, Some, None, inl, inr, refl, sym, ap, ◌∙◌, subst, arith, bit_and, bit_or, MatchBool, eqb-true, true≢false, and_parts, and_right, And, Or, LoadKind, Instr, Op, OpImm, Load, Branch, Jal, Jalr, Lui, Auipc, Format, has_stack, is_stack, Bytes, address_after, loaded, Hart, State, IsState, register, with_register, with_pc, past, Stepped, Stands, after_load, effect, IsStep, Body, Plain, To, High, Low, Base, BundleSlot, Wide, Jump, Upper, Lower, Region, slot_size, IsAlone, IsMasked, IsExpansionOf, writes_stack, is_on_stack, is_stack_write, jumps_or_loads_x2, stack_pair, put_back, ExpansionsAreTransparent, AreRegions, HasReserved, SlotStands, IsTransparent, put_back_at, KeepsStack, ActsAs, IsAimed, MayBe, further, StandInRow, LeadsTo, LeadTo, load_size, Next, offset_by, Addi, Add, Span, names_withheld, item_names_withheld, masked}
+use Rattle.sfi_formats.specs.declared.format.Format.TheVariants.{Sfi1}
 use Rattle.rv_word.specs.Outlines.{writes_register, is_register, destination}
 use Rattle.rv_step.proofs.Facts.{pair_leaves, step_keeps_state}
 use Rattle.rv_step.proofs.Pairs.{written_elsewhere}
@@ -55,7 +56,7 @@ destined (Some d) r h = ap Some (eqb-true d r h)
 -- ---- the pair after it
 
 -- from the state after i, of which we know that it is s with x2 written
-from_there : (c d : Span) (s one : State) (v : ℕ) → AreRegions c d → IsState one → HasReserved (reserved_for 16 c d) s.hart.registers
+from_there : (c d : Span) (s one : State) (v : ℕ) → AreRegions c d → IsState one → HasReserved Sfi1 (reserved_for Sfi1 c d) s.hart.registers
     → one ≡ record { hart = with_register (past s.hart 4) 2 v; memory = s.memory }
     → Stands (further s 4) (Op And 2 2 27) 4 → Stands (further (further s 4) 4) (Op Or 2 2 26) 4
     → LeadTo 2 one (put_back_at d one (address_after s.hart.pc 12))
@@ -65,11 +66,11 @@ from_there c d s one v regions is reserved e second third =
     let memory : one.memory ≡ s.memory = ap (λ (x : State). x.memory) e in
     let other : (r : ℕ) → r ≢ 2 → register h r ≡ register s.hart r =
     λ r ne. ap (λ (x : State). register x.hart r) e ∙ written_elsewhere (past s.hart 4) 2 v r (λ z. omega arith) ne in
-    let now : HasReserved (reserved_for 16 c d) h.registers =
+    let now : HasReserved Sfi1 (reserved_for Sfi1 c d) h.registers =
     record {
       code_base = other 24 (λ z. omega arith) ∙ reserved.code_base;
       code_mask = other 25 (λ z. omega arith) ∙ reserved.code_mask;
-      data_base = other 26 (λ z. omega arith) ∙ reserved.data_base;
+      data_base = λ two. other 26 (λ z. omega arith) ∙ reserved.data_base two;
       data_mask = other 27 (λ z. omega arith) ∙ reserved.data_mask;
     } in
     let row : StandInRow one (Op And 2 2 27 ∷ Op Or 2 2 26 ∷ []) = (
@@ -77,7 +78,7 @@ from_there c d s one v regions is reserved e second third =
       (stands_at (further (further s 4) 4) (further one 4) (Op Or 2 2 26) 4 (ap (λ p. address_after p 4) pc) memory third, tt),
     ) in
     let left = pair_leaves one 2 2 27 26 is (λ z. omega arith) (λ z. omega arith) row in
-    let value = masked_data 16 c d h (register h 2) regions now in
+    let value = masked_data Sfi1 refl c d h (register h 2) regions now in
     let end : address_after h.pc 8 ≡ address_after s.hart.pc 12 = ap (λ p. address_after p 8) pc ∙ twelve s.hart.pc in
     let state : with_register (past h 8) 2 (bit_or (bit_and (register h 2) (register h 27)) (register h 26)) ≡ with_register (with_pc h (address_after s.hart.pc 12)) 2 (masked d (register h 2)) =
     ap (λ n. with_register (past h 8) 2 n) value ∙ ap (λ p. with_register (with_pc h p) 2 (masked d (register h 2))) end in

@@ -127,7 +127,7 @@ load_transparent kind rd a imm = record {
   does = λ c d s asked keeps.
       let regions = asked.regions in let is = asked.is_state in let reserved = asked.reserved in let stand = asked.stand in
       after_pair is_scratch 31 s (Load kind rd a imm) (Load kind rd 31 imm) a 27 26 (register s.hart a) (λ z. omega arith) (omega arith) refl is (λ z. omega arith) stand.0 stand.1.0 stand.1.1.0
-      (unmasked_data 16 c d s.hart (register s.hart a) regions reserved keeps)
+      (unmasked_data Sfi1 refl c d s.hart (register s.hart a) regions reserved keeps)
       (λ h aside e. loads_same is_scratch kind rd 31 a imm 4 h (with_pc s.hart h.pc) s.memory aside e);
 }
 
@@ -139,7 +139,7 @@ store_transparent width a rs2 imm ne = record {
   does = λ c d s asked keeps.
       let regions = asked.regions in let is = asked.is_state in let reserved = asked.reserved in let stand = asked.stand in
       after_pair is_scratch 31 s (Store width a rs2 imm) (Store width 31 rs2 imm) a 27 26 (register s.hart a) (λ z. omega arith) (omega arith) refl is (λ z. omega arith) stand.0 stand.1.0 stand.1.1.0
-      (unmasked_data 16 c d s.hart (register s.hart a) regions reserved keeps)
+      (unmasked_data Sfi1 refl c d s.hart (register s.hart a) regions reserved keeps)
       (λ h aside e. stores_same is_scratch width 31 a rs2 imm 4 h (with_pc s.hart h.pc) s.memory aside e (ne_eqb rs2 31 ne));
 }
 
@@ -154,7 +154,7 @@ jump_transparent rd a = record {
       let v = register s.hart a in
       let to = plus_zero v (is.hart.words a) in
       after_pair is_scratch 31 s (Jalr rd a (pos 0)) (Jalr rd 31 (pos 0)) a 25 24 v (λ z. omega arith) (omega arith) refl is (λ z. omega arith) stand.0 stand.1.0 stand.1.1.0
-      (let start = subst (λ (n : ℕ). IsBundleStart c n) to keeps in unmasked_code 4 c d s.hart v (omega arith) regions reserved start.held start.aligned)
+      (let start = subst (λ (n : ℕ). IsBundleStart c n) to keeps in unmasked_code Sfi1 4 refl c d s.hart v (omega arith) regions reserved start.held start.aligned)
       (λ h aside e. jumps_same is_scratch rd 31 a (pos 0) h (with_pc s.hart h.pc) s.memory aside (ap (λ n. offset_by n (pos 0)) e));
 }
 
@@ -168,7 +168,7 @@ sum_transparent rd a imm = record {
       let regions = asked.regions in let is = asked.is_state in let reserved = asked.reserved in let stand = asked.stand in
       let v = offset_by (register s.hart a) imm in
       after_sum s (Jalr rd a imm) (Jalr rd 31 (pos 0)) a 25 24 imm is (λ z. omega arith) (λ z. omega arith) stand.0 stand.1.0 stand.1.1.0 stand.1.1.1.0
-      (unmasked_code 4 c d s.hart v (omega arith) regions reserved keep.held keep.aligned)
+      (unmasked_code Sfi1 4 refl c d s.hart v (omega arith) regions reserved keep.held keep.aligned)
       (λ h aside e. jumps_same is_scratch rd 31 a imm h (with_pc s.hart h.pc) s.memory aside (ap (λ n. offset_by n (pos 0)) e ∙ plus_zero v (plus_fits (register s.hart a) imm)));
 }
 

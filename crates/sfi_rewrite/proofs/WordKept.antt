@@ -107,12 +107,12 @@ one_step s t a = (t, a, refl)
 -- ---- the mask after a write
 
 -- the reserved registers where d alone was written, and the expansions' own
-reserved_still : (c d_at : Span) (s t : State) (d : ℕ) → d < 5 → HasReserved (reserved_for 4 c d_at) s.hart.registers
-    → ((x : ℕ) → is_own x ≡ false → x ≢ d → register t.hart x ≡ register s.hart x) → HasReserved (reserved_for 4 c d_at) t.hart.registers
+reserved_still : (c d_at : Span) (s t : State) (d : ℕ) → d < 5 → HasReserved Sfiw (reserved_for Sfiw c d_at) s.hart.registers
+    → ((x : ℕ) → is_own x ≡ false → x ≢ d → register t.hart x ≡ register s.hart x) → HasReserved Sfiw (reserved_for Sfiw c d_at) t.hart.registers
 reserved_still c d_at s t d small reserved same = record {
   code_base = same 24 refl (λ e. omega arith) ∙ reserved.code_base;
   code_mask = same 25 refl (λ e. omega arith) ∙ reserved.code_mask;
-  data_base = same 26 refl (λ e. omega arith) ∙ reserved.data_base;
+  data_base = λ two. same 26 refl (λ e. omega arith) ∙ reserved.data_base two;
   data_mask = same 27 refl (λ e. omega arith) ∙ reserved.data_mask;
 }
 
@@ -177,7 +177,7 @@ masked_keeps i d slots writer no_jump typed own t first = record {
   };
 }
   where
-    asked_before : (c d_at : Span) (s : State) → IsAskedOf 4 i (slots ++ data_mask d d) c d_at s → IsAskedOf 4 i slots c d_at s
+    asked_before : (c d_at : Span) (s : State) → IsAskedOf Sfiw i (slots ++ data_mask d d) c d_at s → IsAskedOf Sfiw i slots c d_at s
     asked_before c d_at s asked = record {
       regions = asked.regions;
       is_state = asked.is_state;

@@ -1,5 +1,6 @@
 -- States in which the expansions in words of a load, of an indirect jump, of a step, and of writes of the stack pointer stand.
 use Rattle.sfi_rewrite.proofs.Prelude.{List, [], ◌∷◌, refl, sym, ◌∙◌, arith, false, pos, And, Or, Instr, Op, Load, Jalr, State, BundleSlot, Wide, IsAskedOf, Lw, sample_load, sample_jump, sample_push, sample_upper, sample_pop}
+use Rattle.sfi_formats.specs.declared.format.Format.TheVariants.{Sfiw}
 use Rattle.sfi_rewrite.specs.Laws.{WordTransparencyCanBeMet}
 use Rattle.sfi_rewrite.specs.words.Samples.{MeetsExpansion, MeetsTransparent, MeetsStep, MeetsInside, MeetsOutside, MeetsStop, sample_low, sample_move, sample_step, sample_use}
 use Rattle.sfi_rewrite.specs.Samples.{Meets}
@@ -16,21 +17,21 @@ mask_or = op_spelled Or 2 31 26 (omega arith) (omega arith) (omega arith)
 -- three instructions that are the expansion
 abbrev three_meet : (i j k l : Instr) → IsSpelled j → IsSpelled k → IsSpelled l → IsPlainExpansion false false i (Wide j ∷ Wide k ∷ Wide l ∷ []) → MeetsExpansion i
 three_meet i j k l first second third expansion =
-    meets 4 i (IsPlainExpansion false false i) (Wide j ∷ Wide k ∷ Wide l ∷ []) (words_of (j ∷ k ∷ l ∷ [])) expansion (asked_of 4 refl i j k l first second third)
+    meets Sfiw i (IsPlainExpansion false false i) (Wide j ∷ Wide k ∷ Wide l ∷ []) (words_of (j ∷ k ∷ l ∷ [])) expansion (asked_of Sfiw refl refl i j k l first second third)
 
 -- what is asked of the first of the slots, or of the first two, where all three stand
-first_asked : (i : Instr) (s t u : BundleSlot) (state : State) → IsAskedOf 4 i (s ∷ t ∷ u ∷ []) code_at data_at state → IsAskedOf 4 i (s ∷ []) code_at data_at state
+first_asked : (i : Instr) (s t u : BundleSlot) (state : State) → IsAskedOf Sfiw i (s ∷ t ∷ u ∷ []) code_at data_at state → IsAskedOf Sfiw i (s ∷ []) code_at data_at state
 first_asked i s t u state three = record { regions = three.regions; is_state = three.is_state; reserved = three.reserved; stand = (three.stand.0, tt) }
 
-two_asked : (i : Instr) (s t u : BundleSlot) (state : State) → IsAskedOf 4 i (s ∷ t ∷ u ∷ []) code_at data_at state → IsAskedOf 4 i (s ∷ t ∷ []) code_at data_at state
+two_asked : (i : Instr) (s t u : BundleSlot) (state : State) → IsAskedOf Sfiw i (s ∷ t ∷ u ∷ []) code_at data_at state → IsAskedOf Sfiw i (s ∷ t ∷ []) code_at data_at state
 two_asked i s t u state three = record { regions = three.regions; is_state = three.is_state; reserved = three.reserved; stand = (three.stand.0, (three.stand.1.0, tt)) }
 
 -- the one instruction is the expansion; the two words after it don't matter
-abbrev one_meets : (i j : Instr) (IsExpanded : List BundleSlot → Type 0) → IsSpelled j → IsExpanded (Wide j ∷ []) → Meets 4 i IsExpanded
+abbrev one_meets : (i j : Instr) (IsExpanded : List BundleSlot → Type 0) → IsSpelled j → IsExpanded (Wide j ∷ []) → Meets Sfiw i IsExpanded
 one_meets i j IsExpanded spelled expansion =
     let words = words_of (j ∷ Op Or 2 31 26 ∷ Op Or 2 31 26 ∷ []) in
-    meets 4 i IsExpanded (Wide j ∷ []) words expansion
-    (first_asked i (Wide j) (Wide (Op Or 2 31 26)) (Wide (Op Or 2 31 26)) (state_of 4 words) (asked_of 4 refl i j (Op Or 2 31 26) (Op Or 2 31 26) spelled mask_or mask_or))
+    meets Sfiw i IsExpanded (Wide j ∷ []) words expansion
+    (first_asked i (Wide j) (Wide (Op Or 2 31 26)) (Wide (Op Or 2 31 26)) (state_of 4 words) (asked_of Sfiw refl refl i j (Op Or 2 31 26) (Op Or 2 31 26) spelled mask_or mask_or))
 
 load_met : MeetsTransparent sample_load
 load_met = (
@@ -82,9 +83,9 @@ pop_met = (
 move_met : MeetsInside 2 sample_move
 move_met =
     let words = words_of (Op And 31 11 27 ∷ Op Or 2 31 26 ∷ Op Or 2 31 26 ∷ []) in (
-      meets 4 sample_move (IsPlainExpansion false false sample_move) (Wide (Op And 31 11 27) ∷ Wide (Op Or 2 31 26) ∷ []) words refl
+      meets Sfiw sample_move (IsPlainExpansion false false sample_move) (Wide (Op And 31 11 27) ∷ Wide (Op Or 2 31 26) ∷ []) words refl
           (two_asked sample_move (Wide (Op And 31 11 27)) (Wide (Op Or 2 31 26)) (Wide (Op Or 2 31 26)) (state_of 4 words)
-          (asked_of 4 refl sample_move (Op And 31 11 27) (Op Or 2 31 26) (Op Or 2 31 26) (op_spelled And 31 11 27 (omega arith) (omega arith) (omega arith)) mask_or mask_or)),
+          (asked_of Sfiw refl refl sample_move (Op And 31 11 27) (Op Or 2 31 26) (Op Or 2 31 26) (op_spelled And 31 11 27 (omega arith) (omega arith) (omega arith)) mask_or mask_or)),
       (refl, refl, tt),
       (refl, (omega arith, omega arith)),
     )

@@ -1,5 +1,6 @@
 -- Each expansion in words does what its instruction does.
 use Rattle.sfi_rewrite.proofs.Prelude.{◌≡◌, ◌≢◌, ℕ, ◌<◌, ◌==◌, List, [], ◌∷◌, ◌++◌, Bool, true, false, inl, inr, refl, sym, ap, ◌∙◌, subst, arith, ℤ, pos, bit_and, bit_or, And, Or, LoadKind, Instr, Op, Load, Store, Jalr, address_after, State, IsState, register, with_register, with_pc, past, Stands, effect, BundleSlot, Wide, Short, slot_size, IsAlone, AreRegions, HasReserved, SlotStands, IsSameAside, DoesAs, if◌then◌else◌, further, LeadTo, offset_by, StoreWidth, Holds, Span, masked, SlotsStand, data_mask}
+use Rattle.sfi_formats.specs.declared.format.Format.TheVariants.{Sfiw}
 use Rattle.rv_step.proofs.Pairs.{written_here, written_elsewhere}
 use Rattle.sfi_rewrite.specs.words.Transparency.{is_own, KeepsTo, meant_base, meant, IsTransparent}
 use Rattle.sfi_image.specs.Parts.{IsWordStart, reserved_for}
@@ -90,7 +91,7 @@ based_transparent i j a slots one held same = record {
   does = λ c d s asked keeps.
       let stand : SlotsStand i (further (further s 4) 4) (one.slot ∷ []) = subst (λ (v : List BundleSlot). SlotsStand i (further (further s 4) 4) v) one.are asked.stand.1.1 in
       after_base s i j a (register s.hart a) one.slot asked.is_state asked.stand.0 asked.stand.1.0 (one.stands (further (further s 4) 4) stand.0)
-      (unmasked_data 4 c d s.hart (register s.hart a) asked.regions asked.reserved (held c d s keeps)) (same s (slot_size one.slot));
+      (unmasked_data Sfiw refl c d s.hart (register s.hart a) asked.regions asked.reserved (held c d s keeps)) (same s (slot_size one.slot));
 }
 
 -- an access on another register than x0 means itself
@@ -144,7 +145,7 @@ jump_transparent rd a = record {
       let v = register s.hart a in
       let start = subst (λ (n : ℕ). IsWordStart c n) (plus_zero v (asked.is_state.hart.words a)) keeps in
       after_pair is_own 30 s (Jalr rd a (pos 0)) (Jalr rd 30 (pos 0)) a 25 24 v (λ z. omega arith) (omega arith) refl asked.is_state (λ z. omega arith) asked.stand.0 asked.stand.1.0 asked.stand.1.1.0
-      (unmasked_code 2 c d s.hart v (omega arith) asked.regions asked.reserved start.held start.aligned)
+      (unmasked_code Sfiw 2 refl c d s.hart v (omega arith) asked.regions asked.reserved start.held start.aligned)
       (λ h aside e. jumps_same is_own rd 30 a (pos 0) h (with_pc s.hart h.pc) s.memory aside (ap (λ n. offset_by n (pos 0)) e));
 }
 
@@ -167,5 +168,5 @@ pub not_31 : (x : ℕ) → is_own x ≡ false → x ≢ 31
 not_31 x other e = let z = ap is_own e in cc
 
 -- in that one it leaves the address that a masks to
-pub mask_leaves : (c d_at : Span) (t : State) (d a : ℕ) → AreRegions c d_at → IsState t → HasReserved (reserved_for 4 c d_at) t.hart.registers → IsNamed d → register (after_mask t d a).hart d ≡ masked d_at (register t.hart a)
-mask_leaves c d_at t d a regions is reserved named = mask_value t d a is named.some named.small ∙ masked_data 4 c d_at t.hart (register t.hart a) regions reserved
+pub mask_leaves : (c d_at : Span) (t : State) (d a : ℕ) → AreRegions c d_at → IsState t → HasReserved Sfiw (reserved_for Sfiw c d_at) t.hart.registers → IsNamed d → register (after_mask t d a).hart d ≡ masked d_at (register t.hart a)
+mask_leaves c d_at t d a regions is reserved named = mask_value t d a is named.some named.small ∙ masked_data Sfiw refl c d_at t.hart (register t.hart a) regions reserved

@@ -6,8 +6,8 @@ use Rattle.rv_word.specs.declared.instr.LoadKind.TheVariants.{Lw}
 use Rattle.rv_word.specs.declared.instr.Instr.{Instr}
 use Rattle.rv_word.specs.declared.instr.Instr.TheVariants.{Load, Jalr, OpImm, Lui}
 use Rattle.rv_word.specs.Spelling.{minus}
-use Rattle.sfi_formats.specs.Limits.{bundle_size}
 use Rattle.sfi_formats.specs.declared.format.Format.{Format}
+use Rattle.sfi_formats.specs.declared.format.Format.TheVariants.{Sfi1}
 use Rattle.rv_step.specs.declared.outcome.Outcome.TheVariants.{Next}
 use Rattle.rv_step.specs.State.{State, register}
 use Rattle.rv_step.specs.Step.{Stepped}
@@ -19,14 +19,14 @@ use Rattle.sfi_rewrite.specs.Expansion.{writes_stack, IsPlainExpansion}
 use Rattle.sfi_rewrite.specs.Transparency.{KeepsTo, IsAskedOf, effect_in}
 
 -- an expansion, and regions and a state for which all holds that is asked where its slots stand for i,
--- in code in units of `unit_size` bytes
-pub record Meets (unit_size : ℕ) (i : Instr) (IsExpanded : List BundleSlot → Type 0) : Type 0 where
+-- in code of this format
+pub record Meets (f : Format) (i : Instr) (IsExpanded : List BundleSlot → Type 0) : Type 0 where
   pub slots : List BundleSlot
   pub expansion : IsExpanded slots
   pub code_at : Span
   pub data_at : Span
   pub state : State
-  pub asked : IsAskedOf unit_size i slots code_at data_at state
+  pub asked : IsAskedOf f i slots code_at data_at state
 
 -- the step is done, and leaves the register in the data region
 abbrev pub LeavesInside : Span → ℕ → Stepped → Type 0
@@ -38,7 +38,7 @@ LeavesOutside data_at d r = (r.outcome ≡ Next) × (Holds data_at (register r.s
 
 -- `Meets` for the expansion of i in 32-bit slots
 abbrev pub MeetsExpansion : Format → Instr → Type 0
-MeetsExpansion f i = Meets bundle_size i (IsPlainExpansion f false i)
+MeetsExpansion f i = Meets Sfi1 i (IsPlainExpansion f false i)
 
 -- all that IsTransparent asks holds in some state, and there i is done
 abbrev pub MeetsTransparent : Format → Instr → Type 0

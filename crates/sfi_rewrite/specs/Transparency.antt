@@ -7,8 +7,8 @@ use Rattle.rv_word.specs.declared.instr.ImmOp.TheVariants.{Addi}
 use Rattle.rv_word.specs.declared.instr.RegOp.TheVariants.{Add}
 use Rattle.rv_word.specs.declared.instr.Instr.TheVariants.{Op, OpImm, Load, Store, Branch, Jal, Jalr, Lui}
 use Rattle.rv_comp.specs.Table.{expansion}
-use Rattle.sfi_formats.specs.Limits.{bundle_size}
 use Rattle.sfi_formats.specs.declared.format.Format.{Format}
+use Rattle.sfi_formats.specs.declared.format.Format.TheVariants.{Sfi1}
 use Rattle.rv_mem.specs.Bytes.{address_after}
 use Rattle.rv_step.specs.declared.outcome.Outcome.TheVariants.{Next}
 use Rattle.rv_step.specs.State.{Hart, State, IsState, register, with_register, with_pc}
@@ -86,22 +86,23 @@ pub record DoesAs (is_own : ℕ → Bool) (s : State) (i : Instr) (before : List
   pub step : IsStep there result
   pub same : IsSameAside is_own result (effect i (slot_size last) (with_pc s.hart there.hart.pc) s.memory)
 
--- What is asked wherever slots stand for i, in code in units of `unit_size` bytes: regions of a
--- sandbox, a state of the machine, the reserved registers, and the slots from pc on.
-pub record IsAskedOf (unit_size : ℕ) (i : Instr) (slots : List BundleSlot) (code_at data_at : Span)
+-- What is asked wherever slots stand for i, in code of this format: regions of a sandbox, a state of the
+-- machine, the reserved registers, and the slots from pc on.
+pub record IsAskedOf (f : Format) (i : Instr) (slots : List BundleSlot) (code_at data_at : Span)
     (s : State) : Type 0 where
   pub regions : AreRegions code_at data_at
   pub is_state : IsState s
-  pub reserved : HasReserved (reserved_for unit_size code_at data_at) s.hart.registers
+  pub reserved : HasReserved f (reserved_for f code_at data_at) s.hart.registers
   pub stand : SlotsStand i s slots
 
 -- The slots are transparent to the instruction: wherever they stand, from any state in which the
--- instruction keeps to its sandbox, they do as it does.
+-- instruction keeps to its sandbox, they do as it does. (The reserved registers hold the same in each format
+-- of bundles: those of the first are asked.)
 pub record IsTransparent (i : Instr) (slots : List BundleSlot) : Type 0 where
   pub before : List BundleSlot
   pub last : BundleSlot
   pub slots_are : slots ≡ before ++ last ∷ []
-  pub does : (code_at data_at : Span) (s : State) → IsAskedOf bundle_size i slots code_at data_at s
+  pub does : (code_at data_at : Span) (s : State) → IsAskedOf Sfi1 i slots code_at data_at s
       → KeepsTo code_at data_at s.hart i → DoesAs is_scratch s i before last
 
 -- ---- before the pair that puts the stack pointer back
@@ -126,12 +127,12 @@ put_back_at data_at s pc =
 -- done, their first step stops as it does.
 pub record KeepsStack (i : Instr) (slots : List BundleSlot) : Type 0 where
   pub does :
-      (code_at data_at : Span) (s : State) → IsAskedOf bundle_size i slots code_at data_at s
+      (code_at data_at : Span) (s : State) → IsAskedOf Sfi1 i slots code_at data_at s
       → (effect_in s i).outcome ≡ Next
       → LeadTo (length slots) s
       (put_back_at data_at (effect_in s i).state (address_after s.hart.pc (size_of slots)))
   pub stops :
-      (code_at data_at : Span) (s : State) → IsAskedOf bundle_size i slots code_at data_at s
+      (code_at data_at : Span) (s : State) → IsAskedOf Sfi1 i slots code_at data_at s
       → (effect_in s i).outcome ≢ Next → IsStep s (effect_in s i)
 
 -- what an expansion of the format is to its instruction

@@ -10,7 +10,7 @@ use Rattle.rv_word.specs.Outlines.{destination}
 use Rattle.rv_step.specs.declared.outcome.Outcome.TheVariants.{Next}
 use Rattle.sfi_source.specs.declared.item.Body.TheVariants.{Plain}
 use Rattle.sfi_source.specs.declared.item.Item.{Item}
-use Rattle.sfi_formats.specs.Formats.{unit, is_data_register, stack_pointer}
+use Rattle.sfi_formats.specs.Formats.{is_data_register, stack_pointer}
 use Rattle.sfi_formats.specs.declared.format.Format.TheVariants.{Sfiw}
 use Rattle.sfi_rewrite.specs.Samples.{Meets, LeavesInside, LeavesOutside, sample_push}
 use Rattle.sfi_rewrite.specs.words.Expansion.{mask_after, is_step_before_use, IsPlainExpansion, IsExpansion}
@@ -18,7 +18,7 @@ use Rattle.sfi_rewrite.specs.words.Transparency.{KeepsTo, effect_in}
 
 -- the expansion of i, which is no step, in 32-bit slots
 abbrev pub MeetsExpansion : Instr → Type 0
-MeetsExpansion i = Meets (unit Sfiw) i (IsPlainExpansion false false i)
+MeetsExpansion i = Meets Sfiw i (IsPlainExpansion false false i)
 
 -- all that IsTransparent asks where i writes no data register, and i is done
 abbrev pub MeetsTransparent : Instr → Type 0
@@ -28,7 +28,7 @@ MeetsTransparent i = (m : MeetsExpansion i) × (mask_after (destination i) ≡ [
 -- all that IsTransparent asks of the instruction of an item that is a step, which the first item of
 -- `later` uses, holds in some state
 abbrev pub MeetsStep : Item → List Item → Instr → Type 0
-MeetsStep x later i = (m : Meets (unit Sfiw) i (IsExpansion x later)) × (x.body ≡ Plain i)
+MeetsStep x later i = (m : Meets Sfiw i (IsExpansion x later)) × (x.body ≡ Plain i)
     × (is_step_before_use x later ≡ true) × KeepsTo m.code_at m.data_at m.state.hart i
     × ((effect_in m.state i).outcome ≡ Next)
 

@@ -14,7 +14,7 @@ use Rattle.rv_step.specs.State.{Hart, State, register}
 use Rattle.rv_step.specs.Step.{Stepped, effect}
 use Rattle.rv_step.specs.Rows.{LeadTo}
 use Rattle.sfi_source.specs.declared.item.Item.{Item}
-use Rattle.sfi_formats.specs.Formats.{data_base_register, is_data_register, code_register, offset_register, unit}
+use Rattle.sfi_formats.specs.Formats.{data_base_register, is_data_register, code_register, offset_register}
 use Rattle.sfi_formats.specs.declared.format.Format.TheVariants.{Sfiw}
 use Rattle.sfi_image.specs.declared.span.Span.{Span}
 use Rattle.sfi_image.specs.Spelling.{Holds}
@@ -69,7 +69,7 @@ pub record IsTransparent (i : Instr) (slots : List BundleSlot) : Type 0 where
   pub before : List BundleSlot
   pub last : BundleSlot
   pub slots_are : slots ≡ before ++ last ∷ []
-  pub does : (code_at data_at : Span) (s : State) → IsAskedOf (unit Sfiw) i slots code_at data_at s
+  pub does : (code_at data_at : Span) (s : State) → IsAskedOf Sfiw i slots code_at data_at s
       → KeepsTo code_at data_at s.hart i → DoesAs is_own s (meant i) before last
 
 -- The state after all the slots, where an instruction that writes d leaves that of q: pc is `end`;
@@ -96,12 +96,12 @@ pub record StopAs (s : State) (i : Instr) (slots : List BundleSlot) : Type 0 whe
 -- they stop as it does.
 pub record KeepsData (d : ℕ) (i : Instr) (slots : List BundleSlot) : Type 0 where
   pub does :
-      (code_at data_at : Span) (s : State) → IsAskedOf (unit Sfiw) i slots code_at data_at s
+      (code_at data_at : Span) (s : State) → IsAskedOf Sfiw i slots code_at data_at s
       → KeepsTo code_at data_at s.hart i → (effect_in s i).outcome ≡ Next
       → (t : State) × LeadTo (length slots) s t
       × IsLeft data_at d (effect_in s i) (address_after s.hart.pc (size_of slots)) t
   pub stops :
-      (code_at data_at : Span) (s : State) → IsAskedOf (unit Sfiw) i slots code_at data_at s
+      (code_at data_at : Span) (s : State) → IsAskedOf Sfiw i slots code_at data_at s
       → KeepsTo code_at data_at s.hart i → (effect_in s i).outcome ≢ Next → StopAs s i slots
 
 -- what the slots are to i, whose destination is given: where i writes a data register and is no
