@@ -8,7 +8,7 @@ use Rattle.rv_word.specs.declared.instr.Instr.TheVariants.{Op, OpImm, Load, Stor
 use Rattle.rv_step.specs.State.{State, register}
 use Rattle.rv_step.specs.Step.{Stands}
 use Rattle.sfi_formats.specs.Formats.{has_one_step, has_stack, is_stack, is_data_register_in}
-use Rattle.sfi_image.specs.Spelling.{IsNear, data_region}
+use Rattle.sfi_image.specs.Spelling.{IsNear, IsNearIn, data_region}
 use Rattle.sfi_rules.specs.Readings.{Piece, follows_data_pair}
 use Rattle.sfi_rules.specs.Rules as bundle_rules
 use Rattle.sfi_rules.specs.words.Rules as word_rules
@@ -29,6 +29,11 @@ IsBased p s i = Unit {0}
 
 nearer : (p : Part) (far a : ℕ) → far ≤ 4096 → IsNear (data_region p) far a → IsNear (data_region p) 4096 a
 nearer p far a less lies = let low = lies.low in let high = lies.high in record { low = omega (arith, less, low); high = omega (arith, less, high) }
+
+-- what is typed lies near the data, where masks have two steps
+near_in : (p : Part) (far a : ℕ) → far ≤ 4096 → IsNearIn p.format (data_region p) far a → IsNear (data_region p) 4096 a
+near_in p far a less (inl lies) = nearer p far a less lies
+near_in p far a less (inr zero) = absurd (false≢true (sym (two_steps p.format) ∙ zero.0))
 
 inside : (p : Part) (a : ℕ) → InData p a → IsNear (data_region p) 4096 a
 inside p a (from, below) = record { low = omega (arith, from); high = omega (arith, below) }
@@ -70,10 +75,10 @@ bundles_based sandbox p s i n clean good stands =
 module _ (p : Part) (s : State) (clean : IsCleanInWords p) (good : IsGoodInWords p s) where
   in_word : (x : Piece) (base : ℕ) → ((d : ℕ) → word_rules.places p.format d x.instr ≡ false) → ((d : ℕ) → word_rules.masks p.format d x.instr ≡ false)
       → IsKnown p base (register s.hart base) (x ∷ good.place.place.later) → IsNear (data_region p) 4096 (register s.hart base)
-  in_word x base none none' (inl lies) = nearer p 1020 _ (omega arith) lies
+  in_word x base none none' (inl lies) = near_in p 1020 _ (omega arith) lies
   in_word x base none none' (inr (inl e)) = absurd (false≢true (sym (none base) ∙ e))
   in_word x base none none' (inr (inr (inl e))) = absurd (false≢true (sym (none' base) ∙ (and_parts (word_rules.masks p.format base x.instr) (has_one_step p.format || word_rules.begins_placing p.format base good.place.place.later) e).0))
-  in_word x base none none' (inr (inr (inr (lies, used)))) = nearer p (1020 + 2048) _ (omega arith) lies
+  in_word x base none none' (inr (inr (inr (lies, used)))) = near_in p (1020 + 2048) _ (omega arith) lies
 
   of_base : (base : ℕ) → word_rules.may_access p.format base ≡ true → ((d : ℕ) → word_rules.places p.format d good.place.place.here.instr ≡ false) → ((d : ℕ) → word_rules.masks p.format d good.place.place.here.instr ≡ false)
       → IsNear (data_region p) 4096 (register s.hart base)
@@ -81,7 +86,7 @@ module _ (p : Part) (s : State) (clean : IsCleanInWords p) (good : IsGoodInWords
       ⊎_elim
       (λ (is : is_data_register_in p.format base ≡ true). in_word good.place.place.here base none none' (good.place.known.each_data base is))
       (λ (is : (base == 26) ≡ true).
-      let e : register s.hart base ≡ p.data_base = ap (λ (r : ℕ). register s.hart r) (eqb-true base 26 is) ∙ good.kept.reserved.data_base in
+      let e : register s.hart base ≡ p.data_base = ap (λ (r : ℕ). register s.hart r) (eqb-true base 26 is) ∙ good.kept.reserved.data_base (two_steps p.format) in
       let some : 256 ≤ p.data_size = clean.right.data_placed.at_least in
       record { low = omega (arith, e); high = omega (arith, e, some) })
       (or_cases (is_data_register_in p.format base) (base == 26) may)

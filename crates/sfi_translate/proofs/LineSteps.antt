@@ -16,8 +16,10 @@ use Rattle.rv_step.specs.Step.{Accesses, Stepped, Stands, IsStep, effect, after_
 use Rattle.rv_step.specs.declared.outcome.Outcome.TheVariants.{Next, Trap}
 use Rattle.rv_step.specs.declared.outcome.Cause.TheVariants as cause
 use Rattle.rv_step.specs.State.{State, register, past, Hart}
+use Rattle.sfi_formats.proofs.Formats.{two_steps}
+use Rattle.sfi_safe_runs.proofs.Entries.{two_step_mask}
 use Rattle.sfi_image.specs.Parts.{IsRightPart, HasReserved, reserved_of}
-use Rattle.sfi_image.specs.Spelling.{AreApart, code_region, guarded_region}
+use Rattle.sfi_image.specs.Spelling.{AreApart, code_region, data_region, guarded_region}
 use Rattle.sfi_safe_runs.specs.Runs.{InData, InGuard, Empty}
 use Rattle.sfi_safe_runs.specs.Calling.{KeepsAll}
 use Rattle.sfi_safe_runs.proofs.Accessing.{load_sized, store_sized}
@@ -155,7 +157,7 @@ same_set : (l : List ℕ) (k v : ℕ) → get_or l k 0 ≡ v → set l k v ≡ l
 same_set l k v e = ap (λ (x : ℕ). set l k x) (sym e) ∙ set-get_or l k 0
 
 -- a hart that has these values is as lines take it
-pub fixed_is : (p : Part) (h : Hart) → register h 0 ≡ 0 → HasReserved (reserved_of p) h.registers → fixed p h ≡ h
+pub fixed_is : (p : Part) (h : Hart) → register h 0 ≡ 0 → HasReserved p.format (reserved_of p) h.registers → fixed p h ≡ h
 fixed_is p h zero_is has =
     let l = h.registers in
     let mask = length p.code - unit p.format in
@@ -163,5 +165,5 @@ fixed_is p h zero_is has =
     (ap (λ (x : List ℕ). set (set (set (set x 24 p.code_base) 25 mask) 26 p.data_base) 27 (p.data_size - 1)) (same_set l 0 0 zero_is)
     ∙ ap (λ (x : List ℕ). set (set (set x 25 mask) 26 p.data_base) 27 (p.data_size - 1)) (same_set l 24 p.code_base has.code_base)
     ∙ ap (λ (x : List ℕ). set (set x 26 p.data_base) 27 (p.data_size - 1)) (same_set l 25 mask has.code_mask)
-    ∙ ap (λ (x : List ℕ). set x 27 (p.data_size - 1)) (same_set l 26 p.data_base has.data_base)
-    ∙ same_set l 27 (p.data_size - 1) has.data_mask)
+    ∙ ap (λ (x : List ℕ). set x 27 (p.data_size - 1)) (same_set l 26 p.data_base (has.data_base (two_steps p.format)))
+    ∙ same_set l 27 (p.data_size - 1) (has.data_mask ∙ two_step_mask p.format (data_region p) (two_steps p.format)))
