@@ -6,8 +6,8 @@
  * slots that the caller passes, and change at most the one of that number; each answers whether it was due, and changes
  * nothing where it wasn't. Proved is of them that after any of these calls, in any order, whatever sfi_slots_may_enter
  * allows was accepted there, with those bounds and that format; that each byte of its code region is one that the caller
- * wrote of it last; that no region or guard zone of it meets one of a version that another slot keeps; and that its image's
- * memory isn't the one that an update is received into.
+ * wrote of it last; that no region or guard zone of it meets one, or a zone at zero, of a version that another slot keeps,
+ * nor the other way round; and that its image's memory isn't the one that an update is received into.
  *
  * What a caller owes, since nothing checks it:
  *

@@ -1,6 +1,5 @@
 -- An update that is accepted leaves the device sound.
 use Rattle.std.proofs.Common.{◌≡◌, ◌≢◌, ◌⊎◌, ◌+◌, ◌<◌, ◌≤◌, ◌^◌, ◌-◌, ◌==◌, ◌&&◌, ℕ, inl, inr, suc, List, ◌∷◌, Bool, true, false, IsTrue, Some, None, Option, refl, sym, subst, ◌∙◌, arith, slice_get, slice_set, if◌then◌else◌}
-use Rattle.std.proofs.lemmas.Option.{same_Some}
 use Rattle.std.specs.List.{Contains}
 use Rattle.sfi_image.specs.Spelling.{Holds}
 use Rattle.sfi_slots.specs.declared.bounds.SfiBounds.{SfiBounds}
@@ -19,10 +18,14 @@ contains_first xs x = (0, omega arith, refl)
 
 apart_swapped : (b c : SfiBounds) → AreBoundsApart b c → AreBoundsApart c b
 apart_swapped b c a = record {
-  code_code = λ at x y. a.code_code at y x;
-  code_guarded = λ at x y. a.guarded_code at y x;
-  guarded_code = λ at x y. a.code_guarded at y x;
-  guarded_guarded = λ at x y. a.guarded_guarded at y x;
+  regions = record {
+    code_code = λ at x y. a.regions.code_code at y x;
+    code_guarded = λ at x y. a.regions.guarded_code at y x;
+    guarded_code = λ at x y. a.regions.code_guarded at y x;
+    guarded_guarded = λ at x y. a.regions.guarded_guarded at y x;
+  };
+  clear = a.other_clear;
+  other_clear = a.clear;
 }
 
 -- the slot that took the update

@@ -49,7 +49,7 @@ module _ (d : Device) (n count : ℕ) (s : SfiSlot) (sound : IsSound d) (found :
       let inside = lies_in_holds (s.current.bounds.code_base + (s.written + count - count)) count at yes in
       let kept_t = sound.kept i t at_i (omega (arith, holds.0, holds.1)) in
       let apart = sound.versions.apart i n t s t.current s.current at_i found differ (inl refl) (inl refl) kept_t (omega (arith, live)) in
-      absurd (apart.code_code at (holds.0, omega (arith, holds.1, sound.within i t at_i)) (omega (arith, inside.0), omega (arith, inside.1, room)))) (λ no. sound.stands i t at at_i holds)
+      absurd (apart.regions.code_code at (holds.0, omega (arith, holds.1, sound.within i t at_i)) (omega (arith, inside.0), omega (arith, inside.1, room)))) (λ no. sound.stands i t at at_i holds)
 
   longer_keeps : IsSound (record { slots = slots; accepted = d.accepted; writer = writer })
   longer_keeps = record {

@@ -1,9 +1,9 @@
 //! Where the code and data of a version lie, and that those of two lie apart.
 ghost use Rattle.std.specs.Prelude.{◌≡◌, ◌+◌, ◌<◌, ◌^◌, ◌↔◌, IsTrue};
-ghost use Rattle.sfi_image.specs.Spelling.{AreApart};
-ghost use Rattle.sfi_slots.specs.Slots.{code_of, guarded_data_of, AreBoundsApart};
+ghost use Rattle.sfi_image.specs.Spelling.{AreApart, IsClear, zone_end};
+ghost use Rattle.sfi_slots.specs.Slots.{code_of, guarded_data_of, format_of, AreRegionsApart, IsClearOfZone, IsClearOf, AreBoundsApart};
 
-use sfi_formats::GUARD;
+use sfi_formats::{Format, GUARD};
 use sfi_image::Span;
 
 /// What the checker told of an accepted sandbox.
@@ -55,9 +55,50 @@ fn are_apart(one: Span, other: Span) -> bool
     end <= one.base.max(other.base)
 }
 
+/// The format of that number.
+pub(crate) fn format_of(number: u32) -> Format
+    ensures { result ≡ format_of number }
+{
+    match number {
+        3 => Format::Sfiw,
+        2 => Format::Sfi2,
+        _ => Format::Sfi1,
+    }
+}
+
+/// Whether the span lies clear of the zone at zero of data of this size.
+fn is_clear(data_size: u32, span: Span) -> bool
+    requires end { span.base + span.size < 2 ^ 34 }
+    ensures { IsTrue result ↔ IsClear (zone_end data_size) span }
+{
+    let guard = u64::from(GUARD);
+    u64::from(data_size) + guard <= span.base && span.base + span.size + guard <= 1 << 32
+}
+
+/// Whether the span lies clear of the version's zone at zero, if its format has one.
+fn is_clear_of_zone(bounds: &SfiBounds, span: Span) -> bool
+    requires end { span.base + span.size < 2 ^ 34 }
+    ensures { IsTrue result ↔ IsClearOfZone bounds.now span }
+{
+    if !format_of(bounds.format).has_one_step() {
+        return true;
+    }
+    is_clear(bounds.data_size, span)
+}
+
+/// Whether no region or guard zone of `other` meets a zone at zero of `one`.
+fn is_clear_of(one: &SfiBounds, other: &SfiBounds) -> bool
+    ensures { IsTrue result ↔ IsClearOf one.now other.now }
+{
+    if !is_clear_of_zone(one, code_span_of(other)) {
+        return false;
+    }
+    is_clear_of_zone(one, guarded_data_span_of(other))
+}
+
 /// Whether no region or guard zone of one meets one of the other.
-pub(crate) fn are_bounds_apart(one: &SfiBounds, other: &SfiBounds) -> bool
-    ensures { IsTrue result ↔ AreBoundsApart one.now other.now }
+fn are_regions_apart(one: &SfiBounds, other: &SfiBounds) -> bool
+    ensures { IsTrue result ↔ AreRegionsApart one.now other.now }
 {
     let code = code_span_of(one);
     let guarded = guarded_data_span_of(one);
@@ -73,4 +114,17 @@ pub(crate) fn are_bounds_apart(one: &SfiBounds, other: &SfiBounds) -> bool
         return false;
     }
     are_apart(guarded, other_guarded)
+}
+
+/// Whether no region or guard zone of one meets one of the other, nor a zone at zero of the other.
+pub(crate) fn are_bounds_apart(one: &SfiBounds, other: &SfiBounds) -> bool
+    ensures { IsTrue result ↔ AreBoundsApart one.now other.now }
+{
+    if !are_regions_apart(one, other) {
+        return false;
+    }
+    if !is_clear_of(one, other) {
+        return false;
+    }
+    is_clear_of(other, one)
 }

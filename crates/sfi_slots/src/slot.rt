@@ -3,7 +3,7 @@ ghost use Rattle.std.specs.Prelude.{◌≡◌, ◌≢◌, ◌<◌, ◌↔◌, �
 ghost use Rattle.sfi_slots.specs.declared.slot.SfiSlot.{SfiSlot};
 ghost use Rattle.sfi_slots.specs.Slots.{IsKept, IsApartFrom, IsApartFromSlot, IsApartFromOthers, MayEnter, new_version, unit_of};
 
-use crate::bounds::{SfiBounds, are_bounds_apart};
+use crate::bounds::{SfiBounds, are_bounds_apart, format_of};
 
 /// A version's state where there is none.
 pub const EMPTY: u32 = 0;
@@ -140,10 +140,10 @@ pub(crate) fn may_enter(slot: &SfiSlot, pc: u32) -> bool
     offset % unit_of(bounds.format) == 0
 }
 
-/// How many bytes a unit of code has in the format: a sandbox is entered at multiples.
-fn unit_of(format: u32) -> u32
-    ensures is { result ≡ unit_of format }
+/// How many bytes a unit of code has in the format of that number: a sandbox is entered at multiples.
+fn unit_of(number: u32) -> u32
+    ensures is { result ≡ unit_of number }
     ensures positive { 0 < result }
 {
-    if format == 3 { 4 } else { 16 }
+    format_of(number).unit()
 }
