@@ -1,7 +1,8 @@
 -- What a step keeps, and what stands where the machine reads.
 use Rattle.sfi_safe_runs.proofs.Prelude.{◌≡◌, ◌≢◌, ℕ, suc, ◌+◌, ◌<◌, ◌≤◌, ◌⊎◌, List, [], ◌∷◌, length, map, Option, Some, None, Bool, true, false, cond, ◌==◌, refl, sym, ap, ◌∙◌, subst, inl, inr, ⊎_elim, arith, add-zero, slice_index, slice_get, is_some, IsSome, range_with_len, or_cases, eqb-true, false≢true, offset_by, Instr, Load, Store, LoadKind, Bytes, byte_at, bytes_at, addresses, loaded, Next, Call, Trap, Outcome, Accesses, Hart, State, register, Stepped, Stands, IsStep, effect, after_load, next, unchanged, load_size, store_size, Gate, Part, Holds, AreApart, code_region, guarded_region, IsRightPart, is_gate_of, InData, InGuard, IsGate, HasCode, HasEmptyGuards, IsTrap, address_after, IsSafeState}
-use Rattle.sfi_formats.proofs.Formats.{two_steps}
-use Rattle.sfi_formats.specs.Formats.{has_one_step}
+use Rattle.sfi_formats.specs.declared.format.Format.{Format}
+use Rattle.sfi_formats.specs.declared.format.Format.TheVariants.{Sfi1, Sfi2, Sfiw}
+use Rattle.sfi_formats.specs.Formats.{has_words, has_one_step}
 use Rattle.rv_step.specs.declared.outcome.Cause.TheVariants as cause
 use Rattle.rv_step.proofs.Facts.{one_instruction, step_is_effect, other_bytes_stay, accessed_is_there, stopped_stays}
 use Rattle.std.specs.Prelude.{take, drop}
@@ -34,6 +35,21 @@ gate_of (g ∷ gates) a h =
     (λ (e : (g.address == a) ≡ true). (0, g, refl, eqb-true g.address a e))
     (λ (e : is_gate_of gates a ≡ true). let x = gate_of gates a e in (suc x.0, x.1, x.2, x.3))
     (or_cases (g.address == a) (is_gate_of gates a) h)
+
+-- the guard zones may hold bytes where there is no zone at zero
+abbrev pub MayBePadded : Zones → Part → Type 0
+MayBePadded Empty p = Unit {0}
+MayBePadded Padded p = has_one_step p.format ≡ false
+
+-- code in bundles has none
+pub two_steps_in_bundles : (f : Format) → has_words f ≡ false → has_one_step f ≡ false
+two_steps_in_bundles Sfi1 bundles = refl
+two_steps_in_bundles Sfi2 bundles = refl
+two_steps_in_bundles Sfiw bundles = absurd (false≢true (sym bundles))
+
+pub bundles_may_be : (z : Zones) (p : Part) → has_words p.format ≡ false → MayBePadded z p
+bundles_may_be Empty p bundles = tt
+bundles_may_be Padded p bundles = two_steps_in_bundles p.format bundles
 
 -- where there is no zone at zero, the data and the guard zones are one span
 pub guarded : (p : Part) (a : ℕ) → has_one_step p.format ≡ false → IsRightPart p → InData p a ⊎ InGuard p a → Holds (guarded_region p) a
@@ -147,16 +163,16 @@ module _ (p : Part) (right : IsRightPart p) (apart : AreApart (code_region p) (g
     trapped Empty empty = λ j k there a has guard. traps empty a (subst (λ (x : Instr). Accesses x s.hart a) (only j k there).0 has) guard r.outcome refl
     trapped Padded any = tt
 
-    stays : (z : Zones) → HasGuards z p s.memory → StaysOutside (writable_region z p) s.memory r.state.memory
-    stays Empty empty = data_alone p s i n r stands step near (λ a has guard. traps empty a has guard r.outcome refl)
-    stays Padded any = λ a out. other_bytes_stay s i n r a stands step (λ has. out (guarded p a (two_steps p.format) right (near a has)))
+    stays : (z : Zones) → MayBePadded z p → HasGuards z p s.memory → StaysOutside (writable_region z p) s.memory r.state.memory
+    stays Empty may empty = data_alone p s i n r stands step near (λ a has guard. traps empty a has guard r.outcome refl)
+    stays Padded two_steps any = λ a out. other_bytes_stay s i n r a stands step (λ has. out (guarded p a two_steps right (near a has)))
 
     -- the step is safe, if it calls at a gate alone
-    pub step_safe : (r.outcome ≡ Call → IsGate p s.hart.pc) → IsSafeStepAs zones p s r
-    step_safe called = record {
+    pub step_safe : MayBePadded zones p → (r.outcome ≡ Call → IsGate p s.hart.pc) → IsSafeStepAs zones p s r
+    step_safe may called = record {
       within = λ j k there a has. near a (subst (λ (x : Instr). Accesses x s.hart a) (only j k there).0 has);
       trapped = trapped zones kept.guards;
-      stays = stays zones kept.guards;
+      stays = stays zones may kept.guards;
       called = called;
     }
 

@@ -1,6 +1,5 @@
 -- Runs with direct gates are as runs of the image's own code, in a memory in which the springboards' bytes are the image's: each turn is one there.
 use Rattle.sfi_safety.proofs.Prelude.{◌≡◌, ℕ, zero, suc, ◌+◌, ◌-◌, ◌%◌, ◌^◌, ◌<◌, ◌≤◌, ◌⊎◌, List, [], ◌∷◌, length, refl, sym, ap, ◌∙◌, subst, inl, inr, ⊎_elim, cases_lt, arith, Option, Some, None, All, unit, Format, Sfi1, Sfi2, Sfiw, Instr, Ecall, Next, Call, Trap, Outcome, Accesses, address_after, Hart, State, Stepped, Stands, IsStep, unchanged, Part, Gate, IsRightPart, IsBundleStart, AreApart, code_region, guarded_region, InData, InGuard, InCode, IsGate, IsUnitStart, HasCode, IsTyped, Bytes, byte_at, Turn, Steps, Replies, Changes, after_step, after_turn, after_turns, IsSafeState}
-use Rattle.sfi_formats.proofs.Formats.{two_steps}
 use Rattle.std.specs.Prelude.{IfSome, slice_get}
 use Rattle.rv_step.specs.Laws.{AgreeHere, IsSameStep}
 use Rattle.rv_comp.specs.declared.front.Front.TheVariants.{Read}
@@ -11,7 +10,7 @@ use Rattle.sfi_safe_runs.specs.Safety.{IsTrap, TrapsIn, writable_region, IsSafeS
 use Rattle.sfi_safe_runs.specs.Calling.{KeepsAllAs, IsCalling, CallsTypedAs}
 use Rattle.sfi_safe_runs.specs.Runs.{KeepsReserved, Zones, Empty, Padded, Direct, Setting, by_ecall, IsDirect, IsInBoard, HasEcall, HasCodeAs, HasGuards, KeepsGuards, KeepsBytesAs, StaysOutside, IsEntryAs, IsReplyAs, IsChangeAs, IsTurnAs, IsRunAs}
 use Rattle.sfi_safe_runs.proofs.Entries.{bytes_over, there, elsewhere}
-use Rattle.sfi_safe_runs.proofs.Stepping.{stands_there, guarded, data_alone, not_code}
+use Rattle.sfi_safe_runs.proofs.Stepping.{MayBePadded, stands_there, guarded, data_alone, not_code}
 use Rattle.sfi_safe_runs.proofs.SafeRuns.{no_change}
 use Rattle.sfi_word_safety.proofs.Places.{bundles_whole}
 
@@ -126,7 +125,7 @@ module _ (p : Part) (right : IsRightPart p) (direct : List ℕ) where
     -- states of the image's own runs are good, if an entry is good, a turn from a good state is safe and
     -- leads to a good one, so does a reply whatever its memory, the instruction there fits into its unit, a step goes on after it or to
     -- a start, and the typed registers hold what their types say at an ecall
-    module _ (zones : Zones) (IsGood : State → Type 0)
+    module _ (zones : Zones) (may : MayBePadded zones p) (IsGood : State → Type 0)
         (enters : (s : State) → KeepsAllAs zones p s → IsUnitStart p s.hart.pc → IsTyped p s.hart.registers → IsGood s)
         (keeps : (s : State) (turn : Turn) → IsGood s → IsTurnAs (by_ecall zones) p s turn → IsSafeState p s × IsSafeTurnAs zones p s turn × IfSome (after_turn turn) IsGood)
         (replies : (s after : State) (n : ℕ) → IsGood s → Stands s Ecall n → after.hart.pc ≡ address_after s.hart.pc 4 → length after.hart.registers ≡ 32 → KeepsReserved p.format s.hart after.hart → IsTyped p after.hart.registers → KeepsBytesAs (by_ecall zones) p s.memory after.memory → IsGood after)
@@ -257,15 +256,15 @@ module _ (p : Part) (right : IsRightPart p) (direct : List ℕ) where
                 (traps i n own_safe.present.stands a (subst (λ (x : Instr). Accesses x s.hart a) (only j k stands).0 has) guard)
             trapped Padded any = tt
 
-            stays : (z : Zones) → TrapsIn z p own q.0 → StaysOutside (writable_region z p) s.memory r.state.memory
-            stays Empty traps = data_alone p s i n r stands_here step near (λ a has guard. subst (λ (o : Outcome). IsTrap o) (sym same_step.outcome) (traps i n own_safe.present.stands a has guard))
-            stays Padded any = λ a out. other_bytes_stay s i n r a stands_here step (λ has. out (guarded p a (two_steps p.format) right (near a has)))
+            stays : (z : Zones) → MayBePadded z p → TrapsIn z p own q.0 → StaysOutside (writable_region z p) s.memory r.state.memory
+            stays Empty none traps = data_alone p s i n r stands_here step near (λ a has guard. subst (λ (o : Outcome). IsTrap o) (sym same_step.outcome) (traps i n own_safe.present.stands a has guard))
+            stays Padded two_steps any = λ a out. other_bytes_stay s i n r a stands_here step (λ has. out (guarded p a two_steps right (near a has)))
 
             step_safe : IsSafeStepAs zones p s r
             step_safe = record {
               within = λ j k stands a has. near a (subst (λ (x : Instr). Accesses x s.hart a) (only j k stands).0 has);
               trapped = trapped zones kept.1.trapped;
-              stays = stays zones kept.1.trapped;
+              stays = stays zones may kept.1.trapped;
               called = λ e. kept.1.called (sym same_step.outcome ∙ e);
             }
 

@@ -4,6 +4,7 @@ use Rattle.sfi_safe_runs.specs.Runs.{KeepsReserved, Zones, Empty, Padded, Calls,
 use Rattle.sfi_safe_runs.specs.Safety.{RunsSafelyAs}
 use Rattle.sfi_safe_runs.specs.Calling.{CallsTyped, CallsTypedAs, AllCallTyped}
 use Rattle.sfi_safe_runs.proofs.SafeRuns.{kept_after}
+use Rattle.sfi_safe_runs.proofs.Stepping.{bundles_may_be}
 use Rattle.sfi_safe_runs.proofs.Entries.{bundles, to_bundle, of_bundle, words as unit_is_word, to_word, of_word}
 use Rattle.sfi_word_safety.proofs.Places.{bundles_whole, at_start as at_word_start, base_aligned, sized}
 use Rattle.sfi_safety.specs.Laws.{MayRunWith, CleanRunsSafelyAs, CleanCallsTypedAs}
@@ -60,7 +61,7 @@ replied zones sandbox p clean s n good asked after pc count reserved typed bytes
 
 bundles_directly : (zones : Zones) (sandbox : ℕ) (p : Part) → AreCleanBundles sandbox p → (direct : List ℕ) → IsSafeAs (record { zones = zones; calls = Direct direct }) p
 bundles_directly zones sandbox p clean direct =
-    runs_and_calls p clean.right direct clean.apart zones (IsGoodAs zones sandbox p)
+    runs_and_calls p clean.right direct clean.apart zones (bundles_may_be zones p clean.bundles) (IsGoodAs zones sandbox p)
     (λ s kept start typed. record { kept = kept; place = at_start sandbox p s.hart clean (to_bundle p s.hart.pc clean.bundles start) typed.stack })
     (λ s turn good h. standing.keeps zones sandbox p clean s good turn h)
     (λ s after n good asked pc count reserved typed bytes. replied zones sandbox p clean s n good asked after pc count reserved typed bytes)
@@ -110,7 +111,7 @@ word_replied p clean s n good asked after pc count reserved typed bytes = record
 
 words_directly : (p : Part) → IsCleanInWords p → (direct : List ℕ) → IsSafeAs (record { zones = Empty; calls = Direct direct }) p
 words_directly p clean direct =
-    runs_and_calls p clean.right direct clean.apart Empty (IsGoodInWords p)
+    runs_and_calls p clean.right direct clean.apart Empty tt (IsGoodInWords p)
     (λ s kept start typed. record { kept = kept; place = at_word_start p clean s.hart (to_word p s.hart.pc clean.words start) (typed.words clean.words) })
     (λ s turn good h. words_turn_keeps p s turn clean good h)
     (λ s after n good asked pc count reserved typed bytes. word_replied p clean s n good asked after pc count reserved typed bytes)

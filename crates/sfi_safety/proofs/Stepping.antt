@@ -137,7 +137,7 @@ module _ (zones : Zones) (sandbox : ℕ) (p : Part) (s : State) (clean : AreClea
 
     pub step_safe : IsSafeStepAs zones p s r
     step_safe =
-        steps.step_safe p clean.right clean.apart zones s good.kept good.place.here.instr good.place.here.size stands_good near_good r step
+        steps.step_safe p clean.right clean.apart zones s good.kept good.place.here.instr good.place.here.size stands_good near_good r step (steps.bundles_may_be zones p clean.bundles)
         (λ e. subst (λ (o : Outcome). Leads sandbox p s.hart good.place.here.size o r.state.hart) e step_leads)
 
 -- ==== Each turn keeps a good state, and so does each run.

@@ -86,7 +86,7 @@ module _ (p : Part) (s : State) (clean : IsCleanInWords p) (good : IsGoodInWords
 
     pub step_safe : IsSafeStep p s r
     step_safe =
-        steps.step_safe p clean.right clean.apart Empty s good.kept i n stands_here near_here r step
+        steps.step_safe p clean.right clean.apart Empty s good.kept i n stands_here near_here r step tt
         (λ e. subst (λ (o : Outcome). Leads p i n s.hart o r.state.hart) e step_leads)
 
 -- ==== Each turn keeps a good state, and so does each run.
