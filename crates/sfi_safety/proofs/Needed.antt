@@ -1,6 +1,7 @@
 -- The rules that the samples break are needed, and so is each.
 use Rattle.sfi_safety.proofs.Prelude.{◌≡◌, ◌≢◌, ℕ, zero, suc, ◌+◌, ◌*◌, ◌<◌, ◌≤◌, ◌==◌, ◌||◌, List, [], ◌∷◌, length, take, drop, Some, false, refl, sym, ap, ◌∙◌, subst, inl, inr, arith, get_or-take, pos, slice_index, All, ints, Instr, And, Or, Sw, Op, Store, Jalr, Ecall, Ebreak, spelling, InRange, Spells, Bytes, Stands, unchanged, Call, is_gate_of, IsBundleStart, AreGateWords, bundle_place, bundle_bytes, HasCode, Steps, Replies, IsReply, IsEntry, IsNeeded, HasUnsafeRun, Hart, Finding, Format, has_words, CAddi, Sample, sandbox, nop, undecodable, crossing_store, running_off_the_end, gate_comes_back_elsewhere, V1, V2, V8, V9, add-zero, OpImm, Jal, minus, Sfi1, Sfi2, Piece, IsGate, BreaksAloneInBundle, EachRuleIsNeeded, Sfiw, false≢true, Addi, BreaksAlone, Rule, V3, V4, V5, V6, V7, V10, V11, V12}
 use Rattle.sfi_formats.specs.Limits.{service_most}
+use Rattle.sfi_safe_runs.proofs.Stepping.{two_steps_in_bundles}
 use Rattle.sfi_pairs.specs.Pairs.{stub}
 use Rattle.sfi_safety.proofs.Readings.{read_in_both, BrokenIn, IsSpelled, BeginsNothing, op_spelled, nothing_begins, ebreak_spelled, four, read_bundle, four_longest, wide, all_findings, quiet, none_listed, ecall_spelled, jalr_past, store_spelled, addi_x2, code_findings, found_in_both, ones_begin_nothing}
 use Rattle.sfi_safety.proofs.Samples.{IsSample, without_gates, hart, is_hart, first, bytes_there, stands, then_turn, step_at, then_step, reaches, has_left, past_end, needed, of_both, breaks_alone, stack_hart, calls_elsewhere, InBoth}
@@ -47,7 +48,7 @@ undecodable_unsafe f bundles =
     (quiet f [] 0xffffffff brk brk brk brk brk brk brk brk brk brk brk none_listed 0 refl refl refl refl)
     (quiet f [] 0xffffffff brk brk brk brk brk brk brk brk brk brk brk none_listed 14 refl refl refl refl))
     tt
-    (λ m entry. undecodable_runs (undecodable f) is m entry.code (hart 0x01000000 0x01800000 0) refl (drop 4 (sandbox (undecodable f)).code) refl)
+    (λ m entry. undecodable_runs (undecodable f) is m entry.code (hart 0x01000000 0x02000000 0) refl (drop 4 (sandbox (undecodable f)).code) refl)
   where
     is : IsSample (undecodable f)
     is = without_gates (undecodable f) refl refl refl
@@ -95,11 +96,11 @@ crossing_store_unsafe f bundles =
     (quiet f [] n n n 0x20230001 0x00000013 brk brk brk brk brk brk brk none_listed 14 refl refl refl refl))
     tt
     (λ m entry.
-    then_step s is m entry.code (hart 0x01000000 0x01800000 0) 0 4 nop refl (omega arith) nop_spelled (hart 0x01000004 0x01800000 0) refl (
-    then_step s is m entry.code (hart 0x01000004 0x01800000 0) 4 4 nop refl (omega arith) nop_spelled (hart 0x01000008 0x01800000 0) refl (
-    then_step s is m entry.code (hart 0x01000008 0x01800000 0) 8 4 nop refl (omega arith) nop_spelled (hart 0x0100000c 0x01800000 0) refl (
-    then_step s is m entry.code (hart 0x0100000c 0x01800000 0) 12 2 nop refl (omega arith) short_nop (hart 0x0100000e 0x01800000 0) refl (
-    reaches s is m entry.code (hart 0x0100000e 0x01800000 0) 14 4 (Store Sw 6 1 (pos 0)) refl (omega arith) store_across 0 (0, omega arith, refl) (omega arith))))))
+    then_step s is m entry.code (hart 0x01000000 0x02000000 0) 0 4 nop refl (omega arith) nop_spelled (hart 0x01000004 0x02000000 0) refl (
+    then_step s is m entry.code (hart 0x01000004 0x02000000 0) 4 4 nop refl (omega arith) nop_spelled (hart 0x01000008 0x02000000 0) refl (
+    then_step s is m entry.code (hart 0x01000008 0x02000000 0) 8 4 nop refl (omega arith) nop_spelled (hart 0x0100000c 0x02000000 0) refl (
+    then_step s is m entry.code (hart 0x0100000c 0x02000000 0) 12 2 nop refl (omega arith) short_nop (hart 0x0100000e 0x02000000 0) refl (
+    reaches s is m entry.code (hart 0x0100000e 0x02000000 0) 14 4 (Store Sw 6 1 (pos 0)) refl (omega arith) store_across 0 (0, omega arith, refl) (omega arith) (two_steps_in_bundles f bundles))))))
 
 -- ---- a region's end without a jump
 
@@ -124,11 +125,11 @@ running_off_the_end_unsafe f bundles =
       broken = of_both (BrokenIn s 15 (four nop nop nop nop) V8 0x010000fc (nop ∷ nop ∷ nop ∷ []) nop []) (refl, refl) f bundles;
     }))
     (λ m entry.
-    then_step s is m entry.code (hart 0x010000f0 0x01800000 0) 240 4 nop refl (omega arith) nop_spelled (hart 0x010000f4 0x01800000 0) refl (
-    then_step s is m entry.code (hart 0x010000f4 0x01800000 0) 244 4 nop refl (omega arith) nop_spelled (hart 0x010000f8 0x01800000 0) refl (
-    then_step s is m entry.code (hart 0x010000f8 0x01800000 0) 248 4 nop refl (omega arith) nop_spelled (hart 0x010000fc 0x01800000 0) refl (
-    then_step s is m entry.code (hart 0x010000fc 0x01800000 0) 252 4 nop refl (omega arith) nop_spelled (hart 0x01000100 0x01800000 0) refl (
-    has_left (sandbox s) m (hart 0x01000100 0x01800000 0) (past_end s is))))))
+    then_step s is m entry.code (hart 0x010000f0 0x02000000 0) 240 4 nop refl (omega arith) nop_spelled (hart 0x010000f4 0x02000000 0) refl (
+    then_step s is m entry.code (hart 0x010000f4 0x02000000 0) 244 4 nop refl (omega arith) nop_spelled (hart 0x010000f8 0x02000000 0) refl (
+    then_step s is m entry.code (hart 0x010000f8 0x02000000 0) 248 4 nop refl (omega arith) nop_spelled (hart 0x010000fc 0x02000000 0) refl (
+    then_step s is m entry.code (hart 0x010000fc 0x02000000 0) 252 4 nop refl (omega arith) nop_spelled (hart 0x01000100 0x02000000 0) refl (
+    has_left (sandbox s) m (hart 0x01000100 0x02000000 0) (past_end s is))))))
 
 -- ---- a gate that comes back elsewhere
 
@@ -168,7 +169,7 @@ module _ (f : Format) where
   silent_reply : (m : Bytes) → IsEntry (sandbox gate) (first 0x01000000 m) → IsReply (sandbox gate) (first 0x01000000 m) (first 0x01000004 m)
   silent_reply m entry = record {
     size = 4;
-    asked = stands gate gate_sample m entry.code (hart 0x01000000 0x01800000 0) 0 4 Ecall refl (omega arith) ecall_spelled;
+    asked = stands gate gate_sample m entry.code (hart 0x01000000 0x02000000 0) 0 4 Ecall refl (omega arith) ecall_spelled;
     state = record { hart = is_hart 0x01000004 refl (omega arith); memory = entry.state.memory };
     pc = refl;
     reserved = record { code_base = refl; code_mask = refl; data_base = λ two. refl; data_mask = refl };
@@ -190,12 +191,12 @@ module _ (f : Format) where
       (quiet f s.gates (spelling Ecall) and_back or_back jump brk brk brk brk brk brk brk brk others_unlisted 14 refl refl refl refl))
       tt
       (λ m entry.
-      then_turn p (first 0x01000000 m) (first 0x01000000 m) (Steps (unchanged Call (hart 0x01000000 0x01800000 0) m)) (step_at s gate_sample m entry.code (hart 0x01000000 0x01800000 0) 0 4 Ecall refl (omega arith) ecall_spelled) refl (
+      then_turn p (first 0x01000000 m) (first 0x01000000 m) (Steps (unchanged Call (hart 0x01000000 0x02000000 0) m)) (step_at s gate_sample m entry.code (hart 0x01000000 0x02000000 0) 0 4 Ecall refl (omega arith) ecall_spelled) refl (
       then_turn p (first 0x01000000 m) (first 0x01000004 m) (Replies (first 0x01000004 m)) (silent_reply m entry) refl (
-      then_step s gate_sample m entry.code (hart 0x01000004 0x01800000 0) 4 4 (Op And 31 1 25) refl (omega arith) (op_spelled And 31 1 25 refl) (hart 0x01000008 0x01800000 240) refl (
-      then_step s gate_sample m entry.code (hart 0x01000008 0x01800000 240) 8 4 (Op Or 31 31 24) refl (omega arith) (op_spelled Or 31 31 24 refl) (hart 0x0100000c 0x01800000 0x010000f0) refl (
-      then_step s gate_sample m entry.code (hart 0x0100000c 0x01800000 0x010000f0) 12 4 (Jalr 0 31 (pos 16)) refl (omega arith) jalr_past (hart 0x01000100 0x01800000 0x010000f0) refl (
-      has_left p m (hart 0x01000100 0x01800000 0x010000f0) (past_end s gate_sample)))))))
+      then_step s gate_sample m entry.code (hart 0x01000004 0x02000000 0) 4 4 (Op And 31 1 25) refl (omega arith) (op_spelled And 31 1 25 refl) (hart 0x01000008 0x02000000 240) refl (
+      then_step s gate_sample m entry.code (hart 0x01000008 0x02000000 240) 8 4 (Op Or 31 31 24) refl (omega arith) (op_spelled Or 31 31 24 refl) (hart 0x0100000c 0x02000000 0x010000f0) refl (
+      then_step s gate_sample m entry.code (hart 0x0100000c 0x02000000 0x010000f0) 12 4 (Jalr 0 31 (pos 16)) refl (omega arith) jalr_past (hart 0x01000100 0x02000000 0x010000f0) refl (
+      has_left p m (hart 0x01000100 0x02000000 0x010000f0) (past_end s gate_sample)))))))
 
 -- ---- the words
 
@@ -254,7 +255,7 @@ ecall_at_no_gate_unsafe f bundles =
     (found_in_both f Ecall Ebreak Ebreak Ebreak Ebreak Ebreak Ebreak Ebreak bundles (record { sandbox = 0; address = 0x01000000; rule = V3 } ∷ []) []
     ecall_spelled ebreak_spelled ebreak_spelled ebreak_spelled ebreak_spelled ebreak_spelled ebreak_spelled ebreak_spelled (refl, refl) (refl, refl))
     (first_in_both s V3 0 Ecall Ebreak Ebreak Ebreak refl ecall_spelled ebreak_spelled ebreak_spelled ebreak_spelled bundles (refl, refl))
-    (λ m entry. calls_elsewhere s is m entry.code (hart 0x01000000 0x01800000 0) 0 4 Ecall refl (omega arith) ecall_spelled refl (λ (gate : IsGate (sandbox s) 0x01000000). let none = gate.2 in absurd cc))
+    (λ m entry. calls_elsewhere s is m entry.code (hart 0x01000000 0x02000000 0) 0 4 Ecall refl (omega arith) ecall_spelled refl (λ (gate : IsGate (sandbox s) 0x01000000). let none = gate.2 in absurd cc))
 
 -- ---- a written reserved register
 
@@ -267,10 +268,10 @@ written_rd_forgotten_unsafe f bundles =
     jal_x26 ebreak_spelled ebreak_spelled ebreak_spelled (op_spelled And 31 10 27 refl) (op_spelled Or 31 31 26 refl) (store_spelled Sw 31 11 refl) ebreak_spelled (refl, refl) (refl, refl))
     (first_in_both s V4 0 (Jal 26 (pos 16)) Ebreak Ebreak Ebreak refl jal_x26 ebreak_spelled ebreak_spelled ebreak_spelled bundles (refl, refl))
     (λ m entry.
-    then_step s is m entry.code (hart 0x01000000 0x01800000 0) 0 4 (Jal 26 (pos 16)) refl (omega arith) jal_x26 (hart 0x01000010 0x01000004 0) refl (
+    then_step s is m entry.code (hart 0x01000000 0x02000000 0) 0 4 (Jal 26 (pos 16)) refl (omega arith) jal_x26 (hart 0x01000010 0x01000004 0) refl (
     then_step s is m entry.code (hart 0x01000010 0x01000004 0) 16 4 (Op And 31 10 27) refl (omega arith) (op_spelled And 31 10 27 refl) (hart 0x01000014 0x01000004 240) refl (
     then_step s is m entry.code (hart 0x01000014 0x01000004 240) 20 4 (Op Or 31 31 26) refl (omega arith) (op_spelled Or 31 31 26 refl) (hart 0x01000018 0x01000004 0x010000f4) refl (
-    reaches s is m entry.code (hart 0x01000018 0x01000004 0x010000f4) 24 4 (Store Sw 31 11 (pos 0)) refl (omega arith) (store_spelled Sw 31 11 refl) 0x010000f4 (0, omega arith, refl) (omega arith)))))
+    reaches s is m entry.code (hart 0x01000018 0x01000004 0x010000f4) 24 4 (Store Sw 31 11 (pos 0)) refl (omega arith) (store_spelled Sw 31 11 refl) 0x010000f4 (0, omega arith, refl) (omega arith) (two_steps_in_bundles f bundles)))))
 
 -- ---- a pair on x0
 
@@ -283,9 +284,9 @@ pair_on_x0_unsafe f bundles =
     (op_spelled And 0 10 27 refl) (op_spelled Or 0 0 26 refl) (store_spelled Sw 0 11 refl) ebreak_spelled ebreak_spelled ebreak_spelled ebreak_spelled ebreak_spelled (refl, refl) (refl, refl))
     (third_in_both s V5 0 (Op And 0 10 27) (Op Or 0 0 26) (Store Sw 0 11 (pos 0)) Ebreak refl (op_spelled And 0 10 27 refl) (op_spelled Or 0 0 26 refl) (store_spelled Sw 0 11 refl) ebreak_spelled bundles (refl, refl))
     (λ m entry.
-    then_step s is m entry.code (hart 0x01000000 0x01800000 0) 0 4 (Op And 0 10 27) refl (omega arith) (op_spelled And 0 10 27 refl) (hart 0x01000004 0x01800000 0) refl (
-    then_step s is m entry.code (hart 0x01000004 0x01800000 0) 4 4 (Op Or 0 0 26) refl (omega arith) (op_spelled Or 0 0 26 refl) (hart 0x01000008 0x01800000 0) refl (
-    reaches s is m entry.code (hart 0x01000008 0x01800000 0) 8 4 (Store Sw 0 11 (pos 0)) refl (omega arith) (store_spelled Sw 0 11 refl) 0 (0, omega arith, refl) (omega arith))))
+    then_step s is m entry.code (hart 0x01000000 0x02000000 0) 0 4 (Op And 0 10 27) refl (omega arith) (op_spelled And 0 10 27 refl) (hart 0x01000004 0x02000000 0) refl (
+    then_step s is m entry.code (hart 0x01000004 0x02000000 0) 4 4 (Op Or 0 0 26) refl (omega arith) (op_spelled Or 0 0 26 refl) (hart 0x01000008 0x02000000 0) refl (
+    reaches s is m entry.code (hart 0x01000008 0x02000000 0) 8 4 (Store Sw 0 11 (pos 0)) refl (omega arith) (store_spelled Sw 0 11 refl) 0 (0, omega arith, refl) (omega arith) (two_steps_in_bundles f bundles))))
 
 -- ---- a pair across bundles
 
@@ -297,7 +298,7 @@ pair_across_bundles_unsafe f bundles =
     (found_in_both f Ebreak Ebreak (Op And 31 10 27) (Op Or 31 31 26) (Store Sw 31 11 (pos 0)) Ebreak Ebreak Ebreak bundles [] (record { sandbox = 0; address = 0x01000010; rule = V5 } ∷ [])
     ebreak_spelled ebreak_spelled (op_spelled And 31 10 27 refl) (op_spelled Or 31 31 26 refl) (store_spelled Sw 31 11 refl) ebreak_spelled ebreak_spelled ebreak_spelled (refl, refl) (refl, refl))
     (first_in_both s V5 1 (Store Sw 31 11 (pos 0)) Ebreak Ebreak Ebreak refl (store_spelled Sw 31 11 refl) ebreak_spelled ebreak_spelled ebreak_spelled bundles (refl, refl))
-    (λ m entry. reaches s is m entry.code (hart 0x01000010 0x01800000 0) 16 4 (Store Sw 31 11 (pos 0)) refl (omega arith) (store_spelled Sw 31 11 refl) 0 (0, omega arith, refl) (omega arith))
+    (λ m entry. reaches s is m entry.code (hart 0x01000010 0x02000000 0) 16 4 (Store Sw 31 11 (pos 0)) refl (omega arith) (store_spelled Sw 31 11 refl) 0 (0, omega arith, refl) (omega arith) (two_steps_in_bundles f bundles))
 
 -- ---- a jalr with an offset
 
@@ -310,10 +311,10 @@ jalr_offset_ignored_unsafe f bundles =
     (op_spelled And 31 10 25 refl) (op_spelled Or 31 31 24 refl) jalr_past ebreak_spelled ebreak_spelled ebreak_spelled ebreak_spelled ebreak_spelled (refl, refl) (refl, refl))
     (third_in_both s V6 0 (Op And 31 10 25) (Op Or 31 31 24) (Jalr 0 31 (pos 16)) Ebreak refl (op_spelled And 31 10 25 refl) (op_spelled Or 31 31 24 refl) jalr_past ebreak_spelled bundles (refl, refl))
     (λ m entry.
-    then_step s is m entry.code (hart 0x01000000 0x01800000 0) 0 4 (Op And 31 10 25) refl (omega arith) (op_spelled And 31 10 25 refl) (hart 0x01000004 0x01800000 240) refl (
-    then_step s is m entry.code (hart 0x01000004 0x01800000 240) 4 4 (Op Or 31 31 24) refl (omega arith) (op_spelled Or 31 31 24 refl) (hart 0x01000008 0x01800000 0x010000f0) refl (
-    then_step s is m entry.code (hart 0x01000008 0x01800000 0x010000f0) 8 4 (Jalr 0 31 (pos 16)) refl (omega arith) jalr_past (hart 0x01000100 0x01800000 0x010000f0) refl (
-    has_left (sandbox s) m (hart 0x01000100 0x01800000 0x010000f0) (past_end s is)))))
+    then_step s is m entry.code (hart 0x01000000 0x02000000 0) 0 4 (Op And 31 10 25) refl (omega arith) (op_spelled And 31 10 25 refl) (hart 0x01000004 0x02000000 240) refl (
+    then_step s is m entry.code (hart 0x01000004 0x02000000 240) 4 4 (Op Or 31 31 24) refl (omega arith) (op_spelled Or 31 31 24 refl) (hart 0x01000008 0x02000000 0x010000f0) refl (
+    then_step s is m entry.code (hart 0x01000008 0x02000000 0x010000f0) 8 4 (Jalr 0 31 (pos 16)) refl (omega arith) jalr_past (hart 0x01000100 0x02000000 0x010000f0) refl (
+    has_left (sandbox s) m (hart 0x01000100 0x02000000 0x010000f0) (past_end s is)))))
 
 -- ---- a jump to any start
 
@@ -326,8 +327,8 @@ jump_to_any_start_unsafe f bundles =
     (op_spelled And 31 10 27 refl) (op_spelled Or 31 31 26 refl) (store_spelled Sw 31 11 refl) ebreak_spelled jal_back ebreak_spelled ebreak_spelled ebreak_spelled (refl, refl) (refl, refl))
     (first_in_both s V7 1 (Jal 0 (minus 8)) Ebreak Ebreak Ebreak refl jal_back ebreak_spelled ebreak_spelled ebreak_spelled bundles (refl, refl))
     (λ m entry.
-    then_step s is m entry.code (hart 0x01000010 0x01800000 0) 16 4 (Jal 0 (minus 8)) refl (omega arith) jal_back (hart 0x01000008 0x01800000 0) refl (
-    reaches s is m entry.code (hart 0x01000008 0x01800000 0) 8 4 (Store Sw 31 11 (pos 0)) refl (omega arith) (store_spelled Sw 31 11 refl) 0 (0, omega arith, refl) (omega arith)))
+    then_step s is m entry.code (hart 0x01000010 0x02000000 0) 16 4 (Jal 0 (minus 8)) refl (omega arith) jal_back (hart 0x01000008 0x02000000 0) refl (
+    reaches s is m entry.code (hart 0x01000008 0x02000000 0) 8 4 (Store Sw 31 11 (pos 0)) refl (omega arith) (store_spelled Sw 31 11 refl) 0 (0, omega arith, refl) (omega arith) (two_steps_in_bundles f bundles)))
 
 -- ---- a stack pointer that is written and not put back
 
@@ -340,8 +341,8 @@ stack_not_put_back_unsafe =
     addi_x2 (store_spelled Sw 2 11 refl) ebreak_spelled ebreak_spelled ebreak_spelled ebreak_spelled ebreak_spelled ebreak_spelled refl refl)
     (first_alone s V10 0 (OpImm Addi 2 0 (pos 0)) (Store Sw 2 11 (pos 0)) Ebreak Ebreak refl addi_x2 (store_spelled Sw 2 11 refl) ebreak_spelled ebreak_spelled refl)
     (λ m entry.
-    then_step s is m entry.code (hart 0x01000000 0x01800000 0) 0 4 (OpImm Addi 2 0 (pos 0)) refl (omega arith) addi_x2 (stack_hart 0 0x01000004 0x01800000 0) refl (
-    reaches s is m entry.code (stack_hart 0 0x01000004 0x01800000 0) 4 4 (Store Sw 2 11 (pos 0)) refl (omega arith) (store_spelled Sw 2 11 refl) 0 (0, omega arith, refl) (omega arith)))
+    then_step s is m entry.code (hart 0x01000000 0x02000000 0) 0 4 (OpImm Addi 2 0 (pos 0)) refl (omega arith) addi_x2 (stack_hart 0 0x01000004 0x02000000 0) refl (
+    reaches s is m entry.code (stack_hart 0 0x01000004 0x02000000 0) 4 4 (Store Sw 2 11 (pos 0)) refl (omega arith) (store_spelled Sw 2 11 refl) 0 (0, omega arith, refl) (omega arith) refl))
 
 -- ---- all ten
 

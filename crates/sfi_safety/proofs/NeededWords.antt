@@ -71,7 +71,7 @@ crossing_words_unsafe =
     tt
     (λ m entry.
     then_step s is m entry.code (at_word 0x01000000) 0 2 nop refl (omega arith) short_nop (at_word 0x01000002) refl (
-    reaches s is m entry.code (at_word 0x01000002) 2 4 (Store Sw 6 1 (pos 0)) refl (omega arith) store_across 0 (0, omega arith, refl) (omega arith)))
+    reaches s is m entry.code (at_word 0x01000002) 2 4 (Store Sw 6 1 (pos 0)) refl (omega arith) store_across 0 (0, omega arith, refl) (omega arith) refl))
 
 -- ---- an ecall at no gate
 
@@ -94,8 +94,8 @@ data_base_written_unsafe =
     (code_found (Lui 26 0) (Store Sw 26 11 (pos 0)) Ebreak Ebreak lui_x26 (store_spelled Sw 26 11 refl) ebreak_spelled ebreak_spelled Nothing Nothing Nothing (found 0x01000000 V4) [] [] [] refl refl refl refl refl refl refl refl)
     (alone s 0 0 Nothing (Lui 26 0) lui_x26 refl (at_first s) V4 refl)
     (λ m entry.
-    then_step s is m entry.code (at_word 0x01000000) 0 4 (Lui 26 0) refl (omega arith) lui_x26 (typed_hart 0x01000004 0x01800000 0 0x010000fc 0) refl (
-    reaches s is m entry.code (typed_hart 0x01000004 0x01800000 0 0x010000fc 0) 4 4 (Store Sw 26 11 (pos 0)) refl (omega arith) (store_spelled Sw 26 11 refl) 0 (0, omega arith, refl) (omega arith)))
+    then_step s is m entry.code (at_word 0x01000000) 0 4 (Lui 26 0) refl (omega arith) lui_x26 (typed_hart 0x01000004 0x02000000 0 0x010000fc 0) refl (
+    reaches s is m entry.code (typed_hart 0x01000004 0x02000000 0 0x010000fc 0) 4 4 (Store Sw 26 11 (pos 0)) refl (omega arith) (store_spelled Sw 26 11 refl) 0 (0, omega arith, refl) (omega arith) refl))
 
 pub untyped_base_unsafe : IsNeeded V5 0x01000000 (sandbox untyped_base)
 untyped_base_unsafe =
@@ -104,7 +104,7 @@ untyped_base_unsafe =
     needed_at s is refl V5 0x01000000 0 (omega arith)
     (code_found (Store Sw 28 11 (pos 0)) Ebreak Ebreak Ebreak (store_spelled Sw 28 11 refl) ebreak_spelled ebreak_spelled ebreak_spelled Nothing Nothing Nothing (found 0x01000000 V5) [] [] [] refl refl refl refl refl refl refl refl)
     (alone s 0 0 Nothing (Store Sw 28 11 (pos 0)) (store_spelled Sw 28 11 refl) refl (at_first s) V5 refl)
-    (λ m entry. reaches s is m entry.code (at_word 0x01000000) 0 4 (Store Sw 28 11 (pos 0)) refl (omega arith) (store_spelled Sw 28 11 refl) 0 (0, omega arith, refl) (omega arith))
+    (λ m entry. reaches s is m entry.code (at_word 0x01000000) 0 4 (Store Sw 28 11 (pos 0)) refl (omega arith) (store_spelled Sw 28 11 refl) 0 (0, omega arith, refl) (omega arith) refl)
 
 -- ---- ways out of the code
 
@@ -172,22 +172,22 @@ data_register_not_put_back_unsafe =
       words_found = ([], [], Nothing, (refl, refl), one_word (bundle_place 0 (sandbox s) 0) 0x01000000 Nothing (Mask 2) zero_x2 [] addi_x2 refl refl, refl);
     }) V10 refl)
     (λ m entry.
-    then_step s is m entry.code (at_word 0x01000000) 0 4 zero_x2 refl (omega arith) addi_x2 (typed_hart 0x01000004 0 0x01800000 0x010000fc 0) refl (
-    reaches s is m entry.code (typed_hart 0x01000004 0 0x01800000 0x010000fc 0) 4 4 store refl (omega arith) (store_spelled Sw 2 11 refl) 0 (0, omega arith, refl) (omega arith)))
+    then_step s is m entry.code (at_word 0x01000000) 0 4 zero_x2 refl (omega arith) addi_x2 (typed_hart 0x01000004 0 0x02000000 0x010000fc 0) refl (
+    reaches s is m entry.code (typed_hart 0x01000004 0 0x02000000 0x010000fc 0) 4 4 store refl (omega arith) (store_spelled Sw 2 11 refl) 0 (0, omega arith, refl) (omega arith) refl))
 
 pub code_register_not_put_back_unsafe : IsNeeded V11 0x01000000 (sandbox code_register_not_put_back)
 code_register_not_put_back_unsafe =
     let s = code_register_not_put_back in
     let is : IsSample s = without_gates s refl refl refl in
     let zero_x30 = OpImm Addi 30 0 (pos 0) in
-    let h = typed_hart 0x01000004 0x01800000 0x01800000 0 0 in
+    let h = typed_hart 0x01000004 0x02000000 0x02000000 0 0 in
     needed_at s is refl V11 0x01000000 0 (omega arith)
     (code_found zero_x30 (Jalr 0 30 (pos 0)) Ebreak Ebreak addi_x30 jalr_x30 ebreak_spelled ebreak_spelled Nothing Nothing Nothing (found 0x01000000 V11) [] [] [] refl refl refl refl refl refl refl refl)
     (alone s 0 0 Nothing zero_x30 addi_x30 refl (at_first s) V11 refl)
     (λ m entry.
     then_step s is m entry.code (at_word 0x01000000) 0 4 zero_x30 refl (omega arith) addi_x30 h refl (
-    then_step s is m entry.code h 4 4 (Jalr 0 30 (pos 0)) refl (omega arith) jalr_x30 (typed_hart 0 0x01800000 0x01800000 0 0) refl (
-    has_left (sandbox s) m (typed_hart 0 0x01800000 0x01800000 0 0) (λ (inside : InCode (sandbox s) 0). let from = inside.0 in omega (arith, from)))))
+    then_step s is m entry.code h 4 4 (Jalr 0 30 (pos 0)) refl (omega arith) jalr_x30 (typed_hart 0 0x02000000 0x02000000 0 0) refl (
+    has_left (sandbox s) m (typed_hart 0 0x02000000 0x02000000 0 0) (λ (inside : InCode (sandbox s) 0). let from = inside.0 in omega (arith, from)))))
 
 pub offset_not_masked_unsafe : IsNeeded V12 0x01000000 (sandbox offset_not_masked)
 offset_not_masked_unsafe =
@@ -195,15 +195,15 @@ offset_not_masked_unsafe =
     let is : IsSample s = without_gates s refl refl refl in
     let ones = OpImm Addi 31 0 (minus 1) in
     let store = Store Sw 2 11 (pos 0) in
-    let h = typed_hart 0x01000004 0x01800000 0x01800000 0x010000fc 0xffffffff in
-    let g = typed_hart 0x01000008 0xffffffff 0x01800000 0x010000fc 0xffffffff in
+    let h = typed_hart 0x01000004 0x02000000 0x02000000 0x010000fc 0xffffffff in
+    let g = typed_hart 0x01000008 0xffffffff 0x02000000 0x010000fc 0xffffffff in
     needed_at s is refl V12 0x01000000 0 (omega arith)
     (code_found ones (Op Or 2 31 26) store Ebreak addi_x31 (op_spelled Or 2 31 26 refl) (store_spelled Sw 2 11 refl) ebreak_spelled Nothing Nothing Nothing (found 0x01000000 V12) [] [] [] refl refl refl refl refl refl refl refl)
     (alone s 0 0 Nothing ones addi_x31 refl (at_first s) V12 refl)
     (λ m entry.
     then_step s is m entry.code (at_word 0x01000000) 0 4 ones refl (omega arith) addi_x31 h refl (
     then_step s is m entry.code h 4 4 (Op Or 2 31 26) refl (omega arith) (op_spelled Or 2 31 26 refl) g refl (
-    reaches s is m entry.code g 8 4 store refl (omega arith) (store_spelled Sw 2 11 refl) 0 (1, omega arith, refl) (omega arith))))
+    reaches s is m entry.code g 8 4 store refl (omega arith) (store_spelled Sw 2 11 refl) 0 (1, omega arith, refl) (omega arith) refl)))
 
 -- ---- all of them
 

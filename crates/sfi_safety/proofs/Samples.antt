@@ -1,6 +1,6 @@
 -- The samples: their layout, their image, where they are entered, and their steps.
 use Rattle.sfi_safety.proofs.Prelude.{◌≡◌, ℕ, zero, suc, ◌+◌, ◌-◌, ◌*◌, ◌%◌, ◌^◌, ◌<◌, ◌≤◌, ◌⊎◌, List, [], ◌∷◌, ◌++◌, length, replicate, take, drop, Option, Some, inl, inr, refl, sym, ap, subst, ◌∙◌, arith, get_or, get_or-drop, get_or-take, slice_index, true, false, nat_lt, All, list_all, and_parts, ltb-true, Instr, Ebreak, Spells, Format, Sfi1, Sfi2, Sfiw, has_words, code_most, data_most, Bytes, byte_at, bytes_at, addresses, address_after, Accesses, Hart, IsHart, State, Stepped, Stands, IsStep, effect, next, unchanged, Call, AreGates, Part, AreGateWords, AreApart, code_region, guarded_region, IsBundleStart, IsRightPart, IsRightLayout, AreOf, Finding, AreFindings, AreFindingsInBundles, InData, InGuard, IsGate, HasReserved, HasCode, IsUnitStart, IsTyped, Turn, Steps, IsEntry, IsRun, IsTurn, after_turn, after_step, IsSafeRun, HasOneFinding, HasUnsafeRun, IsNeeded, BreaksNoOther, BreaksAloneInBundle, Bool, false≢true, Sample, sandbox, bytes_of, words_of, Rule, InCode, unit, BreaksAlone, BreaksAloneInWord}
-use Rattle.sfi_formats.proofs.Formats.{two_steps}
+use Rattle.sfi_formats.specs.Formats.{has_one_step}
 use Rattle.rv_comp.specs.declared.front.Front.TheVariants.{Read}
 use Rattle.sfi_image.specs.declared.span.Span.{Span}
 use Rattle.sfi_formats.specs.Limits.{gates_most}
@@ -12,8 +12,8 @@ use Rattle.sfi_safe_runs.proofs.Stepping.{read_all}
 use Rattle.sfi_rules.proofs.Findings.{of_bundles}
 use Rattle.std.specs.Prelude.{MatchBool}
 use Rattle.sfi_image.specs.Parts.{reserved_of}
-use Rattle.sfi_image.specs.Spelling.{spans, data_region}
-use Rattle.sfi_image.proofs.ClearZones.{no_one_bit, no_zone_room, clear_of_no_zones}
+use Rattle.sfi_image.specs.Spelling.{spans, zone_end, zone_ends, IsClear, AreClear}
+use Rattle.std.proofs.lemmas.List.Elements.{All-nil, All-from_recursion}
 
 -- ---- the samples' layout
 
@@ -77,10 +77,10 @@ module _ (s : Sample) (is : IsSample s) where
       record {
         code_base = omega arith;
         code_placed = record { power = 8; size_is = size; at_least = omega (arith, size); at_most = omega (arith, size, code_at_least s.format); multiple = 65536; base_is = sym (ap (λ (n : ℕ). 65536 * n) size) };
-        data_placed = record { power = 8; size_is = refl; at_least = omega arith; at_most = omega (arith, data_at_least s.format); multiple = 98304; base_is = refl };
-        one_bit = no_one_bit s.format 0x01800000 256;
+        data_placed = record { power = 8; size_is = refl; at_least = omega arith; at_most = omega (arith, data_at_least s.format); multiple = 131072; base_is = refl };
+        one_bit = λ one_step. record { power = 25; base_is = refl; no_lower = omega arith };
         guard_room = record { below = omega arith; above = omega arith };
-        zone_room = no_zone_room s.format (code_region (sandbox s)) (data_region (sandbox s));
+        zone_room = λ one_step. record { code_above = omega arith; data_above = omega arith; code_below = omega (arith, size) };
         start = record { held = (omega arith, omega (arith, size)); aligned = refl };
         gate_count = few;
         init_len = omega arith;
@@ -97,13 +97,29 @@ module _ (s : Sample) (is : IsSample s) where
   pairs_apart (suc i) zero d less below = absurd (omega arith)
   pairs_apart (suc i) (suc j) d less below = absurd (omega arith)
 
+  -- both regions lie above a zone at zero, if its format has one
+  clear : AreClear (zone_ends (sandbox s ∷ [])) (spans (sandbox s ∷ []))
+  clear = by (has_one_step s.format) refl
+    where
+      all_clear : AreClear (zone_end 256 ∷ []) (spans (sandbox s ∷ []))
+      all_clear =
+          let size = size s is in
+          let code : IsClear (zone_end 256) (code_region (sandbox s)) = record { above = omega arith; below = omega (arith, size) } in
+          let guarded : IsClear (zone_end 256) (guarded_region (sandbox s)) = record { above = omega arith; below = omega arith } in
+          All-from_recursion (λ t. All (λ end. IsClear end t) (zone_end 256 ∷ [])) (spans (sandbox s ∷ []))
+          (All-from_recursion (λ end. IsClear end (code_region (sandbox s))) (zone_end 256 ∷ []) (code, tt), (All-from_recursion (λ end. IsClear end (guarded_region (sandbox s))) (zone_end 256 ∷ []) (guarded, tt), tt))
+
+      by : (b : Bool) → has_one_step s.format ≡ b → AreClear (zone_ends (sandbox s ∷ [])) (spans (sandbox s ∷ []))
+      by true one_step = let ends : zone_end 256 ∷ [] ≡ zone_ends (sandbox s ∷ []) = rw (one_step) refl in subst (λ (es : List ℕ). AreClear es (spans (sandbox s ∷ []))) ends all_clear
+      by false two_steps = let none : [] ≡ zone_ends (sandbox s ∷ []) = rw (two_steps) refl in subst (λ (es : List ℕ). AreClear es (spans (sandbox s ∷ []))) none (λ k d lt. All-nil _)
+
   -- the layout of an image of it alone
   pub right_layout : IsRightLayout (sandbox s ∷ [])
   right_layout = record {
     at_least_one = omega arith;
     at_most = omega arith;
     one_format = one;
-    right = record { each = only; apart = pairs_apart; clear = clear_of_no_zones (sandbox s ∷ []) (spans (sandbox s ∷ [])) };
+    right = record { each = only; apart = pairs_apart; clear = clear };
   }
     where
       one : AreOf s.format (sandbox s ∷ [])
@@ -132,25 +148,25 @@ stack_hart x2 pc x26 x31 = record {
 
 -- x2 points to the data
 abbrev pub hart : ℕ → ℕ → ℕ → Hart
-hart pc x26 x31 = stack_hart 0x01800000 pc x26 x31
+hart pc x26 x31 = stack_hart 0x02000000 pc x26 x31
 
 pub each_below : (n : ℕ) (xs : List ℕ) → 0 < n → list_all (λ x. nat_lt x n) xs ≡ true → (k : ℕ) → slice_index xs k < n
 each_below n [] some h k = some
 each_below n (x ∷ xs) some h zero = ltb-true x n (and_parts (nat_lt x n) (list_all (λ y. nat_lt y n) xs) h).0
 each_below n (x ∷ xs) some h (suc k) = each_below n xs some (and_parts (nat_lt x n) (list_all (λ y. nat_lt y n) xs) h).1 k
 
-pub is_hart : (pc : ℕ) → pc % 2 ≡ 0 → pc < 2 ^ 32 → IsHart (hart pc 0x01800000 0)
+pub is_hart : (pc : ℕ) → pc % 2 ≡ 0 → pc < 2 ^ 32 → IsHart (hart pc 0x02000000 0)
 is_hart pc even fits = record {
   even = even;
   address = fits;
   count = refl;
-  words = each_below (2 ^ 32) (hart pc 0x01800000 0).registers (omega arith) refl;
+  words = each_below (2 ^ 32) (hart pc 0x02000000 0).registers (omega arith) refl;
   zero = refl;
 }
 
 -- where a run begins
 abbrev pub first : ℕ → Bytes → State
-first pc m = record { hart = hart pc 0x01800000 0; memory = m }
+first pc m = record { hart = hart pc 0x02000000 0; memory = m }
 
 -- a run may begin with such a hart
 pub enters_with : (s : Sample) → IsSample s → (h : Hart) → IsHart h → IsUnitStart (sandbox s) h.pc → HasReserved (sandbox s).format (reserved_of (sandbox s)) h.registers → IsTyped (sandbox s) h.registers → (m : Bytes) × IsEntry (sandbox s) (record { hart = h; memory = m })
@@ -163,8 +179,8 @@ enters s is bundles n few =
     let at = 0x01000000 + 16 * n in
     let start : IsBundleStart (code_region (sandbox s)) at = record { held = (omega arith, omega (arith, size)); aligned = omega arith } in
     let mask : length (sandbox s).code - unit s.format ≡ 240 = ap (λ (u : ℕ). length (sandbox s).code - u) (bundle_unit s.format bundles) ∙ ap (λ (n : ℕ). n - 16) size in
-    let reserved : HasReserved (sandbox s).format (reserved_of (sandbox s)) (hart at 0x01800000 0).registers = record { code_base = refl; code_mask = sym mask; data_base = λ two. refl; data_mask = sym (two_step_mask s.format (data_region (sandbox s)) (bundles_two_steps s.format bundles)) } in
-    enters_with s is (hart at 0x01800000 0) (is_hart at (omega arith) (omega arith)) (of_bundle (sandbox s) at bundles start) reserved (of_stack (sandbox s) (hart at 0x01800000 0).registers bundles (λ has. (omega arith, omega arith)))
+    let reserved : HasReserved (sandbox s).format (reserved_of (sandbox s)) (hart at 0x02000000 0).registers = record { code_base = refl; code_mask = sym mask; data_base = λ two. refl; data_mask = sym (two_step_mask s.format (data_region (sandbox s)) (bundles_two_steps s.format bundles)) } in
+    enters_with s is (hart at 0x02000000 0) (is_hart at (omega arith) (omega arith)) (of_bundle (sandbox s) at bundles start) reserved (of_stack (sandbox s) (hart at 0x02000000 0).registers bundles (λ has. (omega arith, omega arith)))
 
 -- ---- what stands there
 
@@ -208,9 +224,9 @@ module _ (s : Sample) (is : IsSample s) (m : Bytes) (code : HasCode (sandbox s) 
   pub then_step : (h' : Hart) → effect i n h m ≡ next h' m → HasUnsafeRun (sandbox s) (record { hart = h'; memory = m }) → HasUnsafeRun (sandbox s) (record { hart = h; memory = m })
   then_step h' e rest = then_turn (sandbox s) (record { hart = h; memory = m }) (record { hart = h'; memory = m }) (Steps (effect i n h m)) step_at (ap (λ (r : Stepped). after_step r.outcome r.state) e) rest
 
-  -- where the instruction accesses an address far below the data, the run isn't safe
-  pub reaches : (a : ℕ) → Accesses i h a → a + 4096 < 0x01800000 → HasUnsafeRun (sandbox s) (record { hart = h; memory = m })
-  reaches a has below = record {
+  -- where the instruction accesses an address far below the data, and there is no zone at zero, the run isn't safe
+  pub reaches : (a : ℕ) → Accesses i h a → a + 4096 < 0x02000000 → has_one_step s.format ≡ false → HasUnsafeRun (sandbox s) (record { hart = h; memory = m })
+  reaches a has below two_steps = record {
     turns = Steps (effect i n h m) ∷ [];
     run = (step_at, tt);
     unsafe = λ safe. far (safe.1.within i n (stands s is m code h at n i pc within spelled) a has);
@@ -220,7 +236,7 @@ module _ (s : Sample) (is : IsSample s) (m : Bytes) (code : HasCode (sandbox s) 
       far (inl (from, under)) = omega arith
       far (inr (inl (inl (from, under)))) = omega arith
       far (inr (inl (inr (from, under)))) = omega arith
-      far (inr (inr zone)) = absurd (false≢true (sym (two_steps s.format) ∙ zone.0))
+      far (inr (inr zone)) = absurd (false≢true (sym two_steps ∙ zone.0))
 
   -- where the instruction calls at no gate, the run isn't safe
   pub calls_elsewhere : effect i n h m ≡ unchanged Call h m → (IsGate (sandbox s) h.pc → ⊥) → HasUnsafeRun (sandbox s) (record { hart = h; memory = m })
@@ -250,7 +266,7 @@ needed_from s is rule address h e alone no_other runs = record {
 pub needed : (s : Sample) (is : IsSample s) (rule : Rule) (address n : ℕ) → has_words s.format ≡ false → n < 16 → AreFindingsInBundles 0 (sandbox s) (record { sandbox = 0; address = address; rule = rule } ∷ []) → BreaksNoOther rule address (sandbox s)
     → ((m : Bytes) → IsEntry (sandbox s) (first (0x01000000 + 16 * n) m) → HasUnsafeRun (sandbox s) (first (0x01000000 + 16 * n) m)) → IsNeeded rule address (sandbox s)
 needed s is rule address n bundles few alone no_other runs =
-    needed_from s is rule address (hart (0x01000000 + 16 * n) 0x01800000 0) (enters s is bundles n few) (of_bundles 0 (sandbox s) (record { sandbox = 0; address = address; rule = rule } ∷ []) bundles alone) no_other runs
+    needed_from s is rule address (hart (0x01000000 + 16 * n) 0x02000000 0) (enters s is bundles n few) (of_bundles 0 (sandbox s) (record { sandbox = 0; address = address; rule = rule } ∷ []) bundles alone) no_other runs
 
 -- ---- in either format whose code is in bundles
 

@@ -43,15 +43,15 @@ accepted = record {
 module _ (s : Sample) (is : IsSample s) (m : Bytes) (code : HasCode (sandbox s) m) (guards : (a : ℕ) → InGuard (sandbox s) a → byte_at m a ≡ None) where
   -- others put a 0 at the address that is stored to
   pub changed : Bytes
-  changed = insert m 0x018000f0 0
+  changed = insert m 0x020000f0 0
 
-  in_data : (a : ℕ) → a ≢ 0x018000f0 → byte_at changed a ≡ byte_at m a
+  in_data : (a : ℕ) → a ≢ 0x020000f0 → byte_at changed a ≡ byte_at m a
   unfolding changed
-  in_data a ne = inserted_elsewhere m 0x018000f0 0 a ne
+  in_data a ne = inserted_elsewhere m 0x020000f0 0 a ne
 
-  pub there : byte_at changed 0x018000f0 ≡ Some 0
+  pub there : byte_at changed 0x020000f0 ≡ Some 0
   unfolding changed
-  there = inserted_here m 0x018000f0 0 0x018000f0 refl
+  there = inserted_here m 0x020000f0 0 0x020000f0 refl
 
   pub keeps : KeepsBytes (sandbox s) m changed
   keeps =
@@ -61,7 +61,7 @@ module _ (s : Sample) (is : IsSample s) (m : Bytes) (code : HasCode (sandbox s) 
         guards = λ a guard none. in_data a (λ same. not_guard a guard same) ∙ none;
       }
     where
-      not_guard : (a : ℕ) → InGuard (sandbox s) a → a ≡ 0x018000f0 → ⊥
+      not_guard : (a : ℕ) → InGuard (sandbox s) a → a ≡ 0x020000f0 → ⊥
       not_guard a (inl (inl (from, below))) same = omega arith
       not_guard a (inl (inr (from, below))) same = omega arith
       not_guard a (inr (one_step, inl low)) same = omega arith
@@ -70,12 +70,12 @@ module _ (s : Sample) (is : IsSample s) (m : Bytes) (code : HasCode (sandbox s) 
   pub changed_code : HasCode (sandbox s) changed
   changed_code k below = let size = size s is in in_data (0x01000000 + k) (λ same. omega arith) ∙ code k below
 
-  pub store_is : byte_at (stored changed 0x018000f0 1 240) 0x018000f0 ≡ Some 240
-  store_is = inserted_here changed 0x018000f0 240 0x018000f0 refl
+  pub store_is : byte_at (stored changed 0x020000f0 1 240) 0x020000f0 ≡ Some 240
+  store_is = inserted_here changed 0x020000f0 240 0x020000f0 refl
 
 -- where a byte is there, the store is done
-store_done : (w : Bytes) → byte_at w 0x018000f0 ≡ Some 0 → effect (Store Sb 31 10 (pos 0)) 4 (hart 0x01000008 0x01800000 0x018000f0) w ≡ next (past (hart 0x01000008 0x01800000 0x018000f0) 4) (stored w 0x018000f0 1 240)
-store_done w there = ap (λ o. cond (is_some (in_front o (Some []))) (next (past (hart 0x01000008 0x01800000 0x018000f0) 4) (stored w 0x018000f0 1 240)) (unchanged (Trap cause.Store 0x018000f0) (hart 0x01000008 0x01800000 0x018000f0) w)) there
+store_done : (w : Bytes) → byte_at w 0x020000f0 ≡ Some 0 → effect (Store Sb 31 10 (pos 0)) 4 (hart 0x01000008 0x02000000 0x020000f0) w ≡ next (past (hart 0x01000008 0x02000000 0x020000f0) 4) (stored w 0x020000f0 1 240)
+store_done w there = ap (λ o. cond (is_some (in_front o (Some []))) (next (past (hart 0x01000008 0x02000000 0x020000f0) 4) (stored w 0x020000f0 1 240)) (unchanged (Trap cause.Store 0x020000f0) (hart 0x01000008 0x02000000 0x020000f0) w)) there
 
 stores : StoresByte p
 stores =
@@ -88,24 +88,24 @@ stores =
       entry = first 0x01000000 e.0;
       is_entry = e.1;
       changed = first 0x01000000 w;
-      masked = effect (Op And 31 10 27) 4 (hart 0x01000000 0x01800000 0) w;
-      placed = effect (Op Or 31 31 26) 4 (hart 0x01000004 0x01800000 240) w;
-      stored = effect (Store Sb 31 10 (pos 0)) 4 (hart 0x01000008 0x01800000 0x018000f0) w;
+      masked = effect (Op And 31 10 27) 4 (hart 0x01000000 0x02000000 0) w;
+      placed = effect (Op Or 31 31 26) 4 (hart 0x01000004 0x02000000 240) w;
+      stored = effect (Store Sb 31 10 (pos 0)) 4 (hart 0x01000008 0x02000000 0x020000f0) w;
       run = (
         record { pc = refl; registers = refl; bytes = keeps sandboxed_store is_sample e.0 e.1.code e.1.guards },
         (
-          step (hart 0x01000000 0x01800000 0) 0 4 (Op And 31 10 27) refl (omega arith) (op_spelled And 31 10 27 refl),
+          step (hart 0x01000000 0x02000000 0) 0 4 (Op And 31 10 27) refl (omega arith) (op_spelled And 31 10 27 refl),
           (
-            step (hart 0x01000004 0x01800000 240) 4 4 (Op Or 31 31 26) refl (omega arith) (op_spelled Or 31 31 26 refl),
-            (step (hart 0x01000008 0x01800000 0x018000f0) 8 4 (Store Sb 31 10 (pos 0)) refl (omega arith) (store_spelled Sb 31 10 refl), tt),
+            step (hart 0x01000004 0x02000000 240) 4 4 (Op Or 31 31 26) refl (omega arith) (op_spelled Or 31 31 26 refl),
+            (step (hart 0x01000008 0x02000000 0x020000f0) 8 4 (Store Sb 31 10 (pos 0)) refl (omega arith) (store_spelled Sb 31 10 refl), tt),
           ),
         ),
       );
       done = ap (λ (r : Stepped). r.outcome) done;
-      address = 0x018000f0;
+      address = 0x020000f0;
       inside = (omega arith, omega arith);
       before = before;
-      after = ap (λ (r : Stepped). byte_at r.state.memory 0x018000f0) done ∙ store_is sandboxed_store is_sample e.0 e.1.code e.1.guards;
+      after = ap (λ (r : Stepped). byte_at r.state.memory 0x020000f0) done ∙ store_is sandboxed_store is_sample e.0 e.1.code e.1.guards;
     }
 
 pub accepted_and_runs : IsAcceptedAndRuns p
@@ -125,11 +125,11 @@ no_finding_in_words =
     refl refl refl refl refl refl refl refl
 
 -- where a byte is there, the store is done
-word_store_done : (w : Bytes) → byte_at w 0x018000f0 ≡ Some 0 → effect (Store Sb 2 10 (pos 0)) 4 (typed_hart 0x01000008 0x018000f0 0x01800000 0x010000fc 240) w
-    ≡ next (past (typed_hart 0x01000008 0x018000f0 0x01800000 0x010000fc 240) 4) (stored w 0x018000f0 1 240)
+word_store_done : (w : Bytes) → byte_at w 0x020000f0 ≡ Some 0 → effect (Store Sb 2 10 (pos 0)) 4 (typed_hart 0x01000008 0x020000f0 0x02000000 0x010000fc 240) w
+    ≡ next (past (typed_hart 0x01000008 0x020000f0 0x02000000 0x010000fc 240) 4) (stored w 0x020000f0 1 240)
 word_store_done w there =
-    let h = typed_hart 0x01000008 0x018000f0 0x01800000 0x010000fc 240 in
-    ap (λ o. cond (is_some (in_front o (Some []))) (next (past h 4) (stored w 0x018000f0 1 240)) (unchanged (Trap cause.Store 0x018000f0) h w)) there
+    let h = typed_hart 0x01000008 0x020000f0 0x02000000 0x010000fc 240 in
+    ap (λ o. cond (is_some (in_front o (Some []))) (next (past h 4) (stored w 0x020000f0 1 240)) (unchanged (Trap cause.Store 0x020000f0) h w)) there
 
 words_store : StoresByte part_in_words
 words_store =
@@ -139,8 +139,8 @@ words_store =
     let step = step_at s is_word_sample w (changed_code s is_word_sample e.0 e.1.code e.1.guards) in
     let before = there s is_word_sample e.0 e.1.code e.1.guards in
     let done = word_store_done w before in
-    let h1 = typed_hart 0x01000004 0x01800000 0x01800000 0x010000fc 240 in
-    let h2 = typed_hart 0x01000008 0x018000f0 0x01800000 0x010000fc 240 in
+    let h1 = typed_hart 0x01000004 0x02000000 0x02000000 0x010000fc 240 in
+    let h2 = typed_hart 0x01000008 0x020000f0 0x02000000 0x010000fc 240 in
     record {
       entry = record { hart = at_word 0x01000000; memory = e.0 };
       is_entry = e.1;
@@ -159,10 +159,10 @@ words_store =
         ),
       );
       done = ap (λ (r : Stepped). r.outcome) done;
-      address = 0x018000f0;
+      address = 0x020000f0;
       inside = (omega arith, omega arith);
       before = before;
-      after = ap (λ (r : Stepped). byte_at r.state.memory 0x018000f0) done ∙ store_is s is_word_sample e.0 e.1.code e.1.guards;
+      after = ap (λ (r : Stepped). byte_at r.state.memory 0x020000f0) done ∙ store_is s is_word_sample e.0 e.1.code e.1.guards;
     }
 
 pub accepted_words_run : IsAcceptedAndRuns part_in_words

@@ -20,12 +20,12 @@ use Rattle.sfi_safety.proofs.Readings.{IsSpelled, BeginsNothing, nothing_begins,
 abbrev pub typed_hart : ℕ → ℕ → ℕ → ℕ → ℕ → Hart
 typed_hart pc x2 x26 x30 x31 = record {
   pc = pc;
-  registers = 0 ∷ 240 ∷ x2 ∷ 0x01800000 ∷ 0x01800000 ∷ replicate 5 0 ++ (240 ∷ (replicate 13 0 ++ (0x01000000 ∷ 252 ∷ x26 ∷ 255 ∷ 0 ∷ 0x01800000 ∷ x30 ∷ x31 ∷ [])));
+  registers = 0 ∷ 240 ∷ x2 ∷ 0x02000000 ∷ 0x02000000 ∷ replicate 5 0 ++ (240 ∷ (replicate 13 0 ++ (0x01000000 ∷ 252 ∷ x26 ∷ 255 ∷ 0 ∷ 0x02000000 ∷ x30 ∷ x31 ∷ [])));
 }
 
 -- x2 points to the data, and x30 to the last word
 abbrev pub at_word : ℕ → Hart
-at_word pc = typed_hart pc 0x01800000 0x01800000 0x010000fc 0
+at_word pc = typed_hart pc 0x02000000 0x02000000 0x010000fc 0
 
 is_hart : (pc : ℕ) → pc % 2 ≡ 0 → pc < 2 ^ 32 → IsHart (at_word pc)
 is_hart pc even fits = record {
@@ -45,7 +45,7 @@ module _ (s : Sample) (is : IsSample s) (has : has_words s.format ≡ true) wher
       let mask : length (sandbox s).code - unit s.format ≡ 252 = ap (λ (u : ℕ). length (sandbox s).code - u) (word_unit s.format has) ∙ ap (λ (n : ℕ). n - 4) size in
       let start : IsUnitStart (sandbox s) at = of_word (sandbox s) at has (record { held = (omega arith, omega (arith, size, few)); aligned = omega arith }) in
       let reserved : HasReserved (sandbox s).format (reserved_of (sandbox s)) (at_word at).registers = record { code_base = refl; code_mask = sym mask; data_base = λ two. refl; data_mask = sym (two_step_mask s.format (data_region (sandbox s)) (two_steps s.format)) } in
-      let base : IsNearIn s.format (data_region (sandbox s)) 1020 0x01800000 = inl (record { low = omega arith; high = omega arith }) in
+      let base : IsNearIn s.format (data_region (sandbox s)) 1020 0x02000000 = inl (record { low = omega arith; high = omega arith }) in
       let none : has_one_step s.format ≡ true → IsNearIn s.format (data_region (sandbox s)) 1020 0 = λ one. inr (one, inl (omega (arith, size))) in
       let code : IsWordStart (code_region (sandbox s)) 0x010000fc = record { held = (omega arith, omega (arith, size)); aligned = refl } in
       let typed : IsTyped (sandbox s) (at_word at).registers = of_words_typed (sandbox s) (at_word at).registers has (record { each_data = each_beside s.format (data_region (sandbox s)) (at_word at).registers base base base base (λ one. base) none; code = code; offset = λ _. omega arith }) in

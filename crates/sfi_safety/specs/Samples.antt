@@ -34,12 +34,12 @@ pub record Sample : Type 0 where
   pub last_words : List ℕ  -- the 4 words of its last one
 
 -- 256 bytes of code at 01000000, in which 52 ebreaks stand between those words,
--- and 256 bytes of data at 01800000
+-- and 256 bytes of data at 02000000
 abbrev pub sandbox : Sample → Part
 sandbox s = record {
   format = s.format;
   code_base = 0x01000000;
-  data_base = 0x01800000;
+  data_base = 0x02000000;
   data_size = region_least;
   start = 0x01000000;
   gates = s.gates;
