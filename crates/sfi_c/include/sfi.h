@@ -239,8 +239,8 @@ uint32_t sfi_c_gates(const uint8_t *image, size_t length, uint32_t number, struc
 /*
  * Of parts that sfi_c_part wrote, which may be one and the same: whether no region and no guard zone of one sandbox meets
  * one of the other: neither code with code, nor the code of one
- * with the data or a guard zone of the other, nor data or guard zones with each other. It looks at the bases and sizes
- * alone. So sandboxes of two images, each accepted by itself and in any format, may run in one memory where this is true of
+ * with the data or a guard zone of the other, nor data or guard zones with each other, nor any with a zone at zero of the
+ * other, if its format has one. It looks at the formats, bases and sizes alone. So sandboxes of two images, each accepted by itself and in any format, may run in one memory where this is true of
  * each sandbox of the one with each of the other. Of one image's sandboxes the verdict says so.
  */
 bool sfi_c_apart(const struct sfi_part *one, const struct sfi_part *other);

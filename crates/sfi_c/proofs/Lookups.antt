@@ -1,19 +1,22 @@
 -- Which sandbox a look-up finds, and where it lies.
-use Rattle.std.proofs.Common.{append_assoc, ◌↔◌, ◌≢◌, Result, Ok, Err, IfErr, inl}
+use Rattle.std.proofs.Common.{append_assoc, ◌↔◌, ◌≢◌, Result, Ok, Err, IfErr, inl, Bool, true, false, subst}
 use Rattle.std.specs.List.{flat_map, All}
 use Rattle.sfi_image.specs.declared.cursor.PartView.{PartView}
 use Rattle.sfi_image.specs.declared.fields.Fields.{Fields}
-use Rattle.sfi_image.specs.Spelling.{fields_of, fields, gate, part, AreApart, code_region, guarded_region, spans}
+use Rattle.sfi_image.specs.Spelling.{fields_of, fields, gate, part, AreApart, code_region, guarded_region, spans, zone_end, zone_ends, IsClear, AreClear}
 use Rattle.sfi_image.proofs.Fronts.{length-fields}
 use Rattle.sfi_c.specs.declared.part.SfiPart.{SfiPart}
-use Rattle.sfi_c.specs.Parts.{Tells, told_at, lookup_number, IsBeyondGates}
+use Rattle.sfi_c.specs.Parts.{Tells, told_at, told_part, format_number, lookup_number, IsBeyondGates}
 use Rattle.sfi_image.specs.Keeping.{LiesAt, IsBeyond}
 use Rattle.sfi_image.proofs.Seeking.{length-gates, length-part, sandbox_lies}
-use Rattle.std.proofs.lemmas.List.Elements.{All-head, All-tail, All-from_recursion}
+use Rattle.std.proofs.lemmas.List.Elements.{All-head, All-tail, All-nil, All-cons, All-from_recursion}
 use Rattle.sfi_image.specs.declared.span.Span.{Span}
 use Rattle.sfi_places.specs.Beside.{AreBeside}
-use Rattle.sfi_image.proofs.ClearZones.{clear_of_no_zones}
-use Rattle.sfi_c.specs.Moves.{AreToldApart}
+use Rattle.sfi_formats.specs.declared.format.Format.{Format}
+use Rattle.sfi_formats.specs.declared.format.Format.TheVariants.{Sfi1, Sfi2, Sfiw}
+use Rattle.sfi_formats.specs.Formats.{has_one_step}
+use Rattle.sfi_c.specs.Moves.{AreToldApart, IsToldClear}
+use Rattle.sfi_c.specs.Streams.{format_of}
 use Rattle.std.specs.Prelude.{slice_get}
 use Rattle.sfi_image.proofs.Facts.{one_image, never_both}
 use Rattle.sfi_c.specs.declared.looking.Lookup.{Lookup}
@@ -77,6 +80,51 @@ first P p all = All-head P (code_region p) (guarded_region p ∷ []) all
 second : (P : Span → Type 0) (p : Part) → All P (spans (p ∷ [])) → P (guarded_region p)
 second P p all = All-head P (guarded_region p) [] (All-tail P (code_region p) (guarded_region p ∷ []) all)
 
+-- ---- a zone at zero
+
+format_told : (f : Format) → format_of (format_number f) ≡ f
+format_told Sfi1 = refl
+format_told Sfi2 = refl
+format_told Sfiw = refl
+
+-- the span lies clear of the zones with these ends
+abbrev Lies : List ℕ → Span → Type 0
+Lies ends s = All (λ end. IsClear end s) ends
+
+-- where the format has one step, the two spans of the second lie clear of the zone at zero of the first
+abbrev AreBothClear : Part → Part → Type 0
+AreBothClear p q = has_one_step p.format ≡ true → IsClear (zone_end p.data_size) (code_region q) × IsClear (zone_end p.data_size) (guarded_region q)
+
+lie_clear : (p q : Part) → AreBothClear p q → AreClear (zone_ends (p ∷ [])) (spans (q ∷ []))
+lie_clear p q both = by (has_one_step p.format) refl
+  where
+    by : (b : Bool) → has_one_step p.format ≡ b → AreClear (zone_ends (p ∷ [])) (spans (q ∷ []))
+    by true one_step =
+        let end = zone_end p.data_size in
+        let ends : end ∷ [] ≡ zone_ends (p ∷ []) = rw (one_step) refl in
+        let one = λ (s : Span) (clear : IsClear end s). All-cons (λ e. IsClear e s) end [] clear (All-nil (λ e. IsClear e s)) in
+        subst (λ (es : List ℕ). AreClear es (spans (q ∷ []))) ends (two (Lies (end ∷ [])) q (one (code_region q) (both one_step).0) (one (guarded_region q) (both one_step).1))
+    by false two_steps =
+        let none : [] ≡ zone_ends (p ∷ []) = rw (two_steps) refl in
+        subst (λ (es : List ℕ). AreClear es (spans (q ∷ []))) none (λ k d lt. All-nil _)
+
+both_clear : (p q : Part) → AreClear (zone_ends (p ∷ [])) (spans (q ∷ [])) → AreBothClear p q
+both_clear p q clear one_step =
+    let end = zone_end p.data_size in
+    let ends : zone_ends (p ∷ []) ≡ end ∷ [] = rw (one_step) refl in
+    let all = subst (λ (es : List ℕ). AreClear es (spans (q ∷ []))) ends clear in
+    (All-head (λ e. IsClear e (code_region q)) end [] (first (Lies (end ∷ [])) q all), All-head (λ e. IsClear e (guarded_region q)) end [] (second (Lies (end ∷ [])) q all))
+
+-- by what is told of the two
+told_clear : (p q : Part) (code init other_code other_init : ℕ) → IsToldClear (told_part p code init) (told_part q other_code other_init) ↔ AreClear (zone_ends (p ∷ [])) (spans (q ∷ []))
+told_clear p q code init other_code other_init =
+    let is = ap has_one_step (format_told p.format) in (
+      λ told. lie_clear p q (λ one_step. (told.code (is ∙ one_step), told.guarded (is ∙ one_step))),
+      λ clear. record { code = λ one_step. (both_clear p q clear (sym is ∙ one_step)).0; guarded = λ one_step. (both_clear p q clear (sym is ∙ one_step)).1 },
+    )
+
+-- ---- both
+
 pub beside : (bytes others : List ℕ) (number further : ℕ) (p q : Part) (one other : SfiPart) → (h : IsSandboxOf bytes number p) → (g : IsSandboxOf others further q)
     → Tells bytes h.parts number p one → Tells others g.parts further q other → AreToldApart one other ↔ AreBeside (p ∷ []) (q ∷ [])
 beside bytes others number further p q one other h g of_p of_q =
@@ -85,18 +133,22 @@ beside bytes others number further p q one other h g of_p of_q =
     rw (is, too) (
       λ apart. record {
         apart = two (λ (s : Span). All (λ (t : Span). AreApart s t) (spans (q ∷ []))) p
-            (two (AreApart (code_region p)) q apart.code_code apart.code_guarded) (two (AreApart (guarded_region p)) q apart.guarded_code apart.guarded_guarded);
-        clear = clear_of_no_zones (p ∷ []) (spans (q ∷ []));
-        other_clear = clear_of_no_zones (q ∷ []) (spans (p ∷ []));
+            (two (AreApart (code_region p)) q apart.regions.code_code apart.regions.code_guarded) (two (AreApart (guarded_region p)) q apart.regions.guarded_code apart.regions.guarded_guarded);
+        clear = (told_clear p q _ _ _ _).0 apart.clear;
+        other_clear = (told_clear q p _ _ _ _).0 apart.other_clear;
       },
       λ all.
           let code = first (λ (s : Span). All (λ (t : Span). AreApart s t) (spans (q ∷ []))) p all.apart in
           let guarded = second (λ (s : Span). All (λ (t : Span). AreApart s t) (spans (q ∷ []))) p all.apart in
           record {
-            code_code = first (AreApart (code_region p)) q code;
-            code_guarded = second (AreApart (code_region p)) q code;
-            guarded_code = first (AreApart (guarded_region p)) q guarded;
-            guarded_guarded = second (AreApart (guarded_region p)) q guarded;
+            regions = record {
+              code_code = first (AreApart (code_region p)) q code;
+              code_guarded = second (AreApart (code_region p)) q code;
+              guarded_code = first (AreApart (guarded_region p)) q guarded;
+              guarded_guarded = second (AreApart (guarded_region p)) q guarded;
+            };
+            clear = (told_clear p q _ _ _ _).1 all.clear;
+            other_clear = (told_clear q p _ _ _ _).1 all.other_clear;
           },
     )
 

@@ -1,12 +1,13 @@
 //! Whether two sandboxes lie apart, of one image or of two.
 ghost use Rattle.std.specs.Prelude.{◌≡◌, ◌+◌, ◌<◌, ◌^◌, ◌↔◌, IsTrue, List, ℕ, [], ◌∷◌};
 ghost use Rattle.sfi_image.specs.Spelling.{Part};
-ghost use Rattle.sfi_image.specs.Spelling.{AreApart};
+ghost use Rattle.sfi_image.specs.Spelling.{AreApart, IsClear, zone_end};
 ghost use Rattle.sfi_places.specs.Beside.{AreBeside};
-ghost use Rattle.sfi_c.specs.Moves.{told_code, told_guarded, AreToldApart};
+ghost use Rattle.sfi_c.specs.Moves.{told_code, told_guarded, AreRegionsToldApart, IsClearOfTold, IsToldClear, AreToldApart};
 ghost use Rattle.sfi_image.specs.Keeping.{IsSandboxOf};
 ghost use Rattle.sfi_c.specs.Parts.{Tells};
 
+use crate::numbers::format_numbered;
 use crate::part::SfiPart;
 use sfi_formats::GUARD;
 use sfi_image::Span;
@@ -46,8 +47,8 @@ fn are_apart(one: Span, other: Span) -> bool
 
 /// Whether each of the two regions of `one`, the data with guard zones, lies apart from each of
 /// `other`.
-fn are_parts_apart(one: &SfiPart, other: &SfiPart) -> bool
-    ensures { IsTrue result ↔ AreToldApart one.now other.now }
+fn are_regions_apart(one: &SfiPart, other: &SfiPart) -> bool
+    ensures { IsTrue result ↔ AreRegionsToldApart one.now other.now }
 {
     let code = code_span_of(one);
     let guarded = guarded_data_span_of(one);
@@ -65,8 +66,51 @@ fn are_parts_apart(one: &SfiPart, other: &SfiPart) -> bool
     are_apart(guarded, other_guarded)
 }
 
-/// Tells whether no region or guard zone of `one` has an address in common with one of `other`, by
-/// their bases and sizes alone.
+/// Whether the span lies clear of the zone at zero of data of this size.
+fn is_clear(data_size: u32, span: Span) -> bool
+    requires end { span.base + span.size < 2 ^ 34 }
+    ensures { IsTrue result ↔ IsClear (zone_end data_size) span }
+{
+    let guard = u64::from(GUARD);
+    u64::from(data_size) + guard <= span.base && span.base + span.size + guard <= 1 << 32
+}
+
+/// Whether the span lies clear of the sandbox's zone at zero, if its format has one.
+fn is_clear_of_zone(part: &SfiPart, span: Span) -> bool
+    requires end { span.base + span.size < 2 ^ 34 }
+    ensures { IsTrue result ↔ IsClearOfTold part.now span }
+{
+    if !format_numbered(part.format).has_one_step() {
+        return true;
+    }
+    is_clear(part.data_size, span)
+}
+
+/// Whether neither region of `other`, the data with guard zones, meets a zone at zero of `one`.
+fn is_clear_of(one: &SfiPart, other: &SfiPart) -> bool
+    ensures { IsTrue result ↔ IsToldClear one.now other.now }
+{
+    if !is_clear_of_zone(one, code_span_of(other)) {
+        return false;
+    }
+    is_clear_of_zone(one, guarded_data_span_of(other))
+}
+
+/// Whether no region or guard zone of one meets one of the other, nor a zone at zero of the other.
+fn are_parts_apart(one: &SfiPart, other: &SfiPart) -> bool
+    ensures { IsTrue result ↔ AreToldApart one.now other.now }
+{
+    if !are_regions_apart(one, other) {
+        return false;
+    }
+    if !is_clear_of(one, other) {
+        return false;
+    }
+    is_clear_of(other, one)
+}
+
+/// Tells whether no region or guard zone of one has an address in common with one of the other, nor
+/// with a zone at zero of the other, by their formats, bases and sizes alone.
 #[unsafe(no_mangle)]
 pub extern "C" fn sfi_c_apart(one: &SfiPart, other: &SfiPart) -> bool
     ensures apart { IsTrue result ↔ AreToldApart one.now other.now }

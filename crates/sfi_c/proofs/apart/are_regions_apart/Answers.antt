@@ -1,5 +1,5 @@
 use Rattle.std.proofs.Common.{refl}
-use Rattle.sfi_c.proofs.apart.are_parts_apart.Goals as goal
+use Rattle.sfi_c.proofs.apart.are_regions_apart.Goals as goal
 
 pub returns-then-not-are_apart : goal.returns-then-not-are_apart
 returns-then-not-are_apart c = (λ f. absurd cc, λ a. c.if-not-are_apart.ensures.1 (rw (c.code_span_of-code.ensures.is, c.code_span_of-other_code.ensures.is) a.code_code))
