@@ -76,14 +76,15 @@ pub fn is_one_bit(base: u32, size: u32) -> bool
 
 /// Tells whether the zone at zero of the data ends below the code and below the data, and its last
 /// addresses begin above the code.
-fn is_clear_of_zero(fields: &Fields) -> bool
-    ensures { IsTrue result ↔ IsClearOfZero (code_span fields.now) (data_span fields.now) }
+pub fn is_clear_of_zero(code_base: u32, code_size: u32, data_base: u32, data_size: u32) -> bool
+    ensures { IsTrue result ↔ IsClearOfZero (record { base = code_base; size = code_size })
+        (record { base = data_base; size = data_size }) }
 {
-    let end = zone_end(fields.data_size);
-    if end > u64::from(fields.code_base) || end > u64::from(fields.data_base) {
+    let end = zone_end(data_size);
+    if end > u64::from(code_base) || end > u64::from(data_base) {
         return false;
     }
-    u64::from(fields.code_base) + u64::from(fields.code_size) + GUARD <= TOP
+    u64::from(code_base) + u64::from(code_size) + GUARD <= TOP
 }
 
 /// Whether the data region may lie where it does.
@@ -107,7 +108,15 @@ fn has_room(fields: &Fields) -> bool
     if !has_guard_room(fields.data_base, fields.data_size) {
         return false;
     }
-    !fields.format.has_one_step() || is_clear_of_zero(fields)
+    if !fields.format.has_one_step() {
+        return true;
+    }
+    is_clear_of_zero(
+        fields.code_base,
+        fields.code_size,
+        fields.data_base,
+        fields.data_size,
+    )
 }
 
 /// Whether the address is a bundle start of the code region.

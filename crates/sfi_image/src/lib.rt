@@ -37,7 +37,7 @@ pub use bundle::BundlePlace;
 pub use byte_source::{ByteSource, ReadFault, ReaderSource};
 pub use cursor::{ImageCursor, PartView};
 pub use fault::{ImageFault, LayoutFault};
-pub use fields::{Fields, has_guard_room, is_region, with_guards};
+pub use fields::{Fields, has_guard_room, is_clear_of_zero, is_one_bit, is_region, with_guards};
 pub use image::Image;
 pub use layout_reader::LayoutReader;
 pub use lookup::sandbox_of;

@@ -301,7 +301,7 @@ linked_part_as given number b p q h =
         slots = c.slots;
         code_is = c.code_is;
       };
-      lies = record { word = l.word; code = l.code; «data» = l.«data»; guard_room = l.guard_room };
+      lies = record { word = l.word; code = l.code; «data» = l.«data»; one_bit = l.one_bit; guard_room = l.guard_room; zone_room = l.zone_room };
       is = ap (set_init b) h.is;
     }
 

@@ -12,7 +12,7 @@ use Rattle.sfi_rewrite.proofs.Sizes.{size_of-cons}
 use Rattle.sfi_formats.specs.Formats.{unit}
 use Rattle.sfi_formats.specs.declared.format.Format.TheVariants.{Sfi1, Sfi2, Sfiw}
 use Rattle.sfi_image.specs.Spelling.{Holds, spans}
-use Rattle.sfi_image.proofs.ClearZones.{no_one_bit, no_zone_room, clear_of_no_zones}
+use Rattle.sfi_image.proofs.ClearZones.{clear_of_no_zones}
 use Rattle.sfi_rewrite.specs.declared.placed.PlacedName.TheVariants.{Gate, Code, Data, Unknown}
 use Rattle.sfi_link.specs.declared.names.NameKind.{NameKind}
 use Rattle.sfi_link.specs.declared.names.NameKind.TheVariants as kind
@@ -123,9 +123,9 @@ right_with given number p code placed made lies =
       code_base = lies.word;
       code_placed = lies.code;
       data_placed = lies.«data»;
-      one_bit = no_one_bit p.format (place_of given number).data_base p.data_size;
+      one_bit = lies.one_bit;
       guard_room = lies.guard_room;
-      zone_room = no_zone_room p.format _ _;
+      zone_room = lies.zone_room;
       start = record { held = (omega arith, omega arith); aligned = omega arith };
       gate_count = omega arith;
       init_len = omega arith;

@@ -10,7 +10,9 @@ use Rattle.std.proofs.Math.Nat.{pow-suc}
 use Rattle.std.proofs.lemmas.List.{append-nil, append_assoc}
 use Rattle.sfi_image.specs.Spelling as image
 use Rattle.sfi_link.specs.declared.fault.LinkFault.TheVariants as named
-use Rattle.sfi_image.proofs.Deciding.{Decided, decided_both, decided_lt, decided_pairs, decided_apart, decided_region, decided_guard_room}
+use Rattle.sfi_image.proofs.Deciding.{Decided, decided_both, decided_lt, decided_pairs, decided_apart, decided_region, decided_guard_room, decided_one_bit, decided_clear}
+use Rattle.sfi_formats.specs.Formats.{has_one_step}
+use Rattle.std.specs.Prelude.{Bool, true, false}
 use Rattle.sfi_link.proofs.OneLinking.{one_size}
 use Rattle.sfi_link.proofs.Bytes.{length_stubs}
 use Rattle.sfi_formats.proofs.Facts.{limits_are_small}
@@ -145,11 +147,23 @@ part_made given number p before size bytes sized lies apart slots =
       apart = subst (λ n. AllPairs AreApart (before ++ spans_at p n (place_of given number))) (sym whole) apart;
     }
 
+-- what is asked under a condition
+decided_where : {P : Type 0} (b : Bool) → Decided P → Decided (b ≡ true → P)
+decided_where true (inl p) = inl (λ is. p)
+decided_where true (inr not) = inr (λ f. not (f refl))
+decided_where false d = inl (λ is. absurd cc)
+
 right_place : (p : Placement) (size : ℕ) (place : Place) → Decided (IsRightPlace p size place)
 right_place p size place =
-    elim (decided_both (decided_both (decided_lt place.code_base 4294967296) (decided_region place.code_base size 256 (code_most p.format))) (decided_both (decided_region place.data_base p.data_size 256 (data_most p.format)) (decided_guard_room place.data_base p.data_size))) [
-      | inl all ↦ inl (record { word = all.0.0; code = all.0.1; «data» = all.1.0; guard_room = all.1.1 })
-      | inr not ↦ inr (λ r. not ((r.word, r.code), (r.«data», r.guard_room)))
+    let one_step = has_one_step p.format in
+    let code_at : Span = record { base = place.code_base; size = size } in
+    let data_at : Span = record { base = place.data_base; size = p.data_size } in
+    let regions = decided_both (decided_both (decided_lt place.code_base 4294967296) (decided_region place.code_base size 256 (code_most p.format)))
+    (decided_both (decided_region place.data_base p.data_size 256 (data_most p.format)) (decided_guard_room place.data_base p.data_size)) in
+    let masks = decided_both (decided_where one_step (decided_one_bit place.data_base p.data_size)) (decided_where one_step (decided_clear code_at data_at)) in
+    elim (decided_both regions masks) [
+      | inl all ↦ inl (record { word = all.0.0.0; code = all.0.0.1; «data» = all.0.1.0; one_bit = all.1.0; guard_room = all.0.1.1; zone_room = all.1.1 })
+      | inr not ↦ inr (λ r. not (((r.word, r.code), (r.«data», r.guard_room)), (r.one_bit, r.zone_room)))
     ]
 
 -- with its code of that size, the sandbox may lie at its place, or not

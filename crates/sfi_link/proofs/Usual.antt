@@ -1,6 +1,9 @@
 -- Sandboxes at their usual places never meet, so none has a fault of its place.
 use Rattle.sfi_link.proofs.Prelude.{◌≡◌, ℕ, ◌+◌, ◌-◌, ◌*◌, ◌^◌, ◌<◌, ◌≤◌, Vec, Global, Result, Err, List, [], ◌∷◌, ◌++◌, length, get_or, sym, ap, ◌∙◌, subst, arith, inl, inr, All, AllPairs, All-nil, All-cons, All-head, All-tail, All-append, Span, Part, AreApart, spans, with_guards, BundleSlot, Wide, Short, Jump, PlacedName, slot_size, Placement, IsPlacedPart, IsPlaced, Bases, LinkFault, Place, IsRightPlace, spans_at, needed, HasRoom, IsCodeSize, IsLinked, MayLie, HasSlotFault, IsSlotFault, HasPartFault, IsPartFault, IsLinkFault, Links}
-use Rattle.std.specs.Prelude.{◌≢◌}
+use Rattle.std.specs.Prelude.{◌≢◌, true}
+use Rattle.std.proofs.lemmas.Bool.{false≢true}
+use Rattle.sfi_formats.specs.Formats.{has_one_step}
+use Rattle.sfi_formats.proofs.Formats.{two_steps}
 use Rattle.std.proofs.lemmas.Nat.{pow-add}
 use Rattle.sfi_formats.specs.Places.{usual}
 use Rattle.sfi_image.proofs.Regions.{exponent_le}
@@ -49,9 +52,15 @@ usual_right p number size few right room =
         multiple = 2 ^ (23 - sized.power) * (2 * number + 3);
         base_is = odd number ∙ region_at p.data_size sized.power 23 (2 * number + 3) sized.size_is (omega arith);
       };
+      one_bit = λ one_step. none one_step;
       guard_room = record { below = omega arith; above = omega arith };
+      zone_room = λ one_step. none one_step;
     }
   where
+    -- as long as no format has one step: a usual place has two bits
+    none : {P : Type 0} → has_one_step p.format ≡ true → P
+    none one_step = absurd (false≢true (sym (two_steps p.format) ∙ one_step))
+
     odd : (n : ℕ) → 0x01000000 * (n + 1) + 0x00800000 ≡ 2 ^ 23 * (2 * n + 3)
     odd n = omega arith
 

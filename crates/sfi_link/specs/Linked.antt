@@ -3,7 +3,7 @@ use Rattle.std.specs.Prelude.{ℕ, List, [], ◌∷◌, ◌≡◌, ◌+◌, ◌*
 use Rattle.std.specs.Global.{Global}
 use Rattle.sfi_image.specs.declared.span.Span.{Span}
 use Rattle.sfi_image.specs.Spelling.{IsWord, Part, spelling, with_guards, AreApart, spans}
-use Rattle.sfi_image.specs.Parts.{IsCodeRegion, IsDataRegion, HasGuardRoom, IsImage}
+use Rattle.sfi_image.specs.Parts.{IsCodeRegion, IsDataRegion, IsMaskedBase, HasGuardRoom, HasZoneRoom, IsImage}
 use Rattle.sfi_formats.specs.declared.place.Place.{Place}
 use Rattle.sfi_rewrite.specs.Placement.{Placement, IsPlacement}
 use Rattle.std.specs.List.{repeat, AllPairs, AllZip}
@@ -24,12 +24,16 @@ use Rattle.sfi_rules.specs.Findings.{AreImageFindings}
 -- ==== Where a placed sandbox may lie.
 
 -- its code, of that size, and its data may begin there: each a multiple of its region's size, with
--- room for the guard zones round the data
+-- room for the guard zones round the data, and where masks of data have one step, with data that
+-- begin at a single bit, and both regions clear of the zone at zero
 pub record IsRightPlace (p : Placement) (size : ℕ) (place : Place) : Type 0 where
   pub word : IsWord place.code_base
   pub code : IsCodeRegion p.format place.code_base size
   pub «data» : IsDataRegion p.format place.data_base p.data_size
+  pub one_bit : IsMaskedBase p.format place.data_base p.data_size
   pub guard_room : HasGuardRoom place.data_base p.data_size
+  pub zone_room : HasZoneRoom p.format (record { base = place.code_base; size = size })
+      (record { base = place.data_base; size = p.data_size })
 
 -- its two spans there: the code, and the data with a guard zone on each side
 abbrev pub spans_at : Placement → ℕ → Place → List Span

@@ -4,13 +4,32 @@ ghost use Rattle.std.specs.Bool.{OnTrue, OnFalse};
 ghost use Rattle.std.specs.List.{All, AllPairs};
 ghost use Rattle.sfi_image.specs.Sources.{IsBounded};
 ghost use Rattle.sfi_image.specs.Spelling.{AreApart};
+ghost use Rattle.sfi_image.specs.Parts.{IsMaskedBase, HasZoneRoom};
 ghost use Rattle.sfi_link.specs.Linked.{IsRightPlace, spans_at};
 ghost use Rattle.sfi_link.specs.private.{LiesBeside};
 
-use sfi_formats::{Place, REGION_LEAST};
-use sfi_image::{Span, are_all_apart, has_guard_room, is_region, with_guards};
+use sfi_formats::{Format, Place, REGION_LEAST};
+use sfi_image::{
+    Span, are_all_apart, has_guard_room, is_clear_of_zero, is_one_bit, is_region, with_guards,
+};
 use sfi_rewrite::PlacedPart;
 use std::alloc::AllocError;
+
+/// Whether the masks of the format fit data of `data_size` bytes at `place`, and code of `size` bytes
+/// lies clear of their zone at zero, if there is one.
+fn suits_masks(format: Format, size: u32, place: Place, data_size: u32) -> bool
+    ensures { IsTrue result ↔ (IsMaskedBase format place.data_base data_size
+        × HasZoneRoom format (record { base = place.code_base; size = size })
+        (record { base = place.data_base; size = data_size })) }
+{
+    if !format.has_one_step() {
+        return true;
+    }
+    if !is_one_bit(place.data_base, data_size) {
+        return false;
+    }
+    is_clear_of_zero(place.code_base, size, place.data_base, data_size)
+}
 
 /// Whether the sandbox may lie at `place` by itself, with a code region of `size` bytes.
 fn is_right_place(part: &PlacedPart, size: u32, place: Place) -> bool
@@ -33,7 +52,10 @@ fn is_right_place(part: &PlacedPart, size: u32, place: Place) -> bool
     ) {
         return false;
     }
-    has_guard_room(place.data_base, data_size)
+    if !has_guard_room(place.data_base, data_size) {
+        return false;
+    }
+    suits_masks(part.format(), size, place, data_size)
 }
 
 /// Whether the sandbox may lie at `place`, with a code region of `size` bytes, apart from `spans`.
