@@ -1,5 +1,5 @@
 -- Where zones at zero end, by the spans that a reader keeps, and which spans lie clear of them.
-use Rattle.sfi_image.proofs.Prelude.{◌≡◌, ℕ, zero, suc, ◌+◌, ◌-◌, ◌*◌, ◌/◌, ◌<◌, ◌≤◌, ◌↔◌, Bool, true, false, List, [], ◌∷◌, ◌++◌, length, get_or, take, refl, sym, ap, ◌∙◌, subst, arith, All, All-nil, All-cons, All-push, All-head, All-tail, All-append, cases_lt, inl, inr, take_more, take_all, has_one_step, Format, Fields, Span, Part, fields_of, spans, spans_of, code_span, guarded_span, AreOf, IsClear, AreClear, AreRight, IsMaskedBase, HasZoneRoom, zone_end, zone_ends_of, zone_ends, length_push}
+use Rattle.sfi_image.proofs.Prelude.{◌≡◌, ℕ, zero, suc, ◌+◌, ◌-◌, ◌*◌, ◌/◌, ◌<◌, ◌≤◌, ◌↔◌, Bool, true, false, List, [], ◌∷◌, ◌++◌, length, get_or, take, refl, sym, ap, ◌∙◌, subst, arith, All, All-nil, All-cons, All-push, All-head, All-tail, All-append, cases_lt, inl, inr, take_more, take_all, has_one_step, Format, Fields, Span, Part, fields_of, spans, spans_of, code_span, guarded_span, AreOf, IsClear, AreClear, AreRight, zone_end, zone_ends_of, zone_ends, length_push}
 use Rattle.std.specs.Prelude.{max, cond}
 use Rattle.std.proofs.Math.Nat.{le-max_left, le-max_right, max-le, max-eq_left, max-eq_right}
 use Rattle.std.specs.Ordering.{ord_max, nat_cmp, is_lt}
@@ -9,7 +9,6 @@ use Rattle.std.specs.declared.cmp.Ordering.TheVariants.{Less, Equal, Greater}
 use Rattle.sfi_image.specs.private.{ends_below}
 use Rattle.sfi_image.proofs.Tests.{All-front}
 use Rattle.sfi_formats.proofs.Formats.{two_steps}
-use Rattle.std.proofs.lemmas.Bool.{false≢true}
 
 -- the elements at the end have what all have
 pub All-rest : {X : Type 0} (P : X → Type 0) (xs ys : List X) → All P (xs ++ ys) → All P ys
@@ -166,13 +165,7 @@ others_right p ps right = record {
   clear = clear_of_rest (zone_ends_of (fields_of p)) (zone_ends ps) (spans ps) (All-rest (Lies (zone_ends (p ∷ ps))) (spans_of (fields_of p)) (spans ps) right.clear);
 }
 
--- ---- as long as no format has one step: what isn't made for zones at zero rests on these alone
-
-pub no_one_bit : (format : Format) (base size : ℕ) → IsMaskedBase format base size
-no_one_bit format base size one_step = absurd (false≢true (sym (two_steps format) ∙ one_step))
-
-pub no_zone_room : (format : Format) (code_at data_at : Span) → HasZoneRoom format code_at data_at
-no_zone_room format code_at data_at one_step = absurd (false≢true (sym (two_steps format) ∙ one_step))
+-- ---- as long as no format has one step: what the linker places rests on this
 
 pub clear_of_no_zones : (ps : List Part) (ss : List Span) → AreClear (zone_ends ps) ss
 clear_of_no_zones [] ss = λ k d lt. All-nil _
