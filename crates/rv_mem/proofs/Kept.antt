@@ -1,54 +1,21 @@
--- Frames that pages share, and the room that is kept for frames of their own.
-use Rattle.rv_mem.proofs.Prelude.{◌^◌, ◌≡◌, ◌≢◌, ℕ, zero, suc, ◌+◌, ◌-◌, ◌*◌, ◌/◌, ◌%◌, ◌<◌, ◌≤◌, ◌==◌, inl, inr, true, false, cond, length, List, [], ◌∷◌, Option, Some, None, IsSome, Result, Ok, Err, OnOk, refl, sym, ap, ◌∙◌, subst, arith, set, slice_index, nat_lt, get_or-set_other, get_or-set_same, byte_at, run_of, frame_of, cell, cell_at, ArePages, values_of}
-use Rattle.std.specs.Result.{IsOk}
+-- Frames that pages share, and those of their own.
+use Rattle.rv_mem.proofs.Prelude.{◌^◌, ◌≡◌, ◌≢◌, ℕ, ◌+◌, ◌-◌, ◌*◌, ◌/◌, ◌%◌, ◌<◌, ◌≤◌, ◌==◌, inl, inr, true, false, cond, length, List, [], ◌∷◌, Option, Some, None, IsSome, Result, Ok, Err, OnOk, refl, sym, ap, ◌∙◌, subst, arith, set, slice_index, nat_lt, get_or-set_other, byte_at, run_of, Puts, frame_of, cell, cell_at, ArePages, values_of}
+use Rattle.std.specs.Result.{IsOk, OnErr}
 use Rattle.rv_mem.specs.private.Frames.{GainsFrame, kept_for, kept_in}
 use Rattle.std.proofs.Math.ListN.{length-set}
 use Rattle.std.proofs.lemmas.Bool.{cases_eq, cases_lt}
 use Rattle.std.proofs.lemmas.List.{get_or_past}
+use Rattle.rv_mem.proofs.Counts.{kept_same, kept_first, kept_cleared, kept_taken, put_here, either, set_puts, set_is, number_there}
 use Rattle.rv_mem.proofs.Paging.{is_marked, unmarked, no_frame, get_pages, same_values, within}
-
--- ---- how many frames room is kept for
-
-pub kept_own : (n : ℕ) → 2 < n → kept_for n ≡ 0
-kept_own zero h = refl
-kept_own (suc zero) h = absurd (omega arith)
-kept_own (suc (suc zero)) h = absurd (omega arith)
-kept_own (suc (suc (suc n))) h = refl
-
-pub kept_shared : (n : ℕ) → n ≢ 0 → n ≤ 2 → kept_for n ≡ 1
-kept_shared zero some few = absurd (some refl)
-kept_shared (suc zero) some few = refl
-kept_shared (suc (suc zero)) some few = refl
-kept_shared (suc (suc (suc n))) some few = absurd (omega arith)
-
--- one number is set
-pub kept_set : (t : List ℕ) (p n : ℕ) → p < length t → kept_in (set t p n) + kept_for (slice_index t p) ≡ kept_in t + kept_for n
-kept_set [] p n h = absurd (omega arith)
-kept_set (x ∷ t) zero n h = omega arith
-kept_set (x ∷ t) (suc p) n h = let more = kept_set t p n (omega arith) in omega (arith, more)
-
--- numbers that are 0 keep no room
-kept_none : (t : List ℕ) → ((k : ℕ) → slice_index t k ≡ 0) → kept_in t ≡ 0
-kept_none [] z = refl
-kept_none (x ∷ t) z =
-    let first : x ≡ 0 = z 0 in
-    let more = kept_none t (λ k. z (suc k)) in
-    let here : kept_for x ≡ 0 = ap kept_for first in
-    omega (arith, here, more)
-
-pub kept_same : (t u : List ℕ) → ((k : ℕ) → slice_index t k ≡ slice_index u k) → kept_in t ≡ kept_in u
-kept_same [] u e = sym (kept_none u (λ k. sym (e k)))
-kept_same (x ∷ t) [] e = kept_none (x ∷ t) (λ k. e k)
-kept_same (x ∷ t) (y ∷ u) e =
-    let first : x ≡ y = e 0 in
-    let more = kept_same t u (λ k. e (suc k)) in
-    let here : kept_for x ≡ kept_for y = ap kept_for first in
-    omega (arith, here, more)
 
 -- what holds of a value, where there is one
 pub of_value : {A E : Type 0} (r : Result A E) (P : Type 0) → OnOk r P → IsOk r → P
 of_value (Ok x) P p is = p
 of_value (Err x) P p is = absurd (cc)
+
+pub on_error : {A E : Type 0} (r : Result A E) (P : Type 0) → P → OnErr r P
+on_error (Ok x) P p = tt
+on_error (Err x) P p = p
 
 -- ---- one frame more
 
@@ -115,10 +82,6 @@ module _ (t c d e g : List ℕ) (are : ArePages t c) (none : length c ≡ 0) (fi
       let zero_number : slice_index t (q / 512) ≡ 0 = get_or_past t (q / 512) 0 (omega (arith, no)) in
       no_frame t g first_frames q zero_number ∙ sym (no_frame t c are q zero_number)
 
--- a page with a number is in the table
-pub number_there : (t : List ℕ) (page : ℕ) → slice_index t page ≢ 0 → page < length t
-number_there = within
-
 -- and where a table has a page, there are cells
 pub table_cells : (t c : List ℕ) → ArePages t c → (page : ℕ) → page < length t → 0 < length c
 table_cells t c are page room = let f = are.frames page room in omega (arith, f)
@@ -132,49 +95,36 @@ three_frames t c are some =
     let w = within c (2560 + 511) (λ e. let x : 0 ≡ 1 = sym e ∙ m in absurd (omega arith)) in
     omega (arith, w)
 
--- the number that is set, and the others
-pub set_is : (t : List ℕ) (page number p : ℕ) → page < length t → p ≡ page → slice_index (set t page number) p ≡ number
-set_is t page number p room e = ap (slice_index (set t page number)) e ∙ get_or-set_same t page number 0 room
-
-module _ (t c : List ℕ) (are : ArePages t c) (page number : ℕ) (some : 0 < length c) (room : page < length t) (shared : number ≤ 2) where
-  pub shared_set : ArePages (set t page number) c
-  shared_set = record {
-    count = (let s = length-set t page number in let b = are.count in omega (arith, s, b));
+-- n pages from page p on get such a number
+module _ (t u c : List ℕ) (are : ArePages t c) (p n number : ℕ) (some : 0 < length c) (shared : number ≤ 2) (puts : Puts t u p n (λ j. number)) where
+  pub shared_put : ArePages u c
+  shared_put = record {
+    count = (let s = puts.size in let b = are.count in omega (arith, s, b));
     whole = are.whole;
-    frames = frames_of;
+    frames = λ k h. elim (either t u p n number puts k) [
+      | inl e ↦ (let three = three_frames t c are some in omega (arith, e, three, shared))
+      | inr e ↦ (let s = puts.size in let f = are.frames k (omega (arith, s, h)) in omega (arith, e, f))
+    ];
     none = are.none;
     kept = are.kept;
     zeros = are.zeros;
     marks = are.marks;
-    apart = apart_of;
+    apart = λ k o same own. elim (either t u p n number puts k) [
+      | inl e ↦ absurd (omega (arith, e, own, shared))
+      | inr e ↦ elim (either t u p n number puts o) [
+        | inl f ↦ absurd (omega (arith, f, own, same, shared))
+        | inr f ↦ are.apart k o (sym e ∙ same ∙ f) (omega (arith, e, own))
+      ]
+    ];
     bytes = are.bytes;
   }
-    where
-      frames_of : (p : ℕ) → p < length (set t page number) → (slice_index (set t page number) p + 1) * 1024 ≤ length c
-      frames_of p h = elim (cases_eq p page) [
-        | inl e ↦ (let v = set_is t page number p room e in let three = three_frames t c are some in omega (arith, v, three, shared))
-        | inr other ↦
-            let v = get_or-set_other t page p number 0 other in
-            let s = length-set t page number in
-            let f = are.frames p (omega (arith, s, h)) in
-            omega (arith, v, f)
-      ]
-
-      apart_of : (p o : ℕ) → slice_index (set t page number) p ≡ slice_index (set t page number) o → 2 < slice_index (set t page number) p → p ≡ o
-      apart_of p o same own = elim (cases_eq p page) [
-        | inl e ↦ (let v = set_is t page number p room e in absurd (omega (arith, v, own, shared)))
-        | inr other ↦ elim (cases_eq o page) [
-          | inl f ↦ (let v = set_is t page number o room f in absurd (omega (arith, v, own, same, shared)))
-          | inr further ↦
-              let v = get_or-set_other t page p number 0 other in
-              let w = get_or-set_other t page o number 0 further in
-              are.apart p o (sym v ∙ same ∙ w) (omega (arith, v, own))
-        ]
-      ]
 
   -- other pages have what they had
-  pub elsewhere : (q : ℕ) → q / 512 ≢ page → cell_at (set t page number) c q ≡ cell_at t c q
-  elsewhere q other = ap (λ (x : ℕ). cell c (x * 1024 + q % 512)) (get_or-set_other t page (q / 512) number 0 other)
+  pub before_run : (q : ℕ) → q / 512 < p → cell_at u c q ≡ cell_at t c q
+  before_run q h = ap (λ (x : ℕ). cell c (x * 1024 + q % 512)) (puts.below (q / 512) h)
+
+  pub past_run : (q : ℕ) → p + n ≤ q / 512 → cell_at u c q ≡ cell_at t c q
+  past_run q h = ap (λ (x : ℕ). cell c (x * 1024 + q % 512)) (puts.past (q / 512) h)
 
 -- a page of number 1 has no byte
 pub kept_cell : (t c : List ℕ) → ArePages t c → (q : ℕ) → slice_index t (q / 512) ≡ 1 → cell_at t c q ≡ None
@@ -182,41 +132,6 @@ kept_cell t c are q e =
     let k : frame_of t q + q % 512 + 512 ≡ 1536 + q % 512 = omega (arith, e) in
     let z : slice_index c (frame_of t q + q % 512 + 512) ≡ 0 = ap (slice_index c) k ∙ are.kept (q % 512) (omega arith) in
     unmarked c (frame_of t q + q % 512) (λ o. let w : 0 ≡ 1 = sym z ∙ o in absurd (omega arith))
-
--- room for a frame of a page that has a number is kept, whichever of these it gets
-pub kept_moved : (t : List ℕ) (page number : ℕ) → slice_index t page ≢ 0 → slice_index t page ≤ 2 → number ≢ 0 → number ≤ 2 → kept_in (set t page number) ≡ kept_in t
-kept_moved t page number some few more least =
-    let s = kept_set t page number (number_there t page some) in
-    let a = kept_shared (slice_index t page) some few in
-    let b = kept_shared number more least in
-    omega (arith, s, a, b)
-
--- where a page keeps room, it is that for one frame at least
-counts_one : (t : List ℕ) (page : ℕ) → page < length t → kept_for (slice_index t page) ≤ kept_in t
-counts_one [] page h = absurd (omega arith)
-counts_one (x ∷ t) zero h = omega arith
-counts_one (x ∷ t) (suc page) h = let more = counts_one t page (omega arith) in omega (arith, more)
-
-pub keeps_one : (t : List ℕ) (page : ℕ) → slice_index t page ≢ 0 → slice_index t page ≤ 2 → 1 ≤ kept_in t
-keeps_one t page some few =
-    let all = counts_one t page (number_there t page some) in
-    let one = kept_shared (slice_index t page) some few in
-    omega (arith, all, one)
-
--- it is taken by a frame of its own
-pub kept_taken : (t : List ℕ) (page number : ℕ) → slice_index t page ≢ 0 → slice_index t page ≤ 2 → 2 < number → kept_in (set t page number) + 1 ≡ kept_in t
-kept_taken t page number some few own =
-    let s = kept_set t page number (number_there t page some) in
-    let a = kept_shared (slice_index t page) some few in
-    let b = kept_own number own in
-    omega (arith, s, a, b)
-
--- and kept for a page that gets a number
-pub kept_more : (t : List ℕ) (page : ℕ) → page < length t → slice_index t page ≡ 0 → kept_in (set t page 1) ≡ kept_in t + 1
-kept_more t page room none =
-    let s = kept_set t page 1 room in
-    let a : kept_for (slice_index t page) ≡ 0 = ap kept_for none in
-    omega (arith, s, a)
 
 -- one of number 2 has zeros
 pub zero_cell : (t c : List ℕ) → ArePages t c → 0 < length c → (q : ℕ) → slice_index t (q / 512) ≡ 2 → cell_at t c q ≡ Some 0
@@ -226,32 +141,32 @@ zero_cell t c are some q e =
     let one : slice_index c (frame_of t q + q % 512 + 512) ≡ 1 = ap (slice_index c) k ∙ are.marks (q % 512) (omega arith) some in
     is_marked c (frame_of t q + q % 512) one ∙ ap Some (ap (slice_index c) j ∙ are.zeros (q % 512) (omega arith))
 
--- a page with a number gets number 1 in place of 0
-pub numbered_same : (t c : List ℕ) → ArePages t c → (page : ℕ) → 0 < length c → page < length t → slice_index t page ≡ 0 → (q : ℕ) → cell_at (set t page 1) c q ≡ cell_at t c q
-numbered_same t c are page some room none q = elim (cases_eq (q / 512) page) [
-  | inl e ↦
-      kept_cell (set t page 1) c (shared_set t c are page 1 some room (omega arith)) q (set_is t page 1 (q / 512) room e)
-      ∙ sym (no_frame t c are q (ap (slice_index t) e ∙ none))
-  | inr other ↦ elsewhere t c are page 1 some room (omega arith) q other
+-- pages without a number get number 1
+numbered_same : (t u c : List ℕ) → ArePages t c → (p n : ℕ) → 0 < length c → ((j : ℕ) → j < n → slice_index t (p + j) ≡ 0) → Puts t u p n (λ j. 1) → (q : ℕ) → cell_at u c q ≡ cell_at t c q
+numbered_same t u c are p n some none puts q = elim (cases_lt (q / 512) p) [
+  | inl h ↦ before_run t u c are p n 1 some (omega arith) puts q h
+  | inr h ↦ elim (cases_lt (q / 512) (p + n)) [
+    | inl l ↦
+        let z : q / 512 ≡ p + (q / 512 - p) = omega (arith, h) in
+        kept_cell u c (shared_put t u c are p n 1 some (omega arith) puts) q (put_here t u p n 1 puts (q / 512) h l)
+        ∙ sym (no_frame t c are q (ap (slice_index t) z ∙ none (q / 512 - p) (omega (arith, h, l))))
+    | inr l ↦ past_run t u c are p n 1 some (omega arith) puts q l
+  ]
 ]
 
--- a page gets zeros
-pub zeros_shared : (t c : List ℕ) → ArePages t c → (page : ℕ) → 0 < length c → page < length t → (q : ℕ)
-    → cell_at (set t page 2) c q ≡ run_of (page * 512) 512 [] 0 q (cell_at t c q)
-zeros_shared t c are page some room q = elim (nat_lt q (page * 512)) as (λ r. nat_lt q (page * 512) ≡ r → cell_at (set t page 2) c q ≡ cond r (cell_at t c q) (cond (nat_lt q (page * 512 + 512)) (Some (slice_index [] (0 + (q - page * 512)))) (cell_at t c q))) [
-  | true ↦ λ r. let h : q < page * 512 = grind arith in other (omega (arith, h))
-  | false ↦ λ r. elim (nat_lt q (page * 512 + 512)) as (λ s. nat_lt q (page * 512 + 512) ≡ s → cell_at (set t page 2) c q ≡ cond s (Some (slice_index [] (0 + (q - page * 512)))) (cell_at t c q)) [
+-- pages get zeros
+zeros_shared : (t u c : List ℕ) → ArePages t c → (p n : ℕ) → 0 < length c → Puts t u p n (λ j. 2) → (q : ℕ)
+    → cell_at u c q ≡ run_of (p * 512) (n * 512) [] 0 q (cell_at t c q)
+zeros_shared t u c are p n some puts q = elim (nat_lt q (p * 512)) as (λ r. nat_lt q (p * 512) ≡ r → cell_at u c q ≡ cond r (cell_at t c q) (cond (nat_lt q (p * 512 + n * 512)) (Some (slice_index [] (0 + (q - p * 512)))) (cell_at t c q))) [
+  | true ↦ λ r. let h : q < p * 512 = grind arith in before_run t u c are p n 2 some (omega arith) puts q (omega (arith, h))
+  | false ↦ λ r. elim (nat_lt q (p * 512 + n * 512)) as (λ s. nat_lt q (p * 512 + n * 512) ≡ s → cell_at u c q ≡ cond s (Some (slice_index [] (0 + (q - p * 512)))) (cell_at t c q)) [
     | true ↦ λ s.
-        let h : page * 512 ≤ q = grind arith in
-        let l : q < page * 512 + 512 = grind arith in
-        let e : q / 512 ≡ page = omega (arith, h, l) in
-        zero_cell (set t page 2) c (shared_set t c are page 2 some room (omega arith)) some q (set_is t page 2 (q / 512) room e)
-    | false ↦ λ s. let h : page * 512 + 512 ≤ q = grind arith in other (omega (arith, h))
+        let h : p * 512 ≤ q = grind arith in
+        let l : q < p * 512 + n * 512 = grind arith in
+        zero_cell u c (shared_put t u c are p n 2 some (omega arith) puts) some q (put_here t u p n 2 puts (q / 512) (omega (arith, h)) (omega (arith, l)))
+    | false ↦ λ s. let h : p * 512 + n * 512 ≤ q = grind arith in past_run t u c are p n 2 some (omega arith) puts q (omega (arith, h))
   ] refl
 ] refl
-  where
-    other : q / 512 ≢ page → cell_at (set t page 2) c q ≡ cell_at t c q
-    other h = elsewhere t c are page 2 some room (omega arith) q h
 
 -- zeros over a page of zeros
 pub zeros_stay : (t c : List ℕ) → ArePages t c → (at n : ℕ) → at % 512 + n ≤ 512 → 0 < length c → slice_index t (at / 512) ≡ 2 → (q : ℕ)
@@ -268,9 +183,30 @@ zeros_stay t c are at n room some is q = elim (nat_lt q at) as (λ r. nat_lt q a
   ] refl
 ] refl
 
--- past its end a list has zeros
-pub zeros_past : (at n q : ℕ) (f : List ℕ) (k : ℕ) (o : Option ℕ) → length f ≤ k → run_of at n f k q o ≡ run_of at n [] 0 q o
-zeros_past at n q f k o past = ap (λ (x : ℕ). cond (nat_lt q at) o (cond (nat_lt q (at + n)) (Some x) o)) (get_or_past f (k + (q - at)) 0 (omega (arith, past)))
+-- bytes that are zeros, as those past the end of a list are
+pub zeros_run : (at n q : ℕ) (f : List ℕ) (k : ℕ) (o : Option ℕ) → ((j : ℕ) → j < n → slice_index f (k + j) ≡ 0) → run_of at n f k q o ≡ run_of at n [] 0 q o
+zeros_run at n q f k o none = elim (nat_lt q at) as (λ r. nat_lt q at ≡ r → cond r o (cond (nat_lt q (at + n)) (Some (slice_index f (k + (q - at)))) o) ≡ cond r o (cond (nat_lt q (at + n)) (Some (slice_index [] (0 + (q - at)))) o)) [
+  | true ↦ λ r. refl
+  | false ↦ λ r. elim (nat_lt q (at + n)) as (λ s. nat_lt q (at + n) ≡ s → cond s (Some (slice_index f (k + (q - at)))) o ≡ cond s (Some (slice_index [] (0 + (q - at)))) o) [
+    | true ↦ λ s.
+        let h : at ≤ q = grind arith in
+        let l : q < at + n = grind arith in
+        ap Some (none (q - at) (omega (arith, h, l)))
+    | false ↦ λ s. refl
+  ] refl
+] refl
+
+pub run_none : (at q : ℕ) (f : List ℕ) (k : ℕ) (o : Option ℕ) → o ≡ run_of at 0 f k q o
+run_none at q f k o = elim (nat_lt q at) as (λ r. nat_lt q at ≡ r → o ≡ cond r o (cond (nat_lt q (at + 0)) (Some (slice_index f (k + (q - at)))) o)) [
+  | true ↦ λ r. refl
+  | false ↦ λ r. elim (nat_lt q (at + 0)) as (λ s. nat_lt q (at + 0) ≡ s → o ≡ cond s (Some (slice_index f (k + (q - at)))) o) [
+    | true ↦ λ s.
+        let h : at ≤ q = grind arith in
+        let l : q < at + 0 = grind arith in
+        absurd (omega (arith, h, l))
+    | false ↦ λ s. refl
+  ] refl
+] refl
 
 -- ---- a page gets a frame of its own
 
@@ -427,28 +363,35 @@ more_pages t u c are some same few = (all, same_values u c t c all are (λ q. ap
       bytes = are.bytes;
     }
 
+pub zeros_put : (t u d : List ℕ) → ArePages t d → (p n : ℕ) → 0 < length d → ((j : ℕ) → j < n → kept_for (slice_index t (p + j)) ≡ 1) → Puts t u p n (λ j. 2)
+    → ArePages u d × ((q : ℕ) → byte_at (values_of (cell_at u d)) q ≡ run_of (p * 512) (n * 512) [] 0 q (byte_at (values_of (cell_at t d)) q)) × (kept_in u ≡ kept_in t)
+zeros_put t u d are p n some one puts =
+    let all = shared_put t u d are p n 2 some (omega arith) puts in (
+      all,
+      λ q.
+          get_pages u d all q ∙ zeros_shared t u d are p n some puts q
+          ∙ ap (λ (o : Option ℕ). run_of (p * 512) (n * 512) [] 0 q o) (sym (get_pages t d are q)),
+      kept_cleared t u p n one puts,
+    )
+
 pub zeros_set : (t u d : List ℕ) → ArePages t d → (page : ℕ) → slice_index t page ≡ 1 → u ≡ set t page 2
     → ArePages u d × ((q : ℕ) → byte_at (values_of (cell_at u d)) q ≡ run_of (page * 512) 512 [] 0 q (byte_at (values_of (cell_at t d)) q)) × (kept_in u ≡ kept_in t)
 zeros_set t u d are page one e =
     let room = number_there t page (omega (arith, one)) in
-    let some = table_cells t d are page room in
-    let all : ArePages u d = subst (λ (l : List ℕ). ArePages l d) (sym e) (shared_set t d are page 2 some room (omega arith)) in (
-      all,
-      λ q.
-          get_pages u d all q ∙ ap (λ (l : List ℕ). cell_at l d q) e ∙ zeros_shared t d are page some room q
-          ∙ ap (λ (o : Option ℕ). run_of (page * 512) 512 [] 0 q o) (sym (get_pages t d are q)),
-      ap kept_in e ∙ kept_moved t page 2 (omega (arith, one)) (omega (arith, one)) (omega arith) (omega arith),
-    )
+    let puts : Puts t u page 1 (λ j. 2) = subst (λ (l : List ℕ). Puts t l page 1 (λ j. 2)) (sym e) (set_puts t page 2 room) in
+    zeros_put t u d are page 1 (table_cells t d are page room) (λ j h. let z : page + j ≡ page = omega (arith, h) in ap kept_for (ap (slice_index t) z ∙ one)) puts
+
+pub number_put : (t u d : List ℕ) → ArePages t d → (p n : ℕ) → 0 < length d → p + n ≤ length t → ((j : ℕ) → j < n → slice_index t (p + j) ≡ 0) → Puts t u p n (λ j. 1)
+    → ArePages u d × (values_of (cell_at u d) ≡ values_of (cell_at t d)) × (kept_in u ≡ kept_in t + n)
+number_put t u d are p n some room none puts =
+    let all = shared_put t u d are p n 1 some (omega arith) puts in
+    (all, same_values u d t d all are (numbered_same t u d are p n some none puts), kept_first t u p n room none puts)
 
 pub number_set : (t u d : List ℕ) → ArePages t d → (page : ℕ) → page < length t → slice_index t page ≡ 0 → u ≡ set t page 1
     → ArePages u d × (values_of (cell_at u d) ≡ values_of (cell_at t d)) × (kept_in u ≡ kept_in t + 1)
 number_set t u d are page room none e =
-    let some = table_cells t d are page room in
-    let all : ArePages u d = subst (λ (l : List ℕ). ArePages l d) (sym e) (shared_set t d are page 1 some room (omega arith)) in (
-      all,
-      same_values u d t d all are (λ q. ap (λ (l : List ℕ). cell_at l d q) e ∙ numbered_same t d are page some room none q),
-      ap kept_in e ∙ kept_more t page room none,
-    )
+    number_put t u d are page 1 (table_cells t d are page room) (omega (arith, room)) (λ j h. let z : page + j ≡ page = omega (arith, h) in ap (slice_index t) z ∙ none)
+    (subst (λ (l : List ℕ). Puts t l page 1 (λ j. 1)) (sym e) (set_puts t page 1 room))
 
 pub own_made : (t u c d : List ℕ) → ArePages t c → (page number mark : ℕ) → slice_index t page ≢ 0 → slice_index t page ≤ 2
     → (slice_index t page ≡ 2 → mark ≡ 1) → (slice_index t page ≢ 2 → mark ≡ 0) → number ≡ length c / 1024 → GainsFrame c d mark → u ≡ set t page number

@@ -2,6 +2,8 @@ pub mod Prelude
 pub mod Accesses
 pub mod Lookups
 pub mod PageRuns
+pub mod Counts
+pub mod Leaves
 pub mod Kept
 pub mod PageAccesses
 pub mod Runs

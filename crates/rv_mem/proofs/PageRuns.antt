@@ -181,10 +181,10 @@ run_put t d first new items are at n f k frame some read room first_is marks ite
     )
 
 -- a run in the round of all addresses
-pub after_run : (base d n at j : ℕ) → at ≡ (base + d) % 2 ^ 32 → at % 512 + n ≤ 512 → j < n → address_after base (d + j) ≡ at + j
+pub after_run : (base d n at j : ℕ) → at ≡ (base + d) % 2 ^ 32 → at + n ≤ 2 ^ 32 → j < n → address_after base (d + j) ≡ at + j
 after_run base d n at j e room below = omega arith
 
-pub none_further : (m : Bytes) (base d n at : ℕ) → at ≡ (base + d) % 2 ^ 32 → at % 512 + n ≤ 512 → ((j : ℕ) → j < d → byte_at m (address_after base j) ≡ None) → ((j : ℕ) → j < n → byte_at m (at + j) ≡ None)
+pub none_further : (m : Bytes) (base d n at : ℕ) → at ≡ (base + d) % 2 ^ 32 → at + n ≤ 2 ^ 32 → ((j : ℕ) → j < d → byte_at m (address_after base j) ≡ None) → ((j : ℕ) → j < n → byte_at m (at + j) ≡ None)
     → (j : ℕ) → j < d + n → byte_at m (address_after base j) ≡ None
 none_further m base d n at e room before more j below = elim (cases_lt j d) [
   | inl h ↦ before j h

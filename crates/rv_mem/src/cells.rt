@@ -1,5 +1,5 @@
 //! The cells of pages: writes to several of them, and copies.
-ghost use Rattle.std.specs.Prelude.{◌≡◌, ◌+◌, ◌<◌, ◌≤◌, length, slice_index, vec_capacity, vec_len, ℕ};
+ghost use Rattle.std.specs.Prelude.{◌≡◌, ◌+◌, ◌*◌, ◌^◌, ◌<◌, ◌≤◌, length, slice_index, vec_capacity, vec_len, ℕ};
 ghost use Rattle.std.specs.Bool.{OnTrue};
 ghost use Rattle.std.specs.Int.{bytes_low_first};
 ghost use Rattle.rv_mem.specs.private.Frames.{with_two, with_four, Puts, MarksRun, GainsFrame};
@@ -9,6 +9,9 @@ const PAGE: usize = 512;
 
 /// A page's bytes, and after them their marks.
 const FRAME: usize = 1024;
+
+/// How many bytes the pages of a chunk have.
+const CHUNK: usize = 65536;
 
 /// Writes the four bytes of a number from a place on: over a slice,
 /// so that it is one store of the processor.
@@ -87,6 +90,26 @@ pub(crate) fn are_zeros(front: &[u8], from: usize, count: usize) -> bool
         }
     }
     true
+}
+
+/// How many chunks of zeros the bytes of `front` from place `from` on begin with, those past its end
+/// being zeros, of `most` bytes: up to the end of `front` one at most.
+pub(crate) fn zero_chunks(front: &[u8], from: usize, most: u64) -> u32
+    requires { most ≤ 2 ^ 32 }
+    ensures most { result * 65536 ≤ most }
+    ensures zeros { (j : ℕ) → j < result * 65536 → slice_index front.now (from + j) ≡ 0 }
+{
+    let whole = (most / CHUNK as u64) as u32;
+    if from >= front.len() {
+        return whole;
+    }
+    if whole == 0 {
+        return 0;
+    }
+    if are_zeros(front, from, CHUNK) {
+        return 1;
+    }
+    0
 }
 
 /// Lengthens by zeros, in room that is there.

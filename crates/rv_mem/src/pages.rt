@@ -23,6 +23,9 @@ const PAGE: u32 = 512;
 /// A page's bytes, and after them their marks.
 const FRAME: usize = 1024;
 
+/// How many bytes the pages of a chunk have.
+const CHUNK_BYTES: u32 = 65536;
+
 /// The number of a page of zeros, for which room is kept a frame of its own.
 const ZEROS: u32 = 2;
 
@@ -179,6 +182,42 @@ impl Pages {
         self.table.number(at / PAGE)
     }
 
+    /// How many of the `most` addresses from the first of a chunk on, up to the last one, are known
+    /// not to be there, as their chunks have no page.
+    fn free_chunks(&self, at: u32, most: u32) -> u32
+        requires { at % 65536 ≡ 0 }
+        ensures most { result ≤ most }
+        ensures end { at + result ≤ 2 ^ 32 }
+        ensures none { (j : ℕ) → j < result → byte_at (bytes_of self.now) (at + j) ≡ None }
+    {
+        let room = most.min(u32::MAX - at);
+        let chunks = self.table.free_chunks(at / CHUNK_BYTES, room / CHUNK_BYTES);
+        chunks * CHUNK_BYTES
+    }
+
+    /// How many of the `most` addresses from `at` on are known not to be there, up to the end of a
+    /// page or of some chunks; 0 if one of the page of `at` is there.
+    fn free_run(&self, at: u32, most: u32) -> u32
+        requires { 0 < most }
+        ensures most { result ≤ most }
+        ensures end { at + result ≤ 2 ^ 32 }
+        ensures none { (j : ℕ) → j < result → byte_at (bytes_of self.now) (at + j) ≡ None }
+        ensures found { result ≡ 0 → (j : ℕ) × (j < most) × (at + j < 2 ^ 32) ×
+            IsSome (byte_at (bytes_of self.now) (at + j)) }
+    {
+        if at % CHUNK_BYTES == 0 {
+            let free = self.free_chunks(at, most);
+            if free > 0 {
+                return free;
+            }
+        }
+        let count = (PAGE - at % PAGE).min(most);
+        if self.run_has(at, count) {
+            return 0;
+        }
+        count
+    }
+
     /// Whether one of the size addresses from base on is there.
     fn overlaps(&self, base: u32, size: u32) -> bool
         ensures found { OnTrue result (Overlaps (bytes_of self.now) base size) }
@@ -187,8 +226,8 @@ impl Pages {
         let mut done = 0;
         while done < size {
             let at = base.wrapping_add(done);
-            let count = (PAGE - at % PAGE).min(size - done);
-            if self.run_has(at, count) {
+            let count = self.free_run(at, size - done);
+            if count == 0 {
                 return true;
             }
             done += count;
@@ -327,6 +366,28 @@ impl Pages {
         true
     }
 
+    /// Writes the first of `most` bytes, those of `front` from place `from` on and zeros past its end,
+    /// to the addresses from `at` on, the first in a page that has a number, up to the end of a page
+    /// or of some chunks: how many.
+    fn fill_run(&mut self, at: u32, most: u64, front: &[u8], from: u32) -> u64
+        requires some { 0 < most }
+        requires most { most ≤ 2 ^ 32 }
+        requires made { slice_index self.old.table (at / 512) ≢ 0 }
+        ensures some { 0 < result }
+        ensures most { result ≤ most }
+        ensures written { (q : ℕ) → byte_at (bytes_of self.new) q ≡
+            run_of at result front.now from q (byte_at (bytes_of self.old) q) }
+        ensures kept { KeepsFrames self.old.table self.new.table }
+    {
+        let zeros = self.put_zero_chunks(at, most, front, from);
+        if zeros > 0 {
+            return zeros;
+        }
+        let count = u64::from(PAGE - at % PAGE).min(most);
+        self.put_run(at, count as u32, front, from);
+        count
+    }
+
     /// Writes the bytes of front and then zeros, in pages that have numbers.
     fn fill(&mut self, base: u32, size: u64, front: &[u8])
         requires end { base + size ≤ 2 ^ 32 }
@@ -337,8 +398,7 @@ impl Pages {
         let mut done = 0;
         while done < size {
             let at = base + done as u32;
-            let count = u64::from(PAGE - at % PAGE).min(size - done);
-            self.put_run(at, count as u32, front, done as u32);
+            let count = self.fill_run(at, size - done, front, done as u32);
             done += count;
         }
     }

@@ -84,13 +84,21 @@ abbrev pub numbers_of : List ℕ → List ℕ → List ℕ
 numbers_of chunks leaves = map (number_at chunks leaves) (range_with_len 0 (length chunks * 128))
 
 -- Each chunk leads to its leaf, which lies within the leaves, and no page of an address lies past
--- 2 ^ 23. Leaf 0 is zeros alone, and is that of all chunks whose pages have no number; every other
--- leaf is that of one chunk.
+-- 2 ^ 23. Leaves 0, 1 and 2 are shared, and have their own number for each page; every other leaf is
+-- that of one chunk.
 pub record IsTable (chunks leaves : List ℕ) : Type 0 where
   pub count : length chunks ≤ 2 ^ 16
   pub whole : length leaves % 128 ≡ 0
   pub within :
       (chunk : ℕ) → chunk < length chunks → (slice_index chunks chunk + 1) * 128 ≤ length leaves
   pub none : (k : ℕ) → k < 128 → slice_index leaves k ≡ 0
+  pub shared : (k : ℕ) → k < 384 → 0 < length leaves → slice_index leaves k ≡ k / 128
   pub apart : (chunk other : ℕ) → slice_index chunks chunk ≡ slice_index chunks other
-      → slice_index chunks chunk ≢ 0 → chunk ≡ other
+      → 2 < slice_index chunks chunk → chunk ≡ other
+
+-- where leaves of this length have this capacity, one more fits for each chunk that shares leaf 1 or
+-- 2, of which there are so many
+pub record HasLeafRoom (chunks : List ℕ) (size capacity kept : ℕ) : Type 0 where
+  pub counted : kept_in chunks ≡ kept
+  pub room : size + 128 * kept ≤ capacity
+  pub most : size + 128 * kept ≤ 2 ^ 39

@@ -1,12 +1,12 @@
 //! The frames that pages share, and the room that is kept for frames of their own.
-ghost use Rattle.std.specs.Prelude.{◌≡◌, ◌≢◌, ◌+◌, ◌*◌, ◌/◌, ◌%◌, ◌^◌, ◌<◌, ◌≤◌, [], OnOk, length, slice_index, ℕ};
+ghost use Rattle.std.specs.Prelude.{◌≡◌, ◌≢◌, ◌+◌, ◌*◌, ◌/◌, ◌%◌, ◌^◌, ◌<◌, ◌≤◌, [], IfOk, OnOk, length, slice_index, ℕ};
 ghost use Rattle.std.specs.Bool.{OnTrue, OnFalse};
 ghost use Rattle.rv_mem.specs.Bytes.{byte_at};
 ghost use Rattle.rv_mem.specs.Pages.{bytes_of};
 ghost use Rattle.rv_mem.specs.private.Frames.{KeepsFrames, HaveFrames, run_of};
 
-use super::{FRAME, PAGE, Pages, ZEROS};
-use crate::cells::append_frame;
+use super::{CHUNK_BYTES, FRAME, PAGE, Pages, ZEROS};
+use crate::cells::{append_frame, zero_chunks};
 use std::alloc::AllocError;
 
 /// How many frames are shared.
@@ -14,6 +14,9 @@ const SHARED: usize = 3;
 
 /// The number of a page without a byte, for which room is kept for a frame of its own.
 const KEPT: u32 = 1;
+
+/// How many pages a chunk has.
+const CHUNK: u32 = 128;
 
 /// How many cells there may be, so that the numbers of frames have 32 bits.
 const MOST: usize = 1 << 41;
@@ -81,6 +84,69 @@ impl Pages {
         self.number_page(page)
     }
 
+    /// Keeps room for frames of the pages from the first of a chunk on, `most` chunks at most, as far
+    /// as they are known to have no number: how many pages that are.
+    fn number_chunks(&mut self, page: u32, most: u32) -> Result<u32, AllocError>
+        requires page { page < length self.old.table }
+        requires first { page % 128 ≡ 0 }
+        requires most { most ≤ 2 ^ 16 }
+        requires cells { 0 < length self.old.cells.items }
+        ensures same { bytes_of self.new ≡ bytes_of self.old }
+        ensures most { IfOk result (λ n. n ≤ most * 128) }
+        ensures made { IfOk result (λ n. (k : ℕ) → page ≤ k → k < page + n
+            → slice_index self.new.table k ≢ 0) }
+        ensures kept { KeepsFrames self.old.table self.new.table }
+    {
+        let wanted = (self.kept + most as usize * CHUNK as usize) * FRAME;
+        if self.cells.len() + wanted > MOST {
+            return Err(AllocError);
+        }
+        self.cells.reserve_exact(wanted)?;
+        let chunks = self.table.keep_chunks(page / CHUNK, most)?;
+        self.kept += chunks as usize * CHUNK as usize;
+        Ok(chunks * CHUNK)
+    }
+
+    /// Keeps such room for whole chunks of pages from one on, before page `end`: how many pages they
+    /// have.
+    fn keep_chunks(&mut self, page: u32, end: u32) -> Result<u32, AllocError>
+        requires page { page < end }
+        requires end { end ≤ 2 ^ 23 }
+        ensures same { bytes_of self.new ≡ bytes_of self.old }
+        ensures most { IfOk result (λ n. page + n ≤ end) }
+        ensures made { IfOk result (λ n. (k : ℕ) → page ≤ k → k < page + n
+            → slice_index self.new.table k ≢ 0) }
+        ensures kept { KeepsFrames self.old.table self.new.table }
+    {
+        if page % CHUNK != 0 {
+            return Ok(0);
+        }
+        self.make_shared_frames()?;
+        self.lengthen_table(end - 1)?;
+        let count = self.number_chunks(page, (end - page) / CHUNK)?;
+        Ok(count)
+    }
+
+    /// Keeps room for frames of one page, or of some chunks of pages, before page `end`: how many
+    /// pages that are.
+    fn make_run(&mut self, page: u32, end: u32) -> Result<u32, AllocError>
+        requires page { page < end }
+        requires end { end ≤ 2 ^ 23 }
+        ensures same { bytes_of self.new ≡ bytes_of self.old }
+        ensures some { IfOk result (λ n. 0 < n) }
+        ensures most { IfOk result (λ n. page + n ≤ end) }
+        ensures made { IfOk result (λ n. (k : ℕ) → page ≤ k → k < page + n
+            → slice_index self.new.table k ≢ 0) }
+        ensures kept { KeepsFrames self.old.table self.new.table }
+    {
+        let count = self.keep_chunks(page, end)?;
+        if count > 0 {
+            return Ok(count);
+        }
+        self.make_page(page)?;
+        Ok(1)
+    }
+
     /// Gives a page that has a number a frame of its own, with what it has.
     #[inline(never)]
     pub(super) fn own_frame(&mut self, page: u32)
@@ -129,6 +195,38 @@ impl Pages {
         true
     }
 
+    /// Makes zeros of the pages of chunks from an address on, `most` chunks at most, as far as they
+    /// are known to have no frame of their own: how many bytes they have.
+    fn share_zero_chunks(&mut self, at: u32, most: u32) -> u64
+        requires at { at % 65536 ≡ 0 }
+        requires made { slice_index self.old.table (at / 512) ≢ 0 }
+        ensures most { result ≤ most * 65536 }
+        ensures written { (q : ℕ) → byte_at (bytes_of self.new) q ≡
+            run_of at result [] 0 q (byte_at (bytes_of self.old) q) }
+        ensures kept { KeepsFrames self.old.table self.new.table }
+    {
+        let chunks = self.table.clear_chunks(at / CHUNK_BYTES, most);
+        chunks as u64 * CHUNK_BYTES as u64
+    }
+
+    /// Writes the first of `most` bytes, those of `front` from place `from` on and zeros past its end,
+    /// to the addresses from `at` on, as far as they are zeros in whole chunks that take no frames of
+    /// their own: how many bytes that are.
+    pub(super) fn put_zero_chunks(&mut self, at: u32, most: u64, front: &[u8], from: u32) -> u64
+        requires most { most ≤ 2 ^ 32 }
+        requires made { slice_index self.old.table (at / 512) ≢ 0 }
+        ensures most { result ≤ most }
+        ensures written { (q : ℕ) → byte_at (bytes_of self.new) q ≡
+            run_of at result front.now from q (byte_at (bytes_of self.old) q) }
+        ensures kept { KeepsFrames self.old.table self.new.table }
+    {
+        if at % CHUNK_BYTES != 0 {
+            return 0;
+        }
+        let zeros = zero_chunks(front, from as usize, most);
+        self.share_zero_chunks(at, zeros)
+    }
+
     /// Makes room for the cells of some frames more, and for no others, so that they are made
     /// without moving the cells again.
     fn reserve_frames(&mut self, count: u32) -> Result<(), AllocError>
@@ -151,10 +249,12 @@ impl Pages {
         if size == 0 {
             return Ok(());
         }
-        let last = (base + (size - 1)) / PAGE;
-        self.reserve_frames(last + 1 - base / PAGE)?;
-        for page in base / PAGE..last + 1 {
-            self.make_page(page)?;
+        let end = (base + (size - 1)) / PAGE + 1;
+        let mut page = base / PAGE;
+        self.reserve_frames(end - page)?;
+        while page < end {
+            let count = self.make_run(page, end)?;
+            page += count;
         }
         Ok(())
     }

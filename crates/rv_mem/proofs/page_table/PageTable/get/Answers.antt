@@ -18,8 +18,8 @@ returns-clause-value c =
     let h = c.in_ok-leaf.ensures.lookup in
     let below : page / 128 < length chunks = subst (λ (l : List ℕ). page / 128 < length l) c.deref.ensures.value h.3.0 in
     let there : slice_index chunks (page / 128) ≡ leaf = read_is chunks (page / 128) leaf below (subst (λ (l : List ℕ). leaf ≡ get_or l (page / 128) leaf) c.deref.ensures.value h.1) in
-    let within = c.self.invariant.within (page / 128) below in
-    sym (ap (λ (l : List ℕ). slice_index l page) (sym c.self.view_is) ∙ number_is chunks leaves c.self.invariant page
+    let within = c.self.invariant.0.within (page / 128) below in
+    sym (ap (λ (l : List ℕ). slice_index l page) (sym c.self.view_is) ∙ number_is chunks leaves c.self.invariant.0 page
     ∙ ap (λ (x : ℕ). slice_index leaves (x * 128 + page % 128)) there ∙ read_is leaves (leaf * 128 + page % 128) c.index.result.now (omega (arith, within, there)) c.index.ensures)
 
 pub returns-clause-there : goal.returns-clause-there

@@ -1,6 +1,7 @@
 use Rattle.rv_mem.proofs.Prelude.{◌≡◌, ◌+◌, ◌∙◌, ℕ, List, ap, sym, subst, arith, refl, slice_index, ArePages, values_of, cell_at}
 use Rattle.rv_mem.proofs.Paging.{memory_is}
-use Rattle.rv_mem.proofs.Kept.{number_set, keeps_set, set_is}
+use Rattle.rv_mem.proofs.Counts.{set_is}
+use Rattle.rv_mem.proofs.Kept.{number_set, keeps_set}
 use Rattle.rv_mem.proofs.pages.Pages.number_page.Goals as goal
 
 pub invariant_of-self-2-clause-are_pages : goal.invariant_of-self-2-clause-are_pages

@@ -1,7 +1,8 @@
 use Rattle.rv_mem.proofs.Prelude.{◌≡◌, ◌/◌, ◌==◌, true, false, ◌∙◌, ℕ, List, slice_index, sym, ap, refl, arith}
 use Rattle.std.proofs.lemmas.Bool.{eq-eqb, ne_eqb}
 use Rattle.rv_mem.proofs.Paging.{memory_is}
-use Rattle.rv_mem.proofs.Kept.{of_value, own_made, keeps_set, keeps_one, set_is, number_there}
+use Rattle.rv_mem.proofs.Counts.{keeps_one, set_is, number_there}
+use Rattle.rv_mem.proofs.Kept.{of_value, own_made, keeps_set}
 use Rattle.rv_mem.proofs.pages.Pages.own_frame.Goals as goal
 
 pub append_frame-requires : goal.append_frame-requires

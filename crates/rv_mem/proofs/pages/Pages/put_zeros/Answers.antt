@@ -1,6 +1,7 @@
 use Rattle.rv_mem.proofs.Prelude.{◌/◌, ◌∙◌, [], ℕ, Option, sym, ap, arith, run_of}
 use Rattle.rv_mem.proofs.Paging.{get_pages}
-use Rattle.rv_mem.proofs.Kept.{zeros_stay, number_there, table_cells}
+use Rattle.rv_mem.proofs.Counts.{number_there}
+use Rattle.rv_mem.proofs.Kept.{zeros_stay, table_cells}
 use Rattle.rv_mem.proofs.pages.Pages.put_zeros.Goals as goal
 
 pub returns-then-number-eq-ZEROS-clause-done : goal.returns-then-number-eq-ZEROS-clause-done

@@ -1,6 +1,7 @@
 use Rattle.rv_mem.proofs.Prelude.{◌∙◌, arith}
 use Rattle.rv_mem.proofs.Paging.{memory_is}
-use Rattle.rv_mem.proofs.Kept.{of_value, zeros_set, keeps_set, number_there}
+use Rattle.rv_mem.proofs.Counts.{number_there}
+use Rattle.rv_mem.proofs.Kept.{of_value, zeros_set, keeps_set}
 use Rattle.rv_mem.proofs.pages.Pages.share_zeros.Goals as goal
 
 pub set-requires : goal.set-requires
