@@ -2,6 +2,7 @@
  *
  *     world_counts IMAGE bytes TIMES 0          # prints the bytes that malloc has given out for TIMES worlds of the image
  *     world_counts IMAGE beside TIMES 0         # the same of worlds of one module, beside the module
+ *     world_counts IMAGE resident TIMES 0       # prints by how many bytes TIMES such worlds make the process's resident memory grow
  *     world_counts IMAGE load TIMES 0           # the image is loaded TIMES times
  *     world_counts IMAGE instance TIMES 0       # TIMES worlds are made of one module
  *     world_counts IMAGE call TIMES STEPS       # TIMES turns of at most STEPS steps, and each call gets a reply
@@ -16,6 +17,7 @@
 #include <stdio.h>
 #include <stdlib.h>
 #include <string.h>
+#include <unistd.h>
 
 enum { MOST = 4096 };
 
@@ -28,6 +30,16 @@ static struct sfi_run_module module = SFI_RUN_NO_MODULE;
 static size_t given(void) {
     struct mallinfo2 info = mallinfo2();
     return info.uordblks + info.hblkhd;
+}
+
+static void must(int is);
+
+/* What the process has resident. */
+static size_t resident(void) {
+    unsigned long all, here;
+    FILE *file = fopen("/proc/self/statm", "r");
+    must(file != NULL && fscanf(file, "%lu %lu", &all, &here) == 2 && fclose(file) == 0);
+    return here * (size_t)sysconf(_SC_PAGESIZE);
 }
 
 static void must(int is) {
@@ -49,13 +61,13 @@ static void instance(struct sfi_run_world *world) {
     must(sfi_run_instance(&module, world));
 }
 
-static void measure_bytes(long times, void (*make)(struct sfi_run_world *)) {
+static void measure_bytes(long times, void (*make)(struct sfi_run_world *), size_t (*size)(void)) {
     must(times <= MOST);
     make_module();
-    size_t before = given();
+    size_t before = size();
     for (long k = 0; k < times; k++)
         make(&worlds[k]);
-    printf("%zu\n", given() - before);
+    printf("%zu\n", size() - before);
     for (long k = 0; k < times; k++)
         sfi_run_free(&worlds[k]);
     sfi_run_module_free(&module);
@@ -95,9 +107,11 @@ int main(int count, char **words) {
     must(fclose(file) == 0 && length < sizeof image);
     long times = atol(words[3]);
     if (strcmp(words[2], "bytes") == 0)
-        measure_bytes(times, load);
+        measure_bytes(times, load, given);
     else if (strcmp(words[2], "beside") == 0)
-        measure_bytes(times, instance);
+        measure_bytes(times, instance, given);
+    else if (strcmp(words[2], "resident") == 0)
+        measure_bytes(times, instance, resident);
     else
         repeat(words[2], times, (uint32_t)atol(words[4]));
     return 0;
