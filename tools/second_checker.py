@@ -193,11 +193,14 @@ def spelled(it):
 
 # ---- layout
 
-MAGICS = {b"SFI1": 1, b"SFI2": 2, b"SFIW": 3}
+WORDS, SINGLE = 3, 4  # the formats of code in words: that with masks of two steps, and that with single ones
+MAGICS = {b"SFI1": 1, b"SFI2": 2, b"SFIW": WORDS, b"SFIS": SINGLE}
 MOST_CODE = {1: 65536, 2: 1048576, 3: 16777216}
 MOST_DATA = {1: 1048576, 2: 1048576, 3: 1073741824}
+MOST_CODE[SINGLE], MOST_DATA[SINGLE] = MOST_CODE[WORDS], MOST_DATA[WORDS]
 FAULTS = "Magic Count Short Code Data GuardRoom Start Gates Init Overlap Trailing".split()
 BASE_OF_DATA, BASE_OF_CODE, CODE_MASK, DATA_MASK = 26, 24, 25, 27
+RESERVED = (BASE_OF_CODE, CODE_MASK, BASE_OF_DATA, DATA_MASK)
 STUB = bytes.fromhex("73000000b3ff9001b3ef8f0167800f00")
 
 Sandbox = collections.namedtuple("Sandbox", "code_base gates code")
@@ -229,18 +232,33 @@ def is_region(base, size, most):
     return size in (1 << power for power in range(8, most.bit_length())) and base % size == 0
 
 
-def read_sandbox(reader, format, spans):
+def is_one_bit(number):
+    return number.bit_count() == 1
+
+
+def is_clear_of_zero(begin, end, size):
+    """Whether a span has no address in the zone at zero of data of this size."""
+    return begin >= size + 4096 and end <= (1 << 32) - 4096
+
+
+def read_sandbox(reader, format, spans, sizes):
+    """A sandbox. `spans` and `sizes` have the spans and the data sizes of those before it, and get its own."""
     code_base, code_size, data_base, data_size, start, gate_count, data_count = reader.numbers(7)
     code, data_end = range(code_base, code_base + code_size), data_base + data_size
     require(is_region(code_base, code_size, MOST_CODE[format]), "Code")
     require(is_region(data_base, data_size, MOST_DATA[format]), "Data")
+    require(format != SINGLE or is_one_bit(data_base) and data_size <= data_base, "Data")
     require(data_base >= 4096 and data_end + 4096 <= 1 << 32, "GuardRoom")
+    own = [(code_base, code.stop), (data_base, data_end)]
+    require(format != SINGLE or all(is_clear_of_zero(*span, data_size) for span in own), "GuardRoom")
     require(start % 16 == 0 and start in code, "Start")
     require(gate_count <= 64, "Gates")
     require(data_count <= data_size, "Init")
-    spans += [(code_base, code_base + code_size), (data_base - 4096, data_end + 4096)]
+    spans += [(code_base, code.stop), (data_base - 4096, data_end + 4096)]
+    sizes.append(data_size)
     ordered = sorted(spans)
     require(all(one[1] <= next_one[0] for one, next_one in zip(ordered, ordered[1:])), "Overlap")
+    require(format != SINGLE or all(is_clear_of_zero(*span, size) for span in spans for size in sizes), "Overlap")
     gates = []
     for _ in range(gate_count):
         address, service = reader.numbers(2)
@@ -254,12 +272,12 @@ def read_sandbox(reader, format, spans):
 
 def read_image(data):
     """The format and the sandboxes of an image."""
-    reader, spans = Reader(data), []
+    reader, spans, sizes = Reader(data), [], []
     magic = reader.take(4)
     require(magic in MAGICS, "Magic")
     (count,) = reader.numbers(1)
     require(1 <= count <= 16, "Count")
-    sandboxes = [read_sandbox(reader, MAGICS[magic], spans) for _ in range(count)]
+    sandboxes = [read_sandbox(reader, MAGICS[magic], spans, sizes) for _ in range(count)]
     require(reader.at == len(data), "Trailing")
     return MAGICS[magic], sandboxes
 
@@ -269,11 +287,11 @@ def read_image(data):
 Finding = collections.namedtuple("Finding", "place rule instruction")
 
 
-def rule_of_registers_and_calls(it, address, sandbox):
+def rule_of_registers_and_calls(it, address, sandbox, reserved):
     """V3 or V4."""
     if it.name == "ecall" and address not in sandbox.gates:
         return "V3"
-    return "V4" if BASE_OF_CODE <= written(it) <= DATA_MASK else None
+    return "V4" if written(it) in reserved else None
 
 
 def leads_out(it, address, sandbox, unit):
@@ -327,7 +345,7 @@ def rule_in_bundle(format, sandbox, found, n):
     address, begin = sandbox.code_base + place, place & ~15
     all_read = [None if isinstance(other, str) else other for _, other in found]
     before = all_read[:n]
-    rule = rule_of_registers_and_calls(it, address, sandbox)
+    rule = rule_of_registers_and_calls(it, address, sandbox, RESERVED)
     if rule:
         return rule
     if is_access(it) and not (format == 2 and it.rs1 == 2) and not is_masked(before, it.rs1, DATA_MASK, BASE_OF_DATA):
@@ -357,7 +375,44 @@ def findings_in_bundles(format, sandbox):
 
 # ---- code in words
 
-DATA_REGISTERS, CODE_REGISTER, OFFSET_REGISTER = (2, 3, 4, 29), 30, 31
+CODE_REGISTER, OFFSET_REGISTER = 30, 31
+
+
+class Words:
+    """What the rules look for where a data register's mask has two steps."""
+    data_registers, reserved = (2, 3, 4, 29), RESERVED
+    bases = (*data_registers, BASE_OF_DATA)  # of accesses
+
+    @staticmethod
+    def makes_data(it, register):
+        """Whether it is the last step of a mask, which makes the register one of data."""
+        return is_mask(it, "or", register, OFFSET_REGISTER, BASE_OF_DATA)
+
+    @staticmethod
+    def begins_mask(it, register):
+        """Whether it is the first step."""
+        return masks_offset(it, register)
+
+    @staticmethod
+    def breaks_offset(it):
+        """V12."""
+        return written(it) == OFFSET_REGISTER and not masks_offset(it, None)
+
+
+class Single:
+    """The same where it has one."""
+    data_registers, reserved = (2, 3, 4, 26, 29, 31), (BASE_OF_CODE, CODE_MASK, DATA_MASK)
+    bases = data_registers
+
+    @staticmethod
+    def makes_data(it, register):
+        return is_mask(it, "and", register, None, DATA_MASK)
+
+    begins_mask = makes_data
+
+    @staticmethod
+    def breaks_offset(_):
+        return False
 
 
 def masks_offset(it, register):
@@ -365,37 +420,33 @@ def masks_offset(it, register):
     return is_mask(it, "and", OFFSET_REGISTER, register, DATA_MASK)
 
 
-def makes_data(it, register):
-    return is_mask(it, "or", register, OFFSET_REGISTER, BASE_OF_DATA)
-
-
 def is_near_access(it, register):
     is_one = is_access(it) and not (is_load(it) and it.rd == 0)
     return is_one and it.rs1 == register and -1020 <= it.number <= 1020
 
 
-def owed_after(it, owed):
+def owed_after(rules, it, owed):
     """What has to come next: a rule and a test of the next instruction, of which the rule is broken where it fails. None is
-    owed after most."""
+    owed after most. The register is that of a mask's first step that may come next, or 0."""
     register = written(it)
-    if owed and owed[0] == "V10" and owed[2] and masks_offset(it, owed[2]):
+    if owed and owed[2] and rules.begins_mask(it, owed[2]) and not rules.makes_data(it, owed[2]):
         d = owed[2]
-        return "V10", lambda after: makes_data(after, d), 0
-    if register in DATA_REGISTERS and not makes_data(it, register) and it.name not in ("jal", "jalr"):
+        return "V10", lambda after: rules.makes_data(after, d), 0
+    if register in rules.data_registers and not rules.makes_data(it, register) and it.name not in ("jal", "jalr"):
         may_step = it.name == "addi" and it.rs1 == register
-        return "V10", lambda after: masks_offset(after, register) or may_step and is_near_access(after, register), register
+        return "V10", lambda after: rules.begins_mask(after, register) or may_step and is_near_access(after, register), register
     if is_mask(it, "and", CODE_REGISTER, None, CODE_MASK):
         return "V11", lambda after: is_mask(after, "or", CODE_REGISTER, CODE_REGISTER, BASE_OF_CODE), 0
     return None
 
 
-def rule_in_word(sandbox, place, it, owed, is_last):
+def rule_in_word(rules, sandbox, place, it, owed, is_last):
     """The lowest rule that an instruction breaks."""
     address, register = sandbox.code_base + place, written(it)
-    rule = rule_of_registers_and_calls(it, address, sandbox)
+    rule = rule_of_registers_and_calls(it, address, sandbox, rules.reserved)
     if rule:
         return rule
-    if is_access(it) and it.rs1 not in (*DATA_REGISTERS, BASE_OF_DATA):
+    if is_access(it) and it.rs1 not in rules.bases:
         return "V5"
     if it.name == "jalr" and (it.rs1 != CODE_REGISTER or it.number):
         return "V6"
@@ -404,12 +455,12 @@ def rule_in_word(sandbox, place, it, owed, is_last):
     if is_last and it.name not in LAST_NAMES:
         return "V8"
     broken = {owed[0]} if owed and not owed[1](it) else set()
-    if register in DATA_REGISTERS and it.name in ("jal", "jalr"):
+    if register in rules.data_registers and it.name in ("jal", "jalr"):
         broken.add("V10")
     is_code = is_mask(it, "and", CODE_REGISTER, None, CODE_MASK) or is_mask(it, "or", CODE_REGISTER, CODE_REGISTER, BASE_OF_CODE)
     if register == CODE_REGISTER and not is_code:
         broken.add("V11")
-    if register == OFFSET_REGISTER and not masks_offset(it, None):
+    if rules.breaks_offset(it):
         broken.add("V12")
     return min(broken, default=None)
 
@@ -422,7 +473,7 @@ def word_at(code, begin):
     return [(begin, first), (begin + 2, front(code, begin + 2, begin + 4))]
 
 
-def findings_in_words(sandbox):
+def findings_in_words(rules, sandbox):
     owed = None
     for begin in range(0, len(sandbox.code), 4):
         found = word_at(sandbox.code, begin)
@@ -433,8 +484,8 @@ def findings_in_words(sandbox):
                 yield Finding(place, it, it)
                 continue
             is_last = decodes and place + it.size == len(sandbox.code)
-            rule = rule_in_word(sandbox, place, it, owed, is_last)
-            owed = owed_after(it, owed)
+            rule = rule_in_word(rules, sandbox, place, it, owed, is_last)
+            owed = owed_after(rules, it, owed)
             if rule:
                 yield Finding(place, rule, it)
 
@@ -445,8 +496,11 @@ NAMES = dict(V1="decode", V2="cross", V3="ecall", V4="reserved", V5="access", V6
              V10="stack", V11="code", V12="offset")
 
 
+IN_WORDS = {WORDS: Words, SINGLE: Single}
+
+
 def report_line(format, number, sandbox, place, rule, it):
-    name = "data" if (format, rule) == (3, "V10") else NAMES[rule]
+    name = "data" if rule == "V10" and format in IN_WORDS else NAMES[rule]
     if rule == "V9":
         text = "stub expected"
     elif isinstance(it, str):
@@ -464,7 +518,7 @@ def judged(data):
         return 2, [str(fault)]
     lines = []
     for number, sandbox in enumerate(sandboxes):
-        found = findings_in_words(sandbox) if format == 3 else findings_in_bundles(format, sandbox)
+        found = findings_in_words(IN_WORDS[format], sandbox) if format in IN_WORDS else findings_in_bundles(format, sandbox)
         lines += [report_line(format, number, sandbox, *it) for it in found]
     if not lines:
         return 0, [f"accepted sandboxes={len(sandboxes)} bundles={sum(len(it.code) for it in sandboxes) // 16}"]
