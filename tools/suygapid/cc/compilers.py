@@ -122,7 +122,7 @@ def version(compiler: str) -> str:
 
 def reserved(image_format: str) -> tuple[int, ...]:
     """The registers that are the sandbox's own in a format."""
-    return RESERVED_IN_WORDS if image_format == "words" else RESERVED
+    return RESERVED_IN_WORDS if image_format in ("words", "single") else RESERVED
 
 
 def by_gcc(compiler, given, file, assembly, registers):

@@ -14,11 +14,12 @@ import gc
 import os
 import sys
 
+from suygapid.image.layout import Offered
 from suygapid.passes import checking
 from suygapid.passes.assembly import Broken, Refused
 from suygapid.passes.improving import PASSES
 from suygapid.passes.rewriting import rewritten
-from suygapid.passes.typed import WORDS, format_of
+from suygapid.passes.typed import IN_WORDS, WORDS, format_of
 
 ENCODING = {"encoding": "utf-8", "errors": "surrogateescape"}
 
@@ -28,7 +29,7 @@ def parsed(words):
     parser.add_argument("files", nargs="+", metavar="IN.s", help="assembly of gcc or clang")
     parser.add_argument("-o", dest="output", metavar="OUT.s", help="where to write; standard output if absent")
     parser.add_argument("--into", metavar="FOLDER", help="where to write a file of the same name for each of several")
-    parser.add_argument("--format", type=format_of, choices=[1, 2, WORDS], default=WORDS, help="the image's format; words if absent")
+    parser.add_argument("--format", type=format_of, choices=Offered([1, 2, WORDS]), default=WORDS, help="the image's format; words if absent")
     parser.add_argument("--passes", metavar="NAMES",
                         help=f"the passes that make the code cheaper; {','.join(PASSES)} if absent, "
                              f"with --debug {','.join(checking.PASSES)}")
@@ -43,7 +44,7 @@ def parsed(words):
     options.passes = tuple(name for name in options.passes.split(",") if name)
     if not set(options.passes) <= set(passes):
         parser.error(f"the passes are {', '.join(passes)}")
-    if options.debug and options.format != WORDS:
+    if options.debug and options.format not in IN_WORDS:
         parser.error("--debug is for words")
     if len(options.files) > 1 and not options.into:
         parser.error("several files want --into")

@@ -1,6 +1,6 @@
 """The stubs of gates, as GNU assembly: each in a section of its own, and a line of `.sfi.gates` for tools/sfi-image."""
 
-SCRATCH = {"1": "x31", "2": "x31", "words": "x30"}  # the register that a format returns by
+SCRATCH = {"1": "x31", "2": "x31", "words": "x30", "single": "x30"}  # the register that a format returns by
 STUB = """\
     .section .sfi.stubs.{name},"ax",@progbits
     .option norvc

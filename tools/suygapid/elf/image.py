@@ -1,16 +1,17 @@
 """From linked ELF files to an image. docs/IMAGE.md has the format. Nothing here is trusted: `sfi check` reads the image."""
 import struct
 from dataclasses import dataclass, replace
-from itertools import accumulate, zip_longest
+from itertools import accumulate, permutations, zip_longest
 from typing import Iterable, Optional, Sequence
 
 from suygapid.elf.elf import Elf, Wrong
 from suygapid.elf.moving import is_movable
-from suygapid.image.layout import FORMATS, GUARD, MOST_CODE, MOST_DATA, MOST_SANDBOXES, NAMED, Part, spelled
+from suygapid.image.layout import (
+    ADDRESSES, GUARD, MOST_CODE, MOST_DATA, MOST_SANDBOXES, NAMED_WITH_SINGLE as NAMED, SINGLE, WITH_SINGLE as FORMATS, Part, are_apart,
+    is_one_bit, spelled)
 from suygapid.image.names import footer, moved_names
 
 SMALLEST = 256  # bytes of a region
-ADDRESSES = 1 << 32
 DEFAULT_STACK, DEFAULT_HEAP = 8192, 98304
 DEFAULT_MEMORY = SMALLEST  # bytes of the data region at least, where no option says how many it, the heap or the stack has
 HEAP_SIZE = "__heap_size"  # holds what the heap may give out, in programs that have one: runtime/heap.c
@@ -57,6 +58,10 @@ def format_of(elf: Elf) -> str:
     return found[0]
 
 
+def number_of(elf: Elf) -> int:
+    return FORMATS[NAMED[format_of(elf)]]
+
+
 def deepest_frame(elf: Elf) -> Frame:
     """The largest frame of a function that the linker kept; others have an address below the code."""
     frames = [(size, address) for address, size in struct.iter_unpack("<2I", elf.section(".debug_sfi_frames"))
@@ -67,7 +72,7 @@ def deepest_frame(elf: Elf) -> Frame:
 
 def most_of(mosts: dict[int, int], elf: Elf) -> int:
     """The most bytes of a region in the format of a program."""
-    return mosts[FORMATS[NAMED[format_of(elf)]]]
+    return mosts[number_of(elf)]
 
 
 def code_size(elf: Elf) -> int:
@@ -197,6 +202,10 @@ class Sandbox(Part):
                 raise Wrong(f"{self.path}: the {what} has {size} bytes, and lies at {base:#x}, which is no multiple of that")
         if not GUARD <= self.data_base <= ADDRESSES - self.data_size - GUARD:
             raise Wrong(f"{self.path}: there is no room for a guard zone beside the data at {self.data_base:#x}")
+        if self.format == SINGLE and not is_one_bit(self.data_base):
+            raise Wrong(f"{self.path}: the data lie at {self.data_base:#x}, which is more than one bit")
+        if not all(are_apart(span, zone) for span in self.spans(GUARD) for zone in self.zones()):
+            raise Wrong(f"{self.path}: the code or the data lie in the zone at zero, the addresses below {self.data_size + GUARD:#x} and the last {GUARD}")
 
     def moved(self, code_base: int, data_base: int) -> "Sandbox":
         """The same at another place: the code stays as it is, and of the data the addresses in the table of names change."""
@@ -217,7 +226,7 @@ class Sandbox(Part):
 def sandbox_of(elf: Elf, stack: Optional[int], wanted: Optional[int]) -> Sandbox:
     memory = memory_of(elf, stack, wanted)
     made = Sandbox(elf.symbol("__sfi_code"), code_of(elf), elf.symbol("__sfi_data"), memory.size,
-                   elf.entry, elf.gates(), data_of(elf, stack_of(elf, stack), memory), path=elf.name)
+                   elf.entry, elf.gates(), data_of(elf, stack_of(elf, stack), memory), number_of(elf), path=elf.name)
     made.check_place()
     return made
 
@@ -232,10 +241,14 @@ def at_place(elf: Elf, made: Sandbox, where: Optional[Place]) -> Sandbox:
 
 
 def check_apart(sandboxes: Iterable[Sandbox]) -> None:
+    sandboxes = list(sandboxes)
     spans = sorted((*span, made.path) for made in sandboxes for span in made.spans(GUARD))
     for (_, end, first), (start, _, second) in zip(spans, spans[1:]):
         if start < end:
             raise Wrong(f"{first} and {second} lie at one place: link each with a --sandbox of its own")
+    for one, other in permutations(sandboxes, 2):
+        if not all(are_apart(span, zone) for span in one.spans(GUARD) for zone in other.zones()):
+            raise Wrong(f"{one.path} lies in the zone at zero of {other.path}: give {other.path} less --memory")
 
 
 def image(elfs: Sequence[Elf], stack: Optional[int] = None, wanted: Optional[int] = None, places: Iterable[Place] = ()) -> bytes:

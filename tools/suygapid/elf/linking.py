@@ -17,19 +17,28 @@ from suygapid.services import GATES
 CODE, DATA = 0x01000000, 0x00800000  # a sandbox's place is its number plus 1 times the first, its data lie the second above
 BESIDE = 0x00400000  # bytes at most of code, and of data, that lie so, with room for guard zones beside the data
 LARGE, APART = 0x20000000, 0x08000000  # where other data begin, above the code of 16 sandboxes, and how far apart at least
+SINGLE_CODE, HIGHEST_BIT = 0xc1000000, 31  # where masks of data are single: the code lies above all data, the bases of which are single bits
 WORDS = ["-m", "elf32lriscv", "--no-relax", "--gc-sections", "-z", "noexecstack", "--no-warn-rwx-segments"]
 UNDEFINED = b"undefined"  # what the linker says of a symbol
 TOO_MANY_SMALL = b"the small objects and the room below them exceed"  # what the linker script says
 START = ["-u", "_start"]  # what a C library does before main and after it, where one has it
 
 
-def place_of(sandbox, code, data):
+def place_of(sandbox, code, data, image_format="words"):
     """Where code and data of so many bytes begin. Sandboxes of other numbers have other places, with a data region's size, or the
     least distance, between their data, so that all 16 have room where none has more than 64 MiB."""
+    if image_format == "single":
+        return single_place_of(sandbox, data)
     base = (sandbox + 1) * CODE
     if max(code, data) <= BESIDE:
         return base, base + DATA
     return base, max(LARGE, data) + sandbox * max(APART, 2 * data)
+
+
+def single_place_of(sandbox, data):
+    """The same where masks of data are single: 11 sandboxes have room where none has more than 1 MiB. The largest data lie highest."""
+    bits = [HIGHEST_BIT - 1, HIGHEST_BIT] if data < 1 << HIGHEST_BIT - 1 else [HIGHEST_BIT, HIGHEST_BIT - 1]
+    return SINGLE_CODE + sandbox * CODE, 1 << (bits[sandbox] if sandbox < 2 else HIGHEST_BIT - sandbox)
 
 
 def numbers_of(options, place, names, libraries):
@@ -98,7 +107,7 @@ def has_room(options, objects, folder):
     the room below them may be larger, too."""
     quiet = Namespace(**{**vars(options), "no_signatures": True})
     try:
-        place = place_of(options.sandbox, 0, options.memory or 0)
+        place = place_of(options.sandbox, 0, options.memory or 0, options.format)
         _, first, last = words_of(quiet, place, Libraries(quiet, options.library, objects), objects, folder)
         ran([*first, *last])
     except Failed as failed:
@@ -129,9 +138,9 @@ def linked_with(options, folders, objects, folder):
     libraries = Libraries(options, folders, objects)
     if libraries.have_exceptions and options.target.is_movable:
         raise Wrong("a program for any place has no exceptions: compile C++ with -fno-exceptions")
-    place = options.at or place_of(options.sandbox, 0, options.memory or 0)
+    place = options.at or place_of(options.sandbox, 0, options.memory or 0, options.format)
     made = linked_at(options, place, libraries, objects, folder)
-    roomy = options.at or place_of(options.sandbox, code_size(made), memory_size(made))
+    roomy = options.at or place_of(options.sandbox, code_size(made), memory_size(made), options.format)
     return made if place == roomy else linked_at(options, roomy, libraries, objects, folder)
 
 

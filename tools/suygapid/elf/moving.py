@@ -18,7 +18,8 @@ ADDRESS, UPPER = 1, 26  # R_RISCV_32, R_RISCV_HI20
 ABSOLUTE = 0xff00  # from here on no symbol is of a section
 PAGE = 4096  # bases are multiples of it, so that the lower part of an address is that of its place in the region
 WORD, CODE_BIT, FARTHEST = 4, 128, 127
-MASKED = (2, 3, 4, 29)  # registers to which masks give the base
+MASKED = (2, 3, 4, 29)  # registers to which masks give the base, unless they are single
+SINGLE = "__sfi_format_single"
 BASES = {"code": 24, "data": 26}  # the registers that hold them
 
 
@@ -90,7 +91,7 @@ class Moving:
             base = self.bases.get(relocation.region, 0)
             struct.pack_into("<I", self.content, self.elf.offset(place), (upper - base) % (1 << 32))
             self.set_base(added, register, BASES.get(relocation.region))
-        elif relocation.region and register not in MASKED:
+        elif relocation.region and (register not in MASKED or SINGLE in self.elf.symbols):
             raise Wrong(f"{self.elf.name}: the code at {place:#x} can't be moved: compile all of it with --movable")
 
     def adds(self, place, register):

@@ -1,11 +1,11 @@
 """Says what lies at an address of the image that is made of a linked program: the function and the line of an instruction, the
-object of a place in the data, the stack's room, or a guard zone."""
+object of a place in the data, the stack's room, a guard zone, or the zone at zero."""
 from typing import Iterable, Iterator, Sequence
 
 from suygapid.elf.elf import Elf
-from suygapid.elf.image import memory_of
+from suygapid.elf.image import memory_of, number_of
 from suygapid.elf.tools import addresses_told
-from suygapid.image.layout import GUARD
+from suygapid.image.layout import GUARD, zones_of
 
 UNKNOWN = "?"  # what addr2line says of a line that nothing tells
 
@@ -24,6 +24,7 @@ class Where:
         self.program = program
         self.code, self.data = program.symbol("__sfi_code"), program.symbol("__sfi_data")
         self.memory = memory_of(program)
+        self.zones = zones_of(number_of(program), self.memory.size)
         self.end = max(segment.address + len(segment.content) for segment in program.loaded() if segment.is_code)
 
     def told(self, address: int, line: str) -> str:
@@ -40,6 +41,8 @@ class Where:
             return self.told_of_guard(f"{-below} bytes below")
         if self.memory.size <= below < self.memory.size + GUARD:
             return self.told_of_guard(f"{below - self.memory.size + 1} bytes above")
+        if any(begin <= address < end for begin, end in self.zones):
+            return "in the zone at zero: a pointer is null or wrong"
         return "neither the program's code nor its data"
 
     def told_of_object(self, address):

@@ -14,7 +14,8 @@ from suygapid.gdb.history import History, Interrupted
 from suygapid.gdb.stepping import Until
 
 PC, RA, SP = 32, 1, 2  # places in a list of registers, which has x0 to x31 and then pc
-SCRATCH = {"1": (31,), "2": (31,), "words": (3, 4, 29, 30, 31)}  # what a format's masks use, and no function gets
+OF_WORDS = (3, 4, 29, 30, 31)
+SCRATCH = {"1": (31,), "2": (31,), "words": OF_WORDS, "single": OF_WORDS}  # what a format's masks use, and no function gets
 INTERRUPT, ILLEGAL, TRAP, SEGMENT = 2, 4, 5, 11  # numbers of signals
 SIGNALS = {Cause.FETCH: SEGMENT, Cause.ILLEGAL: ILLEGAL, Cause.BREAK: TRAP, Cause.LOAD: SEGMENT, Cause.STORE: SEGMENT}
 

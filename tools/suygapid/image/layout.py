@@ -11,11 +11,22 @@ from suygapid import services
 FORMATS = {b"SFI1": 1, b"SFI2": 2, b"SFIW": 3}
 MAGICS = {number: magic for magic, number in FORMATS.items()}
 NAMED = {"1": b"SFI1", "2": b"SFI2", "words": b"SFIW"}  # as options name them
+WORDS, SINGLE = 3, 4  # formats of code in words: with masks of data of two steps, and with single ones, which the program doesn't know yet
+WITH_SINGLE = {**FORMATS, b"SFIS": SINGLE}
+NAMED_WITH_SINGLE = {**NAMED, "single": b"SFIS"}
 MOST_CODE = {1: 65536, 2: 1048576, 3: 16777216}  # bytes of a region, by the format
 MOST_DATA = {1: 1048576, 2: 1048576, 3: 1073741824}
+MOST_CODE[SINGLE], MOST_DATA[SINGLE] = MOST_CODE[WORDS], MOST_DATA[WORDS]
 GUARD, MOST_GATES, MOST_SANDBOXES = 4096, 64, 16
+ADDRESSES = 1 << 32
 MOST_SERVICE = max(services.GATES.values())
 FAULTS = ["", "Magic", "Count", "Short", "Code", "Data", "GuardRoom", "Start", "Gates", "Init", "Overlap", "Trailing"]
+
+
+class Offered(tuple):
+    """The formats that an option's help lists. It takes `single`, too."""
+    def __contains__(self, name: object) -> bool:
+        return name == "single" or super().__contains__(name)
 
 
 class Fault(Exception):
@@ -24,6 +35,11 @@ class Fault(Exception):
     def __init__(self, name: str) -> None:
         super().__init__(name)
         self.number = FAULTS.index(name)
+
+
+def zones_of(format: int, data_size: int) -> list[tuple[int, int]]:
+    """Where accesses lead to by single masks, beside the data: no sandbox of the image may have any of these addresses."""
+    return [(0, data_size + GUARD), (ADDRESSES - GUARD, ADDRESSES)] if format == SINGLE else []
 
 
 @dataclasses.dataclass
@@ -46,11 +62,12 @@ class Part:
 
     def unit(self) -> int:
         """The bytes between the places at which it may be entered."""
-        return 4 if self.format == 3 else 16
+        return 4 if self.format in (WORDS, SINGLE) else 16
 
     def reserved(self) -> list[int]:
         """What x24 to x27 hold."""
-        return [self.code_base, self.code_size - self.unit(), self.data_base, self.data_size - 1]
+        base = self.data_base if self.format == SINGLE else 0
+        return [self.code_base, self.code_size - self.unit(), self.data_base, base + self.data_size - 1]
 
     def has_code(self, address: int) -> bool:
         return 0 <= address - self.code_base < self.code_size
@@ -63,8 +80,13 @@ class Part:
         data_end = self.data_base + self.data_size
         return [(self.code_base, self.code_base + self.code_size), (self.data_base - guard, data_end + guard)]
 
+    def zones(self) -> list[tuple[int, int]]:
+        return zones_of(self.format, self.data_size)
+
     def meets(self, other: "Part") -> bool:
-        return not all(are_apart(it, that) for it in self.spans(GUARD) for that in other.spans(GUARD))
+        own, others = self.spans(GUARD), other.spans(GUARD)
+        return not all(are_apart(it, that) for these, those in ((own, others), (own, other.zones()), (self.zones(), others))
+                       for it in these for that in those)
 
 
 class Bytes:
@@ -110,7 +132,11 @@ def read_gates(read, count, is_start):
     return gates
 
 
-def read_part(read, format, spans):
+def is_one_bit(number: int) -> bool:
+    return number.bit_count() == 1
+
+
+def read_part(read, format, spans, zones):
     code_base, code_size, data_base, data_size, start, gate_count, init_size = read.words(7)
 
     def is_start(address):
@@ -118,26 +144,32 @@ def read_part(read, format, spans):
 
     need(is_region(code_base, code_size, MOST_CODE[format]), "Code")
     need(is_region(data_base, data_size, MOST_DATA[format]), "Data")
-    need(data_base >= GUARD and data_base + data_size + GUARD <= 1 << 32, "GuardRoom")
+    need(format != SINGLE or is_one_bit(data_base) and data_size <= data_base, "Data")
+    need(data_base >= GUARD and data_base + data_size + GUARD <= ADDRESSES, "GuardRoom")
+    code, data = (code_base, code_base + code_size), (data_base, data_base + data_size)
+    own_zones = zones_of(format, data_size)
+    need(all(are_apart(it, zone) for it in (code, data) for zone in own_zones), "GuardRoom")
     need(is_start(start), "Start")
     need(gate_count <= MOST_GATES, "Gates")
     need(init_size <= data_size, "Init")
-    add_span(spans, code_base, code_base + code_size)
+    add_span(spans, *code)
     add_span(spans, data_base - GUARD, data_base + data_size + GUARD)
+    zones += own_zones
+    need(all(are_apart(it, zone) for it in spans for zone in zones), "Overlap")
     gates = read_gates(read, gate_count, is_start)
     offset = read.at
     code, init = read.take(code_size), read.take(init_size)
     return Part(code_base, code, data_base, data_size, start, gates, init, format, offset)
 
 
-def parts(data: bytes) -> list[Part]:
-    """The sandboxes of an image; Fault where the bytes are none."""
-    read, spans = Bytes(data), list[tuple[int, int]]()
-    format = FORMATS.get(read.take(4))
+def parts(data: bytes, formats: dict[bytes, int] = FORMATS) -> list[Part]:
+    """The sandboxes of an image in one of these formats; Fault where the bytes are none."""
+    read, spans, zones = Bytes(data), list[tuple[int, int]](), list[tuple[int, int]]()
+    format = formats.get(read.take(4))
     need(format, "Magic")
     (count,) = read.words(1)
     need(1 <= count <= MOST_SANDBOXES, "Count")
-    found = [read_part(read, format, spans) for _ in range(count)]
+    found = [read_part(read, format, spans, zones) for _ in range(count)]
     need(read.at == len(data), "Trailing")
     return found
 

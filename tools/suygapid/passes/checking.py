@@ -2,7 +2,8 @@
 stack pointer with the heap's end. Where they differ, an `ebreak` ends the run, where the masks would lead it on with data or code
 of the program's that nobody meant."""
 from suygapid.passes.facts import STORES
-from suygapid.passes.in_words import MASKS_AFTER, InWords, needs_no_masks
+from suygapid.passes.in_words import InWords, needs_no_masks
+from suygapid.passes.typed import SINGLE
 
 PASSES = ("known",)  # of the others some have an address masked, and so compared, elsewhere than where it is used
 END = "__sfi_end"  # of the objects
@@ -12,18 +13,6 @@ HEAP_END = "__heap_end"  # holds the end of what the heap ever gave out, or of t
 def stopped_unless(branch):
     """An `ebreak`, over which a branch with these operands leads."""
     return [f"{branch}, .+8", "ebreak"]
-
-
-def room_for(count):
-    """What asks for room for so many bytes below the stack pointer."""
-    limit, masks = f"{END}+{count}", [text.format("x29") for text in MASKS_AFTER]
-    return [f"lui x29, %hi({limit})", *masks, f"addi x29, x29, %lo({limit})", *masks, *stopped_unless("bgeu sp, x29")]
-
-
-def look():
-    """What compares the stack pointer with the heap's end."""
-    masks = [text.format("x29") for text in MASKS_AFTER]
-    return [f"lw x29, %lo({HEAP_END})(x26)", *masks, *stopped_unless("bgeu sp, x29")]
 
 
 def is_frame(op):
@@ -37,9 +26,23 @@ class Checking(InWords):
     def masks_of_jump(base):
         return [*InWords.masks_of_jump(base), *stopped_unless(f"beq x30, {base}")]
 
-    @staticmethod
-    def masks_of_access(base):
-        return [*InWords.masks_of_access(base), *stopped_unless(f"beq x29, {base}")]
+    def masks_of_access(self, base):
+        return [*super().masks_of_access(base), *stopped_unless(f"beq x29, {base}")]
+
+    def room_for(self, count):
+        """What asks for room for so many bytes below the stack pointer."""
+        limit, masks = f"{END}+{count}", self.masks("x29", "x29")
+        return [f"lui x29, %hi({limit})", *masks, f"addi x29, x29, %lo({limit})", *masks, *stopped_unless("bgeu sp, x29")]
+
+    def look(self):
+        """What compares the stack pointer with the heap's end."""
+        return [f"lw x29, %lo({HEAP_END})(x26)", *self.masks("x29", "x29"), *stopped_unless("bgeu sp, x29")]
+
+    def stopped_if_large(self, count):
+        """What stops where a register holds more than the region's last offset: x27 is that, or the last address where masks are single."""
+        if self.format != SINGLE:
+            return stopped_unless(f"bgeu x27, {count}")
+        return ["sub x29, x27, x26", *self.masks("x29", "x29"), *stopped_unless(f"bgeu x29, {count}")]
 
     def access(self, op, before, base):
         """One by a null pointer that the compiler knows is no access on a register."""
@@ -61,19 +64,19 @@ class Checking(InWords):
 
     def look_at_stack(self):
         if self.is_lower:
-            self.write(None, ["\t" + text for text in look()])
+            self.write(None, ["\t" + text for text in self.look()])
         self.is_lower = False
 
     def one(self, op, following):
         if is_frame(op) and not needs_no_masks(op, following):
-            self.wide(*room_for(-op.step))
+            self.wide(*self.room_for(-op.step))
         if op.word == "sub" and op.written == "sp":  # by more than the region has, masks would lead anywhere in it
-            self.wide(*stopped_unless(f"bgeu x27, {op.operands[2]}"))
+            self.wide(*self.stopped_if_large(op.operands[2]))
         super().one(op, following)
         if op.word in ("add", "sub") and op.written == "sp":
-            self.wide(*look())
+            self.wide(*self.look())
 
     def beside(self, text, begun):
         """Puts a soft item of the stack pointer beside the instruction that moves it."""
         is_asked = self.out[begun].startswith(f"\tlui x29, %hi({END}+")
-        super().beside(text, begun + len(room_for(0)) * is_asked)
+        super().beside(text, begun + len(self.room_for(0)) * is_asked)

@@ -42,7 +42,7 @@ AFTER_RETURN = frozenset({"ra"} | RESULTS | SAVED)
 FOR_CALL = frozenset(ARGUMENTS | SAVED)
 WITHOUT_EFFECT = ("la", "li", "lui", "mv", "addi", "add", "sub", "slli")  # but for the register that they write
 
-ADDRESSES = ("gp", "tp")  # the data registers of code in words that compilers leave alone
+ADDRESSES = ("gp", "tp", "t6")  # the data registers of code in words that compilers leave alone: the last one where masks are single
 DATA = ("sp", *ADDRESSES)
 MASKED = "t4"  # the one that has the masked base of an access on another register
 

@@ -26,9 +26,10 @@ from suygapid.passes.looping import Code, Placing
 from suygapid.passes.loops import loops_of
 from suygapid.passes.raising import Ways
 from suygapid.passes.stepping import costly_steps, stepped
-from suygapid.passes.typed import MASKS, is_on, on_base, renamed, set_to, step_of, uses
+from suygapid.passes.typed import is_on, on_base, renamed, set_to, step_of, uses
 
 FAR = float("inf")
+MASKS = 2  # what masks count, also where they are single: as measured, more loops pay then than by their number
 
 
 @dataclass

@@ -16,7 +16,7 @@ from suygapid.passes.repeating import without_repeated_masks
 from suygapid.passes.sharing import with_shared_masks
 from suygapid.passes.stepping import with_steps
 from suygapid.passes.targeting import with_targets
-from suygapid.passes.typed import WORDS, with_plain_jumps
+from suygapid.passes.typed import IN_WORDS, with_plain_jumps
 
 PASSES = ("known", "pointing", "packing", "hoisting", "sharing", "targeting", "stepping", "pairing")
 
@@ -33,7 +33,7 @@ def improved(code, passes, image_format, small, names, slack, whole):
     has_known = "known" in passes and small.offsets
     if has_known:
         code = with_known_places(code, small, small.farthest)
-    if image_format == WORDS:
+    if image_format in IN_WORDS:
         return improved_words(code, passes, names, whole, has_known)
     if "pointing" in passes and image_format == 2:
         code = with_pointing(code, names)

@@ -1,14 +1,13 @@
-"""GNU assembly of code in words, the third format: what each instruction becomes. docs/SOURCE.md has the table."""
+"""GNU assembly of code in words: what each instruction becomes. docs/SOURCE.md has the table."""
 from suygapid.passes.facts import DATA, LOADS
 from suygapid.passes.instructions import RELATIVE, Op
 from suygapid.passes.sizes import number_parts
 from suygapid.passes.spelling import plain, short
-from suygapid.passes.typed import is_free_step, is_move
+from suygapid.passes.typed import SINGLE, WORDS, is_free_step, is_move, is_trapping
 from suygapid.passes.writer import NORVC, RVC, Writer
 
-MASKS_AFTER = ["and x31, {0}, x27", "or {0}, x31, x26"]  # keep a data register in the data region
-MASKS_BEFORE = ["and x31, {0}, x27", "or x29, x31, x26"]  # make an address of an access
-MASKS_OF_MOVE = ["and x31, {1}, x27", "or {0}, x31, x26"]
+# Set a data register to what another register, or itself, is in the data region.
+MASKS = {WORDS: ["and x31, {1}, x27", "or {0}, x31, x26"], SINGLE: ["and {0}, {1}, x27"]}
 MASKS_OF_JUMP = ["and x30, {0}, x25", "or x30, x30, x24"]
 
 
@@ -83,19 +82,24 @@ class InWords(Writer):
             self.one(op, following)
 
     def address(self, op):
-        """Gets an address into a register: from the data base, where it is that of a small object of this file. Masks make
-        that of a data register relative to the data base; elf/moving.py does it for others."""
+        """Gets an address into a register: from the data base, where it is that of a small object of this file. Masks of two steps
+        make that of a data register relative to the data base; elf/moving.py does it for others."""
         register, text = op.operands
         parts = [f"lui {register}, %hi({text})", f"addi {register}, {register}, %lo({text})"]
+        if op.address == RELATIVE and register in DATA and self.format == SINGLE:
+            parts.insert(1, f"add {register}, {register}, x26")
         for part in [f"addi {register}, x26, %lo({text})"] if self.small.is_near(text) else parts:
             self.wide(part)
             self.mask(register)
         if op.address == RELATIVE and register not in DATA:
             self.itself(Op("add", (register, register, "x26"), None))
 
+    def masks(self, target, source):
+        return [text.format(target, source) for text in MASKS[self.format]]
+
     def mask(self, register):
         if register in DATA:
-            self.wide(*(text.format(register) for text in MASKS_AFTER))
+            self.wide(*self.masks(register, register))
 
     def jump(self, op):
         if op.word == "jalr":
@@ -108,9 +112,8 @@ class InWords(Writer):
     def masks_of_jump(base):
         return [text.format(base) for text in MASKS_OF_JUMP]
 
-    @staticmethod
-    def masks_of_access(base):
-        return [text.format(base) for text in MASKS_BEFORE]
+    def masks_of_access(self, base):
+        return self.masks("x29", base)
 
     def call(self, name):
         if self.is_weak(name):
@@ -125,9 +128,11 @@ class InWords(Writer):
         if needs_no_masks(op, following):
             self.itself(op)
         elif is_move(op):
-            self.wide(*(text.format(name, self.source(op)) for text in MASKS_OF_MOVE))
+            self.wide(*self.masks(name, self.source(op)))
         elif op.masked_base:
             self.access(op, self.masks_of_access(op.masked_base), "x29")
+        elif is_trapping(op, self.format):
+            self.access(op, self.masks_of_access("zero"), "x29")
         elif op.is_access and op.base == "zero":
             self.access(op, [], "x26")
         else:

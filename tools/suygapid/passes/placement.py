@@ -8,7 +8,7 @@ from suygapid.passes.facts import INVERSE
 from suygapid.passes.instructions import Op, replace
 from suygapid.passes.program import Mark
 from suygapid.passes.sizes import BUNDLE, expansions
-from suygapid.passes.typed import WORDS
+from suygapid.passes.typed import IN_WORDS
 from suygapid.passes.word_places import word_spans
 
 NEAREST, FARTHEST = -4096, 4094
@@ -36,8 +36,8 @@ def pass_op(op, place, image_format):
 
 def spans(code, image_format):
     """Where each piece begins and ends, from the place of the first. A label begins a bundle, or a word."""
-    if image_format == WORDS:
-        return word_spans(code)
+    if image_format in IN_WORDS:
+        return word_spans(code, image_format)
     found, end = [], 0
     for piece in code:
         if piece.is_mark:

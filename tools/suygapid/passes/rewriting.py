@@ -20,7 +20,7 @@ from suygapid.passes.small_data import SmallData, is_near
 from suygapid.passes.soft import Order, without_soft_labels
 from suygapid.passes.telling import format_lines, frame_lines, frame_table_lines, margin_lines, name_lines
 from suygapid.passes.trampolines import check_trampolines
-from suygapid.passes.typed import WORDS, check_registers, free_addresses, largest_step
+from suygapid.passes.typed import IN_WORDS, WORDS, check_registers, free_addresses, largest_step
 from suygapid.passes.unit import Unit
 from suygapid.passes.writer import RVC
 
@@ -65,14 +65,14 @@ class Rewriting:
         sections = [Code(pieces) for pieces in self.given.values()]
         ops = [op for section in sections for op in section.ops]
         check_trampolines(sections)
-        if image_format == WORDS:
+        if image_format in IN_WORDS:
             check_registers(ops)
         self.small = SmallData(self.unit, ops)
         self.told = [*margin_lines(ops, image_format), *(format_lines(image_format) if ops else ()),
                      *frame_lines(list(self.given.values())), *name_lines(self.unit), *frame_table_lines(self.unit)]
-        writer = InBundles if image_format != WORDS else Checking if is_checking else InWords
+        writer = InBundles if image_format not in IN_WORDS else Checking if is_checking else InWords
         self.writer = writer(self.unit, self.small, image_format, is_movable)
-        self.size, self.whole = len(ops), Whole(free_addresses(ops), largest_step(ops))
+        self.size, self.whole = len(ops), Whole(free_addresses(ops, image_format), largest_step(ops))
         self.parts = joined(self.given)
         with_others(self.given, self.parts)
 

@@ -3,10 +3,10 @@ functions, the format that it is for, and the names that a host knows."""
 from suygapid.passes.dependences import runs
 from suygapid.passes.frames import deepest
 from suygapid.passes.margins import margins
-from suygapid.passes.typed import WORDS, largest_step
+from suygapid.passes.typed import IN_WORDS, SINGLE, WORDS, largest_step
 
 MARGINS = (64, 128, 256, 512, 1024, 2304)  # the rooms beside an object that the linker script knows
-FORMAT_NAMES = {1: "1", 2: "2", WORDS: "words"}
+FORMAT_NAMES = {1: "1", 2: "2", WORDS: "words", SINGLE: "single"}
 FRAMES = ".debug_sfi_frames"  # by this beginning the linker takes it for debug information, which keeps no function
 
 
@@ -16,7 +16,7 @@ def weak_number(name):
 
 def margin_lines(ops, image_format):
     """Weak absolute symbols, of which the linker script takes the largest."""
-    room = margins(ops, largest_step(ops) if image_format == WORDS else 0)
+    room = margins(ops, largest_step(ops) if image_format in IN_WORDS else 0)
     for name, count in (("below", room.below), ("above", room.above)):
         if count:
             yield from weak_number(f"__sfi_{name}_{next(size for size in MARGINS if size >= count)}")

@@ -61,23 +61,23 @@ class Attributes(Folder):
             self.assertIn('\t.file\t2 "/folder/gates.h"', text.splitlines())
 
 
+def labels_of(rewriting, path):
+    """By each label, the section that it is in and its place there, as `as` has it in an object that it makes at a path."""
+    words = [f"{BINUTILS}as", "-march=rv32imc", "-mabi=ilp32", "-mno-relax", "-mno-arch-attr", "--keep-locals", "-o", path, "-"]
+    subprocess.run(words, input=rewriting.text().encode(), check=True)
+    listing = subprocess.run([f"{BINUTILS}nm", "--defined-only", "--special-syms", path], capture_output=True, check=True, text=True).stdout
+    return {name: int(place, 16) for place, kind, name in map(str.split, listing.splitlines()) if kind in "tTwW"}
+
+
 @needs(GCC)
 class Places(Folder):
     """The model by which `packing` fits code into bundles."""
-
-    def labels(self, rewriting):
-        """By each label, the section that it is in and its place there, as `as` has it."""
-        path = self.path("made.o")
-        words = [f"{BINUTILS}as", "-march=rv32imc", "-mabi=ilp32", "-mno-relax", "-mno-arch-attr", "--keep-locals", "-o", path, "-"]
-        subprocess.run(words, input=rewriting.text().encode(), check=True)
-        listing = subprocess.run([f"{BINUTILS}nm", "--defined-only", "--special-syms", path], capture_output=True, check=True, text=True).stdout
-        return {name: int(place, 16) for place, kind, name in map(str.split, listing.splitlines()) if kind in "tTwW"}
 
     def compare(self, name, image_format, is_movable):
         assembly = subprocess.run([GCC, "-S", *OPTIONS, "-o", "-", os.path.join(EXAMPLES, f"{name}.c")], check=True,
                                   capture_output=True, text=True).stdout
         rewriting = Rewriting(f"{name}.s", assembly, PASSES, image_format, is_movable)
-        wanted, count = self.labels(rewriting), 0
+        wanted, count = labels_of(rewriting, self.path("made.o")), 0
         for code in rewriting.code.values():
             for piece, place in zip(code, places(code, image_format)):
                 if piece.is_mark:

@@ -3,7 +3,9 @@ what the rules make of an instruction. docs/SOURCE.md says it.
 
 An access on a data register is itself. So is one on `zero`, by the register that holds the data base; on any other
 register it gets two masks before it. What writes a data register gets two masks after it, but for a step: `addi d, d, k`
-directly before an access on d that is in reach and is no load into `zero`."""
+directly before an access on d that is in reach and is no load into `zero`. Where masks are single there is one in the place
+of two, and x31, which holds nothing between the two then, is a data register; and an access by a number alone, as by a null
+pointer that the compiler knows, is on the mask of `zero`, so that it traps."""
 
 from functools import reduce
 from operator import or_
@@ -11,10 +13,13 @@ from operator import or_
 from suygapid.passes.assembly import Refused
 from suygapid.passes.facts import ADDRESSES, DATA, LOADS, SHAPES, bits
 from suygapid.passes.instructions import Op, replace
+from suygapid.passes.small_data import SmallData
 
-WORDS = "words"  # the format's name
+WORDS, SINGLE = "words", "single"  # the formats' names
+IN_WORDS = (WORDS, SINGLE)
 OWN = {"t4": 29, "t5": 30}  # the sandbox's own registers, beside those of the other formats
-MASKS = 2  # how many instructions it takes to mask an address, or to set a data register to another register
+MASKS = {WORDS: 2, SINGLE: 1}  # how many instructions it takes to mask an address, or to set a data register to another register
+FREE = {WORDS: ADDRESSES[:2], SINGLE: ADDRESSES}  # the data registers that compilers leave alone
 LOWEST, HIGHEST = -2048, 2047  # the offsets of an access
 REACH = 1020  # the offsets of the access after a step
 LARGEST_STEP = 256  # of a pointer: there is room for one at both ends of the data
@@ -33,6 +38,11 @@ def on_base(op, base, offset):
 def set_to(register, base):
     """The instruction that makes a data register point where a base does."""
     return Op("mv", (register, base), None)
+
+
+def is_trapping(op, image_format):
+    """Whether an instruction is an access by a number alone, and none to a small object, where those trap."""
+    return image_format == SINGLE and op.is_access and op.base == "zero" and not SmallData.holds(op.offset)
 
 
 def is_move(op):
@@ -92,10 +102,10 @@ def largest_step(ops):
     return max((step for step in steps if step <= LARGEST_STEP), default=0)
 
 
-def free_addresses(code):
-    """The data registers that nothing in the program names."""
+def free_addresses(code, image_format=WORDS):
+    """The data registers that nothing in the program names; none in bundles."""
     named = reduce(or_, (piece.read_bits | piece.written_bits for piece in code), 0)
-    return tuple(name for name in ADDRESSES if not named & bits(frozenset((name,))))
+    return tuple(name for name in FREE.get(image_format, ()) if not named & bits(frozenset((name,))))
 
 
 def uses(piece, name):

@@ -76,5 +76,5 @@ SECTIONS {
 
 ASSERT(__sfi_small_end + 64 - __sfi_data <= 2048,
     "the small objects and the room below them exceed 1984 bytes: compile with a lower -msmall-data-limit")
-ASSERT(DEFINED(__sfi_format_1) + DEFINED(__sfi_format_2) + DEFINED(__sfi_format_words) <= 1,
+ASSERT(DEFINED(__sfi_format_1) + DEFINED(__sfi_format_2) + DEFINED(__sfi_format_words) + DEFINED(__sfi_format_single) <= 1,
     "objects of several formats: compile all of them with one --format")

@@ -102,7 +102,7 @@ MISTAKES = [
      "masks = [text.format(base) for text in MASKS_OF_ACCESS]",
      "masks = [text.format(op.operands[0]) for text in MASKS_OF_ACCESS]"),
     ("telling: no room beside objects", "telling",
-     "room = margins(ops, largest_step(ops) if image_format == WORDS else 0)",
+     "room = margins(ops, largest_step(ops) if image_format in IN_WORDS else 0)",
      "room = margins([], 0)"),
     ("spelling: a number's sign", "spelling",
      'return f"c.addi16sp sp, {value}"',
