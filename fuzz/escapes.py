@@ -29,7 +29,8 @@ from suygapid.isa.decoding import LOADS, WIDTHS
 NAMES = ["verdicts of images in the first format", "verdicts of images in the second format", "verdicts of images in words",
          "runs in the first format", "runs in the second format", "runs in words"]
 MOST_ENTRIES, STEPS, NEAR, MASK = 64, 150, 1020, 0xFFFFFFFF
-RESERVED = slice(24, 28)
+FIRST_RESERVED = 24
+DATA_REGISTERS = {3: word_rules.DATA_REGISTERS, layout.SINGLE: (2, 3, 4, 26, 29, 31)}
 KNOWN = ("and", "or", "addi")  # the computations whose results the rules count on
 IN_FORMAT = {1: "in the first format", 2: "in the second format", 3: "in words"}
 
@@ -40,6 +41,8 @@ class Hostile(machine.Machine):
     def __init__(self, part, pick):
         super().__init__(part)
         self.pick, self.is_loose = pick, False
+        self.reserved = {number: value for number, value in enumerate(part.reserved(), FIRST_RESERVED)
+                         if number not in DATA_REGISTERS.get(part.format, ())}
         self.change_data(0, part.data_size if part.data_size <= 1024 else 1024)
 
     def word(self):
@@ -54,14 +57,17 @@ class Hostile(machine.Machine):
         """As at an entry, or after a reply: the reserved and typed ones as they must be, the others as hostile as may be."""
         part, pick = self.part, self.pick
         self.x = [0] + [self.word() for _ in range(31)]
-        self.x[RESERVED] = part.reserved()
+        for register, value in self.reserved.items():
+            self.x[register] = value
         data, size = part.data_base, part.data_size
         if part.format == 2:
             self.x[2] = data + pick.choice([0, size - 1, pick.randrange(size)])
-        if part.format == 3:
-            for register in word_rules.DATA_REGISTERS:
-                self.x[register] = data + pick.choice([-NEAR, size + NEAR - 1, pick.randrange(-NEAR, size + NEAR)])
+        for register in DATA_REGISTERS.get(part.format, ()):
+            near = data + pick.choice([-NEAR, size + NEAR - 1, pick.randrange(-NEAR, size + NEAR)])
+            self.x[register] = near if part.format == 3 else pick.choice([near, 0, size - 1, pick.randrange(size)])
+        if part.format in DATA_REGISTERS:
             self.x[30] = part.code_base + pick.randrange(0, part.code_size, 4)
+        if part.format == 3:
             self.x[31] = pick.choice([0, size - 1, pick.randrange(size)])
 
     def change_data(self, begin, length):
@@ -92,9 +98,13 @@ class Hostile(machine.Machine):
         if stop.cause in (machine.LOAD, machine.STORE):
             length = WIDTHS[self.fetch().op]
             place = stop.at - self.part.data_base
-            if not -layout.GUARD <= place <= self.part.data_size + layout.GUARD - length:
+            if not self.is_in_zone(stop.at, length) and not -layout.GUARD <= place <= self.part.data_size + layout.GUARD - length:
                 return f"accesses {stop.at:08x}, at {self.pc:08x}"
         return None
+
+    def is_in_zone(self, at, length):
+        """Whether all of an access lies in the zone at zero, which goes round: one may begin below 2^32 and end above 0."""
+        return all(any(begin <= address & MASK < end for begin, end in self.part.zones()) for address in range(at, at + length))
 
     def escape(self, entry):
         """Why a run from `entry` isn't safe within STEPS steps; None where it is."""
@@ -110,7 +120,7 @@ class Hostile(machine.Machine):
                     return why
                 self.set_registers()
                 self.pc += 4
-            elif self.x[RESERVED] != self.part.reserved():
+            elif any(self.x[register] != value for register, value in self.reserved.items()):
                 return f"writes a reserved register before {self.pc:08x}"
             if self.pick.random() < 0.05:
                 self.interrupt()

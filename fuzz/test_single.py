@@ -1,0 +1,97 @@
+"""Tests of code in words with single masks, which the program doesn't know yet: random code that the second checker accepts keeps to its
+sandbox on fuzz/machine.py, and without one of its rules it doesn't."""
+import random
+import unittest
+
+import escapes
+
+import odd_words
+import second_checker
+from suygapid.image import layout
+
+CODE, SIZE, DATA_SIZE, ENTRIES = 0xC1000000, 256, 256, 40
+ROUNDS, PLANTED_ROUNDS = 60, 300
+RIGHT, BOTH = 1 << 30, (1 << 30) + 0x1000  # a data base that is a single bit, and one that has another
+DATA_REGISTERS = escapes.DATA_REGISTERS[layout.SINGLE]
+REGISTERS = [*odd_words.REGISTERS, 26, 31, 31]
+
+
+class Pieces(odd_words.Pieces):
+    """With single masks in the place of others."""
+
+    def register(self):
+        return self.pick.choice(REGISTERS)
+
+    def target_register(self):
+        return self.pick.choice(DATA_REGISTERS)
+
+    def put_back(self, target):
+        return odd_words.and_(self.nearly(target, 10), self.register(), self.nearly(27, 25))
+
+    def placed(self, _at):
+        target = self.target_register()
+        return odd_words.and_(target, self.register(), self.nearly(27, 26)) + self.access(0, target) * self.pick.randrange(2)
+
+
+def findings(code, gates, but):
+    sandbox = second_checker.Sandbox(CODE, frozenset(CODE + place for place in gates), code)
+    return [it.place for it in second_checker.findings_in_words(second_checker.Single, sandbox) if it.rule not in but]
+
+
+def mended(code, gates, but):
+    """The code in which nops stand in the places of words that break rules but these, and of those before them, or ebreak at the end."""
+    code = bytearray(code)
+    while found := findings(bytes(code), gates, but):
+        for place in found:
+            for begin in {max(0, place // 4 * 4 - 4), place // 4 * 4}:
+                code[begin : begin + 4] = odd_words.EBREAK if begin + 4 == len(code) else odd_words.NOP
+    return bytes(code)
+
+
+def part_of(pick, but=(), data_base=RIGHT):
+    gates = odd_words.gate_places(pick, SIZE)
+    code = mended(odd_words.with_calls(Pieces(pick, SIZE).code(), gates), gates, but)
+    return layout.Part(CODE, code, data_base, DATA_SIZE, CODE, {CODE + place: 1 for place in gates}, format=layout.SINGLE)
+
+
+class Watched(escapes.Hostile):
+    """Counts accesses in the zone at zero."""
+    count = 0
+
+    def why_unsafe(self, stop):
+        if stop.cause in (escapes.machine.LOAD, escapes.machine.STORE) and any(begin <= stop.at < end for begin, end in self.part.zones()):
+            type(self).count += 1
+        return super().why_unsafe(stop)
+
+
+def escape(part, pick):
+    """Of some runs the first that isn't safe, and why."""
+    hostile = Watched(part, pick)
+    return next(filter(None, (hostile.escape(entry) for entry in pick.sample(range(CODE, CODE + SIZE, 4), ENTRIES))), None)
+
+
+class Escapes(unittest.TestCase):
+    def test_accepted_code_keeps_to_its_sandbox(self):
+        Watched.count = 0
+        for seed in range(ROUNDS):
+            pick = random.Random(seed)
+            part = part_of(pick)
+            image = layout.spelled(b"SFIS", [part])
+            self.assertEqual(second_checker.judged(image), (0, ["accepted sandboxes=1 bundles=16"]))
+            self.assertEqual(escape(part, pick), None, f"{seed}: {image.hex()}")
+        self.assertGreater(Watched.count, ROUNDS)
+
+    def test_each_rule_is_needed(self):
+        for rule in ("V3", "V4", "V5", "V6", "V7", "V10", "V11"):
+            self.assertTrue(self.escapes({rule}), rule)
+
+    def test_a_base_of_two_bits_is_wrong(self):
+        self.assertTrue(self.escapes((), BOTH))
+
+    def escapes(self, but, data_base=RIGHT):
+        picks = map(random.Random, range(PLANTED_ROUNDS))
+        return any(escape(part_of(pick, but, data_base), pick) for pick in picks)
+
+
+if __name__ == "__main__":
+    unittest.main()
