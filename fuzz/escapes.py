@@ -30,7 +30,7 @@ NAMES = ["verdicts of images in the first format", "verdicts of images in the se
          "runs in the first format", "runs in the second format", "runs in words"]
 MOST_ENTRIES, STEPS, NEAR, MASK = 64, 150, 1020, 0xFFFFFFFF
 FIRST_RESERVED = 24
-DATA_REGISTERS = {3: word_rules.DATA_REGISTERS, layout.SINGLE: (2, 3, 4, 26, 29, 31)}
+DATA_REGISTERS = {3: word_rules.WORDS.data_registers, layout.SINGLE: word_rules.SINGLE.data_registers}
 KNOWN = ("and", "or", "addi")  # the computations whose results the rules count on
 IN_FORMAT = {1: "in the first format", 2: "in the second format", 3: "in words"}
 

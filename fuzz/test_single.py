@@ -1,5 +1,5 @@
-"""Tests of code in words with single masks, which the program doesn't know yet: random code that the second checker accepts keeps to its
-sandbox on fuzz/machine.py, and without one of its rules it doesn't."""
+"""Tests of code in words with single masks, which the program doesn't know yet: of random code the second checker says what
+bench/word_rules.py says, and what it accepts keeps to its sandbox on fuzz/machine.py, and without one of its rules it doesn't."""
 import random
 import unittest
 
@@ -7,10 +7,11 @@ import escapes
 
 import odd_words
 import second_checker
+import word_rules
 from suygapid.image import layout
 
 CODE, SIZE, DATA_SIZE, ENTRIES = 0xC1000000, 256, 256, 40
-ROUNDS, PLANTED_ROUNDS = 60, 300
+COMPARED, ROUNDS, PLANTED_ROUNDS = 400, 60, 300
 RIGHT, BOTH = 1 << 30, (1 << 30) + 0x1000  # a data base that is a single bit, and one that has another
 DATA_REGISTERS = escapes.DATA_REGISTERS[layout.SINGLE]
 REGISTERS = [*odd_words.REGISTERS, 26, 31, 31]
@@ -68,6 +69,19 @@ def escape(part, pick):
     """Of some runs the first that isn't safe, and why."""
     hostile = Watched(part, pick)
     return next(filter(None, (hostile.escape(entry) for entry in pick.sample(range(CODE, CODE + SIZE, 4), ENTRIES))), None)
+
+
+class Verdicts(unittest.TestCase):
+    def test_both_readers_say_the_same(self):
+        seen = set()
+        for seed in range(COMPARED):
+            pick = random.Random(seed)
+            gates, code = odd_words.gate_places(pick, SIZE), Pieces(pick, SIZE).code()
+            sandbox = second_checker.Sandbox(CODE, frozenset(CODE + place for place in gates), code)
+            found = [(it.place, it.rule) for it in second_checker.findings_in_words(second_checker.Single, sandbox)]
+            self.assertEqual(found, word_rules.findings(code, gates, rules=word_rules.SINGLE), seed)
+            seen |= {rule for _, rule in found}
+        self.assertEqual(seen, {f"V{number}" for number in (1, 2, 3, 4, 5, 6, 7, 8, 10, 11)})
 
 
 class Escapes(unittest.TestCase):
