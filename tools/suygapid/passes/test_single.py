@@ -19,7 +19,7 @@ from suygapid.passes.test_random import HERE, NATIVE, STACK, native_answer
 from suygapid.passes.test_rewriting import labels_of
 from suygapid.passes.typed import SINGLE, free_addresses
 from suygapid.passes.word_places import part_sizes
-from testing import GCC, SFI_CC, SFI_IMAGE, TOP, Folder, by_turns, needs
+from testing import GCC, SFI_CC, SFI_IMAGE, TOOLS, TOP, Folder, by_turns, needs
 
 EXAMPLES = os.path.join(TOP, "examples", "c")
 CASES = {"crc32": "prose", "sort": "sort-numbers", "json": "json-tree", "regex": "regex-class", "lz": "prose", "stack": "stack-primes",
@@ -135,9 +135,24 @@ class Programs(Folder):
         told = self.image("--where", "0", "--where", "fffffffc", "--where", "100000", path).decode().splitlines()
         self.assertEqual([line.split(": ")[1] for line in told], ["in the zone at zero", "in the zone at zero", "neither the program's code nor its data"])
 
+    def assembly(self, name):
+        return self.ran(GCC, "-S", "-O2", "-march=rv32imc", "-mabi=ilp32", "-ffreestanding", "-fno-builtin", "-ffunction-sections",
+                        *(f"-ffixed-x{number}" for number in (24, 25, 26, 27, 29, 30, 31)), "-o", "-", os.path.join(EXAMPLES, name)).decode()
+
+    def validated(self, assembly, text, *words):
+        """Whether tools/sfi-validate has nothing to say of what became of some assembly."""
+        paths = self.write("given.s", assembly), self.write("rewritten.s", text)
+        return subprocess.run([os.path.join(TOOLS, "sfi-validate"), *words, *paths], capture_output=True, check=False).returncode == 0
+
+    def test_rewritten_code_does_the_same(self):
+        assembly = self.assembly("regex.c")
+        found = {is_movable: rewritten("given.s", assembly, PASSES, SINGLE, is_movable) for is_movable in (False, True)}
+        self.assertTrue(self.validated(assembly, found[False]))
+        self.assertTrue(self.validated(assembly, found[True], "--movable"))
+        self.assertFalse(self.validated(assembly, re.sub(r"and x29, s\d, x27", "and x29, a3, x27", found[False], count=1)))
+
     def test_sizes_are_those_of_as(self):
-        assembly = self.ran(GCC, "-S", "-O2", "-march=rv32imc", "-mabi=ilp32", "-ffreestanding", "-fno-builtin", "-ffunction-sections",
-                            *(f"-ffixed-x{number}" for number in (24, 25, 26, 27, 29, 30, 31)), "-o", "-", os.path.join(EXAMPLES, "lz.c")).decode()
+        assembly = self.assembly("lz.c")
         for is_movable in (False, True):
             rewriting = Rewriting("lz.s", assembly, PASSES, SINGLE, is_movable)
             wanted = labels_of(rewriting, self.path("made.o"))

@@ -9,7 +9,7 @@ from suygapid.validate.values import ZERO, Value, computed, number, of
 
 LINK, STACK = 1, 2
 PART = 2048  # the addends of which the compiler pairs parts lie in one block of this number of bytes
-DATA_REGISTERS = (2, 3, 4)  # sp, gp and tp
+DATA_REGISTERS = (2, 3, 4, 31)  # sp, gp, tp and, where masks are single, t6
 OWN = (24, 25, 26, 27)  # registers of the sandbox that hold the regions' bases and masks
 INVERSE = {"beq": "bne", "bne": "beq", "blt": "bge", "bge": "blt", "bltu": "bgeu", "bgeu": "bltu"}
 

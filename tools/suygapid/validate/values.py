@@ -13,7 +13,6 @@ from functools import lru_cache
 MASK = (1 << 32) - 1
 COMMUTATIVE = ("and", "or", "xor", "mul", "mulh", "mulhu")
 DATA_BASE, DATA_MASK, CODE_BASE, CODE_MASK = (("box", number) for number in (26, 27, 24, 25))
-MASKED = {DATA_MASK: ("in data", DATA_BASE, "data"), CODE_MASK: ("in code", CODE_BASE, "code")}
 
 
 class Value:
@@ -99,14 +98,19 @@ def computed(word, first, second):
 
 
 def masked(word, first, second):
-    """The value of one of the two instructions that mask an address, or None."""
-    mask = second.only_atom()
-    if word == "and" and mask in MASKED:
-        return of(MASKED[mask][0], inside(first))
-    atom = first.only_atom()
-    for beginning, base, name in MASKED.values():
-        if word == "or" and mask == base and atom and atom[0] == beginning:
-            return of(*base) if atom[1] == ZERO else of(name, atom[1])
+    """The value of an instruction that masks an address, or None. The first of two that mask one of the data counts as both: where
+    masks are single it is alone, and elsewhere the checker sees to the second."""
+    mask, atom = second.only_atom(), first.only_atom()
+    if word == "and" and mask == DATA_MASK:
+        return of("data", inside(first))
+    if word == "and" and mask == CODE_MASK:
+        return of("in code", inside(first))
+    if word != "or" or not atom:
+        return None
+    if mask == DATA_BASE and atom[0] == "data":
+        return of(*DATA_BASE) if atom[1] == ZERO else first
+    if mask == CODE_BASE and atom[0] == "in code":
+        return of(*CODE_BASE) if atom[1] == ZERO else of("code", atom[1])
     return None
 
 
