@@ -12,6 +12,7 @@ use Rattle.sfi_rules.proofs.Facts.{of_bundles, of_words, same_bundle_starts}
 use Rattle.std.proofs.lemmas.Option.{slice_get_within, get_or_from_slice_get}
 use Rattle.sfi_rules.specs.Readings.{bundle_place}
 use Rattle.sfi_rules.specs.declared.owed.Owed.TheVariants as kind
+use Rattle.sfi_rewrite.proofs.WordLaid.{word_unit}
 use Rattle.sfi_rewrite.proofs.WordLaying.{InWords, view, as_laid, word_aligned}
 use Rattle.sfi_link.proofs.WordItems.{AreWordStarts, nothing_owed, items_right}
 use Rattle.sfi_link.proofs.WordRegion.{IsFilled, filled_is_clean}
@@ -34,8 +35,8 @@ bundle_unit : (f : Format) → has_words f ≡ false → unit f ≡ 16
 bundle_unit Sfiw e = absurd (true≢false e)
 bundle_unit _ e = refl
 
-whole_in : (f : Format) (count : ℕ) (bundles : List (List BundleSlot)) (w : Bool) → has_words f ≡ w → AreWholeIn f count bundles → MatchBool w (AreOfItems count (slots_of bundles)) (All (AreWhole f count) bundles)
-whole_in f count bundles w e whole = subst (λ (b : Bool). MatchBool b (AreOfItems count (slots_of bundles)) (All (AreWhole f count) bundles)) e whole
+whole_in : (f : Format) (count : ℕ) (bundles : List (List BundleSlot)) (w : Bool) → has_words f ≡ w → AreWholeIn f count bundles → MatchBool w (AreOfItems f count (slots_of bundles)) (All (AreWhole f count) bundles)
+whole_in f count bundles w e whole = subst (λ (b : Bool). MatchBool b (AreOfItems f count (slots_of bundles)) (All (AreWhole f count) bundles)) e whole
 
 -- the unit divides a bundle, and so an address whose offset from a bundle start it divides
 after_bundle : (f : Format) (start offset to : ℕ) → to ≡ start + offset → start % 16 ≡ 0 → offset % unit f ≡ 0 → to % unit f ≡ 0
@@ -119,18 +120,13 @@ bundles_clean given number p code bundled placed linked =
 
 -- ---- a sandbox of code in words
 
--- the only format of words
-words_format : (f : Format) → has_words f ≡ true → f ≡ Sfiw
-words_format Sfiw e = refl
-words_format _ e = absurd (true≢false (sym e))
-
-are_word_starts : (given : List Place) → (number : ℕ) (p : Placement) (code : List ℕ) → p.format ≡ Sfiw → IsPlacedPart p → IsLinked given number p (part_with given number p code) → AreWordStarts (bases_of given number p).code (length code) (bases_of given number p) p.names
+are_word_starts : (given : List Place) → (number : ℕ) (p : Placement) (code : List ℕ) → has_words p.format ≡ true → IsPlacedPart p → IsLinked given number p (part_with given number p code) → AreWordStarts (bases_of given number p).code (length code) (bases_of given number p) p.names
 are_word_starts given number p code words placed linked place to e =
     let s = name_starts given number p code placed linked place to e in
-    let aligned : to % 4 ≡ 0 = ap (λ f. to % unit f) (sym words) ∙ s.aligned in
+    let aligned : to % 4 ≡ 0 = ap (λ n. to % n) (sym (word_unit p.format words)) ∙ s.aligned in
     (and_from _ _ (and_from _ _ (le-leb (bases_of given number p).code to s.from) (lt-ltb to ((bases_of given number p).code + length code) s.below)) (eq-eqb (to % 4) 0 aligned), s.small)
 
-words_filled : (given : List Place) → (number : ℕ) (p : Placement) (code : List ℕ) → p.format ≡ Sfiw → IsPlacedPart p → IsLinked given number p (part_with given number p code) → (of : AreOfItems (length p.names) (slots_of p.bundles))
+words_filled : (given : List Place) → (number : ℕ) (p : Placement) (code : List ℕ) → has_words p.format ≡ true → IsPlacedPart p → IsLinked given number p (part_with given number p code) → (of : AreOfItems p.format (length p.names) (slots_of p.bundles))
     → IsFilled (part_with given number p code) (bases_of given number p) p.names (length p.gates) of.laid.0 (slots_of p.bundles)
 words_filled given number p code words placed linked of =
     let made = linked.code in
@@ -146,23 +142,22 @@ words_filled given number p code words placed linked of =
       start = refl;
       bytes = made.bytes;
       fill = made.fill;
-      code = made.code_is ∙ ap (λ f. repeat (length p.gates) (stub_of f) ++ made.bytes) words;
+      code = made.code_is;
       are = made.slots;
       in_words = in_words;
       aligned = aligned;
       some = omega arith;
       bundles = counted.0;
       size = counted.1;
-      right = items_right at.code (length code) at p.names (are_word_starts given number p code words placed linked) (length p.names) at.start kind.Nothing of.items of.laid.0 (slots_of p.bundles) (omega arith) of.permitted of.bodies
+      right = items_right p.format at.code (length code) at p.names (are_word_starts given number p code words placed linked) (length p.names) at.start kind.Nothing of.items of.laid.0 (slots_of p.bundles) (omega arith) words of.permitted of.bodies
           (nothing_owed of.items) of.laid.1 (as_laid of.laid.0 (slots_of p.bundles) in_words);
       listed = listed_at at.code p.gates;
     }
 
 words_clean : (given : List Place) (number : ℕ) (p : Placement) (code : List ℕ) → has_words p.format ≡ true → IsPlacedPart p → IsLinked given number p (part_with given number p code) → AreFindings number (part_with given number p code) []
 words_clean given number p code has placed linked =
-    let words = words_format p.format has in
     let of = whole_in p.format (length p.names) p.bundles true has placed.whole in
-    of_words number (part_with given number p code) [] has (filled_is_clean number (part_with given number p code) (bases_of given number p) p.names (length p.gates) of.laid.0 (slots_of p.bundles) (words_filled given number p code words placed linked of))
+    of_words number (part_with given number p code) [] has (filled_is_clean number (part_with given number p code) (bases_of given number p) p.names (length p.gates) of.laid.0 (slots_of p.bundles) (words_filled given number p code has placed linked of))
 
 -- ---- either
 

@@ -1,5 +1,5 @@
 -- The code of a sandbox that can be moved is the same at each place, and makes the addresses of that.
-use Rattle.sfi_link.proofs.Prelude.{◌≡◌, ℕ, ◌+◌, ◌-◌, ◌*◌, List, [], ◌∷◌, ◌++◌, length, replicate, Option, Some, None, Bool, true, false, refl, sym, ap, ◌∙◌, subst, arith, ints, pos, ◌-ℤ◌, slice_get, Instr, Lui, OpImm, Addi, upper, lower, BundleSlot, Wide, Short, Jump, Upper, Lower, Region, PlacedName, Place, Placement, slot_size, slots_of, c_ebreak, Bases, bases_of, of_name, target_of, value_at, with_offset, resolved, made_of, IsSlot, AreSlots}
+use Rattle.sfi_link.proofs.Prelude.{◌≡◌, ℕ, ◌+◌, ◌-◌, ◌*◌, ◌<◌, List, [], ◌∷◌, ◌++◌, length, replicate, Option, Some, None, Bool, true, false, refl, sym, ap, ◌∙◌, subst, arith, ints, pos, ◌-ℤ◌, slice_get, Instr, Lui, OpImm, Addi, upper, lower, BundleSlot, Wide, Short, Jump, Upper, Lower, Region, PlacedName, Place, Placement, slot_size, slots_of, c_ebreak, Bases, bases_of, of_name, target_of, value_at, with_offset, resolved, made_of, IsSlot, AreSlots}
 use Rattle.std.specs.Prelude.{if◌then◌else◌}
 use Rattle.sfi_rewrite.specs.declared.placed.PlacedName.TheVariants as name
 use Rattle.std.proofs.lemmas.Option.{same_Some}
@@ -8,7 +8,12 @@ use Rattle.sfi_link.specs.Code.{address_at, address_of, base_of, offset_of, stub
 use Rattle.sfi_link.specs.Laws.{MovableCodeIsPlaceless, MovableAddressesAddUp, MaskedAddressesAddUp}
 use Rattle.rv_word.specs.declared.instr.RegOp.TheVariants.{Add}
 use Rattle.rv_step.specs.Step.{result_of}
-use Rattle.sfi_rewrite.specs.Transparency.{masked}
+use Rattle.sfi_rewrite.specs.Transparency.{AreRegions}
+use Rattle.sfi_rewrite.specs.words.Transparency.{masked_in}
+use Rattle.sfi_image.specs.Parts.{IsMaskedBase}
+use Rattle.sfi_image.specs.declared.span.Span.{Span}
+use Rattle.sfi_formats.specs.declared.format.Format.{Format}
+use Rattle.sfi_formats.specs.Formats.{has_one_step}
 use Rattle.sfi_rewrite.proofs.Facts.{masks_compose}
 
 -- two places of a sandbox that can be moved, with as many stubs
@@ -145,13 +150,20 @@ adds_up given number p place held base value moves in_code in_data register numb
 
 -- ---- with a mask after each step
 
+-- a mask before a sum, which the mask follows, changes nothing
+masked_before : (f : Format) (c d : Span) (v w sum : ℕ) → AreRegions c d → IsMaskedBase f d.base d.size → (has_one_step f ≡ true → v < d.size) → result_of Add v w ≡ sum
+    → masked_in f d (result_of Add (masked_in f d v) w) ≡ masked_in f d sum
+masked_before f c d v w sum regions bit low is = by (has_one_step f) refl
+  where
+    by : (one : Bool) → has_one_step f ≡ one → masked_in f d (result_of Add (masked_in f d v) w) ≡ masked_in f d sum
+    by true e = ap (λ (n : ℕ). masked_in f d (result_of Add n w)) ((masks_compose f c d v w regions bit).2 e (low e)) ∙ ap (masked_in f d) is
+    by false e = (masks_compose f c d v w regions bit).1 e ∙ ap (masked_in f d) is
+
 pub masked_adds_up : MaskedAddressesAddUp
-masked_adds_up given number p place held base value upper lower address c d moves in_code in_data register number_is halves there regions inside word =
+masked_adds_up f given number p place held base value upper lower address c d moves in_code in_data register number_is halves there regions bit low inside word =
     let sum : held base + value ≡ address =
     same_Some (held base + value) address (sym (adds_up given number p place held base value moves in_code in_data register number_is) ∙ there) in
-    let first = (masks_compose c d upper lower regions).1 ∙ ap (masked d) halves in
     let last : result_of Add value (held base) ≡ address = omega arith in
-    ap (λ (n : ℕ). masked d (result_of Add n (held base))) first
-    ∙ (masks_compose c d value (held base) regions).1
-    ∙ ap (masked d) last
-    ∙ (masks_compose c d address 0 regions).0 inside
+    ap (λ (n : ℕ). masked_in f d (result_of Add n (held base))) (masked_before f c d upper lower value regions bit (λ one. (low one).0) halves)
+    ∙ masked_before f c d value (held base) address regions bit (λ one. (low one).1) last
+    ∙ (masks_compose f c d address 0 regions bit).0 inside

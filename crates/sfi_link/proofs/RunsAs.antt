@@ -9,18 +9,18 @@ use Rattle.sfi_image.specs.Parts.{IsRightPart}
 use Rattle.sfi_link.specs.Standing.{IsResolvedTo, AreResolvedTo, RunsAt, RunsAs, WordRunsAs, RunsAsIn, LinkedRunsAs, LinkedImagesRunAs, SandboxesRunAs}
 use Rattle.sfi_rewrite.specs.Expansion.{jump_slots, IsAlone, IsMasked, IsExpansionOf, is_on_stack, stack_pair, put_back, writes_stack}
 use Rattle.sfi_rewrite.specs.Rewriting.{IsRewritten, AreRewritten}
-use Rattle.sfi_formats.specs.Formats.{has_words, is_data_register}
+use Rattle.sfi_formats.specs.Formats.{has_words, has_one_step, is_data_register}
 use Rattle.sfi_rewrite.specs.Transparency.{IsAimed, MayBe, SlotsStand, StandsTransparent}
 use Rattle.sfi_rewrite.specs.words.Transparency as words
 use Rattle.sfi_rewrite.specs.words.Expansion as words_expansion
-use Rattle.sfi_rewrite.specs.words.Expansion.{data_mask, base_of, before, after, mask_after, IsConfined, IsAround, is_move, moved, is_step_before_use}
+use Rattle.sfi_rewrite.specs.words.Expansion.{data_mask, is_made_on_x26, base_of, before, after, mask_after, IsConfined, IsAround, is_move, moved, is_step_before_use}
 use Rattle.rv_word.specs.Outlines.{destination}
 use Rattle.std.specs.Prelude.{not, ◌&&◌, ◌||◌, ◌==◌, drop, Option, None, if◌then◌else◌}
 use Rattle.sfi_rewrite.proofs.Facts.{rewritten_is_transparent}
 use Rattle.sfi_rewrite.proofs.Standing.{body_laid}
 use Rattle.sfi_link.proofs.CleanPlaces.{made}
 use Rattle.sfi_link.proofs.Pushed.{which_base, held_part, slots_there}
-use Rattle.rv_word.specs.declared.instr.RegOp.TheVariants.{Add}
+use Rattle.rv_word.specs.declared.instr.RegOp.TheVariants.{Add, And, Or}
 use Rattle.sfi_link.proofs.Bytes.{length_stubs}
 use Rattle.sfi_link.proofs.Region.{AreCut, cut}
 use Rattle.sfi_rewrite.proofs.Sizes.{size_of-append, size_nops}
@@ -51,37 +51,41 @@ bare_if : (b : Bool) (xs ys : List BundleSlot) → AreBare xs → AreBare ys →
 bare_if true xs ys a b = a
 bare_if false xs ys a b = b
 
-bare_mask : (to : Option ℕ) → AreBare (mask_after to)
-bare_mask None = tt
-bare_mask (Some d) = bare_if (is_data_register d) (data_mask d d) [] tt tt
+bare_data : (f : Format) (d a : ℕ) → AreBare (data_mask f d a)
+bare_data f d a = bare_if (has_one_step f) (Wide (Op And d a 27) ∷ []) (Wide (Op And 31 a 27) ∷ Wide (Op Or d 31 26) ∷ []) tt tt
+
+bare_mask : (f : Format) (to : Option ℕ) → AreBare (mask_after f to)
+bare_mask f None = tt
+bare_mask f (Some d) = bare_if (is_data_register d) (data_mask f d d) [] (bare_data f d d) tt
 
 bare_alone : (rvc : Bool) (i : Instr) (slots : List BundleSlot) → IsAlone rvc i slots → AreBare slots
 bare_alone false i slots e = subst AreBare (sym e) tt
 bare_alone true i slots (inl s) = subst AreBare (sym s.2) tt
 bare_alone true i slots (inr w) = subst AreBare (sym w.1) tt
 
-bare_before : (i : Instr) → AreBare (before i)
-bare_before (Load kind rd a imm) = bare_if (is_data_register a || (a == 0)) [] (data_mask 29 a) tt tt
-bare_before (Store width a rs2 imm) = bare_if (is_data_register a || (a == 0)) [] (data_mask 29 a) tt tt
-bare_before _ = tt
+bare_before : (f : Format) (i : Instr) → AreBare (before f i)
+bare_before f (Load kind rd a imm) = bare_if (is_data_register a || is_made_on_x26 f a) [] (data_mask f 29 a) tt (bare_data f 29 a)
+bare_before f (Store width a rs2 imm) = bare_if (is_data_register a || is_made_on_x26 f a) [] (data_mask f 29 a) tt (bare_data f 29 a)
+bare_before f _ = tt
 
-bare_confined : (rvc : Bool) (i : Instr) (slots : List BundleSlot) → IsConfined rvc i slots → AreBare slots
-bare_confined rvc (Load kind rd a imm) slots e = bare_alone rvc (Load kind rd (base_of a) imm) slots e
-bare_confined rvc (Store width a rs2 imm) slots e = bare_alone rvc (Store width (base_of a) rs2 imm) slots e
-bare_confined rvc (Jalr rd a imm) slots e = subst AreBare (sym e) tt
-bare_confined rvc i slots e = bare_alone rvc i slots e
+bare_confined : (f : Format) (rvc : Bool) (i : Instr) (slots : List BundleSlot) → IsConfined f rvc i slots → AreBare slots
+bare_confined f rvc (Load kind rd a imm) slots e = bare_alone rvc (Load kind rd (base_of f a) imm) slots e
+bare_confined f rvc (Store width a rs2 imm) slots e = bare_alone rvc (Store width (base_of f a) rs2 imm) slots e
+bare_confined f rvc (Jalr rd a imm) slots e = subst AreBare (sym e) tt
+bare_confined f rvc i slots e = bare_alone rvc i slots e
 
-bare_after : (step : Bool) (i : Instr) → AreBare (after step i)
-bare_after step i = bare_if step [] (mask_after (destination i)) tt (bare_mask (destination i))
+bare_after : (f : Format) (step : Bool) (i : Instr) → AreBare (after f step i)
+bare_after f step i = bare_if step [] (mask_after f (destination i)) tt (bare_mask f (destination i))
 
-bare_moved : (i : Instr) → AreBare (moved i)
-bare_moved (OpImm op d a imm) = tt
-bare_moved _ = tt
+bare_moved : (f : Format) (i : Instr) → AreBare (moved f i)
+bare_moved f (OpImm op d a imm) = bare_data f d a
+bare_moved f (Op op d b a) = bare_data f d a
+bare_moved f _ = tt
 
-bare_plain : (moves rvc step : Bool) (i : Instr) (slots : List BundleSlot) → MatchBool moves (slots ≡ moved i) (IsAround rvc step i slots) → AreBare slots
-bare_plain true rvc step i slots e = subst AreBare (sym e) (bare_moved i)
-bare_plain false rvc step i slots e =
-    subst AreBare (sym e.2) (bare_append (before i) (e.0 ++ after step i) (bare_before i) (bare_append e.0 (after step i) (bare_confined rvc i e.0 e.1) (bare_after step i)))
+bare_plain : (f : Format) (moves rvc step : Bool) (i : Instr) (slots : List BundleSlot) → MatchBool moves (slots ≡ moved f i) (IsAround f rvc step i slots) → AreBare slots
+bare_plain f true rvc step i slots e = subst AreBare (sym e) (bare_moved f i)
+bare_plain f false rvc step i slots e =
+    subst AreBare (sym e.2) (bare_append (before f i) (e.0 ++ after f step i) (bare_before f i) (bare_append e.0 (after f step i) (bare_confined f rvc i e.0 e.1) (bare_after f step i)))
 
 -- in bundles
 bare_jump : (rd a : ℕ) (imm : ℤ) → AreBare (jump_slots rd a imm)
@@ -122,12 +126,12 @@ await_in_bundles f line rvc (High rd name) slots e = (line, put_back (is_stack f
 await_in_bundles f line rvc (Low rd name) slots e = (line, put_back (is_stack f rd), e, bare_pair (is_stack f rd))
 await_in_bundles f line rvc (Base rd name) slots e = (line, put_back (is_stack f rd), e, bare_pair (is_stack f rd))
 
-await_in_words : (line : ℕ) (rvc step : Bool) (body : Body) (slots : List BundleSlot) → words_expansion.IsExpansionOf line rvc step body slots → AwaitName body slots
-await_in_words line rvc step (Plain i) slots e = bare_plain (is_move i && not step) rvc step i slots e
-await_in_words line rvc step (To i name) slots e = (line, [], e, tt)
-await_in_words line rvc step (High rd name) slots e = (line, mask_after (Some rd), e, bare_mask (Some rd))
-await_in_words line rvc step (Low rd name) slots e = (line, mask_after (Some rd), e, bare_mask (Some rd))
-await_in_words line rvc step (Base rd name) slots e = (line, mask_after (Some rd), e, bare_mask (Some rd))
+await_in_words : (f : Format) (line : ℕ) (rvc step : Bool) (body : Body) (slots : List BundleSlot) → words_expansion.IsExpansionOf f line rvc step body slots → AwaitName body slots
+await_in_words f line rvc step (Plain i) slots e = bare_plain f (is_move i && not step) rvc step i slots e
+await_in_words f line rvc step (To i name) slots e = (line, [], e, tt)
+await_in_words f line rvc step (High rd name) slots e = (line, mask_after f (Some rd), e, bare_mask f (Some rd))
+await_in_words f line rvc step (Low rd name) slots e = (line, mask_after f (Some rd), e, bare_mask f (Some rd))
+await_in_words f line rvc step (Base rd name) slots e = (line, mask_after f (Some rd), e, bare_mask f (Some rd))
 
 aimed : (j i : Instr) (z : ℤ) (count name : ℕ) → IsBody count (To j name) → i ≡ with_offset z j → IsAimed j i
 aimed (Jal rd offset) i z count name b e = (z, e)
@@ -224,6 +228,7 @@ runs_at given number p q x count lead own after offset body right linked placed 
       may_be = is.may_be;
       resolves = subst (λ (n : ℕ). AreResolvedTo b p.names n is.instr own) place is.goes;
       regions = record { format = q.format; code_placed = right.code_placed; data_placed = right.data_placed };
+      masked_base = right.one_bit;
       stands = λ t code pc. there.stand is.instr is.goes t code (pc ∙ sym place);
     }
 
@@ -239,11 +244,11 @@ bundled_runs_as given number s p q k x body right linked st =
     (st, runs_at given number p q x (length s.names) (st.before ++ nops) st.expanded st.after (size_of st.before + 2 * st.nops) body right linked (st.placed ∙ sym (append_assoc st.before nops (st.expanded ++ st.after))) size waits)
 
 words_run_as : (given : List Place) → (number : ℕ) (s : Sandbox) (p : Placement) (q : Part) (k : ℕ) (x : Item) → IsBody (length s.names) x.body → IsRightPart q → IsLinked given number p q
-    → words.StandsTransparent s.items p k x → WordRunsAs given number s.items p q k x
+    → words.StandsTransparent s.format s.items p k x → WordRunsAs given number s.format s.items p q k x
 words_run_as given number s p q k x body right linked st =
     let step = is_step_before_use x (drop (k + 1) s.items) in
-    let laid = body_laid x.line x.rvc step x.body st.expanded st.own st.is_expansion st.stands in
-    (st, runs_at given number p q x (length s.names) st.before st.own st.after (size_of st.before) body right linked st.placed refl (await_in_words x.line laid.0 step x.body st.own laid.1))
+    let laid = body_laid s.format x.line x.rvc step x.body st.expanded st.own st.is_expansion st.stands in
+    (st, runs_at given number p q x (length s.names) st.before st.own st.after (size_of st.before) body right linked st.placed refl (await_in_words s.format x.line laid.0 step x.body st.own laid.1))
 
 item_runs_as : (given : List Place) → (number : ℕ) (s : Sandbox) (p : Placement) (q : Part) (k : ℕ) (x : Item) → IsSandbox s → IsRewritten s p → IsRightPart q
     → IsLinked given number p q → slice_get s.items k ≡ Some x → RunsAsIn given number s.format s.items p q k x
@@ -252,7 +257,7 @@ item_runs_as given number s p q k x sandbox r right linked at = by (has_words s.
     body : IsBody (length s.names) x.body
     body = (sandbox.items k x at).body
 
-    by : (w : Bool) → MatchBool w (words.StandsTransparent s.items p k x) (StandsTransparent s.format s.items p k x) → MatchBool w (WordRunsAs given number s.items p q k x) (RunsAs given number s.format s.items p q k x)
+    by : (w : Bool) → MatchBool w (words.StandsTransparent s.format s.items p k x) (StandsTransparent s.format s.items p k x) → MatchBool w (WordRunsAs given number s.format s.items p q k x) (RunsAs given number s.format s.items p q k x)
     by true st = words_run_as given number s p q k x body right linked st
     by false st = bundled_runs_as given number s p q k x body right linked st
 

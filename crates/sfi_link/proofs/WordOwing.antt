@@ -1,21 +1,20 @@
 -- What an instruction of code in words writes, and what it leaves owed.
 use Rattle.sfi_link.proofs.Prelude.{◌≡◌, ◌⊎◌, ℕ, Option, Some, None, Bool, true, false, refl, sym, ap, ◌∙◌, subst, inl, inr, ◌==◌, ◌&&◌, ◌||◌, not, or_parts, and_left, and_right, eqb-true, MatchBool, Instr, Op, Jal, Jalr}
-use Rattle.std.specs.Prelude.{cond}
+use Rattle.std.specs.Prelude.{cond, if◌then◌else◌}
 use Rattle.std.proofs.lemmas.Bool.{true≢false}
-use Rattle.rv_word.specs.declared.instr.RegOp.TheVariants.{Or}
+use Rattle.rv_word.specs.declared.instr.RegOp.TheVariants.{And, Or}
 use Rattle.rv_word.specs.Outlines.{destination, is_register}
 use Rattle.sfi_source.specs.declared.item.Body.TheVariants.{Plain}
 use Rattle.sfi_pairs.specs.Pairs.{is_masking}
-use Rattle.sfi_formats.specs.declared.format.Format.TheVariants.{Sfiw}
-use Rattle.sfi_formats.specs.Formats.{is_reserved, is_data_register, is_data_register_in}
-use Rattle.sfi_formats.proofs.Formats.{data_registers}
+use Rattle.sfi_formats.specs.declared.format.Format.{Format}
+use Rattle.sfi_formats.specs.Formats.{is_reserved, is_data_register, is_data_register_in, has_words, has_one_step}
 use Rattle.sfi_rewrite.specs.Expansion.{is_withheld, names_withheld}
 use Rattle.sfi_rewrite.specs.words.Expansion as words
 use Rattle.sfi_rules.specs.declared.owed.Owed.{Owed}
 use Rattle.sfi_rules.specs.declared.owed.Owed.TheVariants as kind
 use Rattle.sfi_rules.specs.Readings.{is_jump}
 use Rattle.sfi_rules.specs.words.Rules.{is_reserved_one, places, is_pointer_step, breaks_offset, owed_by_data, owed_by_code, owed_of, owed_by}
-use Rattle.sfi_rewrite.proofs.WordKept.{written_free}
+use Rattle.sfi_rewrite.proofs.WordKept.{withheld_in_words, written_free}
 
 -- ---- registers
 
@@ -37,9 +36,9 @@ pub record IsFree (r : ℕ) : Type 0 where
   pub code : (r == 30) ≡ false
   pub offset : (r == 31) ≡ false
 
-pub free : (r : ℕ) → is_withheld Sfiw r ≡ false → IsFree r
-free r h =
-    let a = or_parts (is_reserved r || (r == 29) || (r == 30)) (r == 31) h in
+pub free : (f : Format) (r : ℕ) → has_words f ≡ true → is_withheld f r ≡ false → IsFree r
+free f r is_in_words h =
+    let a = or_parts (is_reserved r || (r == 29) || (r == 30)) (r == 31) (withheld_in_words f r is_in_words h) in
     let b = or_parts (is_reserved r || (r == 29)) (r == 30) a.0 in
     let c = or_parts (is_reserved r) (r == 29) b.0 in
     record { reserved = c.0; address = c.1; code = b.1; offset = a.1 }
@@ -47,33 +46,52 @@ free r h =
 -- the register that it writes, if there is one, is free
 abbrev pub IsFreeOne : Option ℕ → Type 0
 IsFreeOne None = Unit {0}
-IsFreeOne (Some d) = is_withheld Sfiw d ≡ false
+IsFreeOne (Some d) = IsFree d
 
-pub free_one : (i : Instr) → names_withheld Sfiw i ≡ false → IsFreeOne (destination i)
-free_one i n = by (destination i) refl
+pub free_one : (f : Format) (i : Instr) → has_words f ≡ true → names_withheld f i ≡ false → IsFreeOne (destination i)
+free_one f i is_in_words n = by (destination i) refl
   where
     by : (to : Option ℕ) → destination i ≡ to → IsFreeOne to
     by None e = tt
-    by (Some d) e = written_free i d e n
+    by (Some d) e = free f d is_in_words (written_free f i d e n)
 
 -- a register that is free is no reserved one, and not x31
-pub unreserved : (to : Option ℕ) → IsFreeOne to → is_reserved_one Sfiw to ≡ false
-unreserved None f = refl
-unreserved (Some d) f = and_left (is_reserved d) (not (is_data_register_in Sfiw d)) (free d f).reserved
+pub unreserved : (f : Format) (to : Option ℕ) → IsFreeOne to → is_reserved_one f to ≡ false
+unreserved f None free = refl
+unreserved f (Some d) free = and_left (is_reserved d) (not (is_data_register_in f d)) free.reserved
 
-pub no_offset : (i : Instr) (to : Option ℕ) → destination i ≡ to → IsFreeOne to → breaks_offset Sfiw i ≡ false
-no_offset i to e f = and_left _ (not (is_masking 27 31 i)) (ap (is_register 31) e ∙ by to f)
+pub no_offset : (f : Format) (i : Instr) (to : Option ℕ) → destination i ≡ to → IsFreeOne to → breaks_offset f i ≡ false
+no_offset f i to e free = and_left _ (not (has_one_step f || is_masking 27 31 i)) (ap (is_register 31) e ∙ by to free)
   where
     by : (to : Option ℕ) → IsFreeOne to → is_register 31 to ≡ false
-    by None f = refl
-    by (Some d) f = (free d f).offset
+    by None free = refl
+    by (Some d) free = free.offset
 
--- an instruction that names no withheld register makes no data register an address by x31
-pub no_place : (i : Instr) (d : ℕ) → names_withheld Sfiw i ≡ false → places Sfiw d i ≡ false
-no_place (Op Or rd a b) d n =
-    let z : (a == 31) ≡ false = (free a (or_parts (is_withheld Sfiw rd) (is_withheld Sfiw a) (or_parts (is_withheld Sfiw rd || is_withheld Sfiw a) (is_withheld Sfiw b) n).0).1).offset in
-    and_left ((rd == d) && (a == 31)) (b == 26) (and_right (rd == d) (a == 31) z)
-no_place _ d n = refl
+-- of those that are free the format's data registers are those of each format
+data_free : (f : Format) (d : ℕ) → IsFree d → is_data_register_in f d ≡ is_data_register d
+data_free f d free =
+    let base = (or_parts ((d == 24) || (d == 25)) (d == 26) (or_parts ((d == 24) || (d == 25) || (d == 26)) (d == 27) free.reserved).0).1 in
+    rw (base, free.offset) (none (is_data_register d))
+  where
+    none : (b : Bool) → (b || false) ≡ b
+    none true = refl
+    none false = refl
+
+pub neither : {a b : Bool} (one : Bool) → a ≡ false → b ≡ false → (if one then a else b) ≡ false
+neither true e g = e
+neither false e g = g
+
+-- an instruction that names no withheld register ends no mask
+pub no_place : (f : Format) (i : Instr) (d : ℕ) → has_words f ≡ true → names_withheld f i ≡ false → places f d i ≡ false
+no_place f (Op Or rd a b) d is_in_words n = neither (has_one_step f) refl (and_left ((rd == d) && (a == 31)) (b == 26) (and_right (rd == d) (a == 31) offset))
+  where
+    offset : (a == 31) ≡ false
+    offset = (free f a is_in_words (or_parts (is_withheld f rd) (is_withheld f a) (or_parts (is_withheld f rd || is_withheld f a) (is_withheld f b) n).0).1).offset
+no_place f (Op And rd a b) d is_in_words n = neither (has_one_step f) (and_right (rd == d) (b == 27) mask) refl
+  where
+    mask : (b == 27) ≡ false
+    mask = (or_parts ((b == 24) || (b == 25) || (b == 26)) (b == 27) (free f b is_in_words (or_parts (is_withheld f rd || is_withheld f a) (is_withheld f b) n).1).reserved).1
+no_place f _ d is_in_words n = neither (has_one_step f) refl refl
 
 -- ---- what it leaves owed
 
@@ -82,21 +100,21 @@ abbrev pub IsMaskOwed : Owed → Option ℕ → Type 0
 IsMaskOwed own None = own ≡ kind.Nothing
 IsMaskOwed own (Some d) = MatchBool (is_data_register d) ((own ≡ kind.Mask d) ⊎ (own ≡ kind.MaskOrUse d)) (own ≡ kind.Nothing)
 
-pub record Owes (i : Instr) (to : Option ℕ) : Type 0 where
+pub record Owes (f : Format) (i : Instr) (to : Option ℕ) : Type 0 where
   pub own : Owed
-  pub owes : owed_by Sfiw i ≡ Some own
+  pub owes : owed_by f i ≡ Some own
   pub is : IsMaskOwed own to
 
--- one that writes what is free, makes no data register an address, and isn't a jump that writes one
-abbrev pub IsGoodWrite : Instr → Option ℕ → Type 0
-IsGoodWrite i None = Unit {0}
-IsGoodWrite i (Some d) = (is_withheld Sfiw d ≡ false) × (places Sfiw d i ≡ false) × (is_data_register d ≡ true → is_jump i ≡ false)
+-- one that writes what is free, ends no mask, and isn't a jump that writes a data register
+abbrev pub IsGoodWrite : Format → Instr → Option ℕ → Type 0
+IsGoodWrite f i None = Unit {0}
+IsGoodWrite f i (Some d) = IsFree d × (places f d i ≡ false) × (is_data_register d ≡ true → is_jump i ≡ false)
 
-pub owing : (i : Instr) (to : Option ℕ) → destination i ≡ to → IsGoodWrite i to → Owes i to
-owing i None e g = record { own = kind.Nothing; owes = ap (λ t. owed_of Sfiw t i) e; is = refl }
-owing i (Some d) e g =
-    let by = chosen (is_data_register d) (d == 30) (places Sfiw d i) (is_jump i) (is_pointer_step d i) (owed_by_code i) (free d g.0).code g.1 g.2 in
-    record { own = by.0; owes = ap (λ t. owed_of Sfiw t i) e ∙ ap (λ t. cond t (owed_by_data Sfiw d i) (cond (d == 30) (owed_by_code i) (Some kind.Nothing))) (data_registers Sfiw d) ∙ by.1; is = by.2 }
+pub owing : (f : Format) (i : Instr) (to : Option ℕ) → destination i ≡ to → IsGoodWrite f i to → Owes f i to
+owing f i None e g = record { own = kind.Nothing; owes = ap (λ t. owed_of f t i) e; is = refl }
+owing f i (Some d) e g =
+    let by = chosen (is_data_register d) (d == 30) (places f d i) (is_jump i) (is_pointer_step d i) (owed_by_code i) g.0.code g.1 g.2 in
+    record { own = by.0; owes = ap (λ t. owed_of f t i) e ∙ ap (λ t. cond t (owed_by_data f d i) (cond (d == 30) (owed_by_code i) (Some kind.Nothing))) (data_free f d g.0) ∙ by.1; is = by.2 }
   where
     chosen : (t x p j s : Bool) (c : Option Owed) → x ≡ false → p ≡ false → (t ≡ true → j ≡ false)
         → (own : Owed) × (cond t (cond p (Some kind.Nothing) (cond j None (cond s (Some (kind.MaskOrUse d)) (Some (kind.Mask d))))) (cond x c (Some kind.Nothing)) ≡ Some own)
@@ -109,14 +127,14 @@ owing i (Some d) e g =
     chosen false true p j s c a b f = absurd (true≢false a)
 
 -- so of an instruction of a source
-pub owing_as_named : (i : Instr) → names_withheld Sfiw i ≡ false → words.is_barred_jump (Plain i) ≡ false → Owes i (destination i)
-owing_as_named i n b = owing i (destination i) refl (good (destination i) refl)
+pub owing_as_named : (f : Format) (i : Instr) → has_words f ≡ true → names_withheld f i ≡ false → words.is_barred_jump (Plain i) ≡ false → Owes f i (destination i)
+owing_as_named f i is_in_words n b = owing f i (destination i) refl (good (destination i) refl)
   where
     no_jump : (i : Instr) (d : ℕ) → destination i ≡ Some d → words.is_barred_jump (Plain i) ≡ false → is_data_register d ≡ true → is_jump i ≡ false
     no_jump (Jal rd offset) d e b typed = let same : rd ≡ d = cc in absurd (true≢false (sym typed ∙ sym (ap is_data_register same) ∙ b))
     no_jump (Jalr rd a imm) d e b typed = let same : rd ≡ d = cc in absurd (true≢false (sym typed ∙ sym (ap is_data_register same) ∙ (or_parts (is_data_register rd) (not (words.is_zero imm)) b).0))
     no_jump other d e b typed = refl
 
-    good : (to : Option ℕ) → destination i ≡ to → IsGoodWrite i to
+    good : (to : Option ℕ) → destination i ≡ to → IsGoodWrite f i to
     good None e = tt
-    good (Some d) e = (written_free i d e n, no_place i d n, no_jump i d e b)
+    good (Some d) e = (free f d is_in_words (written_free f i d e n), no_place f i d is_in_words n, no_jump i d e b)

@@ -1,14 +1,16 @@
 -- What holds of all that is placed.
-use Rattle.std.specs.Prelude.{◌≡◌, ◌⊎◌, ℕ, ◌+◌, ◌≤◌, List, [], length, true, Some}
+use Rattle.std.specs.Prelude.{◌≡◌, ◌⊎◌, ℕ, ◌+◌, ◌<◌, ◌≤◌, List, [], length, true, Some}
 use Rattle.sfi_image.specs.Spelling.{Part, Holds, IsWord}
 use Rattle.sfi_image.specs.declared.span.Span.{Span}
-use Rattle.sfi_image.specs.Parts.{IsRightLayout}
+use Rattle.sfi_image.specs.Parts.{IsRightLayout, IsMaskedBase}
 use Rattle.sfi_formats.specs.declared.place.Place.{Place}
-use Rattle.sfi_formats.specs.Formats.{code_base_register, data_base_register}
+use Rattle.sfi_formats.specs.Formats.{code_base_register, data_base_register, has_one_step}
+use Rattle.sfi_formats.specs.declared.format.Format.{Format}
 use Rattle.sfi_rules.specs.Findings.{AreFindings}
 use Rattle.sfi_rewrite.specs.Placement.{Placement}
 use Rattle.sfi_rewrite.specs.Placed.{IsPlacedPart, IsPlaced}
-use Rattle.sfi_rewrite.specs.Transparency.{AreRegions, masked}
+use Rattle.sfi_rewrite.specs.Transparency.{AreRegions}
+use Rattle.sfi_rewrite.specs.words.Transparency.{masked_in}
 use Rattle.rv_word.specs.declared.instr.RegOp.TheVariants.{Add}
 use Rattle.rv_step.specs.Step.{result_of}
 use Rattle.sfi_link.specs.Code.{bases_of, base_at, value_at, address_at}
@@ -55,10 +57,11 @@ MovableAddressesAddUp =
     → address_at (bases_of given number p) p.names place ≡ Some (held base + value)
 
 -- In the stack pointer of the second format and in data registers a mask follows each of the three. They
--- leave the name's address, too, if that lies in the data region.
+-- leave the name's address, too, if that lies in the data region, and, where a mask has one step, what the
+-- lui leaves and what the addi leaves lie below the data's size.
 abbrev pub MaskedAddressesAddUp : Type 0
 MaskedAddressesAddUp =
-    (given : List Place) (number : ℕ) (p : Placement) (place : ℕ) (held : ℕ → ℕ)
+    (f : Format) (given : List Place) (number : ℕ) (p : Placement) (place : ℕ) (held : ℕ → ℕ)
     (base value upper lower address : ℕ) (code_at data_at : Span)
     → p.movable ≡ true → held code_base_register ≡ (bases_of given number p).code
     → held data_base_register ≡ (bases_of given number p).«data»
@@ -66,9 +69,11 @@ MaskedAddressesAddUp =
     → value_at (bases_of given number p) p.names place ≡ Some value
     → result_of Add upper lower ≡ value
     → address_at (bases_of given number p) p.names place ≡ Some address
-    → AreRegions code_at data_at → Holds data_at address → IsWord address
-    → masked data_at (result_of Add
-    (masked data_at (result_of Add (masked data_at upper) lower)) (held base)) ≡ address
+    → AreRegions code_at data_at → IsMaskedBase f data_at.base data_at.size
+    → (has_one_step f ≡ true → (upper < data_at.size) × (value < data_at.size))
+    → Holds data_at address → IsWord address
+    → masked_in f data_at (result_of Add
+    (masked_in f data_at (result_of Add (masked_in f data_at upper) lower)) (held base)) ≡ address
 
 -- what is placed has at most one image
 abbrev pub OneImage : Type 0

@@ -8,7 +8,7 @@ use Rattle.rv_step.specs.State.{State}
 use Rattle.sfi_source.specs.declared.item.Item.{Item}
 use Rattle.sfi_source.specs.Source.{Sandbox, IsSandbox, IsSource}
 use Rattle.sfi_image.specs.Spelling.{Part, code_region, data_region}
-use Rattle.sfi_image.specs.Parts.{IsImage}
+use Rattle.sfi_image.specs.Parts.{IsImage, IsMaskedBase}
 use Rattle.sfi_formats.specs.declared.place.Place.{Place}
 use Rattle.sfi_rewrite.specs.declared.slot.BundleSlot.{BundleSlot}
 use Rattle.sfi_rewrite.specs.declared.slot.BundleSlot.TheVariants.{Wide, Short}
@@ -48,6 +48,7 @@ pub record RunsAt (given : List Place) (number : ℕ) (p : Placement) (q : Part)
   pub may_be : MayBe x.body instr
   pub resolves : AreResolvedTo (bases_of given number p) p.names (q.start + offset) instr slots
   pub regions : AreRegions (code_region q) (data_region q)
+  pub masked_base : IsMaskedBase q.format q.data_base q.data_size
   pub stands : (s : State) → Holds s.memory q.code_base (length q.code) q.code
       → s.hart.pc ≡ q.start + offset → SlotsStand instr s slots
 
@@ -59,14 +60,14 @@ RunsAs given number f items p q k x = (st : StandsTransparent f items p k x)
 
 -- The item runs as its instruction, where code is in words: its slots, as laid, stand directly after
 -- those of the items before it.
-abbrev pub WordRunsAs : List Place → ℕ → List Item → Placement → Part → ℕ → Item → Type 0
-WordRunsAs given number items p q k x = (st : words.StandsTransparent items p k x)
+abbrev pub WordRunsAs : List Place → ℕ → Format → List Item → Placement → Part → ℕ → Item → Type 0
+WordRunsAs given number f items p q k x = (st : words.StandsTransparent f items p k x)
     × RunsAt given number p q x st.own (size_of st.before)
 
 -- item k runs as its format has it: `RunsAs` or `WordRunsAs`
 abbrev pub RunsAsIn : List Place → ℕ → Format → List Item → Placement → Part → ℕ → Item → Type 0
 RunsAsIn given number f items p q k x = MatchBool (has_words f)
-    (WordRunsAs given number items p q k x)
+    (WordRunsAs given number f items p q k x)
     (RunsAs given number f items p q k x)
 
 -- each item of a source's sandbox runs so in what is linked of it

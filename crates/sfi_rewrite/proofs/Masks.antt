@@ -1,17 +1,22 @@
 -- What the masks make of a number: a data mask the address of the region with its offset.
 use Rattle.sfi_rewrite.proofs.Prelude.{◌≡◌, ℕ, ◌+◌, ◌-◌, ◌*◌, ◌/◌, ◌%◌, ◌^◌, ◌<◌, ◌≤◌, sym, ap, ◌∙◌, arith, bit_and, bit_or, code_most, data_most, Hart, register, AreRegions, HasReserved, Add, Holds, Span, masked}
 use Rattle.std.proofs.Common.{mul_assoc}
-use Rattle.std.proofs.lemmas.Nat.{and_mask, div-add-mod', mod_low, pow-add, or_shifted, or_comm, mod-mul-add}
+use Rattle.std.proofs.lemmas.Nat.{and_mask, and_block, pow_pos, div-add-mod', mod_low, pow-add, or_shifted, or_comm, mod-mul-add}
 use Rattle.rv_step.specs.Step.{result_of}
-use Rattle.std.proofs.Common.{false}
-use Rattle.std.proofs.Common.{refl}
+use Rattle.std.proofs.Common.{true, false, refl, Bool, ◌⊎◌, inl, inr, ⊎_elim}
+use Rattle.std.proofs.lemmas.Bool.{cases_lt, false≢true}
+use Rattle.std.proofs.Math.Nat.{mod-eq_of_lt}
+use Rattle.std.proofs.Math.Pow.{pow-lt}
+use Rattle.std.specs.Prelude.{if◌then◌else◌}
+use Rattle.std.specs.Int.Bits.{and_self, and_zero_l}
 use Rattle.sfi_formats.specs.declared.format.Format.{Format}
 use Rattle.sfi_formats.specs.Formats.{has_one_step, unit}
-use Rattle.sfi_image.specs.Parts.{IsRegion, data_mask_of, reserved_for}
+use Rattle.sfi_image.specs.Parts.{IsRegion, IsOneBit, IsMaskedBase, data_mask_of, reserved_for}
 use Rattle.sfi_image.proofs.Formats.{data_at_most}
 use Rattle.sfi_image.proofs.Regions.{exponent_le}
 use Rattle.sfi_image.proofs.Facts.{masked_unit}
 use Rattle.sfi_rewrite.specs.Laws.{MasksCompose}
+use Rattle.sfi_rewrite.specs.words.Transparency.{masked_in}
 
 -- ---- a number under a mask
 
@@ -115,5 +120,80 @@ masked_sum c d v w regions =
     ap (λ n. d.base + (d.base + v % n + w) % 2 ^ 32 % n) size_is ∙ ap (λ n. d.base + (n + v % 2 ^ k + w) % 2 ^ 32 % 2 ^ k) base_is
     ∙ ap (λ n. d.base + n) sum ∙ ap (λ n. d.base + (v + w) % 2 ^ 32 % n) (sym size_is)
 
+-- ---- a mask of one step
+
+-- a number in a block of 2 ^ k, whose place has no other bit than 2 ^ m
+one_block : (m k q r : ℕ) → bit_and q (2 ^ m) ≡ q → r < 2 ^ k → bit_and (q * 2 ^ k + r) (2 ^ m * 2 ^ k + (2 ^ k - 1)) ≡ q * 2 ^ k + r
+one_block m k q r same low =
+    let some : 0 < 2 ^ k = pow_pos k in
+    let rest : r % 2 ^ k ≡ r = mod-eq_of_lt low in
+    and_block k q (2 ^ m) r (2 ^ k - 1) low (omega arith)
+    ∙ ap (λ n. n * 2 ^ k + bit_and r (2 ^ k - 1)) same ∙ ap (λ n. q * 2 ^ k + n) (and_mask r k ∙ rest)
+
+-- the base as a block of as many as the size
+record IsBlock (base size : ℕ) : Type 0 where
+  m : ℕ
+  k : ℕ
+  size_is : size ≡ 2 ^ k
+  base_is : base ≡ 2 ^ m * 2 ^ k
+
+is_block : (base size least most : ℕ) → IsRegion base size least most → IsOneBit base size → IsBlock base size
+is_block base size least most region bit =
+    let j = bit.power in
+    let k = region.power in
+    let size_is : size ≡ 2 ^ k = region.size_is in
+    let base_is : base ≡ 2 ^ j = bit.base_is in
+    let no_lower : size ≤ base = bit.no_lower in
+    ⊎_elim
+    (λ (less : j < k). absurd (let more : 2 ^ j < 2 ^ k = pow-lt less in omega arith))
+    (λ (more : k ≤ j).
+    let m = j - k in
+    let sum : j ≡ m + k = omega arith in
+    record { m = m; k = k; size_is = size_is; base_is = base_is ∙ ap (λ n. 2 ^ n) sum ∙ pow-add 2 m k })
+    (cases_lt j k)
+
+-- what lies in the data region, or below its size, has no bit beside the mask's
+uncut : (base size least most x : ℕ) → IsRegion base size least most → IsOneBit base size → (x < size) ⊎ ((base ≤ x) × (x < base + size)) → bit_and x (base + size - 1) ≡ x
+uncut base size least most x region bit lies =
+    let b = is_block base size least most region bit in
+    let size_is : size ≡ 2 ^ b.k = b.size_is in
+    let base_is : base ≡ 2 ^ b.m * 2 ^ b.k = b.base_is in
+    let some : 0 < 2 ^ b.k = pow_pos b.k in
+    let mask : base + size - 1 ≡ 2 ^ b.m * 2 ^ b.k + (2 ^ b.k - 1) = omega arith in
+    ap (bit_and x) mask
+    ∙ ⊎_elim
+    (λ (low : x < size).
+    let is : x ≡ 0 * 2 ^ b.k + x = omega arith in
+    ap (λ n. bit_and n (2 ^ b.m * 2 ^ b.k + (2 ^ b.k - 1))) is ∙ one_block b.m b.k 0 x (and_zero_l (2 ^ b.m)) (omega arith) ∙ sym is)
+    (λ (held : (base ≤ x) × (x < base + size)).
+    let from : base ≤ x = held.0 in
+    let below : x < base + size = held.1 in
+    let r = x - base in
+    let is : x ≡ 2 ^ b.m * 2 ^ b.k + r = omega arith in
+    ap (λ n. bit_and n (2 ^ b.m * 2 ^ b.k + (2 ^ b.k - 1))) is ∙ one_block b.m b.k (2 ^ b.m) r (and_self (2 ^ b.m)) (omega arith) ∙ sym is)
+    lies
+
+-- ---- the mask of a format
+
+one_mask : (f : Format) (d : Span) → has_one_step f ≡ true → data_mask_of f d ≡ d.base + d.size - 1
+one_mask f d one = rw one refl
+
+pub held_stays : (f : Format) (c d : Span) (x : ℕ) → AreRegions c d → IsMaskedBase f d.base d.size → Holds d x → masked_in f d x ≡ x
+held_stays f c d x regions bit held = by (has_one_step f) refl
+  where
+    by : (one : Bool) → has_one_step f ≡ one → (if one then bit_and x (data_mask_of f d) else masked d x) ≡ x
+    by true e = ap (bit_and x) (one_mask f d e) ∙ uncut d.base d.size 256 (data_most regions.format) x regions.data_placed (bit e) (inr (held.0, held.1))
+    by false e = masked_held c d x regions held
+
+two_sum : (f : Format) (c d : Span) (v w : ℕ) → AreRegions c d → has_one_step f ≡ false → masked_in f d (result_of Add (masked_in f d v) w) ≡ masked_in f d (result_of Add v w)
+two_sum f c d v w regions two = rw two (masked_sum c d v w regions)
+
+low_stays : (f : Format) (c d : Span) (x : ℕ) → AreRegions c d → IsMaskedBase f d.base d.size → has_one_step f ≡ true → x < d.size → masked_in f d x ≡ x
+low_stays f c d x regions bit one low = by (has_one_step f) one
+  where
+    by : (step : Bool) → step ≡ true → (if step then bit_and x (data_mask_of f d) else masked d x) ≡ x
+    by true e = ap (bit_and x) (one_mask f d one) ∙ uncut d.base d.size 256 (data_most regions.format) x regions.data_placed (bit one) (inl low)
+    by false e = absurd (false≢true e)
+
 pub masks_compose : MasksCompose
-masks_compose c d v w regions = (λ held. masked_held c d v regions held, masked_sum c d v w regions)
+masks_compose f c d v w regions bit = (λ held. held_stays f c d v regions bit held, λ two. two_sum f c d v w regions two, λ one low. low_stays f c d v regions bit one low)

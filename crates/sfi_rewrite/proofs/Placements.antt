@@ -1,9 +1,9 @@
 -- The placement of a sandbox keeps what the type of what is placed keeps.
-use Rattle.sfi_rewrite.proofs.Prelude.{◌≡◌, ℕ, suc, ◌+◌, ◌-◌, ◌*◌, ◌/◌, ◌%◌, ◌<◌, ◌≤◌, List, [], ◌∷◌, ◌++◌, length, take, drop, get_or, replicate, refl, sym, ap, ◌∙◌, subst, arith, Some, None, Option, inl, inr, slice_get, IsTrue, ◌↔◌, Contains, Bool, false, IsPermitted, append-nil, MatchOption, All, AllZip, cases_lt, take_all, length-map, All-nil, All-cons, All-append, All-head, All-tail, All-contains_itself, slice_get-get_or, Ecall, Format, built_code_most, Item, Plain, Named, Gate, Code, Data, Unknown, Sandbox, IsSandbox, IsThere, IsBody, named, BundleSlot, PlacedName, size_of, slots_of, c_nop, next_bundle, AreLaid, AreLaidFrom, IsLabelAt, Placement, IsPlacedName, HasEndLabel, FillsEnd, AreBundles, IsPlacedThere, IsPlacedGate, IsPlacedPart, HaveBodies, HasEnd, IsRewritten, SourceGate, Sfi1, Sfi2, Sfiw, AreLaidIn, FillsEndIn, drop-cons, AreFaultless, true}
+use Rattle.sfi_rewrite.proofs.Prelude.{◌≡◌, ℕ, suc, ◌+◌, ◌-◌, ◌*◌, ◌/◌, ◌%◌, ◌<◌, ◌≤◌, List, [], ◌∷◌, ◌++◌, length, take, drop, get_or, replicate, refl, sym, ap, ◌∙◌, subst, arith, Some, None, Option, inl, inr, slice_get, IsTrue, ◌↔◌, Contains, Bool, false, IsPermitted, append-nil, MatchOption, All, AllZip, cases_lt, take_all, length-map, All-nil, All-cons, All-append, All-head, All-tail, All-contains_itself, slice_get-get_or, Ecall, Format, built_code_most, Item, Plain, Named, Gate, Code, Data, Unknown, Sandbox, IsSandbox, IsThere, IsBody, named, BundleSlot, PlacedName, size_of, slots_of, c_nop, next_bundle, AreLaid, AreLaidFrom, IsLabelAt, Placement, IsPlacedName, HasEndLabel, FillsEnd, AreBundles, IsPlacedThere, IsPlacedGate, IsPlacedPart, HaveBodies, HasEnd, IsRewritten, SourceGate, AreLaidIn, FillsEndIn, drop-cons, AreFaultless, true, MatchBool, AreWhole}
 use Rattle.sfi_formats.specs.Formats.{unit, has_words}
-use Rattle.sfi_rewrite.specs.Placed.{AreWholeIn}
+use Rattle.sfi_rewrite.specs.Placed.{AreWholeIn, AreOfItems}
 use Rattle.sfi_rewrite.specs.words.Expansion as words
-use Rattle.sfi_rewrite.proofs.WordLaid.{first_fits, all_first, laid_aligned, all_fit, laid_of}
+use Rattle.sfi_rewrite.proofs.WordLaid.{first_fits, all_first, laid_aligned, all_fit, laid_of, word_unit, bundle_unit}
 use Rattle.sfi_rewrite.proofs.KnownSlots.{words_known, IsKnown, nops_known, laid_known}
 use Rattle.std.proofs.lemmas.Slice.Zip.{AllZip-left, AllZip-long}
 use Rattle.std.specs.Option.{IsSomeAnd}
@@ -80,13 +80,16 @@ label_within f s slots nops k place h l end high c at =
 label_in_within : (f : Format) (s : Sandbox) (slots : List BundleSlot) (nops k place : ℕ)
     → IsSandbox s → AreLaidIn (has_words f) f s.items [] slots → FillsEndIn (has_words f) (size_of slots) (HasEndLabel s) nops → k ≤ length s.items → Contains (named s) (Code k) → IsLabelAt (has_words f) f s.items k place
     → IsWithin (unit f) place (size_of slots + 2 * nops)
-label_in_within Sfi1 s slots nops k place h l end high c at = label_within Sfi1 s slots nops k place h l end high c at
-label_in_within Sfi2 s slots nops k place h l end high c at = label_within Sfi2 s slots nops k place h l end high c at
-label_in_within Sfiw s slots nops k place h l end high c at =
-    let aligned = laid_aligned (drop k s.items) (take k s.items) at.0 at.1 in
-    let few = first_fits true Sfiw s.items k (length s.items) at.0 slots high at.1 (all_first true Sfiw s.items slots l) in
-    let is = at.2 in
-    record { aligned = omega arith; below = omega arith }
+label_in_within f s slots nops k place h l end high c at = by (has_words f) refl l end at
+  where
+    by : (w : Bool) → has_words f ≡ w → AreLaidIn w f s.items [] slots → FillsEndIn w (size_of slots) (HasEndLabel s) nops → IsLabelAt w f s.items k place → IsWithin (unit f) place (size_of slots + 2 * nops)
+    by false e l end at = subst (λ (u : ℕ). IsWithin u place (size_of slots + 2 * nops)) (sym (bundle_unit f e)) (label_within f s slots nops k place h l end high c at)
+    by true e l end at =
+        let aligned = laid_aligned f (drop k s.items) (take k s.items) at.0 at.1 in
+        let few = first_fits true f s.items k (length s.items) at.0 slots high at.1 (all_first true f s.items slots l) in
+        let is = at.2 in
+        let within : IsWithin 4 place (size_of slots + 2 * nops) = record { aligned = omega arith; below = omega arith } in
+        subst (λ (u : ℕ). IsWithin u place (size_of slots + 2 * nops)) (sym (word_unit f e)) within
 
 -- ---- names
 
@@ -149,16 +152,18 @@ end_in_fits true format slots labelled nops f h = let z : nops ≡ 0 = f in omeg
 
 known_in : (w : Bool) (format : Format) (count : ℕ) (items : List Item) (slots : List BundleSlot) → AreLaidIn w format items [] slots → All (λ x. IsBody count x.body) items → All (IsKnown count) slots
 known_in false format count items slots l b = laid_known format count 0 items slots l b
-known_in true format count items slots l b = words_known count items [] slots l b
+known_in true format count items slots l b = words_known format count items [] slots l b
 
 whole_in : (format : Format) (count : ℕ) (items : List Item) (slots : List BundleSlot) (labelled : Type 0) (nops : ℕ) (bundles : List (List BundleSlot))
     → AreLaidIn (has_words format) format items [] slots → All (IsPermitted format) items → All (λ x. IsBody count x.body) items → FillsEndIn (has_words format) (size_of slots) labelled nops
     → slots_of bundles ≡ slots ++ replicate nops c_nop → AreBundles bundles → AreWholeIn format count bundles
-whole_in Sfi1 count items slots labelled nops bundles l p b end code are = laid_whole Sfi1 count items slots nops bundles l p b code are
-whole_in Sfi2 count items slots labelled nops bundles l p b end code are = laid_whole Sfi2 count items slots nops bundles l p b code are
-whole_in Sfiw count items slots labelled nops bundles l p b end code are =
-    let none : slots ++ replicate nops c_nop ≡ slots = ap (λ n. slots ++ replicate n c_nop) end ∙ append-nil slots in
-    record { items = items; permitted = p; bodies = b; laid = subst (λ v. words.AreLaid items v) (sym (code ∙ none)) l }
+whole_in format count items slots labelled nops bundles l p b end code are = by (has_words format) l end
+  where
+    by : (w : Bool) → AreLaidIn w format items [] slots → FillsEndIn w (size_of slots) labelled nops → MatchBool w (AreOfItems format count (slots_of bundles)) (All (AreWhole format count) bundles)
+    by false l end = laid_whole format count items slots nops bundles l p b code are
+    by true l end =
+        let none : slots ++ replicate nops c_nop ≡ slots = ap (λ n. slots ++ replicate n c_nop) end ∙ append-nil slots in
+        record { items = items; permitted = p; bodies = b; laid = subst (λ v. words.AreLaid format items v) (sym (code ∙ none)) l }
 
 pub placed_part : (s : Sandbox) (p : Placement) → IsSandbox s → IsRewritten s p → IsPlacedPart p
 placed_part s p h r =

@@ -1,5 +1,5 @@
 -- States in which the expansions of a load, of an indirect jump and of writes of the stack pointer stand.
-use Rattle.sfi_rewrite.proofs.Prelude.{◌≡◌, ℕ, zero, suc, ◌+◌, ◌-◌, ◌%◌, ◌^◌, ◌<◌, ◌≤◌, List, [], ◌∷◌, ◌++◌, length, take, drop, replicate, true, false, Option, Some, None, refl, sym, ap, subst, ◌∙◌, ⊎_elim, arith, get_or-drop, slice_index, nat_lt, Contains, pos, flat_map, list_all, and_parts, ltb-true, cases_lt, And, Or, Instr, Op, Load, Jalr, Bytes, IsMemory, byte_at, bytes_at, addresses, address_after, with_bytes, number_of, Hart, IsHart, Stands, effect, after_load, Wide, State, AreRegions, IsAskedOf, TransparencyCanBeMet, Next, Trap, spelling, Lw, Span, Sfi2, ints, get_or-take, BundleSlot}
+use Rattle.sfi_rewrite.proofs.Prelude.{◌≡◌, ℕ, zero, suc, ◌+◌, ◌-◌, ◌%◌, ◌^◌, ◌<◌, ◌≤◌, List, [], ◌∷◌, ◌++◌, length, take, drop, replicate, true, false, Option, Some, None, refl, sym, ap, subst, ◌∙◌, ⊎_elim, arith, get_or-drop, slice_index, nat_lt, Contains, pos, flat_map, list_all, and_parts, ltb-true, cases_lt, And, Or, Instr, Op, Load, Jalr, Bytes, IsMemory, byte_at, bytes_at, addresses, address_after, with_bytes, number_of, Hart, IsHart, Stands, effect, after_load, Wide, State, AreRegions, IsAskedOf, TransparencyCanBeMet, Next, Trap, spelling, Lw, Span, Sfi2, ints, get_or-take, BundleSlot, false≢true}
 use Rattle.sfi_formats.specs.declared.format.Format.{Format}
 use Rattle.sfi_formats.specs.declared.format.Format.TheVariants.{Sfi1}
 use Rattle.sfi_formats.specs.Formats.{has_one_step, unit}
@@ -215,6 +215,7 @@ pub asked_of : (f : Format) → has_one_step f ≡ false → list_all (λ x. nat
 asked_of f two masks i j k l first second third =
     let words = words_of (j ∷ k ∷ l ∷ []) in record {
       regions = regions;
+      masked_base = λ one. absurd (false≢true (sym two ∙ one));
       is_state = record { hart = is_hart (unit f) masks; memory = is_memory words refl (words_small (j ∷ k ∷ l ∷ [])) };
       reserved = record { code_base = refl; code_mask = refl; data_base = λ _. refl; data_mask = rw two refl };
       stand = (

@@ -179,32 +179,32 @@ laid_bundled f (x ∷ items) code slots l b =
     (laid_bundled f items (then ++ l.1) l.2 (subst (λ n. AreLaidFrom f n items l.2) end l.5) now)
 
 -- in words, before the items after them
-some_confined : (rvc : Bool) (i : Instr) → (slots : List BundleSlot) × IsConfined rvc i slots
-some_confined rvc (Load kind rd a imm) = some_alone rvc (Load kind rd (base_of a) imm)
-some_confined rvc (Store width a rs2 imm) = some_alone rvc (Store width (base_of a) rs2 imm)
-some_confined rvc (Jalr rd a imm) = (Wide (Jalr rd 30 imm) ∷ [], refl)
-some_confined rvc other = some_alone rvc other
+some_confined : (f : Format) (rvc : Bool) (i : Instr) → (slots : List BundleSlot) × IsConfined f rvc i slots
+some_confined f rvc (Load kind rd a imm) = some_alone rvc (Load kind rd (base_of f a) imm)
+some_confined f rvc (Store width a rs2 imm) = some_alone rvc (Store width (base_of f a) rs2 imm)
+some_confined f rvc (Jalr rd a imm) = (Wide (Jalr rd 30 imm) ∷ [], refl)
+some_confined f rvc other = some_alone rvc other
 
-some_moved : (moves rvc step : Bool) (i : Instr) → (slots : List BundleSlot) × MatchBool moves (slots ≡ moved i) (IsAround rvc step i slots)
-some_moved true rvc step i = (moved i, refl)
-some_moved false rvc step i = let one = some_confined rvc i in (before i ++ (one.0 ++ after step i), (one.0, one.1, refl))
+some_moved : (f : Format) (moves rvc step : Bool) (i : Instr) → (slots : List BundleSlot) × MatchBool moves (slots ≡ moved f i) (IsAround f rvc step i slots)
+some_moved f true rvc step i = (moved f i, refl)
+some_moved f false rvc step i = let one = some_confined f rvc i in (before f i ++ (one.0 ++ after f step i), (one.0, one.1, refl))
 
-some_word_expansion_of : (line : ℕ) (rvc step : Bool) (body : Body) → (slots : List BundleSlot) × words_expansion.IsExpansionOf line rvc step body slots
-some_word_expansion_of line rvc step (Plain i) = some_moved (is_move i && not step) rvc step i
-some_word_expansion_of line rvc step (To i name) = (Jump i name line ∷ [], refl)
-some_word_expansion_of line rvc step (High rd name) = (Upper rd name line ∷ mask_after (Some rd), refl)
-some_word_expansion_of line rvc step (Low rd name) = (Lower rd name line ∷ mask_after (Some rd), refl)
-some_word_expansion_of line rvc step (Base rd name) = (Region rd name line ∷ mask_after (Some rd), refl)
+some_word_expansion_of : (f : Format) (line : ℕ) (rvc step : Bool) (body : Body) → (slots : List BundleSlot) × words_expansion.IsExpansionOf f line rvc step body slots
+some_word_expansion_of f line rvc step (Plain i) = some_moved f (is_move i && not step) rvc step i
+some_word_expansion_of f line rvc step (To i name) = (Jump i name line ∷ [], refl)
+some_word_expansion_of f line rvc step (High rd name) = (Upper rd name line ∷ mask_after f (Some rd), refl)
+some_word_expansion_of f line rvc step (Low rd name) = (Lower rd name line ∷ mask_after f (Some rd), refl)
+some_word_expansion_of f line rvc step (Base rd name) = (Region rd name line ∷ mask_after f (Some rd), refl)
 
-some_expanded : (items later : List Item) → (slots : List Marked) × AreExpanded items later slots
-some_expanded [] later = ([], refl)
-some_expanded (x ∷ items) later =
-    let one = some_word_expansion_of x.line x.rvc (is_step_before_use x (items ++ later)) x.body in
-    let rest = some_expanded items later in
+some_expanded : (f : Format) (items later : List Item) → (slots : List Marked) × AreExpanded f items later slots
+some_expanded f [] later = ([], refl)
+some_expanded f (x ∷ items) later =
+    let one = some_word_expansion_of f x.line x.rvc (is_step_before_use x (items ++ later)) x.body in
+    let rest = some_expanded f items later in
     (marked x.labelled one.0 ++ rest.0, (one.0, rest.0, one.1, refl, rest.1))
 
-some_words : (later items : List Item) → (slots : List BundleSlot) × AreLaidBefore items later slots
-some_words later items = let e = some_expanded items later in (in_words e.0, (e.0, e.1, refl))
+some_words : (f : Format) (later items : List Item) → (slots : List BundleSlot) × AreLaidBefore f items later slots
+some_words f later items = let e = some_expanded f items later in (in_words e.0, (e.0, e.1, refl))
 
 -- words, in bundles
 words_push : (code more : List BundleSlot) → InBundles code → size_of code % 4 ≡ 0 → size_of more ≡ 4 → InBundles (code ++ more)
@@ -226,7 +226,7 @@ words_bundled _ _ (one_slot l s slots words four w) code b aligned =
 
 some_laid_in : (w : Bool) (f : Format) (items later : List Item) → (slots : List BundleSlot) × AreLaidIn w f items later slots
 some_laid_in false f items later = some_laid f 0 items refl
-some_laid_in true f items later = some_words later items
+some_laid_in true f items later = some_words f later items
 
 in_bundles : (w : Bool) (f : Format) (items later : List Item) (slots : List BundleSlot) → AreLaidIn w f items later slots → InBundles slots
 in_bundles false f items later slots l = laid_bundled f items [] slots l (record { bundles = []; whole = refl; right = tt })

@@ -1,12 +1,12 @@
 -- Each instruction of a source stands transparent in what is placed.
-use Rattle.sfi_rewrite.proofs.Prelude.{◌≡◌, ℕ, ◌+◌, ◌<◌, ◌&&◌, ◌==◌, arith, true≢false, List, [], ◌∷◌, ◌++◌, Bool, true, false, MatchBool, length, map, take, drop, Option, Some, None, refl, sym, ap, ◌∙◌, subst, inl, inr, ◌⊎◌, append-nil, All, All-get_or, slice_get, drop_more, get_or_from_slice_get, slice_get_within, Instr, Op, OpImm, Load, Store, Jalr, Item, Body, Plain, To, High, Low, Base, BundleSlot, Wide, Short, Jump, Upper, Lower, Region, slots_of, IsAlone, IsPermitted, MayBe, Placement, not, ◌||◌, if◌then◌else◌, destination, Sfiw, is_data_register, replicate, append_assoc, AllZip, Format, HasEndLabel, Sandbox, size_of, c_nop, AreLaidFrom, IsRewritten, RewrittenIsTransparent, StandTransparent, Sfi1, Sfi2, AreLaidIn, FillsEndIn, has_words}
+use Rattle.sfi_rewrite.proofs.Prelude.{◌≡◌, ℕ, ◌+◌, ◌<◌, ◌&&◌, ◌==◌, arith, true≢false, List, [], ◌∷◌, ◌++◌, Bool, true, false, MatchBool, length, map, take, drop, Option, Some, None, refl, sym, ap, ◌∙◌, subst, inl, inr, ◌⊎◌, append-nil, All, All-get_or, slice_get, drop_more, get_or_from_slice_get, slice_get_within, Instr, Op, OpImm, Load, Store, Jalr, Item, Body, Plain, To, High, Low, Base, BundleSlot, Wide, Short, Jump, Upper, Lower, Region, slots_of, IsAlone, IsPermitted, MayBe, Placement, not, ◌||◌, if◌then◌else◌, destination, is_data_register, replicate, append_assoc, AllZip, Format, HasEndLabel, Sandbox, size_of, c_nop, AreLaidFrom, IsRewritten, RewrittenIsTransparent, StandTransparent, AreLaidIn, FillsEndIn, has_words, And, Or, has_one_step, is_made_on_x26}
 use Rattle.std.proofs.lemmas.List.{take-append-drop, map-append}
 use Rattle.sfi_rewrite.specs.words.Expansion.{IsConfined, IsAround, IsExpansionOf, IsExpansion, before, after, base_of, data_mask, mask_after, is_move, moved, is_step_before_use, Marked, marked, alone, in_words, AreExpanded, AreLaid}
 use Rattle.sfi_rewrite.specs.words.Transparency.{AreAsLaid, ActsAs, StandsTransparent as StandsTransparentInWords}
 use Rattle.sfi_rewrite.proofs.WordLaying.{view, as_laid, words_at_label}
 use Rattle.sfi_rewrite.proofs.WordLaid.{expanded_split, all_fit}
 use Rattle.sfi_rewrite.proofs.WordItems.{AreSome, expansion_of_some}
-use Rattle.sfi_rewrite.proofs.WordKept.{body_acts, plain_steps}
+use Rattle.sfi_rewrite.proofs.WordKept.{body_acts, plain_steps, unbarred}
 use Rattle.sfi_rewrite.specs.Transparency.{StandsTransparent}
 use Rattle.sfi_rewrite.specs.Standing.{StandsAs}
 use Rattle.sfi_rewrite.proofs.Laid.{laid_split}
@@ -44,32 +44,39 @@ wide_stays (s ∷ slots) (x ∷ laid) w h =
     let first : x ≡ s = elim h.0 [ inl e ↦ e | inr e ↦ e ∙ w.0 ] in
     ap (λ y. y ∷ laid) first ∙ ap (λ v. s ∷ v) (wide_stays slots laid w.1 h.1)
 
-made_wide : (none : Bool) (d a : ℕ) → AreWide (if none then [] else data_mask d a)
-made_wide true d a = tt
-made_wide false d a = (refl, (refl, tt))
+mask_wide_by : (one : Bool) (d a : ℕ) → AreWide (if one then Wide (Op And d a 27) ∷ [] else Wide (Op And 31 a 27) ∷ Wide (Op Or d 31 26) ∷ [])
+mask_wide_by true d a = (refl, tt)
+mask_wide_by false d a = (refl, (refl, tt))
 
-before_wide : (i : Instr) → AreWide (before i)
-before_wide (Load kind rd a imm) = made_wide (is_data_register a || (a == 0)) 29 a
-before_wide (Store width a rs2 imm) = made_wide (is_data_register a || (a == 0)) 29 a
-before_wide (Jalr rd a imm) = (refl, (refl, tt))
-before_wide _ = tt
+data_mask_wide : (f : Format) (d a : ℕ) → AreWide (data_mask f d a)
+data_mask_wide f d a = mask_wide_by (has_one_step f) d a
 
-masks_wide : (is : Bool) (d : ℕ) → AreWide (if is then data_mask d d else [])
-masks_wide true d = (refl, (refl, tt))
-masks_wide false d = tt
+made_wide : (f : Format) (none : Bool) (d a : ℕ) → AreWide (if none then [] else data_mask f d a)
+made_wide f true d a = tt
+made_wide f false d a = data_mask_wide f d a
 
-mask_wide : (to : Option ℕ) → AreWide (mask_after to)
-mask_wide None = tt
-mask_wide (Some d) = masks_wide (is_data_register d) d
+before_wide : (f : Format) (i : Instr) → AreWide (before f i)
+before_wide f (Load kind rd a imm) = made_wide f (is_data_register a || is_made_on_x26 f a) 29 a
+before_wide f (Store width a rs2 imm) = made_wide f (is_data_register a || is_made_on_x26 f a) 29 a
+before_wide f (Jalr rd a imm) = (refl, (refl, tt))
+before_wide f _ = tt
 
-after_wide : (step : Bool) (i : Instr) → AreWide (after step i)
-after_wide true i = tt
-after_wide false i = mask_wide (destination i)
+masks_wide : (f : Format) (is : Bool) (d : ℕ) → AreWide (if is then data_mask f d d else [])
+masks_wide f true d = data_mask_wide f d d
+masks_wide f false d = tt
 
-moved_wide : (i : Instr) → AreWide (moved i)
-moved_wide (OpImm op d a imm) = (refl, (refl, tt))
-moved_wide (Op op d b a) = (refl, (refl, tt))
-moved_wide _ = tt
+mask_wide : (f : Format) (to : Option ℕ) → AreWide (mask_after f to)
+mask_wide f None = tt
+mask_wide f (Some d) = masks_wide f (is_data_register d) d
+
+after_wide : (f : Format) (step : Bool) (i : Instr) → AreWide (after f step i)
+after_wide f true i = tt
+after_wide f false i = mask_wide f (destination i)
+
+moved_wide : (f : Format) (i : Instr) → AreWide (moved f i)
+moved_wide f (OpImm op d a imm) = data_mask_wide f d a
+moved_wide f (Op op d b a) = data_mask_wide f d a
+moved_wide f _ = tt
 
 -- ---- an expansion as it is laid is one, with or without 16-bit forms
 
@@ -90,40 +97,40 @@ alone_laid true i slots laid (inl f) h =
     ]
 alone_laid true i slots laid (inr w) h = elim (one_laid (Wide i) slots laid w.1 h) [ inl l ↦ (false, l) | inr l ↦ (false, l) ]
 
-confined_laid : (rvc : Bool) (i : Instr) (slots laid : List BundleSlot) → IsConfined rvc i slots → AreAsLaid slots laid → (r : Bool) × IsConfined r i laid
-confined_laid rvc (Load kind rd a imm) slots laid e h = alone_laid rvc (Load kind rd (base_of a) imm) slots laid e h
-confined_laid rvc (Store width a rs2 imm) slots laid e h = alone_laid rvc (Store width (base_of a) rs2 imm) slots laid e h
-confined_laid rvc (Jalr rd a imm) slots laid e h = elim (one_laid (Wide (Jalr rd 30 imm)) slots laid e h) [ inl l ↦ (rvc, l) | inr l ↦ (rvc, l) ]
-confined_laid rvc other slots laid e h = alone_laid rvc other slots laid e h
+confined_laid : (f : Format) (rvc : Bool) (i : Instr) (slots laid : List BundleSlot) → IsConfined f rvc i slots → AreAsLaid slots laid → (r : Bool) × IsConfined f r i laid
+confined_laid f rvc (Load kind rd a imm) slots laid e h = alone_laid rvc (Load kind rd (base_of f a) imm) slots laid e h
+confined_laid f rvc (Store width a rs2 imm) slots laid e h = alone_laid rvc (Store width (base_of f a) rs2 imm) slots laid e h
+confined_laid f rvc (Jalr rd a imm) slots laid e h = elim (one_laid (Wide (Jalr rd 30 imm)) slots laid e h) [ inl l ↦ (rvc, l) | inr l ↦ (rvc, l) ]
+confined_laid f rvc other slots laid e h = alone_laid rvc other slots laid e h
 
-around_laid : (rvc step : Bool) (i : Instr) (slots laid : List BundleSlot) → IsAround rvc step i slots → AreAsLaid slots laid → (r : Bool) × IsAround r step i laid
-around_laid rvc step i slots laid e h =
-    let one = apart (before i) (e.0 ++ after step i) laid (subst (λ v. AreAsLaid v laid) e.2 h) in
-    let two = apart e.0 (after step i) one.rest one.are_rest in
-    let first = wide_stays (before i) one.first (before_wide i) one.are_first in
-    let last = wide_stays (after step i) two.rest (after_wide step i) two.are_rest in
-    let mid = confined_laid rvc i e.0 two.first e.1 two.are_first in
-    (mid.0, (two.first, mid.1, one.both ∙ ap (λ v. v ++ one.rest) first ∙ ap (λ v. before i ++ v) (two.both ∙ ap (λ v. two.first ++ v) last)))
+around_laid : (f : Format) (rvc step : Bool) (i : Instr) (slots laid : List BundleSlot) → IsAround f rvc step i slots → AreAsLaid slots laid → (r : Bool) × IsAround f r step i laid
+around_laid f rvc step i slots laid e h =
+    let one = apart (before f i) (e.0 ++ after f step i) laid (subst (λ v. AreAsLaid v laid) e.2 h) in
+    let two = apart e.0 (after f step i) one.rest one.are_rest in
+    let first = wide_stays (before f i) one.first (before_wide f i) one.are_first in
+    let last = wide_stays (after f step i) two.rest (after_wide f step i) two.are_rest in
+    let mid = confined_laid f rvc i e.0 two.first e.1 two.are_first in
+    (mid.0, (two.first, mid.1, one.both ∙ ap (λ v. v ++ one.rest) first ∙ ap (λ v. before f i ++ v) (two.both ∙ ap (λ v. two.first ++ v) last)))
 
-plain_laid : (moves rvc step : Bool) (i : Instr) (slots laid : List BundleSlot) → MatchBool moves (slots ≡ moved i) (IsAround rvc step i slots) → AreAsLaid slots laid
-    → (r : Bool) × MatchBool moves (laid ≡ moved i) (IsAround r step i laid)
-plain_laid true rvc step i slots laid e h = (rvc, wide_stays (moved i) laid (moved_wide i) (subst (λ v. AreAsLaid v laid) e h))
-plain_laid false rvc step i slots laid e h = around_laid rvc step i slots laid e h
+plain_laid : (f : Format) (moves rvc step : Bool) (i : Instr) (slots laid : List BundleSlot) → MatchBool moves (slots ≡ moved f i) (IsAround f rvc step i slots) → AreAsLaid slots laid
+    → (r : Bool) × MatchBool moves (laid ≡ moved f i) (IsAround f r step i laid)
+plain_laid f true rvc step i slots laid e h = (rvc, wide_stays (moved f i) laid (moved_wide f i) (subst (λ v. AreAsLaid v laid) e h))
+plain_laid f false rvc step i slots laid e h = around_laid f rvc step i slots laid e h
 
-pub body_laid : (line : ℕ) (rvc step : Bool) (body : Body) (slots laid : List BundleSlot) → IsExpansionOf line rvc step body slots → AreAsLaid slots laid → (r : Bool) × IsExpansionOf line r step body laid
-body_laid line rvc step (Plain i) slots laid e h = plain_laid (is_move i && not step) rvc step i slots laid e h
-body_laid line rvc step (To i name) slots laid e h = (rvc, wide_stays (Jump i name line ∷ []) laid (refl, tt) (subst (λ v. AreAsLaid v laid) e h))
-body_laid line rvc step (High rd name) slots laid e h =
-    (rvc, wide_stays (Upper rd name line ∷ mask_after (Some rd)) laid (refl, mask_wide (Some rd)) (subst (λ v. AreAsLaid v laid) e h))
-body_laid line rvc step (Low rd name) slots laid e h =
-    (rvc, wide_stays (Lower rd name line ∷ mask_after (Some rd)) laid (refl, mask_wide (Some rd)) (subst (λ v. AreAsLaid v laid) e h))
-body_laid line rvc step (Base rd name) slots laid e h =
-    (rvc, wide_stays (Region rd name line ∷ mask_after (Some rd)) laid (refl, mask_wide (Some rd)) (subst (λ v. AreAsLaid v laid) e h))
+pub body_laid : (f : Format) (line : ℕ) (rvc step : Bool) (body : Body) (slots laid : List BundleSlot) → IsExpansionOf f line rvc step body slots → AreAsLaid slots laid → (r : Bool) × IsExpansionOf f line r step body laid
+body_laid f line rvc step (Plain i) slots laid e h = plain_laid f (is_move i && not step) rvc step i slots laid e h
+body_laid f line rvc step (To i name) slots laid e h = (rvc, wide_stays (Jump i name line ∷ []) laid (refl, tt) (subst (λ v. AreAsLaid v laid) e h))
+body_laid f line rvc step (High rd name) slots laid e h =
+    (rvc, wide_stays (Upper rd name line ∷ mask_after f (Some rd)) laid (refl, mask_wide f (Some rd)) (subst (λ v. AreAsLaid v laid) e h))
+body_laid f line rvc step (Low rd name) slots laid e h =
+    (rvc, wide_stays (Lower rd name line ∷ mask_after f (Some rd)) laid (refl, mask_wide f (Some rd)) (subst (λ v. AreAsLaid v laid) e h))
+body_laid f line rvc step (Base rd name) slots laid e h =
+    (rvc, wide_stays (Region rd name line ∷ mask_after f (Some rd)) laid (refl, mask_wide f (Some rd)) (subst (λ v. AreAsLaid v laid) e h))
 
-laid_acts : (x : Item) (later : List Item) (expanded own : List BundleSlot) (i : Instr) → MayBe x.body i → IsPermitted Sfiw x → IsExpansion x later expanded → AreAsLaid expanded own → ActsAs (is_step_before_use x later) i own
-laid_acts x later expanded own i be p is h =
-    let r = body_laid x.line x.rvc (is_step_before_use x later) x.body expanded own is h in
-    body_acts x.line r.0 (is_step_before_use x later) x.body i own be p.operands p.no_barred_jump (plain_steps x later) r.1
+laid_acts : (f : Format) (x : Item) (later : List Item) (expanded own : List BundleSlot) (i : Instr) → has_words f ≡ true → MayBe x.body i → IsPermitted f x → IsExpansion f x later expanded → AreAsLaid expanded own → ActsAs f (is_step_before_use x later) i own
+laid_acts f x later expanded own i is_in_words be p is h =
+    let r = body_laid f x.line x.rvc (is_step_before_use x later) x.body expanded own is h in
+    body_acts f x.line r.0 (is_step_before_use x later) x.body i own is_in_words be p.operands (unbarred f x is_in_words p) (plain_steps x later) r.1
 
 -- ---- what stands before a label
 
@@ -163,27 +170,27 @@ pub slots_of_marked : (labelled : Bool) (slots : List BundleSlot) → map (λ m.
 slots_of_marked labelled [] = refl
 slots_of_marked labelled (s ∷ slots) = ap (λ v. s ∷ v) (slots_of_marked false slots)
 
-pub stands_in_words : (items : List Item) (p : Placement) (slots : List BundleSlot) (k : ℕ) (x : Item) → AreLaid items slots → slots_of p.bundles ≡ slots → All (IsPermitted Sfiw) items
-    → slice_get items k ≡ Some x → StandsTransparentInWords items p k x
-stands_in_words items p slots k x l code permitted at =
+pub stands_in_words : (f : Format) (items : List Item) (p : Placement) (slots : List BundleSlot) (k : ℕ) (x : Item) → has_words f ≡ true → AreLaid f items slots → slots_of p.bundles ≡ slots → All (IsPermitted f) items
+    → slice_get items k ≡ Some x → StandsTransparentInWords f items p k x
+stands_in_words f items p slots k x is_in_words l code permitted at =
     let within : k < length items = slice_get_within items k x at in
     let is = get_or_from_slice_get items k x x at in
     let from : drop k items ≡ x ∷ drop (k + 1) items = drop_more items k x within ∙ ap (λ (y : Item). y ∷ drop (k + 1) items) is in
     let parts : items ≡ take k items ++ drop k items = sym (take-append-drop k items) in
-    let s = expanded_split (take k items) (drop k items) [] l.0 (subst (λ v. AreExpanded v [] l.0) parts l.1) in
-    let rest : AreExpanded (x ∷ drop (k + 1) items) [] s.back = subst (λ v. AreExpanded v [] s.back) from s.after in
+    let s = expanded_split f (take k items) (drop k items) [] l.0 (subst (λ v. AreExpanded f v [] l.0) parts l.1) in
+    let rest : AreExpanded f (x ∷ drop (k + 1) items) [] s.back = subst (λ v. AreExpanded f v [] s.back) from s.after in
     let expanded = rest.0 in
-    let expansion : IsExpansion x (drop (k + 1) items) expanded = subst (λ v. IsExpansion x v expanded) (append-nil (drop (k + 1) items)) rest.2 in
+    let expansion : IsExpansion f x (drop (k + 1) items) expanded = subst (λ v. IsExpansion f x v expanded) (append-nil (drop (k + 1) items)) rest.2 in
     let all : map (λ m. m.1) l.0 ≡ map (λ m. m.1) s.front ++ (expanded ++ map (λ m. m.1) rest.1) =
     ap (λ v. map (λ m. m.1) v) s.both ∙ map-append (λ m. m.1) s.front s.back
     ∙ ap (λ v. map (λ m. m.1) s.front ++ v) (ap (λ v. map (λ m. m.1) v) rest.3 ∙ map-append (λ m. m.1) (marked x.labelled expanded) rest.1 ∙ ap (λ v. v ++ map (λ m. m.1) rest.1) (slots_of_marked x.labelled expanded)) in
     let laid : AreAsLaid (map (λ m. m.1) s.front ++ (expanded ++ map (λ m. m.1) rest.1)) (in_words l.0) = subst (λ v. AreAsLaid v (in_words l.0)) all (as_laid l.0 (in_words l.0) (view l.0)) in
     let one = apart (map (λ m. m.1) s.front) (expanded ++ map (λ m. m.1) rest.1) (in_words l.0) laid in
     let two = apart expanded (map (λ m. m.1) rest.1) one.rest one.are_rest in
-    let earlier : AreExpanded (take k items) (drop k items) s.front = subst (λ v. AreExpanded (take k items) v s.front) (append-nil (drop k items)) s.before in
+    let earlier : AreExpanded f (take k items) (drop k items) s.front = subst (λ v. AreExpanded f (take k items) v s.front) (append-nil (drop k items)) s.before in
     let all_parts : l.0 ≡ s.front ++ (marked x.labelled expanded ++ rest.1) = s.both ∙ ap (λ v. s.front ++ v) rest.3 in
-    let some = expansion_of_some x.line x.rvc (is_step_before_use x (drop (k + 1) items)) x.body expanded expansion in
-    let may : IsPermitted Sfiw x = subst (IsPermitted Sfiw) is (All-get_or (IsPermitted Sfiw) items k x within permitted) in
+    let some = expansion_of_some f x.line x.rvc (is_step_before_use x (drop (k + 1) items)) x.body expanded expansion in
+    let may : IsPermitted f x = subst (IsPermitted f) is (All-get_or (IsPermitted f) items k x within permitted) in
     record {
       before = one.first;
       own = two.first;
@@ -196,7 +203,7 @@ stands_in_words items p slots k x l code permitted at =
       expanded = expanded;
       is_expansion = expansion;
       stands = two.are_first;
-      transparent = λ i be. laid_acts x (drop (k + 1) items) expanded two.first i be may expansion two.are_first;
+      transparent = λ i be. laid_acts f x (drop (k + 1) items) expanded two.first i is_in_words be may expansion two.are_first;
     }
 
 -- ==== Each instruction of a source stands transparent in what is placed.
@@ -232,10 +239,11 @@ stand_in_bundles f items p slots nops k x laid code permitted at =
 
 stand_in : (f : Format) (items : List Item) (p : Placement) (slots : List BundleSlot) (labelled : Type 0) (nops : ℕ) (k : ℕ) (x : Item) → AreLaidIn (has_words f) f items [] slots → FillsEndIn (has_words f) (size_of slots) labelled nops
     → slots_of p.bundles ≡ slots ++ replicate nops c_nop → All (IsPermitted f) items → slice_get items k ≡ Some x → StandsAs f items p k x
-stand_in Sfi1 items p slots labelled nops k x l end code permitted at = stand_in_bundles Sfi1 items p slots nops k x l code permitted at
-stand_in Sfi2 items p slots labelled nops k x l end code permitted at = stand_in_bundles Sfi2 items p slots nops k x l code permitted at
-stand_in Sfiw items p slots labelled nops k x l end code permitted at =
-    stands_in_words items p slots k x l (code ∙ ap (λ n. slots ++ replicate n c_nop) end ∙ append-nil slots) permitted at
+stand_in f items p slots labelled nops k x l end code permitted at = by (has_words f) refl l end
+  where
+    by : (w : Bool) → has_words f ≡ w → AreLaidIn w f items [] slots → FillsEndIn w (size_of slots) labelled nops → MatchBool w (StandsTransparentInWords f items p k x) (StandsTransparent f items p k x)
+    by true e l end = stands_in_words f items p slots k x e l (code ∙ ap (λ n. slots ++ replicate n c_nop) end ∙ append-nil slots) permitted at
+    by false e l end = stand_in_bundles f items p slots nops k x l code permitted at
 
 pub stand_transparent : RewrittenIsTransparent
 stand_transparent s p r k x at =

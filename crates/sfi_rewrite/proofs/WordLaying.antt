@@ -1,5 +1,5 @@
 -- Slots in words: one after another, with more after them, and as in_words makes them.
-use Rattle.sfi_rewrite.proofs.Prelude.{◌≡◌, Bool, true, false, List, [], ◌∷◌, ◌++◌, Option, Some, None, refl, sym, ap, ◌∙◌, append_assoc, append-nil, IsTrue, BundleSlot, Short, Form16, Marked, in_words, ℕ, ◌+◌, ◌%◌, ◌^◌, ◌<◌, ◌≤◌, Fits, w64, rules, arith, true≢false, Wide, size_of, expansion, marked, map, inl, inr, All, All-nil, All-cons, All-head, All-tail, slot_size, alone, AreAsLaid, built_code_most, Sfiw}
+use Rattle.sfi_rewrite.proofs.Prelude.{◌≡◌, Bool, true, false, List, [], ◌∷◌, ◌++◌, Option, Some, None, refl, sym, ap, ◌∙◌, append_assoc, append-nil, IsTrue, BundleSlot, Short, Form16, Marked, in_words, ℕ, ◌+◌, ◌%◌, ◌^◌, ◌<◌, ◌≤◌, Fits, w64, rules, arith, true≢false, Wide, size_of, expansion, marked, map, inl, inr, All, All-nil, All-cons, All-head, All-tail, slot_size, alone, AreAsLaid, largest}
 use Rattle.sfi_rewrite.specs.private.{so_far, ended, with_slot, with_more, LeadsTo, WordsSoFar, bytes_of, waiting_size, more_for, with_slots, waits, before_label}
 use Rattle.sfi_rewrite.proofs.Sizes.{size_of-append}
 
@@ -92,10 +92,10 @@ ended_none words None = refl
 ended_none words (Some f) = refl
 
 -- a word more is a number of 64 bits
-pub fits_more : (now : WordsSoFar) (n : ℕ) → bytes_of now ≤ built_code_most Sfiw → n ≡ bytes_of now → Fits w64 (n + 4)
+pub fits_more : (now : WordsSoFar) (n : ℕ) → bytes_of now ≤ largest → n ≡ bytes_of now → Fits w64 (n + 4)
 fits_more now n h e = let f : n + 4 < 2 ^ 64 = omega arith in search (rules, f)
 
-pub fits_four : (w now : WordsSoFar) (n : ℕ) → w ≡ now → bytes_of now ≤ built_code_most Sfiw → n ≡ size_of w.words → Fits w64 (n + 4)
+pub fits_four : (w now : WordsSoFar) (n : ℕ) → w ≡ now → bytes_of now ≤ largest → n ≡ size_of w.words → Fits w64 (n + 4)
 fits_four w now n same h e =
     let size = ap bytes_of same in
     let f : n + 4 < 2 ^ 64 = omega arith in

@@ -15,16 +15,16 @@ mask_or : IsSpelled (Op Or 2 31 26)
 mask_or = op_spelled Or 2 31 26 (omega arith) (omega arith) (omega arith)
 
 -- three instructions that are the expansion
-abbrev three_meet : (i j k l : Instr) → IsSpelled j → IsSpelled k → IsSpelled l → IsPlainExpansion false false i (Wide j ∷ Wide k ∷ Wide l ∷ []) → MeetsExpansion i
+abbrev three_meet : (i j k l : Instr) → IsSpelled j → IsSpelled k → IsSpelled l → IsPlainExpansion Sfiw false false i (Wide j ∷ Wide k ∷ Wide l ∷ []) → MeetsExpansion i
 three_meet i j k l first second third expansion =
-    meets Sfiw i (IsPlainExpansion false false i) (Wide j ∷ Wide k ∷ Wide l ∷ []) (words_of (j ∷ k ∷ l ∷ [])) expansion (asked_of Sfiw refl refl i j k l first second third)
+    meets Sfiw i (IsPlainExpansion Sfiw false false i) (Wide j ∷ Wide k ∷ Wide l ∷ []) (words_of (j ∷ k ∷ l ∷ [])) expansion (asked_of Sfiw refl refl i j k l first second third)
 
 -- what is asked of the first of the slots, or of the first two, where all three stand
 first_asked : (i : Instr) (s t u : BundleSlot) (state : State) → IsAskedOf Sfiw i (s ∷ t ∷ u ∷ []) code_at data_at state → IsAskedOf Sfiw i (s ∷ []) code_at data_at state
-first_asked i s t u state three = record { regions = three.regions; is_state = three.is_state; reserved = three.reserved; stand = (three.stand.0, tt) }
+first_asked i s t u state three = record { regions = three.regions; masked_base = three.masked_base; is_state = three.is_state; reserved = three.reserved; stand = (three.stand.0, tt) }
 
 two_asked : (i : Instr) (s t u : BundleSlot) (state : State) → IsAskedOf Sfiw i (s ∷ t ∷ u ∷ []) code_at data_at state → IsAskedOf Sfiw i (s ∷ t ∷ []) code_at data_at state
-two_asked i s t u state three = record { regions = three.regions; is_state = three.is_state; reserved = three.reserved; stand = (three.stand.0, (three.stand.1.0, tt)) }
+two_asked i s t u state three = record { regions = three.regions; masked_base = three.masked_base; is_state = three.is_state; reserved = three.reserved; stand = (three.stand.0, (three.stand.1.0, tt)) }
 
 -- the one instruction is the expansion; the two words after it don't matter
 abbrev one_meets : (i j : Instr) (IsExpanded : List BundleSlot → Type 0) → IsSpelled j → IsExpanded (Wide j ∷ []) → Meets Sfiw i IsExpanded
@@ -53,17 +53,17 @@ jump_met = (
 
 low_met : MeetsTransparent sample_low
 low_met = (
-  one_meets sample_low (Load Lw 10 26 (pos 16)) (IsPlainExpansion false false sample_low) (load_spelled 10 26 16 (omega arith) (omega arith) (omega arith)) (Wide (Load Lw 10 26 (pos 16)) ∷ [], refl, refl),
+  one_meets sample_low (Load Lw 10 26 (pos 16)) (IsPlainExpansion Sfiw false false sample_low) (load_spelled 10 26 16 (omega arith) (omega arith) (omega arith)) (Wide (Load Lw 10 26 (pos 16)) ∷ [], refl, refl),
   refl,
   tt,
   load_done (words_of (Load Lw 10 26 (pos 16) ∷ Op Or 2 31 26 ∷ Op Or 2 31 26 ∷ [])) refl 4,
 )
 
 step_met : MeetsStep sample_step (sample_use ∷ []) sample_push
-step_met = (one_meets sample_push sample_push (IsExpansion sample_step (sample_use ∷ [])) push_spelled (Wide sample_push ∷ [], refl, refl), refl, refl, tt, refl)
+step_met = (one_meets sample_push sample_push (IsExpansion Sfiw sample_step (sample_use ∷ [])) push_spelled (Wide sample_push ∷ [], refl, refl), refl, refl, tt, refl)
 
 -- what writes x2, and its mask
-abbrev written_met : (i : Instr) → IsPlainExpansion false false i (Wide i ∷ Wide (Op And 31 2 27) ∷ Wide (Op Or 2 31 26) ∷ []) → IsSpelled i → MeetsExpansion i
+abbrev written_met : (i : Instr) → IsPlainExpansion Sfiw false false i (Wide i ∷ Wide (Op And 31 2 27) ∷ Wide (Op Or 2 31 26) ∷ []) → IsSpelled i → MeetsExpansion i
 written_met i expansion spelled = three_meet i i (Op And 31 2 27) (Op Or 2 31 26) spelled mask_and mask_or expansion
 
 push_met : MeetsInside 2 sample_push
@@ -83,7 +83,7 @@ pop_met = (
 move_met : MeetsInside 2 sample_move
 move_met =
     let words = words_of (Op And 31 11 27 ∷ Op Or 2 31 26 ∷ Op Or 2 31 26 ∷ []) in (
-      meets Sfiw sample_move (IsPlainExpansion false false sample_move) (Wide (Op And 31 11 27) ∷ Wide (Op Or 2 31 26) ∷ []) words refl
+      meets Sfiw sample_move (IsPlainExpansion Sfiw false false sample_move) (Wide (Op And 31 11 27) ∷ Wide (Op Or 2 31 26) ∷ []) words refl
           (two_asked sample_move (Wide (Op And 31 11 27)) (Wide (Op Or 2 31 26)) (Wide (Op Or 2 31 26)) (state_of 4 words)
           (asked_of Sfiw refl refl sample_move (Op And 31 11 27) (Op Or 2 31 26) (Op Or 2 31 26) (op_spelled And 31 11 27 (omega arith) (omega arith) (omega arith)) mask_or mask_or)),
       (refl, refl, tt),

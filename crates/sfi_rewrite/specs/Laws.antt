@@ -1,15 +1,16 @@
 -- What holds of every source.
-use Rattle.std.specs.Prelude.{◌≡◌, ◌⊎◌, ◌*◌, ◌++◌, ℕ, List, [], ◌∷◌, true, false, replicate}
+use Rattle.std.specs.Prelude.{◌≡◌, ◌⊎◌, ◌*◌, ◌++◌, ◌<◌, ℕ, List, [], ◌∷◌, true, false, replicate}
 use Rattle.rv_word.specs.declared.instr.RegOp.TheVariants.{Add}
 use Rattle.rv_word.specs.declared.instr.Instr.{Instr}
 use Rattle.rv_step.specs.Step.{result_of}
 use Rattle.rv_step.specs.State.{State, IsState}
 use Rattle.rv_step.specs.Rows.{further, LeadTo}
-use Rattle.sfi_formats.specs.Formats.{stack_pointer}
+use Rattle.sfi_formats.specs.Formats.{stack_pointer, has_words, has_one_step}
 use Rattle.sfi_formats.specs.declared.format.Format.{Format}
-use Rattle.sfi_formats.specs.declared.format.Format.TheVariants.{Sfi2, Sfiw}
+use Rattle.sfi_formats.specs.declared.format.Format.TheVariants.{Sfi2}
 use Rattle.sfi_image.specs.declared.span.Span.{Span}
 use Rattle.sfi_image.specs.Spelling.{Holds}
+use Rattle.sfi_image.specs.Parts.{IsMaskedBase}
 use Rattle.sfi_source.specs.declared.item.Item.{Item}
 use Rattle.sfi_source.specs.Source.{Sandbox, IsSource}
 use Rattle.sfi_rewrite.specs.declared.slot.BundleSlot.{BundleSlot}
@@ -20,9 +21,10 @@ use Rattle.sfi_rewrite.specs.Placed.{IsPlaced}
 use Rattle.sfi_rewrite.specs.Rewriting.{IsPermitted, IsSourceFault, IsRewritten, AreRewritten}
 use Rattle.sfi_rewrite.specs.words.Expansion as words
 use Rattle.sfi_rewrite.specs.words.Transparency as words_transparency
+use Rattle.sfi_rewrite.specs.words.Transparency.{masked_in}
 use Rattle.sfi_rewrite.specs.words.Samples as words_samples
 use Rattle.sfi_rewrite.specs.Standing.{StandTransparent}
-use Rattle.sfi_rewrite.specs.Transparency.{AreRegions, masked, MayBe, ActsAs, SlotsStand, StandsTransparent}
+use Rattle.sfi_rewrite.specs.Transparency.{AreRegions, MayBe, ActsAs, SlotsStand, StandsTransparent}
 use Rattle.sfi_rewrite.specs.Samples.{MeetsTransparent, MeetsInside, MeetsOutside, MeetsStop, sample_load, sample_jump, sample_push, sample_upper, sample_pop}
 
 -- an item has at most one expansion by the rows of bundles, in each format
@@ -32,8 +34,8 @@ OneExpansion = (f : Format) (x : Item) (slots others : List BundleSlot) → IsEx
 
 -- in words an item has at most one expansion before the items after it
 abbrev pub OneWordExpansion : Type 0
-OneWordExpansion = (x : Item) (later : List Item) (slots others : List BundleSlot)
-    → words.IsExpansion x later slots → words.IsExpansion x later others → slots ≡ others
+OneWordExpansion = (f : Format) (x : Item) (later : List Item) (slots others : List BundleSlot)
+    → words.IsExpansion f x later slots → words.IsExpansion f x later others → slots ≡ others
 
 -- a sandbox has at most one placement
 abbrev pub OnePlacement : Type 0
@@ -74,16 +76,21 @@ ExpansionsAreTransparent =
 -- in words the expansion of a permitted item acts as the item's instruction
 abbrev pub WordExpansionsAreTransparent : Type 0
 WordExpansionsAreTransparent =
-    (x : Item) (later : List Item) (i : Instr) (slots : List BundleSlot) → MayBe x.body i
-    → IsPermitted Sfiw x → words.IsExpansion x later slots
-    → words_transparency.ActsAs (words.is_step_before_use x later) i slots
+    (f : Format) (x : Item) (later : List Item) (i : Instr) (slots : List BundleSlot)
+    → has_words f ≡ true → MayBe x.body i → IsPermitted f x → words.IsExpansion f x later slots
+    → words_transparency.ActsAs f (words.is_step_before_use x later) i slots
 
--- What lies in the data region masks to itself. The mask of a sum is that of the masked number and the
--- rest: so the halves of an address, each with its mask, leave what the whole masks to.
+-- What lies in the data region masks to itself. Where a mask has two steps, the mask of a sum is that of
+-- the masked number and the rest: so the halves of an address, each with its mask, leave what the whole
+-- masks to. Where it has one, what lies below the data's size masks to itself, too: so do the parts of a
+-- distance from the base.
 abbrev pub MasksCompose : Type 0
-MasksCompose = (code_at data_at : Span) (v w : ℕ) → AreRegions code_at data_at
-    → (Holds data_at v → masked data_at v ≡ v)
-    × (masked data_at (result_of Add (masked data_at v) w) ≡ masked data_at (result_of Add v w))
+MasksCompose = (f : Format) (code_at data_at : Span) (v w : ℕ) → AreRegions code_at data_at
+    → IsMaskedBase f data_at.base data_at.size
+    → (Holds data_at v → masked_in f data_at v ≡ v)
+    × (has_one_step f ≡ false → masked_in f data_at (result_of Add (masked_in f data_at v) w)
+    ≡ masked_in f data_at (result_of Add v w))
+    × (has_one_step f ≡ true → v < data_at.size → masked_in f data_at v ≡ v)
 
 -- each item of a source stands transparent in what is placed
 abbrev pub RewrittenIsTransparent : Type 0

@@ -4,7 +4,7 @@ use Rattle.std.specs.List.{All}
 use Rattle.rv_word.specs.Spelling.{InRange, IsReg}
 use Rattle.rv_comp.specs.Table.{allowed}
 use Rattle.sfi_formats.specs.declared.format.Format.{Format}
-use Rattle.sfi_formats.specs.declared.format.Format.TheVariants.{Sfi1, Sfiw}
+use Rattle.sfi_formats.specs.declared.format.Format.TheVariants.{Sfi1}
 use Rattle.sfi_formats.specs.Formats.{built_code_most, has_words, unit}
 use Rattle.sfi_source.specs.declared.item.Item.{Item}
 use Rattle.sfi_source.specs.declared.item.SourceGate.{SourceGate}
@@ -50,16 +50,16 @@ IsNamedBelow count (Lower rd name line) = name < count
 IsNamedBelow count (Region rd name line) = name < count
 
 -- slots of code in words that are those of permitted items of a source with `count` names
-pub record AreOfItems (count : ℕ) (slots : List BundleSlot) : Type 0 where
+pub record AreOfItems (f : Format) (count : ℕ) (slots : List BundleSlot) : Type 0 where
   pub items : List Item
-  pub permitted : All (IsPermitted Sfiw) items
+  pub permitted : All (IsPermitted f) items
   pub bodies : All (λ x. IsBody count x.body) items
-  pub laid : words.AreLaid items slots
+  pub laid : words.AreLaid f items slots
 
 -- the bundles hold whole expansions alone: each of its own, or in words all of them together
 abbrev pub AreWholeIn : Format → ℕ → List (List BundleSlot) → Type 0
 AreWholeIn f count bundles =
-    MatchBool (has_words f) (AreOfItems count (slots_of bundles)) (All (AreWhole f count) bundles)
+    MatchBool (has_words f) (AreOfItems f count (slots_of bundles)) (All (AreWhole f count) bundles)
 
 -- ---- sandboxes
 

@@ -70,7 +70,7 @@ pub record Placement : Type 0 where
 -- is cited
 abbrev pub AreLaidIn : Bool → Format → List Item → List Item → List BundleSlot → Type 0
 AreLaidIn in_words f items later slots =
-    MatchBool in_words (words.AreLaidBefore items later slots) (AreLaid f items slots)
+    MatchBool in_words (words.AreLaidBefore f items later slots) (AreLaid f items slots)
 
 -- the first place at or after that end where a label may stand: in words that end, in bundles a bundle
 -- start

@@ -11,7 +11,7 @@ use Rattle.sfi_rewrite.specs.words.Transparency as words
 -- the expansion of item k stands transparent among the placed slots, as the format asks
 abbrev pub StandsAs : Format → List Item → Placement → ℕ → Item → Type 0
 StandsAs f items p k x =
-    MatchBool (has_words f) (words.StandsTransparent items p k x) (StandsTransparent f items p k x)
+    MatchBool (has_words f) (words.StandsTransparent f items p k x) (StandsTransparent f items p k x)
 
 -- the expansion of each item stands transparent
 abbrev pub StandTransparent : Sandbox → Placement → Type 0

@@ -20,7 +20,7 @@ use Rattle.sfi_source.specs.declared.item.Item.{Item}
 use Rattle.sfi_formats.specs.Formats.{code_base_register, data_base_register, scratch, stack_pointer}
 use Rattle.sfi_image.specs.declared.span.Span.{Span}
 use Rattle.sfi_image.specs.Spelling.{Holds}
-use Rattle.sfi_image.specs.Parts.{IsCodeRegion, IsDataRegion, IsBundleStart, reserved_for, HasReserved}
+use Rattle.sfi_image.specs.Parts.{IsCodeRegion, IsDataRegion, IsMaskedBase, IsBundleStart, reserved_for, HasReserved}
 use Rattle.sfi_rewrite.specs.declared.slot.BundleSlot.{BundleSlot}
 use Rattle.sfi_rewrite.specs.declared.slot.BundleSlot.TheVariants.{Wide, Short}
 use Rattle.sfi_rewrite.specs.Expansion.{writes_stack, slot_size, size_of, slots_of, c_nop}
@@ -86,11 +86,12 @@ pub record DoesAs (is_own : ℕ → Bool) (s : State) (i : Instr) (before : List
   pub step : IsStep there result
   pub same : IsSameAside is_own result (effect i (slot_size last) (with_pc s.hart there.hart.pc) s.memory)
 
--- What is asked wherever slots stand for i, in code of this format: regions of a sandbox, a state of the
--- machine, the reserved registers, and the slots from pc on.
+-- What is asked wherever slots stand for i, in code of this format: regions of a sandbox, with a base
+-- such as its masks need, a state of the machine, the reserved registers, and the slots from pc on.
 pub record IsAskedOf (f : Format) (i : Instr) (slots : List BundleSlot) (code_at data_at : Span)
     (s : State) : Type 0 where
   pub regions : AreRegions code_at data_at
+  pub masked_base : IsMaskedBase f data_at.base data_at.size
   pub is_state : IsState s
   pub reserved : HasReserved f (reserved_for f code_at data_at) s.hart.registers
   pub stand : SlotsStand i s slots

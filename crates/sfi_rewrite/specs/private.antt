@@ -3,7 +3,7 @@ use Rattle.std.specs.Prelude.{◌≡◌, ◌+◌, ◌*◌, ◌<◌, ◌≤◌, �
 use Rattle.std.specs.List.{All}
 use Rattle.sfi_formats.specs.Limits.{bundle_size}
 use Rattle.sfi_formats.specs.declared.format.Format.{Format}
-use Rattle.sfi_formats.specs.declared.format.Format.TheVariants.{Sfi2, Sfiw}
+use Rattle.sfi_formats.specs.declared.format.Format.TheVariants.{Sfi2}
 use Rattle.sfi_formats.specs.Formats.{built_code_most, has_words}
 use Rattle.sfi_source.specs.declared.item.Item.{Item}
 use Rattle.sfi_source.specs.declared.item.Named.{Named}
@@ -142,9 +142,9 @@ abbrev pub AreWords : WordsSoFar → Type 0
 AreWords w = size_of w.words % 4 ≡ 0
 
 -- the words are whole, and a code region has room for them
-pub record HaveRoom (w : WordsSoFar) : Type 0 where
+pub record HaveRoom (f : Format) (w : WordsSoFar) : Type 0 where
   pub aligned : AreWords w
-  pub fits : bytes_of w ≤ built_code_most Sfiw
+  pub fits : bytes_of w ≤ built_code_most f
 
 -- the words before what may be a label: where one comes, the form that waits stands alone in its word
 abbrev pub before_label : Bool → List BundleSlot → Option Form16 → WordsSoFar
@@ -153,26 +153,26 @@ before_label true words waiting = ended words waiting
 
 -- the new words are the old ones with the slots of item `x` after them, where `later` comes after
 -- the item
-pub record AreWith (x : Item) (later : List Item) (old new : WordsSoFar) : Type 0 where
+pub record AreWith (f : Format) (x : Item) (later : List Item) (old new : WordsSoFar) : Type 0 where
   pub expanded : List BundleSlot
-  pub is_expansion : IsExpansion x later expanded
+  pub is_expansion : IsExpansion f x later expanded
   pub lead : LeadsTo old (marked x.labelled expanded) new
 
 -- no code region has room for the words, and this is the fault of that
-pub record IsBeyond (sandbox : ℕ) (w : WordsSoFar) (f : RewriteFault) : Type 0 where
-  pub beyond : built_code_most Sfiw < bytes_of w
-  pub fault : f ≡ TooLarge sandbox
+pub record IsBeyond (f : Format) (sandbox : ℕ) (w : WordsSoFar) (fault : RewriteFault) : Type 0 where
+  pub beyond : built_code_most f < bytes_of w
+  pub fault_is : fault ≡ TooLarge sandbox
 
 -- no code region has room for the words with the item's slots after them, and this is the fault of
 -- that
-pub record HasNoRoom (sandbox : ℕ) (x : Item) (later : List Item) (old : WordsSoFar)
-    (f : RewriteFault) : Type 0 where
+pub record HasNoRoom (f : Format) (sandbox : ℕ) (x : Item) (later : List Item) (old : WordsSoFar)
+    (fault : RewriteFault) : Type 0 where
   pub new : WordsSoFar
-  pub are_with : AreWith x later old new
-  pub is_beyond : IsBeyond sandbox new f
+  pub are_with : AreWith f x later old new
+  pub is_beyond : IsBeyond f sandbox new fault
 
 -- the words of the first k of the items
-pub record AreOfFirst (k : ℕ) (items : List Item) (w : WordsSoFar) : Type 0 where
+pub record AreOfFirst (f : Format) (k : ℕ) (items : List Item) (w : WordsSoFar) : Type 0 where
   pub expanded : List Marked
-  pub are_expanded : AreExpanded (take k items) (drop k items) expanded
+  pub are_expanded : AreExpanded f (take k items) (drop k items) expanded
   pub lead : LeadsTo (so_far [] None) expanded w

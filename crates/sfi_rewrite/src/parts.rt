@@ -45,7 +45,7 @@ fn lay(alloc: Global, format: Format, sandbox: u32, items: &[Item]) -> Result<La
     ensures refused { IfErr result (UnlessMemory (IsItemFault (has_words format) format sandbox items.now)) }
 {
     if format.has_words() {
-        lay_in_words(alloc, sandbox, items)
+        lay_in_words(alloc, format, sandbox, items)
     } else {
         lay_items(alloc, format, sandbox, items)
     }

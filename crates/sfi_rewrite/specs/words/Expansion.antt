@@ -5,7 +5,8 @@ use Rattle.rv_word.specs.declared.instr.RegOp.TheVariants.{Add, And, Or}
 use Rattle.rv_word.specs.declared.instr.Instr.{Instr}
 use Rattle.rv_word.specs.declared.instr.Instr.TheVariants.{Op, OpImm, Load, Store, Jal, Jalr}
 use Rattle.rv_word.specs.Outlines.{destination}
-use Rattle.sfi_formats.specs.Formats.{data_base_register, data_mask_register, is_data_register, code_register, offset_register}
+use Rattle.sfi_formats.specs.declared.format.Format.{Format}
+use Rattle.sfi_formats.specs.Formats.{data_base_register, data_mask_register, is_data_register, code_register, offset_register, has_one_step}
 use Rattle.sfi_source.specs.declared.item.Body.{Body}
 use Rattle.sfi_source.specs.declared.item.Body.TheVariants.{Plain, To, High, Low, Base}
 use Rattle.sfi_source.specs.declared.item.Item.{Item}
@@ -19,46 +20,55 @@ use Rattle.rv_comp.specs.Table.{expansion}
 -- indirect jump on x30, and what writes a data register stands before its mask, is the mask, or is
 -- a step before its use.
 
--- `and x31, a, x27`; `or d, x31, x26`: d becomes the address of the data region with the offset of a
-abbrev pub data_mask : ℕ → ℕ → List BundleSlot
-data_mask d a =
-    Wide (Op And offset_register a data_mask_register)
+-- `and x31, a, x27`; `or d, x31, x26`: d becomes the address of the data region with the offset of a.
+-- Where a mask has one step it is `and d, a, x27`: d becomes a, if that lies in the data region.
+abbrev pub data_mask : Format → ℕ → ℕ → List BundleSlot
+data_mask f d a =
+    if has_one_step f then Wide (Op And d a data_mask_register) ∷ []
+    else Wide (Op And offset_register a data_mask_register)
     ∷ Wide (Op Or d offset_register data_base_register) ∷ []
 
 -- ---- a load, a store, an indirect jump
 
--- the base on which an access on a is made: a data register itself; x26 for x0, since a masked 0 is
--- the region's first address; x29 for any other register
-abbrev pub base_of : ℕ → ℕ
-base_of a =
-    if is_data_register a then a else if a == 0 then data_base_register else address_register
+-- an access on a is made on x26: it is one on x0, and a masked 0 is the region's first address. (Where a
+-- mask has one step, a masked 0 is 0, and an access there traps.)
+abbrev pub is_made_on_x26 : Format → ℕ → Bool
+is_made_on_x26 f a = (a == 0) && not (has_one_step f)
+
+-- the base on which an access on a is made: a data register itself; x26 for x0, where a masked 0 is the
+-- region's first address; x29 for any other register
+abbrev pub base_of : Format → ℕ → ℕ
+base_of f a =
+    if is_data_register a then a
+    else if is_made_on_x26 f a then data_base_register else address_register
 
 -- the mask by which x29 becomes the address of a, where an access on a is made on x29
-abbrev pub makes_base : ℕ → List BundleSlot
-makes_base a = if is_data_register a || (a == 0) then [] else data_mask address_register a
+abbrev pub makes_base : Format → ℕ → List BundleSlot
+makes_base f a =
+    if is_data_register a || is_made_on_x26 f a then [] else data_mask f address_register a
 
 -- what stands before the instruction: before an access the mask of its base, if it has one; before an
 -- indirect jump the pair by which x30 becomes a word's start in the code region
-abbrev pub before : Instr → List BundleSlot
-before (Load kind rd a imm) = makes_base a
-before (Store width a rs2 imm) = makes_base a
-before (Jalr rd a imm) = map Wide (code_pair code_register a)
-before i = []
+abbrev pub before : Format → Instr → List BundleSlot
+before f (Load kind rd a imm) = makes_base f a
+before f (Store width a rs2 imm) = makes_base f a
+before f (Jalr rd a imm) = map Wide (code_pair code_register a)
+before f i = []
 
 -- the instruction, with its base or target replaced by the register on which it is confined; an
 -- indirect jump has 32 bits
-abbrev pub IsConfined : Bool → Instr → List BundleSlot → Type 0
-IsConfined rvc (Load kind rd a imm) slots = IsAlone rvc (Load kind rd (base_of a) imm) slots
-IsConfined rvc (Store width a rs2 imm) slots = IsAlone rvc (Store width (base_of a) rs2 imm) slots
-IsConfined rvc (Jalr rd a imm) slots = slots ≡ Wide (Jalr rd code_register imm) ∷ []
-IsConfined rvc i slots = IsAlone rvc i slots
+abbrev pub IsConfined : Format → Bool → Instr → List BundleSlot → Type 0
+IsConfined f rvc (Load kind rd a imm) slots = IsAlone rvc (Load kind rd (base_of f a) imm) slots
+IsConfined f rvc (Store width a rs2 imm) slots = IsAlone rvc (Store width (base_of f a) rs2 imm) slots
+IsConfined f rvc (Jalr rd a imm) slots = slots ≡ Wide (Jalr rd code_register imm) ∷ []
+IsConfined f rvc i slots = IsAlone rvc i slots
 
 -- ---- a write of a data register
 
 -- the mask of the register that is written, if it is a data register
-abbrev pub mask_after : Option ℕ → List BundleSlot
-mask_after None = []
-mask_after (Some d) = if is_data_register d then data_mask d d else []
+abbrev pub mask_after : Format → Option ℕ → List BundleSlot
+mask_after f None = []
+mask_after f (Some d) = if is_data_register d then data_mask f d d else []
 
 -- the first body is `addi d, d, k` of a data register, and the second a load or store on d as
 -- `uses` says
@@ -73,8 +83,8 @@ is_step_before_use x [] = false
 is_step_before_use x (y ∷ later) = not y.labelled && is_step_to x.body y.body
 
 -- what stands after an instruction, which is a step or not: the mask of what it writes, unless it is a step
-abbrev pub after : Bool → Instr → List BundleSlot
-after step i = if step then [] else mask_after (destination i)
+abbrev pub after : Format → Bool → Instr → List BundleSlot
+after f step i = if step then [] else mask_after f (destination i)
 
 -- ---- a move to a data register
 
@@ -89,37 +99,39 @@ is_move (Op Add d rs1 rs2) = is_data_register d && (rs1 == 0)
 is_move i = false
 
 -- the mask of what is moved into d, which does alone what the move and the mask of d after it do
-abbrev pub moved : Instr → List BundleSlot
-moved (OpImm op d a imm) = data_mask d a
-moved (Op op d rs1 rs2) = data_mask d rs2
-moved i = []
+abbrev pub moved : Format → Instr → List BundleSlot
+moved f (OpImm op d a imm) = data_mask f d a
+moved f (Op op d rs1 rs2) = data_mask f d rs2
+moved f i = []
 
 -- ---- the whole expansion
 
 -- the confined instruction, with what has to stand before it and after it
-abbrev pub IsAround : Bool → Bool → Instr → List BundleSlot → Type 0
-IsAround rvc step i slots =
-    (confined : List BundleSlot) × IsConfined rvc i confined
-    × (slots ≡ before i ++ (confined ++ after step i))
+abbrev pub IsAround : Format → Bool → Bool → Instr → List BundleSlot → Type 0
+IsAround f rvc step i slots =
+    (confined : List BundleSlot) × IsConfined f rvc i confined
+    × (slots ≡ before f i ++ (confined ++ after f step i))
 
 -- the expansion of an instruction, which is a step or not
-abbrev pub IsPlainExpansion : Bool → Bool → Instr → List BundleSlot → Type 0
-IsPlainExpansion rvc step i slots =
-    MatchBool (is_move i && not step) (slots ≡ moved i) (IsAround rvc step i slots)
+abbrev pub IsPlainExpansion : Format → Bool → Bool → Instr → List BundleSlot → Type 0
+IsPlainExpansion f rvc step i slots =
+    MatchBool (is_move i && not step) (slots ≡ moved f i) (IsAround f rvc step i slots)
 
 -- the expansion of the item on a line
-abbrev pub IsExpansionOf : ℕ → Bool → Bool → Body → List BundleSlot → Type 0
-IsExpansionOf line rvc step (Plain i) slots = IsPlainExpansion rvc step i slots
-IsExpansionOf line rvc step (To i name) slots = slots ≡ Jump i name line ∷ []
-IsExpansionOf line rvc step (High rd name) slots =
-    slots ≡ Upper rd name line ∷ mask_after (Some rd)
-IsExpansionOf line rvc step (Low rd name) slots = slots ≡ Lower rd name line ∷ mask_after (Some rd)
-IsExpansionOf line rvc step (Base rd name) slots =
-    slots ≡ Region rd name line ∷ mask_after (Some rd)
+abbrev pub IsExpansionOf : Format → ℕ → Bool → Bool → Body → List BundleSlot → Type 0
+IsExpansionOf f line rvc step (Plain i) slots = IsPlainExpansion f rvc step i slots
+IsExpansionOf f line rvc step (To i name) slots = slots ≡ Jump i name line ∷ []
+IsExpansionOf f line rvc step (High rd name) slots =
+    slots ≡ Upper rd name line ∷ mask_after f (Some rd)
+IsExpansionOf f line rvc step (Low rd name) slots =
+    slots ≡ Lower rd name line ∷ mask_after f (Some rd)
+IsExpansionOf f line rvc step (Base rd name) slots =
+    slots ≡ Region rd name line ∷ mask_after f (Some rd)
 
 -- the slots are the expansion of the item, where `later` comes after it
-abbrev pub IsExpansion : Item → List Item → List BundleSlot → Type 0
-IsExpansion x later slots = IsExpansionOf x.line x.rvc (is_step_before_use x later) x.body slots
+abbrev pub IsExpansion : Format → Item → List Item → List BundleSlot → Type 0
+IsExpansion f x later slots =
+    IsExpansionOf f x.line x.rvc (is_step_before_use x later) x.body slots
 
 -- ---- what has no expansion
 
@@ -143,11 +155,11 @@ marked labelled [] = []
 marked labelled (s ∷ slots) = (labelled, s) ∷ marked false slots
 
 -- the expansions of items one after another, before other items
-abbrev pub AreExpanded : List Item → List Item → List Marked → Type 0
-AreExpanded [] later slots = slots ≡ []
-AreExpanded (x ∷ items) later slots =
-    (expanded : List BundleSlot) × (rest : List Marked) × IsExpansion x (items ++ later) expanded
-    × (slots ≡ marked x.labelled expanded ++ rest) × AreExpanded items later rest
+abbrev pub AreExpanded : Format → List Item → List Item → List Marked → Type 0
+AreExpanded f [] later slots = slots ≡ []
+AreExpanded f (x ∷ items) later slots =
+    (expanded : List BundleSlot) × (rest : List Marked) × IsExpansion f x (items ++ later) expanded
+    × (slots ≡ marked x.labelled expanded ++ rest) × AreExpanded f items later rest
 
 -- a slot that has a word alone has 32 bits
 abbrev pub alone : BundleSlot → BundleSlot
@@ -162,10 +174,10 @@ in_words ((labelled, Short f) ∷ (false, Short g) ∷ slots) = Short f ∷ Shor
 in_words ((labelled, s) ∷ slots) = alone s ∷ in_words slots
 
 -- the slots of items, before other items
-abbrev pub AreLaidBefore : List Item → List Item → List BundleSlot → Type 0
-AreLaidBefore items later slots =
-    (expanded : List Marked) × AreExpanded items later expanded × (slots ≡ in_words expanded)
+abbrev pub AreLaidBefore : Format → List Item → List Item → List BundleSlot → Type 0
+AreLaidBefore f items later slots =
+    (expanded : List Marked) × AreExpanded f items later expanded × (slots ≡ in_words expanded)
 
 -- the slots of all the items
-abbrev pub AreLaid : List Item → List BundleSlot → Type 0
-AreLaid items slots = AreLaidBefore items [] slots
+abbrev pub AreLaid : Format → List Item → List BundleSlot → Type 0
+AreLaid f items slots = AreLaidBefore f items [] slots

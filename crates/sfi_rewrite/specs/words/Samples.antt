@@ -18,19 +18,19 @@ use Rattle.sfi_rewrite.specs.words.Transparency.{KeepsTo, effect_in}
 
 -- the expansion of i, which is no step, in 32-bit slots
 abbrev pub MeetsExpansion : Instr → Type 0
-MeetsExpansion i = Meets Sfiw i (IsPlainExpansion false false i)
+MeetsExpansion i = Meets Sfiw i (IsPlainExpansion Sfiw false false i)
 
 -- all that IsTransparent asks where i writes no data register, and i is done
 abbrev pub MeetsTransparent : Instr → Type 0
-MeetsTransparent i = (m : MeetsExpansion i) × (mask_after (destination i) ≡ [])
-    × KeepsTo m.code_at m.data_at m.state.hart i × ((effect_in m.state i).outcome ≡ Next)
+MeetsTransparent i = (m : MeetsExpansion i) × (mask_after Sfiw (destination i) ≡ [])
+    × KeepsTo m.code_at m.data_at m.state.hart i × ((effect_in Sfiw m.state i).outcome ≡ Next)
 
 -- all that IsTransparent asks of the instruction of an item that is a step, which the first item of
 -- `later` uses, holds in some state
 abbrev pub MeetsStep : Item → List Item → Instr → Type 0
-MeetsStep x later i = (m : Meets Sfiw i (IsExpansion x later)) × (x.body ≡ Plain i)
+MeetsStep x later i = (m : Meets Sfiw i (IsExpansion Sfiw x later)) × (x.body ≡ Plain i)
     × (is_step_before_use x later ≡ true) × KeepsTo m.code_at m.data_at m.state.hart i
-    × ((effect_in m.state i).outcome ≡ Next)
+    × ((effect_in Sfiw m.state i).outcome ≡ Next)
 
 -- i writes the data register, and keeps to its sandbox
 abbrev pub WritesData : (d : ℕ) (i : Instr) → MeetsExpansion i → Type 0
@@ -41,17 +41,17 @@ WritesData d i m = (destination i ≡ Some d) × (is_data_register d ≡ true)
 -- i is done, and leaves d in the data region
 abbrev pub MeetsInside : ℕ → Instr → Type 0
 MeetsInside d i = (m : MeetsExpansion i) × WritesData d i m
-    × LeavesInside m.data_at d (effect_in m.state i)
+    × LeavesInside m.data_at d (effect_in Sfiw m.state i)
 
 -- all that KeepsData asks holds in some state; there i is done, and leaves d outside of the data
 -- region
 abbrev pub MeetsOutside : ℕ → Instr → Type 0
 MeetsOutside d i = (m : MeetsExpansion i) × WritesData d i m
-    × LeavesOutside m.data_at d (effect_in m.state i)
+    × LeavesOutside m.data_at d (effect_in Sfiw m.state i)
 
 -- all that KeepsData asks holds in some state, and there i isn't done
 abbrev pub MeetsStop : ℕ → Instr → Type 0
-MeetsStop d i = (m : MeetsExpansion i) × WritesData d i m × ((effect_in m.state i).outcome ≢ Next)
+MeetsStop d i = (m : MeetsExpansion i) × WritesData d i m × ((effect_in Sfiw m.state i).outcome ≢ Next)
 
 -- ---- the samples
 

@@ -1,56 +1,79 @@
 //! What an item of the source becomes in code in words.
 ghost use Rattle.std.specs.Prelude.{◌≡◌, ◌∷◌, ◌++◌, ◌+◌, ◌≤◌, [], Some, length};
-ghost use Rattle.sfi_rewrite.specs.words.Expansion.{base_of, data_mask, makes_base, before, mask_after, IsConfined, IsPlainExpansion, IsExpansion, is_step_to, is_step_before_use, is_zero, is_move, moved, IsAround};
+ghost use Rattle.sfi_rewrite.specs.words.Expansion.{is_made_on_x26, base_of, data_mask, makes_base, before, mask_after, IsConfined, IsPlainExpansion, IsExpansion, is_step_to, is_step_before_use, is_zero, is_move, moved, IsAround};
 ghost use Rattle.rv_word.specs.Outlines.{destination};
+ghost use Rattle.rv_word.specs.declared.instr.RegOp.TheVariants.{And};
+ghost use Rattle.rv_word.specs.declared.instr.Instr.TheVariants.{Op};
+ghost use Rattle.sfi_formats.specs.Formats.{data_mask_register};
+ghost use Rattle.sfi_rewrite.specs.declared.slot.BundleSlot.TheVariants.{Wide};
 
 use crate::expansion::{Expansion, alone};
 use crate::slot::BundleSlot;
 use rv_word::{ImmOp, Instr, Reg, RegOp};
-use sfi_formats::{CODE_REGISTER, DATA_BASE_REGISTER, DATA_MASK_REGISTER, OFFSET_REGISTER};
+use sfi_formats::{CODE_REGISTER, DATA_BASE_REGISTER, DATA_MASK_REGISTER, Format, OFFSET_REGISTER};
 use sfi_pairs::{code_pair, is_data_register, is_use};
 use sfi_source::{Body, Item};
 
 /// The data register in which the expansions make addresses, x29.
 pub(crate) const ADDRESS_REGISTER: u8 = 29;
 
-/// Adds the mask by which `target` becomes the address of the data region with the offset of `a`.
-fn push_mask(slots: &mut Expansion, target: Reg, a: Reg)
-    requires { length slots.old + 2 ≤ 5 }
-    ensures { slots.new ≡ slots.old ++ data_mask target a }
+/// `and target, a, x27`.
+fn masking(target: Reg, a: Reg) -> BundleSlot
+    ensures { result ≡ Wide (Op And target a data_mask_register) }
 {
-    let offset = Reg::numbered(OFFSET_REGISTER);
-    let mask = Instr::Op {
+    BundleSlot::Wide(Instr::Op {
         op: RegOp::And,
-        rd: offset,
+        rd: target,
         rs1: a,
         rs2: Reg::numbered(DATA_MASK_REGISTER),
-    };
+    })
+}
+
+/// Adds the mask by which `target` becomes the address that `a` masks to: in one step, or in two, of
+/// which the first leaves the offset of `a` in x31.
+fn push_mask(format: Format, slots: &mut Expansion, target: Reg, a: Reg)
+    requires { length slots.old + 2 ≤ 5 }
+    ensures { slots.new ≡ slots.old ++ data_mask format target a }
+{
+    if format.has_one_step() {
+        slots.push(&[masking(target, a)]);
+        return;
+    }
+    let offset = Reg::numbered(OFFSET_REGISTER);
     let place = Instr::Op {
         op: RegOp::Or,
         rd: target,
         rs1: offset,
         rs2: Reg::numbered(DATA_BASE_REGISTER),
     };
-    slots.push(&[BundleSlot::Wide(mask), BundleSlot::Wide(place)]);
+    slots.push(&[masking(offset, a), BundleSlot::Wide(place)]);
 }
 
 /// Adds the mask of the register that is written, if it is a data register.
-fn push_mask_after(slots: &mut Expansion, written: Reg)
+fn push_mask_after(format: Format, slots: &mut Expansion, written: Reg)
     requires { length slots.old + 2 ≤ 5 }
-    ensures { slots.new ≡ slots.old ++ mask_after (Some written) }
+    ensures { slots.new ≡ slots.old ++ mask_after format (Some written) }
 {
     if is_data_register(written) {
-        push_mask(slots, written, written);
+        push_mask(format, slots, written, written);
     }
 }
 
-/// The base on which an access on `a` is made: a data register itself, x26 for x0, or else x29.
-fn access_base(a: Reg) -> Reg
-    ensures { result ≡ base_of a }
+/// Whether an access on `a` is made on x26: on x0, where a masked 0 is the region's first address.
+fn is_made_on_x26(format: Format, a: Reg) -> bool
+    ensures { result ≡ is_made_on_x26 format a }
+{
+    a.number() == 0 && !format.has_one_step()
+}
+
+/// The base on which an access on `a` is made: a data register itself, x26 where that stands for x0,
+/// or else x29.
+fn access_base(format: Format, a: Reg) -> Reg
+    ensures { result ≡ base_of format a }
 {
     if is_data_register(a) {
         a
-    } else if a.number() == 0 {
+    } else if is_made_on_x26(format, a) {
         Reg::numbered(DATA_BASE_REGISTER)
     } else {
         Reg::numbered(ADDRESS_REGISTER)
@@ -58,22 +81,22 @@ fn access_base(a: Reg) -> Reg
 }
 
 /// Adds the mask by which x29 becomes the address of `a`, where an access on `a` is made on x29.
-fn push_base(slots: &mut Expansion, a: Reg)
+fn push_base(format: Format, slots: &mut Expansion, a: Reg)
     requires { slots.old ≡ [] }
-    ensures { slots.new ≡ makes_base a }
+    ensures { slots.new ≡ makes_base format a }
 {
-    if !is_data_register(a) && a.number() != 0 {
-        push_mask(slots, Reg::numbered(ADDRESS_REGISTER), a);
+    if !is_data_register(a) && !is_made_on_x26(format, a) {
+        push_mask(format, slots, Reg::numbered(ADDRESS_REGISTER), a);
     }
 }
 
 /// Adds what has to stand before the instruction.
-fn push_before(slots: &mut Expansion, instr: &Instr)
+fn push_before(format: Format, slots: &mut Expansion, instr: &Instr)
     requires { slots.old ≡ [] }
-    ensures { slots.new ≡ before instr.now }
+    ensures { slots.new ≡ before format instr.now }
 {
     match *instr {
-        Instr::Load { rs1, .. } | Instr::Store { rs1, .. } => push_base(slots, rs1),
+        Instr::Load { rs1, .. } | Instr::Store { rs1, .. } => push_base(format, slots, rs1),
         Instr::Jalr { rs1, .. } => {
             let [first, second] = code_pair(Reg::numbered(CODE_REGISTER), rs1);
             slots.push(&[BundleSlot::Wide(first), BundleSlot::Wide(second)]);
@@ -83,12 +106,12 @@ fn push_before(slots: &mut Expansion, instr: &Instr)
 }
 
 /// The instruction, with its base or target replaced by the register on which it is confined.
-fn confined(rvc: bool, instr: &Instr) -> BundleSlot
-    ensures { IsConfined rvc instr.now (result ∷ []) }
+fn confined(format: Format, rvc: bool, instr: &Instr) -> BundleSlot
+    ensures { IsConfined format rvc instr.now (result ∷ []) }
 {
     match *instr {
         Instr::Load { kind, rd, rs1, imm } => {
-            let rs1 = access_base(rs1);
+            let rs1 = access_base(format, rs1);
             alone(rvc, &Instr::Load { kind, rd, rs1, imm })
         }
         Instr::Store {
@@ -97,7 +120,7 @@ fn confined(rvc: bool, instr: &Instr) -> BundleSlot
             rs2,
             imm,
         } => {
-            let rs1 = access_base(rs1);
+            let rs1 = access_base(format, rs1);
             alone(
                 rvc,
                 &Instr::Store {
@@ -159,50 +182,50 @@ fn is_move(instr: &Instr) -> bool
 }
 
 /// The expansion of such a move: the mask of `a` into `d`.
-fn moved(instr: &Instr) -> Expansion
-    ensures { result ≡ moved instr.now }
+fn moved(format: Format, instr: &Instr) -> Expansion
+    ensures { result ≡ moved format instr.now }
 {
     let mut slots = Expansion::new();
     match *instr {
-        Instr::OpImm { rd, rs1, .. } => push_mask(&mut slots, rd, rs1),
-        Instr::Op { rd, rs2, .. } => push_mask(&mut slots, rd, rs2),
+        Instr::OpImm { rd, rs1, .. } => push_mask(format, &mut slots, rd, rs1),
+        Instr::Op { rd, rs2, .. } => push_mask(format, &mut slots, rd, rs2),
         _ => {}
     }
     slots
 }
 
 /// The confined instruction, with what has to stand before it and after it.
-fn around(rvc: bool, step: bool, instr: &Instr) -> Expansion
-    ensures { IsAround rvc step instr.now result }
+fn around(format: Format, rvc: bool, step: bool, instr: &Instr) -> Expansion
+    ensures { IsAround format rvc step instr.now result }
 {
     let mut slots = Expansion::new();
-    push_before(&mut slots, instr);
-    slots.push(&[confined(rvc, instr)]);
+    push_before(format, &mut slots, instr);
+    slots.push(&[confined(format, rvc, instr)]);
     if step {
         return slots;
     }
     if let Some(written) = destination(instr) {
-        push_mask_after(&mut slots, written);
+        push_mask_after(format, &mut slots, written);
     }
     slots
 }
 
 /// The expansion of an instruction that names no label.
-fn expand_without_name_in_words(rvc: bool, step: bool, instr: &Instr) -> Expansion
-    ensures { IsPlainExpansion rvc step instr.now result }
+fn expand_without_name_in_words(format: Format, rvc: bool, step: bool, instr: &Instr) -> Expansion
+    ensures { IsPlainExpansion format rvc step instr.now result }
 {
     if is_move(instr) && !step {
-        return moved(instr);
+        return moved(format, instr);
     }
-    around(rvc, step, instr)
+    around(format, rvc, step, instr)
 }
 
 /// The expansion of a part of an address, which it puts into `rd`, with the mask of `rd`.
-fn of_part(part: BundleSlot, rd: Reg) -> Expansion
-    ensures { result ≡ part ∷ mask_after (Some rd) }
+fn of_part(format: Format, part: BundleSlot, rd: Reg) -> Expansion
+    ensures { result ≡ part ∷ mask_after format (Some rd) }
 {
     let mut slots = Expansion::from_slots(&[part]);
-    push_mask_after(&mut slots, rd);
+    push_mask_after(format, &mut slots, rd);
     slots
 }
 
@@ -237,19 +260,20 @@ fn is_step_before_use(item: &Item, later: &[Item]) -> bool
 }
 
 /// The expansion of an item that stands before `later`.
-pub(crate) fn expand_in_words(item: &Item, later: &[Item]) -> Expansion
-    ensures { IsExpansion item.now later.now result }
+pub(crate) fn expand_in_words(format: Format, item: &Item, later: &[Item]) -> Expansion
+    ensures { IsExpansion format item.now later.now result }
 {
     let line = item.line;
     match item.body {
         Body::Plain(ref instr) => expand_without_name_in_words(
+            format,
             item.rvc,
             is_step_before_use(item, later),
             instr,
         ),
         Body::To(instr, name) => Expansion::from_slots(&[BundleSlot::Jump { instr, name, line }]),
-        Body::High(rd, name) => of_part(BundleSlot::Upper { rd, name, line }, rd),
-        Body::Low(rd, name) => of_part(BundleSlot::Lower { rd, name, line }, rd),
-        Body::Base(rd, name) => of_part(BundleSlot::Region { rd, name, line }, rd),
+        Body::High(rd, name) => of_part(format, BundleSlot::Upper { rd, name, line }, rd),
+        Body::Low(rd, name) => of_part(format, BundleSlot::Lower { rd, name, line }, rd),
+        Body::Base(rd, name) => of_part(format, BundleSlot::Region { rd, name, line }, rd),
     }
 }

@@ -1,8 +1,7 @@
 //! The items of a sandbox of code in words, laid one after another.
-ghost use Rattle.std.specs.Prelude.{◌≡◌, ◌<◌, ◌+◌, true, IfOk, IfErr, length, drop};
-ghost use Rattle.sfi_rewrite.specs.private.{before_label, with_slots, HaveRoom, AreWith, HasNoRoom, IsBeyond};
+ghost use Rattle.std.specs.Prelude.{◌≡◌, ◌<◌, ◌≤◌, ◌+◌, true, IfOk, IfErr, length, drop};
+ghost use Rattle.sfi_rewrite.specs.private.{largest, bytes_of, AreWords, before_label, with_slots, HaveRoom, AreWith, HasNoRoom, IsBeyond};
 ghost use Rattle.sfi_rewrite.specs.private.{AreLabels};
-ghost use Rattle.sfi_formats.specs.declared.format.Format.TheVariants.{Sfiw};
 ghost use Rattle.sfi_rewrite.specs.Rewriting.{AreFaultless, UnlessMemory, IsItemFault};
 
 use crate::fault::RewriteFault;
@@ -17,18 +16,19 @@ use std::alloc::{AllocError, Global};
 
 /// Adds slots to the code of sandbox `sandbox`, each where it has room.
 fn fill_slots(
+    format: Format,
     sandbox: u32,
     slots: &[BundleSlot],
     code: &mut WordFilling,
 ) -> Result<(), RewriteFault>
-    requires { HaveRoom code.old }
+    requires { HaveRoom format code.old }
     ensures pushed { IfOk result (λ _. code.new ≡ with_slots code.old slots.now) }
-    ensures room { IfOk result (λ _. HaveRoom code.new) }
+    ensures room { IfOk result (λ _. HaveRoom format code.new) }
     ensures refused { IfErr result
-        (UnlessMemory (IsBeyond sandbox (with_slots code.old slots.now))) }
+        (UnlessMemory (IsBeyond format sandbox (with_slots code.old slots.now))) }
 {
     for slot in slots {
-        if code.end_with(slot) > Format::Sfiw.built_code_most() as usize {
+        if code.end_with(slot) > format.built_code_most() as usize {
             return Err(RewriteFault::TooLarge { sandbox });
         }
         code.push(*slot)?;
@@ -38,7 +38,8 @@ fn fill_slots(
 
 /// Where a label comes, ends the word of a 16-bit form that waits.
 fn end_before(label: bool, code: &mut WordFilling) -> Result<(), AllocError>
-    requires { HaveRoom code.old }
+    requires aligned { AreWords code.old }
+    requires room { bytes_of code.old ≤ largest }
     ensures { IfOk result (λ _. code.new ≡ before_label label code.old.words code.old.waiting) }
 {
     if label { code.end_word() } else { Ok(()) }
@@ -46,20 +47,21 @@ fn end_before(label: bool, code: &mut WordFilling) -> Result<(), AllocError>
 
 /// Adds an item that stands before `later` to the code of sandbox `sandbox`.
 fn lay_item_in_words(
+    format: Format,
     sandbox: u32,
     item: &Item,
     later: &[Item],
     code: &mut WordFilling,
 ) -> Result<(), RewriteFault>
-    requires { HaveRoom code.old }
-    ensures laid { IfOk result (λ _. AreWith item.now later.now code.old code.new) }
-    ensures room { IfOk result (λ _. HaveRoom code.new) }
+    requires { HaveRoom format code.old }
+    ensures laid { IfOk result (λ _. AreWith format item.now later.now code.old code.new) }
+    ensures room { IfOk result (λ _. HaveRoom format code.new) }
     ensures refused { IfErr result
-        (UnlessMemory (HasNoRoom sandbox item.now later.now code.old)) }
+        (UnlessMemory (HasNoRoom format sandbox item.now later.now code.old)) }
 {
-    let expansion = expand_in_words(item, later);
+    let expansion = expand_in_words(format, item, later);
     end_before(item.labelled, code)?;
-    fill_slots(sandbox, expansion.slots(), code)
+    fill_slots(format, sandbox, expansion.slots(), code)
 }
 
 /// The items after item `number`.
@@ -70,23 +72,24 @@ fn items_after(items: &[Item], number: usize) -> &[Item]
     &items[number + 1..]
 }
 
-/// Lays the items of sandbox `sandbox`.
+/// Lays the items of sandbox `sandbox`, in a format whose code is in words.
 pub(crate) fn lay_in_words(
     alloc: Global,
+    format: Format,
     sandbox: u32,
     items: &[Item],
 ) -> Result<Laid, RewriteFault>
-    ensures faultless { IfOk result (λ l. AreFaultless true Sfiw (length items.now) items.now l.code) }
-    ensures labels { IfOk result (λ l. AreLabels true Sfiw items.now l.labels.items) }
-    ensures refused { IfErr result (UnlessMemory (IsItemFault true Sfiw sandbox items.now)) }
+    ensures faultless { IfOk result (λ l. AreFaultless true format (length items.now) items.now l.code) }
+    ensures labels { IfOk result (λ l. AreLabels true format items.now l.labels.items) }
+    ensures refused { IfErr result (UnlessMemory (IsItemFault true format sandbox items.now)) }
 {
     let mut code = WordFilling::new(alloc);
     let mut labels = Vec::new(alloc);
     for (number, item) in items.iter().enumerate() {
         labels.push(code.place())?;
-        permit(Format::Sfiw, item)?;
+        permit(format, item)?;
         let later = items_after(items, number);
-        lay_item_in_words(sandbox, item, later, &mut code)?;
+        lay_item_in_words(format, sandbox, item, later, &mut code)?;
     }
     labels.push(code.place())?;
     code.end_word()?;
