@@ -12,7 +12,7 @@ use Rattle.sfi_safe_runs.proofs.Stepping.{read_all}
 use Rattle.sfi_rules.proofs.Findings.{of_bundles}
 use Rattle.std.specs.Prelude.{MatchBool}
 use Rattle.sfi_image.specs.Parts.{reserved_of}
-use Rattle.sfi_image.specs.Spelling.{spans, zone_end, zone_ends, IsClear, AreClear}
+use Rattle.sfi_image.specs.Spelling.{spans, data_region, zone_end, zone_ends, IsClear, AreClear}
 use Rattle.std.proofs.lemmas.List.Elements.{All-nil, All-from_recursion}
 
 -- ---- the samples' layout
