@@ -9,7 +9,7 @@ import unittest
 
 import corpus
 import checker_file
-import second
+import second_checker
 import testing
 from suygapid.image import layout
 
@@ -74,12 +74,12 @@ class CheckerFile(testing.Folder):
         self.assertEqual(library.sfi_c_version(), 0x000100)
         for data in images(100):
             self.compare_findings(library, data)
-            if second.expected(data)[0] != 2:
+            if second_checker.judged(data)[0] != 2:
                 self.compare_parts(library, data)
 
     def compare_findings(self, library, data):
         """The findings and the verdict, by the second checker, with an array that has room for five."""
-        status, lines = second.expected(data)
+        status, lines = second_checker.judged(data)
         verdict, array = Verdict(), (Finding * 6)()
         self.assertEqual(library.sfi_c_findings(data, ctypes.c_size_t(len(data)), array, ctypes.c_size_t(5), ctypes.byref(verdict)), status)
         wanted = [line.split()[:3] for line in lines[:-1]]

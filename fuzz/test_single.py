@@ -91,7 +91,7 @@ class Escapes(unittest.TestCase):
             pick = random.Random(seed)
             part = part_of(pick)
             image = layout.spelled(b"SFIS", [part])
-            self.assertEqual(second_checker.judged(image), (0, ["accepted sandboxes=1 bundles=16"]))
+            self.assertEqual(second_checker.judged(image, second_checker.PREPARED), (0, ["accepted sandboxes=1 bundles=16"]))
             self.assertEqual(escape(part, pick), None, f"{seed}: {image.hex()}")
         self.assertGreater(Watched.count, ROUNDS)
 

@@ -194,7 +194,8 @@ def spelled(it):
 # ---- layout
 
 WORDS, SINGLE = 3, 4  # the formats of code in words: that with masks of two steps, and that with single ones
-MAGICS = {b"SFI1": 1, b"SFI2": 2, b"SFIW": WORDS, b"SFIS": SINGLE}
+MAGICS = {b"SFI1": 1, b"SFI2": 2, b"SFIW": WORDS}
+PREPARED = {**MAGICS, b"SFIS": SINGLE}  # with the format that `sfi check` is to know
 MOST_CODE = {1: 65536, 2: 1048576, 3: 16777216}
 MOST_DATA = {1: 1048576, 2: 1048576, 3: 1073741824}
 MOST_CODE[SINGLE], MOST_DATA[SINGLE] = MOST_CODE[WORDS], MOST_DATA[WORDS]
@@ -270,16 +271,16 @@ def read_sandbox(reader, format, spans, sizes):
     return sandbox
 
 
-def read_image(data):
-    """The format and the sandboxes of an image."""
+def read_image(data, magics):
+    """The format and the sandboxes of an image of one of the formats with these magics."""
     reader, spans, sizes = Reader(data), [], []
     magic = reader.take(4)
-    require(magic in MAGICS, "Magic")
+    require(magic in magics, "Magic")
     (count,) = reader.numbers(1)
     require(1 <= count <= 16, "Count")
-    sandboxes = [read_sandbox(reader, MAGICS[magic], spans, sizes) for _ in range(count)]
+    sandboxes = [read_sandbox(reader, magics[magic], spans, sizes) for _ in range(count)]
     require(reader.at == len(data), "Trailing")
-    return MAGICS[magic], sandboxes
+    return magics[magic], sandboxes
 
 
 # ---- what both sets of rules say
@@ -510,10 +511,10 @@ def report_line(format, number, sandbox, place, rule, it):
     return f"{number} {sandbox.code_base + place:08x} {rule} {name} {text}"
 
 
-def judged(data):
+def judged(data, magics=MAGICS):
     """The status for an image's bytes, and the lines of a report on it, of which the last one is the verdict."""
     try:
-        format, sandboxes = read_image(data)
+        format, sandboxes = read_image(data, magics)
     except Fault as fault:
         return 2, [str(fault)]
     lines = []
@@ -540,11 +541,13 @@ def image_of(text):
 
 
 def main(words):
+    magics = PREPARED if words[:1] == ["--prepared"] else MAGICS
+    words = words[magics is PREPARED:]
     if words not in ([], ["--raw"], ["--report"]):
         sys.exit("usage: tools/second_checker.py [--raw | --report] < IMAGE")
     given = sys.stdin.buffer.read()
     try:
-        status, lines = judged(given if words == ["--raw"] else image_of(given))
+        status, lines = judged(given if words == ["--raw"] else image_of(given), magics)
     except Fault as fault:
         status, lines = 2, [str(fault)]
     print(*(lines if words == ["--report"] else lines[-1:]), sep="\n")

@@ -348,7 +348,8 @@ def written(options, program):
 
 def checker_of(options):
     """What reads the image and judges it: of single masks the second checker, since the program doesn't know them yet."""
-    return [sys.executable, os.path.join(TOOLS, "second_checker.py")] if options.format == "single" else [options.program, "check"]
+    prepared = [sys.executable, os.path.join(TOOLS, "second_checker.py"), "--prepared"]
+    return prepared if options.format == "single" else [options.program, "check"]
 
 
 def write(output, content):

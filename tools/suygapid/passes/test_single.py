@@ -90,7 +90,7 @@ class Programs(Folder):
 
     def answers(self, image, given=b""):
         """What an image's sandboxes do, which the second checker accepts."""
-        self.assertEqual(second_checker.judged(bytes.fromhex(image.decode()))[0], 0)
+        self.assertEqual(second_checker.judged(bytes.fromhex(image.decode()), second_checker.PREPARED)[0], 0)
         said = self.ran(self.interpreter, "once", "100", "10000000", given.hex(), data=image).decode()
         return [re.sub(r"^sandbox=\d+ | steps=\d+", "", line) for line in said.splitlines()]
 
@@ -173,7 +173,7 @@ class Layouts(unittest.TestCase):
                 layout.parts(image, layout.WITH_SINGLE)
             except layout.Fault as wrong:
                 fault = f"layout fault {wrong.number} {wrong}"
-            status, lines = second_checker.judged(image)
+            status, lines = second_checker.judged(image, second_checker.PREPARED)
             self.assertEqual(fault, lines[-1] if status else "", hex(data_base))
         self.assertRaises(layout.Fault, layout.parts, b"SFIS" + bytes(100))
 
