@@ -9,6 +9,8 @@ use Rattle.rv_word.specs.declared.instr.StoreWidth.{StoreWidth}
 use Rattle.rv_word.specs.declared.instr.StoreWidth.TheVariants.{Sb, Sh, Sw}
 use Rattle.rv_word.specs.declared.instr.ImmOp.TheVariants.{Addi}
 use Rattle.sfi_scan.specs.private.Words.{IsMasking, IsPlacing, IsPair, IsStepOf, IsOffset, is_dropped, IsUseOf, IsUsedStep}
+use Rattle.sfi_formats.specs.Formats.{has_one_step, is_data_register_in}
+use Rattle.sfi_formats.specs.declared.format.Format.{Format}
 use Rattle.sfi_pairs.specs.Pairs.{is_small}
 use Rattle.sfi_scan.proofs.TableEntries.{any_of, kept, without_any, masking_word}
 
@@ -48,17 +50,17 @@ code_placing_word : (word : ℕ) → word ≡ 26177331 → IsWordOf word (Op Or 
 unfolding spelling InRange
 code_placing_word word e = ((omega arith, omega arith, omega arith), omega (arith, e))
 
-pub data_pair : (first second : ℕ) (r : Bool) → IsMasking first → OnTrue r (IsPlacing second) → OnTrue r (IsPair first second)
-data_pair first second false m h = tt
-data_pair first second true m h = inl (m, h)
+pub data_pair : (f : Format) (first second : ℕ) (r : Bool) → has_one_step f ≡ false → IsMasking first → OnTrue r (IsPlacing second) → OnTrue r (IsPair f first second)
+data_pair f first second false two m h = tt
+data_pair f first second true two m h = inl (two, m, h)
 
-pub code_pair : (first second : ℕ) → first < 2 ^ 32 → bit_and first kept ≡ 26246963 → (r : Bool) → r ≡ nat_eq second 26177331 → OnTrue r (IsPair first second)
-code_pair first second fits e false is = tt
-code_pair first second fits e true is = inr ((any_of first, code_masking_word first fits e), code_placing_word second (eqb-true _ _ (sym is)))
+pub code_pair : (f : Format) (first second : ℕ) → first < 2 ^ 32 → bit_and first kept ≡ 26246963 → (r : Bool) → r ≡ nat_eq second 26177331 → OnTrue r (IsPair f first second)
+code_pair f first second fits e false is = tt
+code_pair f first second fits e true is = inr ((any_of first, code_masking_word first fits e), code_placing_word second (eqb-true _ _ (sym is)))
 
-pub used_step : (word next d : ℕ) → is_data_register d ≡ true → IsStepOf d word → (r : Bool) → OnTrue r (IsUseOf d next) → OnTrue r (IsUsedStep word next)
-used_step word next d h s false u = tt
-used_step word next d h s true u = record { register = d; is_data = h; step = s; used = u }
+pub used_step : (f : Format) (word next d : ℕ) → is_data_register_in f d ≡ true → IsStepOf d word → (r : Bool) → OnTrue r (IsUseOf d next) → OnTrue r (IsUsedStep f word next)
+used_step f word next d h s false u = tt
+used_step f word next d h s true u = record { register = d; is_data = h; step = s; used = u }
 
 imm12_of : (n : ℕ) → n < 4096 → (z : ℤ) × IsImm12 z × (modulo 12 z ≡ n)
 imm12_of n lt = elim (cases_lt n 2048) [

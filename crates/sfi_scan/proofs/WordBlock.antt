@@ -6,7 +6,7 @@ use Rattle.sfi_masks.specs.Masks.{half_at as block_half, word_at, may_write_in_w
 use Rattle.sfi_rules.specs.words.Rules.{may_access}
 use Rattle.sfi_scan.specs.private.Words.{bytes_at, IsQuietWord, IsMasking, IsPlacing, IsPair, IsStepOf, IsUseOf, IsUsedStep, IsCleanHalfAlone}
 use Rattle.sfi_formats.specs.declared.format.Format.{Format}
-use Rattle.sfi_formats.proofs.Formats.{data_registers}
+use Rattle.sfi_formats.specs.Formats.{has_one_step, is_data_register_in}
 use Rattle.sfi_scan.proofs.WordLook.{quiet_word, found_wide, found_halves, masking, placing, placing_code, masked, placed, stepping, code_owed, owing, plain, used}
 
 -- ---- what the masks tell to be free is plain
@@ -19,7 +19,13 @@ unkept r may = sym (none_of (is_reserved r) (is_data_register r) (r == 30) (r ==
     none_of false q r s = refl
 
 on_base : (f : Format) (base : ℕ) → may_be_on_in_words base ≡ true → may_access f base ≡ true
-on_base f base h = ap (λ (t : Bool). t || (base == 26)) (data_registers f base) ∙ h
+on_base f base h = by (is_data_register base) (base == 26) (((base == 26) || (base == 31)) && has_one_step f) h
+  where
+    by : (p q x : Bool) → (p || q) ≡ true → (p || x || q) ≡ true
+    by true q x h = refl
+    by false true true h = refl
+    by false true false h = refl
+    by false false x h = absurd cc
 
 free_plain : (b : BundlePlace) (at : ℕ) (o : Outline) → is_free_by may_write_in_words may_be_on_in_words o ≡ true → is_clean_alone b at o ≡ true
 free_plain b at (Computes rd) h = unkept rd h
@@ -36,49 +42,55 @@ half_plain b at half there e x = record { instr = x.instr; spelled = subst (λ (
 
 -- ---- the words of a block
 
-module _ (block : List ℕ) (long : length block ≡ 128) (i : ℕ) (even : i % 2 ≡ 0) (below : i < 64) where
+module _ (b : BundlePlace) (within : IsWithinBlock b) (block : List ℕ) (long : length block ≡ 128) (i : ℕ) (even : i % 2 ≡ 0) (below : i < 64) where
   whole : length (bytes_at block i) ≡ 4
   whole = omega (arith, length-take 4 (drop (2 * i) block), length-drop (2 * i) block, long, even, below)
 
-  -- what is told of the word, wherever it stands
-  there_clean : (b : BundlePlace) (word : ℕ) (o next : Owed) → IsWithinBlock b → word ≡ word_at block i → IsQuietThere (bundle_at b (i / 8)) (b.address + 2 * i) o word next → IsCleanWord b block i o next
-  there_clean b word o next within is quiet =
+  -- what is told of the word
+  there_clean : (word : ℕ) (o next : Owed) → word ≡ word_at block i → IsQuietThere (bundle_at b (i / 8)) (b.address + 2 * i) o word next → IsCleanWord b block i o next
+  there_clean word o next is quiet =
       let same : word_at block i ≡ word_from (bytes_at block i) 0 = ap (from_le_bytes w32) (sym (take-take 4 4 (drop (2 * i) block) (omega arith))) in
       found_wide (bundle_at b (i / 8)) (b.address + 2 * i) o (bytes_at block i) next whole
       (subst (λ (w : ℕ). IsQuietThere (bundle_at b (i / 8)) (b.address + 2 * i) o w next) (is ∙ same) quiet)
 
-  word_leads : (o next : Owed) (x : Instr) → IsWordOf (word_at block i) x → ((b : BundlePlace) (at : ℕ) → IsBeforeEnd b at 4 → IsQuiet b at 4 o x next) → (b : BundlePlace) → IsWithinBlock b → IsCleanWord b block i o next
-  word_leads o next x spelled quiet b within =
-      let end = within.end in
-      let c = bundle_at b (i / 8) in
-      let at = b.address + 2 * i in
-      there_clean b (word_at block i) o next within refl (quiet_word c at o (word_at block i) x next spelled (quiet c at (omega (arith, end, below))))
+  -- the bundle of the word, and the word's address
+  abbrev word_bundle : BundlePlace
+  word_bundle = bundle_at b (i / 8)
 
-  pub step_clean : (d : ℕ) → is_data_register d ≡ true → IsStepOf d (word_at block i) → (b : BundlePlace) → IsWithinBlock b → IsCleanWord b block i Nothing (MaskOrUse d)
-  step_clean d h s = word_leads Nothing (MaskOrUse d) s.0 s.1 (λ b at before. stepping b at 4 before d s.0 h s.2)
+  abbrev word_address : ℕ
+  word_address = b.address + 2 * i
 
-  pub use_clean : (d : ℕ) → IsUseOf d (word_at block i) → IsFreeWordBy may_write_in_words may_be_on_in_words (word_at block i) → (b : BundlePlace) → IsWithinBlock b → IsCleanWord b block i (MaskOrUse d) Nothing
+  before : IsBeforeEnd word_bundle word_address 4
+  before = let end = within.end in omega (arith, end, below)
+
+  word_leads : (o next : Owed) (x : Instr) → IsWordOf (word_at block i) x → IsQuiet word_bundle word_address 4 o x next → IsCleanWord b block i o next
+  word_leads o next x spelled quiet = there_clean (word_at block i) o next refl (quiet_word word_bundle word_address o (word_at block i) x next spelled quiet)
+
+  pub step_clean : (d : ℕ) → is_data_register_in b.format d ≡ true → IsStepOf d (word_at block i) → IsCleanWord b block i Nothing (MaskOrUse d)
+  step_clean d h s = word_leads Nothing (MaskOrUse d) s.0 s.1 (stepping word_bundle word_address 4 before d s.0 h s.2)
+
+  pub use_clean : (d : ℕ) → IsUseOf d (word_at block i) → IsFreeWordBy may_write_in_words may_be_on_in_words (word_at block i) → IsCleanWord b block i (MaskOrUse d) Nothing
   use_clean d u f =
       let same : u.0 ≡ f.instr = one_spelling (word_at block i) u.0 f.instr u.1 f.spelled in
-      word_leads (MaskOrUse d) Nothing u.0 u.1 (λ b at before. used b at 4 d u.0 before u.2 (ap (λ (x : Instr). is_clean_alone b at (outline x)) same ∙ free_plain b at (outline f.instr) f.free))
+      word_leads (MaskOrUse d) Nothing u.0 u.1 (used word_bundle word_address 4 d u.0 before u.2 (ap (λ (x : Instr). is_clean_alone word_bundle word_address (outline x)) same ∙ free_plain word_bundle word_address (outline f.instr) f.free))
 
-  pub code_masking_clean : (a : ℕ) → IsWordOf (word_at block i) (Op And 30 a 25) → (b : BundlePlace) → IsWithinBlock b → IsCleanWord b block i Nothing Code
-  code_masking_clean a is = word_leads Nothing Code (Op And 30 a 25) is (λ b at before. owing b at 4 before 30 (Op And 30 a 25) Code refl refl refl)
+  pub code_masking_clean : (a : ℕ) → IsWordOf (word_at block i) (Op And 30 a 25) → IsCleanWord b block i Nothing Code
+  code_masking_clean a is = word_leads Nothing Code (Op And 30 a 25) is (owing word_bundle word_address 4 before 30 (Op And 30 a 25) Code refl refl refl)
 
-  pub code_placing_clean : IsWordOf (word_at block i) placing_code → (b : BundlePlace) → IsWithinBlock b → IsCleanWord b block i Code Nothing
-  code_placing_clean is = word_leads Code Nothing placing_code is (λ b at before. code_owed b at 4 before)
+  pub code_placing_clean : IsWordOf (word_at block i) placing_code → IsCleanWord b block i Code Nothing
+  code_placing_clean is = word_leads Code Nothing placing_code is (code_owed word_bundle word_address 4 before)
 
-  pub code_placing_quiet : IsWordOf (word_at block i) placing_code → IsQuietWord block i
-  code_placing_quiet is = word_leads Nothing Nothing placing_code is (λ b at before. owing b at 4 before 30 placing_code Nothing refl refl refl)
+  pub code_placing_quiet : IsWordOf (word_at block i) placing_code → IsQuietWord b block i
+  code_placing_quiet is = word_leads Nothing Nothing placing_code is (owing word_bundle word_address 4 before 30 placing_code Nothing refl refl refl)
 
-  pub free_word_quiet : IsFreeWordBy may_write_in_words may_be_on_in_words (word_at block i) → IsQuietWord block i
-  free_word_quiet f = word_leads Nothing Nothing f.instr f.spelled (λ b at before. plain b at 4 f.instr before (free_plain b at (outline f.instr) f.free))
+  pub free_word_quiet : IsFreeWordBy may_write_in_words may_be_on_in_words (word_at block i) → IsQuietWord b block i
+  free_word_quiet f = word_leads Nothing Nothing f.instr f.spelled (plain word_bundle word_address 4 f.instr before (free_plain word_bundle word_address (outline f.instr) f.free))
 
-  pub masking_quiet : IsMasking (word_at block i) → IsQuietWord block i
-  masking_quiet m = word_leads Nothing Nothing (masking m.0) m.1 (λ b at before. masked b at 4 before m.0)
+  pub masking_quiet : IsMasking (word_at block i) → IsQuietWord b block i
+  masking_quiet m = word_leads Nothing Nothing (masking m.0) m.1 (masked word_bundle word_address 4 before m.0)
 
-  pub placing_quiet : IsPlacing (word_at block i) → IsQuietWord block i
-  placing_quiet p = word_leads Nothing Nothing (placing p.0) p.2 (λ b at before. placed b at 4 before p.0 p.1)
+  pub placing_quiet : has_one_step b.format ≡ false → IsPlacing (word_at block i) → IsQuietWord b block i
+  placing_quiet two p = word_leads Nothing Nothing (placing p.0) p.2 (placed word_bundle word_address 4 before p.0 two p.1)
 
   first_half : block_half block i ≡ half_at (bytes_at block i) 0
   first_half = ap (from_le_bytes w16) (sym (take-take 2 4 (drop (2 * i) block) (omega arith)))
@@ -88,16 +100,12 @@ module _ (block : List ℕ) (long : length block ≡ 128) (i : ℕ) (even : i % 
       ap (from_le_bytes w16) (sym (ap (take 2) (drop-take 2 2 (drop (2 * i) block)) ∙ take-take 2 2 (drop 2 (drop (2 * i) block)) (omega arith)
       ∙ ap (take 2) (drop-drop 2 (2 * i) block ∙ ap (λ (k : ℕ). drop k block) (let e : 2 * i + 2 ≡ 2 * (i + 1) = omega arith in e))))
 
-  pub free_halves_quiet : IsFreeHalfBy may_write_in_words may_be_on_in_words (block_half block i) → IsFreeHalfBy may_write_in_words may_be_on_in_words (block_half block (i + 1)) → IsQuietWord block i
-  free_halves_quiet x y b within =
-      let end = within.end in
-      let c = bundle_at b (i / 8) in
-      let at = b.address + 2 * i in
-      found_halves c at (bytes_at block i) whole (omega (arith, end, below)) (half_plain c at _ _ first_half x) (half_plain c (at + 2) _ _ second_half y)
+  pub free_halves_quiet : IsFreeHalfBy may_write_in_words may_be_on_in_words (block_half block i) → IsFreeHalfBy may_write_in_words may_be_on_in_words (block_half block (i + 1)) → IsQuietWord b block i
+  free_halves_quiet x y = found_halves word_bundle word_address (bytes_at block i) whole before (half_plain word_bundle word_address _ _ first_half x) (half_plain word_bundle (word_address + 2) _ _ second_half y)
 
 -- ---- pairs
 
-module _ (block : List ℕ) (i : ℕ) (long : length block ≡ 128) (p : IsPairAt block i) where
+module _ (b : BundlePlace) (within : IsWithinBlock b) (block : List ℕ) (i : ℕ) (long : length block ≡ 128) (p : IsPairAt b.format block i) where
   low : i < 64
   low = let below = p.below in omega (arith, below)
 
@@ -105,30 +113,30 @@ module _ (block : List ℕ) (i : ℕ) (long : length block ≡ 128) (p : IsPairA
   second_even = let here = p.even in omega (arith, here)
 
   -- the first word of a pair is quiet, or is seen with the second
-  pub first_of_pair : IsQuietWord block i ⊎ IsSteppedWord block i
+  pub first_of_pair : IsQuietWord b block i ⊎ IsSteppedWord b block i
   first_of_pair = elim p.pair [
-    | inl of_data ↦ inl (masking_quiet block long i p.even low of_data.0)
+    | inl of_data ↦ inl (masking_quiet b within block long i p.even low of_data.1)
     | inr of_code ↦ inr (record {
       below = p.below;
       between = Code;
-      step = code_masking_clean block long i p.even low of_code.0.0 of_code.0.1;
-      used = code_placing_clean block long (i + 2) second_even p.below of_code.1;
+      step = code_masking_clean b within block long i p.even low of_code.0.0 of_code.0.1;
+      used = code_placing_clean b within block long (i + 2) second_even p.below of_code.1;
     })
   ]
 
-  pub second_of_pair : IsQuietWord block (i + 2)
+  pub second_of_pair : IsQuietWord b block (i + 2)
   second_of_pair = elim p.pair [
-    | inl of_data ↦ placing_quiet block long (i + 2) second_even p.below of_data.1
-    | inr of_code ↦ code_placing_quiet block long (i + 2) second_even p.below of_code.1
+    | inl of_data ↦ placing_quiet b within block long (i + 2) second_even p.below of_data.0 of_data.2
+    | inr of_code ↦ code_placing_quiet b within block long (i + 2) second_even p.below of_code.1
   ]
 
 -- a step and its use
-pub stepped : (block : List ℕ) (i word next : ℕ) → length block ≡ 128 → i % 2 ≡ 0 → i + 2 < 64 → word ≡ word_at block i → next ≡ word_at block (i + 2) → IsFreeWordBy may_write_in_words may_be_on_in_words (word_at block (i + 2)) → IsUsedStep word next → IsSteppedWord block i
-stepped block i word next long even below first second f h = record {
+pub stepped : (b : BundlePlace) → IsWithinBlock b → (block : List ℕ) (i word next : ℕ) → length block ≡ 128 → i % 2 ≡ 0 → i + 2 < 64 → word ≡ word_at block i → next ≡ word_at block (i + 2) → IsFreeWordBy may_write_in_words may_be_on_in_words (word_at block (i + 2)) → IsUsedStep b.format word next → IsSteppedWord b block i
+stepped b within block i word next long even below first second f h = record {
   below = below;
   between = MaskOrUse h.register;
-  step = step_clean block long i even (omega (arith, below)) h.register h.is_data (subst (IsStepOf h.register) first h.step);
-  used = use_clean block long (i + 2) (omega (arith, even)) below h.register (subst (IsUseOf h.register) second h.used) f;
+  step = step_clean b within block long i even (omega (arith, below)) h.register h.is_data (subst (IsStepOf h.register) first h.step);
+  used = use_clean b within block long (i + 2) (omega (arith, even)) below h.register (subst (IsUseOf h.register) second h.used) f;
 }
 
 -- the next word
@@ -136,11 +144,11 @@ pub next_is : (block : List ℕ) (i : ℕ) → word_from block (2 * i + 4) ≡ w
 next_is block i = ap (λ (k : ℕ). word_from block k) (let e : 2 * i + 4 ≡ 2 * (i + 2) = omega arith in e)
 
 -- a pair that is told there
-pub pair_at : (block : List ℕ) (i first second : ℕ) → i % 2 ≡ 0 → i + 2 < 64 → first ≡ word_at block i → second ≡ word_at block (i + 2) → IsPair first second → IsPairAt block i
-pair_at block i first second even below one other h = record {
+pub pair_at : (f : Format) (block : List ℕ) (i first second : ℕ) → i % 2 ≡ 0 → i + 2 < 64 → first ≡ word_at block i → second ≡ word_at block (i + 2) → IsPair f first second → IsPairAt f block i
+pair_at f block i first second even below one other h = record {
   below = below;
   even = even;
-  pair = subst (λ (n : ℕ). IsPair (word_at block i) n) other (subst (λ (n : ℕ). IsPair n second) one h);
+  pair = subst (λ (n : ℕ). IsPair f (word_at block i) n) other (subst (λ (n : ℕ). IsPair f n second) one h);
 }
 
 -- a word that a look tells to be clean
@@ -148,4 +156,4 @@ pub clean_at_bundle : (block : List ℕ) (i : ℕ) → length block ≡ 128 → 
     → (r : Bool) → OnTrue r (IsQuietThere bundle (b.address + 2 * i) Nothing word Nothing) → OnTrue r (IsCleanWord b block i Nothing Nothing)
 clean_at_bundle block i long even below b bundle at word within is false h = tt
 clean_at_bundle block i long even below b bundle at word within is true h =
-    there_clean block long i even below b word Nothing Nothing within is (subst (λ (x : BundlePlace). IsQuietThere x (b.address + 2 * i) Nothing word Nothing) at h)
+    there_clean b within block long i even below word Nothing Nothing is (subst (λ (x : BundlePlace). IsQuietThere x (b.address + 2 * i) Nothing word Nothing) at h)

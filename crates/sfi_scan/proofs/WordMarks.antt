@@ -59,7 +59,7 @@ module _ (b : BundlePlace) (block : List ℕ) (owed : Owed) (words from : ℕ) (
       | inl quiet ↦ advance fuel (suc n) k (omega (arith, less)) (omega (arith, enough)) end (λ j low high. none j (omega (arith, low)) high) last (Nothing, h, quiet)
       | inr both ↦ elim (cases_lt (suc n) k) [
         | inl further ↦ advance fuel (suc (suc n)) k (omega (arith, further)) (omega (arith, enough)) end (λ j low high. none j (omega (arith, low)) high) last
-            (both.0.between, (Nothing, h, both.0.step b within), subst (λ (i : ℕ). IsCleanWord b block i both.0.between Nothing) (let e : 2 * (from + n) + 2 ≡ 2 * (from + suc n) = omega arith in e) (both.0.used b within))
+            (both.0.between, (Nothing, h, both.0.step), subst (λ (i : ℕ). IsCleanWord b block i both.0.between Nothing) (let e : 2 * (from + n) + 2 ≡ 2 * (from + suc n) = omega arith in e) both.0.used)
         | inr next ↦ absurd (ends (from + n) (from + k) (let e : from + k ≡ suc (from + n) = omega (arith, next, less) in e) both.0.below both.1 last)
       ]
     ]
@@ -142,12 +142,12 @@ pub told_free : (m : Masks) (short left : ℕ) → IsWithout m.free m.long short
     → (n : ℕ) → n < 32 → is_in left (2 * n) ≡ false → IsToldFree m (2 * n)
 told_free m short left first second n lt none = told m short (2 * n) first (omega (arith, lt)) (taken EVEN (bit_and m.free (bit_or m.long (short / 2))) left (2 * n) second (omega (arith, lt)) (in_even n lt) none)
 
-pub told_quiet : (block : List ℕ) (m : Masks) (n : ℕ) → length block ≡ 128 → AreMasksInWords block m → n < 32 → IsToldFree m (2 * n) → IsQuietWord block (2 * n)
-told_quiet block m n long are lt h = elim (cases_Bool (is_in m.long (2 * n))) [
-  | inl wide ↦ free_word_quiet block long (2 * n) (omega arith) (omega (arith, lt)) (are.word (2 * n) (omega (arith, lt)) (omega (arith, lt)) h.0 wide)
+pub told_quiet : (b : BundlePlace) → IsWithinBlock b → (block : List ℕ) (m : Masks) (n : ℕ) → length block ≡ 128 → AreMasksInWords block m → n < 32 → IsToldFree m (2 * n) → IsQuietWord b block (2 * n)
+told_quiet b within block m n long are lt h = elim (cases_Bool (is_in m.long (2 * n))) [
+  | inl wide ↦ free_word_quiet b within block long (2 * n) (omega arith) (omega (arith, lt)) (are.word (2 * n) (omega (arith, lt)) (omega (arith, lt)) h.0 wide)
   | inr short ↦ elim h.1 [
     | inl wide ↦ absurd (both_ways (is_in m.long (2 * n)) short wide)
-    | inr second ↦ free_halves_quiet block long (2 * n) (omega arith) (omega (arith, lt)) (are.short (2 * n) (omega (arith, lt)) h.0 short) (are.short (2 * n + 1) (omega (arith, lt)) second.1 second.0)
+    | inr second ↦ free_halves_quiet b within block long (2 * n) (omega arith) (omega (arith, lt)) (are.short (2 * n) (omega (arith, lt)) h.0 short) (are.short (2 * n + 1) (omega (arith, lt)) second.1 second.0)
   ]
 ]
 
@@ -173,17 +173,17 @@ two_words words i fits h =
 -- ---- what is seen of the words that aren't left
 
 module _ (b : BundlePlace) (block : List ℕ) (words pairs others steps rest plain left : ℕ) (within : IsWithinBlock b) (long : length block ≡ 128)
-    (quiet : (n : ℕ) → n < 32 → is_in words (2 * n) ≡ false → IsQuietWord block (2 * n))
+    (quiet : (n : ℕ) → n < 32 → is_in words (2 * n) ≡ false → IsQuietWord b block (2 * n))
     (first : IsWithout words (bit_or pairs (shl pairs 2)) others) (second : IsWithout others steps rest) (third : IsWithout rest plain left)
-    (of_pairs : (i : ℕ) → is_in pairs i ≡ true → IsPairAt block i)
-    (stepped : (i : ℕ) → is_in steps i ≡ true → IsSteppedWord block i) (apart : (i : ℕ) → is_in steps i ≡ true → is_in others (i + 2) ≡ false)
-    (of_plain : (i : ℕ) → is_in plain i ≡ true → IsCleanWord b block i Nothing Nothing) where
+    (of_pairs : (i : ℕ) → is_in pairs i ≡ true → IsPairAt b.format block i)
+    (stepped : (i : ℕ) → is_in steps i ≡ true → IsSteppedWord b block i) (apart : (i : ℕ) → is_in steps i ≡ true → is_in others (i + 2) ≡ false)
+    (of_plain : (i : ℕ) → is_in plain i ≡ true → IsQuietWord b block i) where
   gone : (i : ℕ) → i < 64 → is_in others i ≡ false → is_in left i ≡ false
   gone i lt h = not_there rest plain left i third lt (not_there others steps rest i second lt h)
 
   first_seen : (i : ℕ) → is_in pairs i ≡ true → IsSeen b block left i
-  first_seen i h = elim (first_of_pair block i long (of_pairs i h)) [
-    | inl alone ↦ inl (alone b within)
+  first_seen i h = elim (first_of_pair b within block i long (of_pairs i h)) [
+    | inl alone ↦ inl alone
     | inr both ↦ inr (both, gone (i + 2) both.below (taken_out words _ others (i + 2) first both.below (in_or pairs (shl pairs 2) (i + 2) ∙ or_right (is_in pairs (i + 2)) (is_in (shl pairs 2) (i + 2)) (shifted both.below))))
   ]
     where
@@ -196,7 +196,7 @@ module _ (b : BundlePlace) (block : List ℕ) (words pairs others steps rest pla
     | inr high ↦ (let e : i ≡ 2 + (i - 2) = omega (arith, high) in
         let there : is_in pairs (i - 2) ≡ true = sym (in_shl pairs 2 (i - 2) (omega (arith, high, lt))) ∙ ap (is_in (shl pairs 2)) (sym e) ∙ h in
         let same : i - 2 + 2 ≡ i = omega (arith, high) in
-        inl (subst (λ (k : ℕ). IsCleanWord b block k Nothing Nothing) same (second_of_pair block (i - 2) long (of_pairs (i - 2) there) b within)))
+        inl (subst (λ (k : ℕ). IsCleanWord b block k Nothing Nothing) same (second_of_pair b within block (i - 2) long (of_pairs (i - 2) there))))
   ]
 
   pub left_seen : (n : ℕ) → n < 32 → is_in left (2 * n) ≡ false → IsSeen b block left (2 * n)
@@ -206,7 +206,7 @@ module _ (b : BundlePlace) (block : List ℕ) (words pairs others steps rest pla
       low = omega (arith, lt)
 
       by : (w p s t q : Bool) → is_in words (2 * n) ≡ w → is_in pairs (2 * n) ≡ p → is_in (shl pairs 2) (2 * n) ≡ s → is_in steps (2 * n) ≡ t → is_in plain (2 * n) ≡ q → IsSeen b block left (2 * n)
-      by false p s t q e f g h k = inl (quiet n lt e b within)
+      by false p s t q e f g h k = inl (quiet n lt e)
       by true true s t q e f g h k = first_seen (2 * n) f
       by true false true t q e f g h k = second_seen (2 * n) low g
       by true false false true q e f g h k =

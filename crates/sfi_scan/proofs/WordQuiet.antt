@@ -1,5 +1,5 @@
 -- Which instructions of code in words break no rule, what they write, and what is owed after them.
-use Rattle.sfi_scan.proofs.Prelude.{◌≡◌, ℕ, Bool, true, false, ◌&&◌, ◌||◌, ◌==◌, not, Option, Some, None, refl, sym, ap, ◌∙◌, subst, or_parts, eqb-true, Instr, is_reserved, destination, is_data_register, Owed, Nothing, owed_by, is_reserved_or_typed, ◌+◌, is_some, ap₂, arith, and_right, ne_eqb, BundlePlace, left, IsQuiet, IsBeforeEnd}
+use Rattle.sfi_scan.proofs.Prelude.{◌≡◌, ℕ, Bool, true, false, both_ways, ◌&&◌, ◌||◌, ◌==◌, not, Option, Some, None, refl, sym, ap, ◌∙◌, subst, or_parts, eqb-true, Instr, is_reserved, destination, is_data_register, Owed, Nothing, owed_by, is_reserved_or_typed, ◌+◌, is_some, ap₂, arith, and_right, ne_eqb, BundlePlace, left, IsQuiet, IsBeforeEnd}
 use Rattle.std.proofs.lemmas.Bool.{and_left, or_from}
 use Rattle.rv_word.specs.Outlines.{is_register}
 use Rattle.sfi_pairs.specs.Pairs.{is_masking}
@@ -9,7 +9,6 @@ use Rattle.sfi_rules.specs.words.Findings.{is_at_gate, is_data_one}
 use Rattle.sfi_rules.proofs.Facts.{none_of}
 use Rattle.sfi_formats.specs.declared.format.Format.{Format}
 use Rattle.sfi_formats.specs.Formats.{has_one_step, is_data_register_in, is_reserved_in}
-use Rattle.sfi_formats.proofs.Formats.{data_registers}
 
 -- ==== What an instruction writes: a register that is free, or a typed one and what it then owes.
 
@@ -27,6 +26,7 @@ not_reserved f r h = and_left (is_reserved r) (not (is_data_register_in f r)) h
 record IsFree (r : ℕ) : Type 0 where
   reserved : is_reserved r ≡ false
   not_data : is_data_register r ≡ false
+  base : (r == 26) ≡ false
   code : (r == 30) ≡ false
   offset : (r == 31) ≡ false
 
@@ -35,14 +35,25 @@ free r h =
     let one = or_parts (is_reserved r || is_data_register r || (r == 30)) (r == 31) h in
     let two = or_parts (is_reserved r || is_data_register r) (r == 30) one.0 in
     let three = or_parts (is_reserved r) (is_data_register r) two.0 in
-    record { reserved = three.0; not_data = three.1; code = two.1; offset = one.1 }
+    let bases = or_parts ((r == 24) || (r == 25) || (r == 26)) (r == 27) three.0 in
+    record {
+      reserved = three.0;
+      not_data = three.1;
+      base = (or_parts ((r == 24) || (r == 25)) (r == 26) bases.0).1;
+      code = two.1;
+      offset = one.1;
+    }
+
+-- it is no data register of any format
+no_data : (f : Format) (r : ℕ) → IsFree r → is_data_register_in f r ≡ false
+no_data f r free = ap₂ (λ (p q : Bool). p || (q && has_one_step f)) free.not_data (ap₂ (λ (p q : Bool). p || q) free.base free.offset)
 
 abbrev pub is_reserved_or_typed_one : Option ℕ → Bool
 is_reserved_or_typed_one None = false
 is_reserved_or_typed_one (Some r) = is_reserved_or_typed r
 
 owes_none : (f : Format) (r : ℕ) (i : Instr) → IsFree r → owed_of f (Some r) i ≡ Some Nothing
-owes_none f r i free = rw (data_registers f r ∙ free.not_data, free.code) refl
+owes_none f r i free = rw (no_data f r free, free.code) refl
 
 breaks_offset_of : Format → Instr → Option ℕ → Bool
 breaks_offset_of f i d = is_register 31 d && not (has_one_step f || is_masking 27 31 i)
@@ -72,35 +83,39 @@ unkept f i h = by (destination i) refl h
 
 -- ---- a typed one
 
-record IsTyped (r : ℕ) : Type 0 where
-  reserved : is_reserved r ≡ false
-  offset : (r == 31) ≡ false
+record IsTyped (f : Format) (r : ℕ) : Type 0 where
+  reserved : is_reserved_in f r ≡ false
+  offset : (masking : Bool) → ((r == 31) && not (has_one_step f || masking)) ≡ false
 
-at_number : (r n : ℕ) → (r == n) ≡ true → IsTyped n → IsTyped r
-at_number r n e t = subst IsTyped (sym (eqb-true r n e)) t
-
-data_typed : (r : ℕ) → is_data_register r ≡ true → IsTyped r
-data_typed r h = by (r == 2) (r == 3) (r == 4) refl refl refl h
+-- x31 is a data register only where a mask has one step, and then a write of it asks no mask
+data_offset : (f : Format) (r : ℕ) → is_data_register_in f r ≡ true → (masking : Bool) → ((r == 31) && not (has_one_step f || masking)) ≡ false
+data_offset f r h masking = by (r == 31) (has_one_step f) refl refl
   where
-    by : (a b c : Bool) → (r == 2) ≡ a → (r == 3) ≡ b → (r == 4) ≡ c → (a || b || c || (r == 29)) ≡ true → IsTyped r
-    by true b c e f g h = at_number r 2 e (record { reserved = refl; offset = refl })
-    by false true c e f g h = at_number r 3 f (record { reserved = refl; offset = refl })
-    by false false true e f g h = at_number r 4 g (record { reserved = refl; offset = refl })
-    by false false false e f g h = at_number r 29 h (record { reserved = refl; offset = refl })
+    by : (p o : Bool) → (r == 31) ≡ p → has_one_step f ≡ o → (p && not (o || masking)) ≡ false
+    by false o e g = refl
+    by true true e g = refl
+    by true false e g = absurd (both_ways (has_one_step f) g (subst (λ (n : ℕ). is_data_register_in f n ≡ true) (eqb-true r 31 e) h))
 
-is_typed : (f : Format) (r : ℕ) → (is_data_register_in f r || (r == 30)) ≡ true → IsTyped r
+data_typed : (f : Format) (r : ℕ) → is_data_register_in f r ≡ true → IsTyped f r
+data_typed f r h = record {
+  reserved = and_right (is_reserved r) (not (is_data_register_in f r)) (ap not h);
+  offset = data_offset f r h;
+}
+
+is_typed : (f : Format) (r : ℕ) → (is_data_register_in f r || (r == 30)) ≡ true → IsTyped f r
 is_typed f r h = by (is_data_register_in f r) refl h
   where
-    by : (a : Bool) → is_data_register_in f r ≡ a → (a || (r == 30)) ≡ true → IsTyped r
-    by true e h = data_typed r (sym (data_registers f r) ∙ e)
-    by false e h = at_number r 30 h (record { reserved = refl; offset = refl })
+    by : (a : Bool) → is_data_register_in f r ≡ a → (a || (r == 30)) ≡ true → IsTyped f r
+    by true e h = data_typed f r e
+    by false e h = subst (IsTyped f) (sym (eqb-true r 30 h)) (record { reserved = refl; offset = λ masking. refl })
 
 pub typed : (f : Format) (i : Instr) (r : ℕ) (own : Owed) → destination i ≡ Some r → (is_data_register_in f r || (r == 30)) ≡ true → owed_by f i ≡ Some own → IsWrite f i own
+unfolding breaks_offset_of
 typed f i r own e h owes =
     let t = is_typed f r h in
     record {
-      reserved = ap (is_reserved_one f) e ∙ not_reserved f r t.reserved;
-      offset = no_offset f i r e t.offset;
+      reserved = ap (is_reserved_one f) e ∙ t.reserved;
+      offset = ap (breaks_offset_of f i) e ∙ t.offset (is_masking 27 31 i);
       own_is = owes;
     }
 

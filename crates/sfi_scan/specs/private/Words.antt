@@ -6,7 +6,8 @@ use Rattle.rv_comp.specs.Fronts.{IsShortSpelling}
 use Rattle.rv_word.specs.declared.instr.Instr.{Instr}
 use Rattle.rv_word.specs.declared.outline.Outline.{Outline}
 use Rattle.rv_word.specs.declared.outline.Outline.TheVariants.{Computes, Loads, Stores, Branches, Jumps, JumpsTo, Orders, Calls, Stops}
-use Rattle.sfi_formats.specs.Formats.{code_register, is_data_register, is_reserved, offset_register, code_base_register, code_mask_register, data_base_register, data_mask_register}
+use Rattle.sfi_formats.specs.Formats.{code_register, has_one_step, is_data_register, is_data_register_in, is_reserved, offset_register, code_base_register, code_mask_register, data_base_register, data_mask_register}
+use Rattle.sfi_formats.specs.declared.format.Format.{Format}
 use Rattle.sfi_image.specs.declared.bundle.BundlePlace.{BundlePlace}
 use Rattle.sfi_rules.specs.declared.owed.Owed.{Owed}
 use Rattle.sfi_rules.specs.words.Findings.{lowest, IsWordFound}
@@ -18,7 +19,7 @@ use Rattle.rv_word.specs.declared.instr.RegOp.TheVariants.{And, Or}
 use Rattle.sfi_masks.specs.Masks.{is_in, word_at}
 use Rattle.sfi_masks.specs.declared.masks.Masks.{Masks}
 use Rattle.sfi_formats.specs.Limits.{word_size}
-use Rattle.sfi_rules.specs.Readings.{IsWithinBlock, bundle_at}
+use Rattle.sfi_rules.specs.Readings.{bundle_at}
 use Rattle.sfi_rules.specs.declared.owed.Owed.TheVariants.{Nothing}
 
 -- ==== The first look at a word of code in words.
@@ -79,24 +80,23 @@ abbrev pub IsCleanWord : BundlePlace → List ℕ → ℕ → Owed → Owed → 
 IsCleanWord b block i owed next =
     IsWordFound (bundle_at b (i / 8)) (b.address + 2 * i) owed (bytes_at block i) [] next
 
--- wherever the block stands before its region's last bundle, the word breaks no rule and leaves nothing
--- owed, if nothing is owed before it
-abbrev pub IsQuietWord : List ℕ → ℕ → Type 0
-IsQuietWord block i = (b : BundlePlace) → IsWithinBlock b → IsCleanWord b block i Nothing Nothing
+-- the word breaks no rule and leaves nothing owed, if nothing is owed before it
+abbrev pub IsQuietWord : BundlePlace → List ℕ → ℕ → Type 0
+IsQuietWord b block i = IsCleanWord b block i Nothing Nothing
 
--- wherever the block stands before its region's last bundle, the word and the next one break no
--- rule and leave nothing owed, if nothing is owed before them; `between` is owed between them
-pub record IsSteppedWord (block : List ℕ) (i : ℕ) : Type 0 where
+-- the word and the next one break no rule and leave nothing owed, if nothing is owed before them;
+-- `between` is owed between them
+pub record IsSteppedWord (b : BundlePlace) (block : List ℕ) (i : ℕ) : Type 0 where
   pub below : i + 2 < 64
   pub between : Owed
-  pub step : (b : BundlePlace) → IsWithinBlock b → IsCleanWord b block i Nothing between
-  pub used : (b : BundlePlace) → IsWithinBlock b → IsCleanWord b block (i + 2) between Nothing
+  pub step : IsCleanWord b block i Nothing between
+  pub used : IsCleanWord b block (i + 2) between Nothing
 
 -- with nothing owed before it, the word breaks no rule and nothing is owed after it; or this holds
 -- of it with the next word, whose bit in `left` isn't set
 abbrev pub IsSeen : BundlePlace → List ℕ → ℕ → ℕ → Type 0
 IsSeen b block left i =
-    IsCleanWord b block i Nothing Nothing ⊎ (IsSteppedWord block i × (is_in left (i + 2) ≡ false))
+    IsQuietWord b block i ⊎ (IsSteppedWord b block i × (is_in left (i + 2) ≡ false))
 
 -- n words of the block, from word `from` on, break no rule, with `owed` before them and `next` after
 -- them
@@ -125,15 +125,16 @@ abbrev pub IsCodePair : ℕ → ℕ → Type 0
 IsCodePair first second = ((a : ℕ) × IsWordOf first (Op And code_register a code_mask_register))
     × IsWordOf second (Op Or code_register code_register code_base_register)
 
--- the words are a pair: of data, or the pair of the code register
-abbrev pub IsPair : ℕ → ℕ → Type 0
-IsPair first second = (IsMasking first × IsPlacing second) ⊎ IsCodePair first second
+-- the words are a pair: of data, where a mask has two steps, or the pair of the code register
+abbrev pub IsPair : Format → ℕ → ℕ → Type 0
+IsPair f first second = ((has_one_step f ≡ false) × IsMasking first × IsPlacing second)
+    ⊎ IsCodePair first second
 
 -- a pair begins with halfword i
-pub record IsPairAt (block : List ℕ) (i : ℕ) : Type 0 where
+pub record IsPairAt (f : Format) (block : List ℕ) (i : ℕ) : Type 0 where
   pub below : i + 2 < 64
   pub even : i % 2 ≡ 0
-  pub pair : IsPair (word_at block i) (word_at block (i + 2))
+  pub pair : IsPair f (word_at block i) (word_at block (i + 2))
 
 -- the word is `addi d, d, k`
 abbrev pub IsStepOf : ℕ → ℕ → Type 0
@@ -156,8 +157,8 @@ abbrev pub IsUseOf : ℕ → ℕ → Type 0
 IsUseOf d word = (i : Instr) × IsWordOf word i × (uses d i ≡ true)
 
 -- the first word steps a data register, which the next one uses
-pub record IsUsedStep (word next : ℕ) : Type 0 where
+pub record IsUsedStep (f : Format) (word next : ℕ) : Type 0 where
   pub register : ℕ
-  pub is_data : is_data_register register ≡ true
+  pub is_data : is_data_register_in f register ≡ true
   pub step : IsStepOf register word
   pub used : IsUseOf register next

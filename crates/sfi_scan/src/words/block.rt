@@ -12,11 +12,12 @@ ghost use Rattle.sfi_scan.specs.private.Words.{IsToldFree, IsQuietWord, IsSteppe
 use crate::block::{EVEN, bits_without, bundle_at};
 use crate::clean::word_at;
 use crate::findings::BundleFindings;
-use crate::words::look::is_clean_jump_word;
+use crate::words::look::is_clean_other_word;
 use crate::words::word::scan_word;
 use rv_word::{Reg, access32};
+use sfi_formats::Format;
 use sfi_masks::{BLOCK_BYTES, Masks, word_masks_of};
-use sfi_pairs::is_data_register;
+use sfi_pairs::{is_data_register, is_data_register_in};
 use sfi_rules::{BundlePlace, Owed};
 
 /// `and x31, x0, x27`.
@@ -72,12 +73,16 @@ fn is_any_data_placing_word(word: u32) -> bool
     is_data_register(Reg::numbered((word >> 7 & 0b11111) as u8))
 }
 
-/// Whether the words are a pair: of data, or `and x30, a, x25` and `or x30, x30, x24`.
+/// Whether the words are a pair: of data, where a mask has two steps, or `and x30, a, x25` and
+/// `or x30, x30, x24`.
 #[inline(always)]
-fn are_pair_words(first: u32, second: u32) -> bool
-    ensures { OnTrue result (IsPair first second) }
+fn are_pair_words(format: Format, first: u32, second: u32) -> bool
+    ensures { OnTrue result (IsPair format first second) }
 {
     if is_any_data_masking_word(first) {
+        if format.has_one_step() {
+            return false;
+        }
         return is_any_data_placing_word(second);
     }
     if first & !OPERAND != CODE_MASKING {
@@ -88,9 +93,9 @@ fn are_pair_words(first: u32, second: u32) -> bool
 
 /// Where pairs of these words begin.
 #[inline(always)]
-fn pairs_in(block: &[u8; BLOCK_BYTES], words: u64) -> u64
+fn pairs_in(format: Format, block: &[u8; BLOCK_BYTES], words: u64) -> u64
     requires { (i : ℕ) → i < 64 → is_in words i ≡ true → i % 2 ≡ 0 }
-    ensures { (i : ℕ) → is_in result i ≡ true → IsPairAt block.now i }
+    ensures { (i : ℕ) → is_in result i ≡ true → IsPairAt format block.now i }
 {
     let mut pairs = 0;
     let mut rest = words & words >> 2;
@@ -98,7 +103,7 @@ fn pairs_in(block: &[u8; BLOCK_BYTES], words: u64) -> u64
         let i = rest.trailing_zeros() as usize;
         let first = word_at(block, 2 * i);
         let second = word_at(block, 2 * i + 4);
-        if are_pair_words(first, second) {
+        if are_pair_words(format, first, second) {
             pairs |= 1 << i;
         }
         rest &= rest - 1;
@@ -156,11 +161,11 @@ fn is_use_of(d: Reg, word: u32) -> bool
 
 /// Whether the word steps a data register, which the next one uses.
 #[inline(always)]
-fn is_used_step(word: u32, next: u32) -> bool
-    ensures { OnTrue result (IsUsedStep word next) }
+fn is_used_step(format: Format, word: u32, next: u32) -> bool
+    ensures { OnTrue result (IsUsedStep format word next) }
 {
     let d = Reg::numbered((word >> 7 & 0b11111) as u8);
-    if !is_data_register(d) {
+    if !is_data_register_in(format, d) {
         return false;
     }
     if !is_step_of(d, word) {
@@ -172,11 +177,12 @@ fn is_used_step(word: u32, next: u32) -> bool
 /// The bits of the words that step a data register directly before an access on it, which is a free
 /// word.
 #[inline(always)]
-fn used_steps(block: &[u8; BLOCK_BYTES], free: u64, words: u64) -> u64
+fn used_steps(place: &BundlePlace, block: &[u8; BLOCK_BYTES], free: u64, words: u64) -> u64
+    requires within { IsWithinBlock place.now }
     requires words { (i : ℕ) → i < 64 → is_in words i ≡ true → i % 2 ≡ 0 }
     requires free { (i : ℕ) → i < 64 → i % 2 ≡ 0 → is_in free i ≡ true →
         IsFreeWordBy may_write_in_words may_be_on_in_words (block_word block.now i) }
-    ensures stepped { (i : ℕ) → is_in result i ≡ true → IsSteppedWord block.now i }
+    ensures stepped { (i : ℕ) → is_in result i ≡ true → IsSteppedWord place.now block.now i }
     ensures apart { (i : ℕ) → is_in result i ≡ true → is_in words (i + 2) ≡ false }
 {
     let mut steps = 0;
@@ -185,7 +191,7 @@ fn used_steps(block: &[u8; BLOCK_BYTES], free: u64, words: u64) -> u64
         let i = rest.trailing_zeros() as usize;
         let word = word_at(block, 2 * i);
         let next = word_at(block, 2 * i + 4);
-        if is_used_step(word, next) {
+        if is_used_step(place.format, word, next) {
             steps |= 1 << i;
         }
         rest &= rest - 1;
@@ -193,9 +199,10 @@ fn used_steps(block: &[u8; BLOCK_BYTES], free: u64, words: u64) -> u64
     steps
 }
 
-/// Whether the word at halfword `i` jumps or branches and breaks no rule.
+/// Whether the word at halfword `i` jumps or branches, or where a mask has one step is a mask or an access,
+/// and breaks no rule.
 #[inline(always)]
-fn is_clean_jump_at(place: &BundlePlace, block: &[u8; BLOCK_BYTES], i: usize) -> bool
+fn is_clean_other_at(place: &BundlePlace, block: &[u8; BLOCK_BYTES], i: usize) -> bool
     requires within { IsWithinBlock place.now }
     requires word { i % 2 ≡ 0 }
     requires inside { i < 64 }
@@ -203,12 +210,13 @@ fn is_clean_jump_at(place: &BundlePlace, block: &[u8; BLOCK_BYTES], i: usize) ->
 {
     let bundle = bundle_at(place, i / 8);
     let address = place.address + 2 * i as u32;
-    is_clean_jump_word(&bundle, address, word_at(block, 2 * i))
+    is_clean_other_word(&bundle, address, word_at(block, 2 * i))
 }
 
-/// The bits of `words` that jump or branch and break no rule.
+/// The bits of `words` that break no rule and jump or branch, or where a mask has one step are masks or
+/// accesses.
 #[inline(always)]
-fn clean_jumps(place: &BundlePlace, block: &[u8; BLOCK_BYTES], words: u64) -> u64
+fn clean_others(place: &BundlePlace, block: &[u8; BLOCK_BYTES], words: u64) -> u64
     requires within { IsWithinBlock place.now }
     requires words { (i : ℕ) → i < 64 → is_in words i ≡ true → i % 2 ≡ 0 }
     ensures { (i : ℕ) → is_in result i ≡ true → IsCleanWord place.now block.now i Nothing Nothing }
@@ -217,7 +225,7 @@ fn clean_jumps(place: &BundlePlace, block: &[u8; BLOCK_BYTES], words: u64) -> u6
     let mut rest = words;
     while rest != 0 {
         let i = rest.trailing_zeros() as usize;
-        if is_clean_jump_at(place, block, i) {
+        if is_clean_other_at(place, block, i) {
             plain |= 1 << i;
         }
         rest &= rest - 1;
@@ -231,17 +239,17 @@ fn clean_jumps(place: &BundlePlace, block: &[u8; BLOCK_BYTES], words: u64) -> u6
 fn doubtful_words(place: &BundlePlace, block: &[u8; BLOCK_BYTES], words: u64, free: u64) -> u64
     requires within { IsWithinBlock place.now }
     requires words { (i : ℕ) → i < 64 → is_in words i ≡ true → i % 2 ≡ 0 }
-    requires quiet { (n : ℕ) → n < 32 → is_in words (2 * n) ≡ false → IsQuietWord block.now (2 * n) }
+    requires quiet { (n : ℕ) → n < 32 → is_in words (2 * n) ≡ false → IsQuietWord place.now block.now (2 * n) }
     requires free { (i : ℕ) → i < 64 → i % 2 ≡ 0 → is_in free i ≡ true →
         IsFreeWordBy may_write_in_words may_be_on_in_words (block_word block.now i) }
     ensures words { (i : ℕ) → i < 64 → is_in result i ≡ true → i % 2 ≡ 0 }
     ensures others { (n : ℕ) → n < 32 → is_in result (2 * n) ≡ false →
         IsSeen place.now block.now result (2 * n) }
 {
-    let pairs = pairs_in(block, words);
+    let pairs = pairs_in(place.format, block, words);
     let others = bits_without(words, pairs | pairs << 2);
-    let rest = bits_without(others, used_steps(block, free, others));
-    bits_without(rest, clean_jumps(place, block, rest))
+    let rest = bits_without(others, used_steps(place, block, free, others));
+    bits_without(rest, clean_others(place, block, rest))
 }
 
 /// What is owed after the word at halfword `i`, if it breaks no rule with `owed` before it.

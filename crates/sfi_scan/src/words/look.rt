@@ -1,7 +1,7 @@
 //! A first look at a word of code in words: whether it breaks no rule, and what is owed after it.
 //! It goes by the word's bits, and decodes only writes of typed registers outside data pairs, and
 //! what follows a step, so it is quick. A word about which it says nothing may still break no rule.
-ghost use Rattle.std.specs.Prelude.{◌≡◌, ◌+◌, ◌<◌, ◌==◌, ◌&&◌, ◌||◌, not, ℕ, true, IfSome, length, []};
+ghost use Rattle.std.specs.Prelude.{◌≡◌, ◌+◌, ◌<◌, ◌==◌, ◌&&◌, ◌||◌, not, ℕ, true, false, IfSome, length, []};
 ghost use Rattle.std.specs.Bool.{OnTrue};
 ghost use Rattle.rv_word.specs.Spelling.{bits};
 ghost use Rattle.rv_word.specs.Outlines.{IsWordThat};
@@ -10,9 +10,9 @@ ghost use Rattle.rv_word.specs.declared.instr.Instr.TheVariants.{Op};
 ghost use Rattle.rv_word.specs.declared.instr.RegOp.TheVariants.{And, Or};
 ghost use Rattle.rv_word.specs.declared.outline.Outline.TheVariants.{Computes};
 ghost use Rattle.sfi_image.specs.declared.bundle.BundlePlace.{BundlePlace};
-ghost use Rattle.sfi_formats.specs.Formats.{is_data_register, is_data_register_in};
+ghost use Rattle.sfi_formats.specs.Formats.{has_one_step, is_data_register, is_data_register_in};
 ghost use Rattle.sfi_rules.specs.Readings.{IsWithin};
-ghost use Rattle.sfi_rules.specs.declared.owed.Owed.TheVariants.{Nothing, MaskOrUse};
+ghost use Rattle.sfi_rules.specs.declared.owed.Owed.TheVariants.{Nothing, Mask, MaskOrUse};
 ghost use Rattle.sfi_rules.specs.words.Findings.{IsWordFound};
 ghost use Rattle.sfi_scan.specs.private.Blocks.{is_zero};
 ghost use Rattle.sfi_scan.specs.private.Words.{is_reserved_or_typed, is_clean_alone, IsQuietThere, IsBeforeEnd, IsCleanHalfAlone};
@@ -104,17 +104,37 @@ fn is_data_masking_word(a: Reg, word: u32) -> bool
     op_word(RegOp::And, target, a, Reg::numbered(DATA_MASK_REGISTER)) == word
 }
 
-/// Whether the word is `or d, x31, x26`, and d is a data register.
+/// Whether the word is `or d, x31, x26`, and d is a data register, whose mask has two steps.
 #[inline(always)]
-fn is_data_placing_word(d: Reg, word: u32) -> bool
+fn is_data_placing_word(format: Format, d: Reg, word: u32) -> bool
     ensures word { OnTrue result (IsWordOf word (Op Or d 31 26)) }
     ensures data { OnTrue result (is_data_register d ≡ true) }
+    ensures two_steps { OnTrue result (has_one_step format ≡ false) }
 {
     if !is_data_register(d) {
         return false;
     }
+    if format.has_one_step() {
+        return false;
+    }
     let offset = Reg::numbered(OFFSET_REGISTER);
     op_word(RegOp::Or, d, offset, Reg::numbered(DATA_BASE_REGISTER)) == word
+}
+
+/// Whether the word is `and d, a, x27`, and d is a data register, whose mask has one step.
+#[inline(always)]
+fn is_single_mask_word(format: Format, d: Reg, a: Reg, word: u32) -> bool
+    ensures word { OnTrue result (IsWordOf word (Op And d a 27)) }
+    ensures data { OnTrue result (is_data_register_in format d ≡ true) }
+    ensures one_step { OnTrue result (has_one_step format ≡ true) }
+{
+    if !format.has_one_step() {
+        return false;
+    }
+    if !is_data_register_in(format, d) {
+        return false;
+    }
+    op_word(RegOp::And, d, a, Reg::numbered(DATA_MASK_REGISTER)) == word
 }
 
 /// What is owed after a word that computes into a data register or x30.
@@ -139,10 +159,14 @@ fn after_kept(format: Format, word: u32) -> Option<Owed>
         IfSome result (IsQuietThere b at Nothing word) }
 {
     let rd = rd_of(word);
-    if is_data_masking_word(rs1_of(word), word) {
+    let a = rs1_of(word);
+    if is_data_masking_word(a, word) {
         return Some(Owed::Nothing);
     }
-    if is_data_placing_word(rd, word) {
+    if is_data_placing_word(format, rd, word) {
+        return Some(Owed::Nothing);
+    }
+    if is_single_mask_word(format, rd, a, word) {
         return Some(Owed::Nothing);
     }
     if is_data_register_in(format, rd) || rd.number() == CODE_REGISTER {
@@ -166,10 +190,25 @@ fn is_known_clean_alone(place: &BundlePlace, address: u32, outline: Option<Outli
     }
 }
 
-/// Whether the word jumps or branches, breaks no rule, and leaves nothing owed, where nothing is
-/// owed before it. A call for each opcode, so that the compiler drops outlines that it cannot have.
+/// Whether the word, a load or a store, breaks no rule, and leaves nothing owed, where nothing is owed
+/// before it, in a format whose masks have one step. In others the masks of a block tell of it.
 #[inline(always)]
-pub(crate) fn is_clean_jump_word(place: &BundlePlace, address: u32, word: u32) -> bool
+fn is_clean_one_step_access(place: &BundlePlace, address: u32, word: u32) -> bool
+    requires within { IsWithin place.now }
+    requires before_end { IsBeforeEnd place.now address 4 }
+    ensures { OnTrue result (IsQuietThere place.now address Nothing word Nothing) }
+{
+    if !place.format.has_one_step() {
+        return false;
+    }
+    is_known_clean_alone(place, address, outline32(word))
+}
+
+/// Whether the word jumps or branches, or where a mask has one step is a mask or an access, and breaks no
+/// rule, and leaves nothing owed, where nothing is owed before it. A call for each opcode, so that the
+/// compiler drops outlines that it cannot have.
+#[inline(always)]
+pub(crate) fn is_clean_other_word(place: &BundlePlace, address: u32, word: u32) -> bool
     requires within { IsWithin place.now }
     requires before_end { IsBeforeEnd place.now address 4 }
     ensures { OnTrue result (IsQuietThere place.now address Nothing word Nothing) }
@@ -178,6 +217,8 @@ pub(crate) fn is_clean_jump_word(place: &BundlePlace, address: u32, word: u32) -
         0b110_0011 => is_known_clean_alone(place, address, outline32(word)),
         0b110_0111 => is_known_clean_alone(place, address, outline32(word)),
         0b110_1111 => is_known_clean_alone(place, address, outline32(word)),
+        0b011_0011 => is_single_mask_word(place.format, rd_of(word), rs1_of(word), word),
+        0b000_0011 | 0b010_0011 => is_clean_one_step_access(place, address, word),
         _ => false,
     }
 }
@@ -234,27 +275,54 @@ fn after_nothing(place: &BundlePlace, address: u32, word: u32) -> Option<Owed>
     after_other(place, address, word)
 }
 
-/// Whether the word is `and x31, d, x27`.
-fn is_data_masking_word_of(d: u8, word: u32) -> bool
-    ensures { OnTrue result (IsWordOf word (Op And 31 d 27)) }
+/// Whether the word is `and x31, d, x27`, and the mask of d has two steps.
+fn is_data_masking_word_of(format: Format, d: u8, word: u32) -> bool
+    ensures word { OnTrue result (IsWordOf word (Op And 31 d 27)) }
+    ensures two_steps { OnTrue result (has_one_step format ≡ false) }
 {
     let a = rs1_of(word);
     if a.number() != d {
         return false;
     }
+    if format.has_one_step() {
+        return false;
+    }
     is_data_masking_word(a, word)
 }
 
-/// Whether the word is `or d, x31, x26`, and d is a data register.
-fn is_data_placing_word_of(d: u8, word: u32) -> bool
+/// Whether the word is `or d, x31, x26`, and d is a data register, whose mask has two steps.
+fn is_data_placing_word_of(format: Format, d: u8, word: u32) -> bool
     ensures word { OnTrue result (IsWordOf word (Op Or d 31 26)) }
     ensures data { OnTrue result (is_data_register d ≡ true) }
+    ensures two_steps { OnTrue result (has_one_step format ≡ false) }
 {
     let rd = rd_of(word);
     if rd.number() != d {
         return false;
     }
-    is_data_placing_word(rd, word)
+    is_data_placing_word(format, rd, word)
+}
+
+/// What is owed after a word that begins the mask of data register d.
+#[inline(always)]
+fn after_masking(format: Format, d: u8, word: u32) -> Option<Owed>
+    ensures owed { (b : BundlePlace) (at : ℕ) → b.format ≡ format → IsBeforeEnd b at 4 →
+        IfSome result (IsQuietThere b at (Mask d) word) }
+    ensures or_used { (b : BundlePlace) (at : ℕ) → b.format ≡ format → IsBeforeEnd b at 4 →
+        IfSome result (IsQuietThere b at (MaskOrUse d) word) }
+{
+    if is_data_masking_word_of(format, d, word) {
+        return Some(Owed::PlaceOnly(d));
+    }
+    let rd = rd_of(word);
+    if rd.number() != d {
+        return None;
+    }
+    let a = rs1_of(word);
+    if is_single_mask_word(format, rd, a, word) {
+        return Some(Owed::Nothing);
+    }
+    None
 }
 
 /// Whether the word is `or x30, x30, x24`.
@@ -289,21 +357,16 @@ fn after_owed(place: &BundlePlace, address: u32, owed: Owed, word: u32) -> Optio
 {
     match owed {
         Owed::Nothing => None,
-        Owed::Mask(d) => {
-            if !is_data_masking_word_of(d, word) {
-                return None;
-            }
-            Some(Owed::PlaceOnly(d))
-        }
+        Owed::Mask(d) => after_masking(place.format, d, word),
         Owed::PlaceOnly(d) => {
-            if !is_data_placing_word_of(d, word) {
+            if !is_data_placing_word_of(place.format, d, word) {
                 return None;
             }
             Some(Owed::Nothing)
         }
         Owed::MaskOrUse(d) => {
-            if is_data_masking_word_of(d, word) {
-                return Some(Owed::PlaceOnly(d));
+            if let Some(next) = after_masking(place.format, d, word) {
+                return Some(next);
             }
             if !is_clean_use(place, address, d, word) {
                 return None;

@@ -6,11 +6,11 @@ use Rattle.sfi_scan.proofs.words.block.look_at_block.Goals as goal
 pub returns-then-is_nothing : goal.returns-then-is_nothing
 returns-then-is_nothing c =
     all_seen c.args.place.now c.args.block.now c.args.owed c.not_free-words.result c.args.from c.requires.inside c.requires.within
-    (λ n lt none. inl (told_quiet c.args.block.now c.word_masks_of-masks.result n c.told-block c.word_masks_of-masks.ensures lt (c.not_free-words.ensures.free n lt none) c.args.place.now c.requires.within))
+    (λ n lt none. inl (told_quiet c.args.place.now c.requires.within c.args.block.now c.word_masks_of-masks.result n c.told-block c.word_masks_of-masks.ensures lt (c.not_free-words.ensures.free n lt none)))
     c.if-words-eq0.true (OnTrue_at c.if-is_nothing.true c.is_nothing.ensures)
 
 pub doubtful_words-left-requires-clause-quiet : goal.doubtful_words-left-requires-clause-quiet
-doubtful_words-left-requires-clause-quiet c n lt none = told_quiet c.args.block.now c.word_masks_of-masks.result n c.told-block c.word_masks_of-masks.ensures lt (c.not_free-words.ensures.free n lt none)
+doubtful_words-left-requires-clause-quiet c n lt none = told_quiet c.args.place.now c.requires.within c.args.block.now c.word_masks_of-masks.result n c.told-block c.word_masks_of-masks.ensures lt (c.not_free-words.ensures.free n lt none)
 
 pub doubtful_words-left-requires-clause-free : goal.doubtful_words-left-requires-clause-free
 doubtful_words-left-requires-clause-free c i lt even h =

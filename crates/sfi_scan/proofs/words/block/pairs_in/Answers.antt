@@ -35,8 +35,8 @@ loop-rest-preserved c =
       λ j lt h. c.loop-rest.invariant.0 j lt (in_rest c.loop-rest.rest (c.loop-rest.rest - 1) j h),
       elim c.if-are_pair_words.branch [
         | then-are_pair_words w ↦ λ j h.
-            in_more w64 (IsPairAt c.args.block.now) c.loop-rest.pairs i low.0
-            (pair_at c.args.block.now i c.word_at-first.result c.word_at-second.result even there.below c.word_at-first.ensures (c.word_at-second.ensures ∙ next_is c.args.block.now i) (OnTrue_at w.if-are_pair_words.true c.are_pair_words.ensures))
+            in_more w64 (IsPairAt c.args.format c.args.block.now) c.loop-rest.pairs i low.0
+            (pair_at c.args.format c.args.block.now i c.word_at-first.result c.word_at-second.result even there.below c.word_at-first.ensures (c.word_at-second.ensures ∙ next_is c.args.block.now i) (OnTrue_at w.if-are_pair_words.true c.are_pair_words.ensures))
             c.loop-rest.invariant.1 j (sym (ap (λ m. is_in m j) w.pairs-is) ∙ h)
         | else-are_pair_words w ↦ λ j h. c.loop-rest.invariant.1 j (sym (ap (λ m. is_in m j) w.pairs-is) ∙ h)
       ],

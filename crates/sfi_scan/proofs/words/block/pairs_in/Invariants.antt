@@ -6,7 +6,7 @@ use Rattle.sfi_scan.proofs.words.block.pairs_in.Given as goal
 abbrev pub invariant-loop-rest : goal.invariant-loop-rest
 invariant-loop-rest l =
     ((i : ℕ) → i < 64 → is_in l.rest i ≡ true → AreTwo l.fn.words i)
-    × ((i : ℕ) → is_in l.pairs i ≡ true → IsPairAt l.block i)
+    × ((i : ℕ) → is_in l.pairs i ≡ true → IsPairAt l.format l.block i)
 
 abbrev pub decreases-loop-rest : goal.decreases-loop-rest
 decreases-loop-rest l = l.rest

@@ -36,8 +36,8 @@ loop-rest-preserved c =
       λ j lt h. c.loop-rest.invariant.0 j lt (in_rest c.loop-rest.rest (c.loop-rest.rest - 1) j h),
       elim c.if-is_used_step.branch [
         | then-is_used_step w ↦ λ j h.
-            in_more w64 (λ (k : ℕ). IsSteppedWord c.args.block.now k × (is_in c.args.words (k + 2) ≡ false)) c.loop-rest.steps i low.0 (
-              stepped c.args.block.now i c.word_at-word.result c.word_at-next.result c.told-block even there.below c.word_at-word.ensures (c.word_at-next.ensures ∙ next_is c.args.block.now i) (c.requires.free (i + 2) there.below (omega (arith, even)) there.access)
+            in_more w64 (λ (k : ℕ). IsSteppedWord c.args.place.now c.args.block.now k × (is_in c.args.words (k + 2) ≡ false)) c.loop-rest.steps i low.0 (
+              stepped c.args.place.now c.requires.within c.args.block.now i c.word_at-word.result c.word_at-next.result c.told-block even there.below c.word_at-word.ensures (c.word_at-next.ensures ∙ next_is c.args.block.now i) (c.requires.free (i + 2) there.below (omega (arith, even)) there.access)
                   (OnTrue_at w.if-is_used_step.true c.is_used_step.ensures),
               there.apart,
             )
