@@ -1,10 +1,12 @@
--- Registers as lines take them: x0 and x24 to x27 have one value.
-use Rattle.std.proofs.Common.{◌≡◌, ℕ, ◌-◌, ◌==◌, true, false, length, sym, ap, ◌∙◌, arith, if◌then◌else◌, length-set}
-use Rattle.std.specs.Prelude.{slice_set}
+-- Registers as lines take them: x0 and x24 to x27 have one value, where a mask has two steps.
+use Rattle.std.proofs.Common.{◌≡◌, refl, ℕ, ◌-◌, ◌==◌, true, false, List, length, sym, ap, ap₂, ◌∙◌, arith, if◌then◌else◌, length-set}
+use Rattle.std.specs.Prelude.{slice_index, slice_set}
 use Rattle.rv_step.specs.State.{Hart, register}
 use Rattle.sfi_formats.specs.Formats.{unit}
-use Rattle.sfi_image.specs.Spelling.{Part}
-use Rattle.sfi_translate.specs.Machine.{fixed}
+use Rattle.sfi_formats.proofs.Formats.{two_steps}
+use Rattle.sfi_safe_runs.proofs.Entries.{two_step_mask}
+use Rattle.sfi_image.specs.Spelling.{Part, data_region}
+use Rattle.sfi_translate.specs.Machine.{fixed, with_data_base}
 use Rattle.x86_step.proofs.Bytes.{set_one}
 use Rattle.sfi_native.specs.Registers.{is_fixed}
 
@@ -18,9 +20,16 @@ fixed_value p r v =
     else if r == 0 then 0
     else v
 
+two_step_base : (p : Part) (l : List ℕ) → with_data_base p l ≡ slice_set l 26 p.data_base
+two_step_base p l = rw (two_steps p.format) refl
+
+fixed_is : (p : Part) (h : Hart) → (fixed p h).registers ≡ slice_set (slice_set (slice_set (slice_set (slice_set h.registers 0 0) 24 p.code_base) 25 (length p.code - unit p.format)) 26 p.data_base) 27 (p.data_size - 1)
+fixed_is p h = ap₂ (λ (l : List ℕ) (mask : ℕ). slice_set l 27 mask) (two_step_base p _) (two_step_mask p.format (data_region p) (two_steps p.format))
+
 pub fixed_length : (p : Part) (h : Hart) → length (fixed p h).registers ≡ length h.registers
 fixed_length p h =
-    length-set _ 27 (p.data_size - 1) ∙ length-set _ 26 p.data_base ∙ length-set _ 25 (length p.code - unit p.format) ∙ length-set _ 24 p.code_base ∙ length-set h.registers 0 0
+    ap (λ (l : List ℕ). length l) (fixed_is p h)
+    ∙ length-set _ 27 (p.data_size - 1) ∙ length-set _ 26 p.data_base ∙ length-set _ 25 (length p.code - unit p.format) ∙ length-set _ 24 p.code_base ∙ length-set h.registers 0 0
 
 -- set, and read
 pub fixed_at : (p : Part) (h : Hart) (r : ℕ) → length h.registers ≡ 32 → register (fixed p h) r ≡ fixed_value p r (register h r)
@@ -33,7 +42,8 @@ fixed_at p h r count =
     let nb : length b ≡ 32 = length-set a 24 p.code_base ∙ na in
     let nd : length d ≡ 32 = length-set b 25 (length p.code - unit p.format) ∙ nb in
     let ne : length e ≡ 32 = length-set d 26 p.data_base ∙ nd in
-    set_one e 27 (p.data_size - 1) r (omega (arith, ne))
+    ap (λ (l : List ℕ). slice_index l r) (fixed_is p h)
+    ∙ set_one e 27 (p.data_size - 1) r (omega (arith, ne))
     ∙ ap (λ x. if r == 27 then p.data_size - 1 else x) (set_one d 26 p.data_base r (omega (arith, nd))
     ∙ ap (λ x. if r == 26 then p.data_base else x) (set_one b 25 (length p.code - unit p.format) r (omega (arith, nb))
     ∙ ap (λ x. if r == 25 then length p.code - unit p.format else x) (set_one a 24 p.code_base r (omega (arith, na))

@@ -14,7 +14,7 @@ use Rattle.rv_mem.specs.Bytes.{IsMemory, IsThere, addresses}
 use Rattle.rv_mem.proofs.Facts.{addresses_are_these}
 use Rattle.rv_step.specs.State.{Hart, register}
 use Rattle.rv_step.specs.Step.{load_size, store_size}
-use Rattle.sfi_image.specs.Spelling.{Part}
+use Rattle.sfi_image.specs.Spelling.{Part, IsNear, IsNearIn, data_region}
 use Rattle.sfi_image.specs.Parts.{IsRightPart}
 use Rattle.sfi_image.proofs.Formats.{data_at_most}
 use Rattle.sfi_safe_runs.specs.Runs.{InData, InGuard}
@@ -63,6 +63,11 @@ around p a right (inr (inl (inl (from, below)))) = (omega (arith, from, right.gu
 around p a right (inr (inl (inr (from, below)))) = (omega (arith, from), omega (arith, below))
 around p a right (inr (inr zone)) = absurd (false≢true (sym (two_steps p.format) ∙ zone.0))
 
+-- a base lies near the data, where a mask has two steps
+near_data : (p : Part) (a : ℕ) → IsNearIn p.format (data_region p) 4096 a → IsNear (data_region p) 4096 a
+near_data p a (inl lies) = lies
+near_data p a (inr zero) = absurd (false≢true (sym (two_steps p.format) ∙ zero.0))
+
 module _ (p : Part) (g : Going) (right : IsRightPart p) (same : fixed p g.state.hart ≡ g.state.hart) where
   -- an access to the data, or to a guard zone
   abbrev Does : ℕ → ℤ → ℕ → Type 0
@@ -80,7 +85,7 @@ module _ (p : Part) (g : Going) (right : IsRightPart p) (same : fixed p g.state.
 
     stays : (int_le (pos (p.data_base - 4096)) (pos v +ℤ offset) ≡ true) × (int_le (pos v +ℤ offset +ℤ pos n) (pos (p.data_base + p.data_size + 4096)) ≡ true)
     stays =
-        let from = safe.0.from in
+        let from = near_data p v safe.0.from in
         exact p.data_base p.data_size v n right.guard_room.below right.guard_room.above (omega (arith, right.data_placed.at_most, data_at_most p.format)) some few (from.low, from.high) offset range
         (at_number 0 some) (at_number (n - 1) (omega (arith, some)))
 

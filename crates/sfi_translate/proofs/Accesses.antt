@@ -1,14 +1,14 @@
 -- Where the accesses of a sandbox without a finding fall, and from which bases.
 use Rattle.sfi_translate.proofs.Prelude.{◌≡◌, ℕ, ◌+◌, ◌≤◌, ◌∷◌, refl, sym, ap, ◌∙◌, subst, arith, inl, inr, Part}
 use Rattle.std.proofs.Common.{true, false, ◌==◌, ⊎_elim}
-use Rattle.std.specs.Prelude.{◌||◌}
+use Rattle.std.specs.Prelude.{◌||◌, Bool, if◌then◌else◌}
 use Rattle.std.proofs.lemmas.Bool.{and_parts, or_cases, eqb-true, not-false, false≢true}
 use Rattle.rv_word.specs.declared.instr.Instr.{Instr}
 use Rattle.rv_word.specs.declared.instr.Instr.TheVariants.{Op, OpImm, Load, Store, Branch, Jal, Jalr, Lui, Auipc, Fence, Ecall, Ebreak}
 use Rattle.rv_step.specs.State.{State, register}
 use Rattle.rv_step.specs.Step.{Stands}
 use Rattle.sfi_formats.specs.Formats.{has_one_step, has_stack, is_stack, is_data_register_in}
-use Rattle.sfi_image.specs.Spelling.{IsNear, IsNearIn, data_region}
+use Rattle.sfi_image.specs.Spelling.{IsNear, IsNearIn, IsNearZero, data_region}
 use Rattle.sfi_rules.specs.Readings.{Piece, follows_data_pair}
 use Rattle.sfi_rules.specs.Rules as bundle_rules
 use Rattle.sfi_rules.specs.words.Rules as word_rules
@@ -18,30 +18,33 @@ use Rattle.sfi_safety.proofs.Effects.{Here}
 use Rattle.sfi_safety.proofs.Registers.{is_of_pair, stack_here}
 use Rattle.sfi_safety.proofs.Stepping as bundles
 use Rattle.sfi_word_safety.specs.Code.{IsCleanInWords, IsGoodInWords, IsKnown}
-use Rattle.sfi_formats.proofs.Formats.{two_steps}
 use Rattle.sfi_word_safety.proofs.Stepping as words
 
 -- the base of an access
 abbrev pub IsBased : Part → State → Instr → Type 0
-IsBased p s (Load kind rd rs1 imm) = IsNear (data_region p) 4096 (register s.hart rs1)
-IsBased p s (Store width rs1 rs2 imm) = IsNear (data_region p) 4096 (register s.hart rs1)
+IsBased p s (Load kind rd rs1 imm) = IsNearIn p.format (data_region p) 4096 (register s.hart rs1)
+IsBased p s (Store width rs1 rs2 imm) = IsNearIn p.format (data_region p) 4096 (register s.hart rs1)
 IsBased p s i = Unit {0}
 
 nearer : (p : Part) (far a : ℕ) → far ≤ 4096 → IsNear (data_region p) far a → IsNear (data_region p) 4096 a
 nearer p far a less lies = let low = lies.low in let high = lies.high in record { low = omega (arith, less, low); high = omega (arith, less, high) }
 
--- what is typed lies near the data, where masks have two steps
-near_in : (p : Part) (far a : ℕ) → far ≤ 4096 → IsNearIn p.format (data_region p) far a → IsNear (data_region p) 4096 a
-near_in p far a less (inl lies) = nearer p far a less lies
-near_in p far a less (inr zero) = absurd (false≢true (sym (two_steps p.format) ∙ zero.0))
+nearer_zero : (size far a : ℕ) → far ≤ 4096 → IsNearZero size far a → IsNearZero size 4096 a
+nearer_zero size far a less (inl below) = inl (omega (arith, less, below))
+nearer_zero size far a less (inr (above, fits)) = inr (omega (arith, less, above), fits)
 
-inside : (p : Part) (a : ℕ) → InData p a → IsNear (data_region p) 4096 a
-inside p a (from, below) = record { low = omega (arith, from); high = omega (arith, below) }
+-- what is typed lies near the data, or where a mask has one step near the first addresses
+near_in : (p : Part) (far a : ℕ) → far ≤ 4096 → IsNearIn p.format (data_region p) far a → IsNearIn p.format (data_region p) 4096 a
+near_in p far a less (inl lies) = inl (nearer p far a less lies)
+near_in p far a less (inr (one, zero)) = inr (one, nearer_zero p.data_size far a less zero)
+
+inside : (p : Part) (a : ℕ) → InData p a → IsNearIn p.format (data_region p) 4096 a
+inside p a (from, below) = inl (record { low = omega (arith, from); high = omega (arith, below) })
 
 -- ---- in bundles
 
 module _ (sandbox : ℕ) (p : Part) (s : State) (i : Instr) (n : ℕ) (here : Here sandbox p s.hart i n) where
-  in_bundle : is_of_pair i ≡ false → (base : ℕ) → bundle_rules.may_access here.place.bundle base here.place.earlier ≡ true → IsNear (data_region p) 4096 (register s.hart base)
+  in_bundle : is_of_pair i ≡ false → (base : ℕ) → bundle_rules.may_access here.place.bundle base here.place.earlier ≡ true → IsNearIn p.format (data_region p) 4096 (register s.hart base)
   in_bundle other base may =
       ⊎_elim
       (λ (on : is_stack here.place.bundle.format base ≡ true).
@@ -72,28 +75,37 @@ bundles_based sandbox p s i n clean good stands =
 
 -- ---- in words
 
+-- an access is no step of a mask, whether that has one step or two
+neither : (one_step : Bool) → (if one_step then false else false) ≡ false
+neither true = refl
+neither false = refl
+
 module _ (p : Part) (s : State) (clean : IsCleanInWords p) (good : IsGoodInWords p s) where
   in_word : (x : Piece) (base : ℕ) → ((d : ℕ) → word_rules.places p.format d x.instr ≡ false) → ((d : ℕ) → word_rules.masks p.format d x.instr ≡ false)
-      → IsKnown p base (register s.hart base) (x ∷ good.place.place.later) → IsNear (data_region p) 4096 (register s.hart base)
+      → IsKnown p base (register s.hart base) (x ∷ good.place.place.later) → IsNearIn p.format (data_region p) 4096 (register s.hart base)
   in_word x base none none' (inl lies) = near_in p 1020 _ (omega arith) lies
   in_word x base none none' (inr (inl e)) = absurd (false≢true (sym (none base) ∙ e))
   in_word x base none none' (inr (inr (inl e))) = absurd (false≢true (sym (none' base) ∙ (and_parts (word_rules.masks p.format base x.instr) (has_one_step p.format || word_rules.begins_placing p.format base good.place.place.later) e).0))
   in_word x base none none' (inr (inr (inr (lies, used)))) = near_in p (1020 + 2048) _ (omega arith) lies
 
   of_base : (base : ℕ) → word_rules.may_access p.format base ≡ true → ((d : ℕ) → word_rules.places p.format d good.place.place.here.instr ≡ false) → ((d : ℕ) → word_rules.masks p.format d good.place.place.here.instr ≡ false)
-      → IsNear (data_region p) 4096 (register s.hart base)
+      → IsNearIn p.format (data_region p) 4096 (register s.hart base)
   of_base base may none none' =
-      ⊎_elim
-      (λ (is : is_data_register_in p.format base ≡ true). in_word good.place.place.here base none none' (good.place.known.each_data base is))
-      (λ (is : (base == 26) ≡ true).
-      let e : register s.hart base ≡ p.data_base = ap (λ (r : ℕ). register s.hart r) (eqb-true base 26 is) ∙ good.kept.reserved.data_base (two_steps p.format) in
-      let some : 256 ≤ p.data_size = clean.right.data_placed.at_least in
-      record { low = omega (arith, e); high = omega (arith, e, some) })
-      (or_cases (is_data_register_in p.format base) (base == 26) may)
+      ⊎_elim typed (on_base (has_one_step p.format) refl) (or_cases (is_data_register_in p.format base) (base == 26) may)
+    where
+      typed : is_data_register_in p.format base ≡ true → IsNearIn p.format (data_region p) 4096 (register s.hart base)
+      typed is = in_word good.place.place.here base none none' (good.place.known.each_data base is)
+
+      on_base : (o : Bool) → has_one_step p.format ≡ o → (base == 26) ≡ true → IsNearIn p.format (data_region p) 4096 (register s.hart base)
+      on_base true one is = typed (subst (λ (r : ℕ). is_data_register_in p.format r ≡ true) (sym (eqb-true base 26 is)) one)
+      on_base false two is =
+          let e : register s.hart base ≡ p.data_base = ap (λ (r : ℕ). register s.hart r) (eqb-true base 26 is) ∙ good.kept.reserved.data_base two in
+          let some : 256 ≤ p.data_size = clean.right.data_placed.at_least in
+          inl (record { low = omega (arith, e); high = omega (arith, e, some) })
 
   word_based : (i : Instr) → good.place.place.here.instr ≡ i → word_rules.breaks_access p.format i ≡ false → IsBased p s i
-  word_based (Load kind rd rs1 imm) e free = of_base rs1 (not-false _ free) (λ d. ap (word_rules.places p.format d) e ∙ (rw (two_steps p.format) refl)) (λ d. ap (word_rules.masks p.format d) e ∙ (rw (two_steps p.format) refl))
-  word_based (Store width rs1 rs2 imm) e free = of_base rs1 (not-false _ free) (λ d. ap (word_rules.places p.format d) e ∙ (rw (two_steps p.format) refl)) (λ d. ap (word_rules.masks p.format d) e ∙ (rw (two_steps p.format) refl))
+  word_based (Load kind rd rs1 imm) e free = of_base rs1 (not-false _ free) (λ d. ap (word_rules.places p.format d) e ∙ neither (has_one_step p.format)) (λ d. ap (word_rules.masks p.format d) e ∙ neither (has_one_step p.format))
+  word_based (Store width rs1 rs2 imm) e free = of_base rs1 (not-false _ free) (λ d. ap (word_rules.places p.format d) e ∙ neither (has_one_step p.format)) (λ d. ap (word_rules.masks p.format d) e ∙ neither (has_one_step p.format))
   word_based (Op op rd rs1 rs2) e free = tt
   word_based (OpImm op rd rs1 imm) e free = tt
   word_based (Branch cond rs1 rs2 offset) e free = tt

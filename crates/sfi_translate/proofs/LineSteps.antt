@@ -16,18 +16,16 @@ use Rattle.rv_step.specs.Step.{Accesses, Stepped, Stands, IsStep, effect, after_
 use Rattle.rv_step.specs.declared.outcome.Outcome.TheVariants.{Next, Trap}
 use Rattle.rv_step.specs.declared.outcome.Cause.TheVariants as cause
 use Rattle.rv_step.specs.State.{State, register, past, Hart}
-use Rattle.sfi_formats.proofs.Formats.{two_steps}
-use Rattle.sfi_safe_runs.proofs.Entries.{two_step_mask}
-use Rattle.sfi_image.specs.Parts.{IsRightPart, HasReserved, reserved_of}
+use Rattle.sfi_image.specs.Parts.{IsRightPart, HasReserved, data_mask_of, reserved_of}
 use Rattle.sfi_image.specs.Spelling.{AreApart, code_region, data_region, guarded_region}
 use Rattle.sfi_safe_runs.specs.Runs.{InData, InGuard, Empty}
 use Rattle.sfi_safe_runs.specs.Calling.{KeepsAll}
 use Rattle.sfi_safe_runs.proofs.Accessing.{load_sized, store_sized}
 use Rattle.sfi_safe_runs.proofs.Stepping.{in_data}
-use Rattle.sfi_translate.specs.Machine.{is_tested, row_step, is_done, fixed}
+use Rattle.sfi_translate.specs.Machine.{is_tested, row_step, is_done, fixed, with_data_base}
 use Rattle.std.specs.Option.{option_map}
 use Rattle.std.proofs.lemmas.List.{set-get_or}
-use Rattle.sfi_formats.specs.Formats.{unit}
+use Rattle.sfi_formats.specs.Formats.{has_one_step, unit}
 use Rattle.sfi_translate.specs.Laws.{HasData}
 
 -- ==== What a slow step does at a line is a step: an access that doesn't pass its test traps.
@@ -156,14 +154,19 @@ module _ (p : Part) (right : IsRightPart p) (m : Bytes) (has : HasData p m) wher
 same_set : (l : List ℕ) (k v : ℕ) → get_or l k 0 ≡ v → set l k v ≡ l
 same_set l k v e = ap (λ (x : ℕ). set l k x) (sym e) ∙ set-get_or l k 0
 
+same_base : (p : Part) (l : List ℕ) → HasReserved p.format (reserved_of p) l → (o : Bool) → has_one_step p.format ≡ o → with_data_base p l ≡ l
+same_base p l has true one = rw one refl
+same_base p l has false two = rw two (same_set l 26 p.data_base (has.data_base two))
+
 -- a hart that has these values is as lines take it
 pub fixed_is : (p : Part) (h : Hart) → register h 0 ≡ 0 → HasReserved p.format (reserved_of p) h.registers → fixed p h ≡ h
 fixed_is p h zero_is has =
     let l = h.registers in
-    let mask = length p.code - unit p.format in
+    let code = length p.code - unit p.format in
+    let last = data_mask_of p.format (data_region p) in
     ap (λ (x : List ℕ). record { pc = h.pc; registers = x })
-    (ap (λ (x : List ℕ). set (set (set (set x 24 p.code_base) 25 mask) 26 p.data_base) 27 (p.data_size - 1)) (same_set l 0 0 zero_is)
-    ∙ ap (λ (x : List ℕ). set (set (set x 25 mask) 26 p.data_base) 27 (p.data_size - 1)) (same_set l 24 p.code_base has.code_base)
-    ∙ ap (λ (x : List ℕ). set (set x 26 p.data_base) 27 (p.data_size - 1)) (same_set l 25 mask has.code_mask)
-    ∙ ap (λ (x : List ℕ). set x 27 (p.data_size - 1)) (same_set l 26 p.data_base (has.data_base (two_steps p.format)))
-    ∙ same_set l 27 (p.data_size - 1) (has.data_mask ∙ two_step_mask p.format (data_region p) (two_steps p.format)))
+    (ap (λ (x : List ℕ). set (with_data_base p (set (set x 24 p.code_base) 25 code)) 27 last) (same_set l 0 0 zero_is)
+    ∙ ap (λ (x : List ℕ). set (with_data_base p (set x 25 code)) 27 last) (same_set l 24 p.code_base has.code_base)
+    ∙ ap (λ (x : List ℕ). set (with_data_base p x) 27 last) (same_set l 25 code has.code_mask)
+    ∙ ap (λ (x : List ℕ). set x 27 last) (same_base p l has (has_one_step p.format) refl)
+    ∙ same_set l 27 last has.data_mask)

@@ -13,7 +13,7 @@ use Rattle.rv_step.specs.State.{State, register}
 use Rattle.rv_step.specs.Step.{Accesses, IsStep, Stands, effect, load_size, store_size}
 use Rattle.rv_comp.specs.declared.front.Front.TheVariants.{Read}
 use Rattle.sfi_image.specs.Parts.{IsRightPart}
-use Rattle.sfi_image.specs.Spelling.{AreApart, IsNear, code_region, data_region, guarded_region}
+use Rattle.sfi_image.specs.Spelling.{AreApart, IsNearIn, code_region, data_region, guarded_region}
 use Rattle.sfi_safe_runs.specs.Runs.{InData, InGuard, Turn, Steps, IsTurn, after_turn}
 use Rattle.sfi_safe_runs.specs.Safety.{IsSafeState, IsSafeTurn}
 use Rattle.sfi_safe_runs.specs.Calling.{KeepsAll}
@@ -48,7 +48,7 @@ module _ (p : Part) (s : State) (reached : IsReached p s) (Good : State → Type
       (λ (there : InGuard p (address_after at n)). inr (n, omega arith, there))
       (each n (omega arith))
 
-  module _ (right : IsRightPart p) (apart : AreApart (code_region p) (guarded_region p)) (base : ℕ) (offset : ℤ) (n : ℕ) (some : 0 < n) (few : n ≤ 4) (near : IsNear (data_region p) 4096 base)
+  module _ (right : IsRightPart p) (apart : AreApart (code_region p) (guarded_region p)) (base : ℕ) (offset : ℤ) (n : ℕ) (some : 0 < n) (few : n ≤ 4) (near : IsNearIn p.format (data_region p) 4096 base)
       (each : (a : ℕ) → Contains (addresses (offset_by base offset) n) a → InData p a ⊎ InGuard p a) where
     abbrev at : ℕ
     at = offset_by base offset

@@ -8,8 +8,9 @@ use Rattle.rv_step.specs.declared.outcome.Outcome.TheVariants.{Next, Call, Trap}
 use Rattle.rv_step.specs.declared.outcome.Cause.TheVariants as cause
 use Rattle.rv_step.specs.State.{Hart, State, register, with_pc, even_of}
 use Rattle.rv_step.specs.Step.{Stepped, effect, unchanged, load_size, store_size, is_taken}
-use Rattle.sfi_formats.specs.Formats.{unit}
-use Rattle.sfi_image.specs.Spelling.{Part}
+use Rattle.sfi_formats.specs.Formats.{unit, data_base_register, has_one_step}
+use Rattle.sfi_image.specs.Parts.{data_mask_of}
+use Rattle.sfi_image.specs.Spelling.{Part, data_region}
 use Rattle.sfi_translate.specs.Lines.{Line, Function, End, Entry, Head, Does, is_far, head_bytes}
 
 -- ---- who reads the lines
@@ -148,13 +149,18 @@ is_done p Ecall h = false
 is_done p Ebreak h = false
 is_done p i h = true
 
--- x0 and x24 to x27 have one value for lines, whatever is written there
+-- x26 has the data base, unless it is a data register
+abbrev pub with_data_base : Part → List ℕ → List ℕ
+with_data_base p registers =
+    if has_one_step p.format then registers else slice_set registers data_base_register p.data_base
+
+-- x0 and the reserved registers have one value for lines, whatever is written there
 abbrev pub fixed : Part → Hart → Hart
 fixed p h = record {
   pc = h.pc;
   registers =
-      slice_set (slice_set (slice_set (slice_set (slice_set h.registers 0 0)
-      24 p.code_base) 25 (length p.code - unit p.format)) 26 p.data_base) 27 (p.data_size - 1);
+      slice_set (with_data_base p (slice_set (slice_set (slice_set h.registers 0 0)
+      24 p.code_base) 25 (length p.code - unit p.format))) 27 (data_mask_of p.format (data_region p));
 }
 
 -- the line of that instruction, of n bytes, at that address, before these lines

@@ -8,7 +8,7 @@ use Rattle.rv_mem.specs.Bytes.{Bytes, IsThere, addresses}
 use Rattle.rv_step.specs.State.{IsState, State, register}
 use Rattle.rv_step.specs.Step.{Stands, load_size, store_size}
 use Rattle.sfi_formats.specs.Limits.{guard}
-use Rattle.sfi_image.specs.Spelling.{Part, IsNear, data_region}
+use Rattle.sfi_image.specs.Spelling.{Part, IsNearIn, data_region}
 use Rattle.sfi_safety.specs.Places.{IsCleanPart}
 use Rattle.sfi_safe_runs.specs.Runs.{InData, InGuard, IsEntry, IsTurn, Turn, after_turn}
 use Rattle.sfi_translate.specs.Lines.{Line, Does, AreLines}
@@ -17,20 +17,20 @@ use Rattle.sfi_translate.specs.Laws.{HasData, IsAsImage, IsOver, IsReached, IsTu
 
 -- ---- registers
 
--- Where a run comes, x0 and x24 to x27 have the values that lines take them to have.
+-- Where a run comes, x0 and the reserved registers have the values that lines take them to have.
 abbrev pub ReachedHartsAreFixed : Type 0
 ReachedHartsAreFixed =
     (sandbox : ℕ) (p : Part) (s : State) → IsCleanPart sandbox p → IsReached p s → fixed p s.hart ≡ s.hart
 
 -- ---- accesses
 
--- The n addresses from `base` and an offset on lie in the data or in a guard zone, and so does `base`: since the zones
--- have room, the offset leads over no end of the 32 bits.
+-- The n addresses from `base` and an offset on lie in the data or in a zone, and so does `base`: where a mask has two
+-- steps, the zones have room, and the offset leads over no end of the 32 bits.
 pub record IsNearAccess (p : Part) (base : ℕ) (offset : ℤ) (n : ℕ) : Type 0 where
-  pub from : IsNear (data_region p) guard base
+  pub from : IsNearIn p.format (data_region p) guard base
   pub each : (a : ℕ) → Contains (addresses (offset_by base offset) n) a → InData p a ⊎ InGuard p a
 
--- An access passes its test, and each byte is there; or it fails it, with a byte in a guard zone.
+-- An access passes its test, and each byte is there; or it fails it, with a byte in a zone.
 abbrev pub IsSafeAccess : Part → Bytes → ℕ → ℤ → ℕ → Type 0
 IsSafeAccess p m base offset n =
     IsNearAccess p base offset n
