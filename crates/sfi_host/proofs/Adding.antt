@@ -1,5 +1,5 @@
 -- The sandboxes of another image in a world.
-use Rattle.sfi_host.proofs.Prelude.{◌≡◌, ◌⊎◌, inl, inr, ⊎_elim, ℕ, zero, suc, ◌+◌, ◌<◌, List, [], ◌∷◌, ◌++◌, length, map, Option, Some, None, IsSome, is_some, slice_get, slice_get_within, refl, sym, ap, ◌∙◌, subst, arith, length-append, map-append, Bytes, IsMemory, byte_at, Part, Holds, IsRightLayout, InData, KeepsBytes, IsChange, AllRunSafely, AllCallTyped, Program, AreProgramsOf, AreEnterable, IsEnterable, AreEntered, HaveFirstData, first_seat, with_parts, Sandbox, seat_of, seats_of, world_of, bounds_of, own, Slot, Seat, Sandboxes, slot_of, IsSafeSeat, LiesOutside, IsSafeWorld, state_in}
+use Rattle.sfi_host.proofs.Prelude.{◌≡◌, ◌⊎◌, inl, inr, ⊎_elim, ℕ, zero, suc, ◌+◌, ◌<◌, List, [], ◌∷◌, ◌++◌, length, map, Option, Some, None, IsSome, is_some, slice_get, slice_get_within, refl, sym, ap, ◌∙◌, subst, arith, length-append, map-append, Bytes, IsMemory, byte_at, Part, Holds, with_guards, guarded_region, InZones, IsRightLayout, InData, InGuard, KeepsBytes, IsChange, AllRunSafely, AllCallTyped, Program, AreProgramsOf, AreEnterable, IsEnterable, AreEntered, HaveFirstData, first_seat, with_parts, Sandbox, seat_of, seats_of, world_of, bounds_of, own, Slot, Seat, Sandboxes, slot_of, IsSafeSeat, LiesOutside, IsSafeWorld, state_in}
 use Rattle.sfi_host.specs.Adding.{TakesUp, MeetsSome, with_image, EarlierAreSame}
 use Rattle.sfi_host.specs.Changing.{AreChanges}
 use Rattle.sfi_host.specs.Owning.{IsOwned, AreOwned}
@@ -7,7 +7,7 @@ use Rattle.sfi_host.specs.Modules.{AreDecoded}
 use Rattle.sfi_host.proofs.Changing.{IsKept}
 use Rattle.sfi_decoded.proofs.Decoding.{decoded_still}
 use Rattle.sfi_host.proofs.Decoded.{first_decoded}
-use Rattle.sfi_host.proofs.Entered.{LieApart, lie_apart, all_outside, has_data, data_guarded, guard_in}
+use Rattle.sfi_host.proofs.Entered.{LieApart, lie_apart, all_outside, has_data, data_guarded, InZone, guard_in}
 use Rattle.sfi_host.proofs.WorldBytes.{IsOf, of_parts, get_map}
 use Rattle.sfi_host.proofs.OwnSteps.{own_is, own_there, own_missing, same_own}
 use Rattle.sfi_host.proofs.SafeSeats as keep
@@ -45,13 +45,34 @@ module _ (w : Sandboxes) (ps : List Part) (world : IsSafeWorld w) (owned : AreOw
   lie = lie_apart ps layout
 
   apart : (i : ℕ) (s : Seat) → slice_get w.seats i ≡ Some s → (j : ℕ) (p : Part) → slice_get ps j ≡ Some p → (a : ℕ) → TakesUp s.bounds a → TakesUp (bounds_of p) a → ⊥
-  apart i s e j p f a x y = clear (record { number = i; seat = s; there = e; other = j; part = p; among = f; meet = (a, x, y) })
+  apart i s e j p f a x y = clear (record { number = i; seat = s; there = e; other = j; part = p; among = f; meet = inl (a, x, y) })
+
+  -- neither reaches the other's zone at zero
+  seat_clear : (i : ℕ) (s : Seat) → slice_get w.seats i ≡ Some s → (j : ℕ) (p : Part) → slice_get ps j ≡ Some p → (a : ℕ) → TakesUp s.bounds a → InZone p.format p.data_size a → ⊥
+  seat_clear i s e j p f a x z = clear (record { number = i; seat = s; there = e; other = j; part = p; among = f; meet = inr (inl (z.0, (a, x, z.1))) })
+
+  part_clear : (i : ℕ) (s : Seat) → slice_get w.seats i ≡ Some s → (j : ℕ) (p : Part) → slice_get ps j ≡ Some p → (a : ℕ) → InZone s.bounds.format s.bounds.data.size a → TakesUp (bounds_of p) a → ⊥
+  part_clear i s e j p f a z y = clear (record { number = i; seat = s; there = e; other = j; part = p; among = f; meet = inr (inr (z.0, (a, y, z.1))) })
 
   data_taken : (i : ℕ) (s : Seat) → slice_get w.seats i ≡ Some s → (a : ℕ) → Holds s.bounds.data a → TakesUp s.bounds a
   data_taken i s e a h = inr (keep.data_guarded w.bytes s (world.each i s e) a h)
 
   part_data_taken : (j : ℕ) (p : Part) → slice_get ps j ≡ Some p → (a : ℕ) → InData p a → TakesUp (bounds_of p) a
   part_data_taken j p f a h = inr (data_guarded p a (lie.each j p f) h)
+
+  -- no address that a sandbox of the world takes up lies in a zone of a part
+  seat_apart : (i : ℕ) (s : Seat) → slice_get w.seats i ≡ Some s → (j : ℕ) (p : Part) → slice_get ps j ≡ Some p → (a : ℕ) → TakesUp s.bounds a → InGuard p a → ⊥
+  seat_apart i s e j p f a x guard = ⊎_elim
+      (λ (g : Holds (guarded_region p) a). apart i s e j p f a x (inr g))
+      (λ (z : InZone p.format p.data_size a). seat_clear i s e j p f a x z)
+      (guard_in p a (lie.each j p f) guard)
+
+  -- and none that a part takes up in a zone of such a sandbox
+  part_apart : (i : ℕ) (s : Seat) → slice_get w.seats i ≡ Some s → (j : ℕ) (p : Part) → slice_get ps j ≡ Some p → (a : ℕ) → InZones s.bounds.format s.bounds.data a → TakesUp (bounds_of p) a → ⊥
+  part_apart i s e j p f a zone y = ⊎_elim
+      (λ (g : Holds (with_guards s.bounds.data) a). apart i s e j p f a (inr g) y)
+      (λ (z : InZone s.bounds.format s.bounds.data.size a). part_clear i s e j p f a z y)
+      (keep.zones_in w.bytes s (world.each i s e) a zone)
 
   -- what a sandbox takes up stays
   stays : (i : ℕ) (s : Seat) → slice_get w.seats i ≡ Some s → (a : ℕ) → TakesUp s.bounds a → byte_at (with_parts w.bytes ps) a ≡ byte_at w.bytes a
@@ -60,14 +81,16 @@ module _ (w : Sandboxes) (ps : List Part) (world : IsSafeWorld w) (owned : AreOw
   pub free : AreFree w.bytes ps
   free j p f a guard = none_of (byte_at w.bytes a) (λ some.
       let o = owned a some in
-      apart o.0 o.1 o.2 j p f a
+      seat_apart o.0 o.1 o.2 j p f a
       (⊎_elim (λ (h : Holds o.1.bounds.code a). inl h) (λ (h : Holds o.1.bounds.data a). data_taken o.0 o.1 o.2 a h) o.3)
-      (inr (guard_in p a (lie.each j p f) guard)))
+      guard)
 
   keeps : (i : ℕ) (s : Seat) → slice_get w.seats i ≡ Some s → (p : Part) → s.bounds ≡ bounds_of p → KeepsBytes p w.bytes (with_parts w.bytes ps)
   keeps i s e p is = record {
     code = λ a inside. stays i s e a (inl (keep.code_in w.bytes s (world.each i s e) p is a inside));
-    guards = λ a guard none. stays i s e a (inr (keep.guard_guarded w.bytes s (world.each i s e) p is a guard)) ∙ none;
+    guards = λ a guard none.
+        let zone = keep.guard_zones w.bytes s (world.each i s e) p is a guard in
+        all_outside ps w.bytes a lie (λ j q f. (λ c. part_apart i s e j q f a zone (inl c), λ d. part_apart i s e j q f a zone (part_data_taken j q f a d))) ∙ none;
   }
 
   pub slot_same : (i : ℕ) (s : Seat) → slice_get w.seats i ≡ Some s → slot_of (with_parts w.bytes ps) s ≡ slot_of w.bytes s
@@ -100,7 +123,8 @@ module _ (w : Sandboxes) (ps : List Part) (world : IsSafeWorld w) (owned : AreOw
           let y = map_get first_seat ps j t f in
           subst (λ (u : Seat). LiesOutside s.bounds u.bounds) (sym y.2) (record {
             code = λ a h k. apart i s e j y.0 y.1 a (data_taken i s e a h) (inl k);
-            guarded = λ a h k. apart i s e j y.0 y.1 a (data_taken i s e a h) (inr k);
+            «data» = λ a h k. apart i s e j y.0 y.1 a (data_taken i s e a h) (part_data_taken j y.0 y.1 a k);
+            zones = λ a h k. seat_apart i s e j y.0 y.1 a (data_taken i s e a h) k;
           })
 
       new_old : (j : ℕ) (t : Seat) → slice_get (map first_seat ps) j ≡ Some t → (i : ℕ) (s : Seat) → slice_get w.seats i ≡ Some s → LiesOutside t.bounds s.bounds
@@ -108,7 +132,8 @@ module _ (w : Sandboxes) (ps : List Part) (world : IsSafeWorld w) (owned : AreOw
           let y = map_get first_seat ps j t f in
           subst (λ (u : Seat). LiesOutside u.bounds s.bounds) (sym y.2) (record {
             code = λ a h k. apart i s e j y.0 y.1 a (inl k) (part_data_taken j y.0 y.1 a h);
-            guarded = λ a h k. apart i s e j y.0 y.1 a (inr k) (part_data_taken j y.0 y.1 a h);
+            «data» = λ a h k. apart i s e j y.0 y.1 a (data_taken i s e a k) (part_data_taken j y.0 y.1 a h);
+            zones = λ a h k. part_apart i s e j y.0 y.1 a k (part_data_taken j y.0 y.1 a h);
           })
 
       abbrev IsNew : ℕ → Seat → Type 0

@@ -1,8 +1,11 @@
 -- An image in a memory: its sandboxes one after another, and what is where.
-use Rattle.sfi_host.proofs.Prelude.{◌≡◌, ℕ, suc, ◌+◌, ◌<◌, List, [], ◌∷◌, ◌++◌, length, map, get_or, drop, Some, slice_get, sym, ap, ◌∙◌, subst, arith, append_assoc, append-nil, map-append, length-map, Format, Bytes, Part, IsRightPart, IsRightLayout, Sandbox, first_seat, with_part, with_parts, seat_of, seats_of, Seat, ◌≢◌, zero, ◌-◌, ◌%◌, ◌^◌, ◌≤◌, ◌==◌, ◌⊎◌, inl, inr, ⊎_elim, true, false, refl, length-append, length-replicate, get_or_from_slice_get, slice_get_within, slice_index, replicate, Contains, AllPairs, cases_lt, eqb-true, eqb-false, byte_at, addresses, with_bytes, added, Span, Holds, AreApart, code_region, guarded_region, spans, InCode, InData, InGuard, first_data}
+use Rattle.sfi_host.proofs.Prelude.{◌≡◌, ℕ, suc, ◌+◌, ◌<◌, List, [], ◌∷◌, ◌++◌, length, map, get_or, drop, Some, slice_get, All, sym, ap, ◌∙◌, subst, arith, append_assoc, append-nil, map-append, length-map, Format, Bytes, Part, IsRightPart, IsRightLayout, Sandbox, first_seat, with_part, with_parts, seat_of, seats_of, Seat, ◌≢◌, zero, ◌-◌, ◌%◌, ◌^◌, ◌≤◌, ◌==◌, ◌⊎◌, inl, inr, ⊎_elim, true, false, refl, length-append, length-replicate, get_or_from_slice_get, slice_get_within, slice_index, replicate, Contains, AllPairs, cases_lt, eqb-true, eqb-false, byte_at, addresses, with_bytes, added, Span, Holds, AreApart, code_region, guarded_region, spans, InCode, InData, InGuard, first_data}
 use Rattle.sfi_safe_runs.proofs.Stepping as stepping
-use Rattle.sfi_formats.proofs.Formats.{two_steps}
-use Rattle.sfi_safe_runs.proofs.Stepping.{guarded}
+use Rattle.sfi_formats.specs.Formats.{has_one_step}
+use Rattle.sfi_image.specs.Spelling.{fields_of, InZoneAtZero, IsClear, zone_end, zone_ends, zone_ends_of}
+use Rattle.sfi_image.proofs.ClearZones.{All-rest}
+use Rattle.sfi_image.proofs.Tests.{All-front}
+use Rattle.std.proofs.lemmas.List.Elements.{All-head}
 use Rattle.sfi_host.specs.Modules.{part_of, parts_of}
 use Rattle.sfi_host.specs.declared.modules.ModulePart.{ModulePart}
 use Rattle.std.proofs.Math.ListN.{get_or-map, get_or-append}
@@ -81,12 +84,31 @@ spans_at (q ∷ ps) (suc i) p d e =
     let there = spans_at ps i p d e in
     (ap (λ (n : ℕ). get_or (spans (q ∷ ps)) n d) y ∙ there.0, ap (λ (n : ℕ). get_or (spans (q ∷ ps)) n d) z ∙ there.1)
 
--- two sandboxes of an image have no address in common
+-- the address lies in the zone at zero of data of this size, where the format has one
+abbrev pub InZone : Format → ℕ → ℕ → Type 0
+InZone f size a = (has_one_step f ≡ true) × InZoneAtZero size a
+
+-- a span lies clear of the zone at zero of each sandbox of an image
+clear_of_one : (ps : List Part) (s : Span) (i : ℕ) (p : Part) → slice_get ps i ≡ Some p → has_one_step p.format ≡ true → All (λ end. IsClear end s) (zone_ends ps) → IsClear (zone_end p.data_size) s
+clear_of_one [] s i p e one_step all = absurd (cc)
+clear_of_one (q ∷ ps) s zero p e one_step all =
+    let same : q ≡ p = cc in
+    let here : zone_ends_of (fields_of q) ≡ zone_end p.data_size ∷ [] = ap (λ (x : Part). zone_ends_of (fields_of x)) same ∙ (rw (one_step) refl) in
+    All-head (λ end. IsClear end s) (zone_end p.data_size) [] (subst (All (λ end. IsClear end s)) here (All-front (λ end. IsClear end s) (zone_ends_of (fields_of q)) (zone_ends ps) all))
+clear_of_one (q ∷ ps) s (suc i) p e one_step all = clear_of_one ps s i p e one_step (All-rest (λ end. IsClear end s) (zone_ends_of (fields_of q)) (zone_ends ps) all)
+
+clear_out : (size a : ℕ) (s : Span) → IsClear (zone_end size) s → InZoneAtZero size a → Holds s a → ⊥
+clear_out size a s clear (inl low) held = let above = clear.above in omega (arith, held.0)
+clear_out size a s clear (inr (high, word)) held = let below = clear.below in omega (arith, held.1)
+
+-- two sandboxes of an image have no address in common, and none of the second lies in the first one's zone at zero
 pub record Apart (p q : Part) : Type 0 where
   pub code_code : AreApart (code_region p) (code_region q)
   pub code_guarded : AreApart (code_region p) (guarded_region q)
   pub guarded_code : AreApart (guarded_region p) (code_region q)
   pub guarded_guarded : AreApart (guarded_region p) (guarded_region q)
+  pub zone_code : (a : ℕ) → InZone p.format p.data_size a → Holds (code_region q) a → ⊥
+  pub zone_guarded : (a : ℕ) → InZone p.format p.data_size a → Holds (guarded_region q) a → ⊥
 
 -- sandboxes that are right and lie apart
 pub record LieApart (ps : List Part) : Type 0 where
@@ -99,19 +121,24 @@ two_spans all i j s t d apart other low high e f =
     subst (λ (x : Span). AreApart x t) e (subst (λ (x : Span). AreApart (get_or all i d) x) f
     (elim (cases_lt i j) [ inl less ↦ apart i j d less high | inr more ↦ λ a h k. apart j i d (omega arith) low a k h ]))
 
-two_apart : (ps : List Part) (i j : ℕ) (p q : Part) → AllPairs AreApart (spans ps) → i ≢ j → slice_get ps i ≡ Some p → slice_get ps j ≡ Some q → Apart p q
-two_apart ps i j p q apart other e f =
+two_apart : (ps : List Part) (i j : ℕ) (p q : Part) → IsRightLayout ps → i ≢ j → slice_get ps i ≡ Some p → slice_get ps j ≡ Some q → Apart p q
+two_apart ps i j p q layout other e f =
     let n = span_count ps in
     let low : i < length ps = slice_get_within ps i p e in
     let high : j < length ps = slice_get_within ps j q f in
     let d = code_region p in
     let first = spans_at ps i p d e in
     let second = spans_at ps j q d f in
+    let apart = layout.right.apart in
+    let clear : (k : ℕ) (s : Span) → k < length (spans ps) → get_or (spans ps) k d ≡ s → has_one_step p.format ≡ true → IsClear (zone_end p.data_size) s =
+    λ k s lt is one_step. clear_of_one ps s i p e one_step (subst (λ (x : Span). All (λ end. IsClear end x) (zone_ends ps)) is (layout.right.clear k d lt)) in
     record {
       code_code = two_spans (spans ps) (i + i) (j + j) _ _ d apart (λ z. omega arith) (omega arith) (omega arith) first.0 second.0;
       code_guarded = two_spans (spans ps) (i + i) (j + j + 1) _ _ d apart (λ z. omega arith) (omega arith) (omega arith) first.0 second.1;
       guarded_code = two_spans (spans ps) (i + i + 1) (j + j) _ _ d apart (λ z. omega arith) (omega arith) (omega arith) first.1 second.0;
       guarded_guarded = two_spans (spans ps) (i + i + 1) (j + j + 1) _ _ d apart (λ z. omega arith) (omega arith) (omega arith) first.1 second.1;
+      zone_code = λ a zone held. clear_out p.data_size a (code_region q) (clear (j + j) (code_region q) (omega arith) second.0 zone.0) zone.1 held;
+      zone_guarded = λ a zone held. clear_out p.data_size a (guarded_region q) (clear (j + j + 1) (guarded_region q) (omega arith) second.1 zone.0) zone.1 held;
     }
 
 pub lie_apart : (ps : List Part) → IsRightLayout ps → LieApart ps
@@ -122,7 +149,7 @@ lie_apart ps layout = record {
       let below : i < length ps = slice_get_within ps i p e in
       let there = spans_at ps i p (code_region p) e in
       two_spans (spans ps) (i + i) (i + i + 1) _ _ (code_region p) layout.right.apart (λ z. omega arith) (omega arith) (omega arith) there.0 there.1;
-  others = λ i j p q other e f. two_apart ps i j p q layout.right.apart other e f;
+  others = λ i j p q other e f. two_apart ps i j p q layout other e f;
 }
 
 tail : (p : Part) (ps : List Part) → LieApart (p ∷ ps) → LieApart ps
@@ -137,14 +164,28 @@ tail p ps lie = record {
 abbrev region : ℕ → ℕ → Span
 region base size = record { base = base; size = size }
 
-pub guard_in : (p : Part) (a : ℕ) → IsRightPart p → InGuard p a → Holds (guarded_region p) a
-guard_in p a right guard = guarded p a (two_steps p.format) right (inr guard)
+-- an address of a zone lies beside the data or in the zone at zero
+pub guard_in : (p : Part) (a : ℕ) → IsRightPart p → InGuard p a → Holds (guarded_region p) a ⊎ InZone p.format p.data_size a
+guard_in p a right (inl (inl (from, below))) = let room : 4096 ≤ p.data_base = right.guard_room.below in inl (omega arith, omega arith)
+guard_in p a right (inl (inr (from, below))) = let room : 4096 ≤ p.data_base = right.guard_room.below in inl (omega arith, omega arith)
+guard_in p a right (inr zone) = inr zone
 
 pub data_guarded : (p : Part) (a : ℕ) → IsRightPart p → InData p a → Holds (guarded_region p) a
 data_guarded p a right h = let room : 4096 ≤ p.data_base = right.guard_room.below in (omega arith, omega arith)
 
 pub guard_not_data : (p : Part) (a : ℕ) → IsRightPart p → InGuard p a → InData p a → ⊥
 guard_not_data p a right guard h = stepping.guard_not_data p a right guard h
+
+pub guard_not_code : (p : Part) (a : ℕ) → IsRightPart p → AreApart (code_region p) (guarded_region p) → InGuard p a → InCode p a → ⊥
+guard_not_code p a right apart guard h = stepping.not_code p a right apart (inr guard) h
+
+-- nor do code and data of another sandbox lie there
+pub guard_not_other : (p q : Part) (a : ℕ) → IsRightPart p → IsRightPart q → Apart p q → InGuard p a → (InCode q a → ⊥) × (InData q a → ⊥)
+guard_not_other p q a right its apart guard =
+    ⊎_elim
+    (λ (g : Holds (guarded_region p) a). (λ c. apart.guarded_code a g c, λ d. apart.guarded_guarded a g (data_guarded q a its d)))
+    (λ (z : InZone p.format p.data_size a). (λ c. apart.zone_code a z c, λ d. apart.zone_guarded a z (data_guarded q a its d)))
+    (guard_in p a right guard)
 
 at_region : (base size a : ℕ) → base + size ≤ 2 ^ 32 → Contains (addresses base size) a → Holds (region base size) a
 at_region base size a fits c =
@@ -233,7 +274,6 @@ pub guards_stay : (ps : List Part) (m : Bytes) (i : ℕ) (p : Part) → LieApart
 guards_stay ps m i p lie e a guard =
     all_outside ps m a lie (λ j q f. elim (i == j) as (λ t. (i == j) ≡ t → (InCode q a → ⊥) × (InData q a → ⊥)) [
       | true ↦ λ t. subst (λ (x : Part). (InCode x a → ⊥) × (InData x a → ⊥)) (sym (same_part ps i j p q (eqb-true i j t) e f))
-          (λ c. lie.own i p e a c (guard_in p a (lie.each i p e) guard), λ d. guard_not_data p a (lie.each i p e) guard d)
-      | false ↦ λ t. let apart : Apart p q = lie.others i j p q (eqb-false i j t) e f in
-          (λ c. apart.guarded_code a (guard_in p a (lie.each i p e) guard) c, λ d. apart.guarded_guarded a (guard_in p a (lie.each i p e) guard) (data_guarded q a (lie.each j q f) d))
+          (λ c. guard_not_code p a (lie.each i p e) (lie.own i p e) guard c, λ d. guard_not_data p a (lie.each i p e) guard d)
+      | false ↦ λ t. guard_not_other p q a (lie.each i p e) (lie.each j q f) (lie.others i j p q (eqb-false i j t) e f) guard
     ] refl)

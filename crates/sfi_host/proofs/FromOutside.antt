@@ -38,7 +38,7 @@ module _ (w : Sandboxes) (n : Bytes) (i : ℕ) (s : Seat) (p : Part) (safe : IsS
   kept : KeepsBytes p w.bytes n
   kept = record {
     code = λ a inside. outside a (in_no_data a (keep.code_not_data w.bytes s callback_seat p is a inside) (λ b apart h. apart.code a h (keep.code_in w.bytes s callback_seat p is a inside)));
-    guards = λ a guard empty. outside a (in_no_data a (keep.guard_not_data w.bytes s callback_seat p is a guard) (λ b apart h. apart.guarded a h (keep.guard_guarded w.bytes s callback_seat p is a guard))) ∙ empty;
+    guards = λ a guard empty. outside a (in_no_data a (keep.guard_not_data w.bytes s callback_seat p is a guard) (λ b apart h. apart.zones a h (keep.guard_zones w.bytes s callback_seat p is a guard))) ∙ empty;
   }
 
 pub put_back_is : PutBackIsChange

@@ -3,7 +3,7 @@ use Rattle.sfi_host.proofs.Prelude.{◌≡◌, ◌↔◌, inl, inr, ⊎_elim, Bo
 use Rattle.sfi_host.specs.Modules.{part_of, parts_of}
 use Rattle.sfi_host.specs.declared.modules.ModulePart.{ModulePart}
 use Rattle.sfi_image.proofs.Facts.{code_ends}
-use Rattle.sfi_host.specs.Adding.{TakesUp, Meet, MeetsSome}
+use Rattle.sfi_host.specs.Adding.{TakesUp, ShareAddress, Meet, MeetsSome}
 use Rattle.sfi_host.proofs.WorldBytes.{seat_at, get_map}
 
 -- ---- one sandbox and one part, by their spans
@@ -19,16 +19,16 @@ module _ (b c : Bounds) (k kg l lg : Span) (first : k ≡ b.code) (first_guarded
   back : (s t : Span) → s ≡ t → (a : ℕ) → Holds t a → Holds s a
   back s t same a h = subst (λ (x : Span). Holds x a) (sym same) h
 
-  pub by_codes : (Both k l) → Meet b c
+  pub by_codes : (Both k l) → ShareAddress b c
   by_codes x = (x.0, inl (held k b.code first x.0 x.1), inl (held l c.code second x.0 x.2))
 
-  pub by_first : (Both k lg) → Meet b c
+  pub by_first : (Both k lg) → ShareAddress b c
   by_first x = (x.0, inl (held k b.code first x.0 x.1), inr (held lg (with_guards c.data) second_guarded x.0 x.2))
 
-  pub by_second : (Both kg l) → Meet b c
+  pub by_second : (Both kg l) → ShareAddress b c
   by_second x = (x.0, inr (held kg (with_guards b.data) first_guarded x.0 x.1), inl (held l c.code second x.0 x.2))
 
-  pub by_guarded : (Both kg lg) → Meet b c
+  pub by_guarded : (Both kg lg) → ShareAddress b c
   by_guarded x = (x.0, inr (held kg (with_guards b.data) first_guarded x.0 x.1), inr (held lg (with_guards c.data) second_guarded x.0 x.2))
 
   none_by : (Both k l → ⊥) → (Both k lg → ⊥) → (Both kg l → ⊥) → (a : ℕ) → TakesUp b a → TakesUp c a → Both kg lg
@@ -37,7 +37,7 @@ module _ (b c : Bounds) (k kg l lg : Span) (first : k ≡ b.code) (first_guarded
   none_by no1 no2 no3 a (inr h) (inl i) = absurd (no3 (a, back kg (with_guards b.data) first_guarded a h, back l c.code second a i))
   none_by no1 no2 no3 a (inr h) (inr i) = (a, back kg (with_guards b.data) first_guarded a h, back lg (with_guards c.data) second_guarded a i)
 
-  pub by_last : (r : Bool) → (IsTrue r ↔ Both kg lg) → (Both k l → ⊥) → (Both k lg → ⊥) → (Both kg l → ⊥) → (IsTrue r ↔ Meet b c)
+  pub by_last : (r : Bool) → (IsTrue r ↔ Both kg lg) → (Both k l → ⊥) → (Both k lg → ⊥) → (Both kg l → ⊥) → (IsTrue r ↔ ShareAddress b c)
   by_last r last no1 no2 no3 = (λ t. by_guarded (last.0 t), λ m. last.1 (none_by no1 no2 no3 m.0 m.1 m.2))
 
 -- ---- one sandbox and the first n parts

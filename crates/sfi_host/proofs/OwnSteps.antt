@@ -1,5 +1,5 @@
 -- A step in the one memory is one in the sandbox's own, and leaves those of others.
-use Rattle.sfi_host.proofs.Prelude.{◌≡◌, ◌≢◌, ℕ, ◌⊎◌, inl, inr, ⊎_elim, Bool, true, false, cond, None, refl, sym, ap, ◌∙◌, subst, or_left, or_right, or_cases, Bytes, byte_at, Outcome, State, Stepped, Stands, IsStep, Holds, InCode, InData, InGuard, Steps, IsSafeState, IsSafeStep, IsTrap, Ready, is_in, Bounds, is_own, own, state_of, Machine, IsMachine, Seat, slot_of, state_in, IsSafeSeat, StaysOutside, zero, suc, List, [], ◌∷◌, map, set, Some, is_some, slice_get, arith, cases_eq, same_Some, get_or_from_slice_get, IsMemory, Part, KeepsBytes, bounds_of, Slot, slots_of, LiesOutside, IsSafeWorld}
+use Rattle.sfi_host.proofs.Prelude.{◌≡◌, ◌≢◌, ℕ, ◌⊎◌, inl, inr, ⊎_elim, Bool, true, false, cond, None, refl, sym, ap, ◌∙◌, subst, or_left, or_right, or_cases, Bytes, byte_at, Outcome, State, Stepped, Stands, IsStep, Holds, InCode, InData, InGuard, Steps, IsSafeState, IsSafeStep, IsTrap, Ready, is_in, Bounds, is_own, own, state_of, Machine, IsMachine, Seat, slot_of, state_in, IsSafeSeat, StaysOutside, zero, suc, List, [], ◌∷◌, map, set, Some, is_some, slice_get, arith, IsMemory, Part, KeepsBytes, bounds_of, Slot, slots_of, LiesOutside, IsSafeWorld}
 use Rattle.rv_step.specs.Step.{Accesses}
 use Rattle.rv_step.specs.Laws.{AgreeHere, IsSameStep}
 use Rattle.rv_step.specs.declared.outcome.Outcome.TheVariants.{Next, Trap, Call}
@@ -145,7 +145,7 @@ module _ (m : Bytes) (s : Seat) (r : Stepped) (seat : IsSafeSeat m s) (ready : s
 
 module _ (m n : Bytes) (b : Bounds) (left : StaysOutside b.data m n) (t : Seat) (seat : IsSafeSeat m t) (outside : LiesOutside b t.bounds) where
   data_same : (a : ℕ) → Holds t.bounds.data a → byte_at n a ≡ byte_at m a
-  data_same a h = left a (λ k. outside.guarded a k (keep.data_guarded m t seat a h))
+  data_same a h = left a (λ k. outside.data a k h)
 
   code_same : (a : ℕ) → Holds t.bounds.code a → byte_at n a ≡ byte_at m a
   code_same a h = left a (λ k. outside.code a k h)
@@ -154,7 +154,7 @@ module _ (m n : Bytes) (b : Bounds) (left : StaysOutside b.data m n) (t : Seat) 
   pub others_kept : (p : Part) → t.bounds ≡ bounds_of p → KeepsBytes p m n
   others_kept p is = record {
     code = λ a inside. code_same a (keep.code_in m t seat p is a inside);
-    guards = λ a guard empty. left a (λ k. outside.guarded a k (keep.guard_guarded m t seat p is a guard)) ∙ empty;
+    guards = λ a guard empty. left a (λ k. outside.zones a k (keep.guard_zones m t seat p is a guard)) ∙ empty;
   }
 
   -- the other sandbox is safe as before

@@ -1,5 +1,5 @@
 -- What leaves a sandbox safe.
-use Rattle.sfi_host.proofs.Prelude.{◌≡◌, ◌≢◌, ℕ, ◌+◌, ◌^◌, ◌<◌, ◌≤◌, List, [], length, true, refl, sym, ap, ◌∙◌, subst, arith, get_or-set_other, slice_index, slice_set, Ecall, Bytes, IsMemory, byte_at, address_after, Hart, IsHart, IsState, past, Stands, Part, Holds, InZones, AreApart, with_guards, code_region, guarded_region, InCode, InData, InGuard, IsEntry, Replies, Changes, KeepsBytes, KeepsReserved, IsReply, GoesSafelyFrom, Ready, IsEnterable, IsWhole, Bounds, bounds_of, one_more, Way, Replied, Exit, word, with_arguments, after_way, status_after, Seat, state_in, IsSafeSeat, StaysOutside, StaysSafe}
+use Rattle.sfi_host.proofs.Prelude.{◌≡◌, ◌≢◌, ◌⊎◌, ℕ, ◌+◌, ◌^◌, ◌<◌, List, [], length, true, refl, sym, ap, ◌∙◌, subst, arith, get_or-set_other, slice_index, slice_set, Ecall, Bytes, IsMemory, byte_at, address_after, Hart, IsHart, IsState, past, Stands, Part, Holds, InZones, AreApart, with_guards, code_region, guarded_region, InCode, InData, InGuard, IsEntry, Replies, Changes, KeepsBytes, KeepsReserved, IsReply, GoesSafelyFrom, Ready, IsEnterable, IsWhole, Bounds, bounds_of, one_more, Way, Replied, Exit, word, with_arguments, after_way, status_after, Seat, state_in, IsSafeSeat, StaysOutside, StaysSafe}
 use Rattle.sfi_host.specs.Hosts.{a0_register, a1_register}
 use Rattle.sfi_host.specs.Laws.{CallsAreTyped, AnswersAreReplies}
 use Rattle.sfi_host.specs.Worlds.{StoppedItself}
@@ -53,6 +53,11 @@ module _ (m : Bytes) (s : Seat) (seat : IsSafeSeat m s) where
   apart : AreApart s.bounds.code (with_guards s.bounds.data)
   apart = subst (λ (b : Bounds). AreApart b.code (with_guards b.data)) (sym seat.bounds) seat.apart
 
+  -- an address of a zone lies beside the data or in the zone at zero
+  pub zones_in : (a : ℕ) → InZones s.bounds.format s.bounds.data a → Holds (with_guards s.bounds.data) a ⊎ parts.InZone s.bounds.format s.bounds.data.size a
+  zones_in a zone = subst (λ (b : Bounds). Holds (with_guards b.data) a ⊎ parts.InZone b.format b.data.size a) (sym seat.bounds)
+      (parts.guard_in seat.part a seat.right (subst (λ (b : Bounds). InZones b.format b.data a) seat.bounds zone))
+
   -- ---- for a part that lies there
 
   module _ (p : Part) (is : s.bounds ≡ bounds_of p) where
@@ -62,14 +67,14 @@ module _ (m : Bytes) (s : Seat) (seat : IsSafeSeat m s) where
     pub guard_mine : (a : ℕ) → InGuard p a → InGuard seat.part a
     guard_mine a guard = subst (λ (b : Bounds). InZones b.format b.data a) (sym is ∙ seat.bounds) guard
 
-    pub guard_guarded : (a : ℕ) → InGuard p a → Holds (with_guards s.bounds.data) a
-    guard_guarded a guard = subst (λ (b : Bounds). Holds (with_guards b.data) a) (sym seat.bounds) (parts.guard_in seat.part a seat.right (guard_mine a guard))
+    pub guard_zones : (a : ℕ) → InGuard p a → InZones s.bounds.format s.bounds.data a
+    guard_zones a guard = subst (λ (b : Bounds). InZones b.format b.data a) (sym is) guard
 
     pub guard_not_data : (a : ℕ) → InGuard p a → Holds s.bounds.data a → ⊥
     guard_not_data a guard h = parts.guard_not_data seat.part a seat.right (guard_mine a guard) (subst (λ (b : Bounds). Holds b.data a) seat.bounds h)
 
     pub guard_not_code : (a : ℕ) → InGuard p a → Holds s.bounds.code a → ⊥
-    guard_not_code a guard inside = apart a inside (guard_guarded a guard)
+    guard_not_code a guard inside = parts.guard_not_code seat.part a seat.right seat.apart (guard_mine a guard) (subst (λ (b : Bounds). Holds b.code a) seat.bounds inside)
 
     pub code_not_data : (a : ℕ) → InCode p a → Holds s.bounds.data a → ⊥
     code_not_data a inside h = apart a (code_in a inside) (data_guarded a h)

@@ -9,7 +9,7 @@ use Rattle.sfi_safe_runs.proofs.Entries.{zero_words, some_unit, mask_fits, typed
 use Rattle.sfi_host.specs.Loading.{with_typed}
 use Rattle.sfi_image.proofs.Facts.{code_ends}
 use Rattle.sfi_host.proofs.SafeSeats.{ready_safe}
-use Rattle.sfi_host.proofs.Entered.{Apart, lie_apart, has_code, has_data, guards_stay, data_guarded}
+use Rattle.sfi_host.proofs.Entered.{Apart, lie_apart, has_code, has_data, guards_stay, data_guarded, guard_not_other}
 
 -- ---- the first hart
 
@@ -141,7 +141,8 @@ module _ (ps : List Part) (layout : IsRightLayout ps) (m : Bytes) (free : AreFre
       let apart : Apart p q = lie.others i j p q ne e f in
       record {
         code = λ a h k. apart.guarded_code a (data_guarded p a (lie.each i p e) h) k;
-        guarded = λ a h k. apart.guarded_guarded a (data_guarded p a (lie.each i p e) h) k;
+        «data» = λ a h k. apart.guarded_guarded a (data_guarded p a (lie.each i p e) h) (data_guarded q a (lie.each j q f) k);
+        zones = λ a h k. (guard_not_other q p a (lie.each j q f) (lie.each i p e) (lie.others j i q p (λ z. ne (sym z)) f e) k).1 h;
       }
 
   module _ (safe : AllRunSafely ps) (calls : AllCallTyped ps) where

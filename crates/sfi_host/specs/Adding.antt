@@ -1,9 +1,10 @@
 -- A world gets the sandboxes of another accepted image, or loses a sandbox, between plans.
-use Rattle.std.specs.Prelude.{◌≡◌, ◌≢◌, ◌⊎◌, ◌||◌, ℕ, ◌+◌, ◌-◌, ◌^◌, ◌<◌, nat_lt, cond, Bool, false, List, [], ◌∷◌, ◌++◌, length, map, Option, None, Some, slice_get}
+use Rattle.std.specs.Prelude.{◌≡◌, ◌≢◌, ◌⊎◌, ◌||◌, ℕ, ◌+◌, ◌-◌, ◌^◌, ◌<◌, nat_lt, cond, Bool, true, false, List, [], ◌∷◌, ◌++◌, length, map, Option, None, Some, slice_get}
 use Rattle.std.specs.FinMap.{retain_keys}
 use Rattle.std.specs.List.{remove}
 use Rattle.rv_mem.specs.Bytes.{Bytes}
-use Rattle.sfi_image.specs.Spelling.{Part, Holds, with_guards}
+use Rattle.sfi_formats.specs.Formats.{has_one_step}
+use Rattle.sfi_image.specs.Spelling.{Part, Holds, with_guards, InZoneAtZero}
 use Rattle.sfi_safe_runs.specs.Runs.{IsChange}
 use Rattle.sfi_host.specs.Loading.{first_seat, with_parts}
 use Rattle.sfi_host.specs.Slots.{Bounds, bounds_of, is_own}
@@ -16,8 +17,18 @@ abbrev pub TakesUp : Bounds → ℕ → Type 0
 TakesUp b a = Holds b.code a ⊎ Holds (with_guards b.data) a
 
 -- two sandboxes take up an address both
+abbrev pub ShareAddress : Bounds → Bounds → Type 0
+ShareAddress b c = (a : ℕ) × TakesUp b a × TakesUp c a
+
+-- the second one's format has a zone at zero, and the first one takes up an address there
+abbrev pub ReachesZoneOf : Bounds → Bounds → Type 0
+ReachesZoneOf b c =
+    (has_one_step c.format ≡ true) × ((a : ℕ) × TakesUp b a × InZoneAtZero c.data.size a)
+
+-- Two sandboxes take up an address both, or one of them reaches the other's zone at zero. Their zones at
+-- zero may overlap: nobody is there.
 abbrev pub Meet : Bounds → Bounds → Type 0
-Meet b c = (a : ℕ) × TakesUp b a × TakesUp c a
+Meet b c = ShareAddress b c ⊎ (ReachesZoneOf b c ⊎ ReachesZoneOf c b)
 
 -- a sandbox of the world and one of these parts meet
 pub record MeetsSome (w : Sandboxes) (ps : List Part) : Type 0 where

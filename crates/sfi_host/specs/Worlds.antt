@@ -9,7 +9,7 @@ use Rattle.rv_step.specs.declared.outcome.Cause.TheVariants as cause
 use Rattle.rv_step.specs.Step.{accessed, Stands, Stepped, IsStep}
 use Rattle.rv_step.specs.State.{State, Hart, IsState}
 use Rattle.sfi_image.specs.declared.part.Gate.{Gate}
-use Rattle.sfi_image.specs.Spelling.{Holds, InZones, AreApart, with_guards, code_region, guarded_region, Part}
+use Rattle.sfi_image.specs.Spelling.{Holds, InZones, AreApart, code_region, guarded_region, Part}
 use Rattle.sfi_host.specs.declared.status.Status.{Status}
 use Rattle.sfi_host.specs.declared.status.Status.TheVariants.{Ready, Exited, Trapped, Stopped}
 use Rattle.sfi_host.specs.Slots.{Bounds, bounds_of, own, Slot, state_of, bytes_in, IsWhole, span_of}
@@ -131,10 +131,11 @@ pub record IsSafeSeat (m : Bytes) (s : Seat) : Type 0 where
   pub safe : s.status ≡ Ready → GoesSafelyFrom part (state_in m s)
   pub stopped : StoppedItself s.bounds (state_in m s) s.status
 
--- the first one's data lie outside the second one's code, data and guard zones
+-- the first one's data lie outside the second one's code, data and zones
 pub record LiesOutside (one other : Bounds) : Type 0 where
   pub code : AreApart one.data other.code
-  pub guarded : AreApart one.data (with_guards other.data)
+  pub «data» : AreApart one.data other.data
+  pub zones : (a : ℕ) → Holds one.data a → InZones other.format other.data a → ⊥
 
 -- each sandbox is safe, and its data lie outside each other one
 pub record IsSafeWorld (w : Sandboxes) : Type 0 where

@@ -1,12 +1,11 @@
-//! Whether sandboxes of a world and of an image have addresses in common.
-ghost use Rattle.std.specs.Prelude.{◌≡◌, ◌+◌, ◌^◌, ◌<◌, ◌≤◌, ◌↔◌, ℕ, IsTrue, Some, slice_get};
+//! Whether sandboxes of a world and of an image meet.
+ghost use Rattle.std.specs.Prelude.{◌≡◌, ◌⊎◌, ◌+◌, ◌^◌, ◌<◌, ◌≤◌, ◌↔◌, ℕ, IsTrue, Some, slice_get};
 ghost use Rattle.std.specs.Bool.{OnTrue, OnFalse};
 ghost use Rattle.rv_mem.specs.Bytes.{Bytes};
 ghost use Rattle.sfi_formats.specs.declared.format.Format.{Format};
 ghost use Rattle.sfi_image.specs.Parts.{IsRightPart, IsRightLayout};
-ghost use Rattle.sfi_image.specs.Spelling.{Holds, code_region};
-ghost use Rattle.sfi_image.specs.Spelling.{Part};
-ghost use Rattle.sfi_host.specs.Adding.{Meet, MeetsSome};
+ghost use Rattle.sfi_image.specs.Spelling.{Part, Holds, code_region, InZoneAtZero};
+ghost use Rattle.sfi_host.specs.Adding.{ShareAddress, ReachesZoneOf, Meet, MeetsSome};
 ghost use Rattle.sfi_host.specs.Modules.{part_of, parts_of};
 ghost use Rattle.sfi_host.specs.Worlds.{seat_of, world_of};
 ghost use Rattle.sfi_host.specs.Slots.{bounds_of};
@@ -14,7 +13,7 @@ ghost use Rattle.sfi_host.specs.Worlds.{IsSafeWorld};
 
 use crate::modules::ModulePart;
 use crate::sandbox::Sandbox;
-use sfi_formats::Format;
+use sfi_formats::{Format, GUARD};
 use sfi_image::{Span, with_guards};
 
 /// Whether an address lies in both spans.
@@ -44,12 +43,73 @@ fn code_of(part: &ModulePart) -> Span
     code_span(part.code_base, part.code.len() as u32)
 }
 
+/// Whether an address of the span lies in the zone at zero of data of this size.
+fn lies_in_zone(size: u32, span: Span) -> bool
+    requires end { span.base + span.size < 2 ^ 64 }
+    ensures { IsTrue result ↔ ((a : ℕ) × Holds span a × InZoneAtZero size a) }
+{
+    let guard = u64::from(GUARD);
+    let first = Span {
+        base: 0,
+        size: u64::from(size) + guard,
+    };
+    let last = Span {
+        base: (1 << 32) - guard,
+        size: guard,
+    };
+    if have_common_address(span, first) {
+        return true;
+    }
+    have_common_address(span, last)
+}
+
+/// Whether an address of one of the spans lies in the zone at zero of data of this size.
+fn reach_zone(code: Span, guarded: Span, size: u32) -> bool
+    requires code { code.base + code.size < 2 ^ 64 }
+    requires guarded { guarded.base + guarded.size < 2 ^ 64 }
+    ensures { IsTrue result
+        ↔ ((a : ℕ) × (Holds code a ⊎ Holds guarded a) × InZoneAtZero size a) }
+{
+    if lies_in_zone(size, code) {
+        return true;
+    }
+    lies_in_zone(size, guarded)
+}
+
+/// Whether the sandbox takes up an address in the part's zone at zero.
+fn sandbox_reaches_zone(sandbox: &Sandbox, format: Format, part: &ModulePart) -> bool
+    requires room { 4096 ≤ sandbox.now.data.base }
+    ensures { IsTrue result
+        ↔ ReachesZoneOf (seat_of sandbox.now).bounds (bounds_of (part_of format part.now)) }
+{
+    if !format.has_one_step() {
+        return false;
+    }
+    let code = code_span(sandbox.code.base, sandbox.code.size);
+    let guarded = with_guards(sandbox.data.base, sandbox.data.size);
+    reach_zone(code, guarded, part.data_size)
+}
+
+/// Whether the part takes up an address in the sandbox's zone at zero.
+fn part_reaches_zone(sandbox: &Sandbox, format: Format, part: &ModulePart) -> bool
+    requires right { IsRightPart (part_of format part.now) }
+    ensures { IsTrue result
+        ↔ ReachesZoneOf (bounds_of (part_of format part.now)) (seat_of sandbox.now).bounds }
+{
+    if !sandbox.format.has_one_step() {
+        return false;
+    }
+    let code = code_of(part);
+    let guarded = with_guards(part.data_base, part.data_size);
+    reach_zone(code, guarded, sandbox.data.size)
+}
+
 /// Whether the sandbox and the part take up an address both.
-fn meets_part(sandbox: &Sandbox, format: Format, part: &ModulePart) -> bool
+fn shares_address(sandbox: &Sandbox, format: Format, part: &ModulePart) -> bool
     requires room { 4096 ≤ sandbox.now.data.base }
     requires right { IsRightPart (part_of format part.now) }
     ensures { IsTrue result
-        ↔ Meet (seat_of sandbox.now).bounds (bounds_of (part_of format part.now)) }
+        ↔ ShareAddress (seat_of sandbox.now).bounds (bounds_of (part_of format part.now)) }
 {
     let code = code_span(sandbox.code.base, sandbox.code.size);
     let guarded = with_guards(sandbox.data.base, sandbox.data.size);
@@ -65,6 +125,22 @@ fn meets_part(sandbox: &Sandbox, format: Format, part: &ModulePart) -> bool
         return true;
     }
     have_common_address(guarded, part_guarded)
+}
+
+/// Whether the sandbox and the part meet.
+fn meets_part(sandbox: &Sandbox, format: Format, part: &ModulePart) -> bool
+    requires room { 4096 ≤ sandbox.now.data.base }
+    requires right { IsRightPart (part_of format part.now) }
+    ensures { IsTrue result
+        ↔ Meet (seat_of sandbox.now).bounds (bounds_of (part_of format part.now)) }
+{
+    if shares_address(sandbox, format, part) {
+        return true;
+    }
+    if sandbox_reaches_zone(sandbox, format, part) {
+        return true;
+    }
+    part_reaches_zone(sandbox, format, part)
 }
 
 /// Whether the sandbox meets one of the parts.

@@ -108,7 +108,7 @@ enum sfi_run_change {
     SFI_RUN_CHANGE_NO_WORLD = 1,
     SFI_RUN_CHANGE_NO_MODULE = 2,
     SFI_RUN_CHANGE_NO_SANDBOX = 3, /* there is none of that number */
-    SFI_RUN_CHANGE_MEETS = 4,      /* code, data or a guard zone of one would meet those of a sandbox that is there */
+    SFI_RUN_CHANGE_MEETS = 4,      /* code, data or a guard zone would meet those of one that is there, or a zone at zero */
     SFI_RUN_CHANGE_FULL = 5,       /* there would be more sandboxes than numbers of 32 bits, which don't fit into memory */
     SFI_RUN_CHANGE_NO_MEMORY = 6   /* there was no memory for it */
 };

@@ -21,7 +21,7 @@ use std::sync::Arc;
 #[derive(Clone, Copy, Debug, PartialEq, Eq)]
 pub enum AddError {
     /// A code region or data with their guard zones of the image have an address in common with
-    /// those of a sandbox of the world.
+    /// those of a sandbox of the world; or those of either with the other's zone at zero.
     Meets,
     /// There would be more sandboxes than numbers of 32 bits.
     Full,

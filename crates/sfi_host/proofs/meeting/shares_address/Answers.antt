@@ -1,7 +1,7 @@
 use Rattle.sfi_host.proofs.Prelude.{refl, bounds_of, seat_of}
 use Rattle.sfi_host.specs.Modules.{part_of}
 use Rattle.sfi_host.proofs.Meetings.{by_codes, by_first, by_second, by_last, code_bounded}
-use Rattle.sfi_host.proofs.meeting.meets_part.Goals as goal
+use Rattle.sfi_host.proofs.meeting.shares_address.Goals as goal
 
 pub have_common_address-requires-clause-other : goal.have_common_address-requires-clause-other
 have_common_address-requires-clause-other c = code_bounded (part_of c.args.format c.args.part.now) c.code_of-part_code.result c.requires.right (c.code_of-part_code.ensures c.args.format)
