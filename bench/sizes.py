@@ -24,7 +24,7 @@ USED = bytes(range(1, 129)) * 128
 def image(megabytes, at):
     """The bytes of an image with that much data."""
     code = b"\x02\x90" * 128  # c.ebreak
-    return spelled(MAGICS[2], [Part(0x10000, code, at, megabytes << 20, 0x10000, init=USED)])
+    return spelled(MAGICS[3], [Part(0x10000, code, at, megabytes << 20, 0x10000, init=USED)])
 
 
 class Host:
