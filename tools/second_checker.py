@@ -234,7 +234,7 @@ def is_region(base, size, most):
 
 
 def is_one_bit(number):
-    return number.bit_count() == 1
+    return number > 0 and number & number - 1 == 0
 
 
 def is_clear_of_zero(begin, end, size):

@@ -133,7 +133,7 @@ def read_gates(read, count, is_start):
 
 
 def is_one_bit(number: int) -> bool:
-    return number.bit_count() == 1
+    return number > 0 and number & number - 1 == 0
 
 
 def read_part(read, format, spans, zones):
