@@ -14,7 +14,7 @@ import tempfile
 import measure
 import libraries
 from measure import HERE, TOP
-from suygapid.image.layout import MAGICS, Part, spelled
+from suygapid.image.layout import MAGICS, WORDS, Part, spelled
 from world_counts import run
 
 SIZES = [1, 16, 256, 1024]
@@ -24,7 +24,7 @@ USED = bytes(range(1, 129)) * 128
 def image(megabytes, at):
     """The bytes of an image with that much data."""
     code = b"\x02\x90" * 128  # c.ebreak
-    return spelled(MAGICS[3], [Part(0x10000, code, at, megabytes << 20, 0x10000, init=USED)])
+    return spelled(MAGICS[WORDS], [Part(0x10000, code, at, megabytes << 20, 0x10000, init=USED)])
 
 
 class Host:

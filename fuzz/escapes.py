@@ -30,7 +30,7 @@ NAMES = ["verdicts of images in the first format", "verdicts of images in the se
          "runs in the first format", "runs in the second format", "runs in words"]
 MOST_ENTRIES, STEPS, NEAR, MASK = 64, 150, 1020, 0xFFFFFFFF
 FIRST_RESERVED = 24
-DATA_REGISTERS = {3: word_rules.WORDS.data_registers, layout.SINGLE: word_rules.SINGLE.data_registers}
+DATA_REGISTERS = {layout.WORDS: word_rules.WORDS.data_registers, layout.SINGLE: word_rules.SINGLE.data_registers}
 KNOWN = ("and", "or", "addi")  # the computations whose results the rules count on
 IN_FORMAT = {1: "in the first format", 2: "in the second format", 3: "in words"}
 
@@ -64,10 +64,10 @@ class Hostile(machine.Machine):
             self.x[2] = data + pick.choice([0, size - 1, pick.randrange(size)])
         for register in DATA_REGISTERS.get(part.format, ()):
             near = data + pick.choice([-NEAR, size + NEAR - 1, pick.randrange(-NEAR, size + NEAR)])
-            self.x[register] = near if part.format == 3 else pick.choice([near, 0, size - 1, pick.randrange(size)])
+            self.x[register] = near if part.format == layout.WORDS else pick.choice([near, 0, size - 1, pick.randrange(size)])
         if part.format in DATA_REGISTERS:
             self.x[30] = part.code_base + pick.randrange(0, part.code_size, 4)
-        if part.format == 3:
+        if part.format == layout.WORDS:
             self.x[31] = pick.choice([0, size - 1, pick.randrange(size)])
 
     def change_data(self, begin, length):
