@@ -2,14 +2,15 @@
 import random
 import struct
 
-from suygapid.image.layout import MAGICS, Part, spelled
+from suygapid.image.layout import MAGICS, SINGLE, WORDS, Part, spelled
 from suygapid.isa.encoding import b_type, i_type, jal, r_type, s_type
 
 # mixed: accesses and indirect jumps after their pairs, branches, jumps, computations of both lengths; wide: 32-bit computations
 # alone; short: 16-bit forms alone; pairs: in each bundle one access after its pair, and one computation. In code in words accesses need no
 # pair; there mixed code has one for every two accesses, and steps of data registers.
 KINDS = ["mixed", "wide", "short", "pairs"]
-DATA_REGISTERS = [2, 3, 4, 29]
+DATA_REGISTERS = [2, 3, 4, 29]  # in words, and with single masks
+OF_SINGLE = [*DATA_REGISTERS, 26, 31]
 
 # From the smallest image to the largest: how many sandboxes, the bytes of code and the first bytes of data of each, and the format.
 SIZES = [(1, 256, 0, 1), (1, 65536, 0, 1), (16, 65536, 0, 1), (16, 65536, 1048576, 1), (16, 1048576, 1048576, 2)]
@@ -30,7 +31,7 @@ class Code:
         self.random = random.Random(seed)
         self.size = size
         # Registers that no rule reserves, and that are not x0.
-        typed = {1: [], 2: [2], 3: [*DATA_REGISTERS, 30, 31]}[format]
+        typed = {1: [], 2: [2], WORDS: [*DATA_REGISTERS, 30, 31], SINGLE: [*OF_SINGLE, 30]}[format]
         self.free = [r for r in range(1, 32) if not 24 <= r <= 27 and r not in typed]
 
     def register(self):
@@ -105,9 +106,10 @@ class Code:
 
 class WordCode(Code):
     """The same of code in words, 16 bytes at a time."""
+    format, data_registers = WORDS, DATA_REGISTERS
 
     def __init__(self, seed, size):
-        super().__init__(seed, size, 3)
+        super().__init__(seed, size, self.format)
 
     def on_data(self, target, offset):
         if self.random.random() < 0.6:
@@ -119,12 +121,12 @@ class WordCode(Code):
         return r_word(0, 27, self.register(), 7, 31) + r_word(0, 26, 31, 6, target)
 
     def access(self):
-        target = self.random.choice(DATA_REGISTERS)
+        target = self.random.choice(self.data_registers)
         return self.put(target) + self.on_data(target, self.random.randrange(-2048, 2048))
 
     def accesses(self):
         """two, with a register put into the data before them, or with a step before the first"""
-        target = self.random.choice(DATA_REGISTERS)
+        target = self.random.choice(self.data_registers)
         second = self.on_data(target, self.random.randrange(-2048, 2048))
         if self.random.random() < 0.5:
             return self.access() + second
@@ -143,8 +145,27 @@ class WordCode(Code):
         return self.accesses() if kind == "mixed" and self.random.random() < 0.4 else super().bundle(kind, at)
 
 
+class SingleCode(WordCode):
+    """The same with single masks: the register is put a second time in the place of the first step."""
+    format, data_registers = SINGLE, OF_SINGLE
+
+    def put(self, target):
+        """two times and target, a, x27"""
+        return r_word(0, 27, self.register(), 7, target) + r_word(0, 27, self.register(), 7, target)
+
+
 def code_of(seed, size, format):
-    return WordCode(seed, size) if format == 3 else Code(seed, size, format)
+    in_words = {it.format: it for it in (WordCode, SingleCode)}
+    return in_words[format](seed, size) if format in in_words else Code(seed, size, format)
+
+
+def place_of(number, size, format):
+    """Where code of that size, and 1 MiB of data, lie: the data beside the code, or above all code. With single masks the base of the
+    data is a single bit, and at most 11 sandboxes have such places."""
+    base, is_large = 0x01000000 * (number + 1), size >= 0x800000
+    if format == SINGLE:
+        return (0xC0000000 if is_large else 0x800000) + base, 1 << 31 - number
+    return base, 0x20000000 + 0x200000 * number if is_large else base + 0x800000
 
 
 def image(kind, sandboxes=16, code_size=65536, init=0, format=1, seed=0):
@@ -152,10 +173,9 @@ def image(kind, sandboxes=16, code_size=65536, init=0, format=1, seed=0):
     seed makes other code."""
     parts = []
     for n in range(sandboxes):
-        code, code_base = code_of(seed + n, code_size, format), 0x01000000 * (n + 1)
+        code, (code_base, data_base) = code_of(seed + n, code_size, format), place_of(n, code_size, format)
         bundles = [code.bundle(kind, at) for at in range(0, code_size - 16, 16)]
         bundles.append(struct.pack("<H", 0x9002) * 8)  # c.ebreak: control can't run off the end
-        data_base = code_base + 0x800000 if code_size < 0x800000 else 0x20000000 + 0x200000 * n  # beside the code, or above all code
         parts.append(Part(code_base, b"".join(bundles), data_base, 1048576, code_base, init=bytes(init)))
     return spelled(MAGICS[format], parts)
 

@@ -1,6 +1,6 @@
 #!/usr/bin/env python3
 """The instructions that the programs of examples/c execute natively on RV32 in QEMU: in each
-format, and without a sandbox.
+format that its loader takes, and without a sandbox.
 
     bench/native.py [--program PATH]
 
@@ -17,6 +17,7 @@ import tempfile
 import compiled
 import measure
 
+FORMATS = {it: title for it, title in compiled.FORMATS.items() if it != compiled.SINGLE}  # that the loader takes
 LOADER = os.path.join(os.path.dirname(measure.HERE), "examples", "device", "run.sh")
 
 
@@ -55,7 +56,7 @@ def row(name, program, folder):
                           for part in ("", compiled.WORDS))
     without, answer = plain(assembly, words, program, folder)
     cells = [f"{name}, {compiled.CASES[name]}", f"{without:,}"]
-    for image_format in compiled.FORMATS:
+    for image_format in FORMATS:
         steps, found = sandboxed(in_words if image_format == compiled.WORDS else assembly, words,
                                  image_format, program, folder)
         if found != answer:
@@ -69,8 +70,8 @@ def main():
     parser.add_argument("--program", default=measure.PROGRAM)
     program = measure.program_at(parser.parse_args().program)
     with tempfile.TemporaryDirectory() as folder:
-        print("| program, input | without a sandbox | " + " | ".join(compiled.FORMATS.values()) + " |")
-        print("|---|---" + "|---" * len(compiled.FORMATS) + "|")
+        print("| program, input | without a sandbox | " + " | ".join(FORMATS.values()) + " |")
+        print("|---|---" + "|---" * len(FORMATS) + "|")
         for name in compiled.CASES:
             print(row(name, program, folder), flush=True)
 

@@ -1,14 +1,15 @@
-"""Images of code in words that are accepted, nearly, or not at all, to compare checkers on, and to run."""
+"""Images of code in words, with masks of two steps and with single ones, that are accepted, nearly, or not at all, to compare checkers
+on, and to run."""
 import random
 import struct
 
 import images
 import odd_images
 import word_rules
-from suygapid.image.layout import Part, spelled
+from suygapid.image.layout import SINGLE, WORDS, Part, spelled
 from suygapid.isa.encoding import b_type, jal, s_type
 
-CODE_BASE, DATA_SIZE = 0x01000000, 256
+DATA_SIZE = 256
 REGISTERS = [0, 1, 2, 2, 3, 4, 5, 8, 10, 24, 25, 26, 26, 27, 28, 29, 30, 31]
 NUMBERS = [0, 0, 1, 4, -4, 16, -16, 1019, 1020, 1020, 1021, -1020, -1020, -1021, 2047, -2048]
 NOP, EBREAK = struct.pack("<I", 0x13), struct.pack("<I", 0x100073)
@@ -24,6 +25,7 @@ def or_(rd, a, b):
 
 class Pieces:
     """Instructions of which code is put together, with the registers and numbers that the rules ask for, and others."""
+    registers, rules = REGISTERS, word_rules.WORDS
 
     def __init__(self, pick, size):
         self.pick, self.size = pick, size
@@ -31,10 +33,10 @@ class Pieces:
                        self.jump, self.target, self.computed, self.halves, self.halves, self.any_word, self.odd]
 
     def register(self):
-        return self.pick.choice(REGISTERS)
+        return self.pick.choice(self.registers)
 
     def target_register(self):
-        return self.pick.choice(word_rules.DATA_REGISTERS)
+        return self.pick.choice(self.rules.data_registers)
 
     def number(self):
         return self.pick.choice(NUMBERS + [self.pick.randrange(-2048, 2048)])
@@ -59,7 +61,7 @@ class Pieces:
             half = struct.pack("<H", (0x8002 if pick else 0x4001) | target << 7 | self.pick.randrange(1, 32) << 2)
             return self.pick.choice([b"\x01\0" + half, half + b"\x01\0"])
         if pick < 4:
-            return self.access(0, self.pick.choice(word_rules.DATA_REGISTERS + (26,)), target)
+            return self.access(0, self.pick.choice(self.rules.bases), target)
         if pick == 4:
             return images.r_word(0, self.register(), self.register(), 0, target)
         if pick == 5:
@@ -135,15 +137,30 @@ class Pieces:
         return made[: self.size - 4] + struct.pack("<I", self.pick.choice(ends))
 
 
+class SinglePieces(Pieces):
+    """The same with single masks."""
+    registers, rules = [*REGISTERS, 26, 31, 31], word_rules.SINGLE
+
+    def placed(self, _at):
+        target = self.target_register()
+        return and_(target, self.register(), self.nearly(27, 26)) + self.access(0, target) * self.pick.randrange(2)
+
+    def put_back(self, target):
+        return and_(self.nearly(target, 10), self.register(), self.nearly(27, 25))
+
+
+PIECES = {WORDS: Pieces, SINGLE: SinglePieces}
+
+
 def gate_places(pick, size):
     return sorted(pick.sample(range(0, size, 16), pick.choice([0, 0, 1, 3])))
 
 
-def repaired(code, gates, but=()):
+def repaired(code, gates, but=(), rules=word_rules.WORDS):
     """The code with no-operations where a rule is broken, those of `but` aside; None where that doesn't end soon."""
     code = bytearray(code)
     for _ in range(40):
-        found = word_rules.findings(bytes(code), gates, but)
+        found = word_rules.findings(bytes(code), gates, but, rules)
         if not found:
             return bytes(code)
         for place, rule in found:
@@ -161,41 +178,42 @@ def with_calls(code, gates):
     return bytes(changed)
 
 
-def made_code(pick, size, but=()):
-    """Random code that keeps the rules, those of `but` aside, and its gates."""
+def made_code(pick, size, format=WORDS):
+    """Random code that keeps the rules, and its gates."""
     while True:
-        gates = gate_places(pick, size)
-        code = repaired(with_calls(Pieces(pick, size).code(), gates), gates, but)
+        gates, pieces = gate_places(pick, size), PIECES[format](pick, size)
+        code = repaired(with_calls(pieces.code(), gates), gates, rules=pieces.rules)
         if code:
             return code, gates
 
 
-def image(sandboxes):
+def image(sandboxes, format=WORDS):
     """The bytes of an image with these sandboxes, each its code and the places of its gates."""
-    bases = [CODE_BASE * (n + 1) for n in range(len(sandboxes))]
-    return spelled(images.MAGICS[3], [Part(base, code, base + 0x800000, DATA_SIZE, base, {base + place: 1 for place in gates})
-                                      for base, (code, gates) in zip(bases, sandboxes)])
+    places = [images.place_of(n, 256, format) for n in range(len(sandboxes))]
+    return spelled(images.MAGICS[format], [Part(base, code, data, DATA_SIZE, base, {base + place: 1 for place in gates})
+                                           for (base, data), (code, gates) in zip(places, sandboxes)])
 
 
-def odd_sandbox(pick, size):
+def odd_sandbox(pick, size, format):
     """Code of all sorts, or that keeps the rules with some bits flipped."""
     if pick.random() < 0.5:
         gates = gate_places(pick, size)
-        code = Pieces(pick, size).code()
+        code = PIECES[format](pick, size).code()
         return (code if pick.random() < 0.5 else with_calls(code, gates)), gates
-    code, gates = made_code(pick, size)
+    code, gates = made_code(pick, size, format)
     return odd_images.flipped(pick, code, 3), gates
 
 
-def small_sandboxes(seed):
+def small_image(seed, format=WORDS):
+    """One image of few words, of all sorts."""
     pick = random.Random(seed)
-    return [odd_sandbox(pick, 256) for _ in range(pick.choice([1, 1, 2]))]
+    return image([odd_sandbox(pick, 256, format) for _ in range(pick.choice([1, 1, 2]))], format)
 
 
-def large_sandboxes(seed):
+def large_sandboxes(seed, format=WORDS):
     pick = random.Random(seed)
     sandboxes = []
     for _ in range(16):
         gates = gate_places(pick, 65536)
-        sandboxes.append((with_calls(Pieces(pick, 65536).code(), gates), gates))
+        sandboxes.append((with_calls(PIECES[format](pick, 65536).code(), gates), gates))
     return sandboxes

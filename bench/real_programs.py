@@ -25,7 +25,6 @@ from compiled import DATA_SIZE, RUNTIME, TOOLS, Count, answer, image, mean, powe
 from suygapid.cc.compilers import GCC, compiled as compiled_to
 from suygapid.commands.options import size as size_of
 from suygapid.elf.runtime import OVERRIDDEN
-from suygapid.image.layout import Offered
 from suygapid.kept import kept, root
 from suygapid.library.newlib import folder_of
 
@@ -110,15 +109,6 @@ def without_sandbox(name, tree, folder):
     return image(code, section(linked, ".data", folder), data_size), len(code)
 
 
-def built_in(image_format, name, tree, folder, options):
-    """The linked program and its image. Of one with single masks sfi-cc has asked the second checker."""
-    if image_format != compiled.SINGLE:
-        return programs.built(name, tree, folder, image_format, options)
-    path = os.path.join(folder, "single.elf")
-    subprocess.run([*programs.command_of(name, tree, folder, image_format, path), *options.given], check=True)
-    return programs.Elf(path), subprocess.run([programs.SFI_IMAGE, path], stdout=subprocess.PIPE, check=True).stdout
-
-
 def measured(name, options, interpreter, folder):
     """A row for each input: its name, the count without a sandbox, and those of each format."""
     tree = programs.tree_of(programs.PROGRAMS[name], options, folder)
@@ -126,7 +116,7 @@ def measured(name, options, interpreter, folder):
         raise SystemExit(f"bench: the sources of {programs.PROGRAMS[name].package} aren't there")
     plain, size = without_sandbox(name, tree, folder)
     path = measure.written(os.path.join(folder, "plain.image"), plain)
-    made = {image_format: built_in(image_format, name, tree, folder, options) for image_format in options.format}
+    made = {image_format: programs.built(name, tree, folder, image_format, options) for image_format in options.format}
     for given in programs.PROGRAMS[name].inputs.split():
         content = programs.given_to(given, tree)
         steps, wanted = answer(measure.run([interpreter, "once", *programs.RUN[2::2], content.hex()], path)[0].strip())
@@ -205,7 +195,7 @@ def main():
     parser.add_argument("names", nargs="*")
     parser.add_argument("--builds", action="store_true")
     parser.add_argument("--program", default=measure.PROGRAM)
-    parser.add_argument("--format", action="append", choices=Offered(programs.FORMATS))
+    parser.add_argument("--format", action="append", choices=programs.FORMATS)
     parser.add_argument("--sources", default=os.path.join(root(), "sources"))
     options, options_given = parser.parse_known_args()
     options.given, options.fetch, options.format = options_given, False, options.format or ["words"]

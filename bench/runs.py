@@ -34,6 +34,7 @@ TIMED = 96_000_000
 COUNTED = 1_600_000
 FEW, MANY = 9_600_000, 48_000_000
 CUT = "9", "977"
+FORMATS = [it for it in compiled.FORMATS if it != compiled.SINGLE]  # of which an image has room for 16 sandboxes
 
 
 def commands(program, interpreter, steps, sandboxes=1):
@@ -120,7 +121,7 @@ COLUMNS = {
 
 def print_row(title, rows):
     """Prints a row: of each column and format, the geometric mean over the runs of these rows."""
-    cells = [", ".join(f"{compiled.mean([value(runs[it], runs[2]) for runs in rows]):.2f}" for it in compiled.FORMATS) for value in COLUMNS.values()]
+    cells = [", ".join(f"{compiled.mean([value(runs[it], runs[2]) for runs in rows]):.2f}" for it in FORMATS) for value in COLUMNS.values()]
     print("|", " | ".join([title, *cells]), "|", flush=True)
 
 
@@ -129,7 +130,7 @@ def print_compiled(program, interpreter, rounds, folder):
     print("|", " | ".join(["program", *COLUMNS]), "|")
     rows = []
     for name in compiled.CASES:
-        rows.append({it: compiled_run(program, interpreter, name, it, rounds, folder) for it in compiled.FORMATS})
+        rows.append({it: compiled_run(program, interpreter, name, it, rounds, folder) for it in FORMATS})
         print_row(name, rows[-1:])
     print_row("geometric mean", rows)
 

@@ -24,6 +24,7 @@ LIBRARY = os.path.join(os.path.dirname(measure.HERE), "crates", "sfi_c")
 REPEATS = 10
 GROUPS = 5  # scan.c and checker.c print the best of this number of groups
 BUNDLES = 65536
+FORMATS = [it for it in images.MAGICS if it != images.SINGLE]  # of which an image has room for 16 sandboxes
 
 
 def node_with(path, image):
@@ -42,7 +43,7 @@ def commands_of(folder, checker, module):
     programs = {"library": [scan]}
     for name, path in measure.checkers(checker, folder).items():
         programs[name] = [path, "--bench"]
-    images_at = {n: os.path.join(folder, str(n)) for n in images.MAGICS}
+    images_at = {n: os.path.join(folder, str(n)) for n in FORMATS}
     commands = {(name, n): [*words, path] for n, path in images_at.items() for name, words in programs.items() if n < 3 or name == "library"}
     return commands | {("node", n): node_with(module, path) for n, path in images_at.items() if module}
 
@@ -92,7 +93,7 @@ def main():
         commands = commands_of(folder, options.checker, options.module)
         print("| image |", " | ".join(f"{name}, format {n}" for name, n in commands), "|")
         for kind in images.KINDS:
-            for n in images.MAGICS:
+            for n in FORMATS:
                 measure.written(os.path.join(folder, str(n)), images.image(kind, format=n))
             cells, ratios = rows_of(kind, commands, options.rounds)
             all_ratios.append(ratios)

@@ -20,9 +20,13 @@ bool sfi_device_is_data(uint32_t base, uint32_t size) {
            (uint64_t)base + size + SFI_DEVICE_GUARD_ZONE <= (uint64_t)UINT32_MAX + 1;
 }
 
+static bool is_in_words(const struct sfi_device_part *part) {
+    return part->format == SFI_DEVICE_FORMAT_OF_WORDS || part->format == SFI_DEVICE_FORMAT_OF_SINGLE_MASKS;
+}
+
 /* The bytes of a unit of code: a sandbox is entered at multiples of it. */
 static uint32_t unit_of(const struct sfi_device_part *part) {
-    return part->format == SFI_DEVICE_FORMAT_OF_WORDS ? WORD : BUNDLE;
+    return is_in_words(part) ? WORD : BUNDLE;
 }
 
 enum { STACK_TOP = 16 }; /* x2 at a start: so many bytes below the data's end */
@@ -34,14 +38,14 @@ static void set_registers(struct sfi_device_sandbox *sandbox, uint32_t pc) {
     memset(frame, 0, sizeof *frame);
     frame->pc = pc;
     frame->x[SP] = part->data_base + part->data_size - STACK_TOP;
-    if (part->format == SFI_DEVICE_FORMAT_OF_WORDS) {
+    if (is_in_words(part)) {
         frame->x[3] = frame->x[4] = frame->x[29] = part->data_base;
         frame->x[30] = pc;
     }
     frame->x[24] = part->code_base;
     frame->x[25] = part->code_size - unit_of(part);
     frame->x[26] = part->data_base;
-    frame->x[27] = part->data_size - 1;
+    frame->x[27] = part->data_size - 1 + (part->format == SFI_DEVICE_FORMAT_OF_SINGLE_MASKS ? part->data_base : 0);
 }
 
 void sfi_device_empty(struct sfi_device_sandbox *sandbox) {

@@ -29,6 +29,16 @@ static bool is_of_guard(struct trap trap) {
     return trap.at_load && (trap.cause == CAUSE_LOAD_ACCESS || trap.cause == CAUSE_LOAD_PAGE);
 }
 
+/* Of the fourth format the first and the last of the addresses that its masks and steps leave below the data, and of the last ones. */
+static struct sfi_device_fault try_zone_at_zero(const struct sfi_device_firmware *firmware, const struct sfi_device_part *part) {
+    const uint32_t places[] = {0, part->data_size - 1, part->data_size + SFI_DEVICE_GUARD_ZONE - 1, UINT32_MAX - SFI_DEVICE_GUARD_ZONE + 1,
+                               UINT32_MAX};
+    for (uint32_t k = 0; part->format == SFI_DEVICE_FORMAT_OF_SINGLE_MASKS && k < sizeof places / sizeof places[0]; k++)
+        if (!is_of_guard(trap_of(firmware, places[k])))
+            return (struct sfi_device_fault){SFI_DEVICE_GUARD_IS_OPEN, places[k], 0};
+    return (struct sfi_device_fault){SFI_DEVICE_DONE, 0, 0};
+}
+
 struct sfi_device_fault sfi_device_try_guards(const struct sfi_device_firmware *firmware, const struct sfi_device_part *part) {
     uint32_t data = part->data_base, data_end = data + part->data_size;
     const struct {
@@ -44,5 +54,5 @@ struct sfi_device_fault sfi_device_try_guards(const struct sfi_device_firmware *
         if (places[k].fault == SFI_DEVICE_GUARD_IS_OPEN ? !is_of_guard(trap) : trap.cause != CAUSE_ECALL)
             return (struct sfi_device_fault){places[k].fault, places[k].address, 0};
     }
-    return (struct sfi_device_fault){SFI_DEVICE_DONE, 0, 0};
+    return try_zone_at_zero(firmware, part);
 }

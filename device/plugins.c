@@ -82,7 +82,8 @@ static bool lies_in(const struct sfi_device_part *part, const struct sfi_device_
            part->data_base == place->data_base && part->data_size == place->data_size;
 }
 
-/* Whether the area's image, in memory then, is accepted, and is one sandbox, in its plug-in's place. */
+/* Whether the area's image, in memory then, is accepted, and is one sandbox, in its plug-in's place, and not in the fourth format: nobody
+   compares places with zones at zero. */
 static bool accept(struct sfi_device_plugins *all, uint32_t number, uint32_t area, struct sfi_device_part *part) {
     const struct sfi_device_plugin *plugin = &all->plugins[number];
     const struct sfi_device_store *store = &plugin->store;
@@ -91,6 +92,7 @@ static bool accept(struct sfi_device_plugins *all, uint32_t number, uint32_t are
     return store->flash->read(store->host, store->areas[area], plugin->image, length) &&
            sfi_device_check(plugin->image, length, between_pieces, all, &verdict) == SFI_DEVICE_DONE && verdict.sandboxes == 1 &&
            sfi_device_tell(plugin->image, length, 0, part) == SFI_DEVICE_DONE && lies_in(part, &plugin->place) &&
+           part->format != SFI_DEVICE_FORMAT_OF_SINGLE_MASKS &&
            sfi_device_close_guards(number, part).status == SFI_DEVICE_DONE; /* a port may ask for a format */
 }
 

@@ -29,6 +29,7 @@ enum {
     SFI_DEVICE_FORMAT_1 = 1,        /* of bundles */
     SFI_DEVICE_FORMAT_2 = 2,
     SFI_DEVICE_FORMAT_OF_WORDS = 3,
+    SFI_DEVICE_FORMAT_OF_SINGLE_MASKS = 4, /* words, too; the addresses below data_size + 4096 and the last 4096 are a guard zone */
     SFI_DEVICE_GUARD_ZONE = 4096,   /* on each side of the data: every access there has to trap, and the sandbox ends by it */
     SFI_DEVICE_ARGUMENTS = 8        /* of an entry: a0 to a7 */
 };
@@ -51,7 +52,9 @@ enum sfi_device_status {
     SFI_DEVICE_BAD_PLACE,           /* no image can have its data there: their size is no power of two from 256 on, they don't begin
                                        at a multiple of it, or a guard zone lies outside the addresses */
     SFI_DEVICE_BAD_STORE,           /* sfi_device_store_open refuses the store of plug-in `other` */
-    SFI_DEVICE_BUSY                 /* it is called within a call of its kind */
+    SFI_DEVICE_BUSY,                /* it is called within a call of its kind */
+    SFI_DEVICE_NO_ZONE_AT_ZERO      /* of the fourth format: the port doesn't close the zone at zero, below the data's size + 4096 and
+                                       the last 4096 addresses, or the host lies there */
 };
 
 /* What a fault's status doesn't speak of is 0. */
@@ -66,7 +69,7 @@ struct sfi_device_gate {
 
 /* What the image says of a sandbox. */
 struct sfi_device_part {
-    uint32_t format; /* that of the image: 1 for SFI1, 2 for SFI2, 3 for SFIW */
+    uint32_t format; /* that of the image: 1 for SFI1, 2 for SFI2, 3 for SFIW, 4 for SFIS */
     uint32_t code_base, code_size, data_base, data_size, start, gate_count, first_count;
     const uint8_t *code, *first; /* in the image's own bytes, which no sandbox can write */
     struct sfi_device_gate gates[SFI_DEVICE_GATES_MOST];
@@ -129,7 +132,7 @@ struct sfi_device_firmware {
     void (*interrupt_after)(uint32_t ticks);    /* has the timer interrupt, once; NULL: something else ends turns */
     /* Quiets an interrupt other than the timer's, of that cause without its highest bit, and says whether it is one of the
        firmware's: then the turn goes on, else the sandbox ends. It must not know one by which the processor tells of an
-       access that failed: going on then lets code of the third format out. NULL where it has none */
+       access that failed: going on then lets code in words out. NULL where it has none */
     bool (*answer_interrupt)(uint32_t cause);
 };
 
@@ -145,7 +148,7 @@ enum sfi_device_status sfi_device_check(const uint8_t *image, uint32_t length, v
 /* Tells the accepted image's sandbox of that number. DONE, NO_SANDBOX, NOT_ACCEPTED where that address and length aren't those
    of the image that was judged last, and accepted, or CHECKER_STOPPED. */
 enum sfi_device_status sfi_device_tell(const uint8_t *image, uint32_t length, uint32_t number, struct sfi_device_part *part);
-/* No region and no guard zone of one of them meets one of the other. False within a check. */
+/* No region and no guard zone of one of them, nor zone at zero, meets a region or guard zone of the other. False within a check. */
 bool sfi_device_are_apart(const struct sfi_device_part *one, const struct sfi_device_part *other);
 /* In moving.o alone: has the image's sandbox of that number lie at another place, in its bytes. False, and none of them is
    changed, where it can't lie there, or tell says NOT_ACCEPTED. */
@@ -182,8 +185,9 @@ bool sfi_device_function_at(const struct sfi_device_part *part, uint32_t address
 
 /* ---- Ports: pmp.c, for code in M-mode; none.c, for a chip without physical memory protection; sv32.c has a header */
 
-/* Closes the guard zones of the sandbox of that number, once sfi_device_write_protection is called. DONE, NO_GUARDS or NO_ENTRY.
-   pmp.c looks at the part's data_base and data_size alone: they may be a place in which each version of a plug-in has to lie. */
+/* Closes the guard zones of the sandbox of that number, once sfi_device_write_protection is called. DONE, NO_GUARDS, NO_ENTRY,
+   BAD_PLACE or NO_ZONE_AT_ZERO, by both of a part of the fourth format.
+   pmp.c looks at the part's format, data_base and data_size alone: they may be a place in which each version of a plug-in has to lie. */
 struct sfi_device_fault sfi_device_close_guards(uint32_t number, const struct sfi_device_part *part);
 /* Writes all SFI_DEVICE_PMP_ENTRIES entries: those that nobody asked for are turned off, where they aren't locked. Called with
    interrupts off. DONE, OTHER_RULES or ENTRY_DIFFERS. */
@@ -205,8 +209,8 @@ struct sfi_device_span {
    closed. A mirror behind a data cache can't be seen so. DONE or IS_MIRRORED. */
 struct sfi_device_fault sfi_device_try_mirrors(const struct sfi_device_part *part, const struct sfi_device_span spans[],
                                                uint32_t count, uint32_t (*host_address)(uint32_t address));
-/* Tries that loads at both ends of each guard zone trap, and none at the ends of the data; of the part it looks at data_base and
-   data_size alone. When all is as sandboxes will find it, before an interrupt is on but the timer's. DONE, GUARD_IS_OPEN or DATA_IS_CLOSED. */
+/* Tries that loads at both ends of each guard zone trap, and none at the ends of the data; of the part it looks at format, data_base
+   and data_size alone. When all is as sandboxes will find it, before an interrupt is on but the timer's. DONE, GUARD_IS_OPEN or DATA_IS_CLOSED. */
 struct sfi_device_fault sfi_device_try_guards(const struct sfi_device_firmware *firmware, const struct sfi_device_part *part);
 
 /* ---- What the firmware may define: weak names, which are called where they are there. For the sake of a weak name a linker

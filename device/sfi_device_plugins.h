@@ -23,7 +23,8 @@ extern "C" {
 
 enum sfi_device_plugin_news {
     SFI_DEVICE_PLUGIN_STARTS,
-    SFI_DEVICE_PLUGIN_IS_REFUSED,   /* it isn't accepted, or may not lie where it does, or its code can't be written */
+    SFI_DEVICE_PLUGIN_IS_REFUSED,   /* it isn't accepted, or in the fourth format, or may not lie where it does, or its code can't
+                                       be written */
     SFI_DEVICE_PLUGIN_IS_KEPT,
     SFI_DEVICE_PLUGIN_GAVE_UP       /* it stopped, or had its turns, before it reported */
 };

@@ -50,7 +50,8 @@ struct sfi_device_slots {
 /* What came of an update. */
 enum sfi_device_update {
     SFI_DEVICE_STARTED,             /* it is on trial */
-    SFI_DEVICE_UPDATE_REFUSED,      /* the checker's status and the verdict say why */
+    SFI_DEVICE_UPDATE_REFUSED,      /* the checker's status and the verdict say why; NO_ZONE_AT_ZERO, of an accepted image, that it
+                                       is in the fourth format */
     SFI_DEVICE_NOT_ONE_PLUGIN,      /* it has more than one sandbox */
     SFI_DEVICE_NOT_ITS_PLACE,       /* its code isn't where plug-ins' code is, or its data aren't the slot's */
     SFI_DEVICE_NOT_APART,           /* it meets a version that another slot keeps */

@@ -23,7 +23,8 @@ struct sfi_device_sv32 {
     uint32_t small_count;
 };
 
-/* Maps a sandbox, with its code and first data. DONE, CODE_IS_HOST, DATA_IS_HOST, NO_ENTRY where no entry of PMP or page of
+/* Maps a sandbox, with its code and first data. DONE, CODE_IS_HOST, DATA_IS_HOST, NO_ZONE_AT_ZERO where the host lies
+   in that of the fourth format, NO_ENTRY where no entry of PMP or page of
    the window is left for a data region below 4096 bytes, or NO_MEMORY where no page is. */
 struct sfi_device_fault sfi_device_sv32_map(struct sfi_device_sv32 *space, const struct sfi_device_part *part);
 /* A page of the host's own that can be executed there, as the host can write it; NULL where none is left, or the host's own

@@ -180,6 +180,10 @@ static enum sfi_device_update accept(const struct sfi_device_slots *all, uint32_
     if (sfi_device_tell(image, length, 0, &part) != SFI_DEVICE_DONE ||
         sfi_device_tell(image, length, 1, &further) != SFI_DEVICE_NO_SANDBOX)
         return SFI_DEVICE_NOT_ONE_PLUGIN;
+    if (part.format == SFI_DEVICE_FORMAT_OF_SINGLE_MASKS) {
+        *status = SFI_DEVICE_NO_ZONE_AT_ZERO; /* the firmware has closed the guard zones beside the data alone */
+        return SFI_DEVICE_UPDATE_REFUSED;
+    }
     if ((moves && !move_to_slot(slot, image, length, &part)) || !is_its_place(all, number, &part))
         return SFI_DEVICE_NOT_ITS_PLACE;
     struct sfi_bounds bounds = {part.format, part.code_base, part.code_size, part.data_base, part.data_size};

@@ -46,20 +46,22 @@ c_image() { # a program, a format, the image's file; fails where a compiler isn'
         "$programs/../../tools/sfi-cc" --program "$SFI" --format "$2" -O2 -fno-tree-loop-distribute-patterns -o "$3" "$programs/$1.c"
 }
 
-formats="1 2 words"
+formats="1 2 words" # where places are stated that the fourth format, whose data begin at a single bit, hasn't
+all_formats="$formats single"
 
-# What compilers make is tried in words each time, and in bundles by turns, of which the number of commits says whose it is: all
-# have it where EACH_FORMAT is set (by `./test --all`), or git knows no commits.
+# What compilers make is tried in words each time, and in other formats by turns, of which the number of commits says whose it is:
+# all have it where EACH_FORMAT is set (by `./test --all`), or git knows no commits.
 commits=$(git -C "$programs" rev-list --count HEAD 2>"$room/which") || EACH_FORMAT=1
 is_due() { # a format, a test's number, and one of how many has its turn
-    [ "$1" = words ] || [ -n "${EACH_FORMAT:-}" ] || [ $(((commits + $2 + ($1 - 1) * $3 / 2) % $3)) = 0 ]
+    local -A after=([1]=0 [2]=$(($3 / 2)) [single]=$(($3 / 4)))
+    [ "$1" = words ] || [ -n "${EACH_FORMAT:-}" ] || [ $(((commits + $2 + after[$1]) % $3)) = 0 ]
 }
 
 due() { # one of how many has its turn; tests: a line for each of them and each format that it is tried in
     local count=$1 number=0 name format
     shift
     for name; do
-        for format in $formats; do ! is_due "$format" "$number" "$count" || echo "$name $format"; done
+        for format in $all_formats; do ! is_due "$format" "$number" "$count" || echo "$name $format"; done
         number=$((number + 1))
     done
 }

@@ -3,7 +3,7 @@
 
     fuzz/beside.py [--library PATH] [--program PATH] [--rounds N] [--seconds S] [--plant FAULT] [SEED ..]
 
-Each case is the life of a world of libsfi_run: modules of the examples, in the three formats and at different places, are added to it,
+Each case is the life of a world of libsfi_run: modules of the examples, in the four formats and at different places, are added to it,
 and its sandboxes are removed, in any order; meanwhile they get turns, also up to addresses, replies, exits, callbacks, registers,
 entries, stops, resets, reads and writes. Each sandbox has a twin in a world of its own, which gets the same calls. After each
 call the answers have to be the same, and of each sandbox the event, steps, registers, and data. What an add answers is as the regions
@@ -32,6 +32,7 @@ MOST = (1 << 32) - 1
 SLOTS = 24  # so many places at which code may lie, and so many for data
 CODE, DATA = 0x02000000, 0x40000000
 OFFSETS = 12  # of an image's places from those, in units of 1024 bytes
+LOWEST_BIT = 27  # of data where masks are single: above the code
 PIECE = 1024  # how many bytes of a larger data region are compared after each call
 SANDBOX_KINDS = dict(turn=24, until=6, event=2, reply=16, exit=3, call_back=6, set_registers=5, stop=3, reset=4, read=6, write=6,
                      enter=6, call=4)
@@ -143,10 +144,12 @@ class Beside:
         code_step, data_step = (2 * max(sizes) for sizes in zip(*((it.code_size, it.data_size) for it in parts)))
         code, data = (self.pick.sample(range(SLOTS), len(parts)) for _ in range(2))
         offset = 1024 * self.pick.randrange(OFFSETS)
+        bits = self.pick.sample(range(LOWEST_BIT, 32), len(parts))
 
         def place_of(part):
             code_at, data_at = code_step * code.pop() + offset, (data_step + 2 * layout.GUARD) * data.pop() + offset
-            return CODE + code_at // part.code_size * part.code_size, DATA + data_at // part.data_size * part.data_size
+            data_base = 1 << bits.pop() if part.format == layout.SINGLE else DATA + data_at // part.data_size * part.data_size
+            return CODE + code_at // part.code_size * part.code_size, data_base
 
         return layout.moved(image, place_of)
 

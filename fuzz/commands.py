@@ -3,7 +3,7 @@
 
     fuzz/commands.py [--program PATH] [--rounds N] [--seconds S] [--plant RULE] [SEED ..]
 
-Each case is an image in one of the three formats (of odd code, or an accepted one with changes), given as text of random
+Each case is an image in one of the four formats (of odd code, or an accepted one with changes), given as text of random
 spelling, now and then with a wrong digit, or as its bytes, to a command with random options, or to words that are no
 command. Compared are the status, the verdict with its first finding, and the report. What is expected comes from
 bench/checker.c, bench/word_rules.py and tools/suygapid/image/layout.py. `--plant V5` leaves rule V5 out of these: then it has to fail.
@@ -19,7 +19,7 @@ import verdicts
 import measure
 
 SPACES = " \t\r\n"
-MAGICS = (b"SFI1", b"SFI2", b"SFIW")
+MAGICS = (b"SFI1", b"SFI2", b"SFIW", b"SFIS")
 VERDICTS = ("check", "check --report", "check --raw")
 REFUSED = ("run", "convert", "dis")
 FAULTS, USAGE, BUILD = "input that isn't hexadecimal", "words that are no command", "texts that are no source"

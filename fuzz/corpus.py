@@ -14,7 +14,7 @@ import odd_words
 from suygapid.image import layout
 
 EXAMPLES = os.path.join(fuzzing.TOP, "examples")
-FORMAT_LINES = (b".format 1\n", b".format 2\n", b".format words\n")
+FORMAT_LINES = (b".format 1\n", b".format 2\n", b".format words\n", b".format single\n")
 MAGICS = list(images.MAGICS.values()) + [b"SFI3", b"sfi1"]
 EBREAK, NOP, SHORT_EBREAK, SHORT_NOP = 0x00100073, 0x13, 0x9002, 0x0001
 
@@ -34,11 +34,11 @@ def examples(program):
     return [bytes.fromhex("".join(it.lines)) for it in made if it.status == 0]
 
 
-def small_accepted(pick):
-    """A small image of random code that is accepted, in any format."""
-    format = pick.choice([1, 2, 3])
-    if format == 3 and pick.random() < 0.7:
-        return odd_words.image([odd_words.made_code(pick, 256) for _ in range(pick.choice([1, 1, 2]))])
+def small_accepted(pick, formats=tuple(images.MAGICS)):
+    """A small image of random code that is accepted, in one of these formats."""
+    format = pick.choice(formats)
+    if format in odd_words.PIECES and pick.random() < 0.7:
+        return odd_words.image([odd_words.made_code(pick, 256, format) for _ in range(pick.choice([1, 1, 2]))], format)
     return random_accepted(pick, format)
 
 
@@ -70,7 +70,7 @@ def odd(pick):
     """An image of odd code, or what was made of one, in any format."""
     if pick.random() < 0.5:
         return odd_images.small_image(pick.getrandbits(32))
-    return odd_words.image(odd_words.small_sandboxes(pick.getrandbits(32)))
+    return odd_words.small_image(pick.getrandbits(32), pick.choice([*odd_words.PIECES]))
 
 
 # ---- changes
@@ -84,8 +84,8 @@ def with_word(pick, data):
 
 def with_piece(pick, data):
     """The same with an instruction that the rules look at in some place."""
-    pieces = odd_words.Pieces(pick, 256) if data[3:4] == b"W" else odd_images.Pieces(pick)
-    arguments = (0,) if data[3:4] == b"W" else ()
+    in_words = odd_words.PIECES.get(layout.FORMATS.get(data[:4]))
+    pieces, arguments = (in_words(pick, 256), (0,)) if in_words else (odd_images.Pieces(pick), ())
     piece = pick.choice(pieces.makers)(*arguments)
     at = pick.randrange(36, max(37, len(data) - len(piece))) & ~1
     return data[:at] + piece + data[at + len(piece) :]
@@ -151,7 +151,7 @@ def mend_one(changed, part, place, rule):
         changed[begin + place : begin + place + 16] = odd_images.STUB
         return
     length = 4 if part.code[place] & 3 == 3 and rule not in ("V1", "V2") else 2
-    if part.format == 3:
+    if part.format in odd_words.PIECES:
         place, length = place & ~3, 4
         if rule in ("V10", "V11") and place:
             changed[begin + place - 4 : begin + place] = nops(4)

@@ -3,11 +3,11 @@
 
     fuzz/escapes.py [--program PATH] [--rounds N] [--seconds S] [--plant RULE] [SEED ..]
 
-Each case is an image in one of the three formats that `sfi check` accepts: random code in which findings were mended until there
+Each case is an image in one of the four formats that `sfi check` accepts: random code in which findings were mended until there
 was none, or an accepted image with changes. Each sandbox is entered at random places with random registers, as far as its format
 allows, and run by fuzz/machine.py on data of addresses and random bytes; others change data at random, and a host's reply changes
 all registers that it may. No run may leave the code, reach what is no instruction, call at no gate, write a reserved register, or
-access anything but the data and the guard zones, where it traps. In half of the runs the result of each computation but and, or
+access anything but the data and the guard zones (with single masks also that at zero), where it traps. In half of the runs the result of each computation but and, or
 and addi, and whether a branch is taken, is random: no rule knows of these. `--plant V5` takes images that break rule V5 alone:
 then it has to find an escape.
 """
@@ -26,13 +26,12 @@ import word_rules
 from suygapid.image import layout
 from suygapid.isa.decoding import LOADS, WIDTHS
 
-NAMES = ["verdicts of images in the first format", "verdicts of images in the second format", "verdicts of images in words",
-         "runs in the first format", "runs in the second format", "runs in words"]
+IN_FORMAT = {1: "in the first format", 2: "in the second format", 3: "in words", 4: "with single masks"}
+NAMES = [f"{what} {it}" for what in ("verdicts of images", "runs") for it in IN_FORMAT.values()]
 MOST_ENTRIES, STEPS, NEAR, MASK = 64, 150, 1020, 0xFFFFFFFF
 FIRST_RESERVED = 24
 DATA_REGISTERS = {layout.WORDS: word_rules.WORDS.data_registers, layout.SINGLE: word_rules.SINGLE.data_registers}
 KNOWN = ("and", "or", "addi")  # the computations whose results the rules count on
-IN_FORMAT = {1: "in the first format", 2: "in the second format", 3: "in words"}
 
 
 class Hostile(machine.Machine):
@@ -142,13 +141,13 @@ def candidate(pick, program):
     """An image that may be mended to an accepted one."""
     if pick.random() < 0.3:
         return corpus.mutant(pick, corpus.accepted(pick, program), tuple(corpus.CODE_CHANGES))
-    return random_image(pick, pick.choice([1, 2, 3, 3]))
+    return random_image(pick, pick.choice([1, 2, 3, 3, 4, 4]))
 
 
 def random_image(pick, format):
     if format < 3:
         return odd_images.odd_image(pick.getrandbits(32), pick.choice([1, 2]), 256, format)
-    return odd_words.image(odd_words.small_sandboxes(pick.getrandbits(32)))
+    return odd_words.small_image(pick.getrandbits(32), format)
 
 
 def try_image(pick, data, findings, planted, tally):

@@ -4,7 +4,7 @@ changed.
 
     fuzz/mutants.py [--program PATH] [--rounds N] [--seconds S] [--plant RULE] [SEED ..]
 
-Each case is an image of the examples, or a small one of random code, in one of the three formats, with changes. Every command
+Each case is an image of the examples, or a small one of random code, in one of the four formats, with changes. Every command
 gets it: none may crash, and each has to end in the status that README.md has for it. The verdict has to be the one that
 bench/checker.c, bench/word_rules.py and tools/suygapid/image/layout.py give; `check`, `check --raw` and `check --report` have to agree; what
 is accepted is run as bench/interpreter.c runs it, and of the first format converted to an image that is accepted, too; what
@@ -24,6 +24,7 @@ from suygapid.image import layout
 
 NAMES = ["statuses", "check", "check --raw", "check --report", "the report", "the layout by checker.c", "dis", "run",
          "run of what is accepted", "run --report", "convert", "what is converted"]
+IN_WORDS = (b"SFIW", b"SFIS")
 COMMANDS = ["check", "check --report", "dis", "run", "convert"]
 
 
@@ -64,17 +65,19 @@ class Mutants:
             expected, found = self.judge.report(data), report.lines[:-1]
             found = [begun if verdicts.is_line(begun, line) else line for begun, line in zip(expected, found)]
             self.see("the report", expected, found, data)
-        if data[:4] != b"SFIW" and not self.judge.but:
+        if data[:4] not in IN_WORDS and not self.judge.but:
             self.see("the layout by checker.c", verdict.line, self.judge.c_verdict(data), data)
 
     def see_listing(self, data, verdict, ended):
-        """An image is listed whether a rule is broken in it or not: a line for each instruction, and a first one."""
+        """An image is listed whether a rule is broken in it or not: a line for each instruction, and a first one. What comes after bytes
+        that can't be read isn't listed to the end of its bundle."""
         if verdict.status == 2:
             self.see("dis", (2, [verdict.line]), tuple(ended), data)
             return
         format = layout.parts(data)[0].format
-        front = {1: [], 2: ["format SFI2"], 3: ["format SFIW"]}[format]
-        least = sum(part.code_size for part in layout.parts(data)) // 4
+        front = {1: [], 2: ["format SFI2"], 3: ["format SFIW"], 4: ["format SFIS"]}[format]
+        unread = sum(rule in ("V1", "V2") for *_, rule in verdict.findings)
+        least = sum(part.code_size for part in layout.parts(data)) // 4 - 4 * unread
         self.see("dis", (0, front, True), (ended.status, ended.lines[: len(front)], len(ended.lines) >= least), data)
 
     def see_run(self, data, verdict, turns, ended):
@@ -93,7 +96,7 @@ class Mutants:
             expected = (2, ["convert fault 2 NotOld"])
         elif verdict.status:
             expected = (verdict.status, [verdict.line])
-        elif data[:4] == b"SFIW":
+        elif data[:4] in IN_WORDS:
             expected = (2, ["convert fault 5 Words"])
         elif self.judge.verdict(second).status:
             expected = (1, [self.judge.verdict(second).line])

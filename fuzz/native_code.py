@@ -3,8 +3,8 @@
 
     fuzz/native_code.py [--library PATH] [--commands PATH] [--program PATH] [--rounds N] [--seconds S] [--plant] [SEED ..]
 
-Each case is an image that is accepted, in one of the three formats: an example, random code, or one of these with changes; its data are
-whole pages. It is run by libsfi_run_native, which is made of --library and --commands, and by libsfi_run. Both get the same calls:
+Each case is an image that is accepted, in one of the three formats that have native code: an example, random code, or one of these
+with changes; its data are whole pages. It is run by libsfi_run_native, which is made of --library and --commands, and by libsfi_run. Both get the same calls:
 turns of a few or many steps, replies, exits, callbacks, other registers, entries, stops, resets, other data; signals come meanwhile.
 After each call the answers are compared, and of each sandbox the event, steps, pc, registers and data. Then it is run by the
 console's services in both ways, and by `sfi run`: the lines are compared, with pc, registers and data. With --plant native code gets
@@ -96,6 +96,11 @@ def with_pages(pick, data):
     return data if natively.has_pages(data) else None
 
 
+def has_native_code(image):
+    """Whether the image is in a format of which native code is made."""
+    return layout.parts(image)[0].format in FORMATS
+
+
 def without_code(image):
     """What is the same of images that differ in their code alone."""
     for part in layout.parts(image):
@@ -124,7 +129,7 @@ class Images:
     def make(self, pick):
         while True:
             found = self.small(pick)
-            if found and self.judge.verdict(found).status == 0 and (larger := with_pages(pick, found)):
+            if found and self.judge.verdict(found).status == 0 and has_native_code(found) and (larger := with_pages(pick, found)):
                 return larger
 
     def with_another_instruction(self, pick, image):

@@ -1,5 +1,5 @@
 #!/usr/bin/env python3
-"""Whether tools/second_checker.py, which was written from docs/IMAGE.md alone, says what `sfi check` says, and what
+"""Whether tools/second_checker.py, which shares no code with the proved one, says what `sfi check` says, and what
 bench/checker.c says of code in bundles.
 
     fuzz/second.py [--program PATH] [--rounds N] [--seconds S] [--without RULE] [SEED ..]
@@ -35,6 +35,7 @@ EXAMPLES, LARGE, KINDS = "examples", "large images", "the kinds of bench/images.
 VERDICTS, FINDINGS, WAYS = "verdicts in C", "findings in C", "both ways in C"
 IN_C = [VERDICTS, FINDINGS, WAYS]
 NAMES = [TEXTS, BYTES, FAULTS, EXAMPLES, LARGE, KINDS]
+IN_WORDS = [images.MAGICS[it] for it in odd_words.PIECES]
 BATCH = 2000  # cases that are handed out at a time
 
 
@@ -74,7 +75,7 @@ class CheckerInC:
 
     def see_verdicts(self, cases):
         """Compares the verdicts of those images that are in bundles: of each case its name, the image and the verdict's line."""
-        cases = [it for it in cases if it[1][:4] != images.MAGICS[3]]
+        cases = [it for it in cases if it[1][:4] not in IN_WORDS]
         for way in self.ways.values():
             found = ([line] for line in self.verdicts(way, [data for _, data, _ in cases]))
             for (self.tally.case, data, verdict), line in itertools.zip_longest(cases, found, fillvalue=("", b"", None)):
@@ -117,15 +118,15 @@ def compared(program, without, case):
 
 def kinds(seed):
     """An image of each kind in each format."""
-    return [images.image(kind, 1, 16384, 3, format, seed) for kind in images.KINDS for format in (1, 2, 3)]
+    return [images.image(kind, 1, 16384, 3, format, seed) for kind in images.KINDS for format in images.MAGICS]
 
 
 def odd_ones(seed):
     """A large image of odd code in each format."""
-    in_words = odd_words.large_sandboxes(seed)
+    in_words, single = odd_words.large_sandboxes(seed), odd_words.large_sandboxes(seed, images.SINGLE)
     longest = in_words[0][0] + odd_words.EBREAK * 31 * 16384  # 2 MiB, which code in words alone may have
     made = [*(odd_images.odd_image(seed, 2, 65536, format) for format in (1, 2)), odd_words.image(in_words), odd_words.image([(longest, [])])]
-    return [*made, images.MAGICS[2] + made[-1][4:]]
+    return [*made, images.MAGICS[2] + made[-1][4:], odd_words.image(single[:11], images.SINGLE), odd_words.image(single, images.SINGLE)]
 
 
 def compare_whole(program, without, tally, in_c, seed):
@@ -135,7 +136,7 @@ def compare_whole(program, without, tally, in_c, seed):
             status, lines = expected(data, without)
             tally.see(name, (0 if name == KINDS else status, lines), program_says(program, ["check", "--report"], data.hex().encode()), data)
             tally.see(BYTES, (status, lines[-1:]), program_says(program, ["check", "--raw"], data), data)
-            if in_c and data[:4] != images.MAGICS[3]:
+            if in_c and data[:4] not in IN_WORDS:
                 in_c.see_findings(data, lines)
                 in_c.see_verdicts([(tally.case, data, lines[-1:])])
 

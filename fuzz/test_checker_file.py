@@ -110,7 +110,7 @@ class CheckerFile(testing.Folder):
 
     def compare_moved(self, library, data, number, part):
         """Its bases, start, gates and names at another place, as docs/IMAGE.md has them in the bytes."""
-        code_base, data_base = 0xE0000000, 0xF0000000 if part.data_size < 1 << 28 else 0x80000000
+        code_base, data_base = 0xE0000000, data_place(part, layout.parts(data))
         front = part.code_offset - 28 - 8 * len(part.gates)
         wanted = bytearray(data)
         places = [(front, code_base), (front + 8, data_base), (front + 16, part.start - part.code_base + code_base)]
@@ -122,6 +122,13 @@ class CheckerFile(testing.Folder):
         image = ctypes.create_string_buffer(data, len(data))
         self.assertEqual(library.sfi_c_move(image, ctypes.c_size_t(len(data)), number, code_base, data_base), 0)
         self.assertEqual(image.raw, bytes(wanted))
+
+
+def data_place(part, parts):
+    """Where else its data have room: with single masks at a bit that none of the parts has, else high up."""
+    if part.format != layout.SINGLE:
+        return 0xF0000000 if part.data_size < 1 << 28 else 0x80000000
+    return next(1 << bit for bit in range(30, 0, -1) if all(it.data_base != 1 << bit for it in parts))
 
 
 def names_there(part, code_base, data_base):

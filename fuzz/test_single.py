@@ -1,5 +1,5 @@
-"""Tests of code in words with single masks, which the program doesn't know yet: of random code the second checker says what
-bench/word_rules.py says, and what it accepts keeps to its sandbox on fuzz/machine.py, and without one of its rules it doesn't."""
+"""Tests of code in words with single masks, without the program: of random code the second checker says what bench/word_rules.py says,
+and what it accepts keeps to its sandbox on fuzz/machine.py, and without one of its rules it doesn't."""
 import random
 import unittest
 
@@ -13,25 +13,6 @@ from suygapid.image import layout
 CODE, SIZE, DATA_SIZE, ENTRIES = 0xC1000000, 256, 256, 40
 COMPARED, ROUNDS, PLANTED_ROUNDS = 400, 60, 300
 RIGHT, BOTH = 1 << 30, (1 << 30) + 0x1000  # a data base that is a single bit, and one that has another
-DATA_REGISTERS = escapes.DATA_REGISTERS[layout.SINGLE]
-REGISTERS = [*odd_words.REGISTERS, 26, 31, 31]
-
-
-class Pieces(odd_words.Pieces):
-    """With single masks in the place of others."""
-
-    def register(self):
-        return self.pick.choice(REGISTERS)
-
-    def target_register(self):
-        return self.pick.choice(DATA_REGISTERS)
-
-    def put_back(self, target):
-        return odd_words.and_(self.nearly(target, 10), self.register(), self.nearly(27, 25))
-
-    def placed(self, _at):
-        target = self.target_register()
-        return odd_words.and_(target, self.register(), self.nearly(27, 26)) + self.access(0, target) * self.pick.randrange(2)
 
 
 def findings(code, gates, but):
@@ -51,7 +32,7 @@ def mended(code, gates, but):
 
 def part_of(pick, but=(), data_base=RIGHT):
     gates = odd_words.gate_places(pick, SIZE)
-    code = mended(odd_words.with_calls(Pieces(pick, SIZE).code(), gates), gates, but)
+    code = mended(odd_words.with_calls(odd_words.SinglePieces(pick, SIZE).code(), gates), gates, but)
     return layout.Part(CODE, code, data_base, DATA_SIZE, CODE, {CODE + place: 1 for place in gates}, format=layout.SINGLE)
 
 
@@ -76,7 +57,7 @@ class Verdicts(unittest.TestCase):
         seen = set()
         for seed in range(COMPARED):
             pick = random.Random(seed)
-            gates, code = odd_words.gate_places(pick, SIZE), Pieces(pick, SIZE).code()
+            gates, code = odd_words.gate_places(pick, SIZE), odd_words.SinglePieces(pick, SIZE).code()
             sandbox = second_checker.Sandbox(CODE, frozenset(CODE + place for place in gates), code)
             found = [(it.place, it.rule) for it in second_checker.findings_in_words(second_checker.Single, sandbox)]
             self.assertEqual(found, word_rules.findings(code, gates, rules=word_rules.SINGLE), seed)
@@ -91,7 +72,7 @@ class Escapes(unittest.TestCase):
             pick = random.Random(seed)
             part = part_of(pick)
             image = layout.spelled(b"SFIS", [part])
-            self.assertEqual(second_checker.judged(image, second_checker.PREPARED), (0, ["accepted sandboxes=1 bundles=16"]))
+            self.assertEqual(second_checker.judged(image), (0, ["accepted sandboxes=1 bundles=16"]))
             self.assertEqual(escape(part, pick), None, f"{seed}: {image.hex()}")
         self.assertGreater(Watched.count, ROUNDS)
 

@@ -16,7 +16,14 @@ from suygapid.image import layout
 with open(os.path.join(fuzzing.TOP, "docs", "IMAGE.md"), encoding="utf-8") as file:
     IN_BUNDLES, IN_WORDS = (dict(re.findall(r"^\| (V\d+) \| `(\w+)` \|", text, re.MULTILINE))
                             for text in file.read().split("\n## Code in words\n"))
-NAMES = {1: {rule: name for rule, name in IN_BUNDLES.items() if rule != "V10"}, 2: IN_BUNDLES, 3: IN_WORDS}  # by format
+
+
+def without(rules, left):
+    return {rule: name for rule, name in rules.items() if rule != left}
+
+
+NAMES = {1: without(IN_BUNDLES, "V10"), 2: IN_BUNDLES, 3: IN_WORDS, 4: without(IN_WORDS, "V12")}  # by format
+RULES = {layout.WORDS: word_rules.WORDS, layout.SINGLE: word_rules.SINGLE}
 
 
 @dataclasses.dataclass(frozen=True)
@@ -47,7 +54,7 @@ def no_image(fault):
 
 def findings_in_words(number, part, but):
     gates = [address - part.code_base for address in part.gates]
-    return [(number, part.code_base + place, rule) for place, rule in word_rules.findings(part.code, gates, but)]
+    return [(number, part.code_base + place, rule) for place, rule in word_rules.findings(part.code, gates, but, RULES[part.format])]
 
 
 def finding_of_line(line):
@@ -69,7 +76,7 @@ class Judge:
             parts = layout.parts(data)
         except layout.Fault as fault:
             return no_image(fault.number)
-        if parts[0].format == 3:
+        if parts[0].format in RULES:
             found = [it for n, part in enumerate(parts) for it in findings_in_words(n, part, self.but)]
         else:
             found = self.findings_in_bundles(data)

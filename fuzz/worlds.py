@@ -10,11 +10,13 @@ import subprocess
 
 import fuzzing
 import machine
+import word_rules
 from suygapid.image import layout
 
 NONE, READY, CALL, EXITED, TRAPPED, STOPPED = range(6)
 CHANGED, NO_WORLD, NO_MODULE, NO_SANDBOX, MEETS, FULL, NO_MEMORY = range(7)
-SLACK = 1020  # how far off the data the address in a data register may be, in the third format
+SLACK = 1020  # how far off the data the address in a data register may be, in words
+DATA_REGISTERS = {layout.WORDS: word_rules.WORDS.data_registers, layout.SINGLE: word_rules.SINGLE.data_registers}
 Event = collections.namedtuple("Event", "kind number gate pc a0 a1 a2 a3 a4 a5 a6 a7", defaults=[0] * 11)
 HEADER = os.path.join(fuzzing.TOP, "crates", "sfi_run", "include", "sfi_run.h")
 FILL = 0xA5  # what a buffer holds before a read
@@ -33,7 +35,7 @@ class Sandbox(machine.Machine):
         self.x, self.pc, self.ended = [0] * 32, pc, None
         self.x[2] = part.data_base + part.data_size - 16
         self.x[24:28] = part.reserved()
-        if part.format == 3:
+        if part.format in DATA_REGISTERS:
             self.x[3] = self.x[4] = self.x[29] = part.data_base
             self.x[30] = pc
 
@@ -48,16 +50,20 @@ class Sandbox(machine.Machine):
         return asked if asked + 16 <= self.part.data_size else 0
 
     def is_near(self, address):
-        return self.part.data_base <= address + SLACK and address < self.part.data_base + self.part.data_size + SLACK
+        """Whether a data register may hold it: near the data or, with single masks, near the addresses below the data's size."""
+        bases = (self.part.data_base, 0, layout.ADDRESSES)[:3 if self.part.format == layout.SINGLE else 1]
+        return any(-SLACK <= address - base < self.part.data_size + SLACK for base in bases)
 
     def may_hold(self, pc, x):
         """Whether it may be ready with this pc and these registers, as at an entry."""
         part = self.part
-        if pc % part.unit() or not part.has_code(pc) or x[24:28] != part.reserved():
+        data_registers = DATA_REGISTERS.get(part.format, ())
+        reserved = all(it in data_registers or x[it] == value for it, value in enumerate(part.reserved(), 24))
+        if pc % part.unit() or not part.has_code(pc) or not reserved:
             return False
-        if part.format == 3:
-            near = all(self.is_near(x[it]) for it in (2, 3, 4, 29))
-            return near and x[30] % 4 == 0 and part.has_code(x[30]) and x[31] < part.data_size
+        if data_registers:
+            is_offset = 31 in data_registers or x[31] < part.data_size
+            return all(self.is_near(x[it]) for it in data_registers) and x[30] % 4 == 0 and part.has_code(x[30]) and is_offset
         return part.format == 1 or part.has_data(x[2], 1)
 
     def event(self):

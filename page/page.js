@@ -71,7 +71,7 @@ function judge() {
         now.findings.set(place, [...(now.findings.get(place) || []), { rule }]);
     }
     if (listing.status === 0) {
-        now.isWords = listing.text.startsWith("format SFIW");
+        now.isWords = /^format SFI[WS]/.test(listing.text);
         now.sandboxes = parseListing(listing.text);
     }
     $("listing").classList.toggle("stale", listing.status !== 0);

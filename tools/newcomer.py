@@ -2,7 +2,7 @@
 """Tries a release as people do who have Debian, and nothing of this repository or its toolchain. By hand, for a release: the gate
 tries less, by tools/release_trial.py and tools/package_trial.py.
 
-    tools/newcomer.py RELEASE [FOLDER]      # RELEASE has what tools/release.py made; FOLDER keeps Debian, out/debian if absent
+    tools/newcomer.py RELEASE [FOLDER [WAY]..]   # RELEASE has what tools/release.py made; FOLDER keeps Debian, out/debian if absent
 
 Each way to get the release has a root of its own, which debootstrap made, and there a user without rights and network. What the
 user does stands in README.md, docs/C.md, docs/EMBEDDING.md and the bindings' README.md of the release, from which the commands and
@@ -34,6 +34,17 @@ TOLD = " || [ $? = 3 ]"  # the status after help and version
 GREETING = "hello 42"  # what each host of docs/EMBEDDING.md prints
 CMAKE = 'cmake_minimum_required(VERSION 3.16)\nproject(host C)\nfind_package(suygapid REQUIRED)\nadd_executable(host host.c)\n' \
         "target_link_libraries(host suygapid::sfi_run)\n"
+
+# A plug-in that goes on from bytes.
+LATER = """from sfi_run.names import Plugin
+say = {"print": lambda text, length: print(text, end=" ")}
+with open("plugin.image", "rb") as file, Plugin(file.read(), **say) as plugin:
+    kept = plugin.snapshot()
+with open("plugin.image", "rb") as file, Plugin.restore(file.read(), kept, **say) as plugin:
+    print(plugin.add(40, 2))
+"""
+# What bash offers behind `sfi ch`.
+COMPLETED = """bash -c '. /usr/share/bash-completion/completions/sfi && COMP_WORDS=(sfi ch) COMP_CWORD=1 && _sfi && echo "${COMPREPLY[@]}"'"""
 
 
 class Fault(Exception):
@@ -105,6 +116,18 @@ def programs_in_c(documents):
                  ("sandbox=0 trap=Store at=017ffff8", "main, wrong.c:2"))]
 
 
+def pictures(documents):
+    """Where steps go, and an image, drawn by the tools that docs/C.md names."""
+    told = " ".join((documents.top / "docs" / "C.md").read_text(encoding="utf-8").split())
+    found = re.search(r"`(tools/sfi-trace --profile function) slow.c` .*?\(`(--flame slow)` .*?`(tools/sfi-map)` draws", told)
+    if found is None:
+        raise Fault("docs/C.md doesn't say what profiles and draws")
+    profile, flame, draw = found.groups()
+    words = [f"{profile} hello.c", f"{profile.split()[0]} {flame} hello.c", f"{draw} -o map.svg hello.c", "ls slow.speedscope.json"]
+    return Step(" && ".join([*words, "grep -l '</svg>' slow.svg map.svg"]),
+                ("share  function\n", "main", "slow.speedscope.json\n", "slow.svg\nmap.svg\n"))
+
+
 def plugin(documents):
     """The plug-in of docs/EMBEDDING.md."""
     source = documents.block("docs/EMBEDDING.md", "return a + b;")
@@ -120,9 +143,14 @@ def by_tar(documents):
     inside = f"cd {UNPACKED} && "
     host = documents.block("docs/EMBEDDING.md", "pkg-config --cflags --libs sfi_run")
     steps = [Step(take, (release_trial.ACCEPTED, "installed "))]
-    steps += [Step(f"{inside}{it.words}", it.wanted) for it in (tour(documents), *programs_in_c(documents), plugin(documents))]
+    steps += [Step(f"{inside}{it.words}", it.wanted) for it in (tour(documents), *programs_in_c(documents), pictures(documents), plugin(documents))]
     steps.append(Step(inside + host_in_c(documents, host).words, (GREETING,)))
-    steps += [Step(f"{inside}tools/sfi-cc --memory 256K -o big.image hello.c && ./sfi exec big.image{EXITED}", ("Hi",)),
+    named = re.search(r"`([\w/]+/suygapid_run\.c)` of a release", (documents.top / "docs" / "EMBEDDING.md").read_text(encoding="utf-8"))
+    if named is None:
+        raise Fault("docs/EMBEDDING.md doesn't say where suygapid_run.c is")
+    in_one_file = f"gcc -O2 -Icrates/sfi_run/include -Icrates/sfi_c/include host.c {named[1]} -o host"
+    steps += [Step(f"{inside}{in_one_file} && ./host", (GREETING,)),
+              Step(f"{inside}tools/sfi-cc --memory 256K -o big.image hello.c && ./sfi exec big.image{EXITED}", ("Hi",)),
               Step(f"{inside}./sfi --version{TOLD}", (f"sfi {version.version()}", "commit=", "logic=")),
               Step(f"{inside}cc -O1 -DSUYGAPID_CHECK_MAIN crates/sfi_c/out/suygapid_check.c -o check && ./check < plugin.image",
                    ("accepted sandboxes=1",)),
@@ -135,10 +163,11 @@ def by_debian(documents):
     install = documents.line("README.md", "sudo apt install").removeprefix("sudo ").replace("apt install", "apt install -qq -y")
     build = "cmake -S . -B build && cmake --build build && build/host"
     flags = "gcc host.c -o host $(pkg-config --cflags --libs sfi_run) && ./host"
-    programs = [Step(installed(it.words), it.wanted) for it in (tour(documents), *programs_in_c(documents), plugin(documents))]
+    programs = [Step(installed(it.words), it.wanted) for it in (tour(documents), *programs_in_c(documents), pictures(documents), plugin(documents))]
     return Way(("gcc", "libc6-dev", "pkg-config", "cmake"), ("*.deb",), [
         Step(install, (), True), Step("cp -r /usr/share/doc/suygapid/examples ."), *programs, host_in_c(documents, flags),
-        Step(written("CMakeLists.txt", CMAKE) + build, (GREETING,)), Step(f"sfi --version{TOLD}", (f"sfi {version.version()}",)), Step("ls -l /usr/share/man/man1/sfi-cc.1"),
+        Step(written("CMakeLists.txt", CMAKE) + build, (GREETING,)), Step(f"sfi --version{TOLD}", (f"sfi {version.version()}\ncommit=", "logic=")), Step("ls -l /usr/share/man/man1/sfi-cc.1"),
+        Step(COMPLETED, ("check\n",)),
         Step("sfi-gdb wrong.elf -batch -ex 'break clear' -ex continue -ex backtrace", ("clear", "main")),
         Step("apt remove -qq -y suygapid && ! ls /usr/share/suygapid", ("Removing",), True)])
 
@@ -149,7 +178,9 @@ def by_pip(documents):
     return Way(("python3-venv",), ("*.whl", "plugin.image"), [
         Step(f"python3 -m venv mine && . mine/bin/activate && {install}", ("",)),
         Step(written("host.py", source) + "mine/bin/python host.py", (GREETING,)),
-        Step("mine/bin/sfi-check plugin.image && mine/bin/sfi-corpus check plugin.image", ("accepted sandboxes=1", "files=1: 1 accepted"))])
+        Step("mine/bin/sfi-check plugin.image && mine/bin/sfi-corpus check plugin.image", ("accepted sandboxes=1", "files=1: 1 accepted")),
+        Step(written("later.py", LATER) + "mine/bin/python later.py", (GREETING,)),
+        Step("mine/bin/sfi-check --version", (f"version={version.version()} commit=", "logic="))])
 
 
 def by_npm(documents):
@@ -253,17 +284,18 @@ def missing():
 
 
 def main(words):
-    if not 1 <= len(words) <= 2:
-        sys.exit("usage: tools/newcomer.py RELEASE [FOLDER]")
+    if not words or not set(words[2:]) <= WAYS.keys():
+        sys.exit(f"usage: tools/newcomer.py RELEASE [FOLDER [{' | '.join(WAYS)}]..]")
     why = missing()
     if why:
         print(f"skipped: newcomer.py: {why}\n0 passed, 0 failed, 1 skipped")
         return
-    release, folder = pathlib.Path(words[0]).absolute(), pathlib.Path(words[1] if len(words) == 2 else TOP / "out" / "debian").absolute()
+    release, folder = pathlib.Path(words[0]).absolute(), pathlib.Path(words[1] if len(words) > 1 else TOP / "out" / "debian").absolute()
+    ways = {name: way for name, way in WAYS.items() if name in words[2:] or not words[2:]}
     with tempfile.TemporaryDirectory() as room, tarfile.open(release / f"{UNPACKED}.tar.gz") as tar:
         tar.extractall(room, filter="data")
-        failed = [name for name, way in WAYS.items() if not has_gone(name, way, Documents(pathlib.Path(room) / UNPACKED), release, folder)]
-    print(f"{len(WAYS) - len(failed)} passed, {len(failed)} failed")
+        failed = [name for name, way in ways.items() if not has_gone(name, way, Documents(pathlib.Path(room) / UNPACKED), release, folder)]
+    print(f"{len(ways) - len(failed)} passed, {len(failed)} failed")
     sys.exit(1 if failed else 0)
 
 

@@ -13,6 +13,7 @@ import tempfile
 from concurrent.futures import ThreadPoolExecutor
 
 import installed
+import libraries
 import release_trial
 import version
 
@@ -20,9 +21,9 @@ IMAGE = bytes.fromhex((installed.TOP / release_trial.SMALLEST).read_text(encodin
 JUDGED = f"{release_trial.ACCEPTED.strip()} sha256={hashlib.sha256(IMAGE).hexdigest()} version={version.version()} commit="
 COMPLETIONS = ("bash-completion/completions/sfi", "zsh/vendor-completions/_sfi", "fish/vendor_completions.d/sfi.fish")
 PYTHON = """
-import importlib.metadata, pathlib, sfi_run, sys
+import importlib.metadata, pathlib, sfi_check, sfi_run, sys
 assert (pathlib.Path(sfi_run.__file__).parent / "py.typed").is_file(), "py.typed isn't there"
-assert importlib.metadata.version("suygapid") == sfi_run.__version__, "the versions differ"
+assert {importlib.metadata.version("suygapid")} == {sfi_run.__version__, sfi_check.__version__}, "the versions differ"
 print(sfi_run.World(sys.stdin.buffer.read())[0].turn(5).cause.name)
 """
 NODE = """
@@ -152,11 +153,13 @@ def by_places(_room, usr):
 
 
 def by_package(room, usr):
-    """A host that pkg-config's words compile and link."""
-    (room / "host.c").write_text(release_trial.HOST, encoding="utf-8")
-    words = run(room, "pkg-config", "--cflags", "--libs", "sfi_run", PKG_CONFIG_PATH=f"{usr}/lib/pkgconfig").split()
-    run(room, "gcc", "-Wall", "-Wextra", "-Werror", "host.c", "-o", "host", *words, f"-Wl,-rpath,{usr}/lib")
-    hold(run(room, room / "host", given=IMAGE), "Break", "a host by pkg-config")
+    """A host that pkg-config's words compile and link, with each runtime that is there."""
+    others = [libraries.NATIVE] if (usr / "lib" / f"lib{libraries.NATIVE}.so").exists() else []
+    for name in ("sfi_run", *others):
+        (room / "host.c").write_text(release_trial.HOST.replace("sfi_run.h", f"{name}.h"), encoding="utf-8")
+        words = run(room, "pkg-config", "--cflags", "--libs", name, PKG_CONFIG_PATH=f"{usr}/lib/pkgconfig").split()
+        run(room, "gcc", "-Wall", "-Wextra", "-Werror", "host.c", "-o", "host", *words, f"-Wl,-rpath,{usr}/lib")
+        hold(run(room, room / "host", given=IMAGE), "Break", f"a host by pkg-config, with {name},")
 
 
 def by_cmake(room, usr):

@@ -93,7 +93,7 @@ def built_files():
         if lacking:
             fail(f"{name}, which docs/EMBEDDING.md says is in a release, can't be made: {' and '.join(lacking)} isn't there")
         found.append(os.path.relpath(maker.make(), TOP))
-    host = native.make()
+    host = native.make(anew=True)  # what is there may be of another compiler, by other words
     if host is None:
         fail("the host of native code can't be built here")
     found.append(os.path.relpath(host, TOP))

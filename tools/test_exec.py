@@ -139,7 +139,7 @@ class Programs(Folder):
         for _ in range(2):
             done = subprocess.run([SFI_EXEC, "--program", SFI, program], env={**os.environ, "XDG_CACHE_HOME": self.folder}, check=False)
             self.assertEqual(done.returncode, 5)
-        self.assertEqual(len(glob.glob(self.path("sfi-cc/python/**/commands/exec.*.pyc"), recursive=True)), 1)
+        self.assertEqual(len(glob.glob(self.path("suygapid/python/**/commands/exec.*.pyc"), recursive=True)), 1)
         self.assertEqual(glob.glob(str(TOOLS / "suygapid" / "**" / "__pycache__"), recursive=True), [])
 
     def test_what_is_interpreted(self):

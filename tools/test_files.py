@@ -104,7 +104,7 @@ class Files(WithFiles):
         subprocess.run(["gcc", *OPTIONS, FILES, "-o", native], check=True)
         words = ("a word", "", "ü")
         wanted = subprocess.run([native, *words], cwd=there, env={"GREETING": "hello"}, stdout=subprocess.PIPE, check=True).stdout.decode()
-        for format in sorted({*formats_due(0, 1), "2"} - {"1"}):  # the first has neither names nor the room
+        for format in sorted({*formats_due(0, 4), "2"} - {"1"}):  # the first has neither names nor the room
             program = self.built(FILES, "--format", format)
             self.assertEqual(self.with_files(program, *words, options=("--env", "GREETING=hello")), (0, wanted, ""))
             for path in there.iterdir():

@@ -57,9 +57,9 @@ class Floats(Folder):
         home = os.path.join(self.folder, "home")
         for process in [self.started("--cc", GCC, XDG_CACHE_HOME=home) for _ in range(2)]:
             self.assertIn(b"exit=42 ", self.answer(process))
-        self.assertEqual(sorted(name.rsplit("-", 1)[0] for name in os.listdir(os.path.join(home, "sfi-cc"))),
-                         sorted({"library", "python", "runtime", "softfloat"} | ({GCC_SOURCE.name} if os.path.isfile(GCC_SOURCE.path()) else set())))
-        names = [os.path.basename(path) for path in glob.glob(os.path.join(home, "sfi-cc", "softfloat-*", "*"))]
+        self.assertEqual(sorted(name.rsplit("-", 1)[0] for name in os.listdir(os.path.join(home, "suygapid"))),
+                         sorted({"library", "python", "results", "runtime", "softfloat"} | ({GCC_SOURCE.name} if os.path.isfile(GCC_SOURCE.path()) else set())))
+        names = [os.path.basename(path) for path in glob.glob(os.path.join(home, "suygapid", "softfloat-*", "*"))]
         self.assertTrue({"doubles.asm", "divsf3.asm", "divtc3.asm", "fixunssfdi.asm"} <= set(names))
         self.assertEqual([name for name in names if not name.endswith(".asm")], [])
 

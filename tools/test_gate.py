@@ -88,7 +88,7 @@ class Gate(unittest.TestCase):
         self.assertEqual(self.there(), self.every)
 
     def test_times(self):
-        self.environment.update(PAUSE="1", COUNT="300000")
+        self.environment.update(PAUSE="1", COUNT="3000000")
         self.tried()
         with open(f"{self.top}/out/times.txt", "a", encoding="utf-8") as file:
             print("took 2 60 examples/test.sh sfi", file=file)

@@ -104,6 +104,13 @@ class Installed(Installing):
         done = run("sfi", "check", given=SMALLEST, env=self.env)
         self.assertEqual((done.stdout, done.returncode), (ACCEPTED, 0))
 
+    def test_the_program_tells_of_what_it_was_built(self):
+        """As the tools do, below its version."""
+        done, tool = run("sfi", "--version", env=self.env), run("sfi-map", "--version", env=self.env)
+        made_of = tool.stdout.removeprefix(f"sfi-map version={version.version()} ")
+        self.assertEqual((done.stdout, done.returncode), (f"sfi {version.version()}\n{made_of}", 3))
+        self.assertRegex(made_of, "^commit=.+ logic=.+\n$")
+
     @needs(GCC)
     def test_c_becomes_an_image(self):
         by_library = (TOP / "examples" / "c" / "hello.c").read_text(encoding="utf-8")

@@ -51,7 +51,7 @@ int main(int argc, char **argv) {
         memset(room, turn, 5000 + turn);
         free(room);
     }
-    printf("%d %d\n", malloc(1 << 20) == NULL, errno == ENOMEM);
+    printf("%d %d\n", malloc(1 << 25) == NULL, errno == ENOMEM);
     printf("%d %d\n", fopen("file", "r") == NULL, errno == ENOENT);
     struct timeval now = {7, 7};
     printf("%d %d %d %d\n", gettimeofday(&now, NULL), (int)now.tv_sec, (int)now.tv_usec, (int)time(NULL));

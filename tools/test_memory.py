@@ -9,7 +9,7 @@ from itertools import combinations, product
 
 from suygapid.elf.linking import place_of
 from suygapid.image.layout import GUARD, MOST_SANDBOXES
-from testing import COMPILERS, GCC, NEWLIB, SFI, SFI_CC, SFI_IMAGE, TOOLS, Folder, formats_due, needs, needs_program
+from testing import COMPILERS, GCC, NEWLIB, SFI, SFI_CC, SFI_IMAGE, TOOLS, Folder, formats_due, lacking, needs, needs_program
 
 STACK = 8192  # bytes of its room, unless an option says others
 TAKES = "#include <stdlib.h>\nint main(void) { return malloc(20) == NULL; }\n"
@@ -32,6 +32,26 @@ int main(void) {
         free(last);
     }
     return AGAIN && !malloc(500 * all) ? __LINE__ : 1000 + all;
+}
+"""
+# Takes 12 MiB, then 16, which 16 MiB of data haven't, and goes on; the sums are of what it wrote into each block before.
+MUCH = r"""#include <stdio.h>
+#include <stdlib.h>
+#define COUNT 65
+int main(void) {
+    unsigned char *blocks[COUNT];
+    for (int k = 0; k < COUNT; k++) {
+        int size = k ? 1 << 16 : 1 << 23;
+        if (!(blocks[k] = malloc(size))) return 1;
+        for (int at = 0; at < size; at += 61) blocks[k][at] = at * 7 + k;
+    }
+    if (sizeof(void *) == 4 && malloc(1 << 24)) return 2;
+    for (int k = 0; k < COUNT; k++) {
+        unsigned sum = 0;
+        for (int at = 0; at < (k ? 1 << 16 : 1 << 23); at += 61) sum = sum * 31 + blocks[k][at];
+        printf("%u\n", sum);
+    }
+    return blocks[COUNT - 1] ? 42 : 3;
 }
 """
 # Memory that is taken below a stack of some 40000 bytes, which is more than its room, and after that.
@@ -125,11 +145,30 @@ class Sizes(Programs):
 
     def test_sizes(self):
         """The linked file keeps what sfi-cc was told."""
-        for words, of_image, size in (((), (), 65536), (("--stack", "64K"), (), 131072), (("--heap", "100000"), (), 131072),
+        for words, of_image, size in (((), (), 1 << 24), (("--stack", "64K"), (), 1 << 24), (("--heap", "100000"), (), 131072), (("--heap", "20M"), (), 1 << 25),
                                       (("--memory", "256K"), (), 262144), (("--data", "32768"), (), 32768), (("--memory", "1M"), ("--memory", "64K"), 65536),
-                                      (("--memory", "16K", "--heap", "3K", "--stack", "3K"), (), 16384), ((), ("--stack", "128K"), 262144)):
+                                      (("--memory", "16K", "--heap", "3K", "--stack", "3K"), (), 16384), ((), ("--stack", "128K"), 1 << 24),
+                                      (("--heap", "3K"), ("--stack", "128K"), 262144), ((), ("--memory", "64K"), 65536)):
             with self.subTest(words):
                 self.assertEqual(self.size("--program", self.write("accepts", "#!/bin/sh\ncat >/dev/null\n", 0o755), *words, of_image=of_image), size)
+
+    def test_sizes_unless_told(self):
+        """What has no heap, bundles and what has a place of its own are small; of single masks what there is room for below the data."""
+        for words, size in ((("--format", "1"), 65536), (("--format", "2"), 65536), (("--format", "2", "--library", "newlib"), 131072),
+                            (("--at", "02000000:03000000"), 65536), (("--at", "02000000:02100000", "--stack", "64K"), 131072), (("--movable",), 1 << 24),
+                            (("--sandbox", "15"), 1 << 24), (("--format", "single"), 1 << 24), (("--format", "single", "--sandbox", "6"), 1 << 24),
+                            (("--format", "single", "--sandbox", "7"), 1 << 23), (("--format", "single", "--sandbox", "10"), 1 << 20),
+                            (("--format", "single", "--sandbox", "7", "--memory", "1M"), 1 << 20)):
+            if "newlib" not in words or not lacking(NEWLIB):
+                with self.subTest(words):
+                    self.assertEqual(self.size(*words), size)
+        none = "int main(void) { return 0; }\n"
+        large = "#include <stdlib.h>\nchar large[17 << 20];\nint main(void) { return large[(int)malloc(9) & 255]; }\n"
+        prints = "#include <stdio.h>\nint main(void) { return puts(\"\"); }\n"
+        for text, words, size in ((none, (), 16384), (none, ("--stack", "100"), 256), (none, ("--stack", "20M"), 1 << 25), (large, (), 1 << 25),
+                                  (prints, (), 16384), (prints, ("--debug",), 65536), (TAKES, ("--debug",), 1 << 24)):
+            with self.subTest(text, words=words):
+                self.assertEqual(self.place(text, *words)[2], size)
 
     def test_places(self):
         """Where the data lie: behind the code, or, of more than 4 MiB or beside that much code, above the code of all sandboxes."""
@@ -203,6 +242,38 @@ class Shared(Programs):
         self.gives(110, 122, "--memory", "128K", "--debug")
         self.gives(19, 20, "--heap", "21000", "--debug")
 
+    def much(self, *words):
+        """What MUCH does by default: as natively, and malloc hasn't 16 MiB."""
+        run = {"capture_output": True, "check": False}
+        subprocess.run(["gcc", "-o", self.path("natively"), self.write("memory.c", MUCH)], check=True)
+        native = subprocess.run([self.path("natively")], **run)
+        done = subprocess.run([os.path.join(TOOLS, "sfi-exec"), "--program", SFI, self.built(MUCH, *words)], **run)
+        self.assertEqual((done.returncode, done.stdout, done.stderr), (42, native.stdout, b""))
+        self.assertEqual(native.returncode, 42)
+
+    @needs("gcc")
+    def test_much(self):
+        for words in ((), ("--movable",), ("--debug",), ("--sandbox", "3"), ("--format", "single")):
+            with self.subTest(words):
+                self.much(*words)
+
+    @needs("gcc", NEWLIB)
+    def test_much_by_newlib(self):
+        for words in ((), ("--debug",)):
+            with self.subTest(words):
+                self.much("--library", "newlib", *words)
+
+    def test_several_sandboxes(self):
+        """Two programs, each with as much."""
+        for image_format in ("words", "single"):
+            programs = []
+            for sandbox in range(2):
+                programs.append(f"{self.built(MUCH, '--format', image_format, '--sandbox', str(sandbox))}.{sandbox}")
+                os.rename(self.path("memory.elf"), programs[-1])
+            image = subprocess.run([SFI_IMAGE, *programs], stdout=subprocess.PIPE, check=True).stdout
+            done = subprocess.run([SFI, "run", "--rounds", "1000", "--quantum", "1000000"], input=image, stdout=subprocess.PIPE, check=True)
+            self.assertEqual(re.findall(rb"sandbox=(\d) exit=(\d+)", done.stdout), [(b"0", b"42"), (b"1", b"42")])
+
     @needs(NEWLIB)
     def test_all_by_newlib(self):
         self.gives(110, 122, "--memory", "128K", "--library", "newlib", again=1)
@@ -221,11 +292,13 @@ class Shared(Programs):
             self.assertEqual(self.ran(DEEP, "--memory", "128K", "--library", "newlib", *words), 42)
 
     def test_debug_stops_at_the_heap(self):
-        """A stack that would do without what malloc has given."""
-        text = ("#include <stdlib.h>\nint deep(int n) {\n volatile char room[200]; room[n % 200] = 1; return n ? deep(n - 1) + room[n % 200] : 0; }\n"
+        """A stack that would do without what malloc has given, with few bytes and with those that it has unless told."""
+        text = ("#include <stdlib.h>\nint deep(int n) {\n volatile char room[EACH]; room[n % EACH] = 1; return n ? deep(n - 1) + room[n % EACH] : 0; }\n"
                 "int main(void) { return TAKEN && !malloc(TAKEN) ? 3 : deep(300) > 0 ? 42 : 1; }\n")
-        for taken, status, told in ((100, 42, ""), (90000, 126, "memory.c:2")):
-            program = self.built(text, f"-DTAKEN={taken}", "--debug", "--memory", "128K")
+        few = ("-DEACH=200", "--memory", "128K")
+        for taken, words, status, told in ((100, few, 42, ""), (90000, few, 126, "memory.c:2"), (9 << 20, ("-DEACH=20000",), 42, ""),
+                                           (12 << 20, ("-DEACH=20000",), 126, "memory.c:2")):
+            program = self.built(text, f"-DTAKEN={taken}", "--debug", *words)
             done = subprocess.run([os.path.join(TOOLS, "sfi-exec"), "--program", SFI, program], capture_output=True, text=True, check=False)
             self.assertEqual(done.returncode, status, done.stderr)
             self.assertIn(told, done.stderr)

@@ -16,6 +16,7 @@ import package_trial
 import packages
 import runtime_file
 import version
+from suygapid import native
 from testing import by_turns, needs
 
 MAKERS = {".whl": packages.wheel, ".tgz": packages.tarball, ".crate": packages.crate, ".deb": packages.debian}
@@ -64,6 +65,7 @@ class Packages(unittest.TestCase):
         cls.room, cls.made = pathlib.Path(room.name), {}
         (cls.room / "cc").write_text(COMPILER, encoding="utf-8")
         (cls.room / "cc").chmod(0o755)
+        native.make()  # with the usual compiler: it stays
         patched = mock.patch.dict(os.environ, CC=str(cls.room / "cc"))
         patched.start()
         cls.addClassCleanup(patched.stop)
@@ -132,7 +134,7 @@ class Packages(unittest.TestCase):
         for path, data in COMPILED.items():
             self.assertEqual((whole / "usr" / "share" / "suygapid" / path).read_bytes(), data)
         for place, step, said in (("usr/include/sfi.h", package_trial.by_package, "gcc fails"), ("usr/lib/cmake", package_trial.by_cmake, "cmake fails"),
-                                  ("usr/lib/pkgconfig/sfi_run.pc", package_trial.by_package, "pkg-config fails"),
+                                  ("usr/lib/pkgconfig/sfi_run.pc", package_trial.by_package, "pkg-config fails"), ("usr/include/sfi_run_native.h", package_trial.by_package, "gcc fails"),
                                   ("usr/share/man/man1/sfi-cc.1", package_trial.by_places, "usr/share/man/man1/sfi-cc.1 isn't there"),
                                   ("usr/share/zsh", package_trial.by_places, "usr/share/zsh/vendor-completions/_sfi isn't there"),
                                   ("usr/share/suygapid/tools/suygapid", package_trial.by_tools, "sfi-cc fails"), ("usr/bin/sfi", package_trial.by_program, "sfi isn't there")):

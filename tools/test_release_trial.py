@@ -122,7 +122,7 @@ class Whole(Folder):
         first, *pages, checker, runtime = (self.top / it for it in built)
         for where, what, how in ((release, "TOP", self.top), (release, "MADE", pages), (release, "stale", list), (libraries, "HEADERS", {}),
                                  (release, "native_libraries", list), (installed, "built", lambda: [first]), (checker_file, "missing", list), (checker_file, "make", lambda: checker),
-                                 (runtime_file, "missing", list), (runtime_file, "make", lambda: runtime), (native, "make", lambda: host), (converted, "files", dict),
+                                 (runtime_file, "missing", list), (runtime_file, "make", lambda: runtime), (native, "make", lambda anew: host), (converted, "files", dict),
                                  (device_checkers, "make", list), (release, "try_out", self.try_out)):
             patched = mock.patch.object(where, what, how)
             patched.start()

@@ -114,7 +114,7 @@ class Made(Folder):
         os.mkdir(self.path("made"))
         os.rename(first, self.path(f"made/{os.path.basename(first)}"))
         self.assertEqual(kept.kept("library", ["text"], self.fail), self.path(f"made/{os.path.basename(first)}"))
-        self.assertEqual(os.path.dirname(kept.kept("library", ["texts"], lambda folder: None)), self.path("home/sfi-cc"))
+        self.assertEqual(os.path.dirname(kept.kept("library", ["texts"], lambda folder: None)), self.path("home/suygapid"))
 
     def test_two_at_once(self):
         """One makes it, and the other waits."""
@@ -127,7 +127,7 @@ class Made(Folder):
         with ThreadPoolExecutor(2) as pool:
             first, second = pool.map(lambda _: kept.kept("library", ["text"], make), range(2))
         self.assertEqual((len(made), first), (1, second))
-        self.assertEqual(os.listdir(self.path("home/sfi-cc")), [os.path.basename(first)])
+        self.assertEqual(os.listdir(self.path("home/suygapid")), [os.path.basename(first)])
 
     def test_for_a_release(self):
         """Each file of the folders is packed where `kept` looks for it."""

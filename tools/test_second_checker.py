@@ -1,4 +1,4 @@
-"""Tests of tools/second_checker.py for code in words with single masks, which the program doesn't know yet: by rows worked by hand."""
+"""Tests of tools/second_checker.py for code in words with single masks: by rows worked by hand."""
 import struct
 import unittest
 
@@ -61,7 +61,7 @@ def image(words, magic=b"SFIS", places=((CODE, DATA, SIZE),), gates=()):
 
 def found(words, gates=()):
     """The places in words, of 4 bytes, and the rules of the findings."""
-    status, lines = second_checker.judged(image(words, gates=gates), second_checker.PREPARED)
+    status, lines = second_checker.judged(image(words, gates=gates))
     rows = [line.split()[1:3] for line in lines[:-1]]
     assert status == (1 if rows else 0), lines
     return [((int(at, 16) - CODE) / 4, rule) for at, rule in rows]
@@ -170,13 +170,13 @@ class Rules(unittest.TestCase):
         self.assertEqual(found([ECALL], [(CODE, 0)]), [])
 
     def test_names(self):
-        _, lines = second_checker.judged(image([addi(31, 0, 0)]), second_checker.PREPARED)
+        _, lines = second_checker.judged(image([addi(31, 0, 0)]))
         self.assertEqual(lines[0], "0 80000004 V10 data ebreak")
 
     def test_words_have_other_rules(self):
         """What single masks take words refuse, and the other way round."""
         def judged(*words):
-            return second_checker.judged(image(words, b"SFIW"), second_checker.PREPARED)[0]
+            return second_checker.judged(image(words, b"SFIW"))[0]
         self.assertEqual(judged(and_(31, 2, 27), or_(2, 31, 26)), 0)
         self.assertEqual(judged(and_(2, 2, 27)), 1)
         self.assertEqual(judged(addi(31, 0, 0)), 1)
@@ -187,12 +187,12 @@ class Layouts(unittest.TestCase):
     def test_places(self):
         for places, fault in PLACES:
             with self.subTest([tuple(map(hex, it)) for it in places]):
-                status, lines = second_checker.judged(image((), places=places), second_checker.PREPARED)
+                status, lines = second_checker.judged(image((), places=places))
                 self.assertEqual(lines[-1].removeprefix("layout fault ") if status else None, fault)
 
     def test_other_formats_have_no_zone(self):
         for magic in (b"SFI1", b"SFI2", b"SFIW"):
-            self.assertEqual(second_checker.judged(image((), magic, [(0x100, 0x3000, SIZE)]), second_checker.PREPARED)[0], 0)
+            self.assertEqual(second_checker.judged(image((), magic, [(0x100, 0x3000, SIZE)]))[0], 0)
 
 
 if __name__ == "__main__":

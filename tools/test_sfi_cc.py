@@ -282,7 +282,7 @@ cp {self.folder}/main.asm "$2"
         self.assertLess({"-ffixed-x29", "-ffixed-x30"}, set(words))
         self.made("--format", "2")
         self.assertNotIn("-ffixed-x30", self.read("words").splitlines()[-1])
-        for options, told in [(["--format", "3"], "argument --format: invalid choice: '3' (choose from '1', '2', 'words')"),
+        for options, told in [(["--format", "3"], "argument --format: invalid choice: '3' (choose from '1', '2', 'words', 'single')"),
                               (["--gate", "a=0", "--gate", "a=1"], "argument --gate: 'a' is given twice"),
                               (["--gate", "a=99"], f"argument --gate: 'a=99' isn't NAME=SERVICE with a service from 0 to {max(GATES.values())}"),
                               (["--gate", "main=1"], "argument --gate: 'main' is the program's first function already"),
@@ -351,7 +351,7 @@ class Libraries(Calls):
             for number in range(count):
                 self.write(f"{name}/f{number}.asm", f"\t.globl\t{name}{number}\n{name}{number}:\n\tret\n")
         words = ["-o", self.path("made.elf"), self.write("main.s", ASSEMBLY)]
-        told = f"files of a library are converted for format words, which may take a minute, once: kept in {self.path('home')}/sfi-cc/library-"
+        told = f"files of a library are converted for format words, which may take a minute, once: kept in {self.path('home')}/suygapid/library-"
         home = {**os.environ, "XDG_CACHE_HOME": self.path("home")}
         for names, wanted in ((["few"], []), (["large", "larger"], [f"sfi-cc: 41 {told}"]), (["larger", "large"], [])):
             libraries = [word for name in names for word in ("--library", self.path(name))]

@@ -7,7 +7,7 @@ import subprocess
 
 from testing import COMPILERS, SFI, SFI_CC, SFI_IMAGE, Folder, formats_due, needs, needs_a_compiler, needs_program
 
-LEVELS = {"1": ("-Os",), "2": ("-O3",), "words": ("-O0", "-O2")}  # by formats: neither changes anything of it
+LEVELS = {"1": ("-Os",), "2": ("-O3",), "words": ("-O0", "-O2"), "single": ("-O1",)}  # by formats: neither changes anything of it
 WAYS = [(level, it) for it in formats_due(0, 2) for level in LEVELS[it]]
 TYPES = """
 #include "gates.h"

@@ -22,6 +22,7 @@ PLACES = [
     ("crates/sfi_run/include/sfi_run.h", r'#define SFI_RUN_VERSION "(.*)"'),
     ("bindings/python/pyproject.toml", r'^version = "(.*)"'),
     ("bindings/python/sfi_run/__init__.py", r'^__version__ = "(.*)"'),
+    ("bindings/python/sfi_check/__init__.py", r'^__version__ = "(.*)"'),
     ("bindings/rust/Cargo.toml", r'^version = "(.*)"'),
     ("bindings/rust/Cargo.lock", r'^name = "suygapid"\nversion = "(.*)"'),
     ("bindings/node/package.json", r'^  "version": "(.*)"'),

@@ -5,7 +5,7 @@ import { bytesOf } from "./given.mjs";
 import { Call, Exited, NotEntered, NotTaken, Ready, Stopped, Trapped, WrongSnapshot, hexadecimal } from "./told.mjs";
 import { countFrom, doneBy, imageOf, load, resume } from "./world.mjs";
 
-const [MAGIC, VERSION] = [Buffer.from("SFIS"), 1];
+const [MAGIC, VERSION] = [Buffer.from("SNAP"), 1];
 const [HEAD, SANDBOX, SUM] = [44, 156, 4]; // bytes: before the first sandbox, of each before its data, and at the end
 const DIGEST = 8; // where the image's SHA-256 begins
 const KINDS = new Map([[Ready, 1], [Call, 2], [Exited, 3], [Stopped, 5]]); // by the numbers of sfi_run.h

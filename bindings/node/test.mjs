@@ -92,8 +92,9 @@ const tests = {
 
   async "bytes that are no image"() {
     // docs/IMAGE.md: 1 is the magic, 3 bytes that are cut short, 11 bytes that are left
-    for (const [image, fault] of [["SFI9", 1], [SMALLEST.subarray(0, -1), 3], [Buffer.concat([SMALLEST, Buffer.alloc(1)]), 11]]) {
-      const wanted = { fault, message: `the bytes are no image: layout fault ${fault}` };
+    const longer = Buffer.concat([SMALLEST, Buffer.alloc(1)]);
+    for (const [image, fault, name] of [["SFI9", 1, "Magic"], [SMALLEST.subarray(0, -1), 3, "Short"], [longer, 11, "Trailing"]]) {
+      const wanted = { fault, message: `the bytes are no image: layout fault ${fault} ${name}` };
       await assert.rejects(load(Buffer.from(image)), (error) => error instanceof NoImage && matches(error, wanted));
     }
     for (const image of [5, "SFI1", null, [1, 2]]) await assert.rejects(load(image), TypeError);

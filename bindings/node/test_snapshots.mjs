@@ -65,12 +65,13 @@ const isRefused = (image, snapshot, why) =>
 /** `loops` is the source of a sandbox that calls once, and loops then. */
 export const snapshotTests = (built, loops) => ({
   async "snapshots: as the first would"() {
-    for (const line of ["", ".format 2\n", ".format words\n"]) {
+    for (const line of ["", ".format 2\n", ".format words\n", ".format single\n"]) {
       const image = built(line + COUNTS);
       const [world, module] = [await load(image), await Module.load(image)];
       for (const steps of [0, 1, 37, 98, 151, 199]) {
         for (let done = 0; done < steps; done++) step(world);
         const snapshot = settled(world, image);
+        assert.equal(snapshot.toString("latin1", 0, 4), "SNAP");
         const before = state(world);
         assert.deepEqual([snapshots.take(world, image), state(world)], [snapshot, before]);
         const second = await snapshots.restore(steps % 2 ? module : image, snapshot);

@@ -15,9 +15,11 @@ export class Refused extends Error {
   }
 }
 
+const FAULTS = ["", "Magic", "Count", "Short", "Code", "Data", "GuardRoom", "Start", "Gates", "Init", "Overlap", "Trailing"];
+
 export class NoImage extends Error {
   constructor(fault) {
-    super(`the bytes are no image: layout fault ${fault}`);
+    super(`the bytes are no image: layout fault ${fault} ${FAULTS[fault]}`);
     this.fault = fault;
   }
 }

@@ -6,6 +6,8 @@
 
 struct sfi_device_fault sfi_device_close_guards(uint32_t number, const struct sfi_device_part *part) {
     (void)number;
+    if (part->format == SFI_DEVICE_FORMAT_OF_SINGLE_MASKS)
+        return (struct sfi_device_fault){SFI_DEVICE_NO_ZONE_AT_ZERO, 0, 0};
     if (part->format != SFI_DEVICE_FORMAT_1 && part->format != SFI_DEVICE_FORMAT_2)
         return (struct sfi_device_fault){SFI_DEVICE_NO_GUARDS, 0, 0};
     return (struct sfi_device_fault){SFI_DEVICE_DONE, 0, 0};

@@ -48,12 +48,15 @@ struct sfi_device_fault sfi_device_write_protection(void) {
 
 /* Locked entries hold in M-mode, where host and sandboxes run, and the first entry that fits decides:
    the data region is open, and the rest from the first address of the lower guard zone to the last of
-   the upper one is closed. */
+   the upper one is closed. Low addresses stay as they are, with the boot ROM and devices that many chips
+   have there: so no sandbox of the fourth format. */
 struct sfi_device_fault sfi_device_close_guards(uint32_t number, const struct sfi_device_part *part) {
     uint32_t entry = ENTRIES_EACH * number;
     uint64_t data_end = (uint64_t)part->data_base + part->data_size; /* the upper guard zone may end at 2^32 */
     if (number >= SFI_DEVICE_PMP_ENTRIES / ENTRIES_EACH)
         return (struct sfi_device_fault){SFI_DEVICE_NO_ENTRY, 0, 0};
+    if (part->format == SFI_DEVICE_FORMAT_OF_SINGLE_MASKS)
+        return (struct sfi_device_fault){SFI_DEVICE_NO_ZONE_AT_ZERO, 0, 0};
     if (!sfi_device_is_data(part->data_base, part->data_size))
         return (struct sfi_device_fault){SFI_DEVICE_BAD_PLACE, 0, 0}; /* of 0 bytes the first entry would open all */
     sfi_device_protect(entry, sfi_device_power_of_two(part->data_base, part->data_size),

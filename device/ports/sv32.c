@@ -102,6 +102,13 @@ static bool meets_host(const struct sfi_device_sv32 *space, uint64_t from, uint6
     return from < space->host_to && to > space->host_from;
 }
 
+/* No table entry is made outside regions but the host's: so the zone at zero of the fourth format is closed where the host isn't. */
+static bool has_host_at_zero(const struct sfi_device_sv32 *space, const struct sfi_device_part *part) {
+    return part->format == SFI_DEVICE_FORMAT_OF_SINGLE_MASKS &&
+           (meets_host(space, 0, (uint64_t)part->data_size + SFI_DEVICE_GUARD_ZONE) ||
+            meets_host(space, (uint64_t)UINT32_MAX + 1 - SFI_DEVICE_GUARD_ZONE, (uint64_t)UINT32_MAX + 1));
+}
+
 static bool map_data(struct sfi_device_sv32 *space, const struct sfi_device_part *part) {
     if (part->data_size < PAGE && !open_small_data(space, part))
         return false;
@@ -115,6 +122,8 @@ struct sfi_device_fault sfi_device_sv32_map(struct sfi_device_sv32 *space, const
         status = SFI_DEVICE_CODE_IS_HOST;
     else if (meets_host(space, (uint64_t)part->data_base - SFI_DEVICE_GUARD_ZONE, data_end + SFI_DEVICE_GUARD_ZONE))
         status = SFI_DEVICE_DATA_IS_HOST;
+    else if (has_host_at_zero(space, part))
+        status = SFI_DEVICE_NO_ZONE_AT_ZERO;
     else if (part->data_size < PAGE && space->small_count == SMALL_MOST)
         status = SFI_DEVICE_NO_ENTRY;
     else if (!map_region(space, part->code_base, part->code_size, PTE_X, part->code, part->code_size) || !map_data(space, part))

@@ -12,6 +12,7 @@ sfi=$(realpath "${1:-$here/../../sfi}")
 export SFI=$sfi
 cd "$here" || exit 1
 source ../harness.sh
+all_formats=$formats # the places have data bases of more than one bit
 tools=$(realpath ../../tools)
 export tools programs room
 

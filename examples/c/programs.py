@@ -32,7 +32,7 @@ from suygapid.kept import root
 from suygapid.library.sources import GCC_SOURCE, unpacked
 from testing import GCC, NEWLIB, lacking
 
-FORMATS = ("1", "2", "words")
+FORMATS = ("1", "2", "words", "single")
 GCC_PARTS = ("zlib", "libdecnumber", "libiberty", "include")
 HEADERS = {  # what configurations would make: GCC's, and one of Mbed TLS in C alone, without files, network, clock and source of chance
     "config.h": "",

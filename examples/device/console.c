@@ -80,6 +80,8 @@ void refuse_fault(uint32_t number, struct sfi_device_fault fault) {
     case SFI_DEVICE_DONE: return;
     case SFI_DEVICE_NO_GUARDS:
         refuse_sandbox(number, "code in words is held by guard zones that trap, and here none does");
+    case SFI_DEVICE_NO_ZONE_AT_ZERO:
+        refuse_sandbox(number, "its format wants the addresses below its data's size plus 4096 closed, and the last 4096, and here they aren't");
     case SFI_DEVICE_NO_ENTRY:
         refuse_sandbox(number, "no entry of physical memory protection is left for it");
     case SFI_DEVICE_NO_MEMORY:

@@ -1,6 +1,6 @@
 /* Gates without a trap: in the place of a listed gate's ecall stands a jump to a slot, one for each gate, in a
    page of the host's own that lies near the sandbox's code; board.S goes on from there. One word is written, and
-   only where the image has an ecall: in the third format each word can be jumped to, and has to be the call. */
+   only where the image has an ecall: in words each can be jumped to, and has to be the call. */
 #include "host.h"
 #include "internal.h"
 
@@ -27,6 +27,8 @@ static bool is_free(const struct world *of, uint32_t page) {
     for (uint32_t number = 0; number < of->count; number++) {
         const struct sfi_device_part *part = &of->plugins[number].sandbox.part;
         uint64_t data_end = (uint64_t)part->data_base + part->data_size;
+        if (part->format == SFI_DEVICE_FORMAT_OF_SINGLE_MASKS && meet(0, (uint64_t)part->data_size + SFI_DEVICE_GUARD_ZONE, page))
+            return false;
         if (meet(part->code_base, (uint64_t)part->code_base + part->code_size, page) ||
             meet(part->data_base - SFI_DEVICE_GUARD_ZONE, data_end + SFI_DEVICE_GUARD_ZONE, page) || pages[number] == page)
             return false;

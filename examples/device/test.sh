@@ -384,6 +384,31 @@ report "registers at an entry of code in words" \
     "sandbox=0 trap=Break at=01000010 out= written=01800000:fc,01800007:01,0180000c:f0,0180000d:0f,0180000e:80,0180000f:01" \
     "$(run --written <"$room/words.hex")"
 
+image S 1 < <(sandbox 0x01000000 0x40000000 4096 "" '' <<'END'
+        sw      x25, 0(x3)
+        sw      x30, 4(x4)
+        sw      x31, 8(x29)
+        sw      x27, 12(x26)
+        ebreak
+END
+) | sed 's/^5346493S/53464953/' >"$room/single.hex"
+report "registers at an entry of code with single masks" \
+    "sandbox=0 trap=Break at=01000010 out= written=40000000:fc,40000007:01,4000000c:ff,4000000d:0f,4000000f:40" \
+    "$(run --written <"$room/single.hex")"
+
+# The page table has no low addresses, so accesses trap in the zone at zero.
+for access in "lb 0 -2048" "sw 0 0" "lw 4095 -3" "lbu 4095 1" "sh 4095 2046"; do
+    read -r operation base offset <<<"$access"
+    printf '.format single\n.sandbox 4096\n li a0, %s\n %s a1, %s(a0)\n ebreak\n' "$base" "$operation" "$offset" |
+        "$SFI" build --at 1000000:40000000 >"$room/zone.hex"
+    wanted=$("$SFI" run <"$room/zone.hex")
+    report "$operation in the zone at zero, at $base and $offset" "trap $wanted" \
+        "$([[ $wanted == *trap=[LS]* ]] && echo trap) $(run --steps <"$room/zone.hex")"
+done
+"$SFI" build < <(in_format ../hi.s single) >"$room/zone.hex"
+report "the fourth format at its usual place" $'device: sandbox 0: its data or guard zones are where the host is\nstatus 2' \
+    "$(run <"$room/zone.hex"; echo "status $?")"
+
 # ---- The commands and lines of docs/C.md and docs/DEVICE.md, whose numbers are those of gcc 12
 
 block() { # a page, the language of its fences, which of these blocks

@@ -26,7 +26,8 @@ static uint32_t take_word(struct reader *reader) {
 static uint32_t format_of(const uint8_t *magic) {
     if (magic[0] != 'S' || magic[1] != 'F' || magic[2] != 'I')
         return 0;
-    return magic[3] == '1' ? 1 : magic[3] == '2' ? 2 : magic[3] == 'W' ? SFI_DEVICE_FORMAT_OF_WORDS : 0;
+    return magic[3] == '1' ? 1 : magic[3] == '2' ? 2 : magic[3] == 'W' ? SFI_DEVICE_FORMAT_OF_WORDS :
+           magic[3] == 'S' ? SFI_DEVICE_FORMAT_OF_SINGLE_MASKS : 0;
 }
 
 /* Answers how many sandboxes there are. */

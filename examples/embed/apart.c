@@ -7,7 +7,7 @@
 
 /* Its data's guard zones reach from 80400000 to 80403000. */
 static const struct sfi_part one = {
-    .code_base = 0x80110000, .code_size = 0x1000, .data_base = 0x80401000, .data_size = 0x1000};
+    .format = 3, .code_base = 0x80110000, .code_size = 0x1000, .data_base = 0x80401000, .data_size = 0x1000};
 
 static const struct {
     uint32_t code_base, code_size, data_base, data_size;
@@ -42,10 +42,30 @@ static const struct {
     {0x90000000, 0x1000, 0, 0xffffffff, false},
 };
 
+/* Sandboxes of the fourth format, and of a number that no format has, beside it: its code and data lie above their zones at zero,
+   or in one of these. */
+static const struct {
+    uint32_t format, data_size;
+    bool is_apart;
+} zones[] = {
+    {4, 0x1000, true},      {4, 0x80000000, true},  {4, 0x8010f000, true}, /* its zone at zero ends where the other's code begins */
+    {4, 0x8010f010, false}, {0, 0x8010f010, false}, {5, 0x8010f010, false},
+    {3, 0x8010f010, true},  {1, 0x8010f010, true},
+};
+
 int main(void) {
     int wrong = 0;
+    for (size_t k = 0; k < sizeof zones / sizeof zones[0]; k++) {
+        /* its data lie nowhere that matters: above all else, as far as they have room */
+        const struct sfi_part other = {.format = zones[k].format, .code_base = 0xc0000000, .code_size = 0x1000,
+                                       .data_base = 0xd0000000, .data_size = zones[k].data_size};
+        if (sfi_c_apart(&one, &other) == zones[k].is_apart && sfi_c_apart(&other, &one) == zones[k].is_apart)
+            continue;
+        printf("zone %zu\n", k);
+        wrong = 1;
+    }
     for (size_t k = 0; k < sizeof rows / sizeof rows[0]; k++) {
-        const struct sfi_part other = {.code_base = rows[k].code_base, .code_size = rows[k].code_size,
+        const struct sfi_part other = {.format = 3, .code_base = rows[k].code_base, .code_size = rows[k].code_size,
                                        .data_base = rows[k].data_base, .data_size = rows[k].data_size};
         if (sfi_c_apart(&one, &other) == rows[k].is_apart && sfi_c_apart(&other, &one) == rows[k].is_apart)
             continue;

@@ -39,7 +39,7 @@ def grown(image):
 
 def random_image(pick):
     """A random accepted image."""
-    return with_data(corpus.small_accepted(pick), pick.choice(SIZES))
+    return with_data(corpus.small_accepted(pick, tuple(FORMATS)), pick.choice(SIZES))
 
 
 def places(size):

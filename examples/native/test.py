@@ -111,7 +111,7 @@ def main():
         return 0
     pick = random.Random(given.seed)
     images = [guarded.grown(it) for it in corpus.examples(given.program)] + guarded.images(pick, given.program, given.images)
-    images = [it for it in images if natively.has_pages(it)]
+    images = [it for it in images if natively.has_pages(it) and guarded.layout.parts(it)[0].format in guarded.FORMATS]
     tried = [(f"{len(images)} images have data of whole pages", len(images) > given.images), ("the host is there", native.make() is not None)]
     tried += try_zones(given.program, images)
     with tempfile.TemporaryDirectory() as folder:

@@ -47,7 +47,7 @@ static void take(struct sfi_run_world *world) {
     size = sfi_run_snapshot_size(world);
     for (int tries = 0; (how = sfi_run_take(world, digest, bytes, size)) == SFI_RUN_SNAPSHOT_NOT_NOW && tries < MOST_STEPS; tries++)
         step(world);
-    wanted(how == SFI_RUN_SNAPSHOT_DONE, "it is taken");
+    wanted(how == SFI_RUN_SNAPSHOT_DONE && !memcmp(bytes, "SNAP", 4), "it is taken");
     wanted(sfi_run_take(world, digest, others, ROOM) == SFI_RUN_SNAPSHOT_DONE && !memcmp(bytes, others, size), "and nothing changes");
     wanted(sfi_run_take(world, digest, others, size - 1) == SFI_RUN_SNAPSHOT_NO_ROOM, "a room that is too small");
 }

@@ -59,8 +59,10 @@ line_of() { # image, input
         sed 's/^sandbox=0 //; s/ steps=[0-9]*//; s/ at=[0-9a-f]*//'
 }
 
-image_of() { # program, format; fails where sfi-cc does
-    ../../tools/sfi-cc --program "$sfi" --format "$2" -o "$room/$1.image" "$room/$1.s" 2>"$room/messages"
+image_of() { # program, format; fails where sfi-cc does. What `calls` takes in all is more than this heap
+    local room_of=()
+    [ "$1" != calls ] || room_of=(--heap 98304)
+    ../../tools/sfi-cc --program "$sfi" --format "$2" "${room_of[@]}" -o "$room/$1.image" "$room/$1.s" 2>"$room/messages"
 }
 
 of_calls() { # program, format; what sfi-cc says of it

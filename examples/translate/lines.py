@@ -26,12 +26,13 @@ BRANCHES = "beq bne blt bge bltu bgeu".split()
 def sandboxes(sfi, digits):
     """The unit of code and the sandboxes, each a dictionary of its fields, gates, and instructions."""
     listing = subprocess.run([sfi, "dis"], input=digits.encode(), stdout=subprocess.PIPE, check=True).stdout.decode()
-    unit = 4 if listing.startswith("format SFIW") else 16
+    unit = 4 if listing.startswith(("format SFIW", "format SFIS")) else 16
+    form = "SANDBOX_SINGLE" if listing.startswith("format SFIS") else "SANDBOX"
     found = []
     for line in listing.splitlines():
         words = line.split()
         if words[0] == "sandbox":
-            found.append(dict(code=int(words[3], 16), code_size=int(words[4]), data=int(words[6], 16),
+            found.append(dict(form=form, code=int(words[3], 16), code_size=int(words[4]), data=int(words[6], 16),
                               data_size=int(words[7]), start=int(words[9], 16), init=int(words[13]), gates=[],
                               instructions=[]))
         elif words[0] == "gate":
@@ -97,7 +98,7 @@ def line_of(at, size, name, operands):
 
 def lines(unit, number, box):
     """The lines of a sandbox."""
-    yield (f"SANDBOX({number},{unit},{box['code']:08x},{box['code_size']},{box['data']:08x},{box['data_size']},"
+    yield (f"{box['form']}({number},{unit},{box['code']:08x},{box['code_size']},{box['data']:08x},{box['data_size']},"
            f"{box['start']:08x},{len(box['gates'])},{box['init']})")
     yield from (f"GATE({at:08x},{service})" for at, service in box["gates"])
     yield f"DATA({number}," + "".join(f"{byte}," for byte in box["first_data"]) + "0)"

@@ -1,4 +1,4 @@
-"""Folders that are made once and kept, below $XDG_CACHE_HOME, or ~/.cache where that isn't set. A release brings some."""
+"""Folders that are made once and kept in $SUYGAPID_CACHE, or suygapid below $XDG_CACHE_HOME or ~/.cache. A release brings some."""
 import contextlib
 import fcntl
 import hashlib
@@ -20,12 +20,9 @@ def tell_once(text: str) -> None:
     told.append(text)
 
 
-def cache_home() -> str:
-    return os.environ.get("XDG_CACHE_HOME") or os.path.join(os.path.expanduser("~"), ".cache")
-
-
 def root() -> str:
-    return os.path.join(cache_home(), "sfi-cc")
+    home = os.environ.get("XDG_CACHE_HOME") or os.path.join(os.path.expanduser("~"), ".cache")
+    return os.environ.get("SUYGAPID_CACHE") or os.path.join(home, "suygapid")
 
 
 def bytecode() -> str:

@@ -1,4 +1,4 @@
-"""Results that are kept by what they were made of, in $SUYGAPID_CACHE, or suygapid below $XDG_CACHE_HOME or ~/.cache.
+"""Results that are kept by what they were made of, in the folder `results` of what kept.py has.
 
 A result is a file of its own, named by the digest of all that it depends on, and begins with its own digest: one that is
 damaged is made again. It is whole as soon as it is there, so that any number of runs may read and write at once. Where the
@@ -10,14 +10,14 @@ import tempfile
 import zlib
 from typing import Callable, Iterable, Optional
 
-from suygapid.kept import cache_home
+from suygapid import kept as folders
 
 MOST = 1 << 25  # bytes of each of 16 folders; what was read last stays
 DIGEST = hashlib.sha256().digest_size
 
 
 def root() -> str:
-    return os.environ.get("SUYGAPID_CACHE") or os.path.join(cache_home(), "suygapid")
+    return os.path.join(folders.root(), "results")
 
 
 def place_of(parts: Iterable[bytes]) -> str:

@@ -24,6 +24,7 @@ from . import _library
 from ._built import built, words as built_words
 
 __all__ = ["FAULTS", "Finding", "Judged", "Verdict", "built", "check", "check_bytes", "check_file"]
+__version__ = "0.1.0"
 
 FAULTS = ("", "Magic", "Count", "Short", "Code", "Data", "GuardRoom", "Start", "Gates", "Init", "Overlap", "Trailing")
 ACCEPTED, REFUSED, NO_IMAGE = 0, 1, 2  # a verdict's statuses

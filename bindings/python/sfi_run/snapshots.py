@@ -11,7 +11,7 @@ decides what its sandboxes' data are and where their code goes on, and no more.
 
 The bytes, which sfi_run_snapshot.h makes, too, and in which numbers are little-endian, of 32 bits but for the steps:
 
-    SFIS, the version 1, the image's SHA-256 (32 bytes), the number of sandboxes
+    SNAP, the version 1, the image's SHA-256 (32 bytes), the number of sandboxes
     of each: kind (as sfi_run.h has it: 1 ready, 2 at a call, 3 exited, 5 stopped), the number of its exit or 0, pc, x0 to x31, steps
              (64 bits), the base and size of its data, the data
     the CRC-32 of all before
@@ -30,7 +30,7 @@ from .told import Call, Event, Exited, Ready, Registers, Region, Stopped, Trappe
 if TYPE_CHECKING:
     from .modules import Module
 
-MAGIC, VERSION = b"SFIS", 1
+MAGIC, VERSION = b"SNAP", 1
 HEAD = struct.Struct("<4sI32sI")
 SANDBOX = struct.Struct("<II33IQII")
 SUM = struct.Struct("<I")

@@ -39,7 +39,8 @@ class NoImage(Exception):
         self.fault = fault
 
     def __str__(self) -> str:
-        return f"the bytes are no image: layout fault {self.fault}"
+        from sfi_check import FAULTS  # here, since few programs print it
+        return f"the bytes are no image: layout fault {self.fault} {FAULTS[self.fault]}"
 
 
 class OutsideData(Exception):

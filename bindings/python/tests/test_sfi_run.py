@@ -62,10 +62,10 @@ def built(source, *options):
 class Loading(unittest.TestCase):
     def test_bytes_that_are_no_image(self):
         # docs/IMAGE.md: 1 is the magic, 3 bytes that are cut short, 11 bytes that are left
-        for image, fault in ((b"SFI9", 1), (SMALLEST[:-1], 3), (SMALLEST + b"\0", 11)):
+        for image, fault, name in ((b"SFI9", 1, "Magic"), (SMALLEST[:-1], 3, "Short"), (SMALLEST + b"\0", 11, "Trailing")):
             with self.assertRaises(sfi_run.NoImage) as told:
                 sfi_run.World(image)
-            self.assertEqual((told.exception.fault, str(told.exception)), (fault, f"the bytes are no image: layout fault {fault}"))
+            self.assertEqual((told.exception.fault, str(told.exception)), (fault, f"the bytes are no image: layout fault {fault} {name}"))
 
     def test_an_image_with_broken_rules(self):
         at = SMALLEST.index(EBREAKS)

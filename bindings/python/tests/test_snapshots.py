@@ -54,13 +54,14 @@ class GoingOn(unittest.TestCase):
 
     def test_as_the_first_would(self):
         pick = random.Random(983)
-        for line in ("", ".format 2\n", ".format words\n"):
+        for line in ("", ".format 2\n", ".format words\n", ".format single\n"):
             image = built(line + COUNTS)
             with sfi_run.World(image) as world, Module(image) as module:
                 for number in range(6):
                     for _ in range(pick.randrange(200)):
                         step(world)
                     snapshot = settled(world, image)
+                    self.assertEqual(snapshot[:4], b"SNAP")
                     before = state(world)
                     self.assertEqual((snapshots.take(world, image), state(world)), (snapshot, before))
                     with snapshots.restore(module if number % 2 else image, snapshot) as second:

@@ -3,6 +3,22 @@ use crate::sys;
 use std::error::Error;
 use std::fmt;
 
+/// The layout's faults, from 1 on.
+const FAULTS: [&str; 12] = [
+    "",
+    "Magic",
+    "Count",
+    "Short",
+    "Code",
+    "Data",
+    "GuardRoom",
+    "Start",
+    "Gates",
+    "Init",
+    "Overlap",
+    "Trailing",
+];
+
 /// A rule that is broken, and where.
 #[derive(Clone, Copy, Debug, PartialEq, Eq)]
 pub struct Finding {
@@ -80,7 +96,11 @@ impl fmt::Display for LoadError {
                 "rules are broken in the image: findings={findings} first=V{} sandbox={} at={:08x}",
                 first.rule, first.sandbox, first.address
             ),
-            LoadError::NoImage(fault) => write!(to, "the bytes are no image: layout fault {fault}"),
+            LoadError::NoImage(fault) => write!(
+                to,
+                "the bytes are no image: layout fault {fault} {}",
+                FAULTS.get(*fault as usize).unwrap_or(&"")
+            ),
             LoadError::NoMemory => to.write_str("there was no memory for the image"),
             LoadError::OtherVersion(number) => {
                 let [_, major, minor, patch] = number.to_be_bytes();

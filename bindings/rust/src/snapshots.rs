@@ -19,7 +19,7 @@ use crate::{CallError, Event, Region, Registers, Sandbox, World};
 use std::error::Error;
 use std::fmt;
 
-const MAGIC: &[u8] = b"SFIS";
+const MAGIC: &[u8] = b"SNAP";
 const VERSION: u32 = 1;
 const SUM: usize = 4;
 /// How a sandbox stands, by the numbers of sfi_run.h.

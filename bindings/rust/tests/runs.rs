@@ -46,7 +46,12 @@ fn what_is_not_accepted_is_not_loaded() {
         Some(LoadError::NoImage(3))
     );
     let longer = [&image[..], &[0]].concat();
-    assert_eq!(World::load(&longer).err(), Some(LoadError::NoImage(11)));
+    let trailing = World::load(&longer).err().unwrap();
+    assert_eq!(trailing, LoadError::NoImage(11));
+    assert_eq!(
+        trailing.to_string(),
+        "the bytes are no image: layout fault 11 Trailing"
+    );
     let mut broken = image.clone();
     broken[36..40].copy_from_slice(&word(0x001c_0c13)); // addi x24, x24, 1
     broken[40..44].copy_from_slice(&word(0x001c_0c13));

@@ -72,13 +72,14 @@ fn go_on_alike(first: &mut World, second: &mut World) {
 
 #[test]
 fn it_goes_on_as_the_first_would() {
-    for line in ["", ".format 2\n", ".format words\n"] {
+    for line in ["", ".format 2\n", ".format words\n", ".format single\n"] {
         let image = built(&format!("{line}{COUNTS}"));
         let mut module = Module::new(&image).unwrap();
         let mut world = World::load(&image).unwrap();
         for steps in [0, 1, 37, 98, 151, 199] {
             (0..steps).for_each(|_| step(&mut world));
             let snapshot = settled(&mut world, &image);
+            assert!(snapshot.starts_with(b"SNAP"));
             let before = state(&mut world);
             assert_eq!(take(&mut world, &image).as_ref(), Ok(&snapshot));
             assert_eq!(state(&mut world), before);

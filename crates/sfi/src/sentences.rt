@@ -187,7 +187,7 @@ const SENTENCES: &[Sentence] = &[
     Sentence {
         kind: "convert",
         name: "Words",
-        says: "the image is of the third format",
+        says: "the image is of code in words",
     },
     Sentence {
         kind: "move",
@@ -198,6 +198,11 @@ const SENTENCES: &[Sentence] = &[
         kind: "move",
         name: "NoPlace",
         says: "the sandbox can't lie where --at says",
+    },
+    Sentence {
+        kind: "native",
+        name: "SingleMasks",
+        says: "there is no native code yet for a format whose masks are single",
     },
     Sentence {
         kind: "option",

@@ -28,8 +28,8 @@ gates_there from to at (g ∷ gs) low =
 
 pub moved_is_linked : MovedIsLinked
 moved_is_linked given others number p q moves linked lies =
-    let there = place_of others number in
-    let here = place_of given number in
+    let there = place_of others p.format number in
+    let here = place_of given p.format number in
     let base : q.code_base ≡ here.code_base = ap (λ (x : Part). x.code_base) linked.is in
     let from : q.start ≡ here.code_base + stub_size * length p.gates = ap (λ (x : Part). x.start) linked.is in
     let format : q.format ≡ p.format = ap (λ (x : Part). x.format) linked.is in
@@ -69,10 +69,10 @@ module _ (f : Fields) (to : Place) (at : ℕ) where
 
 module _ (given others : List Place) (number : ℕ) (p : Placement) (q : Part) (linked : IsLinked given number p q) (apart : AreApart (code_region q) (guarded_region q)) (room : length p.bytes < p.data_size) where
   abbrev here : Place
-  here = place_of given number
+  here = place_of given p.format number
 
   abbrev there : Place
-  there = place_of others number
+  there = place_of others p.format number
 
   code_is : q.code_base ≡ here.code_base
   code_is = ap (λ (x : Part). x.code_base) linked.is

@@ -2,7 +2,7 @@
 use Rattle.std.specs.Prelude.{ℕ, ◌+◌, ◌==◌, List, [], ◌∷◌, ◌++◌, codes, decimal, ◌≡◌, ◌⊎◌, ◌<◌, ◌≤◌, length, IsUtf8, Bool, true, false, if◌then◌else◌}
 use Rattle.std.specs.List.{flat_map}
 use Rattle.sfi_formats.specs.declared.format.Format.{Format}
-use Rattle.sfi_formats.specs.declared.format.Format.TheVariants.{Sfi1, Sfi2, Sfiw}
+use Rattle.sfi_formats.specs.declared.format.Format.TheVariants.{Sfi1, Sfi2, Sfiw, Sfis}
 use Rattle.sfi_image.specs.Spelling.{Part}
 use Rattle.sfi_image.specs.Parts.{IsImage}
 use Rattle.sfi_link.specs.Names.{MapEntry}
@@ -57,6 +57,7 @@ abbrev pub IsTableText : Format → List ℕ → List ℕ → Type 0
 IsTableText Sfi1 init text = text ≡ []
 IsTableText Sfi2 init text = IsNamesText init text
 IsTableText Sfiw init text = IsNamesText init text
+IsTableText Sfis init text = IsNamesText init text
 
 -- the map of parts, the first of which is that of sandbox `sandbox`: of each the lines of its
 -- gates and labels, and then what is said of its first data bytes
@@ -147,7 +148,7 @@ pub record SaysStackFindings (bytes : List ℕ) (status : ℕ) (text : List ℕ)
   pub status_is : status ≡ 1
   pub text_is : text ≡ refused_line found
 
--- the conversion, or the verdict on an image of the first or third format with findings, or on one
+-- the conversion, or the verdict on an image of the first format or of code in words with findings, or on one
 -- of the first whose sandboxes have findings in the second alone
 abbrev pub SaysConversion : Bool → List ℕ → ℕ → List ℕ → Type 0
 SaysConversion raw bytes status text =
@@ -156,7 +157,7 @@ SaysConversion raw bytes status text =
 
 -- ---- when it is due
 
--- the bytes are an image of the first or third format with findings, or one of the first whose
+-- the bytes are an image of the first format or of code in words with findings, or one of the first whose
 -- sandboxes have findings in the second alone
 abbrev pub HasFindingsForConvert : List ℕ → Type 0
 HasFindingsForConvert bytes =

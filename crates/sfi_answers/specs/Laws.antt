@@ -15,9 +15,9 @@ use Rattle.sfi_link.specs.Linked.{IsRightPlace, IsLinked}
 abbrev pub MovedIsLinked : Type 0
 MovedIsLinked =
     (given others : List Place) (number : ℕ) (p : Placement) (q : Part) → p.movable ≡ true
-    → IsLinked given number p q → IsRightPlace p (length q.code) (place_of others number)
+    → IsLinked given number p q → IsRightPlace p (length q.code) (place_of others p.format number)
     → IsLinked others number p
-    (moved (place_of others number).code_base (place_of others number).data_base q)
+    (moved (place_of others p.format number).code_base (place_of others p.format number).data_base q)
 
 -- in a sandbox whose data have room for a table of names, an address that a name stands for is, where it
 -- is moved to another place, the one that the name stands for where the sandbox is made at that place
@@ -27,4 +27,4 @@ NamesGoAlong =
     → IsLinked given number p q → AreApart (code_region q) (guarded_region q)
     → length p.bytes < p.data_size → address_at (bases_of given number p) p.names name ≡ Some at
     → address_at (bases_of others number p) p.names name
-    ≡ Some (address_there (fields_of q) (place_of others number) at)
+    ≡ Some (address_there (fields_of q) (place_of others p.format number) at)

@@ -59,7 +59,7 @@ fn names_text_of_format(alloc: Global, format: Format, init: &[u8]) -> Result<St
 {
     match format {
         Format::Sfi1 => Ok(String::new(alloc)),
-        Format::Sfi2 | Format::Sfiw => names_text(alloc, init),
+        Format::Sfi2 | Format::Sfiw | Format::Sfis => names_text(alloc, init),
     }
 }
 

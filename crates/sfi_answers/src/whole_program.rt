@@ -90,10 +90,11 @@ struct sfi_sandbox {
     const uint8_t *first_data;
     const struct sfi_row *(*rows)(void);
     sfi_function *const *functions;
+    sfi_u32 single;
 };
 static inline void sfi_begin(const struct sfi_sandbox *s, struct sfi_hart *h, sfi_u32 pc) {
     const struct sfi_hart first = { { [2] = s->data + s->data_size - 16, [24] = s->code, [25] = s->code_size - s->unit,
-        [26] = s->data, [27] = s->data_size - 1 }, pc, h->left, h->data };
+        [26] = s->data, [27] = s->data_size - 1 + (s->single ? s->data : 0) }, pc, h->left, h->data };
     *h = first;
     if (s->unit == 4) {
         h->x[3] = h->x[4] = h->x[29] = s->data;
@@ -158,6 +159,8 @@ static int sfi_turn(const struct sfi_sandbox *s, struct sfi_hart *h, sfi_u32 *at
             return how;
     }
 }
+#define SANDBOX(...) SFI_SANDBOX(__VA_ARGS__, 0)
+#define SANDBOX_SINGLE(...) SFI_SANDBOX(__VA_ARGS__, 1)
 #define ENTRY(at)
 #define HEAD(at)
 #define END(at)
@@ -175,7 +178,7 @@ static int sfi_turn(const struct sfi_sandbox *s, struct sfi_hart *h, sfi_u32 *at
 #define FENCE(...)
 #define ECALL(...)
 #define EBREAK(...)
-#define SANDBOX(s, unit, code, code_size, data, data_size, start, gates, init) \
+#define SFI_SANDBOX(s, unit, code, code_size, data, data_size, start, gates, init, single) \
     static const struct sfi_row *sfi_rows##s(void); static const struct sfi_native_gate sfi_gates##s[gates + 1] = {
 #define GATE(address, service) { 0x##address##u, service },
 #define DATA(s, ...) { 0, 0 } }; static const uint8_t sfi_first##s[] = { __VA_ARGS__ };
@@ -183,29 +186,29 @@ static int sfi_turn(const struct sfi_sandbox *s, struct sfi_hart *h, sfi_u32 *at
 #define FUNCTION(s, first) static sfi_function SFI_FUNCTION(s, first);
 #define LAST
 #include SFI_TEXT
-#undef SANDBOX
+#undef SFI_SANDBOX
 #undef GATE
 #undef DATA
 #undef FUNCTION
 #undef LAST
-#define SANDBOX(s, unit, code, code_size, data, data_size, start, gates, init) static sfi_function *const sfi_functions##s[] = {
+#define SFI_SANDBOX(s, unit, code, code_size, data, data_size, start, gates, init, single) static sfi_function *const sfi_functions##s[] = {
 #define GATE(address, service)
 #define DATA(...)
 #define FUNCTION(s, first) SFI_FUNCTION(s, first),
 #define LAST };
 #include SFI_TEXT
-#undef SANDBOX
+#undef SFI_SANDBOX
 #undef FUNCTION
 #undef LAST
-#define SANDBOX(s, unit, code, code_size, data, data_size, start, gates, init) { unit, 0x##code##u, code_size, \
-    0x##data##u, data_size, 0x##start##u, gates, init, sfi_gates##s, sfi_first##s, sfi_rows##s, sfi_functions##s },
+#define SFI_SANDBOX(s, unit, code, code_size, data, data_size, start, gates, init, single) { unit, 0x##code##u, code_size, \
+    0x##data##u, data_size, 0x##start##u, gates, init, sfi_gates##s, sfi_first##s, sfi_rows##s, sfi_functions##s, single },
 #define FUNCTION(s, first)
 #define LAST
 static const struct sfi_sandbox sfi_sandboxes[] = {
 #include SFI_TEXT
 };
 enum { SFI_SANDBOXES = sizeof sfi_sandboxes / sizeof sfi_sandboxes[0] };
-#undef SANDBOX
+#undef SFI_SANDBOX
 #undef LAST
 #undef OP
 #undef OPI
@@ -221,7 +224,7 @@ enum { SFI_SANDBOXES = sizeof sfi_sandboxes / sizeof sfi_sandboxes[0] };
 #undef FENCE
 #undef ECALL
 #undef EBREAK
-#define SANDBOX(s, unit, code, code_size, data, data_size, start, gates, init) \
+#define SFI_SANDBOX(s, unit, code, code_size, data, data_size, start, gates, init, single) \
     static const struct sfi_row *sfi_rows##s(void) { enum { first_ = 0x##code##u / 2 }; \
         static const struct sfi_row rows_[code_size / 2] = {
 #define LAST }; return rows_; }
@@ -241,7 +244,7 @@ enum { SFI_SANDBOXES = sizeof sfi_sandboxes / sizeof sfi_sandboxes[0] };
 #define ECALL(at, size) SFI_ROW(at, size, ecall, 0, 0, 0, 0)
 #define EBREAK(at, size) SFI_ROW(at, size, ebreak, 0, 0, 0, 0)
 #include SFI_TEXT
-#undef SANDBOX
+#undef SFI_SANDBOX
 #undef FUNCTION
 #undef ENTRY
 #undef HEAD
@@ -281,20 +284,24 @@ enum { SFI_SANDBOXES = sizeof sfi_sandboxes / sizeof sfi_sandboxes[0] };
 #define r23 h->x[23]
 #define r28 h->x[28]
 #define r30 h->x[30]
-#define SFI_IS_FIXED(k) ((k) == 0 || ((k) >= 24 && (k) <= 27))
+#define SFI_IS_FIXED(k) ((k) == 0 || ((k) >= 24 && (k) <= 27 && !(single_ && (k) == 26)))
 #define W(k, value) r##k = SFI_IS_FIXED(k) ? r##k : (value);
-#define SANDBOX(s, unit, code, code_size, data, data_size, start, gates, init) enum { sfi_unit##s = unit }; static const sfi_u32 \
+#define SFI_SANDBOX(s, unit, code, code_size, data, data_size, start, gates, init, single) \
+    enum { sfi_unit##s = unit, sfi_single##s = single }; static const sfi_u32 \
     sfi_code##s = 0x##code##u, sfi_code_size##s = code_size, sfi_data##s = 0x##data##u, sfi_data_size##s = data_size;
 #define SFI_QUARTER(place) ((sfi_u32)((place) - part_) / 4)
 #define SFI_TURNED(place) ((place) / unit_ | (place) << (unit_ == 4 ? 30 : 28))
-#define FUNCTION(s, first) static int SFI_FUNCTION(s, first)(struct sfi_hart *restrict const h) { enum { unit_ = sfi_unit##s }; \
+#define FUNCTION(s, first) static int SFI_FUNCTION(s, first)(struct sfi_hart *restrict const h) { \
+    enum { unit_ = sfi_unit##s, single_ = sfi_single##s }; \
     const sfi_u32 part_ = 0x##first##u / SFI_PART * SFI_PART, code_ = sfi_code##s, code_size_ = sfi_code_size##s, \
         data_ = sfi_data##s, data_size_ = sfi_data_size##s; \
-    sfi_u32 r0 = 0, r24 = code_, r25 = code_size_ - unit_, r26 = data_, r27 = data_size_ - 1, SFI_REGISTERS(SFI_GET) pc_ = h->pc; \
+    sfi_u32 r0 = 0, r24 = code_, r25 = code_size_ - unit_, r26 = single_ ? h->x[26] : data_, \
+        r27 = data_size_ - 1 + (single_ ? data_ : 0), SFI_REGISTERS(SFI_GET) pc_ = h->pc; \
     uint64_t sum_ = (uint64_t)h->left + SFI_QUARTER(pc_); uint8_t *const mem_ = h->data; int how_ = 0; \
     (void)r0; (void)r24; (void)r25; (void)r26; (void)r27; (void)mem_; \
     enter: switch (SFI_TURNED(pc_ - part_)) { default: if (pc_ % unit_ || pc_ - part_ < SFI_PART) goto slow; goto out;
-#define SFI_CLOSE } slow: how_ = 1; out: SFI_REGISTERS(SFI_PUT) h->pc = pc_; h->left = (sfi_u32)(sum_ - SFI_QUARTER(pc_)); return how_; }
+#define SFI_CLOSE } slow: how_ = 1; out: SFI_REGISTERS(SFI_PUT) if (single_) h->x[26] = r26; h->pc = pc_; \
+    h->left = (sfi_u32)(sum_ - SFI_QUARTER(pc_)); return how_; }
 #define END(at) pc_ = 0x##at##u; goto out; SFI_CLOSE
 #define LAST pc_ = code_ + code_size_; goto out; SFI_CLOSE
 #define ENTRY(at) case 0x##at##u % SFI_PART / unit_:

@@ -5,17 +5,20 @@ use Rattle.sfi_link.proofs.Prelude.{◌⊎◌, Vec, Global, Result, Ok, Err, IfO
 use Rattle.std.specs.Prelude.{◌≢◌}
 use Rattle.std.proofs.lemmas.Result.{IfOk-weaker}
 use Rattle.sfi_text.specs.Texts.{MeansSource}
-use Rattle.sfi_source.specs.Source.{IsSource, IsSandbox}
+use Rattle.sfi_source.specs.Source.{IsSource, IsSandbox, format_of}
 use Rattle.std.proofs.lemmas.List.Elements.{recursion_from_All}
 use Rattle.sfi_build.specs.Tables.{tails_from, sandbox_with}
 use Rattle.sfi_build.proofs.Tails.{source_right}
 use Rattle.sfi_build.proofs.Fitting.{tails_fit, same_ok, same_err, ok_not_err}
-use Rattle.sfi_link.specs.Linked.{IsLinkedImage, ArePlacements, IsBuild, each_with}
+use Rattle.sfi_link.specs.Linked.{IsLinkedImage, ArePlacements, IsBuild, HaveUsualPlaces, each_with}
 use Rattle.sfi_link.specs.Standing.{ImageRunsAs}
-use Rattle.sfi_build.specs.Texts.{IsPlainBuild, MeansWhole, IsTextBuild, IsTextMap, IsCleanImage, IsBuildFault, IsWantOfMemory, AnswersBuild, AnswersBuildFault}
+use Rattle.sfi_build.specs.Texts.{IsPlainBuild, MeansWhole, IsTextBuild, IsTextMap, IsCleanImage, IsBuildFault, HasUsualPlaces, IsWantOfMemory, AnswersBuild, AnswersBuildFault}
 use Rattle.sfi_build.specs.declared.fault.BuildFault.{BuildFault}
 use Rattle.sfi_build.specs.declared.fault.BuildFault.TheVariants.{Text, Rewrite, Link, Names}
-use Rattle.sfi_rewrite.specs.Rewriting.{IsSourceFault, AreRewritten}
+use Rattle.sfi_rewrite.specs.Rewriting.{IsSourceFault, IsRewritten, AreRewritten}
+use Rattle.sfi_rewrite.specs.Placed.{format_of as placements_format}
+use Rattle.sfi_formats.specs.Formats.{has_single_mask}
+use Rattle.std.proofs.lemmas.Slice.Zip.{AllZip-long}
 use Rattle.sfi_rewrite.specs.declared.fault.RewriteFault.{RewriteFault}
 use Rattle.sfi_text.proofs.Facts as texts
 use Rattle.sfi_rewrite.proofs.Facts as sources
@@ -168,14 +171,26 @@ only_fault Is given text never (Ok v) h f is = absurd (never v.items f h.0 is)
 only_fault Is given text never (Err g) (ok, inl h) f is = inr h
 only_fault Is given text never (Err g) (ok, inr h) f is = inl (one_build_fault given text g f h is)
 
--- where no place is given, no fault is that of a place
+-- what is placed of a source has as many sandboxes, and is of its format
+have_places : (source : List Sandbox) (placed : List Placement) → AreRewritten source placed → HaveUsualPlaces (format_of source) (length source) → HaveUsualPlaces (placements_format placed) (length placed)
+have_places source placed rewritten have single =
+    omega (arith, have (ap has_single_mask (sym (same_format source placed rewritten)) ∙ single), AllZip-long IsRewritten source placed rewritten)
+  where
+    same_format : (source : List Sandbox) (placed : List Placement) → AreRewritten source placed → placements_format placed ≡ format_of source
+    same_format [] [] h = refl
+    same_format [] (p ∷ placed) h = absurd h
+    same_format (s ∷ source) [] h = absurd h
+    same_format (s ∷ source) (p ∷ placed) h = h.0.placement.format
+
+-- where no place is given, and there is a usual one for each, no fault is that of a place
 pub never_place_built : {X : Type 0} (given : List Place) (text : List ℕ) (r : Result X BuildFault) → IfErr r (λ f. IsWantOfMemory f ⊎ IsBuildFault given text f)
-    → given ≡ [] → (k : ℕ) → r ≢ Err (Link (fault.Place k))
-never_place_built given text r wrong none k e =
+    → given ≡ [] → HasUsualPlaces text → (k : ℕ) → r ≢ Err (Link (fault.Place k))
+never_place_built given text r wrong none have k e =
     elim (subst (λ x. IfErr x (λ f. IsWantOfMemory f ⊎ IsBuildFault given text f)) e wrong) [
       | inl memory ↦ cc
       | inr (source, shared, placed, means, rewritten, here) ↦
-          usual_places_are_free placed k (sources.rewritten_is_placed source placed (texts.sources_are_right text source (listed_means text source shared means)) rewritten) (subst (λ g. IsLinkFault g placed (fault.Place k)) none here)
+          usual_places_are_free placed k (sources.rewritten_is_placed source placed (texts.sources_are_right text source (listed_means text source shared means)) rewritten)
+          (have_places source placed rewritten (have source shared means)) (subst (λ g. IsLinkFault g placed (fault.Place k)) none here)
     ]
 
 -- ---- what a build is

@@ -1,8 +1,8 @@
 -- What the build and the map of a text are, and why a text has none.
-use Rattle.std.specs.Prelude.{◌≡◌, ◌⊎◌, ℕ, List, [], Result, Ok, Err, Vec}
+use Rattle.std.specs.Prelude.{◌≡◌, ◌⊎◌, ℕ, List, [], length, Result, Ok, Err, Vec}
 use Rattle.std.specs.Global.{Global}
 use Rattle.sfi_text.specs.Tokens.{memory}
-use Rattle.sfi_source.specs.Source.{Sandbox}
+use Rattle.sfi_source.specs.Source.{Sandbox, format_of}
 use Rattle.sfi_text.specs.SoFar.{SharedNames}
 use Rattle.sfi_text.specs.Texts.{MeansText, IsFault}
 use Rattle.sfi_image.specs.Spelling.{Part}
@@ -16,7 +16,7 @@ use Rattle.sfi_link.specs.declared.fault.LinkFault.TheVariants as linker
 use Rattle.sfi_build.specs.declared.fault.BuildFault.{BuildFault}
 use Rattle.sfi_build.specs.declared.fault.BuildFault.TheVariants.{Text, Rewrite, Link, Names}
 use Rattle.sfi_build.specs.Tables.{tails_from, sandbox_with}
-use Rattle.sfi_link.specs.Linked.{IsLinkedImage, each_with}
+use Rattle.sfi_link.specs.Linked.{IsLinkedImage, HaveUsualPlaces, each_with}
 use Rattle.sfi_link.specs.Faults.{IsLinkFault}
 use Rattle.sfi_link.specs.Names.{MapEntry, map_from}
 
@@ -76,6 +76,12 @@ IsBuildFault given text (Names f) =
     (source : List Sandbox) × (shared : List SharedNames) × (placed : List Placement)
     × IsPlainBuild given text source shared placed
     × (tails_from given placed 0 shared source ≡ Err f)
+
+-- There is a usual place for each sandbox of the text, if it means a source. Where masks of data have two
+-- steps this asks nothing.
+abbrev pub HasUsualPlaces : List ℕ → Type 0
+HasUsualPlaces text = (source : List Sandbox) (shared : List SharedNames)
+    → MeansText text source shared → HaveUsualPlaces (format_of source) (length source)
 
 -- memory ran out
 abbrev pub IsWantOfMemory : BuildFault → Type 0

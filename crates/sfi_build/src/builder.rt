@@ -9,7 +9,7 @@ ghost use Rattle.sfi_link.specs.declared.fault.LinkFault.TheVariants as fault;
 ghost use Rattle.sfi_link.specs.Linked.{IsBuild};
 ghost use Rattle.sfi_link.specs.Names.{MapEntry};
 ghost use Rattle.sfi_link.specs.Standing.{ImageRunsAs};
-ghost use Rattle.sfi_build.specs.Texts.{MeansWhole, IsTextBuild, IsTextMap, IsCleanImage, IsBuildFault, IsWantOfMemory, AnswersBuild, AnswersBuildFault};
+ghost use Rattle.sfi_build.specs.Texts.{MeansWhole, IsTextBuild, IsTextMap, IsCleanImage, IsBuildFault, HasUsualPlaces, IsWantOfMemory, AnswersBuild, AnswersBuildFault};
 
 use crate::fault::BuildFault;
 use crate::tables::inits_of;
@@ -53,8 +53,8 @@ pub fn build_at(alloc: Global, text: &str, places: &[Place]) -> Result<Vec<u8>, 
     ensures only_fault { (f : BuildFault)
         → IsBuildFault places.now text.now f → AnswersBuildFault f result }
 
-    // Where no place is given, no fault is that of a place.
-    ensures no_place { places.now ≡ []
+    // Where no place is given, and there is a usual one for each, no fault is that of a place.
+    ensures no_place { places.now ≡ [] → HasUsualPlaces text.now
         → (sandbox : ℕ) → result ≢ Err (Link (fault.Place sandbox)) }
 
     // A text above its limit gets its fault, whatever memory there is.
@@ -80,8 +80,9 @@ pub fn build(alloc: Global, text: &str) -> Result<Vec<u8>, BuildFault>
     ensures only_fault { (f : BuildFault)
         → IsBuildFault [] text.now f → AnswersBuildFault f result }
 
-    // No fault is that of a place.
-    ensures no_place { (sandbox : ℕ) → result ≢ Err (Link (fault.Place sandbox)) }
+    // Where there is a usual place for each, no fault is that of a place.
+    ensures no_place { HasUsualPlaces text.now
+        → (sandbox : ℕ) → result ≢ Err (Link (fault.Place sandbox)) }
 
     // A text above its limit gets its fault, whatever memory there is.
     ensures too_long { most_bytes < length text.now → result ≡ Err (Text (first_line Limit)) }
@@ -120,8 +121,8 @@ pub fn names_at(alloc: Global, text: &str, places: &[Place]) -> Result<Vec<NameA
     ensures only_fault { (f : BuildFault)
         → IsBuildFault places.now text.now f → AnswersBuildFault f result }
 
-    // Where no place is given, no fault is that of a place.
-    ensures no_place { places.now ≡ []
+    // Where no place is given, and there is a usual one for each, no fault is that of a place.
+    ensures no_place { places.now ≡ [] → HasUsualPlaces text.now
         → (sandbox : ℕ) → result ≢ Err (Link (fault.Place sandbox)) }
 
     // A text above its limit gets its fault, whatever memory there is.

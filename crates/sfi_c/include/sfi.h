@@ -4,15 +4,18 @@
  * Accepted means: from any entry of any of the image's sandboxes, with the four reserved registers set and every
  * other register and data byte arbitrary, after any number of turns every load and store fell in that sandbox's data
  * region or its guard zones, where it trapped, no code byte changed, and control left only through a listed gate.
- * An entry is any bundle start of the code, in the third format any multiple of 4. x24 holds the code base, x25 the
- * code size less 16 (in the third format less 4), x26 the data base, x27 the data size less 1.
+ * An entry is any bundle start of the code, in the third and fourth format any multiple of 4. x24 holds the code base, x25
+ * the code size less 16 (in the third and fourth format less 4), x26 the data base, x27 the data size less 1.
  * In the second format x2, the stack pointer, isn't arbitrary: at an entry and after a reply it lies in the data
  * region. In the third, SFIW, six registers aren't: x2, x3, x4 and x29 lie in the data region or at most 1020 bytes
- * beside it, x30 is a multiple of 4 in the code region, and x31 is less than the data's size. This is proved of the
+ * beside it, x30 is a multiple of 4 in the code region, and x31 is less than the data's size. In the fourth, SFIS, x27
+ * holds the data base plus the data size less 1, x30 is as in the third, and x2, x3, x4, x26, x29 and x31 each lie in the
+ * data region, or below the data's size, or at most 1020 bytes beside either, modulo 2^32 (0 is right). There the
+ * addresses below the data's size plus 4096, and the last 4096, are a guard zone, too: the zone at zero. This is proved of the
  * calls below. The library loads and runs nothing: the caller sees to it that memory, host and neighbours are as the
  * theorem asks (README.md has it with its premises). One of these is that a trap ends the sandbox's run: it goes on by a
  * new entry alone. A host that steps over an ebreak lets it out in each format. And an access with a byte in a guard zone
- * traps: in the third format a host that completes such an access, or steps over it, lets the sandbox out (no rule rests on
+ * traps: in the third and fourth format a host that completes such an access, or steps over it, lets the sandbox out (no rule rests on
  * the trap of a load into x0); in the first two that is harmless as long as nothing is in the guard zones.
  *
  * The calls read nothing but their arguments, keep nothing elsewhere from one to the next, start no thread, read no file
@@ -187,11 +190,12 @@ enum sfi_lookup {
 
 /* A sandbox of an image. */
 struct sfi_part {
-    uint32_t format;    /* that of the image: 1 for SFI1, 2 for SFI2, 3 for SFIW */
+    uint32_t format;    /* that of the image: 1 for SFI1, 2 for SFI2, 3 for SFIW, 4 for SFIS */
     uint32_t code_base; /* the code region: its first address .. */
     uint32_t code_size; /* .. and how many bytes it has, all of which are in the image */
     uint32_t data_base; /* the data region: its first address .. */
-    uint32_t data_size; /* .. and how many bytes it has; on each side is a guard zone of 4096, where each access has to trap */
+    uint32_t data_size; /* .. and how many bytes it has; on each side is a guard zone of 4096, where each access has to trap,
+                           and so has in the fourth format each below data_size + 4096, and in the last 4096 addresses */
     uint32_t start;     /* the address at which the sandbox starts to run */
     uint32_t gates;     /* how many gates it has, 0 to 64 */
     uint32_t init_size; /* how many first bytes of the data region are in the image: zeros follow them */
@@ -202,7 +206,7 @@ struct sfi_part {
 /* A gate of a sandbox. */
 struct sfi_gate {
     uint32_t address; /* the listed address: in the first two formats its stub, with its ecall in front, stands there. In
-                         the third only an ecall at a listed address may call, but what stands there isn't tested */
+                         the others only an ecall at a listed address may call, but what stands there isn't tested */
     uint32_t service; /* what the host is asked for: the number of a service (docs/GATES.md) */
 };
 
@@ -238,10 +242,10 @@ uint32_t sfi_c_gates(const uint8_t *image, size_t length, uint32_t number, struc
 
 /*
  * Of parts that sfi_c_part wrote, which may be one and the same: whether no region and no guard zone of one sandbox meets
- * one of the other: neither code with code, nor the code of one
- * with the data or a guard zone of the other, nor data or guard zones with each other, nor any with a zone at zero of the
- * other, if its format has one. It looks at the formats, bases and sizes alone. So sandboxes of two images, each accepted by itself and in any format, may run in one memory where this is true of
- * each sandbox of the one with each of the other. Of one image's sandboxes the verdict says so.
+ * one of the other: neither code with code, nor the code of one with the data or a guard zone of the other, nor data or guard
+ * zones with each other, nor any with the zone at zero of the other, if its format has one. It looks at the formats, bases and
+ * sizes alone. So sandboxes of two images, each accepted by itself and in any format, may run in one memory where this is true
+ * of each sandbox of the one with each of the other. Of one image's sandboxes the verdict says so.
  */
 bool sfi_c_apart(const struct sfi_part *one, const struct sfi_part *other);
 
@@ -252,8 +256,9 @@ bool sfi_c_apart(const struct sfi_part *one, const struct sfi_part *other);
  * the start and the gates' addresses change, by as much as the code's base, and in its table of names, if its first data bytes
  * end in one (sfi_run_export), each address of the code or the data; with an answer other than SFI_FOUND none does.
  *
- * SFI_NO_PLACE: a base is no multiple of its region's size, there is no room for a guard zone beside the data, or a region or
- * a guard zone meets another one of the image. SFI_BEYOND and SFI_NO_IMAGE are as above.
+ * SFI_NO_PLACE: a base is no multiple of its region's size (in the fourth format the data base no single bit, or below the data's
+ * size), there is no room for a guard zone beside the data, or a region or a guard zone meets another one of the image (or lies
+ * in a zone at zero). SFI_BEYOND and SFI_NO_IMAGE are as above.
  *
  * The image that was written is accepted exactly if the one before was, so either may be checked. What it computes is another
  * thing: code that has addresses in its instructions or its data, as `la` writes them without `.movable`, names the old place.

@@ -13,9 +13,10 @@ use Rattle.std.proofs.lemmas.List.Elements.{All-head, All-tail, All-nil, All-con
 use Rattle.sfi_image.specs.declared.span.Span.{Span}
 use Rattle.sfi_places.specs.Beside.{AreBeside}
 use Rattle.sfi_formats.specs.declared.format.Format.{Format}
-use Rattle.sfi_formats.specs.declared.format.Format.TheVariants.{Sfi1, Sfi2, Sfiw}
-use Rattle.sfi_formats.specs.Formats.{has_one_step}
-use Rattle.sfi_c.specs.Moves.{AreToldApart, IsToldClear}
+use Rattle.sfi_formats.specs.declared.format.Format.TheVariants.{Sfi1, Sfi2, Sfiw, Sfis}
+use Rattle.sfi_formats.specs.Formats.{has_single_mask}
+use Rattle.sfi_c.specs.Moves.{told_bounds, AreToldApart}
+use Rattle.sfi_image.specs.Bounds.{IsClearOf}
 use Rattle.sfi_c.specs.Streams.{format_of}
 use Rattle.std.specs.Prelude.{slice_get}
 use Rattle.sfi_image.proofs.Facts.{one_image, never_both}
@@ -86,19 +87,20 @@ format_told : (f : Format) → format_of (format_number f) ≡ f
 format_told Sfi1 = refl
 format_told Sfi2 = refl
 format_told Sfiw = refl
+format_told Sfis = refl
 
 -- the span lies clear of the zones with these ends
 abbrev Lies : List ℕ → Span → Type 0
 Lies ends s = All (λ end. IsClear end s) ends
 
--- where the format has one step, the two spans of the second lie clear of the zone at zero of the first
+-- where the format has single masks, the two spans of the second lie clear of the zone at zero of the first
 abbrev AreBothClear : Part → Part → Type 0
-AreBothClear p q = has_one_step p.format ≡ true → IsClear (zone_end p.data_size) (code_region q) × IsClear (zone_end p.data_size) (guarded_region q)
+AreBothClear p q = has_single_mask p.format ≡ true → IsClear (zone_end p.data_size) (code_region q) × IsClear (zone_end p.data_size) (guarded_region q)
 
 lie_clear : (p q : Part) → AreBothClear p q → AreClear (zone_ends (p ∷ [])) (spans (q ∷ []))
-lie_clear p q both = by (has_one_step p.format) refl
+lie_clear p q both = by (has_single_mask p.format) refl
   where
-    by : (b : Bool) → has_one_step p.format ≡ b → AreClear (zone_ends (p ∷ [])) (spans (q ∷ []))
+    by : (b : Bool) → has_single_mask p.format ≡ b → AreClear (zone_ends (p ∷ [])) (spans (q ∷ []))
     by true one_step =
         let end = zone_end p.data_size in
         let ends : end ∷ [] ≡ zone_ends (p ∷ []) = rw (one_step) refl in
@@ -115,10 +117,10 @@ both_clear p q clear one_step =
     let all = subst (λ (es : List ℕ). AreClear es (spans (q ∷ []))) ends clear in
     (All-head (λ e. IsClear e (code_region q)) end [] (first (Lies (end ∷ [])) q all), All-head (λ e. IsClear e (guarded_region q)) end [] (second (Lies (end ∷ [])) q all))
 
--- by what is told of the two
-told_clear : (p q : Part) (code init other_code other_init : ℕ) → IsToldClear (told_part p code init) (told_part q other_code other_init) ↔ AreClear (zone_ends (p ∷ [])) (spans (q ∷ []))
-told_clear p q code init other_code other_init =
-    let is = ap has_one_step (format_told p.format) in (
+-- by what is told of the two, wherever their code and first data bytes stand
+told_clear : (p q : Part) → IsClearOf (told_bounds (told_part p 0 0)) (told_bounds (told_part q 0 0)) ↔ AreClear (zone_ends (p ∷ [])) (spans (q ∷ []))
+told_clear p q =
+    let is = ap has_single_mask (format_told p.format) in (
       λ told. lie_clear p q (λ one_step. (told.code (is ∙ one_step), told.guarded (is ∙ one_step))),
       λ clear. record { code = λ one_step. (both_clear p q clear (sym is ∙ one_step)).0; guarded = λ one_step. (both_clear p q clear (sym is ∙ one_step)).1 },
     )
@@ -134,8 +136,8 @@ beside bytes others number further p q one other h g of_p of_q =
       λ apart. record {
         apart = two (λ (s : Span). All (λ (t : Span). AreApart s t) (spans (q ∷ []))) p
             (two (AreApart (code_region p)) q apart.regions.code_code apart.regions.code_guarded) (two (AreApart (guarded_region p)) q apart.regions.guarded_code apart.regions.guarded_guarded);
-        clear = (told_clear p q _ _ _ _).0 apart.clear;
-        other_clear = (told_clear q p _ _ _ _).0 apart.other_clear;
+        clear = (told_clear p q).0 apart.clear;
+        other_clear = (told_clear q p).0 apart.other_clear;
       },
       λ all.
           let code = first (λ (s : Span). All (λ (t : Span). AreApart s t) (spans (q ∷ []))) p all.apart in
@@ -147,8 +149,8 @@ beside bytes others number further p q one other h g of_p of_q =
               guarded_code = first (AreApart (guarded_region p)) q guarded;
               guarded_guarded = second (AreApart (guarded_region p)) q guarded;
             };
-            clear = (told_clear p q _ _ _ _).1 all.clear;
-            other_clear = (told_clear q p _ _ _ _).1 all.other_clear;
+            clear = (told_clear p q).1 all.clear;
+            other_clear = (told_clear q p).1 all.other_clear;
           },
     )
 

@@ -4,7 +4,7 @@ use Rattle.sfi_rules.specs.declared.finding.Finding.{Finding}
 use Rattle.sfi_check.specs.declared.for_c.SfiFinding.{SfiFinding}
 use Rattle.sfi_check.specs.ForC.{finding_for_c}
 use Rattle.sfi_formats.specs.declared.format.Format.{Format}
-use Rattle.sfi_formats.specs.declared.format.Format.TheVariants.{Sfi1, Sfi2, Sfiw}
+use Rattle.sfi_formats.specs.declared.format.Format.TheVariants.{Sfi1, Sfi2, Sfiw, Sfis}
 use Rattle.sfi_image.specs.declared.part.Gate.{Gate}
 use Rattle.sfi_image.specs.Spelling.{Part}
 use Rattle.sfi_image.specs.Numbers.{fields_bytes, gate_bytes}
@@ -40,6 +40,7 @@ abbrev pub format_number : Format → ℕ
 format_number Sfi1 = 1
 format_number Sfi2 = 2
 format_number Sfiw = 3
+format_number Sfis = 4
 
 -- ---- sandboxes
 

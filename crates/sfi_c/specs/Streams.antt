@@ -3,7 +3,7 @@ use Rattle.std.specs.Prelude.{◌==◌, ◌/◌, ◌%◌, ℕ, List, [], ◌∷�
 use Rattle.std.specs.List.{find}
 use Rattle.std.specs.Option.{option_map}
 use Rattle.sfi_formats.specs.declared.format.Format.{Format}
-use Rattle.sfi_formats.specs.declared.format.Format.TheVariants.{Sfi1, Sfi2, Sfiw}
+use Rattle.sfi_formats.specs.declared.format.Format.TheVariants.{Sfi1, Sfi2, Sfiw, Sfis}
 use Rattle.sfi_image.specs.declared.fields.Fields.{Fields}
 use Rattle.sfi_image.specs.declared.want.Stage.{Stage}
 use Rattle.sfi_image.specs.declared.want.Stage.TheVariants as stage
@@ -39,7 +39,7 @@ stage_of n =
 
 -- a format, by its number
 abbrev pub format_of : ℕ → Format
-format_of n = cond (n == 1) Sfi1 (cond (n == 2) Sfi2 Sfiw)
+format_of n = cond (n == 1) Sfi1 (cond (n == 2) Sfi2 (cond (n == 3) Sfiw Sfis))
 
 -- what is owed, by its number: one for its kind, plus 8 times its register
 abbrev pub owed_by : ℕ → ℕ → Owed

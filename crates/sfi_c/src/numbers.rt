@@ -48,17 +48,19 @@ pub(crate) fn format_number(format: Format) -> u32
         Format::Sfi1 => 1,
         Format::Sfi2 => 2,
         Format::Sfiw => 3,
+        Format::Sfis => 4,
     }
 }
 
-/// A format by its number; each number but 1 and 2 is that of words.
+/// A format by its number; each number but 1, 2 and 3 is that of the fourth.
 pub(crate) fn format_numbered(number: u32) -> Format
     ensures { result ≡ format_of number }
 {
     match number {
         1 => Format::Sfi1,
         2 => Format::Sfi2,
-        _ => Format::Sfiw,
+        3 => Format::Sfiw,
+        _ => Format::Sfis,
     }
 }
 

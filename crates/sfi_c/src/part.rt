@@ -11,7 +11,7 @@ use sfi_image::{Gate, PartView};
 #[repr(C)]
 #[derive(Clone, Copy, PartialEq, Eq, Debug)]
 pub struct SfiPart {
-    /// The image's format, 1 for `SFI1`, 2 for `SFI2` and 3 for `SFIW`.
+    /// The image's format, 1 for `SFI1`, 2 for `SFI2`, 3 for `SFIW` and 4 for `SFIS`.
     pub format: u32,
     /// The first address of the code region.
     pub code_base: u32,

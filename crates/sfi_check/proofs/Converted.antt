@@ -1,5 +1,5 @@
 -- What a refusal is to a conversion, and which format an image begins with.
-use Rattle.sfi_check.proofs.Prelude.{◌≡◌, ℕ, List, [], ◌∷◌, ◌++◌, take, get_or, refl, sym, ap, ◌∙◌, subst, arith, Result, Ok, Err, Vec, IfOk, IfErr, false, Format, Sfi1, Sfi2, has_words, magic, IsFault, SandboxPart, Part, view, views, format_of, Finding, AreImageFindings, IsAccepted, HasFindings, IfLayoutFault, Refusal, LayoutFault}
+use Rattle.sfi_check.proofs.Prelude.{◌≡◌, ℕ, List, [], ◌∷◌, ◌++◌, take, get_or, refl, sym, ap, ◌∙◌, subst, arith, Result, Ok, Err, Vec, IfOk, IfErr, true, false, Format, Sfi1, Sfi2, has_words, magic, IsFault, SandboxPart, Part, view, views, format_of, Finding, AreImageFindings, IsAccepted, HasFindings, IfLayoutFault, Refusal, LayoutFault}
 use Rattle.sfi_check.specs.Converting.{IsSecond, IsConversion, IsConvertFault, IfStack, AreOfStack, fault_of, AnswersLayout, AnswersFindings}
 use Rattle.sfi_check.specs.OneVerdict.{IfFindings}
 use Rattle.sfi_check.specs.declared.conversion.ConvertFault.{ConvertFault}
@@ -11,7 +11,7 @@ use Rattle.sfi_image.specs.Numbers.{all_in_format}
 use Rattle.std.specs.Global.{Global}
 use Rattle.std.specs.Result.{IsErrAnd}
 use Rattle.sfi_image.specs.Parts.{AreOf}
-use Rattle.sfi_formats.specs.declared.format.Format.TheVariants.{Sfiw}
+use Rattle.sfi_formats.specs.declared.format.Format.TheVariants.{Sfiw, Sfis}
 use Rattle.sfi_rules.proofs.Facts.{clean_breaks_stack_alone}
 use Rattle.sfi_check.specs.Verdict as verdict
 use Rattle.sfi_check.specs.declared.conversion.ConvertFault.TheVariants as convert
@@ -19,18 +19,23 @@ use Rattle.sfi_check.specs.declared.conversion.ConvertFault.TheVariants as conve
 -- ---- formats
 
 -- by their last bytes
-magics_differ : (magic Sfi1 ≡ magic Sfi2 → ⊥) × (magic Sfiw ≡ magic Sfi2 → ⊥)
+first_differs : magic Sfi1 ≡ magic Sfi2 → ⊥
 unfolding magic
-magics_differ = (
-  λ e. let no : 49 ≡ 50 = ap (λ (l : List ℕ). get_or l 3 0) e in omega arith,
-  λ e. let no : 87 ≡ 50 = ap (λ (l : List ℕ). get_or l 3 0) e in omega arith,
-)
+first_differs e = absurd (let no : 49 ≡ 50 = ap (λ (l : List ℕ). get_or l 3 0) e in omega arith)
+
+words_differ : (f : Format) → has_words f ≡ true → magic f ≡ magic Sfi2 → ⊥
+unfolding magic
+words_differ Sfi1 words e = absurd cc
+words_differ Sfi2 words e = absurd cc
+words_differ Sfiw words e = absurd (let no : 87 ≡ 50 = ap (λ (l : List ℕ). get_or l 3 0) e in omega arith)
+words_differ Sfis words e = absurd (let no : 83 ≡ 50 = ap (λ (l : List ℕ). get_or l 3 0) e in omega arith)
 
 front_of : (f : Format) (rest : List ℕ) → take 4 (magic f ++ rest) ≡ magic f
 unfolding magic
 front_of Sfi1 rest = refl
 front_of Sfi2 rest = refl
 front_of Sfiw rest = refl
+front_of Sfis rest = refl
 
 begins_with : (bytes : List ℕ) (ps : List Part) → bytes ≡ spelling ps → take 4 bytes ≡ magic (format_of ps)
 unfolding spelling
@@ -41,18 +46,19 @@ other_not_second : (bytes : List ℕ) (ps : List Part) (f : Format) → (magic f
 other_not_second bytes ps f differs is of second = differs (ap magic (sym of) ∙ sym (begins_with bytes ps is.image.bytes_are) ∙ second)
 
 pub first_not_second : (bytes : List ℕ) (ps : List Part) → IsAccepted bytes ps → format_of ps ≡ Sfi1 → IsSecond bytes → ⊥
-first_not_second bytes ps = other_not_second bytes ps Sfi1 magics_differ.0
+first_not_second bytes ps = other_not_second bytes ps Sfi1 first_differs
 
-pub third_not_second : (bytes : List ℕ) (ps : List Part) → IsAccepted bytes ps → format_of ps ≡ Sfiw → IsSecond bytes → ⊥
-third_not_second bytes ps = other_not_second bytes ps Sfiw magics_differ.1
+pub words_not_second : (bytes : List ℕ) (ps : List Part) → IsAccepted bytes ps → has_words (format_of ps) ≡ true → IsSecond bytes → ⊥
+words_not_second bytes ps is words = other_not_second bytes ps (format_of ps) (words_differ (format_of ps) words) is refl
 
-of_three : (f : Format) (front : List ℕ) → front ≡ magic f → (front ≡ magic Sfi2 → ⊥) → has_words f ≡ false → f ≡ Sfi1
-of_three Sfi1 front e not bundles = refl
-of_three Sfi2 front e not bundles = absurd (not e)
-of_three Sfiw front e not bundles = absurd cc
+of_bundles : (f : Format) (front : List ℕ) → front ≡ magic f → (front ≡ magic Sfi2 → ⊥) → has_words f ≡ false → f ≡ Sfi1
+of_bundles Sfi1 front e not bundles = refl
+of_bundles Sfi2 front e not bundles = absurd (not e)
+of_bundles Sfiw front e not bundles = absurd cc
+of_bundles Sfis front e not bundles = absurd cc
 
 pub not_second_first : (bytes : List ℕ) (ps : List Part) → IsAccepted bytes ps → (IsSecond bytes → ⊥) → has_words (format_of ps) ≡ false → format_of ps ≡ Sfi1
-not_second_first bytes ps is not bundles = of_three (format_of ps) (take 4 bytes) (begins_with bytes ps is.image.bytes_are) not bundles
+not_second_first bytes ps is not bundles = of_bundles (format_of ps) (take 4 bytes) (begins_with bytes ps is.image.bytes_are) not bundles
 
 -- ---- refusals
 

@@ -1,10 +1,10 @@
 -- What `convert` answers: an accepted image of the first format becomes that of the same sandboxes
 -- in the second.
-use Rattle.std.specs.Prelude.{◌≡◌, ◌≢◌, ℕ, List, [], take, Result, Ok, Err, Vec}
+use Rattle.std.specs.Prelude.{◌≡◌, ◌≢◌, ℕ, List, [], take, true, Result, Ok, Err, Vec}
 use Rattle.std.specs.Global.{Global}
 use Rattle.std.specs.List.{All}
-use Rattle.sfi_formats.specs.declared.format.Format.TheVariants.{Sfi1, Sfi2, Sfiw}
-use Rattle.sfi_formats.specs.Formats.{magic}
+use Rattle.sfi_formats.specs.declared.format.Format.TheVariants.{Sfi1, Sfi2}
+use Rattle.sfi_formats.specs.Formats.{magic, has_words}
 use Rattle.sfi_image.specs.declared.fault.LayoutFault.{LayoutFault}
 use Rattle.sfi_image.specs.Spelling.{Part, format_of}
 use Rattle.sfi_image.specs.Numbers.{all_in_format}
@@ -32,10 +32,10 @@ IsRefusalOf bytes (refusal.Layout k) = (¬ IsSecond bytes) × IsFault bytes k
 IsRefusalOf bytes (refusal.Findings found) = (¬ IsSecond bytes) × HasFindings bytes found.items
 IsRefusalOf bytes refusal.Memory = ⊥
 
--- the bytes are an accepted image of the third format
+-- the bytes are an accepted image of code in words
 pub record IsOfWords (bytes : List ℕ) : Type 0 where
   pub parts : List Part
-  pub third : format_of parts ≡ Sfiw
+  pub words : has_words (format_of parts) ≡ true
   pub accepted : IsAccepted bytes parts
 
 -- the bytes are an accepted image of the first format, and these are the findings of the same

@@ -1,7 +1,7 @@
 -- The formats of images, and the registers that have a part in a sandbox's confinement.
 use Rattle.std.specs.Prelude.{◌==◌, ◌||◌, ℕ, Bool, ◌&&◌, not, List, true, false, codes}
 use Rattle.sfi_formats.specs.declared.format.Format.{Format}
-use Rattle.sfi_formats.specs.declared.format.Format.TheVariants.{Sfi1, Sfi2, Sfiw}
+use Rattle.sfi_formats.specs.declared.format.Format.TheVariants.{Sfi1, Sfi2, Sfiw, Sfis}
 
 -- ==== The registers that have a part in a sandbox's confinement, by their parts.
 
@@ -66,24 +66,28 @@ unfoldable pub magic : Format → List ℕ
 magic Sfi1 = codes "SFI1"
 magic Sfi2 = codes "SFI2"
 magic Sfiw = codes "SFIW"
+magic Sfis = codes "SFIS"
 
 -- the largest code region
 abbrev pub code_most : Format → ℕ
 code_most Sfi1 = 65536
 code_most Sfi2 = 1048576
 code_most Sfiw = 16777216
+code_most Sfis = 16777216
 
 -- the largest data region
 abbrev pub data_most : Format → ℕ
 data_most Sfi1 = 1048576
 data_most Sfi2 = 1048576
 data_most Sfiw = 1073741824
+data_most Sfis = 1073741824
 
 -- the largest code region that is made of a source
 abbrev pub built_code_most : Format → ℕ
 built_code_most Sfi1 = 65536
 built_code_most Sfi2 = 1048576
 built_code_most Sfiw = 1048576
+built_code_most Sfis = 1048576
 
 -- The bytes of a unit of code, a bundle's or a word's: a sandbox is entered at multiples of it alone,
 -- and jumps to no other address.
@@ -91,6 +95,7 @@ abbrev pub unit : Format → ℕ
 unit Sfi1 = 16
 unit Sfi2 = 16
 unit Sfiw = 4
+unit Sfis = 4
 
 -- Whether x2 is a stack pointer: it lies in the data region wherever a sandbox is entered or
 -- replied to, an access on it needs no pair, and what writes it is confined.
@@ -98,6 +103,7 @@ abbrev pub has_stack : Format → Bool
 has_stack Sfi1 = false
 has_stack Sfi2 = true
 has_stack Sfiw = false
+has_stack Sfis = false
 
 -- Whether code is in words: some registers have types, which say where they lie wherever a sandbox
 -- is entered or replied to, and what writes one of them is confined.
@@ -105,23 +111,25 @@ abbrev pub has_words : Format → Bool
 has_words Sfi1 = false
 has_words Sfi2 = false
 has_words Sfiw = true
+has_words Sfis = true
 
 -- the register of that number is the format's stack pointer
 abbrev pub is_stack : Format → ℕ → Bool
 is_stack f r = has_stack f && (r == stack_pointer)
 
--- Whether the mask of a data register, in code in words, has one step, `and d, a, x27`. It has two
+-- Whether the mask of a data register, in code in words, is single: `and d, a, x27`. It has two steps
 -- else: `and x31, d, x27`, which leaves an offset, and then `or d, x31, x26`.
-abbrev pub has_one_step : Format → Bool
-has_one_step Sfi1 = false
-has_one_step Sfi2 = false
-has_one_step Sfiw = false
+abbrev pub has_single_mask : Format → Bool
+has_single_mask Sfi1 = false
+has_single_mask Sfi2 = false
+has_single_mask Sfiw = false
+has_single_mask Sfis = true
 
--- a data register of code in words of this format: where a mask has one step, x26 and x31 are such
--- registers, too
+-- a data register of code in words of this format: where masks of data are single, x26 and x31 are
+-- such registers, too
 abbrev pub is_data_register_in : Format → ℕ → Bool
 is_data_register_in f r = is_data_register r
-    || (((r == data_base_register) || (r == offset_register)) && has_one_step f)
+    || (((r == data_base_register) || (r == offset_register)) && has_single_mask f)
 
 -- nothing in a sandbox of code in words of this format may write the register
 abbrev pub is_reserved_in : Format → ℕ → Bool

@@ -45,8 +45,8 @@ name_most = 64
 abbrev pub first_frame : ℕ
 first_frame = 16
 
--- How many bytes outside its data region the address in a data register of code in words may lie.
--- It is also the largest offset, up or down, of an access that may follow a step of such a
+-- How many bytes outside its data region the address in a data register of code in words may lie (where
+-- masks are single also outside the first addresses, as many as the data have). It is also the largest offset, up or down, of an access that may follow a step of such a
 -- register. The sum of 1020 bytes outside the region, 2048 of a step, 1020 of an offset, and 3 more
 -- to the last byte of a word is less than a guard zone.
 abbrev pub slack : ℕ

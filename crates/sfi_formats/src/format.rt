@@ -1,6 +1,6 @@
 //! The formats of images.
 ghost use Rattle.std.specs.Prelude.{◌≡◌, ◌↔◌, IsTrue, take};
-ghost use Rattle.sfi_formats.specs.Formats.{magic, code_most, data_most, built_code_most, unit, has_stack, has_words, is_stack, has_one_step};
+ghost use Rattle.sfi_formats.specs.Formats.{magic, code_most, data_most, built_code_most, unit, has_stack, has_words, is_stack, has_single_mask};
 
 use crate::registers::STACK_POINTER;
 
@@ -16,6 +16,9 @@ pub enum Format {
     /// types say where they lie wherever a sandbox is entered or replied to, and what writes one is
     /// confined.
     Sfiw,
+    /// The format of code in words whose mask of a data register is a single `and`. The data base is
+    /// a single bit, and nothing lies in a zone at zero, where an address without that bit traps.
+    Sfis,
 }
 
 impl Format {
@@ -28,6 +31,7 @@ impl Format {
             Format::Sfi1 => *b"SFI1",
             Format::Sfi2 => *b"SFI2",
             Format::Sfiw => *b"SFIW",
+            Format::Sfis => *b"SFIS",
         }
     }
 
@@ -38,7 +42,7 @@ impl Format {
         match self {
             Format::Sfi1 => 65536,
             Format::Sfi2 => 1_048_576,
-            Format::Sfiw => 16_777_216,
+            Format::Sfiw | Format::Sfis => 16_777_216,
         }
     }
 
@@ -48,7 +52,7 @@ impl Format {
     {
         match self {
             Format::Sfi1 | Format::Sfi2 => 1_048_576,
-            Format::Sfiw => 1_073_741_824,
+            Format::Sfiw | Format::Sfis => 1_073_741_824,
         }
     }
 
@@ -58,7 +62,7 @@ impl Format {
     {
         match self {
             Format::Sfi1 => 65536,
-            Format::Sfi2 | Format::Sfiw => 1_048_576,
+            Format::Sfi2 | Format::Sfiw | Format::Sfis => 1_048_576,
         }
     }
 
@@ -69,7 +73,7 @@ impl Format {
     {
         match self {
             Format::Sfi1 | Format::Sfi2 => 16,
-            Format::Sfiw => 4,
+            Format::Sfiw | Format::Sfis => 4,
         }
     }
 
@@ -78,7 +82,7 @@ impl Format {
         ensures { result ≡ has_stack self }
     {
         match self {
-            Format::Sfi1 | Format::Sfiw => false,
+            Format::Sfi1 | Format::Sfiw | Format::Sfis => false,
             Format::Sfi2 => true,
         }
     }
@@ -89,16 +93,17 @@ impl Format {
     {
         match self {
             Format::Sfi1 | Format::Sfi2 => false,
-            Format::Sfiw => true,
+            Format::Sfiw | Format::Sfis => true,
         }
     }
 
-    /// Whether the mask of a data register, in code in words, has one step.
-    pub fn has_one_step(self) -> bool
-        ensures { result ≡ has_one_step self }
+    /// Whether the mask of a data register, in code in words, is a single `and`.
+    pub fn has_single_mask(self) -> bool
+        ensures { result ≡ has_single_mask self }
     {
         match self {
             Format::Sfi1 | Format::Sfi2 | Format::Sfiw => false,
+            Format::Sfis => true,
         }
     }
 

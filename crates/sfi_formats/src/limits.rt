@@ -33,7 +33,8 @@ pub const NAME_MOST: u32 = 64;
 /// How far below its data region's end a sandbox's stack pointer lies at first.
 pub const FIRST_FRAME: u32 = 16;
 
-/// How many bytes outside its data region the address in a data register of code in words may lie.
+/// How many bytes outside its data region the address in a data register of code in words may lie;
+/// where masks are single, also outside the first addresses, as many as the data have.
 pub const SLACK: u32 = 1020;
 
 /// `REGION_LEAST`, as a length of bytes.

@@ -3,10 +3,12 @@ ghost use Rattle.std.specs.Prelude.{◌≡◌, ◌<◌};
 ghost use Rattle.sfi_formats.specs.Places.{place_of, usual};
 ghost use Rattle.sfi_formats.specs.Limits.{sandboxes_most};
 
+use crate::format::Format;
+
 // The first code base, and how far the code of one sandbox lies from that of the next.
 const SANDBOX_STRIDE: u32 = 0x0100_0000;
 
-// How far the data lies from the code.
+// How far the data lies from the code; where masks of data are single, the code lies so far up itself.
 const DATA_OFFSET: u32 = 0x0080_0000;
 
 /// Where the two regions of a sandbox begin.
@@ -19,27 +21,35 @@ pub struct Place {
 }
 
 impl Place {
-    /// Where sandbox `number`, counted from 0, lies if nobody says another place.
-    pub fn usual(number: u32) -> Place
+    /// Where sandbox `number`, counted from 0, of an image of this format lies if nobody says another
+    /// place.
+    pub fn usual(format: Format, number: u32) -> Place
         requires few { number < sandboxes_most }
-        ensures is { result ≡ usual number }
+        ensures is { result ≡ usual format number }
     {
-        let code_base = SANDBOX_STRIDE * (number + 1);
-        Place {
-            code_base,
-            data_base: code_base + DATA_OFFSET,
+        let low = SANDBOX_STRIDE * (number + 1);
+        if format.has_single_mask() {
+            Place {
+                code_base: low + DATA_OFFSET,
+                data_base: 1 << (31 - number),
+            }
+        } else {
+            Place {
+                code_base: low,
+                data_base: low + DATA_OFFSET,
+            }
         }
     }
 }
 
-/// Where sandbox `number`, counted from 0, lies: at the place that is given for it, or
-/// else at its usual place.
-pub fn place_of(given: &[Place], number: u32) -> Place
+/// Where sandbox `number`, counted from 0, of an image of this format lies: at the place that is given
+/// for it, or else at its usual place.
+pub fn place_of(given: &[Place], format: Format, number: u32) -> Place
     requires few { number < sandboxes_most }
-    ensures is { result ≡ place_of given.now number }
+    ensures is { result ≡ place_of given.now format number }
 {
     match given.get(number as usize) {
         Some(place) => *place,
-        None => Place::usual(number),
+        None => Place::usual(format, number),
     }
 }

@@ -1,7 +1,7 @@
 -- An image in a memory: its sandboxes one after another, and what is where.
 use Rattle.sfi_host.proofs.Prelude.{◌≡◌, ℕ, suc, ◌+◌, ◌<◌, List, [], ◌∷◌, ◌++◌, length, map, get_or, drop, Some, slice_get, All, sym, ap, ◌∙◌, subst, arith, append_assoc, append-nil, map-append, length-map, Format, Bytes, Part, IsRightPart, IsRightLayout, Sandbox, first_seat, with_part, with_parts, seat_of, seats_of, Seat, ◌≢◌, zero, ◌-◌, ◌%◌, ◌^◌, ◌≤◌, ◌==◌, ◌⊎◌, inl, inr, ⊎_elim, true, false, refl, length-append, length-replicate, get_or_from_slice_get, slice_get_within, slice_index, replicate, Contains, AllPairs, cases_lt, eqb-true, eqb-false, byte_at, addresses, with_bytes, added, Span, Holds, AreApart, code_region, guarded_region, spans, InCode, InData, InGuard, first_data}
 use Rattle.sfi_safe_runs.proofs.Stepping as stepping
-use Rattle.sfi_formats.specs.Formats.{has_one_step}
+use Rattle.sfi_formats.specs.Formats.{has_single_mask}
 use Rattle.sfi_image.specs.Spelling.{fields_of, InZoneAtZero, IsClear, zone_end, zone_ends, zone_ends_of}
 use Rattle.sfi_image.proofs.ClearZones.{All-rest}
 use Rattle.sfi_image.proofs.Tests.{All-front}
@@ -86,10 +86,10 @@ spans_at (q ∷ ps) (suc i) p d e =
 
 -- the address lies in the zone at zero of data of this size, where the format has one
 abbrev pub InZone : Format → ℕ → ℕ → Type 0
-InZone f size a = (has_one_step f ≡ true) × InZoneAtZero size a
+InZone f size a = (has_single_mask f ≡ true) × InZoneAtZero size a
 
 -- a span lies clear of the zone at zero of each sandbox of an image
-clear_of_one : (ps : List Part) (s : Span) (i : ℕ) (p : Part) → slice_get ps i ≡ Some p → has_one_step p.format ≡ true → All (λ end. IsClear end s) (zone_ends ps) → IsClear (zone_end p.data_size) s
+clear_of_one : (ps : List Part) (s : Span) (i : ℕ) (p : Part) → slice_get ps i ≡ Some p → has_single_mask p.format ≡ true → All (λ end. IsClear end s) (zone_ends ps) → IsClear (zone_end p.data_size) s
 clear_of_one [] s i p e one_step all = absurd (cc)
 clear_of_one (q ∷ ps) s zero p e one_step all =
     let same : q ≡ p = cc in
@@ -130,7 +130,7 @@ two_apart ps i j p q layout other e f =
     let first = spans_at ps i p d e in
     let second = spans_at ps j q d f in
     let apart = layout.right.apart in
-    let clear : (k : ℕ) (s : Span) → k < length (spans ps) → get_or (spans ps) k d ≡ s → has_one_step p.format ≡ true → IsClear (zone_end p.data_size) s =
+    let clear : (k : ℕ) (s : Span) → k < length (spans ps) → get_or (spans ps) k d ≡ s → has_single_mask p.format ≡ true → IsClear (zone_end p.data_size) s =
     λ k s lt is one_step. clear_of_one ps s i p e one_step (subst (λ (x : Span). All (λ end. IsClear end x) (zone_ends ps)) is (layout.right.clear k d lt)) in
     record {
       code_code = two_spans (spans ps) (i + i) (j + j) _ _ d apart (λ z. omega arith) (omega arith) (omega arith) first.0 second.0;

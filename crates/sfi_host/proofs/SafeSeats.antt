@@ -3,7 +3,7 @@ use Rattle.sfi_host.proofs.Prelude.{◌≡◌, ◌≢◌, ◌⊎◌, ℕ, ◌+�
 use Rattle.sfi_host.specs.Hosts.{a0_register, a1_register}
 use Rattle.sfi_host.specs.Laws.{CallsAreTyped, AnswersAreReplies}
 use Rattle.sfi_host.specs.Worlds.{StoppedItself}
-use Rattle.sfi_formats.specs.Formats.{has_stack, has_words, has_one_step, is_data_register_in}
+use Rattle.sfi_formats.specs.Formats.{has_stack, has_words, has_single_mask, is_data_register_in}
 use Rattle.sfi_safe_runs.specs.Runs.{IsTyped}
 use Rattle.sfi_image.specs.Parts.{IsWordStart}
 use Rattle.sfi_formats.specs.declared.format.Format.{Format}
@@ -96,7 +96,7 @@ module _ (m : Bytes) (s : Seat) (seat : IsSafeSeat m s) where
             each_data = λ d is.
                 subst (λ (b : Bounds). IsNearIn b.format b.data 1020 (slice_index registers d)) same (w.each_data d (ap (λ (b : Bounds). is_data_register_in b.format d) same ∙ is));
             code = record { held = subst (λ (b : Bounds). Holds b.code (slice_index registers 30)) same w.code.held; aligned = w.code.aligned };
-            offset = λ two. subst (λ (b : Bounds). slice_index registers 31 < b.data.size) same (w.offset (ap (λ (b : Bounds). has_one_step b.format) same ∙ two));
+            offset = λ two. subst (λ (b : Bounds). slice_index registers 31 < b.data.size) same (w.offset (ap (λ (b : Bounds). has_single_mask b.format) same ∙ two));
           };
     }
 

@@ -3,7 +3,7 @@ use Rattle.std.specs.Prelude.{◌≡◌, ◌≢◌, ◌⊎◌, ◌||◌, ℕ, �
 use Rattle.std.specs.FinMap.{retain_keys}
 use Rattle.std.specs.List.{remove}
 use Rattle.rv_mem.specs.Bytes.{Bytes}
-use Rattle.sfi_formats.specs.Formats.{has_one_step}
+use Rattle.sfi_formats.specs.Formats.{has_single_mask}
 use Rattle.sfi_image.specs.Spelling.{Part, Holds, with_guards, InZoneAtZero}
 use Rattle.sfi_safe_runs.specs.Runs.{IsChange}
 use Rattle.sfi_host.specs.Loading.{first_seat, with_parts}
@@ -23,7 +23,7 @@ ShareAddress b c = (a : ℕ) × TakesUp b a × TakesUp c a
 -- the second one's format has a zone at zero, and the first one takes up an address there
 abbrev pub ReachesZoneOf : Bounds → Bounds → Type 0
 ReachesZoneOf b c =
-    (has_one_step c.format ≡ true) × ((a : ℕ) × TakesUp b a × InZoneAtZero c.data.size a)
+    (has_single_mask c.format ≡ true) × ((a : ℕ) × TakesUp b a × InZoneAtZero c.data.size a)
 
 -- Two sandboxes take up an address both, or one of them reaches the other's zone at zero. Their zones at
 -- zero may overlap: nobody is there.

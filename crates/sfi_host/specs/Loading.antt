@@ -39,8 +39,7 @@ pub record MayEnterAt (slots : List Slot) (i pc : ℕ) : Type 0 where
 
 -- ---- with which registers
 
--- the hart with the data base in each data register but the stack pointer, and pc in the code
--- register
+-- the hart with the data base in x3, x4 and x29, and pc in the code register
 abbrev pub with_typed : Span → Hart → Hart
 with_typed data_at h =
     with_register

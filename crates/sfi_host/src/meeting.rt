@@ -82,7 +82,7 @@ fn sandbox_reaches_zone(sandbox: &Sandbox, format: Format, part: &ModulePart) ->
     ensures { IsTrue result
         ↔ ReachesZoneOf (seat_of sandbox.now).bounds (bounds_of (part_of format part.now)) }
 {
-    if !format.has_one_step() {
+    if !format.has_single_mask() {
         return false;
     }
     let code = code_span(sandbox.code.base, sandbox.code.size);
@@ -96,7 +96,7 @@ fn part_reaches_zone(sandbox: &Sandbox, format: Format, part: &ModulePart) -> bo
     ensures { IsTrue result
         ↔ ReachesZoneOf (bounds_of (part_of format part.now)) (seat_of sandbox.now).bounds }
 {
-    if !sandbox.format.has_one_step() {
+    if !sandbox.format.has_single_mask() {
         return false;
     }
     let code = code_of(part);

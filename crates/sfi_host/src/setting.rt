@@ -1,10 +1,10 @@
 //! Registers that are set from outside.
 ghost use Rattle.std.specs.Prelude.{◌≡◌, ◌≢◌, ◌%◌, ◌+◌, ◌<◌, ◌≤◌, ◌^◌, ◌↔◌, IfSome, IsTrue, None, true, false};
 ghost use Rattle.rv_step.specs.State.{IsHart, register};
-ghost use Rattle.sfi_formats.specs.Formats.{has_stack, has_words, has_one_step, data_base_register, offset_register, stack_pointer, unit};
+ghost use Rattle.sfi_formats.specs.Formats.{has_stack, has_words, has_single_mask, code_register, data_base_register, offset_register, stack_pointer, unit};
 ghost use Rattle.sfi_formats.specs.Limits.{slack};
 ghost use Rattle.sfi_image.specs.Spelling.{Holds, IsNear, IsNearIn, IsNearZero};
-ghost use Rattle.sfi_image.specs.Parts.{IsStart, HasReserved, reserved_for};
+ghost use Rattle.sfi_image.specs.Parts.{IsStart, IsWordStart, HasReserved, reserved_for};
 ghost use Rattle.sfi_safe_runs.specs.Runs.{AreWordsTyped};
 ghost use Rattle.sfi_host.specs.Changing.{called_back_hart};
 ghost use Rattle.sfi_host.specs.Loading.{with_registers};
@@ -80,7 +80,7 @@ fn is_near_zero(size: u32, at: u32) -> bool
 fn may_be_data(format: Format, region: Region, at: u32) -> bool
     ensures { IsTrue result ↔ IsNearIn format (span_of region) slack at }
 {
-    is_near(region, at) || (format.has_one_step() && is_near_zero(region.size, at))
+    is_near(region, at) || (format.has_single_mask() && is_near_zero(region.size, at))
 }
 
 /// Whether the data registers that each format in words has hold what their type says.
@@ -91,7 +91,7 @@ fn lie_near(format: Format, region: Region, cpu: &Cpu) -> bool
         && may_be_data(format, region, cpu.reg(Reg::numbered(3)))
         && may_be_data(format, region, cpu.reg(Reg::numbered(4)))
         && may_be_data(format, region, cpu.reg(Reg::numbered(29)))
-        && (!format.has_one_step()
+        && (!format.has_single_mask()
             || (may_be_data(format, region, cpu.reg(Reg::numbered(DATA_BASE_REGISTER)))
                 && may_be_data(format, region, cpu.reg(Reg::numbered(OFFSET_REGISTER)))))
 }
@@ -122,10 +122,10 @@ impl Sandbox {
 
     /// Whether x26 holds the data base, where it isn't a data register.
     fn holds_data_base(&self, cpu: &Cpu) -> bool
-        ensures { IsTrue result ↔ (has_one_step self.now.format ≡ false
+        ensures { IsTrue result ↔ (has_single_mask self.now.format ≡ false
             → register cpu.now data_base_register ≡ self.now.data.base) }
     {
-        if self.format.has_one_step() {
+        if self.format.has_single_mask() {
             return true;
         }
         cpu.reg(Reg::numbered(DATA_BASE_REGISTER)) == self.data.base
@@ -133,13 +133,22 @@ impl Sandbox {
 
     /// Whether x31 is below the data size, where it holds an offset.
     fn holds_offset(&self, cpu: &Cpu) -> bool
-        ensures { IsTrue result ↔ (has_one_step self.now.format ≡ false
+        ensures { IsTrue result ↔ (has_single_mask self.now.format ≡ false
             → register cpu.now offset_register < self.now.data.size) }
     {
-        if self.format.has_one_step() {
+        if self.format.has_single_mask() {
             return true;
         }
         cpu.reg(Reg::numbered(OFFSET_REGISTER)) < self.data.size
+    }
+
+    /// Whether the code register holds the start of a word of the code.
+    fn holds_word_start(&self, cpu: &Cpu) -> bool
+        ensures { IsTrue result
+            ↔ IsWordStart (span_of self.now.code) (register cpu.now code_register) }
+    {
+        let code = cpu.reg(Reg::numbered(CODE_REGISTER));
+        self.code.holds(code) && code % 4 == 0
     }
 
     /// Whether the typed registers of code in words hold what their types say.
@@ -148,11 +157,13 @@ impl Sandbox {
         ensures { IsTrue result
             ↔ AreWordsTyped self.now.format (span_of self.now.code) (span_of self.now.data) cpu.now.registers }
     {
-        let code = cpu.reg(Reg::numbered(CODE_REGISTER));
-        lie_near(self.format, self.data, cpu)
-            && self.code.holds(code)
-            && code % 4 == 0
-            && self.holds_offset(cpu)
+        if !lie_near(self.format, self.data, cpu) {
+            return false;
+        }
+        if !self.holds_word_start(cpu) {
+            return false;
+        }
+        self.holds_offset(cpu)
     }
 
     /// Whether the stack pointer lies in the data, where the format has one.

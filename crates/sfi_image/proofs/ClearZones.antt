@@ -1,14 +1,13 @@
 -- Where zones at zero end, by the spans that a reader keeps, and which spans lie clear of them.
-use Rattle.sfi_image.proofs.Prelude.{◌≡◌, ℕ, zero, suc, ◌+◌, ◌-◌, ◌*◌, ◌/◌, ◌<◌, ◌≤◌, ◌↔◌, Bool, true, false, List, [], ◌∷◌, ◌++◌, length, get_or, take, refl, sym, ap, ◌∙◌, subst, arith, All, All-nil, All-cons, All-push, All-head, All-tail, All-append, cases_lt, inl, inr, take_more, take_all, has_one_step, Format, Fields, Span, Part, fields_of, spans, spans_of, code_span, guarded_span, AreOf, IsClear, AreClear, AreRight, zone_end, zone_ends_of, zone_ends, length_push}
+use Rattle.sfi_image.proofs.Prelude.{◌≡◌, ℕ, zero, suc, ◌+◌, ◌-◌, ◌*◌, ◌/◌, ◌<◌, ◌≤◌, ◌↔◌, Bool, true, false, List, [], ◌∷◌, ◌++◌, length, get_or, take, refl, sym, ap, ◌∙◌, subst, arith, All, All-nil, All-cons, All-push, All-head, All-tail, All-append, cases_lt, inl, inr, take_more, take_all, has_single_mask, Format, Fields, Span, Part, fields_of, spans, spans_of, code_span, guarded_span, AreOf, IsClear, AreClear, AreRight, zone_end, zone_ends_of, zone_ends, length_push}
 use Rattle.std.specs.Prelude.{max, cond}
 use Rattle.std.proofs.Math.Nat.{le-max_left, le-max_right, max-le, max-eq_left, max-eq_right}
 use Rattle.std.specs.Ordering.{ord_max, nat_cmp, is_lt}
 use Rattle.std.specs.declared.cmp.Ordering.{Ordering}
 use Rattle.std.specs.Cmp.{nat_cmp_is}
 use Rattle.std.specs.declared.cmp.Ordering.TheVariants.{Less, Equal, Greater}
-use Rattle.sfi_image.specs.private.{ends_below}
+use Rattle.sfi_image.specs.Spelling.{ends_below}
 use Rattle.sfi_image.proofs.Tests.{All-front}
-use Rattle.sfi_formats.proofs.Formats.{two_steps}
 
 -- the elements at the end have what all have
 pub All-rest : {X : Type 0} (P : X → Type 0) (xs ys : List X) → All P (xs ++ ys) → All P ys
@@ -100,22 +99,22 @@ largest_clear ends end largest before code guarded is clear =
 
 -- ---- by formats
 
--- where the format has one step, the zones end where the spans say
-pub ends_are : (format : Format) (ps : List Part) → has_one_step format ≡ true → AreOf format ps → zone_ends ps ≡ ends_below (spans ps)
+-- where the format has single masks, the zones end where the spans say
+pub ends_are : (format : Format) (ps : List Part) → has_single_mask format ≡ true → AreOf format ps → zone_ends ps ≡ ends_below (spans ps)
 ends_are format [] one_step of = refl
 ends_are format (p ∷ ps) one_step of =
-    let here : has_one_step p.format ≡ true = ap has_one_step (All-head (λ (q : Part). q.format ≡ format) p ps of) ∙ one_step in
+    let here : has_single_mask p.format ≡ true = ap has_single_mask (All-head (λ (q : Part). q.format ≡ format) p ps of) ∙ one_step in
     let size : zone_end p.data_size ≡ (guarded_span (fields_of p)).size - 4096 = omega arith in
     rw (here) (ap (λ (n : ℕ). n ∷ zone_ends ps) size ∙ ap (λ (t : List ℕ). ((guarded_span (fields_of p)).size - 4096) ∷ t) (ends_are format ps one_step (All-tail (λ (q : Part). q.format ≡ format) p ps of)))
 
 -- and those of one with these fields
-pub own_end_is : (f : Fields) → has_one_step f.format ≡ true → zone_ends_of f ≡ ((guarded_span f).size - 4096) ∷ []
+pub own_end_is : (f : Fields) → has_single_mask f.format ≡ true → zone_ends_of f ≡ ((guarded_span f).size - 4096) ∷ []
 own_end_is f one_step =
     let size : zone_end f.data_size ≡ (guarded_span f).size - 4096 = omega arith in
     rw (one_step) (ap (λ (n : ℕ). n ∷ []) size)
 
 -- and those of both
-pub all_ends_are : (ps : List Part) (f : Fields) (before : List Span) (guarded : Span) → has_one_step f.format ≡ true → AreOf f.format ps → before ≡ spans ps → guarded ≡ guarded_span f
+pub all_ends_are : (ps : List Part) (f : Fields) (before : List Span) (guarded : Span) → has_single_mask f.format ≡ true → AreOf f.format ps → before ≡ spans ps → guarded ≡ guarded_span f
     → (ends_below before ++ (guarded.size - 4096) ∷ []) ≡ zone_ends ps ++ zone_ends_of f
 all_ends_are ps f before guarded one_step of is own =
     ap (λ (t : List Span). ends_below t ++ (guarded.size - 4096) ∷ []) is ∙ ap (λ (g : Span). ends_below (spans ps) ++ (g.size - 4096) ∷ []) own
@@ -128,14 +127,14 @@ all_spans_are ps f before code guarded is one other =
     ap (λ (t : List Span). t ++ code ∷ guarded ∷ []) is ∙ ap (λ (c : Span). spans ps ++ c ∷ guarded ∷ []) one ∙ ap (λ (g : Span). spans ps ++ code_span f ∷ g ∷ []) other
 
 -- where it has not, there are none
-pub no_ends : (format : Format) (ps : List Part) → has_one_step format ≡ false → AreOf format ps → zone_ends ps ≡ []
+pub no_ends : (format : Format) (ps : List Part) → has_single_mask format ≡ false → AreOf format ps → zone_ends ps ≡ []
 no_ends format [] two_steps of = refl
 no_ends format (p ∷ ps) two_steps of =
-    let here : has_one_step p.format ≡ false = ap has_one_step (All-head (λ (q : Part). q.format ≡ format) p ps of) ∙ two_steps in
+    let here : has_single_mask p.format ≡ false = ap has_single_mask (All-head (λ (q : Part). q.format ≡ format) p ps of) ∙ two_steps in
     rw (here) (no_ends format ps two_steps (All-tail (λ (q : Part). q.format ≡ format) p ps of))
 
 -- so all spans lie clear of them
-pub clear_of_none : (ps : List Part) (f : Fields) (ss : List Span) → has_one_step f.format ≡ false → AreOf f.format ps → AreClear (zone_ends ps ++ zone_ends_of f) ss
+pub clear_of_none : (ps : List Part) (f : Fields) (ss : List Span) → has_single_mask f.format ≡ false → AreOf f.format ps → AreClear (zone_ends ps ++ zone_ends_of f) ss
 clear_of_none ps f ss two_steps of =
     let none : zone_ends ps ++ zone_ends_of f ≡ [] = rw (no_ends f.format ps two_steps of, two_steps) refl in
     subst (λ (ends : List ℕ). AreClear ends ss) (sym none) (λ k d lt. All-nil _)
@@ -164,12 +163,3 @@ others_right p ps right = record {
   apart = λ i j d less lt. right.apart (suc (suc i)) (suc (suc j)) d (omega (arith, less)) (omega (arith, lt));
   clear = clear_of_rest (zone_ends_of (fields_of p)) (zone_ends ps) (spans ps) (All-rest (Lies (zone_ends (p ∷ ps))) (spans_of (fields_of p)) (spans ps) right.clear);
 }
-
--- ---- as long as no format has one step: what the linker places rests on this
-
-pub clear_of_no_zones : (ps : List Part) (ss : List Span) → AreClear (zone_ends ps) ss
-clear_of_no_zones [] ss = λ k d lt. All-nil _
-clear_of_no_zones (p ∷ ps) ss = clear_of_both (zone_ends_of (fields_of p)) (zone_ends ps) ss (subst (λ (ends : List ℕ). AreClear ends ss) (sym none) (λ k d lt. All-nil _)) (clear_of_no_zones ps ss)
-  where
-    none : zone_ends_of (fields_of p) ≡ []
-    none = rw (two_steps p.format) refl

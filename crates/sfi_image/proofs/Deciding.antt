@@ -1,5 +1,5 @@
 -- Each test of a layout is passed or not.
-use Rattle.sfi_image.proofs.Prelude.{◌≡◌, ℕ, ◌+◌, ◌%◌, ◌<◌, ◌≤◌, List, [], ◌∷◌, ◌++◌, refl, arith, ◌⊎◌, inl, inr, suc, Option, Some, None, count_ones, All, AllPairs, cases_lt, cases_eq, eqb-true, eq-eqb, All-nil, All-cons, All-head, All-tail, code_most, data_most, has_one_step, Bool, true, false, Gate, Part, AreApartWith, AreClear, IsClear, zone_end, zone_ends_of, zone_ends, spans, data_span, IsOneBit, IsClearOfZero, Fields, Span, LayoutFault, Holds, AreApart, code_span, spans_of, IsRegion, HasGuardRoom, IsBundleStart, gates_most, service_most, AreGates, FieldTest, Passes, IsFirstFault, fault_of}
+use Rattle.sfi_image.proofs.Prelude.{◌≡◌, ℕ, ◌+◌, ◌%◌, ◌<◌, ◌≤◌, List, [], ◌∷◌, ◌++◌, refl, arith, ◌⊎◌, inl, inr, suc, Option, Some, None, count_ones, All, AllPairs, cases_lt, cases_eq, eqb-true, eq-eqb, All-nil, All-cons, All-head, All-tail, code_most, data_most, has_single_mask, Bool, true, false, Gate, Part, AreApartWith, AreClear, IsClear, zone_end, zone_ends_of, zone_ends, spans, data_span, IsOneBit, IsClearOfZero, Fields, Span, LayoutFault, Holds, AreApart, code_span, spans_of, IsRegion, HasGuardRoom, IsBundleStart, gates_most, service_most, AreGates, FieldTest, Passes, IsFirstFault, fault_of}
 use Rattle.sfi_image.specs.FieldTests.FieldTest.{Code, Data, GuardRoom, Start, Gates, Init, Overlap}
 use Rattle.std.proofs.lemmas.List.Kept.{AllPairs-cons}
 use Rattle.sfi_image.proofs.Regions.{region_test, not_region, one_bit_test}
@@ -115,7 +115,7 @@ decided_gates region gs =
     let ascending = decided_pairs (λ (g h : Gate). g.address < h.address) (λ g h. decided_lt g.address h.address) gs in
     decided_as (λ all. record { starts = all.0; services = all.1.0; ascending = all.1.1 }) (λ are. (are.starts, (are.services, are.ascending))) (decided_both starts (decided_both services ascending))
 
--- ---- what formats with one step ask
+-- ---- what formats with single masks ask
 
 -- what is asked under a condition
 decided_where : {P : Type 0} (b : Bool) → Decided P → Decided (b ≡ true → P)
@@ -149,9 +149,9 @@ decided_apart_with before f =
 pub decided_test : (before : List Part) (f : Fields) (t : FieldTest) → Decided (Passes before f t)
 decided_test before f Code = decided_region f.code_base f.code_size 256 (code_most f.format)
 decided_test before f Data =
-    decided_both (decided_region f.data_base f.data_size 256 (data_most f.format)) (decided_where (has_one_step f.format) (decided_one_bit f.data_base f.data_size))
+    decided_both (decided_region f.data_base f.data_size 256 (data_most f.format)) (decided_where (has_single_mask f.format) (decided_one_bit f.data_base f.data_size))
 decided_test before f GuardRoom =
-    decided_both (decided_guard_room f.data_base f.data_size) (decided_where (has_one_step f.format) (decided_clear (code_span f) (data_span f)))
+    decided_both (decided_guard_room f.data_base f.data_size) (decided_where (has_single_mask f.format) (decided_clear (code_span f) (data_span f)))
 decided_test before f Start = decided_bundle_start (code_span f) f.start
 decided_test before f Gates = decided_le f.gate_count gates_most
 decided_test before f Init = decided_le f.init_len f.data_size

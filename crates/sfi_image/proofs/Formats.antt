@@ -4,7 +4,7 @@ use Rattle.sfi_formats.proofs.Formats.{length_of_magic}
 use Rattle.sfi_formats.proofs.Facts.{limits_are_small}
 use Rattle.sfi_formats.specs.Formats.{has_words}
 use Rattle.sfi_image.specs.Numbers.{in_format, all_in_format}
-use Rattle.sfi_image.proofs.Prelude.{◌≡◌, ℕ, ◌+◌, ◌^◌, ◌≤◌, false, List, [], ◌∷◌, ◌++◌, length, get_or, take, refl, ap, ◌∙◌, arith, length-append, Format, Sfi1, Sfi2, Sfiw, magic, code_most, data_most, Part, view, views, format_of, AreOf, All-map, subst, All, AllPairs, length-map, Span, fields_of, AreApart, spans_of, spans, IsRightPart, IsRightLayout, AreClear, zone_ends, All-nil, sym}
+use Rattle.sfi_image.proofs.Prelude.{◌≡◌, ℕ, ◌+◌, ◌^◌, ◌≤◌, false, List, [], ◌∷◌, ◌++◌, length, get_or, take, refl, ap, ◌∙◌, arith, length-append, Format, Sfi1, Sfi2, Sfiw, Sfis, magic, code_most, data_most, Part, view, views, format_of, AreOf, All-map, subst, All, AllPairs, length-map, Span, fields_of, AreApart, spans_of, spans, IsRightPart, IsRightLayout, AreClear, zone_ends, All-nil, sym}
 
 -- ==== What holds of each format, and of parts of one.
 
@@ -21,6 +21,7 @@ within_second : (f : Format) → has_words f ≡ false → (code_most f ≤ code
 within_second Sfi1 e = (omega arith, omega arith)
 within_second Sfi2 e = (omega arith, omega arith)
 within_second Sfiw e = absurd cc
+within_second Sfis e = absurd cc
 
 -- a magic is that of one format
 pub one_magic : (f g : Format) → magic f ≡ magic g → f ≡ g
@@ -34,6 +35,13 @@ one_magic Sfi2 Sfiw e = absurd (let last : 50 ≡ 87 = ap (λ (l : List ℕ). ge
 one_magic Sfiw Sfi1 e = absurd (let last : 87 ≡ 49 = ap (λ (l : List ℕ). get_or l 3 0) e in omega arith)
 one_magic Sfiw Sfi2 e = absurd (let last : 87 ≡ 50 = ap (λ (l : List ℕ). get_or l 3 0) e in omega arith)
 one_magic Sfiw Sfiw e = refl
+one_magic Sfi1 Sfis e = absurd (let last : 49 ≡ 83 = ap (λ (l : List ℕ). get_or l 3 0) e in omega arith)
+one_magic Sfi2 Sfis e = absurd (let last : 50 ≡ 83 = ap (λ (l : List ℕ). get_or l 3 0) e in omega arith)
+one_magic Sfiw Sfis e = absurd (let last : 87 ≡ 83 = ap (λ (l : List ℕ). get_or l 3 0) e in omega arith)
+one_magic Sfis Sfi1 e = absurd (let last : 83 ≡ 49 = ap (λ (l : List ℕ). get_or l 3 0) e in omega arith)
+one_magic Sfis Sfi2 e = absurd (let last : 83 ≡ 50 = ap (λ (l : List ℕ). get_or l 3 0) e in omega arith)
+one_magic Sfis Sfiw e = absurd (let last : 83 ≡ 87 = ap (λ (l : List ℕ). get_or l 3 0) e in omega arith)
+one_magic Sfis Sfis e = refl
 
 pub length-magic : (f : Format) (r : List ℕ) → length (magic f ++ r) ≡ 4 + length r
 length-magic f r = omega (arith, length-append (magic f) r, length_of_magic f)
@@ -43,6 +51,7 @@ unfolding magic
 take-magic Sfi1 r = refl
 take-magic Sfi2 r = refl
 take-magic Sfiw r = refl
+take-magic Sfis r = refl
 
 -- ---- parts of one
 

@@ -9,11 +9,11 @@ pub use Rattle.std.proofs.lemmas.List.Elements.{All-head, All-tail, All-nil, All
 pub use Rattle.std.proofs.lemmas.Nat.{pow-add, pow_below, from_le_bytes-to_le_bytes_4, le_bytes_4, zero_from_ones, ones_le_self}
 pub use Rattle.std.proofs.lemmas.Result.{err_from_is_err_and}
 pub use Rattle.std.specs.List.{All, flat_map, AllPairs, AllByRecursion}
-pub use Rattle.sfi_formats.specs.Formats.{code_most, data_most, has_one_step}
+pub use Rattle.sfi_formats.specs.Formats.{code_most, data_most, has_single_mask}
 unfoldable pub use Rattle.sfi_formats.specs.Formats.{magic}
 pub use Rattle.sfi_formats.specs.Limits.{bundle_size, gates_most, service_most}
 pub use Rattle.sfi_formats.specs.declared.format.Format.{Format}
-pub use Rattle.sfi_formats.specs.declared.format.Format.TheVariants.{Sfi1, Sfi2, Sfiw}
+pub use Rattle.sfi_formats.specs.declared.format.Format.TheVariants.{Sfi1, Sfi2, Sfiw, Sfis}
 pub use Rattle.sfi_image.specs.Sources.{IsBounded}
 pub use Rattle.sfi_image.specs.Faults.{IsFault, IsBodyFault, IsPartFault, ArePartsFault, IsCountFault, IsGateShort, IsGateWrong, AreContentsShort, IfLayout}
 pub use Rattle.sfi_image.specs.Prefixes.{prefix_bytes, head, IsRightPrefix, CutShort, Trails, WholeIsImage, ImagePrefix, IsHead, IsOpened, part_of, after_parts, after_init, after_code, after_gates, Follows, want_of, HasFaultWhateverFollows, IsLengthOf, AreBundlesWithin, IsLongestStretch, IsStretchLength}

@@ -1,5 +1,5 @@
 -- Bytes have an image or a fault: a reader goes from prefix to prefix, to the image's end or to a fault.
-use Rattle.sfi_image.proofs.Prelude.{◌≡◌, ℕ, ◌+◌, ◌<◌, List, [], ◌∷◌, ◌++◌, length, take, drop, refl, sym, ap, subst, ◌∙◌, arith, append_assoc, zero, suc, inl, inr, ◌⊎◌, Some, None, Option, cases_lt, append-nil, take-append-drop, length-take, length-drop, Format, Sfi1, Sfi2, Sfiw, magic, LayoutFault, Magic, Count, Short, Trailing, Part, number, fields, gate, AreFieldWords, code_span, spans_of, IsFirstFault, field_tests, IsImage, IsFault, ImagePrefix, prefix_bytes, HasFaultWhateverFollows, Empty, AfterMagic, AfterCount, InGates, InCode, InInit, Whole, LayoutReader, StandsFor, Leads, count_below, stage_after_gates, stage_after_code, stage_after_init}
+use Rattle.sfi_image.proofs.Prelude.{◌≡◌, ℕ, ◌+◌, ◌<◌, List, [], ◌∷◌, ◌++◌, length, take, drop, refl, sym, ap, subst, ◌∙◌, arith, append_assoc, zero, suc, inl, inr, ◌⊎◌, Some, None, Option, cases_lt, append-nil, take-append-drop, length-take, length-drop, Format, Sfi1, Sfi2, Sfiw, Sfis, magic, LayoutFault, Magic, Count, Short, Trailing, Part, number, fields, gate, AreFieldWords, code_span, spans_of, IsFirstFault, field_tests, IsImage, IsFault, ImagePrefix, prefix_bytes, HasFaultWhateverFollows, Empty, AfterMagic, AfterCount, InGates, InCode, InInit, Whole, LayoutReader, StandsFor, Leads, count_below, stage_after_gates, stage_after_code, stage_after_init}
 use Rattle.sfi_image.specs.Laws.{SomeReading}
 use Rattle.sfi_image.specs.declared.fault.LayoutFault.TheVariants.{Gates}
 use Rattle.sfi_image.specs.declared.want.Stage.TheVariants as stage
@@ -35,15 +35,19 @@ some_magic s =
         | inl is ↦ inl (Sfi2, is)
         | inr two ↦ elim (decided_same s (magic Sfiw)) [
           | inl is ↦ inl (Sfiw, is)
-          | inr three ↦ inr (none one two three)
+          | inr three ↦ elim (decided_same s (magic Sfis)) [
+            | inl is ↦ inl (Sfis, is)
+            | inr four ↦ inr (none one two three four)
+          ]
         ]
       ]
     ]
   where
-    none : (s ≡ magic Sfi1 → ⊥) → (s ≡ magic Sfi2 → ⊥) → (s ≡ magic Sfiw → ⊥) → (format : Format) → s ≡ magic format → ⊥
-    none one two three Sfi1 = one
-    none one two three Sfi2 = two
-    none one two three Sfiw = three
+    none : (s ≡ magic Sfi1 → ⊥) → (s ≡ magic Sfi2 → ⊥) → (s ≡ magic Sfiw → ⊥) → (s ≡ magic Sfis → ⊥) → (format : Format) → s ≡ magic format → ⊥
+    none one two three four Sfi1 = one
+    none one two three four Sfi2 = two
+    none one two three four Sfiw = three
+    none one two three four Sfis = four
 
 -- the fields pass their tests, or fail one
 after_fields : (n : ℕ) → AreRead n → (r : LayoutReader) (format : Format) (count : ℕ) (ps : List Part) (rest : List ℕ) → StandsFor r (AfterCount format count ps) → length rest < suc n

@@ -7,4 +7,5 @@ pub mod Laws
 pub mod Prefixes
 pub mod Keeping
 pub mod Sources
+pub mod Bounds
 pub mod private

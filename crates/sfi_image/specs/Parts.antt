@@ -2,7 +2,7 @@
 use Rattle.std.specs.Prelude.{◌≡◌, ℕ, ◌+◌, ◌*◌, ◌%◌, ◌^◌, ◌≤◌, ◌-◌, ◌<◌, ◌==◌, ◌||◌, Bool, true, false, if◌then◌else◌, List, [], ◌∷◌, length, slice_index}
 use Rattle.sfi_formats.specs.Limits.{bundle_size, word_size, guard, region_least, service_most, gates_most, sandboxes_most}
 use Rattle.sfi_formats.specs.declared.format.Format.{Format}
-use Rattle.sfi_formats.specs.Formats.{code_most, data_most, unit, code_base_register, code_mask_register, data_base_register, data_mask_register, has_one_step}
+use Rattle.sfi_formats.specs.Formats.{code_most, data_most, unit, code_base_register, code_mask_register, data_base_register, data_mask_register, has_single_mask}
 use Rattle.sfi_image.specs.declared.span.Span.{Span}
 use Rattle.sfi_image.specs.Spelling.{Holds, code_region, data_region, AreApart, spans, zone_end, zone_ends, AreClear, Part, format_of, IsWord, spelling}
 use Rattle.sfi_image.specs.declared.reserved.Reserved.{Reserved}
@@ -33,7 +33,7 @@ pub record HasGuardRoom (base size : ℕ) : Type 0 where
   pub below : guard ≤ base
   pub above : base + size + guard ≤ 2 ^ 32
 
--- ---- of formats whose mask of data has one step; of others nothing is asked
+-- ---- of formats whose masks of data are single; of others nothing is asked
 
 -- The base is a single bit, and no lower than the size. So what a number has in common with the mask,
 -- base + size - 1, lies below the size, or in the data.
@@ -44,7 +44,7 @@ pub record IsOneBit (base size : ℕ) : Type 0 where
 
 -- a data region of this format may have this base, as far as its masks need it
 abbrev pub IsMaskedBase : Format → ℕ → ℕ → Type 0
-IsMaskedBase format base size = has_one_step format ≡ true → IsOneBit base size
+IsMaskedBase format base size = has_single_mask format ≡ true → IsOneBit base size
 
 -- the zone at zero ends below the code and below the data, and its last addresses begin above the code
 pub record IsClearOfZero (code_at data_at : Span) : Type 0 where
@@ -54,7 +54,7 @@ pub record IsClearOfZero (code_at data_at : Span) : Type 0 where
 
 -- a sandbox of this format may have these regions, as far as its own zone at zero goes
 abbrev pub HasZoneRoom : Format → Span → Span → Type 0
-HasZoneRoom format code_at data_at = has_one_step format ≡ true → IsClearOfZero code_at data_at
+HasZoneRoom format code_at data_at = has_single_mask format ≡ true → IsClearOfZero code_at data_at
 
 -- ---- units of code
 
@@ -73,13 +73,13 @@ IsWordStart = IsStart word_size
 
 -- ==== What the reserved registers hold.
 
--- The mask of a data address: the data size less 1. Where a mask has one step, it has the base's bit, too.
+-- The mask of a data address: the data size less 1. Where masks are single, it has the base's bit, too.
 abbrev pub data_mask_of : Format → Span → ℕ
 data_mask_of format data_at =
-    if has_one_step format then data_at.base + data_at.size - 1 else data_at.size - 1
+    if has_single_mask format then data_at.base + data_at.size - 1 else data_at.size - 1
 
 -- what the reserved registers hold while a sandbox of this format runs whose code lies in the first span,
--- and its data in the second; x26 only at first, where a mask has one step
+-- and its data in the second; x26 only at first, where masks are single
 abbrev pub reserved_for : Format → Span → Span → Reserved
 reserved_for format code_at data_at = record {
   code_base = code_at.base;
@@ -92,12 +92,12 @@ reserved_for format code_at data_at = record {
 abbrev pub reserved_of : Part → Reserved
 reserved_of p = reserved_for p.format (code_region p) (data_region p)
 
--- The reserved registers of this format hold these values. Where a mask has one step, x26 is none of them,
+-- The reserved registers of this format hold these values. Where masks are single, x26 is none of them,
 -- but a data register.
 pub record HasReserved (format : Format) (values : Reserved) (registers : List ℕ) : Type 0 where
   pub code_base : slice_index registers code_base_register ≡ values.code_base
   pub code_mask : slice_index registers code_mask_register ≡ values.code_mask
-  pub data_base : has_one_step format ≡ false → slice_index registers data_base_register ≡ values.data_base
+  pub data_base : has_single_mask format ≡ false → slice_index registers data_base_register ≡ values.data_base
   pub data_mask : slice_index registers data_mask_register ≡ values.data_mask
 
 -- ==== The gates of a sandbox.

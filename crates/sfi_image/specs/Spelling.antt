@@ -5,7 +5,7 @@ use Rattle.std.specs.List.{All, flat_map}
 use Rattle.std.specs.Int.{w32, to_le_bytes}
 use Rattle.sfi_formats.specs.declared.format.Format.{Format}
 use Rattle.sfi_formats.specs.declared.format.Format.TheVariants.{Sfi1}
-use Rattle.sfi_formats.specs.Formats.{magic, has_one_step}
+use Rattle.sfi_formats.specs.Formats.{magic, has_single_mask}
 use Rattle.sfi_image.specs.declared.part.Gate.{Gate}
 use Rattle.sfi_image.specs.declared.fields.Fields.{Fields}
 use Rattle.sfi_image.specs.declared.part.SandboxPart.{SandboxPart}
@@ -158,7 +158,7 @@ guarded_region p = guarded_span (fields_of p)
 abbrev pub spans : List Part → List Span
 spans ps = flat_map (λ p. spans_of (fields_of p)) ps
 
--- ---- zones at zero, of formats whose mask of data has one step
+-- ---- zones at zero, of formats whose masks of data are single
 
 -- Where the zone at zero of data of this size ends. The mask leads into the data or to an address below
 -- their size, and an access lies less than a guard zone beside that: so the zone at zero are the
@@ -176,22 +176,29 @@ abbrev pub InZoneAtZero : ℕ → ℕ → Type 0
 InZoneAtZero size = IsNearZero size guard
 
 -- The address lies in a zone of a sandbox of this format whose data are the span: in a guard zone on one
--- of their sides; or, where the mask of data has one step, in the zone at zero.
+-- of their sides; or, where masks of data are single, in the zone at zero.
 abbrev pub InZones : Format → Span → ℕ → Type 0
-InZones format s at = InGuards s at ⊎ ((has_one_step format ≡ true) × InZoneAtZero s.size at)
+InZones format s at = InGuards s at ⊎ ((has_single_mask format ≡ true) × InZoneAtZero s.size at)
 
 -- The address is near the span, the data of a sandbox of this format; or, where the mask of data has one
 -- step, so near the first addresses, as many as the data have.
 abbrev pub IsNearIn : Format → Span → ℕ → ℕ → Type 0
-IsNearIn format s far at = IsNear s far at ⊎ ((has_one_step format ≡ true) × IsNearZero s.size far at)
+IsNearIn format s far at = IsNear s far at ⊎ ((has_single_mask format ≡ true) × IsNearZero s.size far at)
 
 -- where the zone at zero of a sandbox with these fields ends, if its format has one
 abbrev pub zone_ends_of : Fields → List ℕ
-zone_ends_of f = cond (has_one_step f.format) (zone_end f.data_size ∷ []) []
+zone_ends_of f = cond (has_single_mask f.format) (zone_end f.data_size ∷ []) []
 
 -- where the zones at zero of all these sandboxes end
 abbrev pub zone_ends : List Part → List ℕ
 zone_ends ps = flat_map (λ p. zone_ends_of (fields_of p)) ps
+
+-- Where the zones at zero of sandboxes with these spans end, if their format has them: the spans are two
+-- for each sandbox, the second of which is the data region with its guard zones.
+abbrev pub ends_below : List Span → List ℕ
+ends_below [] = []
+ends_below (code ∷ []) = []
+ends_below (code ∷ guarded ∷ more) = (guarded.size - guard) ∷ ends_below more
 
 -- the span lies clear of a zone at zero that ends there: above its first addresses and below its last
 pub record IsClear (end : ℕ) (s : Span) : Type 0 where

@@ -29,15 +29,6 @@ pub record FitsAfter (before : List Part) (p : Part) (own : OwnSpans) : Type 0 w
   pub right : IsRightPart p
   pub lies : AreApartWith before (fields_of p)
 
--- ==== Zones at zero.
-
--- Where the zones at zero of sandboxes with these spans end: the spans are two for each, the second of
--- which is the data region with its guard zones.
-abbrev pub ends_below : List Span → List ℕ
-ends_below [] = []
-ends_below (code ∷ []) = []
-ends_below (code ∷ guarded ∷ more) = (guarded.size - guard) ∷ ends_below more
-
 -- ==== What a cursor reads.
 
 -- the result is a value for which `Found` holds, or a fault for which `Faulty` holds

@@ -11,7 +11,7 @@ use thiserror::Error;
 /// Its text is its bare name.
 #[derive(Clone, Copy, Debug, PartialEq, Eq, Error)]
 pub enum LayoutFault {
-    /// The first four bytes are those of no format: not `SFI1`, `SFI2` or `SFIW`.
+    /// The first four bytes are those of no format: not `SFI1`, `SFI2`, `SFIW` or `SFIS`.
     Magic,
     /// The number of sandboxes isn't from 1 to 16.
     Count,

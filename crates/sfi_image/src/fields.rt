@@ -97,7 +97,7 @@ fn is_data_region(fields: &Fields) -> bool
     if !is_region(fields.data_base, fields.data_size, REGION_LEAST, most) {
         return false;
     }
-    !fields.format.has_one_step() || is_one_bit(fields.data_base, fields.data_size)
+    !fields.format.has_single_mask() || is_one_bit(fields.data_base, fields.data_size)
 }
 
 /// Whether there is room for the guard zones, and for a zone at zero where there is one.
@@ -108,7 +108,7 @@ fn has_room(fields: &Fields) -> bool
     if !has_guard_room(fields.data_base, fields.data_size) {
         return false;
     }
-    if !fields.format.has_one_step() {
+    if !fields.format.has_single_mask() {
         return true;
     }
     is_clear_of_zero(
@@ -165,7 +165,7 @@ fn are_apart_with(before: &[Span], fields: &Fields, own: &OwnSpans) -> bool
     if !are_all_apart(before, own.code, own.guarded) {
         return false;
     }
-    !fields.format.has_one_step() || are_clear_of_zones(before, own.code, own.guarded)
+    !fields.format.has_single_mask() || are_clear_of_zones(before, own.code, own.guarded)
 }
 
 /// The spans of a sandbox with these fields, or the first test that they fail. `before` are the

@@ -1,6 +1,6 @@
 //! Images of sandboxed code: how their bytes are read, and which layouts are right.
 //!
-//! An image is the four bytes of its format, `SFI1`, `SFI2` or `SFIW`, a count from 1 to 16, and for
+//! An image is the four bytes of its format, `SFI1`, `SFI2`, `SFIW` or `SFIS`, a count from 1 to 16, and for
 //! each sandbox seven numbers, its gates, its code and its first data bytes. Each number has 32 bits,
 //! little-endian. Code and data lie in power-of-two regions with guard zones round the data, so
 //! that one `and` and one `or` confine an address (Wahbe, Lucco, Anderson and Graham, "Efficient
@@ -14,6 +14,7 @@
 #![tactic(auto)]
 
 mod arrays;
+mod bounds;
 mod bundle;
 mod byte_source;
 mod cursor;
@@ -33,6 +34,7 @@ mod writing;
 mod zones;
 
 pub use arrays::{GateArray, SpanArray};
+pub use bounds::{Bounds, are_bounds_apart};
 pub use bundle::BundlePlace;
 pub use byte_source::{ByteSource, ReadFault, ReaderSource};
 pub use cursor::{ImageCursor, PartView};
@@ -48,3 +50,4 @@ pub use sfi_formats::Format;
 pub use span::{Span, are_all_apart};
 pub use want::{Stage, Want};
 pub use writing::{write_image, write_image_as};
+pub use zones::are_clear_of_zones;

@@ -99,6 +99,8 @@ pub(crate) fn format_at(front: &[u8]) -> Option<Format>
         Some(Format::Sfi2)
     } else if is_magic(Format::Sfiw, front) {
         Some(Format::Sfiw)
+    } else if is_magic(Format::Sfis, front) {
+        Some(Format::Sfis)
     } else {
         None
     }

@@ -17,10 +17,10 @@ pub struct Reserved {
     pub code_base: u32,
     /// x25: the code size less the size of a unit of code, so that a masked offset is that of a unit.
     pub code_mask: u32,
-    /// x26: the first address of the data region. Where the format's mask of data has one step, x26 holds
+    /// x26: the first address of the data region. Where the format's masks of data are single, x26 holds
     /// it at first, and is a data register.
     pub data_base: u32,
-    /// x27: the data size less 1. Where the format's mask of data has one step, the data base and that.
+    /// x27: the data size less 1. Where the format's masks of data are single, the data base and that.
     pub data_mask: u32,
 }
 
@@ -30,7 +30,7 @@ pub fn data_mask_of(format: Format, base: u32, size: u32) -> u32
     requires end { base + size < 2 ^ 32 }
     ensures { result ≡ data_mask_of format (record { base = base; size = size }) }
 {
-    if format.has_one_step() {
+    if format.has_single_mask() {
         return base + size - 1;
     }
     size - 1

@@ -1,10 +1,9 @@
-//! Zones at zero, of formats whose mask of data has one step: that all spans lie clear of them.
-ghost use Rattle.std.specs.Prelude.{◌≡◌, ◌≤◌, ◌++◌, ◌-◌, ◌↔◌, ◌∷◌, [], ℕ, IsTrue};
+//! Zones at zero, of formats whose masks of data are single: that all spans lie clear of them.
+ghost use Rattle.std.specs.Prelude.{◌≡◌, ◌<◌, ◌≤◌, ◌+◌, ◌^◌, ◌++◌, ◌-◌, ◌↔◌, ◌∷◌, [], ℕ, IsTrue};
 ghost use Rattle.std.specs.List.{All};
 ghost use Rattle.sfi_formats.specs.Limits.{guard};
 ghost use Rattle.sfi_image.specs.Sources.{IsBounded};
-ghost use Rattle.sfi_image.specs.Spelling.{IsClear, AreClear, zone_end};
-ghost use Rattle.sfi_image.specs.private.{ends_below};
+ghost use Rattle.sfi_image.specs.Spelling.{IsClear, AreClear, ends_below, zone_end};
 
 use crate::fields::{GUARD, TOP};
 use crate::span::Span;
@@ -36,8 +35,8 @@ fn largest_end(spans: &[Span]) -> u64
 }
 
 /// Whether the span lies clear of a zone at zero that ends there.
-fn is_clear(end: u64, span: Span) -> bool
-    requires { IsBounded span }
+pub(crate) fn is_clear(end: u64, span: Span) -> bool
+    requires { span.base + span.size < 2 ^ 64 }
     ensures { IsTrue result ↔ IsClear end span }
 {
     end <= span.base && span.base + span.size <= TOP - GUARD
@@ -56,9 +55,9 @@ fn are_clear(end: u64, spans: &[Span]) -> bool
     true
 }
 
-/// Whether the spans `before`, of sandboxes, and the spans `code` and `guarded` of another one, lie
-/// clear of the zones at zero of all these.
-pub(crate) fn are_clear_of_zones(before: &[Span], code: Span, guarded: Span) -> bool
+/// Tells whether the spans `before`, two for each sandbox as in an image, and the spans `code` and
+/// `guarded` of another one lie clear of the zones at zero of all these.
+pub fn are_clear_of_zones(before: &[Span], code: Span, guarded: Span) -> bool
     requires bounded { All IsBounded before.now }
     requires code { IsBounded code }
     requires guarded { IsBounded guarded }

@@ -3,7 +3,7 @@ use Rattle.std.proofs.Common.{◌⊎◌, IfSome, ◌↔◌}
 use Rattle.std.proofs.lemmas.List.{append-nil, take-append-le}
 use Rattle.std.specs.Io.KnownBytes.{Consumes, IsAtEnd}
 use Rattle.sfi_formats.specs.declared.format.Format.{Format}
-use Rattle.sfi_formats.specs.declared.format.Format.TheVariants.{Sfi1, Sfi2, Sfiw}
+use Rattle.sfi_formats.specs.declared.format.Format.TheVariants.{Sfi1, Sfi2, Sfiw, Sfis}
 use Rattle.sfi_formats.specs.Formats.{magic}
 use Rattle.sfi_io.specs.Hexadecimal.{BeginsAsImage}
 use Rattle.sfi_io.specs.Laws.{TextsBeginAsNone}
@@ -31,12 +31,14 @@ unfolding magic
 first_byte Sfi1 b rest e = cc
 first_byte Sfi2 b rest e = cc
 first_byte Sfiw b rest e = cc
+first_byte Sfis b rest e = cc
 
 not_empty : (f : Format) → [] ≡ magic f → ⊥
 unfolding magic
 not_empty Sfi1 e = absurd (cc)
 not_empty Sfi2 e = absurd (cc)
 not_empty Sfiw e = absurd (cc)
+not_empty Sfis e = absurd (cc)
 
 pub texts_begin_as_none : TextsBeginAsNone
 texts_begin_as_none [] bytes spells begins = not_empty begins.0 begins.1

@@ -19,7 +19,10 @@ const MAGIC_BYTES: usize = 4;
 pub fn begins_as_image(input: &[u8]) -> bool
     ensures { IsTrue result ↔ BeginsAsImage input.now }
 {
-    Format::Sfi1.begins(input) || Format::Sfi2.begins(input) || Format::Sfiw.begins(input)
+    Format::Sfi1.begins(input)
+        || Format::Sfi2.begins(input)
+        || Format::Sfiw.begins(input)
+        || Format::Sfis.begins(input)
 }
 
 /// The bytes of the image that the input is, or those that it spells. Of digits an odd number goes

@@ -3,7 +3,7 @@ use Rattle.std.proofs.lemmas.List.Folds.{sum_by-replicate}
 use Rattle.sfi_rewrite.proofs.Sizes.{size_of-append}
 use Rattle.std.proofs.lemmas.Bool.{true≢false}
 use Rattle.sfi_formats.specs.Formats.{has_words}
-use Rattle.sfi_formats.specs.declared.format.Format.TheVariants.{Sfiw}
+use Rattle.sfi_formats.specs.declared.format.Format.TheVariants.{Sfiw, Sfis}
 use Rattle.rv_comp.specs.Table.{Bit, is, bit_of, Fields, number_after, field_value, fields_of}
 use Rattle.rv_comp.specs.Fronts.{halfword_of}
 use Rattle.rv_comp.specs.declared.form.Form16.{Form16}
@@ -49,11 +49,13 @@ join pieces = flat_map (λ (p : List ℕ). p) pieces
 pub bundle_stub : (f : Format) → has_words f ≡ false → stub_of f ≡ stub
 unfolding stub_of
 bundle_stub Sfiw e = absurd (true≢false e)
+bundle_stub Sfis e = absurd (true≢false e)
 bundle_stub _ e = refl
 
 pub words_stub : (f : Format) → has_words f ≡ true → 0x73 ∷ 0x00 ∷ 0x00 ∷ 0x00 ∷ 0x33 ∷ 0xff ∷ 0x90 ∷ 0x01 ∷ 0x33 ∷ 0x6f ∷ 0x8f ∷ 0x01 ∷ 0x67 ∷ 0x00 ∷ 0x0f ∷ 0x00 ∷ [] ≡ stub_of f
 unfolding stub_of spelling
 words_stub Sfiw e = refl
+words_stub Sfis e = refl
 words_stub _ e = absurd (true≢false (sym e))
 
 -- ---- how long they are
@@ -61,6 +63,7 @@ words_stub _ e = absurd (true≢false (sym e))
 length_stub : (f : Format) → length (stub_of f) ≡ 16
 unfolding stub_of spelling
 length_stub Sfiw = refl
+length_stub Sfis = refl
 length_stub _ = refl
 
 pub length_stubs : (f : Format) (n : ℕ) → length (repeat n (stub_of f)) ≡ 16 * n

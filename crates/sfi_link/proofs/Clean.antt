@@ -7,7 +7,7 @@ use Rattle.rv_word.specs.Outlines.{destination, is_register, writes_register}
 use Rattle.rv_word.specs.declared.instr.RegOp.TheVariants.{Add, And, Or}
 use Rattle.sfi_formats.specs.Formats.{is_reserved, is_withheld, has_words}
 use Rattle.sfi_formats.specs.declared.format.Format.{Format}
-use Rattle.sfi_formats.specs.declared.format.Format.TheVariants.{Sfi1, Sfi2, Sfiw}
+use Rattle.sfi_formats.specs.declared.format.Format.TheVariants.{Sfi1, Sfi2, Sfiw, Sfis}
 use Rattle.std.proofs.lemmas.Bool.{true≢false}
 use Rattle.sfi_rewrite.specs.Expansion.{jump_to_x31, jump_slots, IsAlone, IsMasked, IsExpansionOf, names_withheld, item_names_withheld, is_ecall}
 use Rattle.sfi_rules.specs.Readings.{follows_data_pair, writes_stack, begins_pair, ends_pair, precedes_pair, is_jump}
@@ -275,11 +275,13 @@ same_names Sfi1 i e = refl
 same_names Sfi2 (Op op rd rs1 rs2) e = refl
 same_names Sfi2 _ e = refl
 same_names Sfiw i e = absurd (true≢false e)
+same_names Sfis i e = absurd (true≢false e)
 
 same_withheld : (f : Format) (body : Body) → has_words f ≡ false → item_names_withheld f body ≡ item_names_withheld Sfi1 body
 same_withheld f (Plain i) e = same_names f i e
 same_withheld f (To i name) e = same_names f i e
 same_withheld Sfiw body e = absurd (true≢false e)
+same_withheld Sfis body e = absurd (true≢false e)
 same_withheld Sfi1 _ e = refl
 same_withheld Sfi2 _ e = refl
 

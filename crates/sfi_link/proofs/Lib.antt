@@ -15,6 +15,7 @@ pub mod RunsAs
 pub mod Pushed
 pub mod Linking
 pub mod SomeLinking
+pub mod UsualSingle
 pub mod Usual
 pub mod Moving
 pub mod Parts

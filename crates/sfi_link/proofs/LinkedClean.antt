@@ -1,11 +1,11 @@
 -- What is made of a placed sandbox breaks no rule.
-use Rattle.sfi_link.proofs.Prelude.{◌≡◌, ℕ, ◌+◌, ◌-◌, ◌*◌, ◌^◌, ◌<◌, ◌≤◌, List, [], ◌∷◌, length, Option, Some, None, refl, sym, ap, ◌∙◌, subst, arith, slice_get, All, repeat, All-head, All-tail, Format, Part, stub_of, BundleSlot, PlacedName, size_of, slots_of, Placement, AreWhole, IsPlacedPart, IsPlacedThere, Place, bases_of, of_name, target_at, target_of, AreSlots, needed, part_with, IsLinked, AreLinkedFrom}
+use Rattle.sfi_link.proofs.Prelude.{◌≡◌, ℕ, ◌+◌, ◌-◌, ◌*◌, ◌^◌, ◌<◌, ◌≤◌, List, [], ◌∷◌, length, Option, Some, None, refl, sym, ap, ◌∙◌, subst, arith, slice_get, All, repeat, All-head, All-tail, Format, Part, BundleSlot, PlacedName, size_of, slots_of, Placement, AreWhole, IsPlacedPart, IsPlacedThere, Place, bases_of, of_name, target_at, target_of, AreSlots, needed, part_with, IsLinked, AreLinkedFrom}
 use Rattle.sfi_image.specs.Parts.{IsBundleStart}
 use Rattle.sfi_rewrite.specs.declared.placed.PlacedName.TheVariants.{Gate, Code}
 use Rattle.std.specs.Prelude.{◌++◌, ◌%◌, Bool, true, false, MatchBool}
 use Rattle.std.proofs.lemmas.Bool.{true≢false, and_from, le-leb, lt-ltb, eq-eqb}
 use Rattle.sfi_formats.specs.Formats.{has_words, unit}
-use Rattle.sfi_formats.specs.declared.format.Format.TheVariants.{Sfiw}
+use Rattle.sfi_formats.specs.declared.format.Format.TheVariants.{Sfiw, Sfis}
 use Rattle.sfi_rewrite.specs.Placed.{AreOfItems, AreWholeIn}
 use Rattle.sfi_rules.specs.Findings.{AreFindings, AreFindingsFrom}
 use Rattle.sfi_rules.proofs.Facts.{of_bundles, of_words, same_bundle_starts}
@@ -33,6 +33,7 @@ of_place f (Some n) a e = (n, refl, e)
 -- a unit of code in bundles is a bundle, and each bundle holds whole expansions
 bundle_unit : (f : Format) → has_words f ≡ false → unit f ≡ 16
 bundle_unit Sfiw e = absurd (true≢false e)
+bundle_unit Sfis e = absurd (true≢false e)
 bundle_unit _ e = refl
 
 whole_in : (f : Format) (count : ℕ) (bundles : List (List BundleSlot)) (w : Bool) → has_words f ≡ w → AreWholeIn f count bundles → MatchBool w (AreOfItems f count (slots_of bundles)) (All (AreWhole f count) bundles)
@@ -41,10 +42,12 @@ whole_in f count bundles w e whole = subst (λ (b : Bool). MatchBool b (AreOfIte
 -- the unit divides a bundle, and so an address whose offset from a bundle start it divides
 after_bundle : (f : Format) (start offset to : ℕ) → to ≡ start + offset → start % 16 ≡ 0 → offset % unit f ≡ 0 → to % unit f ≡ 0
 after_bundle Sfiw start offset to e whole even = omega arith
+after_bundle Sfis start offset to e whole even = omega arith
 after_bundle _ start offset to e whole even = omega arith
 
 zero_even : (f : Format) → 0 % unit f ≡ 0
 zero_even Sfiw = refl
+zero_even Sfis = refl
 zero_even _ = refl
 
 -- an address of the code at which the sandbox may be entered

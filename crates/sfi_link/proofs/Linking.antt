@@ -1,5 +1,5 @@
 -- From the code of each sandbox to the image.
-use Rattle.sfi_link.proofs.Prelude.{◌≡◌, ℕ, zero, suc, ◌+◌, ◌-◌, ◌*◌, ◌/◌, ◌^◌, ◌<◌, ◌≤◌, List, [], ◌∷◌, ◌++◌, length, drop, get_or, replicate, refl, sym, ap, ◌∙◌, subst, arith, append_assoc, append-nil, length-append, inl, inr, Vec, Global, max, Result, Ok, Err, IfOk, IfErr, All, AllPairs, repeat, cases_lt, All-nil, Format, built_code_most, Sandbox, Span, Part, stub_of, PlacedName, size_of, slots_of, Placement, IsPlacedPart, IsPlacedThere, Place, Bases, LinkFault, place_of, IsRightPlace, spans_at, AreApart, spans, bases_of, AreSlots, c_ebreak, needed, HasRoom, IsCodeSize, gates_from, IsLinkedCode, IsLinked, AreLinkedFrom, AreLinked, MayLie, IsSlotFault, HasPartFault, IsPartFault, IsLinkFault, IsInReach, AreInReach, HasRoomFor, AreWritten, LiesBeside, IsCodeBeside, AreCodes, Links, part_with, parts_with, All-push, with_guards, contents, AreLinkedCodes, IsPlaced, with_bytes, each_with, set_init, spans_of, fields_of}
+use Rattle.sfi_link.proofs.Prelude.{◌≡◌, ℕ, zero, suc, ◌+◌, ◌-◌, ◌*◌, ◌/◌, ◌^◌, ◌<◌, ◌≤◌, List, [], ◌∷◌, ◌++◌, length, drop, get_or, replicate, refl, sym, ap, ◌∙◌, subst, subst₂, arith, append_assoc, append-nil, length-append, inl, inr, Vec, Global, max, Result, Ok, Err, IfOk, IfErr, All, AllPairs, repeat, cases_lt, All-nil, All-head, All-tail, Format, built_code_most, Sandbox, Span, Part, stub_of, PlacedName, size_of, slots_of, Placement, IsPlacedPart, IsPlacedThere, Place, Bases, LinkFault, place_of, IsRightPlace, spans_at, ends_at, ends_in, LieApart, AreApart, spans, zone_ends, zone_ends_of, bases_of, AreSlots, c_ebreak, needed, HasRoom, IsCodeSize, gates_from, IsLinkedCode, IsLinked, AreLinkedFrom, AreLinked, MayLie, IsSlotFault, HasPartFault, IsPartFault, IsLinkFault, IsInReach, AreInReach, HasRoomFor, AreWritten, LiesBeside, IsCodeBeside, AreCodes, Links, part_with, parts_with, All-push, with_guards, contents, AreLinkedCodes, IsPlaced, with_bytes, each_with, set_init, spans_of, fields_of}
 use Rattle.sfi_source.specs.declared.item.SourceGate.{SourceGate}
 use Rattle.sfi_image.specs.Sources.{IsBounded}
 use Rattle.sfi_link.specs.Faults.{UnlessMemory, AnswersItems, AnswersFault}
@@ -8,7 +8,13 @@ use Rattle.sfi_formats.specs.declared.format.Format.TheVariants.{Sfi1}
 use Rattle.std.proofs.Math.Nat.{pow-suc}
 use Rattle.std.proofs.Math.Pow.{pow_mono}
 use Rattle.std.proofs.lemmas.List.{at_drop_more, at_drop_all}
-use Rattle.sfi_image.specs.Spelling.{spelling}
+use Rattle.sfi_image.specs.Spelling.{spelling, IsClear, AreClear, ends_below}
+use Rattle.sfi_image.specs.Parts as parts
+use Rattle.sfi_image.proofs.ClearZones.{ends_are, no_ends}
+use Rattle.sfi_image.proofs.Tests.{spans_push, zone_ends_push}
+use Rattle.sfi_formats.specs.Formats.{has_single_mask}
+use Rattle.sfi_rewrite.specs.Placed.{AreOf, format_of}
+use Rattle.std.specs.Prelude.{Bool, true, false, cond}
 use Rattle.sfi_formats.proofs.Facts.{limits_are_small}
 use Rattle.sfi_image.proofs.Formats.{code_at_most}
 use Rattle.sfi_rewrite.specs.declared.placed.PlacedName.TheVariants as name
@@ -69,10 +75,36 @@ code_bounded p size place lies =
 pub guarded_bounded : (p : Placement) (size : ℕ) (place : Place) → IsRightPlace p size place → IsBounded (with_guards (record { base = place.data_base; size = p.data_size }))
 guarded_bounded p size place lies = let above = lies.guard_room.above in record { some = omega arith; end = omega arith }
 
+-- ---- where zones at zero end, by spans
+
+pub own_ends_in : (p : Placement) (size : ℕ) (place : Place) → ends_in p.format (spans_at p size place) ≡ ends_at p
+own_ends_in p size place =
+    let same : 4096 + p.data_size + 4096 - 4096 ≡ p.data_size + 4096 = omega arith in
+    ap (λ (n : ℕ). cond (has_single_mask p.format) (n ∷ []) []) same
+
+-- what the code finds of the spans holds of the sandbox at its place
+module _ (p : Placement) (size : ℕ) (place : Place) (f : Format) (now old own : List Span) (format : f ≡ p.format) (same : now ≡ old) (is : own ≡ spans_at p size place) where
+  ends_there : (ends_in f now ++ ends_in f own) ≡ ends_in p.format old ++ ends_at p
+  ends_there = (λ i. ends_in (format i) (same i) ++ ends_in (format i) (is i)) ∙ ap (λ (l : List ℕ). ends_in p.format old ++ l) (own_ends_in p size place)
+
+  pub lie_there : LieApart (ends_in f now ++ ends_in f own) (now ++ own) → LieApart (ends_in p.format old ++ ends_at p) (old ++ spans_at p size place)
+  lie_there lie = subst₂ LieApart ends_there (λ i. same i ++ is i) lie
+
+  pub lie_here : LieApart (ends_in p.format old ++ ends_at p) (old ++ spans_at p size place) → LieApart (ends_in f now ++ ends_in f own) (now ++ own)
+  lie_here lie = subst₂ LieApart (sym ends_there) (λ i. sym same i ++ sym is i) lie
+
+-- where masks have two steps there are no zones
+pub clear_of_none : (f : Format) (before own ss : List Span) → has_single_mask f ≡ false → AreClear (ends_in f before ++ ends_in f own) ss
+clear_of_none f before own ss is = rw is (λ k d lt. All-nil _)
+
+-- where they are single
+pub ends_single : (f : Format) (before : List Span) (code guarded : Span) → has_single_mask f ≡ true → (ends_in f before ++ ends_in f (code ∷ guarded ∷ [])) ≡ ends_below before ++ (guarded.size - 4096) ∷ []
+ends_single f before code guarded is = rw is refl
+
 -- its spans come after the old ones
-pub lies_beside : (p : Placement) (size : ℕ) (place : Place) (old new : List Span) → IsRightPlace p size place → All IsBounded old → AllPairs AreApart (old ++ spans_at p size place) → new ≡ old ++ spans_at p size place
-    → LiesBeside p size place old new
-lies_beside p size place old new right bounded apart is =
+pub lies_beside : (p : Placement) (size : ℕ) (place : Place) (ends : List ℕ) (old new : List Span) → IsRightPlace p size place → All IsBounded old → LieApart (ends ++ ends_at p) (old ++ spans_at p size place) → new ≡ old ++ spans_at p size place
+    → LiesBeside p size place ends old new
+lies_beside p size place ends old new right bounded apart is =
     let code : Span = record { base = place.code_base; size = size } in
     let guarded : Span = with_guards (record { base = place.data_base; size = p.data_size }) in
     let both = All-push IsBounded (old ++ code ∷ []) guarded (All-push IsBounded old code bounded (code_bounded p size place right)) (guarded_bounded p size place right) in
@@ -80,19 +112,19 @@ lies_beside p size place old new right bounded apart is =
       right = right;
       spans_are = is;
       bounded = subst (All IsBounded) (append_assoc old (code ∷ []) (guarded ∷ []) ∙ sym is) both;
-      apart = subst (AllPairs AreApart) (sym is) apart;
+      apart = subst (LieApart (ends ++ ends_at p)) (sym is) apart;
     }
 
 -- ---- what is near
 
-near_name : (given : List Place) (number : ℕ) (p : Placement) (size : ℕ) → IsPlacedPart p → HasRoom p.format (needed p) size → IsRightPlace p size (place_of given number) → (n : PlacedName) → IsPlacedThere p n
+near_name : (given : List Place) (number : ℕ) (p : Placement) (size : ℕ) → IsPlacedPart p → HasRoom p.format (needed p) size → IsRightPlace p size (place_of given p.format number) → (n : PlacedName) → IsPlacedThere p n
     → IsInReach (bases_of given number p) n
 near_name given number p size placed room lies (name.Gate k) there =
-    let end = (well_placed p size (place_of given number) lies).end in
+    let end = (well_placed p size (place_of given p.format number) lies).end in
     let bound = (limits_are_small p.format).2 in
     record { fits = omega arith; within = (omega arith, omega arith) }
 near_name given number p size placed room lies (name.Code place) there =
-    let end = (well_placed p size (place_of given number) lies).end in
+    let end = (well_placed p size (place_of given p.format number) lies).end in
     let bound = (limits_are_small p.format).2 in
     let within = there.1 in
     record { fits = omega arith; within = (omega arith, omega arith) }
@@ -100,7 +132,7 @@ near_name given number p size placed room lies (name.Data offset) there =
     record { fits = omega arith; within = tt }
 near_name given number p size placed room lies name.Unknown there = record { fits = tt; within = tt }
 
-pub near_of : (given : List Place) (number : ℕ) (p : Placement) (size : ℕ) → IsPlacedPart p → HasRoom p.format (needed p) size → IsRightPlace p size (place_of given number) → AreInReach (bases_of given number p) p.names
+pub near_of : (given : List Place) (number : ℕ) (p : Placement) (size : ℕ) → IsPlacedPart p → HasRoom p.format (needed p) size → IsRightPlace p size (place_of given p.format number) → AreInReach (bases_of given number p) p.names
 near_of given number p size placed room lies = λ k d lt. near_name given number p size placed room lies (get_or p.names k d) (placed.names k d lt)
 
 -- ---- the code of one sandbox
@@ -151,43 +183,44 @@ written_within p at size stubs now sized stubs_are written =
     let b = written_length at p.names (slots_of p.bundles) stubs now written in
     omega arith
 
-pub code_room : (given : List Place) (number : ℕ) (p : Placement) (at : Bases) (size : ℕ) (stubs : List ℕ) → HasRoom p.format (needed p) size → IsRightPlace p size (place_of given number) → at ≡ bases_of given number p
+pub code_room : (given : List Place) (number : ℕ) (p : Placement) (at : Bases) (size : ℕ) (stubs : List ℕ) → HasRoom p.format (needed p) size → IsRightPlace p size (place_of given p.format number) → at ≡ bases_of given number p
     → stubs ≡ repeat (length p.gates) (stub_of p.format) → HasRoomFor at (length stubs) (size_of (slots_of p.bundles))
 code_room given number p at size stubs room lies is stubs_are =
     let a = ap length stubs_are ∙ length_stubs p.format (length p.gates) in
     let b = ap (λ (b : Bases). b.code) is in
-    let end = (well_placed p size (place_of given number) lies).end in
+    let end = (well_placed p size (place_of given p.format number) lies).end in
     let bound = (limits_are_small p.format).2 in
     record { below = omega arith; within = omega arith }
 
-pub part_refused : (given : List Place) → (number : ℕ) (p : Placement) (before : List Span) (at : Bases) (stubs : List ℕ) (f : LinkFault) → at ≡ bases_of given number p → MayLie given number p before → stubs ≡ repeat (length p.gates) (stub_of p.format)
-    → UnlessMemory (IsSlotFault at p.names (at.code + length stubs) (slots_of p.bundles)) f → UnlessMemory (HasPartFault given number p before) f
-part_refused given number p before at stubs f is may stubs_are h =
+pub part_refused : (given : List Place) → (number : ℕ) (p : Placement) (ends : List ℕ) (before : List Span) (at : Bases) (stubs : List ℕ) (f : LinkFault) → at ≡ bases_of given number p → MayLie given number p ends before → stubs ≡ repeat (length p.gates) (stub_of p.format)
+    → UnlessMemory (IsSlotFault at p.names (at.code + length stubs) (slots_of p.bundles)) f → UnlessMemory (HasPartFault given number p ends before) f
+part_refused given number p ends before at stubs f is may stubs_are h =
     let a : length stubs ≡ 16 * length p.gates = ap length stubs_are ∙ length_stubs p.format (length p.gates) in
     let b = ap (λ (b : Bases). b.code) is in
     let start : at.code + length stubs ≡ (bases_of given number p).start = omega (arith, a, b) in
     let Slots : Bases → ℕ → LinkFault → Type 0 = λ c n g. IsSlotFault c p.names n (slots_of p.bundles) g in
-    then_unless (Slots at (at.code + length stubs)) (HasPartFault given number p before)
+    then_unless (Slots at (at.code + length stubs)) (HasPartFault given number p ends before)
     (λ g x. inr (inr (may, subst (λ (c : Bases). Slots c (bases_of given number p).start g) is (subst (λ n. Slots at n g) start x)))) f h
 
 -- what is known of the sandbox that lies beside those spans, or doesn't
-pub place_refused : (given : List Place) (number : ℕ) (p : Placement) (size : ℕ) (before : List Span) → IsCodeSize p.format (needed p) size
-    → (IsRightPlace p size (place_of given number) → ¬ AllPairs AreApart (before ++ spans_at p size (place_of given number))) → HasPartFault given number p before (named.Place number)
-place_refused given number p size before sized wrong = inr (inl (λ large. large size sized.has_room, not_there, refl))
+pub place_refused : (given : List Place) (number : ℕ) (p : Placement) (size : ℕ) (ends : List ℕ) (before : List Span) → IsCodeSize p.format (needed p) size
+    → (IsRightPlace p size (place_of given p.format number) → ¬ LieApart (ends ++ ends_at p) (before ++ spans_at p size (place_of given p.format number))) → HasPartFault given number p ends before (named.Place number)
+place_refused given number p size ends before sized wrong = inr (inl (λ large. large size sized.has_room, not_there, refl))
   where
-    not_there : MayLie given number p before → ⊥
+    not_there : MayLie given number p ends before → ⊥
     not_there may =
         let one : may.size ≡ size = one_size p.format (needed p) may.size size may.least sized in
-        wrong (subst (λ n. IsRightPlace p n (place_of given number)) one may.right) (subst (λ n. AllPairs AreApart (before ++ spans_at p n (place_of given number))) one may.apart)
+        wrong (subst (λ n. IsRightPlace p n (place_of given p.format number)) one may.right) (subst (λ (n : ℕ). LieApart (ends ++ ends_at p) (before ++ spans_at p n (place_of given p.format number))) one may.apart)
 
-pub may_lie : (given : List Place) (number : ℕ) (p : Placement) (size : ℕ) (old new : List Span) → IsCodeSize p.format (needed p) size → LiesBeside p size (place_of given number) old new → MayLie given number p old
-may_lie given number p size old new sized lies = record { size = size; least = sized; right = lies.right; apart = subst (AllPairs AreApart) lies.spans_are lies.apart }
+pub may_lie : (given : List Place) (number : ℕ) (p : Placement) (size : ℕ) (ends : List ℕ) (old new : List Span) → IsCodeSize p.format (needed p) size → LiesBeside p size (place_of given p.format number) ends old new
+    → MayLie given number p ends old
+may_lie given number p size ends old new sized lies = record { size = size; least = sized; right = lies.right; apart = subst (LieApart (ends ++ ends_at p)) lies.spans_are lies.apart }
 
-pub code_beside : (given : List Place) (number : ℕ) (p : Placement) (c : List ℕ) (size : ℕ) (old new : List Span) → IsCodeSize p.format (needed p) size → IsLinkedCode given number p c → LiesBeside p size (place_of given number) old new
-    → IsCodeBeside given number p c old new
-code_beside given number p c size old new sized made lies =
+pub code_beside : (given : List Place) (number : ℕ) (p : Placement) (c : List ℕ) (size : ℕ) (ends : List ℕ) (old new : List Span) → IsCodeSize p.format (needed p) size → IsLinkedCode given number p c
+    → LiesBeside p size (place_of given p.format number) ends old new → IsCodeBeside given number p c ends old new
+code_beside given number p c size ends old new sized made lies =
     let one : size ≡ length c = one_size p.format (needed p) size (length c) sized made.size in
-    record { code = made; lies = subst (λ n. LiesBeside p n (place_of given number) old new) one lies }
+    record { code = made; lies = subst (λ (n : ℕ). LiesBeside p n (place_of given p.format number) ends old new) one lies }
 
 -- ---- gates
 
@@ -211,71 +244,106 @@ codes_enough given number (p ∷ ps) [] h = absurd h
 codes_enough given number (p ∷ ps) (c ∷ cs) h = omega (arith, codes_enough given (number + 1) ps cs h.1)
 
 -- the sandbox with this code
-pub linked_with : (given : List Place) (number : ℕ) (p : Placement) (c : List ℕ) (old new : List Span) → IsCodeBeside given number p c old new → IsLinked given number p (part_with given number p c)
-linked_with given number p c old new one = record { code = one.code; lies = one.lies.right; is = refl }
+pub linked_with : (given : List Place) (number : ℕ) (p : Placement) (c : List ℕ) (ends : List ℕ) (old new : List Span) → IsCodeBeside given number p c ends old new → IsLinked given number p (part_with given number p c)
+linked_with given number p c ends old new one = record { code = one.code; lies = one.lies.right; is = refl }
 
 -- What is left of the sandboxes, after this code of those before and these spans, completes them all:
 -- with its code, or with its fault.
 pub record CodesLeft (given : List Place) (number : ℕ) (placed left : List Placement) (so_far : List (List ℕ)) (now : List Span) : Type 0 where
-  pub codes : (more : List (List ℕ)) → AreCodes given number now left more → AreCodes given 0 [] placed (so_far ++ more)
-  pub fault : (f : LinkFault) → IsPartFault given number now left f → IsPartFault given 0 [] placed f
+  pub before : List Part
+  pub spans_are : now ≡ spans before
+  pub formats : parts.AreOf (format_of placed) before
+  pub left_formats : AreOf (format_of placed) left
+  pub codes : (more : List (List ℕ)) → AreCodes given number (zone_ends before) now left more → AreCodes given 0 [] [] placed (so_far ++ more)
+  pub fault : (f : LinkFault) → IsPartFault given number (zone_ends before) now left f → IsPartFault given 0 [] [] placed f
   pub bounded : All IsBounded now
   pub apart : AllPairs AreApart now
 
-pub none_apart : AllPairs AreApart []
-none_apart = λ i j d lt within. absurd (omega arith)
+pub none_lies : LieApart [] []
+none_lies = record { apart = λ i j d lt within. absurd (omega arith); clear = All-nil (λ s. All (λ end. IsClear end s) []) }
 
-pub all_left : (given : List Place) (placed : List Placement) → CodesLeft given 0 placed placed [] []
-all_left given placed = record { codes = λ more h. h; fault = λ f h. h; bounded = All-nil IsBounded; apart = none_apart }
+pub all_left : (given : List Place) (placed : List Placement) → IsPlaced placed → CodesLeft given 0 placed placed [] []
+all_left given placed is = record {
+  before = [];
+  spans_are = refl;
+  formats = All-nil (λ (q : Part). q.format ≡ format_of placed);
+  left_formats = is.one_format;
+  codes = λ more h. h;
+  fault = λ f h. h;
+  bounded = All-nil IsBounded;
+  apart = none_lies.apart;
+}
+
+-- where the zones of sandboxes of one format end, by their spans
+ends_by_spans : (f : Format) (ps : List Part) (b : Bool) → has_single_mask f ≡ b → parts.AreOf f ps → zone_ends ps ≡ ends_in f (spans ps)
+ends_by_spans f ps true is of = rw is (ends_are f ps is of)
+ends_by_spans f ps false is of = rw is (no_ends f ps is of)
+
+-- those of the sandboxes before the next one
+pub ends_before : (given : List Place) (k : ℕ) (placed left : List Placement) (p : Placement) (so_far : List (List ℕ)) (old : List Span) (h : CodesLeft given k placed (p ∷ left) so_far old)
+    → ends_in p.format old ≡ zone_ends h.before
+ends_before given k placed left p so_far old h =
+    let one : p.format ≡ format_of placed = All-head (λ (x : Placement). x.format ≡ format_of placed) p left h.left_formats in
+    (λ i. ends_in (one i) (h.spans_are i)) ∙ sym (ends_by_spans (format_of placed) h.before (has_single_mask (format_of placed)) refl h.formats)
 
 -- one sandbox fewer is left
 pub one_fewer : (given : List Place) (k : ℕ) (placed left : List Placement) (p : Placement) (so_far : List (List ℕ)) (c : List ℕ) (old new : List Span) → CodesLeft given k placed (p ∷ left) so_far old
-    → IsCodeBeside given k p c old new → CodesLeft given (k + 1) placed left (so_far ++ c ∷ []) new
-one_fewer given k placed left p so_far c old new h one =
+    → IsCodeBeside given k p c (ends_in p.format old) old new → CodesLeft given (k + 1) placed left (so_far ++ c ∷ []) new
+one_fewer given k placed left p so_far c old new h beside =
+    let q = part_with given k p c in
+    let ends = zone_ends h.before in
+    let one : IsCodeBeside given k p c ends old new = subst (λ (es : List ℕ). IsCodeBeside given k p c es old new) (ends_before given k placed left p so_far old h) beside in
     let is = one.lies.spans_are in
-    let apart = subst (AllPairs AreApart) is one.lies.apart in
+    let lie = subst (LieApart (ends ++ ends_at p)) is one.lies.apart in
+    let ended : zone_ends (h.before ++ q ∷ []) ≡ ends ++ ends_at p = zone_ends_push h.before q in
+    let one_format : q.format ≡ format_of placed = All-head (λ (x : Placement). x.format ≡ format_of placed) p left h.left_formats in
     record {
-      codes = λ more m. subst (AreCodes given 0 [] placed) (sym (append_assoc so_far (c ∷ []) more)) (h.codes (c ∷ more) (new, one, m));
-      fault = λ f x. h.fault f (inr (part_with given k p c, linked_with given k p c old new one, apart, subst (λ (l : List Span). IsPartFault given (k + 1) l left f) is x));
+      before = h.before ++ q ∷ [];
+      spans_are = is ∙ ap (λ (l : List Span). l ++ spans_of (fields_of q)) h.spans_are ∙ sym (spans_push h.before q);
+      formats = All-push (λ (r : Part). r.format ≡ format_of placed) h.before q h.formats one_format;
+      left_formats = All-tail (λ (x : Placement). x.format ≡ format_of placed) p left h.left_formats;
+      codes = λ more m. subst (AreCodes given 0 [] [] placed) (sym (append_assoc so_far (c ∷ []) more)) (h.codes (c ∷ more) (new, one, subst (λ (es : List ℕ). AreCodes given (k + 1) es new left more) ended m));
+      fault = λ f x. h.fault f (inr (q, linked_with given k p c ends old new one, lie, subst₂ (λ (es : List ℕ) (l : List Span). IsPartFault given (k + 1) es l left f) ended is x));
       bounded = one.lies.bounded;
-      apart = one.lies.apart;
+      apart = one.lies.apart.apart;
     }
 
 pub code_refused : (given : List Place) (k : ℕ) (placed left : List Placement) (p : Placement) (so_far : List (List ℕ)) (old : List Span) (f : LinkFault) → CodesLeft given k placed (p ∷ left) so_far old
-    → UnlessMemory (HasPartFault given k p old) f → UnlessMemory (IsPartFault given 0 [] placed) f
-code_refused given k placed left p so_far old f h wrong = then_unless (HasPartFault given k p old) (IsPartFault given 0 [] placed) (λ g x. h.fault g (inl x)) f wrong
+    → UnlessMemory (HasPartFault given k p (ends_in p.format old) old) f → UnlessMemory (IsPartFault given 0 [] [] placed) f
+code_refused given k placed left p so_far old f h wrong =
+    let is = ends_before given k placed left p so_far old h in
+    then_unless (HasPartFault given k p (ends_in p.format old) old) (IsPartFault given 0 [] [] placed) (λ g x. h.fault g (inl (subst (λ (es : List ℕ). HasPartFault given k p es old g) is x))) f wrong
 
-pub all_coded : (given : List Place) (k : ℕ) (placed left : List Placement) (so_far : List (List ℕ)) (now : List Span) → left ≡ [] → CodesLeft given k placed left so_far now → AreCodes given 0 [] placed so_far
+pub all_coded : (given : List Place) (k : ℕ) (placed left : List Placement) (so_far : List (List ℕ)) (now : List Span) → left ≡ [] → CodesLeft given k placed left so_far now → AreCodes given 0 [] [] placed so_far
 all_coded given k placed left so_far now none h =
-    subst (AreCodes given 0 [] placed) (append-nil so_far) (h.codes [] (subst (λ (l : List Placement). AreCodes given k now l []) (sym none) refl))
+    subst (AreCodes given 0 [] [] placed) (append-nil so_far) (h.codes [] (subst (λ (l : List Placement). AreCodes given k (zone_ends h.before) now l []) (sym none) refl))
 
 -- the code of the sandbox at a place
 pub code_at : (given : List Place) (number k n : ℕ) (ps : List Placement) (cs : List (List ℕ)) (p : Placement) (c : List ℕ) → n ≡ number + k → k < length ps → p ≡ get_or ps k p → c ≡ get_or cs k c
-    → AreLinkedFrom given number ps (parts_with given number ps cs) → IsLinkedCode given n p c × IsRightPlace p (length c) (place_of given n)
+    → AreLinkedFrom given number ps (parts_with given number ps cs) → IsLinkedCode given n p c × IsRightPlace p (length c) (place_of given p.format n)
 code_at given number k n [] cs p c e lt ep ec h = absurd (omega arith)
 code_at given number k n (r ∷ ps) [] p c e lt ep ec h = absurd h
 code_at given number zero n (r ∷ ps) (b ∷ cs) p c e lt ep ec h = let z : n ≡ number = omega arith in rw (z, ep, ec) (h.0.code, h.0.lies)
 code_at given number (suc k) n (r ∷ ps) (b ∷ cs) p c e lt ep ec h = code_at given (number + 1) k n ps cs p c (omega arith) (omega arith) ep ec h.1
 
--- sandboxes with their code are linked, and no two of their spans meet
-pub codes_linked : (given : List Place) (number : ℕ) (before : List Span) (ps : List Placement) (cs : List (List ℕ)) → AreCodes given number before ps cs → AllPairs AreApart before
-    → AreLinkedFrom given number ps (parts_with given number ps cs) × AllPairs AreApart (before ++ spans (parts_with given number ps cs))
-codes_linked given number before [] cs h apart = (refl, subst (AllPairs AreApart) (sym (append-nil before)) apart)
-codes_linked given number before (p ∷ ps) [] h apart = absurd h
-codes_linked given number before (p ∷ ps) (c ∷ cs) (now, one, h) apart =
+-- sandboxes with their code are linked, and lie apart
+pub codes_linked : (given : List Place) (number : ℕ) (ends : List ℕ) (before : List Span) (ps : List Placement) (cs : List (List ℕ)) → AreCodes given number ends before ps cs → LieApart ends before
+    → AreLinkedFrom given number ps (parts_with given number ps cs) × LieApart (ends ++ zone_ends (parts_with given number ps cs)) (before ++ spans (parts_with given number ps cs))
+codes_linked given number ends before [] cs h apart = (refl, subst₂ LieApart (sym (append-nil ends)) (sym (append-nil before)) apart)
+codes_linked given number ends before (p ∷ ps) [] h apart = absurd h
+codes_linked given number ends before (p ∷ ps) (c ∷ cs) (now, one, h) apart =
     let later = parts_with given (number + 1) ps cs in
-    let rest = codes_linked given (number + 1) now ps cs h one.lies.apart in (
-      (linked_with given number p c before now one, rest.0),
-      subst (AllPairs AreApart) (ap (λ l. l ++ spans later) one.lies.spans_are ∙ append_assoc before (spans_at p (length c) (place_of given number)) (spans later)) rest.1,
-    )
+    let rest = codes_linked given (number + 1) (ends ++ ends_at p) now ps cs h one.lies.apart in
+    let spelled = ap (λ (l : List Span). l ++ spans later) one.lies.spans_are ∙ append_assoc before (spans_at p (length c) (place_of given p.format number)) (spans later) in
+    ((linked_with given number p c ends before now one, rest.0), subst₂ LieApart (append_assoc ends (ends_at p) (zone_ends later)) spelled rest.1)
 
-pub all_linked : (given : List Place) (ps : List Placement) (cs : List (List ℕ)) → length given ≤ length ps → AreCodes given 0 [] ps cs → AreLinked given ps (parts_with given 0 ps cs)
-all_linked given ps cs used codes = let all = codes_linked given 0 [] ps cs codes none_apart in record { used = used; each = all.0; apart = all.1 }
+pub all_linked : (given : List Place) (ps : List Placement) (cs : List (List ℕ)) → length given ≤ length ps → AreCodes given 0 [] [] ps cs → AreLinked given ps (parts_with given 0 ps cs)
+all_linked given ps cs used codes = let all = codes_linked given 0 [] [] ps cs codes none_lies in record { used = used; each = all.0; apart = all.1 }
 
-pub codes_found : (given : List Place) (ps qs : List Placement) → ps ≡ qs → length ps ≤ 16 → length given ≤ length ps → (r : Result (Vec (Vec ℕ Global) Global) LinkFault) → Links (λ v. AreCodes given 0 [] ps (contents v.items)) (IsPartFault given 0 [] ps) r
+pub codes_found : (given : List Place) (ps qs : List Placement) → ps ≡ qs → length ps ≤ 16 → length given ≤ length ps → (r : Result (Vec (Vec ℕ Global) Global) LinkFault) → Links (λ v. AreCodes given 0 [] [] ps (contents v.items)) (IsPartFault given 0 [] [] ps) r
     → IfOk r (λ v. AreLinkedCodes given qs (contents v.items)) × IfErr r (UnlessMemory (IsLinkFault given qs))
 codes_found given ps qs same few used (Ok v) h = (subst (λ l. AreLinkedCodes given l (contents v.items)) same (record { few = few; linked = all_linked given ps (contents v.items) used h }), tt)
-codes_found given ps qs same few used (Err f) h = (tt, then_unless (IsPartFault given 0 [] ps) (IsLinkFault given qs) (λ g x. subst (λ l. IsLinkFault given l g) same (inr (inr (few, used, x)))) f h)
+codes_found given ps qs same few used (Err f) h = (tt, then_unless (IsPartFault given 0 [] [] ps) (IsLinkFault given qs) (λ g x. subst (λ l. IsLinkFault given l g) same (inr (inr (few, used, x)))) f h)
 
 -- ---- other first data bytes
 
@@ -318,12 +386,17 @@ spans_stay [] parts = refl
 spans_stay (b ∷ bs) [] = refl
 spans_stay (b ∷ bs) (q ∷ parts) = ap (λ l. spans_of (fields_of q) ++ l) (spans_stay bs parts)
 
+ends_stay : (bs : List (List ℕ)) (parts : List Part) → zone_ends (each_with set_init bs parts) ≡ zone_ends parts
+ends_stay [] parts = refl
+ends_stay (b ∷ bs) [] = refl
+ends_stay (b ∷ bs) (q ∷ parts) = ap (λ (l : List ℕ). zone_ends_of (fields_of q) ++ l) (ends_stay bs parts)
+
 pub linked_as : (given : List Place) (bs : List (List ℕ)) (placed : List Placement) (parts : List Part) → AreLinked given placed parts
     → AreLinked given (each_with with_bytes bs placed) (each_with set_init bs parts)
 linked_as given bs placed parts h = record {
   used = omega (arith, h.used, length-each_with with_bytes bs placed);
   each = linked_from_as given 0 bs placed parts h.each;
-  apart = subst (λ l. AllPairs AreApart l) (sym (spans_stay bs parts)) h.apart;
+  apart = subst₂ LieApart (sym (ends_stay bs parts)) (sym (spans_stay bs parts)) h.apart;
 }
 
 -- the next sandbox has those of the list, or its own where that ends

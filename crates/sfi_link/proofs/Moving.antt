@@ -13,7 +13,7 @@ use Rattle.sfi_rewrite.specs.words.Transparency.{masked_in}
 use Rattle.sfi_image.specs.Parts.{IsMaskedBase}
 use Rattle.sfi_image.specs.declared.span.Span.{Span}
 use Rattle.sfi_formats.specs.declared.format.Format.{Format}
-use Rattle.sfi_formats.specs.Formats.{has_one_step}
+use Rattle.sfi_formats.specs.Formats.{has_single_mask}
 use Rattle.sfi_rewrite.proofs.Facts.{masks_compose}
 
 -- two places of a sandbox that can be moved, with as many stubs
@@ -151,11 +151,11 @@ adds_up given number p place held base value moves in_code in_data register numb
 -- ---- with a mask after each step
 
 -- a mask before a sum, which the mask follows, changes nothing
-masked_before : (f : Format) (c d : Span) (v w sum : ℕ) → AreRegions c d → IsMaskedBase f d.base d.size → (has_one_step f ≡ true → v < d.size) → result_of Add v w ≡ sum
+masked_before : (f : Format) (c d : Span) (v w sum : ℕ) → AreRegions c d → IsMaskedBase f d.base d.size → (has_single_mask f ≡ true → v < d.size) → result_of Add v w ≡ sum
     → masked_in f d (result_of Add (masked_in f d v) w) ≡ masked_in f d sum
-masked_before f c d v w sum regions bit low is = by (has_one_step f) refl
+masked_before f c d v w sum regions bit low is = by (has_single_mask f) refl
   where
-    by : (one : Bool) → has_one_step f ≡ one → masked_in f d (result_of Add (masked_in f d v) w) ≡ masked_in f d sum
+    by : (one : Bool) → has_single_mask f ≡ one → masked_in f d (result_of Add (masked_in f d v) w) ≡ masked_in f d sum
     by true e = ap (λ (n : ℕ). masked_in f d (result_of Add n w)) ((masks_compose f c d v w regions bit).2 e (low e)) ∙ ap (masked_in f d) is
     by false e = (masks_compose f c d v w regions bit).1 e ∙ ap (masked_in f d) is
 

@@ -1,7 +1,7 @@
 -- One list of sandboxes is made of what is placed, or it has one fault.
-use Rattle.sfi_link.proofs.Prelude.{append_assoc, ◌≡◌, ℕ, ◌+◌, ◌*◌, ◌≤◌, List, [], ◌∷◌, ◌++◌, length, replicate, sym, ap, ◌∙◌, subst, arith, inl, inr, length-append, pos, ◌-ℤ◌, repeat, w32, to_le_bytes, InRange, spelling, Format, Part, fields_of, stub_of, BundleSlot, Wide, Short, Jump, Upper, Lower, Region, PlacedName, slot_size, size_of, slots_of, Placement, Place, Bases, LinkFault, bases_of, value_at, base_at, target_at, with_offset, IsSlot, AreSlots, place_of, spans_at, Span, AreApart, spans_of, spans, AllPairs, c_ebreak, needed, IsCodeSize, IsLinkedCode, part_with, IsLinked, AreLinkedFrom, AreLinked, HasSlotFault, IsSlotFault, HasPartFault, IsPartFault, IsLinkFault}
+use Rattle.sfi_link.proofs.Prelude.{append_assoc, ◌≡◌, ℕ, ◌+◌, ◌*◌, ◌≤◌, List, [], ◌∷◌, ◌++◌, length, replicate, sym, ap, ◌∙◌, subst, arith, inl, inr, length-append, pos, ◌-ℤ◌, repeat, w32, to_le_bytes, InRange, spelling, Format, Part, fields_of, stub_of, BundleSlot, Wide, Short, Jump, Upper, Lower, Region, PlacedName, slot_size, size_of, slots_of, Placement, Place, Bases, LinkFault, bases_of, value_at, base_at, target_at, with_offset, IsSlot, AreSlots, place_of, spans_at, ends_at, LieApart, Span, spans_of, spans, zone_ends, zone_ends_of, c_ebreak, needed, IsCodeSize, IsLinkedCode, part_with, IsLinked, AreLinkedFrom, AreLinked, HasSlotFault, IsSlotFault, HasPartFault, IsPartFault, IsLinkFault}
 use Rattle.std.proofs.lemmas.Option.{none-some}
-use Rattle.sfi_image.proofs.Tests.{front_apart}
+use Rattle.sfi_image.proofs.Tests.{front_apart, front_clear}
 use Rattle.sfi_rewrite.proofs.Sizes.{size_of-append}
 use Rattle.sfi_link.proofs.Bytes.{size_fill, length_stubs}
 use Rattle.sfi_link.proofs.CleanPlaces.{some_same, made}
@@ -95,57 +95,69 @@ one_slot_fault at names here (s ∷ slots) f g (inr (b, one, later)) (inr (c, tw
 -- ---- of a sandbox
 
 -- its spans are those at its place
-pub own_spans : (given : List Place) (number : ℕ) (p : Placement) (q : Part) → IsLinked given number p q → spans_of (fields_of q) ≡ spans_at p (length q.code) (place_of given number)
+pub own_spans : (given : List Place) (number : ℕ) (p : Placement) (q : Part) → IsLinked given number p q → spans_of (fields_of q) ≡ spans_at p (length q.code) (place_of given p.format number)
 own_spans given number p q linked = ap (λ (r : Part). spans_of (fields_of r)) linked.is
 
-never_part : (given : List Place) → (number : ℕ) (p : Placement) (q : Part) (before : List Span) (f : LinkFault) → IsLinked given number p q → AllPairs AreApart (before ++ spans_of (fields_of q))
-    → HasPartFault given number p before f → ⊥
-never_part given number p q before f linked apart (inl h) = h.0 (length q.code) linked.code.size.has_room
-never_part given number p q before f linked apart (inr (inl h)) =
+-- and so is its zone at zero
+pub own_ends : (given : List Place) (number : ℕ) (p : Placement) (q : Part) → IsLinked given number p q → zone_ends_of (fields_of q) ≡ ends_at p
+own_ends given number p q linked = ap (λ (r : Part). zone_ends_of (fields_of r)) linked.is
+
+-- those at the front lie apart, too
+pub front_lies : (es fs : List ℕ) (ss ts : List Span) → LieApart (es ++ fs) (ss ++ ts) → LieApart es ss
+front_lies es fs ss ts lie = record { apart = front_apart ss ts lie.apart; clear = front_clear es fs ss ts lie.clear }
+
+never_part : (given : List Place) → (number : ℕ) (p : Placement) (q : Part) (ends : List ℕ) (before : List Span) (f : LinkFault) → IsLinked given number p q → LieApart (ends ++ ends_at p) (before ++ spans_of (fields_of q))
+    → HasPartFault given number p ends before f → ⊥
+never_part given number p q ends before f linked apart (inl h) = h.0 (length q.code) linked.code.size.has_room
+never_part given number p q ends before f linked apart (inr (inl h)) =
     h.1 (record {
       size = length q.code;
       least = linked.code.size;
       right = linked.lies;
-      apart = subst (λ l. AllPairs AreApart (before ++ l)) (own_spans given number p q linked) apart;
+      apart = subst (λ (l : List Span). LieApart (ends ++ ends_at p) (before ++ l)) (own_spans given number p q linked) apart;
     })
-never_part given number p q before f linked apart (inr (inr h)) = never_slots _ _ _ (slots_of p.bundles) (replicate linked.code.fill c_ebreak) linked.code.bytes f linked.code.slots h.1
+never_part given number p q ends before f linked apart (inr (inr h)) = never_slots _ _ _ (slots_of p.bundles) (replicate linked.code.fill c_ebreak) linked.code.bytes f linked.code.slots h.1
 
-one_of_part : (given : List Place) → (number : ℕ) (p : Placement) (before : List Span) (f g : LinkFault) → HasPartFault given number p before f → HasPartFault given number p before g → f ≡ g
-one_of_part given number p before f g (inl a) (inl b) = a.1 ∙ sym b.1
-one_of_part given number p before f g (inl a) (inr (inl b)) = absurd (b.0 a.0)
-one_of_part given number p before f g (inl a) (inr (inr b)) = absurd (a.0 b.0.size b.0.least.has_room)
-one_of_part given number p before f g (inr (inl a)) (inl b) = absurd (a.0 b.0)
-one_of_part given number p before f g (inr (inl a)) (inr (inl b)) = a.2 ∙ sym b.2
-one_of_part given number p before f g (inr (inl a)) (inr (inr b)) = absurd (a.1 b.0)
-one_of_part given number p before f g (inr (inr a)) (inl b) = absurd (b.0 a.0.size a.0.least.has_room)
-one_of_part given number p before f g (inr (inr a)) (inr (inl b)) = absurd (b.1 a.0)
-one_of_part given number p before f g (inr (inr a)) (inr (inr b)) = one_slot_fault _ _ _ (slots_of p.bundles) f g a.1 b.1
+one_of_part : (given : List Place) → (number : ℕ) (p : Placement) (ends : List ℕ) (before : List Span) (f g : LinkFault) → HasPartFault given number p ends before f → HasPartFault given number p ends before g → f ≡ g
+one_of_part given number p ends before f g (inl a) (inl b) = a.1 ∙ sym b.1
+one_of_part given number p ends before f g (inl a) (inr (inl b)) = absurd (b.0 a.0)
+one_of_part given number p ends before f g (inl a) (inr (inr b)) = absurd (a.0 b.0.size b.0.least.has_room)
+one_of_part given number p ends before f g (inr (inl a)) (inl b) = absurd (a.0 b.0)
+one_of_part given number p ends before f g (inr (inl a)) (inr (inl b)) = a.2 ∙ sym b.2
+one_of_part given number p ends before f g (inr (inl a)) (inr (inr b)) = absurd (a.1 b.0)
+one_of_part given number p ends before f g (inr (inr a)) (inl b) = absurd (b.0 a.0.size a.0.least.has_room)
+one_of_part given number p ends before f g (inr (inr a)) (inr (inl b)) = absurd (b.1 a.0)
+one_of_part given number p ends before f g (inr (inr a)) (inr (inr b)) = one_slot_fault _ _ _ (slots_of p.bundles) f g a.1 b.1
 
 -- ---- of all
 
--- where sandboxes are linked, with no spans that meet, none of them has a fault
-never_parts : (given : List Place) (number : ℕ) (before : List Span) (placed : List Placement) (parts : List Part) (f : LinkFault) → AreLinkedFrom given number placed parts → AllPairs AreApart (before ++ spans parts)
-    → IsPartFault given number before placed f → ⊥
-never_parts given number before [] parts f linked apart x = x
-never_parts given number before (p ∷ placed) [] f linked apart x = linked
-never_parts given number before (p ∷ placed) (q ∷ parts) f linked apart x =
+-- where sandboxes are linked, and lie apart, none of them has a fault
+never_parts : (given : List Place) (number : ℕ) (ends : List ℕ) (before : List Span) (placed : List Placement) (parts : List Part) (f : LinkFault) → AreLinkedFrom given number placed parts
+    → LieApart (ends ++ zone_ends parts) (before ++ spans parts) → IsPartFault given number ends before placed f → ⊥
+never_parts given number ends before [] parts f linked apart x = x
+never_parts given number ends before (p ∷ placed) [] f linked apart x = linked
+never_parts given number ends before (p ∷ placed) (q ∷ parts) f linked apart x =
     let own = spans (q ∷ []) in
-    let split : AllPairs AreApart ((before ++ own) ++ spans parts) = subst (AllPairs AreApart) (sym (append_assoc before own (spans parts))) apart in
+    let now = ends ++ ends_at p in
+    let spelled = sym (append_assoc before own (spans parts)) in
+    let ended : ends ++ zone_ends (q ∷ parts) ≡ now ++ zone_ends parts = ap (λ (l : List ℕ). ends ++ (l ++ zone_ends parts)) (own_ends given number p q linked.0) ∙ sym (append_assoc ends (ends_at p) (zone_ends parts)) in
+    let split : LieApart (now ++ zone_ends parts) ((before ++ own) ++ spans parts) = subst (LieApart (now ++ zone_ends parts)) spelled (subst (λ (l : List ℕ). LieApart l (before ++ spans (q ∷ parts))) ended apart) in
     elim x [
-      | inl h ↦ never_part given number p q before f linked.0 (front_apart (before ++ own) (spans parts) split) h
+      | inl h ↦ never_part given number p q ends before f linked.0 (front_lies now (zone_ends parts) (before ++ own) (spans parts) split) h
       | inr (r, one, beside, later) ↦
           let same : r ≡ q = one_part given number p r q one linked.0 in
-          never_parts given (number + 1) (before ++ own) placed parts f linked.1 split (subst (λ (s : Part). IsPartFault given (number + 1) (before ++ spans (s ∷ [])) placed f) same later)
+          never_parts given (number + 1) now (before ++ own) placed parts f linked.1 split (subst (λ (s : Part). IsPartFault given (number + 1) now (before ++ spans (s ∷ [])) placed f) same later)
     ]
 
-one_part_fault : (given : List Place) (number : ℕ) (before : List Span) (placed : List Placement) (f g : LinkFault) → IsPartFault given number before placed f → IsPartFault given number before placed g → f ≡ g
-one_part_fault given number before [] f g x y = absurd x
-one_part_fault given number before (p ∷ placed) f g (inl x) (inl y) = one_of_part given number p before f g x y
-one_part_fault given number before (p ∷ placed) f g (inl x) (inr (r, two, beside, more)) = absurd (never_part given number p r before f two beside x)
-one_part_fault given number before (p ∷ placed) f g (inr (q, one, apart, later)) (inl y) = absurd (never_part given number p q before g one apart y)
-one_part_fault given number before (p ∷ placed) f g (inr (q, one, apart, later)) (inr (r, two, beside, more)) =
+one_part_fault : (given : List Place) (number : ℕ) (ends : List ℕ) (before : List Span) (placed : List Placement) (f g : LinkFault) → IsPartFault given number ends before placed f → IsPartFault given number ends before placed g → f ≡ g
+one_part_fault given number ends before [] f g x y = absurd x
+one_part_fault given number ends before (p ∷ placed) f g (inl x) (inl y) = one_of_part given number p ends before f g x y
+one_part_fault given number ends before (p ∷ placed) f g (inl x) (inr (r, two, beside, more)) = absurd (never_part given number p r ends before f two beside x)
+one_part_fault given number ends before (p ∷ placed) f g (inr (q, one, apart, later)) (inl y) = absurd (never_part given number p q ends before g one apart y)
+one_part_fault given number ends before (p ∷ placed) f g (inr (q, one, apart, later)) (inr (r, two, beside, more)) =
     let same : q ≡ r = one_part given number p q r one two in
-    one_part_fault given (number + 1) (before ++ spans (r ∷ [])) placed f g (subst (λ (s : Part). IsPartFault given (number + 1) (before ++ spans (s ∷ [])) placed f) same later) more
+    let now = ends ++ ends_at p in
+    one_part_fault given (number + 1) now (before ++ spans (r ∷ [])) placed f g (subst (λ (s : Part). IsPartFault given (number + 1) now (before ++ spans (s ∷ [])) placed f) same later) more
 
 pub one_fault : (given : List Place) → (placed : List Placement) (f g : LinkFault) → IsLinkFault given placed f → IsLinkFault given placed g → f ≡ g
 one_fault given placed f g (inl a) (inl b) = a.1 ∙ sym b.1
@@ -156,9 +168,9 @@ one_fault given placed f g (inr (inl a)) (inr (inl b)) = a.2 ∙ sym b.2
 one_fault given placed f g (inr (inl a)) (inr (inr b)) = absurd (omega (arith, a.1, b.1))
 one_fault given placed f g (inr (inr a)) (inl b) = absurd (omega (arith, a.0, b.0))
 one_fault given placed f g (inr (inr a)) (inr (inl b)) = absurd (omega (arith, a.1, b.1))
-one_fault given placed f g (inr (inr a)) (inr (inr b)) = one_part_fault given 0 [] placed f g a.2 b.2
+one_fault given placed f g (inr (inr a)) (inr (inr b)) = one_part_fault given 0 [] [] placed f g a.2 b.2
 
 pub never_both : (given : List Place) → (placed : List Placement) (parts : List Part) (f : LinkFault) → length placed ≤ 16 → AreLinked given placed parts → IsLinkFault given placed f → ⊥
 never_both given placed parts f few linked (inl h) = omega (arith, h.0)
 never_both given placed parts f few linked (inr (inl h)) = (let used = linked.used in omega (arith, h.1, used))
-never_both given placed parts f few linked (inr (inr h)) = never_parts given 0 [] placed parts f linked.each linked.apart h.2
+never_both given placed parts f few linked (inr (inr h)) = never_parts given 0 [] [] placed parts f linked.each linked.apart h.2

@@ -10,9 +10,8 @@ use Rattle.sfi_image.proofs.Regions.{whole_bundles}
 use Rattle.sfi_formats.proofs.Facts.{limits_have_room}
 use Rattle.sfi_rewrite.proofs.Sizes.{size_of-cons}
 use Rattle.sfi_formats.specs.Formats.{unit}
-use Rattle.sfi_formats.specs.declared.format.Format.TheVariants.{Sfi1, Sfi2, Sfiw}
-use Rattle.sfi_image.specs.Spelling.{Holds, spans}
-use Rattle.sfi_image.proofs.ClearZones.{clear_of_no_zones}
+use Rattle.sfi_formats.specs.declared.format.Format.TheVariants.{Sfi1, Sfi2, Sfiw, Sfis}
+use Rattle.sfi_image.specs.Spelling.{Holds}
 use Rattle.sfi_rewrite.specs.declared.placed.PlacedName.TheVariants.{Gate, Code, Data, Unknown}
 use Rattle.sfi_link.specs.declared.names.NameKind.{NameKind}
 use Rattle.sfi_link.specs.declared.names.NameKind.TheVariants as kind
@@ -109,15 +108,15 @@ pub well_placed : (p : Placement) (size : ℕ) (place : Place) → IsRightPlace 
 well_placed p size place lies = let whole = whole_bundles p.format place.code_base size lies.word lies.code in record { end = whole.4; even = omega (arith, whole.3) }
 
 -- the sandbox starts below 2 ^ 32
-pub start_fits : (given : List Place) (number : ℕ) (p : Placement) (size : ℕ) → HasRoom p.format (needed p) size → IsRightPlace p size (place_of given number) → (bases_of given number p).start < 2 ^ 32
+pub start_fits : (given : List Place) (number : ℕ) (p : Placement) (size : ℕ) → HasRoom p.format (needed p) size → IsRightPlace p size (place_of given p.format number) → (bases_of given number p).start < 2 ^ 32
 start_fits given number p size room lies =
-    let end = (well_placed p size (place_of given number) lies).end in
+    let end = (well_placed p size (place_of given p.format number) lies).end in
     omega arith
 
-right_with : (given : List Place) (number : ℕ) (p : Placement) (code : List ℕ) → IsPlacedPart p → IsLinkedCode given number p code → IsRightPlace p (length code) (place_of given number) → IsRightPart (part_with given number p code)
+right_with : (given : List Place) (number : ℕ) (p : Placement) (code : List ℕ) → IsPlacedPart p → IsLinkedCode given number p code → IsRightPlace p (length code) (place_of given p.format number) → IsRightPart (part_with given number p code)
 right_with given number p code placed made lies =
     let base = (bases_of given number p).code in
-    let well = well_placed p (length code) (place_of given number) lies in
+    let well = well_placed p (length code) (place_of given p.format number) lies in
     let gates_len = length-gates_from base p.gates in
     record {
       code_base = lies.word;
@@ -167,7 +166,7 @@ pub linked_is_right : (given : List Place) (placed : List Placement) (parts : Li
 linked_is_right given placed parts is few linked =
     let all = all_right given 0 placed parts is.each linked.each in
     let count = all.1 in
-    record { at_least_one = omega arith; at_most = omega arith; one_format = one_format given 0 placed parts is linked.each; right = record { each = all.0; apart = linked.apart; clear = clear_of_no_zones parts (spans parts) } }
+    record { at_least_one = omega arith; at_most = omega arith; one_format = one_format given 0 placed parts is linked.each; right = record { each = all.0; apart = linked.apart.apart; clear = linked.apart.clear } }
 
 -- ==== The map of a source, name by name.
 
@@ -189,6 +188,7 @@ aligned : (f : Format) (base gates place : ℕ) → base % 16 ≡ 0 → place % 
 aligned Sfi1 base gates place even whole = omega (arith, whole)
 aligned Sfi2 base gates place even whole = omega (arith, whole)
 aligned Sfiw base gates place even whole = omega (arith, whole)
+aligned Sfis base gates place even whole = omega (arith, whole)
 
 -- the address is one of the part's code, at which a unit begins
 abbrev pub IsUnitOf : Part → ℕ → Type 0
@@ -197,7 +197,7 @@ IsUnitOf q at = Holds (code_region q) at × (at % unit q.format ≡ 0)
 placed_label : (given : List Place) (number : ℕ) (p : Placement) (q : Part) (place : ℕ) → IsPlacedPart p → IsLinked given number p q → IsPlacedThere p (Code place)
     → IsUnitOf (part_with given number p q.code) ((bases_of given number p).start + place)
 placed_label given number p q place placed linked there =
-    let well = well_placed p (length q.code) (place_of given number) linked.lies in
+    let well = well_placed p (length q.code) (place_of given p.format number) linked.lies in
     let room = linked.code.size.has_room.room in
     let inside = there.1 in
     ((omega arith, omega (arith, room, inside)), aligned p.format (bases_of given number p).code (length p.gates) place well.even there.0)

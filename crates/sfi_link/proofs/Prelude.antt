@@ -1,5 +1,5 @@
 -- Words of std and of definitions that many proofs of this crate use.
-pub use Rattle.std.proofs.Common.{◌≡◌, ℕ, List, [], ◌∷◌, ap, subst, ◌⊎◌, inl, inr, Vec, Global, zero, suc, ◌+◌, ◌^◌, ◌<◌, ◌≤◌, ◌++◌, length, Option, Some, None, Bool, true, false, refl, sym, ◌∙◌, arith, append_assoc, replicate, ◌==◌, take, drop, length-append, ◌-◌, ◌*◌, ◌/◌, get_or, append-nil, map, ◌%◌, drop-cons, add-one, length-take, ⊎_elim}
+pub use Rattle.std.proofs.Common.{◌≡◌, ℕ, List, [], ◌∷◌, ap, subst, subst₂, ◌⊎◌, inl, inr, Vec, Global, zero, suc, ◌+◌, ◌^◌, ◌<◌, ◌≤◌, ◌++◌, length, Option, Some, None, Bool, true, false, refl, sym, ◌∙◌, arith, append_assoc, replicate, ◌==◌, take, drop, length-append, ◌-◌, ◌*◌, ◌/◌, get_or, append-nil, map, ◌%◌, drop-cons, add-one, length-take, ⊎_elim}
 pub use Rattle.std.specs.Prelude.{Result, Ok, Err, IfOk, IfErr, ℤ, pos, negsuc, ◌-ℤ◌, ◌&&◌, ◌||◌, not, MatchBool, ◌+ℤ◌, slice_get, max, slice_index, IsTrue, nat_lt}
 pub use Rattle.std.proofs.lemmas.Bool.{and_right, or_parts, cases_lt, eq-eqb, eqb-true, or_right, or_cases, cases_eq, ne_eqb, and_left, not_from_true, and_parts, ltb-true, OnTrue_at, OnFalse_at}
 pub use Rattle.std.proofs.lemmas.Int.{ints}
@@ -22,7 +22,7 @@ unfoldable pub use Rattle.sfi_link.specs.Code.{stub_of}
 pub use Rattle.sfi_formats.specs.declared.format.Format.{Format}
 pub use Rattle.sfi_formats.specs.Places.{place_of}
 pub use Rattle.sfi_formats.specs.declared.place.Place.{Place}
-pub use Rattle.sfi_image.specs.Spelling.{AreApart, with_guards, spans, spans_of, code_region, Part, fields_of, format_of, views, view}
+pub use Rattle.sfi_image.specs.Spelling.{AreApart, with_guards, spans, spans_of, zone_ends, zone_ends_of, AreClear, code_region, Part, fields_of, format_of, views, view}
 pub use Rattle.sfi_image.specs.declared.span.Span.{Span}
 pub use Rattle.sfi_rules.specs.Readings.{Piece, IsReading, rest_of, IsLongestReading}
 pub use Rattle.sfi_rewrite.specs.Placed.{AreWhole, nothing, padding, IsPlacedPart, IsPlacedThere, IsPlaced, Encodes}
@@ -33,8 +33,8 @@ pub use Rattle.sfi_rewrite.specs.declared.slot.BundleSlot.{BundleSlot}
 pub use Rattle.sfi_rewrite.specs.declared.slot.BundleSlot.TheVariants.{Wide, Short, Jump, Upper, Lower, Region}
 pub use Rattle.sfi_link.specs.Code.{IsInReach, AreInReach, target_at, value_at, base_at, with_offset, bases_of, of_name, target_of, stub_size, resolved, made_of, AreSlots, IsSlot}
 pub use Rattle.sfi_link.specs.Faults.{IsLinkFault, MayLie, IsSlotFault, HasPartFault, IsPartFault, HasSlotFault}
-pub use Rattle.sfi_link.specs.Linked.{c_ebreak, needed, gates_from, part_with, IsLinked, AreLinkedFrom, HasRoom, IsCodeSize, IsLinkedCode, AreLinked, IsRightPlace, spans_at, contents, parts_with, AreLinkedCodes, with_bytes, each_with}
+pub use Rattle.sfi_link.specs.Linked.{c_ebreak, needed, gates_from, part_with, IsLinked, AreLinkedFrom, HasRoom, IsCodeSize, IsLinkedCode, AreLinked, IsRightPlace, spans_at, ends_at, LieApart, contents, parts_with, AreLinkedCodes, with_bytes, each_with}
 pub use Rattle.sfi_link.specs.Names.{kind_of, entry_of, entries_of, entries_in, map_from}
 pub use Rattle.sfi_link.specs.declared.bases.Bases.{Bases}
 pub use Rattle.sfi_link.specs.declared.fault.LinkFault.{LinkFault}
-pub use Rattle.sfi_link.specs.private.{LiesBeside, HasRoomFor, AreWritten, IsCodeBeside, AreCodes, Links, IsPushed, set_init}
+pub use Rattle.sfi_link.specs.private.{ends_in, LiesBeside, HasRoomFor, AreWritten, IsCodeBeside, AreCodes, Links, IsPushed, set_init}

@@ -9,13 +9,13 @@ use Rattle.sfi_image.specs.Parts.{IsRightPart}
 use Rattle.sfi_link.specs.Standing.{IsResolvedTo, AreResolvedTo, RunsAt, RunsAs, WordRunsAs, RunsAsIn, LinkedRunsAs, LinkedImagesRunAs, SandboxesRunAs}
 use Rattle.sfi_rewrite.specs.Expansion.{jump_slots, IsAlone, IsMasked, IsExpansionOf, is_on_stack, stack_pair, put_back, writes_stack}
 use Rattle.sfi_rewrite.specs.Rewriting.{IsRewritten, AreRewritten}
-use Rattle.sfi_formats.specs.Formats.{has_words, has_one_step, is_data_register}
+use Rattle.sfi_formats.specs.Formats.{has_words, has_single_mask, is_data_register}
 use Rattle.sfi_rewrite.specs.Transparency.{IsAimed, MayBe, SlotsStand, StandsTransparent}
 use Rattle.sfi_rewrite.specs.words.Transparency as words
 use Rattle.sfi_rewrite.specs.words.Expansion as words_expansion
 use Rattle.sfi_rewrite.specs.words.Expansion.{data_mask, is_made_on_x26, base_of, before, after, mask_after, IsConfined, IsAround, is_move, moved, is_step_before_use}
 use Rattle.rv_word.specs.Outlines.{destination}
-use Rattle.std.specs.Prelude.{not, ◌&&◌, ◌||◌, ◌==◌, drop, Option, None, if◌then◌else◌}
+use Rattle.std.specs.Prelude.{not, ◌&&◌, ◌||◌, drop, Option, None, if◌then◌else◌}
 use Rattle.sfi_rewrite.proofs.Facts.{rewritten_is_transparent}
 use Rattle.sfi_rewrite.proofs.Standing.{body_laid}
 use Rattle.sfi_link.proofs.CleanPlaces.{made}
@@ -52,7 +52,7 @@ bare_if true xs ys a b = a
 bare_if false xs ys a b = b
 
 bare_data : (f : Format) (d a : ℕ) → AreBare (data_mask f d a)
-bare_data f d a = bare_if (has_one_step f) (Wide (Op And d a 27) ∷ []) (Wide (Op And 31 a 27) ∷ Wide (Op Or d 31 26) ∷ []) tt tt
+bare_data f d a = bare_if (has_single_mask f) (Wide (Op And d a 27) ∷ []) (Wide (Op And 31 a 27) ∷ Wide (Op Or d 31 26) ∷ []) tt tt
 
 bare_mask : (f : Format) (to : Option ℕ) → AreBare (mask_after f to)
 bare_mask f None = tt

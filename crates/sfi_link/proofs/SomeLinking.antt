@@ -1,5 +1,5 @@
 -- What is placed has an image, or a fault.
-use Rattle.sfi_link.proofs.Prelude.{◌≡◌, ℕ, zero, suc, ◌+◌, ◌-◌, ◌/◌, ◌^◌, ◌<◌, ◌≤◌, List, [], ◌∷◌, ◌++◌, length, Option, Some, None, refl, sym, ap, subst, arith, inl, inr, ◌⊎◌, ℤ, pos, ◌-ℤ◌, All, AllPairs, repeat, w16, w32, to_le_bytes, cases_lt, cases_eq, ints, All-head, All-tail, Instr, Branch, Jal, InRange, IsReg, spelling, expansion, Format, code_most, data_most, built_code_most, stub_of, BundleSlot, Wide, Short, Jump, Upper, Lower, Region, PlacedName, slot_size, slots_of, Placement, Encodes, IsPlacedPart, Bases, LinkFault, Place, Span, AreApart, spans, place_of, IsRightPlace, spans_at, bases_of, value_at, base_at, target_at, with_offset, made_of, IsSlot, AreSlots, needed, HasRoom, IsCodeSize, IsLinkedCode, part_with, IsLinked, AreLinkedFrom, AreLinked, AreWritten, MayLie, HasSlotFault, IsSlotFault, HasPartFault, IsPartFault}
+use Rattle.sfi_link.proofs.Prelude.{◌≡◌, ℕ, zero, suc, ◌+◌, ◌-◌, ◌/◌, ◌^◌, ◌<◌, ◌≤◌, List, [], ◌∷◌, ◌++◌, length, Option, Some, None, refl, sym, ap, ◌∙◌, subst, subst₂, arith, inl, inr, ◌⊎◌, ℤ, pos, ◌-ℤ◌, All, repeat, w16, w32, to_le_bytes, cases_lt, cases_eq, ints, All-head, All-tail, Instr, Branch, Jal, InRange, IsReg, spelling, expansion, Format, code_most, data_most, built_code_most, stub_of, BundleSlot, Wide, Short, Jump, Upper, Lower, Region, PlacedName, slot_size, slots_of, Placement, Encodes, IsPlacedPart, Bases, LinkFault, Place, Span, AreApart, spans, zone_ends, place_of, IsRightPlace, spans_at, ends_at, LieApart, bases_of, value_at, base_at, target_at, with_offset, made_of, IsSlot, AreSlots, needed, HasRoom, IsCodeSize, IsLinkedCode, part_with, IsLinked, AreLinkedFrom, AreLinked, AreWritten, MayLie, HasSlotFault, IsSlotFault, HasPartFault, IsPartFault}
 use Rattle.rv_comp.specs.Fronts.{halfword_of}
 use Rattle.rv_word.specs.Spelling.{modulo, minus, IsBetween}
 use Rattle.sfi_link.specs.Laws.{SomeLinking}
@@ -10,16 +10,16 @@ use Rattle.std.proofs.Math.Nat.{pow-suc}
 use Rattle.std.proofs.lemmas.List.{append-nil, append_assoc}
 use Rattle.sfi_image.specs.Spelling as image
 use Rattle.sfi_link.specs.declared.fault.LinkFault.TheVariants as named
-use Rattle.sfi_image.proofs.Deciding.{Decided, decided_both, decided_lt, decided_pairs, decided_apart, decided_region, decided_guard_room, decided_one_bit, decided_clear}
-use Rattle.sfi_formats.specs.Formats.{has_one_step}
+use Rattle.sfi_image.proofs.Deciding.{Decided, decided_both, decided_lt, decided_pairs, decided_apart, decided_region, decided_guard_room, decided_one_bit, decided_clear, decided_all_clear}
+use Rattle.sfi_formats.specs.Formats.{has_single_mask}
 use Rattle.std.specs.Prelude.{Bool, true, false}
-use Rattle.sfi_link.proofs.OneLinking.{one_size}
+use Rattle.sfi_link.proofs.OneLinking.{one_size, own_ends}
 use Rattle.sfi_link.proofs.Bytes.{length_stubs}
 use Rattle.sfi_formats.proofs.Facts.{limits_are_small}
 use Rattle.sfi_link.proofs.LinkedClean.{all_are_clean}
 use Rattle.sfi_link.proofs.Parts.{linked_is_right}
 use Rattle.sfi_link.proofs.Pushed.{upper_slot, lower_slot, region_slot}
-use Rattle.sfi_link.proofs.Linking.{small_size, least_size, no_room, linked_code, pair, none_apart}
+use Rattle.sfi_link.proofs.Linking.{small_size, least_size, no_room, linked_code, pair, none_lies}
 
 -- ---- offsets
 
@@ -121,15 +121,15 @@ size_or_none f needed =
 
 -- ---- a sandbox
 
--- the sandbox is linked after those before, with no spans that meet
-record IsMade (given : List Place) (number : ℕ) (p : Placement) (before : List Span) : Type 0 where
+-- the sandbox is linked after those before, and lies apart
+record IsMade (given : List Place) (number : ℕ) (p : Placement) (ends : List ℕ) (before : List Span) : Type 0 where
   part : image.Part
   linked : IsLinked given number p part
-  apart : AllPairs AreApart (before ++ spans (part ∷ []))
+  apart : LieApart (ends ++ ends_at p) (before ++ spans (part ∷ []))
 
-part_made : (given : List Place) (number : ℕ) (p : Placement) (before : List Span) (size : ℕ) (bytes : List ℕ) → IsCodeSize p.format (needed p) size → IsRightPlace p size (place_of given number)
-    → AllPairs AreApart (before ++ spans_at p size (place_of given number)) → AreSlots (bases_of given number p) p.names (bases_of given number p).start (slots_of p.bundles) bytes → IsMade given number p before
-part_made given number p before size bytes sized lies apart slots =
+part_made : (given : List Place) (number : ℕ) (p : Placement) (ends : List ℕ) (before : List Span) (size : ℕ) (bytes : List ℕ) → IsCodeSize p.format (needed p) size → IsRightPlace p size (place_of given p.format number)
+    → LieApart (ends ++ ends_at p) (before ++ spans_at p size (place_of given p.format number)) → AreSlots (bases_of given number p) p.names (bases_of given number p).start (slots_of p.bundles) bytes → IsMade given number p ends before
+part_made given number p ends before size bytes sized lies apart slots =
     let at = bases_of given number p in
     let stubs = repeat (length p.gates) (stub_of p.format) in
     let now = stubs ++ bytes in
@@ -143,8 +143,8 @@ part_made given number p before size bytes sized lies apart slots =
     let whole : length code ≡ size = one_size p.format (needed p) (length code) size linked.size sized in
     record {
       part = part_with given number p code;
-      linked = record { code = linked; lies = subst (λ n. IsRightPlace p n (place_of given number)) (sym whole) lies; is = refl };
-      apart = subst (λ n. AllPairs AreApart (before ++ spans_at p n (place_of given number))) (sym whole) apart;
+      linked = record { code = linked; lies = subst (λ n. IsRightPlace p n (place_of given p.format number)) (sym whole) lies; is = refl };
+      apart = subst (λ (n : ℕ). LieApart (ends ++ ends_at p) (before ++ spans_at p n (place_of given p.format number))) (sym whole) apart;
     }
 
 -- what is asked under a condition
@@ -155,54 +155,73 @@ decided_where false d = inl (λ is. absurd cc)
 
 right_place : (p : Placement) (size : ℕ) (place : Place) → Decided (IsRightPlace p size place)
 right_place p size place =
-    let one_step = has_one_step p.format in
+    let single = has_single_mask p.format in
     let code_at : Span = record { base = place.code_base; size = size } in
     let data_at : Span = record { base = place.data_base; size = p.data_size } in
     let regions = decided_both (decided_both (decided_lt place.code_base 4294967296) (decided_region place.code_base size 256 (code_most p.format)))
     (decided_both (decided_region place.data_base p.data_size 256 (data_most p.format)) (decided_guard_room place.data_base p.data_size)) in
-    let masks = decided_both (decided_where one_step (decided_one_bit place.data_base p.data_size)) (decided_where one_step (decided_clear code_at data_at)) in
+    let masks = decided_both (decided_where single (decided_one_bit place.data_base p.data_size)) (decided_where single (decided_clear code_at data_at)) in
     elim (decided_both regions masks) [
       | inl all ↦ inl (record { word = all.0.0.0; code = all.0.0.1; «data» = all.0.1.0; one_bit = all.1.0; guard_room = all.0.1.1; zone_room = all.1.1 })
       | inr not ↦ inr (λ r. not (((r.word, r.code), (r.«data», r.guard_room)), (r.one_bit, r.zone_room)))
     ]
 
--- with its code of that size, the sandbox may lie at its place, or not
-lies_or_not : (given : List Place) (number : ℕ) (p : Placement) (before : List Span) (size : ℕ) → IsCodeSize p.format (needed p) size
-    → (IsRightPlace p size (place_of given number) × AllPairs AreApart (before ++ spans_at p size (place_of given number))) ⊎ (MayLie given number p before → ⊥)
-lies_or_not given number p before size sized =
-    elim (decided_both (right_place p size (place_of given number)) (decided_pairs AreApart decided_apart (before ++ spans_at p size (place_of given number)))) [
-      | inl both ↦ inl both
-      | inr not ↦ inr (λ may. let one : may.size ≡ size = one_size p.format (needed p) may.size size may.least sized in
-          not (subst (λ n. IsRightPlace p n (place_of given number)) one may.right, subst (λ n. AllPairs AreApart (before ++ spans_at p n (place_of given number))) one may.apart))
+-- sandboxes lie apart, or not
+apart_or_not : (ends : List ℕ) (ss : List Span) → Decided (LieApart ends ss)
+apart_or_not ends ss =
+    elim (decided_both (decided_pairs AreApart decided_apart ss) (decided_all_clear ends ss)) [
+      | inl both ↦ inl (record { apart = both.0; clear = both.1 })
+      | inr not ↦ inr (λ lie. not (lie.apart, lie.clear))
     ]
 
-part_or_fault : (given : List Place) (number : ℕ) (p : Placement) (before : List Span) → IsPlacedPart p → IsMade given number p before ⊎ ((f : LinkFault) × HasPartFault given number p before f)
-part_or_fault given number p before right =
+-- with its code of that size, the sandbox may lie at its place, or not
+lies_or_not : (given : List Place) (number : ℕ) (p : Placement) (ends : List ℕ) (before : List Span) (size : ℕ) → IsCodeSize p.format (needed p) size
+    → (IsRightPlace p size (place_of given p.format number) × LieApart (ends ++ ends_at p) (before ++ spans_at p size (place_of given p.format number))) ⊎ (MayLie given number p ends before → ⊥)
+lies_or_not given number p ends before size sized =
+    elim (decided_both (right_place p size (place_of given p.format number)) (apart_or_not (ends ++ ends_at p) (before ++ spans_at p size (place_of given p.format number)))) [
+      | inl both ↦ inl both
+      | inr not ↦ inr (λ may. let one : may.size ≡ size = one_size p.format (needed p) may.size size may.least sized in
+          not (subst (λ n. IsRightPlace p n (place_of given p.format number)) one may.right, subst (λ (n : ℕ). LieApart (ends ++ ends_at p) (before ++ spans_at p n (place_of given p.format number))) one may.apart))
+    ]
+
+part_or_fault : (given : List Place) (number : ℕ) (p : Placement) (ends : List ℕ) (before : List Span) → IsPlacedPart p → IsMade given number p ends before ⊎ ((f : LinkFault) × HasPartFault given number p ends before f)
+part_or_fault given number p ends before right =
     elim (size_or_none p.format (needed p)) [
       | inr none ↦ inr (TooLarge number, inl (none, refl))
-      | inl sized ↦ elim (lies_or_not given number p before sized.0 sized.1) [
+      | inl sized ↦ elim (lies_or_not given number p ends before sized.0 sized.1) [
         | inr nowhere ↦ inr (named.Place number, inr (inl (λ large. large sized.0 sized.1.has_room, nowhere, refl)))
         | inl lies ↦ elim (slots_or_fault (bases_of given number p) p.names (bases_of given number p).start (slots_of p.bundles) right.encodes) [
           | inr wrong ↦ inr (wrong.0, inr (inr (record { size = sized.0; least = sized.1; right = lies.0; apart = lies.1 }, wrong.1)))
-          | inl slots ↦ inl (part_made given number p before sized.0 slots.0 sized.1 lies.0 lies.1 slots.1)
+          | inl slots ↦ inl (part_made given number p ends before sized.0 slots.0 sized.1 lies.0 lies.1 slots.1)
         ]
       ]
     ]
 
 -- ---- all
 
-parts_or_fault : (given : List Place) (number : ℕ) (before : List Span) (placed : List Placement) → All IsPlacedPart placed → AllPairs AreApart before
-    → ((parts : List image.Part) × AreLinkedFrom given number placed parts × AllPairs AreApart (before ++ spans parts)) ⊎ ((f : LinkFault) × IsPartFault given number before placed f)
-parts_or_fault given number before [] right apart = inl ([], refl, subst (AllPairs AreApart) (sym (append-nil before)) apart)
-parts_or_fault given number before (p ∷ placed) right apart =
-    elim (part_or_fault given number p before (All-head IsPlacedPart p placed right)) [
+-- these are linked, and all lie apart
+abbrev LieAll : List Place → ℕ → List ℕ → List Span → List Placement → Type 0
+LieAll given number ends before placed = (parts : List image.Part) × AreLinkedFrom given number placed parts × LieApart (ends ++ zone_ends parts) (before ++ spans parts)
+
+-- the first of them, and the others after it
+one_more : (given : List Place) (number : ℕ) (p : Placement) (ends : List ℕ) (before : List Span) (placed : List Placement) (made : IsMade given number p ends before)
+    → LieAll given (number + 1) (ends ++ ends_at p) (before ++ spans (made.part ∷ [])) placed → LieAll given number ends before (p ∷ placed)
+one_more given number p ends before placed made rest =
+    let ended : (ends ++ ends_at p) ++ zone_ends rest.0 ≡ ends ++ zone_ends (made.part ∷ rest.0) =
+    append_assoc ends (ends_at p) (zone_ends rest.0) ∙ ap (λ (l : List ℕ). ends ++ (l ++ zone_ends rest.0)) (sym (own_ends given number p made.part made.linked)) in
+    let spelled = append_assoc before (spans (made.part ∷ [])) (spans rest.0) in
+    (made.part ∷ rest.0, (made.linked, rest.1), subst₂ LieApart ended spelled rest.2)
+
+parts_or_fault : (given : List Place) (number : ℕ) (ends : List ℕ) (before : List Span) (placed : List Placement) → All IsPlacedPart placed → LieApart ends before
+    → LieAll given number ends before placed ⊎ ((f : LinkFault) × IsPartFault given number ends before placed f)
+parts_or_fault given number ends before [] right apart = inl ([], refl, subst₂ LieApart (sym (append-nil ends)) (sym (append-nil before)) apart)
+parts_or_fault given number ends before (p ∷ placed) right apart =
+    elim (part_or_fault given number p ends before (All-head IsPlacedPart p placed right)) [
       | inr wrong ↦ inr (wrong.0, inl wrong.1)
-      | inl made ↦
-          let own = spans (made.part ∷ []) in
-          elim (parts_or_fault given (number + 1) (before ++ own) placed (All-tail IsPlacedPart p placed right) made.apart) [
-            | inr wrong ↦ inr (wrong.0, inr (made.part, made.linked, made.apart, wrong.1))
-            | inl rest ↦ inl (made.part ∷ rest.0, (made.linked, rest.1), subst (AllPairs AreApart) (append_assoc before own (spans rest.0)) rest.2)
-          ]
+      | inl made ↦ elim (parts_or_fault given (number + 1) (ends ++ ends_at p) (before ++ spans (made.part ∷ [])) placed (All-tail IsPlacedPart p placed right) made.apart) [
+        | inr wrong ↦ inr (wrong.0, inr (made.part, made.linked, made.apart, wrong.1))
+        | inl rest ↦ inl (one_more given number p ends before placed made rest)
+      ]
     ]
 
 pub some_linking : SomeLinking
@@ -211,7 +230,7 @@ some_linking given placed is =
       | inl many ↦ inr (TooManySandboxes, inl (many, refl))
       | inr few ↦ elim (cases_lt (length placed) (length given)) [
         | inl unused ↦ inr (named.Place (length placed), inr (inl (few, unused, refl)))
-        | inr used ↦ elim (parts_or_fault given 0 [] placed is.each none_apart) [
+        | inr used ↦ elim (parts_or_fault given 0 [] [] placed is.each none_lies) [
           | inr wrong ↦ inr (wrong.0, inr (inr (few, used, wrong.1)))
           | inl made ↦
               let linked : AreLinked given placed made.0 = record { used = used; each = made.1; apart = made.2 } in

@@ -13,7 +13,7 @@ use Rattle.sfi_source.specs.declared.item.Body.{Body}
 use Rattle.sfi_source.specs.declared.item.Body.TheVariants.{Plain, To, High, Low, Base}
 use Rattle.sfi_source.specs.declared.item.Item.{Item}
 use Rattle.sfi_formats.specs.declared.format.Format.{Format}
-use Rattle.sfi_formats.specs.Formats.{is_data_register, is_data_register_in, has_words, has_one_step}
+use Rattle.sfi_formats.specs.Formats.{is_data_register, is_data_register_in, has_words, has_single_mask}
 use Rattle.sfi_rewrite.specs.Expansion.{IsAlone, is_withheld, names_withheld, item_names_withheld, is_ecall}
 use Rattle.sfi_rewrite.specs.Rewriting.{IsPermitted}
 use Rattle.sfi_rewrite.specs.words.Expansion.{is_made_on_x26, data_mask, IsAround, IsExpansionOf, IsExpansion, mask_after, is_step_to, is_step_before_use, is_zero, is_move, moved, is_barred_jump, Marked, marked, AreExpanded}
@@ -145,8 +145,8 @@ load_access : (f : Format) (base size here : ℕ) (kind_of : LoadKind) (rd : ℕ
 load_access f base size here kind_of rd imm h = record {
   lawful = λ b may. lawful_by (unreserved f (Some rd) h) (ap not may) refl refl (no_offset f (Load kind_of rd b imm) (Some rd) refl h);
   no_ecall = λ b gate. refl;
-  owes = λ b. owing f (Load kind_of rd b imm) (Some rd) refl (h, neither (has_one_step f) refl refl, λ typed. refl);
-  masks_none = λ b d. neither (has_one_step f) refl refl;
+  owes = λ b. owing f (Load kind_of rd b imm) (Some rd) refl (h, neither (has_single_mask f) refl refl, λ typed. refl);
+  masks_none = λ b d. neither (has_single_mask f) refl refl;
   is_on = λ b d u. eqb-true b d (and_parts (b == d) _ (and_parts _ (not (rd == 0)) u).0).0;
 }
 
@@ -155,7 +155,7 @@ store_access f base size here width rs2 imm = record {
   lawful = λ b may. lawful_by refl (ap not may) refl refl refl;
   no_ecall = λ b gate. refl;
   owes = λ b. owing f (Store width b rs2 imm) None refl tt;
-  masks_none = λ b d. neither (has_one_step f) refl refl;
+  masks_none = λ b d. neither (has_single_mask f) refl refl;
   is_on = λ b d u. eqb-true b d (and_parts (b == d) _ u).0;
 }
 
@@ -165,7 +165,7 @@ store_access f base size here width rs2 imm = record {
 jump_right : (f : Format) (base size : ℕ) (at : Bases) (names : List PlacedName) (here rd a : ℕ) (imm : ℤ) (slots : List BundleSlot) → IsFree rd → is_data_register rd ≡ false → imm ≡ pos 0
     → slots ≡ Wide (Op And 30 a 25) ∷ Wide (Op Or 30 30 24) ∷ Wide (Jalr rd 30 imm) ∷ mask_after f (Some rd) → AreRight f base size at names here kind.Nothing slots kind.Nothing
 jump_right f base size at names here rd a imm slots h untyped zero_is e =
-    let w = owing f (Jalr rd 30 (pos 0)) (Some rd) refl (h, neither (has_one_step f) refl refl, λ typed. absurd (true≢false (sym typed ∙ untyped))) in
+    let w = owing f (Jalr rd 30 (pos 0)) (Some rd) refl (h, neither (has_single_mask f) refl refl, λ typed. absurd (true≢false (sym typed ∙ untyped))) in
     subst (λ v. AreRight f base size at names here kind.Nothing v kind.Nothing) (sym (e ∙ ap (λ z. Wide (Op And 30 a 25) ∷ Wide (Op Or 30 30 24) ∷ Wide (Jalr rd 30 z) ∷ mask_after f (Some rd)) zero_is))
     (right_known f base size at names here kind.Nothing kind.Code kind.Nothing (Wide (Op And 30 a 25)) (Op And 30 a 25) (Wide (Op Or 30 30 24) ∷ Wide (Jalr rd 30 (pos 0)) ∷ mask_after f (Some rd)) refl
     (record { no_ecall = λ gate. refl; lawful = lawful_by refl refl refl refl refl; meets = meets_by kind.Nothing kind.Code refl refl refl })
@@ -215,9 +215,9 @@ around_right f base size at names here owed rvc i count slots o body is_in_words
 
 -- a step leaves its mask or a use of it owed
 step_meets : (f : Format) (d : ℕ) (k : ℤ) → is_data_register d ≡ true → Meets f kind.Nothing (OpImm Addi d d k) (kind.MaskOrUse d)
-step_meets f d k typed = by (has_one_step f) refl
+step_meets f d k typed = by (has_single_mask f) refl
   where
-    by : (one : Bool) → has_one_step f ≡ one → Meets f kind.Nothing (OpImm Addi d d k) (kind.MaskOrUse d)
+    by : (one : Bool) → has_single_mask f ≡ one → Meets f kind.Nothing (OpImm Addi d d k) (kind.MaskOrUse d)
     by true e = of_data (λ r. Meets f kind.Nothing (OpImm Addi r r k) (kind.MaskOrUse r)) (meets_by kind.Nothing (kind.MaskOrUse 2) refl (rw e refl) refl) (meets_by kind.Nothing (kind.MaskOrUse 3) refl (rw e refl) refl)
         (meets_by kind.Nothing (kind.MaskOrUse 4) refl (rw e refl) refl) (meets_by kind.Nothing (kind.MaskOrUse 29) refl (rw e refl) refl) d typed
     by false e = of_data (λ r. Meets f kind.Nothing (OpImm Addi r r k) (kind.MaskOrUse r)) (meets_by kind.Nothing (kind.MaskOrUse 2) refl (rw e refl) refl) (meets_by kind.Nothing (kind.MaskOrUse 3) refl (rw e refl) refl)
@@ -274,7 +274,7 @@ aimed_right : (f : Format) (base size here to : ℕ) (j : Instr) (count name : �
 aimed_right f base size here to (Jal rd offset) count name body is_in_words n b low start near =
     let lands_there : offset_by here (pos to -ℤ pos here) ≡ to = lands (pos to -ℤ pos here) here to refl low near in
     let h = free f rd is_in_words n in
-    let w = owing f (Jal rd (pos to -ℤ pos here)) (Some rd) refl (h, neither (has_one_step f) refl refl, λ typed. absurd (true≢false (sym typed ∙ b))) in
+    let w = owing f (Jal rd (pos to -ℤ pos here)) (Some rd) refl (h, neither (has_single_mask f) refl refl, λ typed. absurd (true≢false (sym typed ∙ b))) in
     record {
       no_ecall = λ gate. refl;
       lawful = lawful_by (unreserved f (Some rd) h) refl refl (ap (λ a. not (is_word_start base size a)) lands_there ∙ ap not start) (no_offset f (Jal rd (pos to -ℤ pos here)) (Some rd) refl h);
@@ -339,15 +339,15 @@ body_right f base size at names starts here owed line rvc step (To j k) count sl
 body_right f base size at names starts here owed line rvc step (High rd k) count slots room o is is_in_words n c b s x =
     named_right f base size at names here owed step (High rd k) slots refl o
     (subst (λ v. AreRight f base size at names here kind.Nothing v kind.Nothing) (sym x)
-    (made_right f base size at names here (Upper rd k line) (λ address. Lui rd (upper (pos address))) (value_at at names k) rd refl refl (free f rd is_in_words n) (λ a. (refl, refl, neither (has_one_step f) refl refl, refl))))
+    (made_right f base size at names here (Upper rd k line) (λ address. Lui rd (upper (pos address))) (value_at at names k) rd refl refl (free f rd is_in_words n) (λ a. (refl, refl, neither (has_single_mask f) refl refl, refl))))
 body_right f base size at names starts here owed line rvc step (Low rd k) count slots room o is is_in_words n c b s x =
     named_right f base size at names here owed step (Low rd k) slots refl o
     (subst (λ v. AreRight f base size at names here kind.Nothing v kind.Nothing) (sym x)
-    (made_right f base size at names here (Lower rd k line) (λ address. OpImm Addi rd rd (lower (pos address))) (value_at at names k) rd refl refl (free f rd is_in_words n) (λ a. (refl, refl, neither (has_one_step f) refl refl, refl))))
+    (made_right f base size at names here (Lower rd k line) (λ address. OpImm Addi rd rd (lower (pos address))) (value_at at names k) rd refl refl (free f rd is_in_words n) (λ a. (refl, refl, neither (has_single_mask f) refl refl, refl))))
 body_right f base size at names starts here owed line rvc step (Base rd k) count slots room o is is_in_words n c b s x =
     named_right f base size at names here owed step (Base rd k) slots refl o
     (subst (λ v. AreRight f base size at names here kind.Nothing v kind.Nothing) (sym x)
-    (made_right f base size at names here (Region rd k line) (λ r. Op Add rd rd r) (base_at names k) rd refl refl (free f rd is_in_words n) (λ a. (refl, refl, neither (has_one_step f) refl refl, refl))))
+    (made_right f base size at names here (Region rd k line) (λ r. Op Add rd rd r) (base_at names k) rd refl refl (free f rd is_in_words n) (λ a. (refl, refl, neither (has_single_mask f) refl refl, refl))))
 
 -- ---- items
 

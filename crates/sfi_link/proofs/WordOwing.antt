@@ -7,7 +7,7 @@ use Rattle.rv_word.specs.Outlines.{destination, is_register}
 use Rattle.sfi_source.specs.declared.item.Body.TheVariants.{Plain}
 use Rattle.sfi_pairs.specs.Pairs.{is_masking}
 use Rattle.sfi_formats.specs.declared.format.Format.{Format}
-use Rattle.sfi_formats.specs.Formats.{is_reserved, is_data_register, is_data_register_in, has_words, has_one_step}
+use Rattle.sfi_formats.specs.Formats.{is_reserved, is_data_register, is_data_register_in, has_words, has_single_mask}
 use Rattle.sfi_rewrite.specs.Expansion.{is_withheld, names_withheld}
 use Rattle.sfi_rewrite.specs.words.Expansion as words
 use Rattle.sfi_rules.specs.declared.owed.Owed.{Owed}
@@ -61,7 +61,7 @@ unreserved f None free = refl
 unreserved f (Some d) free = and_left (is_reserved d) (not (is_data_register_in f d)) free.reserved
 
 pub no_offset : (f : Format) (i : Instr) (to : Option ℕ) → destination i ≡ to → IsFreeOne to → breaks_offset f i ≡ false
-no_offset f i to e free = and_left _ (not (has_one_step f || is_masking 27 31 i)) (ap (is_register 31) e ∙ by to free)
+no_offset f i to e free = and_left _ (not (has_single_mask f || is_masking 27 31 i)) (ap (is_register 31) e ∙ by to free)
   where
     by : (to : Option ℕ) → IsFreeOne to → is_register 31 to ≡ false
     by None free = refl
@@ -83,15 +83,15 @@ neither false e g = g
 
 -- an instruction that names no withheld register ends no mask
 pub no_place : (f : Format) (i : Instr) (d : ℕ) → has_words f ≡ true → names_withheld f i ≡ false → places f d i ≡ false
-no_place f (Op Or rd a b) d is_in_words n = neither (has_one_step f) refl (and_left ((rd == d) && (a == 31)) (b == 26) (and_right (rd == d) (a == 31) offset))
+no_place f (Op Or rd a b) d is_in_words n = neither (has_single_mask f) refl (and_left ((rd == d) && (a == 31)) (b == 26) (and_right (rd == d) (a == 31) offset))
   where
     offset : (a == 31) ≡ false
     offset = (free f a is_in_words (or_parts (is_withheld f rd) (is_withheld f a) (or_parts (is_withheld f rd || is_withheld f a) (is_withheld f b) n).0).1).offset
-no_place f (Op And rd a b) d is_in_words n = neither (has_one_step f) (and_right (rd == d) (b == 27) mask) refl
+no_place f (Op And rd a b) d is_in_words n = neither (has_single_mask f) (and_right (rd == d) (b == 27) mask) refl
   where
     mask : (b == 27) ≡ false
     mask = (or_parts ((b == 24) || (b == 25) || (b == 26)) (b == 27) (free f b is_in_words (or_parts (is_withheld f rd || is_withheld f a) (is_withheld f b) n).1).reserved).1
-no_place f _ d is_in_words n = neither (has_one_step f) refl refl
+no_place f _ d is_in_words n = neither (has_single_mask f) refl refl
 
 -- ---- what it leaves owed
 

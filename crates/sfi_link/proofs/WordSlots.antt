@@ -9,7 +9,7 @@ use Rattle.sfi_formats.specs.declared.format.Format.{Format}
 use Rattle.sfi_rules.specs.words.Rules.{breaks_ecall, breaks_reserved, breaks_access, breaks_jump, breaks_target, breaks_offset, left, owed_by, joined, owed_next, is_of_data, is_of_code}
 use Rattle.sfi_rules.specs.words.Findings.{InstrInWord, is_at_gate, is_data_one, breaks_last, lowest, found_at, found_from, owed_past}
 use Rattle.rv_word.specs.declared.instr.RegOp.TheVariants.{And, Or}
-use Rattle.sfi_formats.specs.Formats.{is_data_register, has_one_step}
+use Rattle.sfi_formats.specs.Formats.{is_data_register, has_single_mask}
 use Rattle.sfi_rewrite.specs.Expansion.{IsAlone}
 use Rattle.sfi_rewrite.specs.words.Expansion.{data_mask, mask_after}
 use Rattle.sfi_rules.specs.declared.owed.Owed.TheVariants as kind
@@ -139,8 +139,8 @@ right_alone f base size at names here owed next true i slots (inr w) one =
 
 -- the mask of a into d pays for what is owed, in two steps or in one
 record MaskMeets (f : Format) (d a : ℕ) (owed : Owed) : Type 0 where
-  two : has_one_step f ≡ false → (between : Owed) × Meets f owed (Op And 31 a 27) between × Meets f between (Op Or d 31 26) kind.Nothing
-  one : has_one_step f ≡ true → Meets f owed (Op And d a 27) kind.Nothing
+  two : has_single_mask f ≡ false → (between : Owed) × Meets f owed (Op And 31 a 27) between × Meets f between (Op Or d 31 26) kind.Nothing
+  one : has_single_mask f ≡ true → Meets f owed (Op And d a 27) kind.Nothing
 
 -- so it does where nothing is owed
 free_meets : (f : Format) (d a : ℕ) → is_data_register d ≡ true → MaskMeets f d a kind.Nothing
@@ -162,12 +162,12 @@ abbrev IsOwedFor : ℕ → Owed → Type 0
 IsOwedFor d owed = (owed ≡ kind.Mask d) ⊎ (owed ≡ kind.MaskOrUse d)
 
 -- `or d, x31, x26` where it is owed
-put_meets : (f : Format) → has_one_step f ≡ false → (d : ℕ) → is_data_register d ≡ true → Meets f (kind.PlaceOnly d) (Op Or d 31 26) kind.Nothing
+put_meets : (f : Format) → has_single_mask f ≡ false → (d : ℕ) → is_data_register d ≡ true → Meets f (kind.PlaceOnly d) (Op Or d 31 26) kind.Nothing
 put_meets f two = of_data (λ e. Meets f (kind.PlaceOnly e) (Op Or e 31 26) kind.Nothing)
     (meets_by kind.Nothing kind.Nothing (rw two refl) (rw two refl) refl) (meets_by kind.Nothing kind.Nothing (rw two refl) (rw two refl) refl)
     (meets_by kind.Nothing kind.Nothing (rw two refl) (rw two refl) refl) (meets_by kind.Nothing kind.Nothing (rw two refl) (rw two refl) refl)
 
-first_meets : (f : Format) → has_one_step f ≡ false → (d : ℕ) → is_data_register d ≡ true
+first_meets : (f : Format) → has_single_mask f ≡ false → (d : ℕ) → is_data_register d ≡ true
     → Meets f (kind.Mask d) (Op And 31 d 27) (kind.PlaceOnly d) × Meets f (kind.MaskOrUse d) (Op And 31 d 27) (kind.PlaceOnly d)
 first_meets f two = of_data (λ e. Meets f (kind.Mask e) (Op And 31 e 27) (kind.PlaceOnly e) × Meets f (kind.MaskOrUse e) (Op And 31 e 27) (kind.PlaceOnly e))
     (meets_by (kind.PlaceOnly 2) kind.Nothing (rw two refl) (rw two refl) refl, meets_by (kind.PlaceOnly 2) kind.Nothing (rw two refl) (rw two refl) refl)
@@ -175,7 +175,7 @@ first_meets f two = of_data (λ e. Meets f (kind.Mask e) (Op And 31 e 27) (kind.
     (meets_by (kind.PlaceOnly 4) kind.Nothing (rw two refl) (rw two refl) refl, meets_by (kind.PlaceOnly 4) kind.Nothing (rw two refl) (rw two refl) refl)
     (meets_by (kind.PlaceOnly 29) kind.Nothing (rw two refl) (rw two refl) refl, meets_by (kind.PlaceOnly 29) kind.Nothing (rw two refl) (rw two refl) refl)
 
-one_meets : (f : Format) → has_one_step f ≡ true → (d : ℕ) → is_data_register d ≡ true
+one_meets : (f : Format) → has_single_mask f ≡ true → (d : ℕ) → is_data_register d ≡ true
     → Meets f (kind.Mask d) (Op And d d 27) kind.Nothing × Meets f (kind.MaskOrUse d) (Op And d d 27) kind.Nothing
 one_meets f one = of_data (λ e. Meets f (kind.Mask e) (Op And e e 27) kind.Nothing × Meets f (kind.MaskOrUse e) (Op And e e 27) kind.Nothing)
     (meets_by kind.Nothing kind.Nothing (rw one refl) (rw one refl) refl, meets_by kind.Nothing kind.Nothing (rw one refl) (rw one refl) refl)
@@ -195,12 +195,12 @@ owed_meets f d owed typed (inr is) = subst (MaskMeets f d d) (sym is) (record {
 
 -- the slots of the mask
 mask_then : (f : Format) (base size : ℕ) (at : Bases) (names : List PlacedName) (here d a : ℕ) (owed : Owed) → is_data_register d ≡ true → MaskMeets f d a owed → AreRight f base size at names here owed (data_mask f d a) kind.Nothing
-mask_then f base size at names here d a owed typed m = by (has_one_step f) refl
+mask_then f base size at names here d a owed typed m = by (has_single_mask f) refl
   where
     put : (there : ℕ) → IsLawful f base size there (Op Or d 31 26)
     put there = of_data (λ e. IsLawful f base size there (Op Or e 31 26)) (lawful_by refl refl refl refl refl) (lawful_by refl refl refl refl refl) (lawful_by refl refl refl refl refl) (lawful_by refl refl refl refl refl) d typed
 
-    by : (one : Bool) → has_one_step f ≡ one → AreRight f base size at names here owed (if one then Wide (Op And d a 27) ∷ [] else Wide (Op And 31 a 27) ∷ Wide (Op Or d 31 26) ∷ []) kind.Nothing
+    by : (one : Bool) → has_single_mask f ≡ one → AreRight f base size at names here owed (if one then Wide (Op And d a 27) ∷ [] else Wide (Op And 31 a 27) ∷ Wide (Op Or d 31 26) ∷ []) kind.Nothing
     by true e =
         right_known f base size at names here owed kind.Nothing kind.Nothing (Wide (Op And d a 27)) (Op And d a 27) [] refl
         (record {

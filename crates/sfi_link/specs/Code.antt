@@ -37,7 +37,7 @@ stub_size = bundle_size
 -- whether it can be moved
 abbrev pub bases_of : List Place → ℕ → Placement → Bases
 bases_of given number p =
-    let place = place_of given number in
+    let place = place_of given p.format number in
     record {
       code = place.code_base;
       start = place.code_base + stub_size * length p.gates;

@@ -1,12 +1,11 @@
 -- Why what is placed can't be linked, and what a linker answers.
 use Rattle.std.specs.Prelude.{◌≡◌, ◌⊎◌, ℕ, ◌+◌, ◌++◌, ◌<◌, ◌≤◌, pos, ◌-ℤ◌, List, [], ◌∷◌, length, Option, Some, None, Result, Ok, Err, Vec}
-use Rattle.std.specs.List.{AllPairs}
 use Rattle.rv_word.specs.declared.instr.Instr.{Instr}
 use Rattle.rv_word.specs.Spelling.{InRange}
 use Rattle.sfi_formats.specs.Limits.{sandboxes_most}
 use Rattle.sfi_formats.specs.Places.{place_of}
 use Rattle.sfi_image.specs.declared.span.Span.{Span}
-use Rattle.sfi_image.specs.Spelling.{Part, AreApart, spans}
+use Rattle.sfi_image.specs.Spelling.{Part, spans}
 use Rattle.sfi_formats.specs.declared.place.Place.{Place}
 use Rattle.sfi_rewrite.specs.declared.slot.BundleSlot.{BundleSlot}
 use Rattle.sfi_rewrite.specs.declared.slot.BundleSlot.TheVariants.{Wide, Short, Jump, Upper, Lower, Region}
@@ -18,7 +17,7 @@ use Rattle.sfi_link.specs.declared.fault.LinkFault.{LinkFault}
 use Rattle.sfi_link.specs.declared.fault.LinkFault.TheVariants.{UnknownName, BranchReach, TooLarge, TooManySandboxes, Memory}
 use Rattle.sfi_link.specs.declared.fault.LinkFault.TheVariants as fault
 use Rattle.sfi_link.specs.Code.{value_at, base_at, target_at, with_offset, bases_of, IsSlot}
-use Rattle.sfi_link.specs.Linked.{needed, HasRoom, IsCodeSize, IsLinked, IsRightPlace, spans_at}
+use Rattle.sfi_link.specs.Linked.{needed, HasRoom, IsCodeSize, IsLinked, IsRightPlace, spans_at, ends_at, LieApart}
 use Rattle.std.specs.Global.{Global}
 
 -- ==== Why what is placed can't be linked.
@@ -70,33 +69,38 @@ IsSlotFault at names here (s ∷ slots) f =
 abbrev pub IsTooLarge : Placement → Type 0
 IsTooLarge p = (size : ℕ) → HasRoom p.format (needed p) size → ⊥
 
--- sandbox `number` may lie at its place: no two of its own two spans and of the spans
--- `before` meet
-pub record MayLie (given : List Place) (number : ℕ) (p : Placement) (before : List Span)
-    : Type 0 where
+-- sandbox `number` may lie at its place, where the sandboxes before it have the spans `before`, and zones
+-- at zero that end at `ends`: no two of its own two spans and of those meet, and each lies clear of each
+-- zone, its own included
+pub record MayLie (given : List Place) (number : ℕ) (p : Placement) (ends : List ℕ)
+    (before : List Span) : Type 0 where
   pub size : ℕ
   pub least : IsCodeSize p.format (needed p) size
-  pub right : IsRightPlace p size (place_of given number)
-  pub apart : AllPairs AreApart (before ++ spans_at p size (place_of given number))
+  pub right : IsRightPlace p size (place_of given p.format number)
+  pub apart : LieApart (ends ++ ends_at p)
+      (before ++ spans_at p size (place_of given p.format number))
 
--- The fault of sandbox `number`, where the sandboxes before it have the spans `before`: being too
--- large goes first, then its place, then its instructions.
-abbrev pub HasPartFault : List Place → ℕ → Placement → List Span → LinkFault → Type 0
-HasPartFault given number p before f =
+-- The fault of sandbox `number`, where the sandboxes before it have the spans `before`, and zones at zero
+-- that end at `ends`: being too large goes first, then its place, then its instructions.
+abbrev pub HasPartFault :
+    List Place → ℕ → Placement → List ℕ → List Span → LinkFault → Type 0
+HasPartFault given number p ends before f =
     (IsTooLarge p × (f ≡ TooLarge number))
-    ⊎ ((¬ IsTooLarge p) × (¬ MayLie given number p before) × (f ≡ fault.Place number))
-    ⊎ (MayLie given number p before × IsSlotFault (bases_of given number p) p.names
+    ⊎ ((¬ IsTooLarge p) × (¬ MayLie given number p ends before) × (f ≡ fault.Place number))
+    ⊎ (MayLie given number p ends before × IsSlotFault (bases_of given number p) p.names
     (bases_of given number p).start (slots_of p.bundles) f)
 
--- the first of the sandboxes that has a fault has this one; those before it can be linked, and no
--- two of their spans meet. The first of all has that number, and comes after others in the list,
--- which have those spans.
-abbrev pub IsPartFault : List Place → ℕ → List Span → List Placement → LinkFault → Type 0
-IsPartFault given number before [] f = ⊥
-IsPartFault given number before (p ∷ placed) f =
-    HasPartFault given number p before f
-    ⊎ ((q : Part) × IsLinked given number p q × AllPairs AreApart (before ++ spans (q ∷ []))
-    × IsPartFault given (number + 1) (before ++ spans (q ∷ [])) placed f)
+-- the first of the sandboxes that has a fault has this one; those before it can be linked, and lie apart,
+-- clear of all their zones at zero. The first of all has that number, and comes after others in the
+-- list, which have those spans, and zones at zero that end there.
+abbrev pub IsPartFault :
+    List Place → ℕ → List ℕ → List Span → List Placement → LinkFault → Type 0
+IsPartFault given number ends before [] f = ⊥
+IsPartFault given number ends before (p ∷ placed) f =
+    HasPartFault given number p ends before f
+    ⊎ ((q : Part) × IsLinked given number p q
+    × LieApart (ends ++ ends_at p) (before ++ spans (q ∷ []))
+    × IsPartFault given (number + 1) (ends ++ ends_at p) (before ++ spans (q ∷ [])) placed f)
 
 -- ---- of all that is placed
 
@@ -108,7 +112,7 @@ IsLinkFault given placed f =
     ⊎ ((length placed ≤ sandboxes_most) × (length placed < length given)
     × (f ≡ fault.Place (length placed)))
     ⊎ ((length placed ≤ sandboxes_most) × (length given ≤ length placed)
-    × IsPartFault given 0 [] placed f)
+    × IsPartFault given 0 [] [] placed f)
 
 -- ==== What a linker answers, want of memory aside.
 

@@ -4,11 +4,11 @@ use Rattle.sfi_image.specs.Spelling.{Part, Holds, IsWord}
 use Rattle.sfi_image.specs.declared.span.Span.{Span}
 use Rattle.sfi_image.specs.Parts.{IsRightLayout, IsMaskedBase}
 use Rattle.sfi_formats.specs.declared.place.Place.{Place}
-use Rattle.sfi_formats.specs.Formats.{code_base_register, data_base_register, has_one_step}
+use Rattle.sfi_formats.specs.Formats.{code_base_register, data_base_register, has_single_mask}
 use Rattle.sfi_formats.specs.declared.format.Format.{Format}
 use Rattle.sfi_rules.specs.Findings.{AreFindings}
 use Rattle.sfi_rewrite.specs.Placement.{Placement}
-use Rattle.sfi_rewrite.specs.Placed.{IsPlacedPart, IsPlaced}
+use Rattle.sfi_rewrite.specs.Placed.{IsPlacedPart, IsPlaced, format_of}
 use Rattle.sfi_rewrite.specs.Transparency.{AreRegions}
 use Rattle.sfi_rewrite.specs.words.Transparency.{masked_in}
 use Rattle.rv_word.specs.declared.instr.RegOp.TheVariants.{Add}
@@ -16,7 +16,7 @@ use Rattle.rv_step.specs.Step.{result_of}
 use Rattle.sfi_link.specs.Code.{bases_of, base_at, value_at, address_at}
 use Rattle.sfi_link.specs.declared.fault.LinkFault.{LinkFault}
 use Rattle.sfi_link.specs.declared.fault.LinkFault.TheVariants as fault
-use Rattle.sfi_link.specs.Linked.{IsLinkedCode, IsLinked, AreLinked, IsLinkedImage}
+use Rattle.sfi_link.specs.Linked.{IsLinkedCode, IsLinked, AreLinked, IsLinkedImage, HaveUsualPlaces}
 use Rattle.sfi_formats.specs.Limits.{sandboxes_most}
 use Rattle.sfi_link.specs.Faults.{IsLinkFault}
 
@@ -57,7 +57,7 @@ MovableAddressesAddUp =
     → address_at (bases_of given number p) p.names place ≡ Some (held base + value)
 
 -- In the stack pointer of the second format and in data registers a mask follows each of the three. They
--- leave the name's address, too, if that lies in the data region, and, where a mask has one step, what the
+-- leave the name's address, too, if that lies in the data region, and, where masks are single, what the
 -- lui leaves and what the addi leaves lie below the data's size.
 abbrev pub MaskedAddressesAddUp : Type 0
 MaskedAddressesAddUp =
@@ -70,7 +70,7 @@ MaskedAddressesAddUp =
     → result_of Add upper lower ≡ value
     → address_at (bases_of given number p) p.names place ≡ Some address
     → AreRegions code_at data_at → IsMaskedBase f data_at.base data_at.size
-    → (has_one_step f ≡ true → (upper < data_at.size) × (value < data_at.size))
+    → (has_single_mask f ≡ true → (upper < data_at.size) × (value < data_at.size))
     → Holds data_at address → IsWord address
     → masked_in f data_at (result_of Add
     (masked_in f data_at (result_of Add (masked_in f data_at upper) lower)) (held base)) ≡ address
@@ -102,7 +102,7 @@ SomeLinking = (given : List Place) (placed : List Placement) → IsPlaced placed
     → ((bytes : List ℕ) × IsLinkedImage given placed bytes)
     ⊎ ((f : LinkFault) × IsLinkFault given placed f)
 
--- where no place is given, no sandbox has a fault of its place
+-- where no place is given, and there is a usual one for each, no sandbox has a fault of its place
 abbrev pub UsualPlacesAreFree : Type 0
 UsualPlacesAreFree = (placed : List Placement) (sandbox : ℕ) → IsPlaced placed
-    → IsLinkFault [] placed (fault.Place sandbox) → ⊥
+    → HaveUsualPlaces (format_of placed) (length placed) → IsLinkFault [] placed (fault.Place sandbox) → ⊥

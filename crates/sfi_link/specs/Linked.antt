@@ -1,15 +1,15 @@
 -- The image of what is placed.
-use Rattle.std.specs.Prelude.{ℕ, List, [], ◌∷◌, ◌≡◌, ◌+◌, ◌*◌, ◌^◌, ◌≤◌, ◌++◌, length, map, replicate, Vec}
+use Rattle.std.specs.Prelude.{ℕ, List, [], ◌∷◌, ◌≡◌, ◌+◌, ◌*◌, ◌^◌, ◌≤◌, ◌++◌, length, map, replicate, cond, true, Vec}
 use Rattle.std.specs.Global.{Global}
 use Rattle.sfi_image.specs.declared.span.Span.{Span}
-use Rattle.sfi_image.specs.Spelling.{IsWord, Part, spelling, with_guards, AreApart, spans}
+use Rattle.sfi_image.specs.Spelling.{IsWord, Part, spelling, with_guards, AreApart, spans, zone_end, zone_ends, AreClear}
 use Rattle.sfi_image.specs.Parts.{IsCodeRegion, IsDataRegion, IsMaskedBase, HasGuardRoom, HasZoneRoom, IsImage}
 use Rattle.sfi_formats.specs.declared.place.Place.{Place}
 use Rattle.sfi_rewrite.specs.Placement.{Placement, IsPlacement}
 use Rattle.std.specs.List.{repeat, AllPairs, AllZip}
 use Rattle.rv_comp.specs.declared.form.Form16.TheVariants.{CEbreak}
 use Rattle.sfi_formats.specs.declared.format.Format.{Format}
-use Rattle.sfi_formats.specs.Formats.{built_code_most}
+use Rattle.sfi_formats.specs.Formats.{built_code_most, has_single_mask}
 use Rattle.sfi_source.specs.declared.item.SourceGate.{SourceGate}
 use Rattle.sfi_formats.specs.Limits.{region_least, sandboxes_most}
 use Rattle.sfi_formats.specs.Places.{place_of}
@@ -24,7 +24,7 @@ use Rattle.sfi_rules.specs.Findings.{AreImageFindings}
 -- ==== Where a placed sandbox may lie.
 
 -- its code, of that size, and its data may begin there: each a multiple of its region's size, with
--- room for the guard zones round the data, and where masks of data have one step, with data that
+-- room for the guard zones round the data, and where masks of data are single, with data that
 -- begin at a single bit, and both regions clear of the zone at zero
 pub record IsRightPlace (p : Placement) (size : ℕ) (place : Place) : Type 0 where
   pub word : IsWord place.code_base
@@ -40,6 +40,22 @@ abbrev pub spans_at : Placement → ℕ → Place → List Span
 spans_at p size place =
     record { base = place.code_base; size = size }
     ∷ with_guards (record { base = place.data_base; size = p.data_size }) ∷ []
+
+-- where its zone at zero ends, if its format has one
+abbrev pub ends_at : Placement → List ℕ
+ends_at p = cond (has_single_mask p.format) (zone_end p.data_size ∷ []) []
+
+-- sandboxes that have these spans, and zones at zero that end there, may lie so: no two of the spans meet,
+-- and each lies clear of each zone
+pub record LieApart (ends : List ℕ) (ss : List Span) : Type 0 where
+  pub apart : AllPairs AreApart ss
+  pub clear : AreClear ends ss
+
+-- There is a usual place for each of so many sandboxes of this format: where masks of data are single, for
+-- 11 at most, since no lower bit than that of the eleventh's data lies clear of the zone at zero of the most
+-- data that a source has.
+abbrev pub HaveUsualPlaces : Format → ℕ → Type 0
+HaveUsualPlaces format count = has_single_mask format ≡ true → count ≤ 11
 
 -- ==== The sandbox of an image that is made of a placed one.
 
@@ -105,7 +121,7 @@ part_with given number p code =
 -- at its place, where it may lie
 pub record IsLinked (given : List Place) (number : ℕ) (p : Placement) (q : Part) : Type 0 where
   pub code : IsLinkedCode given number p q.code
-  pub lies : IsRightPlace p (length q.code) (place_of given number)
+  pub lies : IsRightPlace p (length q.code) (place_of given p.format number)
   pub is : q ≡ part_with given number p q.code
 
 -- the placed sandboxes make those of the image, as `IsLinked` says, the first of them as the one of
@@ -117,12 +133,12 @@ AreLinkedFrom given number (p ∷ placed) (q ∷ parts) =
     IsLinked given number p q × AreLinkedFrom given (number + 1) placed parts
 
 -- the placed sandboxes make those of the image at the given places, of which there are no more than
--- sandboxes; no two of their spans meet
+-- sandboxes; they lie apart, and clear of all their zones at zero
 pub record AreLinked (given : List Place) (placed : List Placement) (parts : List Part)
     : Type 0 where
   pub used : length given ≤ length placed
   pub each : AreLinkedFrom given 0 placed parts
-  pub apart : AllPairs AreApart (spans parts)
+  pub apart : LieApart (zone_ends parts) (spans parts)
 
 -- ==== The code of each sandbox, and other first data bytes.
 

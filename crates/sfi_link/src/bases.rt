@@ -27,7 +27,7 @@ pub fn bases_of(given: &[Place], number: u32, part: &PlacedPart) -> Bases
     requires fits { (bases_of given.now number part.now).start < 2 ^ 32 }
     ensures is { result ≡ bases_of given.now number part.now }
 {
-    let place = place_of(given, number);
+    let place = place_of(given, part.format(), number);
     Bases {
         code: place.code_base,
         // Each gate's stub has 16 bytes, as many as a bundle.

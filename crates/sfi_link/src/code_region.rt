@@ -11,7 +11,7 @@ ghost use Rattle.sfi_image.specs.Spelling.{AreApart};
 ghost use Rattle.sfi_link.specs.Linked.{needed, HasRoom, IsCodeSize};
 ghost use Rattle.sfi_link.specs.Faults.{HasPartFault};
 ghost use Rattle.sfi_formats.specs.Limits.{sandboxes_most};
-ghost use Rattle.sfi_link.specs.private.{IsCodeBeside, Links};
+ghost use Rattle.sfi_link.specs.private.{IsCodeBeside, Links, ends_in};
 
 use crate::bases::bases_of;
 use crate::code::push_bundles;
@@ -74,7 +74,7 @@ fn push_copies(code: &mut Vec<u8>, copied: &[u8], count: usize) -> Result<(), Al
 }
 
 /// The bytes of the code region of sandbox `number`, whose spans are added to those of the
-/// sandboxes before it in the list.
+/// sandboxes before it in the list, all of its format.
 pub(crate) fn linked_code(
     alloc: Global,
     given: &[Place],
@@ -87,14 +87,15 @@ pub(crate) fn linked_code(
     requires bounded { All IsBounded spans.old.items }
     requires apart { AllPairs AreApart spans.old.items }
     ensures { Links (λ code. IsCodeBeside given.now number part.now code.items
-        spans.old.items spans.new.items)
-        (HasPartFault given.now number part.now spans.old.items) result }
+        (ends_in part.now.format spans.old.items) spans.old.items spans.new.items)
+        (HasPartFault given.now number part.now (ends_in part.now.format spans.old.items)
+        spans.old.items) result }
 {
     let format = part.format();
     let Some(size) = code_size(format, needed(part)) else {
         return Err(LinkFault::TooLarge { sandbox: number });
     };
-    if !lies_beside(spans, part, size as u32, place_of(given, number))? {
+    if !lies_beside(spans, part, size as u32, place_of(given, format, number))? {
         return Err(LinkFault::Place { sandbox: number });
     }
     let at = bases_of(given, number, part);

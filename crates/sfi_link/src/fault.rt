@@ -31,8 +31,9 @@ pub enum LinkFault {
     Memory,
     /// The sandbox, counted from 0, can't lie at its place: a base is no multiple of its region's
     /// size, the guard zones have no room, or its regions or guard zones meet each other or those
-    /// of a sandbox before it. Or more places are given than there are sandboxes, and this place is
-    /// the first without one.
+    /// of a sandbox before it. Where masks of data are single, also if the data base isn't a single bit,
+    /// or if a region or guard zone of one of these sandboxes meets the zone at zero of one. Or more
+    /// places are given than there are sandboxes, and this place is the first without one.
     #[error("Place sandbox {sandbox}")]
     Place { sandbox: u32 },
 }

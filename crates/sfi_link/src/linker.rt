@@ -3,7 +3,7 @@ ghost use Rattle.std.specs.Prelude.{◌≡◌, ◌≢◌, ◌+◌, ◌*◌, ◌<
 ghost use Rattle.std.specs.List.{All};
 ghost use Rattle.sfi_source.specs.Source.{Sandbox};
 ghost use Rattle.sfi_image.specs.Spelling.{view, views};
-ghost use Rattle.sfi_rewrite.specs.Placed.{IsPlacedPart, IsPlaced, AreOf};
+ghost use Rattle.sfi_rewrite.specs.Placed.{IsPlacedPart, IsPlaced, AreOf, format_of};
 ghost use Rattle.sfi_link.specs.declared.fault.LinkFault.{LinkFault};
 ghost use Rattle.sfi_link.specs.declared.fault.LinkFault.TheVariants.{TooManySandboxes};
 ghost use Rattle.sfi_link.specs.declared.fault.LinkFault.TheVariants as fault;
@@ -12,6 +12,7 @@ ghost use Rattle.sfi_link.specs.Linked.{IsRightPlace};
 ghost use Rattle.sfi_link.specs.Linked.{gates_from, part_with, IsLinkedCode, AreLinkedFrom};
 ghost use Rattle.sfi_link.specs.Linked.{contents, parts_with, AreLinkedCodes, with_bytes, each_with};
 ghost use Rattle.sfi_link.specs.Linked.{IsLinkedImage, ArePlacements, IsBuild};
+ghost use Rattle.sfi_link.specs.Linked.{HaveUsualPlaces};
 ghost use Rattle.sfi_formats.specs.Limits.{bundle_size, gates_most, sandboxes_most};
 ghost use Rattle.sfi_link.specs.Faults.{IsPartFault, IsLinkFault};
 ghost use Rattle.sfi_link.specs.private.{AreCodes, Links, set_init};
@@ -54,7 +55,7 @@ fn linked_part<'a>(
     requires few { number < sandboxes_most }
     requires right { IsPlacedPart placed.now }
     requires made { IsLinkedCode given.now number placed.now code.now
-        × IsRightPlace placed.now (length code.now) (place_of given.now number) }
+        × IsRightPlace placed.now (length code.now) (place_of given.now placed.now.format number) }
     ensures { IfOk result (λ part. view placed.now.format part
         ≡ set_init init.entry.now (part_with given.now number placed.now code.entry.now)) }
 {
@@ -77,10 +78,10 @@ fn codes_of(
     given: &[Place],
     placed: &[PlacedPart],
 ) -> Result<Vec<Vec<u8>>, LinkFault>
-    requires right { All IsPlacedPart placed.now }
+    requires right { IsPlaced placed.now }
     requires few { length placed.now ≤ sandboxes_most }
-    ensures { Links (λ codes. AreCodes given.now 0 [] placed.now (contents codes.items))
-        (IsPartFault given.now 0 [] placed.now) result }
+    ensures { Links (λ codes. AreCodes given.now 0 [] [] placed.now (contents codes.items))
+        (IsPartFault given.now 0 [] [] placed.now) result }
 {
     let mut codes = Vec::new(alloc);
     let mut spans = Vec::new(alloc);
@@ -204,8 +205,10 @@ pub fn link_at(alloc: Global, placed: &Placed, places: &[Place]) -> Result<Vec<u
     // Too many sandboxes get their fault, whatever memory there is.
     ensures too_many { sandboxes_most < length placed.now → result ≡ Err TooManySandboxes }
 
-    // Where no place is given, no fault is that of a place.
-    ensures no_place { places.now ≡ [] → (sandbox : ℕ) → result ≢ Err (fault.Place sandbox) }
+    // Where no place is given, and there is a usual one for each, no fault is that of a place.
+    ensures no_place { places.now ≡ []
+        → HaveUsualPlaces (format_of placed.now) (length placed.now)
+        → (sandbox : ℕ) → result ≢ Err (fault.Place sandbox) }
 
     // The image is the build of each source that is placed so.
     ensures build { (source : List Sandbox) → ArePlacements source placed.now
@@ -228,8 +231,9 @@ pub fn link(alloc: Global, placed: &Placed) -> Result<Vec<u8>, LinkFault>
     // Too many sandboxes get their fault, whatever memory there is.
     ensures too_many { sandboxes_most < length placed.now → result ≡ Err TooManySandboxes }
 
-    // No fault is that of a place.
-    ensures no_place { (sandbox : ℕ) → result ≢ Err (fault.Place sandbox) }
+    // Where there is a usual place for each, no fault is that of a place.
+    ensures no_place { HaveUsualPlaces (format_of placed.now) (length placed.now)
+        → (sandbox : ℕ) → result ≢ Err (fault.Place sandbox) }
 
     // The image is the build of each source that is placed so.
     ensures build { (source : List Sandbox) → ArePlacements source placed.now

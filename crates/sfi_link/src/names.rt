@@ -2,7 +2,7 @@
 ghost use Rattle.std.specs.Prelude.{◌≡◌, ◌≢◌, ◌≤◌, ◌<◌, ◌++◌, ℕ, List, [], length, map, Some, Err, IfOk, IfErr, OnOk};
 ghost use Rattle.std.specs.List.{All};
 ghost use Rattle.sfi_formats.specs.Limits.{sandboxes_most};
-ghost use Rattle.sfi_rewrite.specs.Placed.{IsPlacedPart};
+ghost use Rattle.sfi_rewrite.specs.Placed.{IsPlacedPart, format_of};
 ghost use Rattle.sfi_image.specs.Spelling.{Part};
 ghost use Rattle.sfi_link.specs.declared.fault.LinkFault.{LinkFault};
 ghost use Rattle.sfi_link.specs.declared.fault.LinkFault.TheVariants.{TooManySandboxes};
@@ -10,7 +10,7 @@ ghost use Rattle.sfi_link.specs.declared.fault.LinkFault.TheVariants as fault;
 ghost use Rattle.sfi_link.specs.Code.{address_of, IsInReach, AreInReach};
 ghost use Rattle.sfi_link.specs.Faults.{UnlessMemory, AnswersItems, AnswersFault};
 ghost use Rattle.sfi_link.specs.Faults.{IsLinkFault};
-ghost use Rattle.sfi_link.specs.Linked.{AreLinkedFrom};
+ghost use Rattle.sfi_link.specs.Linked.{AreLinkedFrom, HaveUsualPlaces};
 ghost use Rattle.sfi_link.specs.Names.{MapEntry, kind_of, entry_of, entries_of, map_from, IsLinkedMap};
 
 use crate::address::address_of;
@@ -201,8 +201,10 @@ pub fn names_of(
     // Too many sandboxes get their fault, whatever memory there is.
     ensures too_many { sandboxes_most < length placed.now → result ≡ Err TooManySandboxes }
 
-    // Where no place is given, no fault is that of a place.
-    ensures no_place { places.now ≡ [] → (sandbox : ℕ) → result ≢ Err (fault.Place sandbox) }
+    // Where no place is given, and there is a usual one for each, no fault is that of a place.
+    ensures no_place { places.now ≡ []
+        → HaveUsualPlaces (format_of placed.now) (length placed.now)
+        → (sandbox : ℕ) → result ≢ Err (fault.Place sandbox) }
 {
     link_at(alloc, placed, places)?;
     Ok(listed_names(alloc, places, source.parts(), placed.parts())?)

@@ -10,7 +10,7 @@
 #endif
 
 enum { WORD_SIZE = 4, CALL_SIZE = 4, SLACK = 1020 }; /* SLACK: docs/IMAGE.md, typed registers */
-enum { MAGIC_SIZE = 4 }; /* docs/IMAGE.md, the layout */
+enum { MAGIC_SIZE = 4, STACK = '2', SINGLE_MASKS = 'S' }; /* docs/IMAGE.md, the layout and the formats */
 enum { ECALL = 0x73 }; /* the instruction */
 enum { WRITTEN_MOST = 1 << 17, PAGES_ASKED = 4096 }; /* up to so many bytes zeros are just written; so many pages are asked for at once */
 /* `module` is the includer's, and so are `entered`, the 32 registers of a function that is called, but for x30 in words. `number` and
@@ -33,9 +33,14 @@ struct native_world {
 
 /* Runs up to a call or a trap, as sfi_native_turn does. */
 static int native_turn(struct native_sandbox *it, sfi_u32 *at);
-/* Where the image has the code of a sandbox, and whether its format is the second. */
+/* Where the image has the code of a sandbox, and the last byte of its magic, which says the format. */
 static const uint8_t *code_of(const struct native_sandbox *it);
-static bool has_stack(const struct native_sandbox *it);
+static uint8_t format_of(const struct native_sandbox *it);
+
+/* Whether an image is in the fourth format. It has no native code: what a host closes for that isn't the zone at zero. */
+static bool has_single_masks(const uint8_t *image) {
+    return image[MAGIC_SIZE - 1] == SINGLE_MASKS;
+}
 
 static uint32_t word_at(const uint8_t *bytes) {
     uint32_t word;
@@ -372,12 +377,25 @@ static bool is_near(const struct sfi_sandbox *s, uint64_t far, uint32_t address)
     return s->data <= address + far && address < s->data + far + s->data_size;
 }
 
-/* Whether the typed registers of the format hold what their types say (docs/IMAGE.md). */
-static bool are_typed(const struct sfi_sandbox *s, bool has_stack, const uint32_t x[32]) {
-    if (has_stack)
-        return is_near(s, 0, x[2]);
-    return s->unit != WORD_SIZE || (is_near(s, SLACK, x[2]) && is_near(s, SLACK, x[3]) && is_near(s, SLACK, x[4]) &&
-                            is_near(s, SLACK, x[29]) && is_unit(s, x[30]) && x[31] < s->data_size);
+/* Whether a data register may hold it: with single masks also an address at most SLACK bytes beside those below the data's size. */
+static bool may_be_data(const struct sfi_sandbox *s, uint8_t format, uint32_t address) {
+    return is_near(s, SLACK, address) || (format == SINGLE_MASKS && address + SLACK < s->data_size + 2 * SLACK);
+}
+
+/* Whether the reserved registers hold what is there, and the typed registers of the format what their types say (docs/IMAGE.md). */
+static bool may_hold(const struct native_sandbox *it, const uint32_t x[32]) {
+    const struct sfi_sandbox *const s = it->text;
+    const uint32_t *const own = it->hart.x;
+    const uint8_t format = format_of(it);
+    if (x[24] != own[24] || x[25] != own[25] || x[27] != own[27])
+        return false;
+    if (s->unit != WORD_SIZE)
+        return x[26] == own[26] && (format != STACK || is_near(s, 0, x[2]));
+    if (!may_be_data(s, format, x[2]) || !may_be_data(s, format, x[3]) || !may_be_data(s, format, x[4]) || !may_be_data(s, format, x[29]) ||
+        !is_unit(s, x[30]))
+        return false;
+    return format == SINGLE_MASKS ? may_be_data(s, format, x[26]) && may_be_data(s, format, x[31])
+                                  : x[26] == own[26] && x[31] < s->data_size;
 }
 
 bool sfi_run_set_registers(struct sfi_run_world *world, uint32_t sandbox, const struct sfi_run_registers *registers) {
@@ -386,8 +404,7 @@ bool sfi_run_set_registers(struct sfi_run_world *world, uint32_t sandbox, const 
     if (it == NULL)
         return false;
     const struct sfi_sandbox *s = it->text;
-    if (!is_unit(s, registers->pc) || memcmp(registers->x + 24, it->hart.x + 24, 4 * sizeof *registers->x) ||
-        !are_typed(s, has_stack(it), registers->x))
+    if (!is_unit(s, registers->pc) || !may_hold(it, registers->x))
         return false;
     memcpy(it->hart.x, registers->x, sizeof registers->x);
     it->hart.x[0] = 0;

@@ -106,6 +106,8 @@ static uint8_t *compiled(const struct shared *it, size_t *length) {
 /* Whether there is native code of the image, which is mapped then. */
 static bool compile(struct shared *it) {
     size_t length = 0;
+    if (has_single_masks(it->bytes))
+        return false;
     for (size_t k = 0; k < it->image.count; k++)
         if (it->image.sandboxes[k].data_size % SFI_ZONE != 0)
             return false;
@@ -201,8 +203,8 @@ static const uint8_t *code_of(const struct native_sandbox *it) {
     return sfi_code_bytes(it->text);
 }
 
-static bool has_stack(const struct native_sandbox *it) {
-    return ((const struct shared *)it->module)->bytes[MAGIC_SIZE - 1] == '2';
+static uint8_t format_of(const struct native_sandbox *it) {
+    return ((const struct shared *)it->module)->bytes[MAGIC_SIZE - 1];
 }
 
 /* ---- a world */
@@ -295,22 +297,32 @@ static bool have_common_address(struct span one, struct span other) {
     return one.first < other.last && other.first < one.last;
 }
 
-/* Whether code, data or a guard zone of the two have a common address. */
-static bool meet(const struct sfi_sandbox *one, const struct sfi_sandbox *other) {
+/* Whether addresses lie in the zone at zero of a sandbox, if its format has one. */
+static bool is_in_zone(struct span it, const struct sfi_sandbox *s, bool has_zone) {
+    return has_zone && (it.first < (int64_t)s->data_size + SFI_ZONE || it.last > ((int64_t)1 << 32) - SFI_ZONE);
+}
+
+/* Whether code, data or a guard zone of the two have a common address, or lie in a zone at zero of the other, where it has one. */
+static bool meet(const struct sfi_sandbox *one, bool has_one_zone, const struct sfi_sandbox *other, bool has_other_zone) {
     const struct sfi_sandbox *const both[2] = {one, other};
+    const bool has_zone[2] = {has_one_zone, has_other_zone};
     struct span code[2], guarded[2];
     for (int k = 0; k < 2; k++) {
         code[k] = (struct span){both[k]->code, (int64_t)both[k]->code + both[k]->code_size};
         guarded[k] = (struct span){(int64_t)both[k]->data - SFI_ZONE, (int64_t)both[k]->data + both[k]->data_size + SFI_ZONE};
     }
+    for (int k = 0; k < 2; k++)
+        if (is_in_zone(code[k], both[1 - k], has_zone[1 - k]) || is_in_zone(guarded[k], both[1 - k], has_zone[1 - k]))
+            return true;
     return have_common_address(code[0], code[1]) || have_common_address(code[0], guarded[1]) ||
         have_common_address(guarded[0], code[1]) || have_common_address(guarded[0], guarded[1]);
 }
 
-static bool some_meet(const struct native_world *world, const struct sfi_image *image) {
+static bool some_meet(const struct native_world *world, const struct shared *module) {
+    const bool has_zone = has_single_masks(module->bytes);
     for (size_t k = 0; k < world->count; k++)
-        for (size_t other = 0; other < image->count; other++)
-            if (meet(world->all[k].text, &image->sandboxes[other]))
+        for (size_t other = 0; other < module->image.count; other++)
+            if (meet(world->all[k].text, format_of(&world->all[k]) == SINGLE_MASKS, &module->image.sandboxes[other], has_zone))
                 return true;
     return false;
 }
@@ -322,7 +334,7 @@ uint32_t sfi_run_add(struct sfi_run_world *world, struct sfi_run_module *module,
     struct native_world *const before = world->at;
     if (it == NULL)
         return SFI_RUN_CHANGE_NO_MODULE;
-    if (some_meet(before, &it->image))
+    if (some_meet(before, it))
         return SFI_RUN_CHANGE_MEETS;
     struct native_world *const made = new_world(before->count + it->image.count);
     if (made == NULL || !make_of_module(it, made->all + before->count)) {

@@ -3,8 +3,8 @@
  * are those of sfi_run.h, and a host is linked with the one or the other.
  *
  * sfi_run_module_new and sfi_run_load judge an image as libsfi_run does. On Linux on x86-64, where the data of all its sandboxes are
- * whole pages of 4096 bytes, they compile it, too, and its worlds run by that code; the worlds of a module share it. Where that
- * can't be, or there is no memory for it, its worlds are those of libsfi_run, step by step: sfi_run_engine says which they are. What
+ * whole pages of 4096 bytes, they compile it, too, unless it is in the fourth format, and its worlds run by that code; the worlds of a
+ * module share it. Where that can't be, or there is no memory for it, its worlds are those of libsfi_run, step by step: sfi_run_engine says which they are. What
  * differs:
  *
  * - Proved are the checker, the compiler and the interpreter; that a world of native code does what sfi_run.h says is not

@@ -9,6 +9,7 @@ use Rattle.rv_word.specs.Spelling.{InRange, offset_by}
 use Rattle.rv_mem.specs.Bytes.{IsMemory, IsThere, address_after}
 use Rattle.rv_step.specs.State.{even_of}
 use Rattle.rv_step.specs.Step.{is_taken, load_size, store_size, word}
+use Rattle.sfi_formats.specs.Formats.{has_single_mask}
 use Rattle.sfi_formats.specs.Limits.{guard}
 use Rattle.sfi_image.specs.Parts.{HasGuardRoom}
 use Rattle.sfi_image.specs.Spelling.{Part}
@@ -63,11 +64,11 @@ pub record IsBefore (is : List Native) (t : Text) (at : ℕ) (p : Part) (l : Lay
   pub guards : GuardsAreEmpty p.data_size l c
 
 -- For each code, apart from frame and data, there is a processor that is before it, in a text that is nothing else, with any
--- fixups.
+-- fixups. As in all that follows, the format's masks have two steps (`IsRelated`).
 abbrev pub EachCodeCanBeRun : Type 0
 EachCodeCanBeRun =
-    (is : List Native) (fixups : ℕ → Option Fixup) (at : ℕ) (p : Part) (l : Layout) (g : Going) → IsLayout p.data_size l
-    → length g.state.hart.registers ≡ 32 → ((r : ℕ) → value p g r < 2 ^ 32) → g.left < 2 ^ 32
+    (is : List Native) (fixups : ℕ → Option Fixup) (at : ℕ) (p : Part) (l : Layout) (g : Going) → has_single_mask p.format ≡ false
+    → IsLayout p.data_size l → length g.state.hart.registers ≡ 32 → ((r : ℕ) → value p g r < 2 ^ 32) → g.left < 2 ^ 32
     → end_of at is < 2 ^ 47 → DoNotMeet at (length (spellings is)) l.frame frame_size
     → DoNotMeet at (length (spellings is)) l.data_start p.data_size
     → (c : Core) × IsBefore is (record { base = at; bytes = spellings is; fixups = fixups; handled = guarded_data p.data_size l }) at p l g c

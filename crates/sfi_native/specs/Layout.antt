@@ -1,7 +1,8 @@
 -- Where a sandbox's state lies in a processor, and when both have the same state.
-use Rattle.std.specs.Prelude.{◌≡◌, ℕ, ◌+◌, ◌-◌, ◌*◌, ◌%◌, ◌^◌, ◌<◌, ◌≤◌, ◌⊎◌, true, length, Option, Some, None}
+use Rattle.std.specs.Prelude.{◌≡◌, ℕ, ◌+◌, ◌-◌, ◌*◌, ◌%◌, ◌^◌, ◌<◌, ◌≤◌, ◌⊎◌, true, false, length, Option, Some, None}
 use Rattle.rv_mem.specs.Bytes.{byte_at}
 use Rattle.rv_step.specs.State.{register}
+use Rattle.sfi_formats.specs.Formats.{has_single_mask}
 use Rattle.sfi_formats.specs.Limits.{guard}
 use Rattle.sfi_image.specs.Spelling.{Part}
 use Rattle.sfi_translate.specs.Machine.{Going, fixed}
@@ -60,8 +61,10 @@ abbrev pub owing : ℕ → Going → Going
 owing n g = record { place = g.place; state = g.state; left = g.left + n }
 
 -- The processor has the turn's state: rsp (4) leads to the frame, r14 (14) has the turn's `left` (in code with what is owed: `with_owed`), r15 (15) the origin of
--- the data. Where the turn is, rip says, which isn't part of it.
+-- the data. Where the turn is, rip says, which isn't part of it. No processor has the state of a sandbox whose masks are single:
+-- code takes x26 to be fixed, and an access outside the data to be near them.
 pub record IsRelated (p : Part) (l : Layout) (g : Going) (c : Core) : Type 0 where
+  pub two_steps : has_single_mask p.format ≡ false
   pub register_count : length g.state.hart.registers ≡ 32
   pub words : (r : ℕ) → value p g r < 2 ^ 32
   pub registers : (r : ℕ) → r < 32 → Holds l c r (assigned l.plan r) (value p g r)

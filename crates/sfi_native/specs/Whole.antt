@@ -1,6 +1,7 @@
 -- A turn of native code as a whole: code and host by turns come to its end, which is what the image's own steps come to.
-use Rattle.std.specs.Prelude.{◌≡◌, ◌⊎◌, ℕ, ◌+◌, ◌-◌, ◌*◌, ◌^◌, ◌<◌, ◌≤◌, List, length, Option}
+use Rattle.std.specs.Prelude.{◌≡◌, false, ◌⊎◌, ℕ, ◌+◌, ◌-◌, ◌*◌, ◌^◌, ◌<◌, ◌≤◌, List, length, Option}
 use Rattle.rv_step.specs.State.{State}
+use Rattle.sfi_formats.specs.Formats.{has_single_mask}
 use Rattle.sfi_formats.specs.Limits.{guard}
 use Rattle.sfi_image.specs.Spelling.{Part}
 use Rattle.sfi_safety.specs.Places.{IsCleanPart}
@@ -111,11 +112,12 @@ pub record CanBegin (sandbox : ℕ) (p : Part) (code : List Line) (l : Layout) (
     pub begins : HostMoves p code (begun s left) first
     pub leads : IsOver first ⊎ ((t : Text) × (m : Machine) × IsEntered sandbox p code l t base host s left m)
 
--- So it is wherever text, table, frame, data and the host's own memory lie apart.
+-- So it is wherever masks have two steps, and text, table, frame, data and the host's own memory lie apart.
 abbrev pub EachTurnCanBegin : Type 1
 EachTurnCanBegin =
     (sandbox : ℕ) (p : Part) (code : List Line) (l : Layout) (base : ℕ) (table : List ℕ) (table_at : ℕ)
     (does : Machine → Option Ending → Machine → Type 0) (own : ℕ → Type 0) (s : State) (left : ℕ)
-    → IsCleanPart sandbox p → AreLines sandbox p code → AreEntries l.plan p code table → IsReached p s → left < 2 ^ 31
+    → has_single_mask p.format ≡ false → IsCleanPart sandbox p → AreLines sandbox p code → AreEntries l.plan p code table
+    → IsReached p s → left < 2 ^ 31
     → IsLayout p.data_size l → base + exit_of l.plan code < 2 ^ 47 → table_at + table_size p ≤ 2 ^ 47
     → AreApart p l base code table_at own → CanBegin sandbox p code l base (host_of does own) s left

@@ -43,7 +43,7 @@ pub fn is_data_register_in(format: Format, register: Reg) -> bool
     ensures { result ≡ is_data_register_in format register }
 {
     match register.number() {
-        DATA_BASE_REGISTER | OFFSET_REGISTER => format.has_one_step(),
+        DATA_BASE_REGISTER | OFFSET_REGISTER => format.has_single_mask(),
         _ => is_data_register(register),
     }
 }

@@ -1,6 +1,6 @@
 -- Sandboxes beside one another, and that what one does to its own data is to the other a change by others.
 use Rattle.std.proofs.Common.{◌≡◌, ◌≢◌, ℕ, zero, suc, ◌+◌, ◌<◌, ◌≤◌, ◌⊎◌, List, [], ◌∷◌, length, get_or, Some, None, refl, sym, ap, ◌∙◌, subst, inl, inr, arith, true}
-use Rattle.sfi_formats.specs.Formats.{has_one_step}
+use Rattle.sfi_formats.specs.Formats.{has_single_mask}
 use Rattle.std.specs.Prelude.{slice_get}
 use Rattle.std.specs.List.{All, AllPairs}
 use Rattle.std.proofs.lemmas.List.Elements.{All-head, All-tail, All-nil, All-append, All-from_recursion}
@@ -139,7 +139,7 @@ guards_guarded p a (inl (from, below)) = (omega arith, omega arith)
 guards_guarded p a (inr (from, below)) = (omega arith, omega arith)
 
 -- where the second sandbox has a zone at zero, the spans of the first lie clear of it
-both_clear : (p q : Part) → AreClear (zone_ends (q ∷ [])) (spans (p ∷ [])) → has_one_step q.format ≡ true → IsClear (zone_end q.data_size) (code_region p) × IsClear (zone_end q.data_size) (guarded_region p)
+both_clear : (p q : Part) → AreClear (zone_ends (q ∷ [])) (spans (p ∷ [])) → has_single_mask q.format ≡ true → IsClear (zone_end q.data_size) (code_region p) × IsClear (zone_end q.data_size) (guarded_region p)
 both_clear p q clear one_step =
     let ends : zone_ends (q ∷ []) ≡ zone_end q.data_size ∷ [] = rw (one_step) refl in
     let all = subst (λ (es : List ℕ). AreClear es (spans (p ∷ []))) ends clear in (

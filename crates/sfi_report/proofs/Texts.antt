@@ -9,7 +9,7 @@ use Rattle.sfi_report.specs.Listing.{line_end, IsNamesText, sandbox_line, IsList
 use Rattle.sfi_report.specs.Report.{IsPlaceText, line_front, IsInstructionText}
 use Rattle.std.specs.List.{All}
 use Rattle.sfi_formats.specs.Formats.{unit}
-use Rattle.sfi_formats.specs.declared.format.Format.TheVariants.{Sfi1, Sfi2, Sfiw}
+use Rattle.sfi_formats.specs.declared.format.Format.TheVariants.{Sfi1, Sfi2, Sfiw, Sfis}
 use Rattle.sfi_image.specs.Parts.{IsRightPart, IsRightLayout}
 use Rattle.sfi_image.proofs.Facts.{whole_bundles}
 use Rattle.rv_comp.specs.declared.front.Front.{Front}
@@ -73,6 +73,7 @@ unit_there : (format : Format) (n m at size : ℕ) → size ≡ 16 * n → at �
 unit_there Sfi1 n m at size whole e less = let same : at ≡ 16 * m = e in (omega arith, omega arith)
 unit_there Sfi2 n m at size whole e less = let same : at ≡ 16 * m = e in (omega arith, omega arith)
 unit_there Sfiw n m at size whole e less = let same : at ≡ 4 * m = e in (omega arith, omega arith)
+unit_there Sfis n m at size whole e less = let same : at ≡ 4 * m = e in (omega arith, omega arith)
 
 -- the next unit ends within the code, at a unit more, and the code at or below 2 ^ 32
 pub unit_fits : (p : Part) (size at units : ℕ) → IsRightPart p → size ≡ unit p.format → at ≡ unit p.format * units → at < length p.code
@@ -211,6 +212,7 @@ one_count : (format : Format) (n m : ℕ) → unit format * n ≡ unit format * 
 one_count Sfi1 n m e = let same : 16 * n ≡ 16 * m = e in omega arith
 one_count Sfi2 n m e = let same : 16 * n ≡ 16 * m = e in omega arith
 one_count Sfiw n m e = let same : 4 * n ≡ 4 * m = e in omega arith
+one_count Sfis n m e = let same : 4 * n ≡ 4 * m = e in omega arith
 
 one_code : (p : Part) (text other : List ℕ) → IsCodeListing p text → IsCodeListing p other → text ≡ other
 one_code p text other a b =

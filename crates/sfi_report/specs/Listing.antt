@@ -7,7 +7,7 @@ use Rattle.sfi_names.specs.declared.image.Kind.TheVariants.{Exports, Imports}
 use Rattle.sfi_names.specs.Tables.{Named, Table, HasTable}
 use Rattle.rv_word.specs.declared.instr.Instr.{Instr}
 use Rattle.sfi_formats.specs.declared.format.Format.{Format}
-use Rattle.sfi_formats.specs.declared.format.Format.TheVariants.{Sfi1, Sfi2, Sfiw}
+use Rattle.sfi_formats.specs.declared.format.Format.TheVariants.{Sfi1, Sfi2, Sfiw, Sfis}
 use Rattle.sfi_text.specs.Statement.{printed}
 use Rattle.sfi_formats.specs.Formats.{unit}
 use Rattle.sfi_image.specs.Spelling.{Part, format_of}
@@ -149,6 +149,7 @@ unfoldable pub format_line : Format → List ℕ
 format_line Sfi1 = []
 format_line Sfi2 = codes "format SFI2" ++ line_end
 format_line Sfiw = codes "format SFIW" ++ line_end
+format_line Sfis = codes "format SFIS" ++ line_end
 
 -- the listing of an image with these parts
 abbrev pub IsListing : List Part → List ℕ → Type 0

@@ -148,6 +148,7 @@ fn push_format(out: &mut String, format: Format) -> Result<(), AllocError>
         Format::Sfi1 => Ok(()),
         Format::Sfi2 => out.push_str("format SFI2\n"),
         Format::Sfiw => out.push_str("format SFIW\n"),
+        Format::Sfis => out.push_str("format SFIS\n"),
     }
 }
 

@@ -2,7 +2,7 @@
 use Rattle.rv_word.specs.Spelling.{InRange, IsImm12}
 use Rattle.sfi_rewrite.specs.words.Expansion.{IsConfined, IsAround, IsExpansionOf as IsWordExpansionOf, before, after, base_of, data_mask, mask_after, is_move, moved, is_step_before_use}
 use Rattle.sfi_rewrite.proofs.WordLaying.{view, all_in_words}
-use Rattle.sfi_rewrite.proofs.Prelude.{◌≡◌, ℕ, zero, suc, ◌+◌, ◌*◌, ◌<◌, List, [], ◌∷◌, ◌++◌, replicate, refl, arith, inl, inr, ℤ, pos, negsuc, Bool, true, false, MatchBool, All, All-nil, All-cons, All-append, All-head, All-tail, All-replicate, Instr, And, Or, Op, OpImm, Load, Store, Jalr, Format, is_stack, Item, Body, Plain, To, High, Low, Base, IsBody, BundleSlot, Wide, Short, Jump, Upper, Lower, Region, size_of, c_nop, writes_stack, is_on_stack, stack_pair, put_back, code_pair_slots, jump_to_x31, jump_slots, IsAlone, IsMasked, IsExpansionOf, AreLaidFrom, Encodes, IsNamedBelow, Addi, ints, alone, subst, sym, ◌==◌, ◌&&◌, Some, Jal, Lui, Auipc, not, ◌||◌, if◌then◌else◌, destination, is_data_register, Marked, marked, AreExpanded, AreLaidBefore, has_one_step, is_made_on_x26}
+use Rattle.sfi_rewrite.proofs.Prelude.{◌≡◌, ℕ, zero, suc, ◌+◌, ◌*◌, ◌<◌, List, [], ◌∷◌, ◌++◌, replicate, refl, arith, inl, inr, ℤ, pos, negsuc, Bool, true, false, MatchBool, All, All-nil, All-cons, All-append, All-head, All-tail, All-replicate, Instr, And, Or, Op, OpImm, Load, Store, Jalr, Format, is_stack, Item, Body, Plain, To, High, Low, Base, IsBody, BundleSlot, Wide, Short, Jump, Upper, Lower, Region, size_of, c_nop, writes_stack, is_on_stack, stack_pair, put_back, code_pair_slots, jump_to_x31, jump_slots, IsAlone, IsMasked, IsExpansionOf, AreLaidFrom, Encodes, IsNamedBelow, Addi, ints, alone, subst, sym, ◌&&◌, Some, Jal, Lui, Auipc, not, ◌||◌, if◌then◌else◌, destination, is_data_register, Marked, marked, AreExpanded, AreLaidBefore, has_single_mask, is_made_on_x26}
 
 -- ==== What is known of the slots of a sandbox's items: they encode, and their names are the sandbox's.
 
@@ -113,7 +113,7 @@ mask_known_by true count d a g h = one count (Wide (Op And d a 27)) (wide_known 
 mask_known_by false count d a g h = two_known count (Op And 31 a 27) (Op Or d 31 26) (omega arith, h, omega arith) (g, omega arith, omega arith)
 
 mask_known : (f : Format) (count d a : ℕ) → d < 32 → a < 32 → All (IsKnownBoth count) (data_mask f d a)
-mask_known f count d a g h = mask_known_by (has_one_step f) count d a g h
+mask_known f count d a g h = mask_known_by (has_single_mask f) count d a g h
 
 -- ---- an instruction
 

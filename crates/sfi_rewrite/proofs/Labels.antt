@@ -1,5 +1,5 @@
 -- Labels in bundles: from a label's place c.nops lead to the item that it names.
-use Rattle.sfi_rewrite.proofs.Prelude.{◌≡◌, ℕ, zero, suc, ◌+◌, ◌*◌, ◌-◌, ◌/◌, refl, sym, ap, ◌∙◌, subst, arith, append_assoc, replicate, take, State, IsState, SlotStands, SlotsStand, c_nop, further, LeadsTo, LeadTo, Instr, size_of, next_bundle, BundleSlot, List, ◌++◌, ◌∷◌}
+use Rattle.sfi_rewrite.proofs.Prelude.{◌≡◌, ℕ, zero, suc, ◌+◌, ◌*◌, ◌-◌, ◌/◌, refl, sym, ap, ◌∙◌, subst, arith, append_assoc, replicate, take, State, IsState, SlotStands, SlotsStand, c_nop, further, LeadsTo, LeadTo, Instr, size_of, next_bundle, BundleSlot, List, ◌++◌}
 use Rattle.std.proofs.lemmas.List.{replicate-append-replicate}
 use Rattle.rv_comp.specs.declared.front.Front.TheVariants.{Read}
 use Rattle.sfi_rewrite.specs.Laws.{LabelsLeadToItems}

@@ -10,7 +10,7 @@ use Rattle.std.proofs.Math.Pow.{pow-lt}
 use Rattle.std.specs.Prelude.{if◌then◌else◌}
 use Rattle.std.specs.Int.Bits.{and_self, and_zero_l}
 use Rattle.sfi_formats.specs.declared.format.Format.{Format}
-use Rattle.sfi_formats.specs.Formats.{has_one_step, unit}
+use Rattle.sfi_formats.specs.Formats.{has_single_mask, unit}
 use Rattle.sfi_image.specs.Parts.{IsRegion, IsOneBit, IsMaskedBase, data_mask_of, reserved_for}
 use Rattle.sfi_image.proofs.Formats.{data_at_most}
 use Rattle.sfi_image.proofs.Regions.{exponent_le}
@@ -49,7 +49,7 @@ moved_data base size most x region =
 
 -- masked by x27 and x26, while a sandbox of these regions runs, a number becomes an address of the
 -- data region, where masks have two steps
-pub masked_data : (f : Format) → has_one_step f ≡ false → (c d : Span) (h : Hart) (x : ℕ) → AreRegions c d → HasReserved f (reserved_for f c d) h.registers → bit_or (bit_and x (register h 27)) (register h 26) ≡ masked d x
+pub masked_data : (f : Format) → has_single_mask f ≡ false → (c d : Span) (h : Hart) (x : ℕ) → AreRegions c d → HasReserved f (reserved_for f c d) h.registers → bit_or (bit_and x (register h 27)) (register h 26) ≡ masked d x
 masked_data f two c d h x regions reserved =
     let mask : data_mask_of f d ≡ d.size - 1 = rw two refl in
     ap (λ n. bit_or (bit_and x n) (register h 26)) (reserved.data_mask ∙ mask) ∙ ap (λ n. bit_or (bit_and x (d.size - 1)) n) (reserved.data_base two)
@@ -66,7 +66,7 @@ masked_held c d x regions held =
     let rest : x % d.size ≡ x - q * d.size = rest_of q d.size x (omega arith) (omega arith) in
     omega arith
 
-pub unmasked_data : (f : Format) → has_one_step f ≡ false → (c d : Span) (h : Hart) (x : ℕ) → AreRegions c d → HasReserved f (reserved_for f c d) h.registers → Holds d x → bit_or (bit_and x (register h 27)) (register h 26) ≡ x
+pub unmasked_data : (f : Format) → has_single_mask f ≡ false → (c d : Span) (h : Hart) (x : ℕ) → AreRegions c d → HasReserved f (reserved_for f c d) h.registers → Holds d x → bit_or (bit_and x (register h 27)) (register h 26) ≡ x
 unmasked_data f two c d h x regions reserved held = masked_data f two c d h x regions reserved ∙ masked_held c d x regions held
 
 -- a unit's start that lies in the code stays as it is under x25 and x24
@@ -120,7 +120,7 @@ masked_sum c d v w regions =
     ap (λ n. d.base + (d.base + v % n + w) % 2 ^ 32 % n) size_is ∙ ap (λ n. d.base + (n + v % 2 ^ k + w) % 2 ^ 32 % 2 ^ k) base_is
     ∙ ap (λ n. d.base + n) sum ∙ ap (λ n. d.base + (v + w) % 2 ^ 32 % n) (sym size_is)
 
--- ---- a mask of one step
+-- ---- a single mask
 
 -- a number in a block of 2 ^ k, whose place has no other bit than 2 ^ m
 one_block : (m k q r : ℕ) → bit_and q (2 ^ m) ≡ q → r < 2 ^ k → bit_and (q * 2 ^ k + r) (2 ^ m * 2 ^ k + (2 ^ k - 1)) ≡ q * 2 ^ k + r
@@ -175,21 +175,21 @@ uncut base size least most x region bit lies =
 
 -- ---- the mask of a format
 
-one_mask : (f : Format) (d : Span) → has_one_step f ≡ true → data_mask_of f d ≡ d.base + d.size - 1
+one_mask : (f : Format) (d : Span) → has_single_mask f ≡ true → data_mask_of f d ≡ d.base + d.size - 1
 one_mask f d one = rw one refl
 
 pub held_stays : (f : Format) (c d : Span) (x : ℕ) → AreRegions c d → IsMaskedBase f d.base d.size → Holds d x → masked_in f d x ≡ x
-held_stays f c d x regions bit held = by (has_one_step f) refl
+held_stays f c d x regions bit held = by (has_single_mask f) refl
   where
-    by : (one : Bool) → has_one_step f ≡ one → (if one then bit_and x (data_mask_of f d) else masked d x) ≡ x
+    by : (one : Bool) → has_single_mask f ≡ one → (if one then bit_and x (data_mask_of f d) else masked d x) ≡ x
     by true e = ap (bit_and x) (one_mask f d e) ∙ uncut d.base d.size 256 (data_most regions.format) x regions.data_placed (bit e) (inr (held.0, held.1))
     by false e = masked_held c d x regions held
 
-two_sum : (f : Format) (c d : Span) (v w : ℕ) → AreRegions c d → has_one_step f ≡ false → masked_in f d (result_of Add (masked_in f d v) w) ≡ masked_in f d (result_of Add v w)
+two_sum : (f : Format) (c d : Span) (v w : ℕ) → AreRegions c d → has_single_mask f ≡ false → masked_in f d (result_of Add (masked_in f d v) w) ≡ masked_in f d (result_of Add v w)
 two_sum f c d v w regions two = rw two (masked_sum c d v w regions)
 
-low_stays : (f : Format) (c d : Span) (x : ℕ) → AreRegions c d → IsMaskedBase f d.base d.size → has_one_step f ≡ true → x < d.size → masked_in f d x ≡ x
-low_stays f c d x regions bit one low = by (has_one_step f) one
+low_stays : (f : Format) (c d : Span) (x : ℕ) → AreRegions c d → IsMaskedBase f d.base d.size → has_single_mask f ≡ true → x < d.size → masked_in f d x ≡ x
+low_stays f c d x regions bit one low = by (has_single_mask f) one
   where
     by : (step : Bool) → step ≡ true → (if step then bit_and x (data_mask_of f d) else masked d x) ≡ x
     by true e = ap (bit_and x) (one_mask f d one) ∙ uncut d.base d.size 256 (data_most regions.format) x regions.data_placed (bit one) (inl low)

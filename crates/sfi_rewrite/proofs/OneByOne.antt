@@ -1,5 +1,5 @@
 -- One item after another.
-use Rattle.sfi_rewrite.proofs.Prelude.{◌≡◌, ℕ, ◌+◌, ◌*◌, ◌%◌, ◌<◌, ◌≤◌, List, [], ◌∷◌, ◌++◌, length, take, drop, get_or, replicate, refl, sym, ap, ◌∙◌, subst, arith, Some, append_assoc, inl, inr, length-append, Bool, slice_get, take_more, drop_more, get_or_append_left, get_or_push, All-push, cases_lt, slice_get-get_or, Format, built_code_most, Item, IsBody, BundleSlot, RewriteFault, size_of, c_nop, IsExpansion, is_call, next_bundle, FillsGap, IsNext, IsLabelAt, HasNext, HaveBodies, AreLabels, largest, IsPermitted, AreFaultless, IsTooLarge, HasItemFault, UnlessMemory, IsItemFault, Sfi1, Sfi2, Sfiw, TooLarge, Memory, All, AreLaid, AreTooLarge, false}
+use Rattle.sfi_rewrite.proofs.Prelude.{◌≡◌, ℕ, ◌+◌, ◌*◌, ◌%◌, ◌<◌, ◌≤◌, List, [], ◌∷◌, ◌++◌, length, take, drop, get_or, replicate, refl, sym, ap, ◌∙◌, subst, arith, Some, append_assoc, inl, inr, length-append, Bool, slice_get, take_more, drop_more, get_or_append_left, get_or_push, All-push, cases_lt, slice_get-get_or, Format, built_code_most, Item, IsBody, BundleSlot, RewriteFault, size_of, c_nop, IsExpansion, is_call, next_bundle, FillsGap, IsNext, IsLabelAt, HasNext, HaveBodies, AreLabels, largest, IsPermitted, AreFaultless, IsTooLarge, HasItemFault, UnlessMemory, IsItemFault, Sfi1, Sfi2, Sfiw, Sfis, TooLarge, Memory, All, AreLaid, AreTooLarge, false}
 use Rattle.sfi_rewrite.proofs.Sizes.{size_of-append, size_even, size_nops, IsOne, expansion_one}
 use Rattle.sfi_rewrite.proofs.Laid.{laid_push}
 
@@ -12,12 +12,14 @@ pub most_of_any : (f : Format) (n : ℕ) → n ≤ built_code_most f → n ≤ l
 most_of_any Sfi1 n h = omega arith
 most_of_any Sfi2 n h = omega arith
 most_of_any Sfiw n h = omega arith
+most_of_any Sfis n h = omega arith
 
 -- a code region ends at a bundle's end
 pub whole_bundles : (f : Format) → built_code_most f % 16 ≡ 0
 whole_bundles Sfi1 = refl
 whole_bundles Sfi2 = refl
 whole_bundles Sfiw = refl
+whole_bundles Sfis = refl
 
 -- ---- one item
 

@@ -20,7 +20,7 @@ pub use Rattle.sfi_source.specs.declared.item.Body.TheVariants.{Plain, To, High,
 pub use Rattle.sfi_source.specs.declared.item.Item.{Item}
 pub use Rattle.sfi_source.specs.declared.item.Named.{Named}
 pub use Rattle.sfi_source.specs.declared.item.Named.TheVariants.{Code, Unknown, Gate, Data}
-pub use Rattle.sfi_formats.specs.Formats.{is_stack, code_most, data_most, built_code_most, has_stack, has_words, has_one_step, is_data_register}
+pub use Rattle.sfi_formats.specs.Formats.{is_stack, code_most, data_most, built_code_most, has_stack, has_words, has_single_mask, is_data_register}
 pub use Rattle.sfi_formats.specs.declared.format.Format.{Format}
 pub use Rattle.sfi_rewrite.specs.Expansion.{jump_slots, IsAlone, IsMasked, IsExpansionOf, IsExpansion, code_pair_slots, jump_to_x31, is_call, data_pair_slots, size_of, slots_of, c_nop, slot_size, writes_stack, is_on_stack, stack_pair, put_back, is_stack_write, jumps_or_loads_x2, item_names_withheld, is_ecall, names_withheld, is_withheld}
 pub use Rattle.sfi_rewrite.specs.Rewriting.{IsPermitted, AreFaultless, HasItemFault, HasFault, UnlessMemory, IsItemFault, AreTooLarge, IsFaultless, IsSourceFault, IsSandboxFault, IsRewritten, AreRewritten, AnswersFault}
@@ -44,7 +44,7 @@ pub use Rattle.rv_word.specs.declared.instr.ImmOp.TheVariants.{Addi}
 pub use Rattle.rv_comp.specs.declared.form.Form16.{Form16}
 pub use Rattle.sfi_image.specs.Spelling.{Holds}
 pub use Rattle.sfi_image.specs.declared.span.Span.{Span}
-pub use Rattle.sfi_formats.specs.declared.format.Format.TheVariants.{Sfi1, Sfi2, Sfiw}
+pub use Rattle.sfi_formats.specs.declared.format.Format.TheVariants.{Sfi1, Sfi2, Sfiw, Sfis}
 pub use Rattle.sfi_rewrite.specs.declared.fault.RewriteFault.TheVariants.{TooLarge, Memory}
 pub use Rattle.std.proofs.Math.Seq.{drop-cons}
 pub use Rattle.sfi_source.specs.declared.item.SourceGate.{SourceGate}

@@ -1,5 +1,5 @@
 -- Each instruction of a source stands transparent in what is placed.
-use Rattle.sfi_rewrite.proofs.Prelude.{◌≡◌, ℕ, ◌+◌, ◌<◌, ◌&&◌, ◌==◌, arith, true≢false, List, [], ◌∷◌, ◌++◌, Bool, true, false, MatchBool, length, map, take, drop, Option, Some, None, refl, sym, ap, ◌∙◌, subst, inl, inr, ◌⊎◌, append-nil, All, All-get_or, slice_get, drop_more, get_or_from_slice_get, slice_get_within, Instr, Op, OpImm, Load, Store, Jalr, Item, Body, Plain, To, High, Low, Base, BundleSlot, Wide, Short, Jump, Upper, Lower, Region, slots_of, IsAlone, IsPermitted, MayBe, Placement, not, ◌||◌, if◌then◌else◌, destination, is_data_register, replicate, append_assoc, AllZip, Format, HasEndLabel, Sandbox, size_of, c_nop, AreLaidFrom, IsRewritten, RewrittenIsTransparent, StandTransparent, AreLaidIn, FillsEndIn, has_words, And, Or, has_one_step, is_made_on_x26}
+use Rattle.sfi_rewrite.proofs.Prelude.{◌≡◌, ℕ, ◌+◌, ◌<◌, ◌&&◌, arith, true≢false, List, [], ◌∷◌, ◌++◌, Bool, true, false, MatchBool, length, map, take, drop, Option, Some, None, refl, sym, ap, ◌∙◌, subst, inl, inr, ◌⊎◌, append-nil, All, All-get_or, slice_get, drop_more, get_or_from_slice_get, slice_get_within, Instr, Op, OpImm, Load, Store, Jalr, Item, Body, Plain, To, High, Low, Base, BundleSlot, Wide, Short, Jump, Upper, Lower, Region, slots_of, IsAlone, IsPermitted, MayBe, Placement, not, ◌||◌, if◌then◌else◌, destination, is_data_register, replicate, append_assoc, AllZip, Format, HasEndLabel, Sandbox, size_of, c_nop, AreLaidFrom, IsRewritten, RewrittenIsTransparent, StandTransparent, AreLaidIn, FillsEndIn, has_words, And, Or, has_single_mask, is_made_on_x26}
 use Rattle.std.proofs.lemmas.List.{take-append-drop, map-append}
 use Rattle.sfi_rewrite.specs.words.Expansion.{IsConfined, IsAround, IsExpansionOf, IsExpansion, before, after, base_of, data_mask, mask_after, is_move, moved, is_step_before_use, Marked, marked, alone, in_words, AreExpanded, AreLaid}
 use Rattle.sfi_rewrite.specs.words.Transparency.{AreAsLaid, ActsAs, StandsTransparent as StandsTransparentInWords}
@@ -49,7 +49,7 @@ mask_wide_by true d a = (refl, tt)
 mask_wide_by false d a = (refl, (refl, tt))
 
 data_mask_wide : (f : Format) (d a : ℕ) → AreWide (data_mask f d a)
-data_mask_wide f d a = mask_wide_by (has_one_step f) d a
+data_mask_wide f d a = mask_wide_by (has_single_mask f) d a
 
 made_wide : (f : Format) (none : Bool) (d a : ℕ) → AreWide (if none then [] else data_mask f d a)
 made_wide f true d a = tt

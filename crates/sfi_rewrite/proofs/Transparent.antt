@@ -1,5 +1,5 @@
 -- Each expansion does what its instruction does.
-use Rattle.sfi_rewrite.proofs.Prelude.{◌≡◌, ◌≢◌, ℕ, zero, suc, ◌^◌, ◌<◌, List, [], ◌∷◌, ◌++◌, Bool, true, false, refl, sym, ap, ◌∙◌, subst, arith, inl, inr, ℤ, pos, negsuc, bit_and, bit_or, or_parts, And, Or, LoadKind, Instr, Op, OpImm, Load, Store, Jalr, address_after, Hart, State, IsState, register, with_register, with_pc, Stands, effect, IsStep, BundleSlot, Wide, Short, slot_size, data_pair_slots, code_pair_slots, jump_to_x31, jump_slots, IsAlone, IsMasked, SlotStands, IsSameAside, DoesAs, IsTransparent, expansion, Form16, further, StandInRow, LeadsTo, LeadTo, offset_by, Addi, StoreWidth, Format, Sfi1, Sfi2, Sfiw, is_withheld, names_withheld}
+use Rattle.sfi_rewrite.proofs.Prelude.{◌≡◌, ◌≢◌, ℕ, zero, suc, ◌^◌, ◌<◌, List, [], ◌∷◌, ◌++◌, Bool, true, false, refl, sym, ap, ◌∙◌, subst, arith, inl, inr, ℤ, pos, negsuc, bit_and, bit_or, or_parts, And, Or, LoadKind, Instr, Op, OpImm, Load, Store, Jalr, address_after, Hart, State, IsState, register, with_register, with_pc, Stands, effect, IsStep, BundleSlot, Wide, Short, slot_size, data_pair_slots, code_pair_slots, jump_to_x31, jump_slots, IsAlone, IsMasked, SlotStands, IsSameAside, DoesAs, IsTransparent, expansion, Form16, further, StandInRow, LeadsTo, LeadTo, offset_by, Addi, StoreWidth, Format, Sfi1, Sfi2, Sfiw, Sfis, is_withheld, names_withheld}
 use Rattle.rv_comp.specs.declared.front.Front.TheVariants.{Read}
 use Rattle.std.proofs.lemmas.Bool.{ne_eqb}
 use Rattle.sfi_image.specs.Parts.{IsBundleStart}
@@ -29,6 +29,7 @@ not_withheld : (f : Format) (r : ℕ) → is_withheld f r ≡ false → r ≢ 31
 not_withheld Sfi1 r h = λ e. cc
 not_withheld Sfi2 r h = λ e. cc
 not_withheld Sfiw r h = λ e. cc
+not_withheld Sfis r h = λ e. cc
 
 -- ---- a pair at pc
 

@@ -1,5 +1,5 @@
 -- The items of code in words, laid one after another.
-use Rattle.sfi_rewrite.proofs.Prelude.{◌≡◌, ℕ, ◌+◌, ◌<◌, ◌≤◌, Bool, true, false, List, [], ◌∷◌, ◌++◌, length, take, drop, get_or, Some, refl, sym, ap, ◌∙◌, subst, arith, append_assoc, append-nil, true≢false, inl, inr, MatchBool, if◌then◌else◌, ◌&&◌, and_parts, take_more, All, Instr, Load, Store, Jalr, Body, Plain, To, High, Low, Base, Item, BundleSlot, Wide, Upper, Lower, Region, Short, Jump, IsAlone, IsPermitted, UnlessMemory, RewriteFault, Op, OpImm, And, Or, built_code_most, Format, has_one_step, not, take-append-drop, IfOk-weaker, IfErr-weaker, TooLarge, Memory, AreFaultless, IsItemFault, IsLabelAt, Marked, marked, in_words, AreExpanded, AreLaidBefore}
+use Rattle.sfi_rewrite.proofs.Prelude.{◌≡◌, ℕ, ◌+◌, ◌<◌, ◌≤◌, Bool, true, false, List, [], ◌∷◌, ◌++◌, length, take, drop, get_or, Some, refl, sym, ap, ◌∙◌, subst, arith, append_assoc, append-nil, true≢false, inl, inr, MatchBool, if◌then◌else◌, ◌&&◌, and_parts, take_more, All, Instr, Load, Store, Jalr, Body, Plain, To, High, Low, Base, Item, BundleSlot, Wide, Upper, Lower, Region, Short, Jump, IsAlone, IsPermitted, UnlessMemory, RewriteFault, Op, OpImm, And, Or, built_code_most, Format, has_single_mask, not, take-append-drop, IfOk-weaker, IfErr-weaker, TooLarge, Memory, AreFaultless, IsItemFault, IsLabelAt, Marked, marked, in_words, AreExpanded, AreLaidBefore}
 use Rattle.std.specs.Prelude.{Result, IfOk, IfErr}
 use Rattle.sfi_rewrite.specs.words.Expansion.{IsConfined, IsAround, IsExpansionOf, IsExpansion, before, after, base_of, is_step_before_use, is_move, moved, mask_after}
 use Rattle.sfi_rewrite.specs.private.{WordsSoFar, bytes_of, waiting_size, more_for, ended, before_label, with_slot, with_slots, with_more, LeadsTo, HaveRoom, AreWith, IsBeyond, HasNoRoom, AreOfFirst}
@@ -59,8 +59,8 @@ mask_some true d a = record { first = Wide (Op And d a 27); rest = []; are = ref
 mask_some false d a = record { first = Wide (Op And 31 a 27); rest = Wide (Op Or d 31 26) ∷ []; are = refl }
 
 moved_some : (f : Format) (i : Instr) → is_move i ≡ true → AreSome (moved f i)
-moved_some f (OpImm op d a imm) h = mask_some (has_one_step f) d a
-moved_some f (Op op d b a) h = mask_some (has_one_step f) d a
+moved_some f (OpImm op d a imm) h = mask_some (has_single_mask f) d a
+moved_some f (Op op d b a) h = mask_some (has_single_mask f) d a
 moved_some f other h = absurd (true≢false (sym h))
 
 plain_some : (f : Format) (move step rvc : Bool) (i : Instr) (slots : List BundleSlot) → (move ≡ true → is_move i ≡ true) → MatchBool move (slots ≡ moved f i) (IsAround f rvc step i slots) → AreSome slots

@@ -1,5 +1,5 @@
 -- The expansion in words acts as its instruction: what writes a data register keeps what that leaves.
-use Rattle.sfi_rewrite.proofs.Prelude.{◌≡◌, ◌≢◌, ℕ, zero, suc, ◌+◌, ◌%◌, ◌^◌, ◌<◌, ◌==◌, ◌&&◌, List, [], ◌∷◌, ◌++◌, length, Bool, true, false, MatchBool, Option, Some, None, inl, inr, refl, sym, ap, ◌∙◌, subst, arith, length-append, append_assoc, append-nil, eqb-true, true≢false, and_parts, or_parts, ℤ, pos, negsuc, And, Or, LoadKind, Instr, Op, OpImm, Load, Store, Jal, Jalr, Branch, Lui, Auipc, Bytes, address_after, Hart, State, IsState, register, with_register, with_pc, past, Stepped, Stands, next, effect, IsStep, Item, Body, Plain, To, High, Low, Base, BundleSlot, Wide, Jump, Upper, Lower, Region, slot_size, size_of, IsAlone, HasReserved, SlotStands, IsAskedOf, IsAimed, MayBe, not, ◌||◌, if◌then◌else◌, destination, Addi, StoreWidth, Add, further, LeadsTo, LeadTo, Next, Format, has_words, has_one_step, IsPermitted, is_data_register, Span, SlotsStand, is_withheld, names_withheld, item_names_withheld}
+use Rattle.sfi_rewrite.proofs.Prelude.{◌≡◌, ◌≢◌, ℕ, zero, suc, ◌+◌, ◌%◌, ◌^◌, ◌<◌, ◌==◌, ◌&&◌, List, [], ◌∷◌, ◌++◌, length, Bool, true, false, MatchBool, Option, Some, None, inl, inr, refl, sym, ap, ◌∙◌, subst, arith, length-append, append_assoc, append-nil, eqb-true, true≢false, and_parts, or_parts, ℤ, pos, negsuc, And, Or, LoadKind, Instr, Op, OpImm, Load, Store, Jal, Jalr, Branch, Lui, Auipc, Bytes, address_after, Hart, State, IsState, register, with_register, past, Stepped, Stands, next, effect, IsStep, Item, Body, Plain, To, High, Low, Base, BundleSlot, Wide, Jump, Upper, Lower, Region, slot_size, size_of, IsAlone, HasReserved, SlotStands, IsAskedOf, IsAimed, MayBe, not, ◌||◌, if◌then◌else◌, destination, Addi, StoreWidth, Add, further, LeadsTo, LeadTo, Next, Format, has_words, has_single_mask, IsPermitted, is_data_register, Span, SlotsStand, is_withheld, names_withheld, item_names_withheld}
 use Rattle.sfi_rewrite.specs.Laws.{WordExpansionsAreTransparent}
 use Rattle.sfi_rewrite.specs.words.Expansion.{is_made_on_x26, IsConfined, IsAround, IsExpansionOf, before, after, data_mask, mask_after, is_move, moved, is_step_before_use, is_step_to, is_zero, is_barred_jump}
 use Rattle.sfi_rewrite.specs.words.Transparency.{is_own, meant, masked_in, IsTransparent, KeepsData, ActsBy, ActsAs}
@@ -211,14 +211,14 @@ record IsBefore (f : Format) (i : Instr) (slots : List BundleSlot) : Type 0 wher
 
 load_before : (f : Format) (typed made rvc : Bool) (kind : LoadKind) (rd a : ℕ) (imm : ℤ) (slots : List BundleSlot) → is_data_register a ≡ typed → is_made_on_x26 f a ≡ made
     → IsAlone rvc (Load kind rd (if typed then a else if made then 26 else 29) imm) slots → IsTransparent f (Load kind rd a imm) ((if typed || made then [] else data_mask f 29 a) ++ slots)
-load_before f true true rvc kind rd a imm slots d z e = absurd (not_zero a d (eqb-true a 0 (and_parts (a == 0) (not (has_one_step f)) z).0))
+load_before f true true rvc kind rd a imm slots d z e = absurd (not_zero a d (eqb-true a 0 (and_parts (a == 0) (not (has_single_mask f)) z).0))
 load_before f true false rvc kind rd a imm slots d z e = load_alone f rvc kind rd a imm slots (subst (λ (b : Bool). IsAlone rvc (Load kind rd (if b then 26 else a) imm) slots) (sym z) e)
 load_before f false true rvc kind rd a imm slots d z e = load_alone f rvc kind rd a imm slots (subst (λ (b : Bool). IsAlone rvc (Load kind rd (if b then 26 else a) imm) slots) (sym z) e)
 load_before f false false rvc kind rd a imm slots d z e = load_transparent f rvc kind rd a imm slots e d z
 
 store_before : (f : Format) (typed made rvc : Bool) (width : StoreWidth) (a rs2 : ℕ) (imm : ℤ) (slots : List BundleSlot) → is_own rs2 ≡ false → is_data_register a ≡ typed → is_made_on_x26 f a ≡ made
     → IsAlone rvc (Store width (if typed then a else if made then 26 else 29) rs2 imm) slots → IsTransparent f (Store width a rs2 imm) ((if typed || made then [] else data_mask f 29 a) ++ slots)
-store_before f true true rvc width a rs2 imm slots own d z e = absurd (not_zero a d (eqb-true a 0 (and_parts (a == 0) (not (has_one_step f)) z).0))
+store_before f true true rvc width a rs2 imm slots own d z e = absurd (not_zero a d (eqb-true a 0 (and_parts (a == 0) (not (has_single_mask f)) z).0))
 store_before f true false rvc width a rs2 imm slots own d z e = store_alone f rvc width a rs2 imm slots (subst (λ (b : Bool). IsAlone rvc (Store width (if b then 26 else a) rs2 imm) slots) (sym z) e)
 store_before f false true rvc width a rs2 imm slots own d z e = store_alone f rvc width a rs2 imm slots (subst (λ (b : Bool). IsAlone rvc (Store width (if b then 26 else a) rs2 imm) slots) (sym z) e)
 store_before f false false rvc width a rs2 imm slots own d z e = store_transparent f rvc width a rs2 imm slots e own d z

@@ -1,5 +1,5 @@
 -- What is laid in words, and in either kind of code: that there is one way, and a beginning of the items.
-use Rattle.sfi_rewrite.proofs.Prelude.{◌≡◌, ℕ, zero, suc, ◌%◌, ◌≤◌, List, [], ◌∷◌, ◌++◌, length, take, drop, refl, sym, ap, ◌∙◌, subst, arith, append_assoc, take_all, take-take, All, MatchBool, Format, Item, BundleSlot, size_of, IsPermitted, AreFaultless, AreLaidFrom, Bool, true, false, ◌&&◌, Instr, Load, Store, Jalr, Body, Plain, Sfi1, Sfi2, Sfiw, take-append-drop, drop_all, AreLaidIn, not, built_code_most, has_words, Marked, marked, in_words, AreExpanded, AreLaidBefore}
+use Rattle.sfi_rewrite.proofs.Prelude.{◌≡◌, ℕ, zero, suc, ◌%◌, ◌≤◌, List, [], ◌∷◌, ◌++◌, length, take, drop, refl, sym, ap, ◌∙◌, subst, arith, append_assoc, take_all, take-take, All, MatchBool, Format, Item, BundleSlot, size_of, IsPermitted, AreFaultless, AreLaidFrom, Bool, true, false, ◌&&◌, Instr, Load, Store, Jalr, Body, Plain, Sfi1, Sfi2, Sfiw, Sfis, take-append-drop, drop_all, AreLaidIn, not, built_code_most, has_words, Marked, marked, in_words, AreExpanded, AreLaidBefore}
 use Rattle.sfi_rewrite.specs.words.Expansion.{IsExpansion, before, after, base_of, IsConfined, IsAround, IsExpansionOf, is_step_before_use, is_move, moved}
 use Rattle.sfi_rewrite.proofs.Laid.{laid_one_way, alone_one_way, laid_split}
 use Rattle.sfi_rewrite.proofs.WordLaying.{words_more, word_aligned}
@@ -90,12 +90,14 @@ pub word_unit : (f : Format) → has_words f ≡ true → unit f ≡ 4
 word_unit Sfi1 h = absurd cc
 word_unit Sfi2 h = absurd cc
 word_unit Sfiw h = refl
+word_unit Sfis h = refl
 
 -- a bundle has 16
 pub bundle_unit : (f : Format) → has_words f ≡ false → unit f ≡ 16
 bundle_unit Sfi1 h = refl
 bundle_unit Sfi2 h = refl
 bundle_unit Sfiw h = absurd cc
+bundle_unit Sfis h = absurd cc
 
 pub laid_in_one_way : (w : Bool) (f : Format) (items later : List Item) (a b : List BundleSlot) → AreLaidIn w f items later a → AreLaidIn w f items later b → a ≡ b
 laid_in_one_way false f items later a b x y = laid_one_way f 0 items a b x y

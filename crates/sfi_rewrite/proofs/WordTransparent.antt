@@ -1,9 +1,9 @@
 -- Each expansion in words does what its instruction does.
-use Rattle.sfi_rewrite.proofs.Prelude.{◌≡◌, ◌≢◌, ℕ, ◌^◌, ◌<◌, ◌==◌, ◌||◌, List, [], ◌∷◌, ◌++◌, length, length-set, Bool, true, false, MatchBool, inl, inr, refl, sym, ap, ◌∙◌, subst, arith, ℤ, pos, bit_and, bit_or, And, Or, LoadKind, Instr, Op, Load, Store, Jalr, address_after, Hart, State, IsState, register, with_register, with_pc, past, Stands, effect, Format, has_words, has_one_step, BundleSlot, Wide, Short, slot_size, size_of, IsAlone, AreRegions, HasReserved, SlotStands, IsSameAside, DoesAs, if◌then◌else◌, expansion, is_made_on_x26, is_data_register, false≢true, eqb-true, further, LeadTo, offset_by, StoreWidth, Holds, Span, masked, SlotsStand, data_mask}
+use Rattle.sfi_rewrite.proofs.Prelude.{◌≡◌, ◌≢◌, ℕ, ◌^◌, ◌<◌, ◌==◌, ◌||◌, List, [], ◌∷◌, ◌++◌, length, length-set, Bool, true, false, MatchBool, inl, inr, refl, sym, ap, ◌∙◌, subst, arith, ℤ, pos, bit_and, bit_or, And, Or, LoadKind, Instr, Op, Load, Store, Jalr, address_after, Hart, State, IsState, register, with_register, with_pc, past, Stands, effect, Format, has_words, has_single_mask, BundleSlot, Wide, Short, slot_size, size_of, IsAlone, AreRegions, HasReserved, SlotStands, IsSameAside, DoesAs, if◌then◌else◌, expansion, is_made_on_x26, is_data_register, false≢true, eqb-true, further, LeadTo, offset_by, StoreWidth, Holds, Span, masked, SlotsStand, data_mask}
 use Rattle.rv_step.proofs.Pairs.{written_here, written_elsewhere, written_list}
 use Rattle.std.specs.Int.Bits.{and_zero_l}
 use Rattle.std.proofs.lemmas.Bool.{not-false}
-use Rattle.sfi_rewrite.specs.words.Transparency.{is_own, IsBased, KeepsTo, meant_base, meant, masked_in, IsTransparent}
+use Rattle.sfi_rewrite.specs.words.Transparency.{is_own, KeepsTo, meant_base, meant, masked_in, IsTransparent}
 use Rattle.sfi_image.specs.Parts.{IsWordStart, IsMaskedBase, data_mask_of, reserved_for}
 use Rattle.sfi_rewrite.proofs.Sizes.{size_of-cons}
 use Rattle.sfi_rewrite.proofs.Transparent.{stands_at, does, DoesFor, after_pair, one_does}
@@ -47,7 +47,7 @@ stand_same i s t (x ∷ slots) e m st =
 
 -- ---- the mask
 
--- the mask of a into d, in one step or in two
+-- the mask of a into d, single or in two steps
 abbrev mask_by : Bool → ℕ → ℕ → List BundleSlot
 mask_by one d a = if one then Wide (Op And d a 27) ∷ [] else Wide (Op And 31 a 27) ∷ Wide (Op Or d 31 26) ∷ []
 
@@ -105,22 +105,22 @@ mask_leads false i s d a is some small st =
     )
 
 -- the mask of the format
-pub masks : (f : Format) (i : Instr) (s : State) (d a : ℕ) → IsState s → d ≢ 0 → d < 32 → SlotsStand i s (data_mask f d a) → (end : State) × IsAfterMask (has_one_step f) d a s end
-masks f i s d a is some small st = mask_leads (has_one_step f) i s d a is some small st
+pub masks : (f : Format) (i : Instr) (s : State) (d a : ℕ) → IsState s → d ≢ 0 → d < 32 → SlotsStand i s (data_mask f d a) → (end : State) × IsAfterMask (has_single_mask f) d a s end
+masks f i s d a is some small st = mask_leads (has_single_mask f) i s d a is some small st
 
 abbrev pub mask_value : Format → Hart → ℕ → ℕ
-mask_value f h a = value_by (has_one_step f) h a
+mask_value f h a = value_by (has_single_mask f) h a
 
 -- while a sandbox of these regions runs, that is an address of the data region
 value_masked : (f : Format) (c d : Span) (h : Hart) (a : ℕ) → AreRegions c d → HasReserved f (reserved_for f c d) h.registers → mask_value f h a ≡ masked_in f d (register h a)
-value_masked f c d h a regions reserved = by (has_one_step f) refl
+value_masked f c d h a regions reserved = by (has_single_mask f) refl
   where
-    by : (one : Bool) → has_one_step f ≡ one → value_by one h a ≡ (if one then bit_and (register h a) (data_mask_of f d) else masked d (register h a))
+    by : (one : Bool) → has_single_mask f ≡ one → value_by one h a ≡ (if one then bit_and (register h a) (data_mask_of f d) else masked d (register h a))
     by true e = ap (bit_and (register h a)) reserved.data_mask
     by false e = masked_data f e c d h (register h a) regions reserved
 
--- of x0 a mask of one step leaves 0
-zero_stays : (f : Format) (s : State) (a : ℕ) → IsState s → (a == 0) ≡ true → has_one_step f ≡ true → mask_value f s.hart a ≡ register s.hart a
+-- of x0 a single mask leaves 0
+zero_stays : (f : Format) (s : State) (a : ℕ) → IsState s → (a == 0) ≡ true → has_single_mask f ≡ true → mask_value f s.hart a ≡ register s.hart a
 zero_stays f s a is z one =
     let none : register s.hart a ≡ 0 = ap (register s.hart) (eqb-true a 0 z) ∙ is.hart.zero in
     rw one (ap (λ n. bit_and n (register s.hart 27)) none ∙ and_zero_l (register s.hart 27) ∙ sym none)
@@ -129,7 +129,7 @@ zero_stays f s a is z one =
 base_stays : (f : Format) (typed none : Bool) (c d : Span) (s : State) (a : ℕ) → typed ≡ false → (a == 0) ≡ none → is_made_on_x26 f a ≡ false → AreRegions c d → IsMaskedBase f d.base d.size → IsState s → HasReserved f (reserved_for f c d) s.hart.registers
     → MatchBool (typed || none) (Unit {0}) (Holds d (register s.hart a)) → mask_value f s.hart a ≡ register s.hart a
 base_stays f true none c d s a t z made regions bit is reserved based = absurd (false≢true (sym t))
-base_stays f false true c d s a t z made regions bit is reserved based = zero_stays f s a is z (not-false (has_one_step f) (rw z at made))
+base_stays f false true c d s a t z made regions bit is reserved based = zero_stays f s a is z (not-false (has_single_mask f) (rw z at made))
 base_stays f false false c d s a t z made regions bit is reserved based = value_masked f c d s.hart a regions reserved ∙ held_stays f c d (register s.hart a) regions bit based
 
 own_differs : (x r : ℕ) → is_own x ≡ false → is_own r ≡ true → x ≢ r
@@ -171,7 +171,7 @@ after_base f s i j a v slot is mask access e same =
       step = does there j n (stands_at (further s (size_of (data_mask f 29 a))) there j n m.1.pc m.1.memory access);
       same =
           subst (λ memory. IsSameAside is_own (effect j n there.hart memory) (effect (meant f i) n (with_pc s.hart there.hart.pc) s.memory)) (sym m.1.memory)
-          (same there.hart (mask_aside (has_one_step f) s there a m.1) (m.1.value ∙ e));
+          (same there.hart (mask_aside (has_single_mask f) s there a m.1) (m.1.value ∙ e));
     }
 
 -- ---- the expansions
@@ -255,6 +255,6 @@ jump_transparent f rd a is_in_words = record {
 -- ---- the mask after a write of a data register
 
 -- it leaves the address that a masks to
-pub mask_leaves : (f : Format) (c d_at : Span) (s end : State) (d a : ℕ) → AreRegions c d_at → HasReserved f (reserved_for f c d_at) s.hart.registers → IsAfterMask (has_one_step f) d a s end
+pub mask_leaves : (f : Format) (c d_at : Span) (s end : State) (d a : ℕ) → AreRegions c d_at → HasReserved f (reserved_for f c d_at) s.hart.registers → IsAfterMask (has_single_mask f) d a s end
     → register end.hart d ≡ masked_in f d_at (register s.hart a)
 mask_leaves f c d_at s end d a regions reserved m = m.value ∙ value_masked f c d_at s.hart a regions reserved

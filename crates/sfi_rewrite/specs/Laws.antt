@@ -5,9 +5,9 @@ use Rattle.rv_word.specs.declared.instr.Instr.{Instr}
 use Rattle.rv_step.specs.Step.{result_of}
 use Rattle.rv_step.specs.State.{State, IsState}
 use Rattle.rv_step.specs.Rows.{further, LeadTo}
-use Rattle.sfi_formats.specs.Formats.{stack_pointer, has_words, has_one_step}
+use Rattle.sfi_formats.specs.Formats.{stack_pointer, has_words, has_single_mask}
 use Rattle.sfi_formats.specs.declared.format.Format.{Format}
-use Rattle.sfi_formats.specs.declared.format.Format.TheVariants.{Sfi2}
+use Rattle.sfi_formats.specs.declared.format.Format.TheVariants.{Sfi2, Sfiw}
 use Rattle.sfi_image.specs.declared.span.Span.{Span}
 use Rattle.sfi_image.specs.Spelling.{Holds}
 use Rattle.sfi_image.specs.Parts.{IsMaskedBase}
@@ -88,9 +88,9 @@ abbrev pub MasksCompose : Type 0
 MasksCompose = (f : Format) (code_at data_at : Span) (v w : ℕ) → AreRegions code_at data_at
     → IsMaskedBase f data_at.base data_at.size
     → (Holds data_at v → masked_in f data_at v ≡ v)
-    × (has_one_step f ≡ false → masked_in f data_at (result_of Add (masked_in f data_at v) w)
+    × (has_single_mask f ≡ false → masked_in f data_at (result_of Add (masked_in f data_at v) w)
     ≡ masked_in f data_at (result_of Add v w))
-    × (has_one_step f ≡ true → v < data_at.size → masked_in f data_at v ≡ v)
+    × (has_single_mask f ≡ true → v < data_at.size → masked_in f data_at v ≡ v)
 
 -- each item of a source stands transparent in what is placed
 abbrev pub RewrittenIsTransparent : Type 0
@@ -104,20 +104,21 @@ abbrev pub TransparencyCanBeMet : Type 0
 TransparencyCanBeMet = MeetsTransparent Sfi2 sample_load × MeetsTransparent Sfi2 sample_jump
     × MeetsInside Sfi2 sample_push × MeetsOutside Sfi2 sample_upper × MeetsStop Sfi2 sample_pop
 
--- In words, too: in some state the expansion of a load stands, also of one on x0, and the load keeps
--- to its sandbox and is done; the same is so of an indirect jump and of a step. In some state that of
--- a write of a data register stands, also of a move to it, and the write leaves it in the data
+-- In words, too: in some state the expansion of a load stands, where masks have two steps also of one on x0,
+-- and the load keeps to its sandbox and is done; the same is so of an indirect jump and of a step. In some
+-- state that of a write of a data register stands, also of a move to it, and the write leaves it in the data
 -- region; in others a write leaves it outside, and a load into it isn't done.
 abbrev pub WordTransparencyCanBeMet : Type 0
 WordTransparencyCanBeMet =
-    words_samples.MeetsTransparent sample_load
-    × words_samples.MeetsTransparent words_samples.sample_low
-    × words_samples.MeetsTransparent sample_jump
-    × words_samples.MeetsStep words_samples.sample_step (words_samples.sample_use ∷ []) sample_push
-    × words_samples.MeetsInside stack_pointer sample_push
-    × words_samples.MeetsInside stack_pointer words_samples.sample_move
-    × words_samples.MeetsOutside stack_pointer sample_upper
-    × words_samples.MeetsStop stack_pointer sample_pop
+    words_samples.MeetsTransparent Sfiw words_samples.sample_low
+    × ((f : Format) → has_words f ≡ true
+    → words_samples.MeetsTransparent f sample_load
+    × words_samples.MeetsTransparent f sample_jump
+    × words_samples.MeetsStep f words_samples.sample_step (words_samples.sample_use ∷ []) sample_push
+    × words_samples.MeetsInside f stack_pointer sample_push
+    × words_samples.MeetsInside f stack_pointer words_samples.sample_move
+    × words_samples.MeetsOutside f stack_pointer sample_upper
+    × words_samples.MeetsStop f stack_pointer sample_pop)
 
 -- In bundles a jump to the label before an item comes to the item. What is placed has, at the place that
 -- the label names, some c.nops and then the item's expansion; and from where these stand the c.nops

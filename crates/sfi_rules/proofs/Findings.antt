@@ -4,7 +4,7 @@ use Rattle.std.proofs.lemmas.Bool.{false≢true}
 use Rattle.rv_word.specs.declared.instr.Instr.TheVariants.{Op}
 use Rattle.rv_word.specs.declared.instr.RegOp.TheVariants.{And}
 use Rattle.sfi_formats.specs.declared.format.Format.{Format}
-use Rattle.sfi_formats.specs.Formats.{code_base_register, code_register, data_mask_register, offset_register, has_one_step}
+use Rattle.sfi_formats.specs.Formats.{code_base_register, code_register, data_mask_register, offset_register, has_single_mask}
 use Rattle.sfi_pairs.specs.Pairs.{is_masking, is_placing, uses}
 use Rattle.sfi_rules.specs.declared.owed.Owed.TheVariants.{Mask, PlaceOnly, MaskOrUse, Code}
 use Rattle.sfi_rules.specs.words.Rules.{is_and, masks, places, owed_by, or_nothing, joined, owed_next}
@@ -47,9 +47,9 @@ module _ (f : Format) where
   settled : (asked : Option Owed) (m : Instr) → owed_next f (or_nothing asked) m ≡ owed_after_two f asked m
   settled None m = refl
   settled (Some Nothing) m = refl
-  settled (Some (Mask d)) m = masked (masks f d m) (has_one_step f) d (owed_by f m)
+  settled (Some (Mask d)) m = masked (masks f d m) (has_single_mask f) d (owed_by f m)
   settled (Some (PlaceOnly d)) m = last (places f d m) (owed_by f m)
-  settled (Some (MaskOrUse d)) m = masked_or_used (masks f d m) (uses d m) (has_one_step f) d (owed_by f m)
+  settled (Some (MaskOrUse d)) m = masked_or_used (masks f d m) (uses d m) (has_single_mask f) d (owed_by f m)
   settled (Some Code) m = last (is_placing code_base_register code_register m) (owed_by f m)
 
   -- the first of two steps is the masking
@@ -61,23 +61,23 @@ module _ (f : Format) where
       and_false false = refl
   masking_is false d w e = and_is 31 d 27 w (and_parts (is_and offset_register d data_mask_register w) true e).0
 
-  owes_none : (one : Bool) → has_one_step f ≡ one → (d : ℕ) → owed_by f (Op And 31 d 27) ≡ Some Nothing
+  owes_none : (one : Bool) → has_single_mask f ≡ one → (d : ℕ) → owed_by f (Op And 31 d 27) ≡ Some Nothing
   owes_none true e d = rw e refl
   owes_none false e d = rw e refl
 
   -- a masking asks nothing itself, and what it leaves doesn't outlast the next instruction
-  after_masking : (t : Bool) (d : ℕ) (w m : Instr) → (masks f d w && not (has_one_step f)) ≡ t → owed_next f (cond t (PlaceOnly d) (or_nothing (owed_by f w))) m ≡ owed_after_two f (owed_by f w) m
+  after_masking : (t : Bool) (d : ℕ) (w m : Instr) → (masks f d w && not (has_single_mask f)) ≡ t → owed_next f (cond t (PlaceOnly d) (or_nothing (owed_by f w))) m ≡ owed_after_two f (owed_by f w) m
   after_masking true d w m e =
       last (places f d m) (owed_by f m)
-      ∙ ap (λ (o : Option Owed). owed_after_two f o m) (sym (owes_none (has_one_step f) refl d))
-      ∙ ap (λ (i : Instr). owed_after_two f (owed_by f i) m) (sym (masking_is (has_one_step f) d w e))
+      ∙ ap (λ (o : Option Owed). owed_after_two f o m) (sym (owes_none (has_single_mask f) refl d))
+      ∙ ap (λ (i : Instr). owed_after_two f (owed_by f i) m) (sym (masking_is (has_single_mask f) d w e))
   after_masking false d w m e = settled (owed_by f w) m
 
 pub of_two : OwedIsOfTwo
 of_two f Nothing w m = settled f (owed_by f w) m
-of_two f (Mask d) w m = ap (λ (o : Owed). owed_next f o m) (masked (masks f d w) (has_one_step f) d (owed_by f w)) ∙ after_masking f (masks f d w && not (has_one_step f)) d w m refl
+of_two f (Mask d) w m = ap (λ (o : Owed). owed_next f o m) (masked (masks f d w) (has_single_mask f) d (owed_by f w)) ∙ after_masking f (masks f d w && not (has_single_mask f)) d w m refl
 of_two f (PlaceOnly d) w m = ap (λ (o : Owed). owed_next f o m) (last (places f d w) (owed_by f w)) ∙ settled f (owed_by f w) m
-of_two f (MaskOrUse d) w m = ap (λ (o : Owed). owed_next f o m) (masked_or_used (masks f d w) (uses d w) (has_one_step f) d (owed_by f w)) ∙ after_masking f (masks f d w && not (has_one_step f)) d w m refl
+of_two f (MaskOrUse d) w m = ap (λ (o : Owed). owed_next f o m) (masked_or_used (masks f d w) (uses d w) (has_single_mask f) d (owed_by f w)) ∙ after_masking f (masks f d w && not (has_single_mask f)) d w m refl
 of_two f Code w m = ap (λ (o : Owed). owed_next f o m) (last (is_placing code_base_register code_register w) (owed_by f w)) ∙ settled f (owed_by f w) m
 
 -- ==== The findings of a part whose code is in bundles, or in words. Crates above cite this, too.

@@ -5,7 +5,7 @@ use Rattle.sfi_rules.specs.Laws.{FirstFormatHasNoStack, FirstFormatFindsNoV10}
 use Rattle.sfi_rules.specs.declared.rule.Rule.TheVariants.{V1, V9, V10, V3, V4, V5, V6, V7, V8}
 use Rattle.sfi_rules.proofs.Findings.{in_bundles, lowest_is, kept}
 use Rattle.sfi_image.specs.Numbers.{in_format, all_in_format}
-use Rattle.sfi_formats.specs.declared.format.Format.TheVariants.{Sfi2, Sfiw}
+use Rattle.sfi_formats.specs.declared.format.Format.TheVariants.{Sfi2, Sfiw, Sfis}
 use Rattle.std.proofs.lemmas.List.Elements.{All-head, All-tail}
 use Rattle.sfi_rules.proofs.OneList.{longest_one}
 use Rattle.sfi_rules.proofs.Prelude.{◌≡◌, ◌≢◌, ◌∷◌, ◌++◌, ℕ, zero, suc, ◌+◌, Bool, true, false, List, [], refl, sym, ap, subst, inl, inr, All, Instr, has_stack, Part, BundlePlace, Finding, Rule, bundle_place, bundle_bytes, follows_data_pair, Piece, InstrInBundle, breaks, breaks_stack, may_access, broken, lowest, all_rules, rule_of_length, findings_from, rest_finding, AreReadingFindings, AreBundleFindings, AreFindingsOfFirst, has_words, Format, Sfi1, All-append, All-cons, All-nil, pos, negsuc, ◌-◌, length, not, ◌&&◌, ◌||◌, ◌∙◌, arith, Load, Store, Branch, Jal, Jalr, Ecall, rest_of, breaks_ecall, breaks_access, breaks_jump, breaks_target, is_empty, AreFindingsInBundles, AreFindings, AreFindingsFrom}
@@ -121,7 +121,9 @@ more_allowed Sfi1 true paired e = refl
 more_allowed Sfi1 false paired e = e
 more_allowed Sfi2 on paired e = e
 more_allowed Sfiw true paired e = refl
+more_allowed Sfis true paired e = refl
 more_allowed Sfiw false paired e = e
+more_allowed Sfis false paired e = e
 
 fewer_accesses : (x : InstrInBundle) (i : Instr) → breaks_access x i ≡ false → breaks_access (second_place x) i ≡ false
 fewer_accesses x (Load kind rd rs1 imm) e = more_allowed x.bundle.format _ (follows_data_pair rs1 x.earlier) e

@@ -4,7 +4,7 @@ use Rattle.std.specs.List.{All}
 use Rattle.rv_word.specs.declared.instr.Instr.{Instr}
 use Rattle.sfi_formats.specs.declared.format.Format.TheVariants.{Sfi1, Sfi2}
 use Rattle.sfi_formats.specs.declared.format.Format.{Format}
-use Rattle.sfi_formats.specs.Formats.{has_words, has_one_step}
+use Rattle.sfi_formats.specs.Formats.{has_words, has_single_mask}
 use Rattle.sfi_image.specs.Spelling.{Part}
 use Rattle.sfi_image.specs.Numbers.{all_in_format}
 use Rattle.sfi_image.specs.Parts.{IsBundleStart}
@@ -70,9 +70,9 @@ CleanBreaksStackAlone = (ps : List Part) (found : List Finding)
 -- or nothing where no next instruction can make that right.
 abbrev pub owed_after_two : Format → Option Owed → Instr → Owed
 owed_after_two f (Some (kind.Mask d)) m =
-    if masks f d m && not (has_one_step f) then kind.PlaceOnly d else or_nothing (owed_by f m)
+    if masks f d m && not (has_single_mask f) then kind.PlaceOnly d else or_nothing (owed_by f m)
 owed_after_two f (Some (kind.MaskOrUse d)) m =
-    if masks f d m && not (has_one_step f) then kind.PlaceOnly d else or_nothing (owed_by f m)
+    if masks f d m && not (has_single_mask f) then kind.PlaceOnly d else or_nothing (owed_by f m)
 owed_after_two f asked m = or_nothing (owed_by f m)
 
 -- what is owed after two instructions depends on these alone, whatever was owed before them

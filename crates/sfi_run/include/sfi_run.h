@@ -10,7 +10,7 @@
  *
  * One premise is worth a word: a trap ends the run. The sandbox goes on by sfi_run_enter, sfi_run_call,
  * sfi_run_set_registers and sfi_run_reset alone, which set its registers anew. The library keeps this. A host that runs
- * accepted code by other means (sfi.h) has to: where it steps over an ebreak, or in the third format completes or steps
+ * accepted code by other means (sfi.h) has to: where it steps over an ebreak, or in the third and fourth completes or steps
  * over an access with a byte in a guard zone, code can leave its sandbox.
  *
  * The calls read nothing but their arguments, the world, the console and the module, keep nothing elsewhere, start no thread,
@@ -218,7 +218,8 @@ bool sfi_run_instance(struct sfi_run_module *module, struct sfi_run_world *world
  * A sandbox posts to others by their numbers in the world; in the names of its image (sfi_run_export) *first is sandbox 0. A
  * console that was made before knows none of the new ones, and refuses their calls but exit and yield.
  *
- * A sandbox lies where its image says, so two modules of a world are made for different places, or moved to them (`sfi move`).
+ * A sandbox lies where its image says, so two modules of a world are made for different places, or moved to them (`sfi move`), none
+ * in a zone at zero of the fourth format (sfi.h).
  * Images of different formats may share a world. Nothing is checked or decoded anew, and the module may be freed afterwards;
  * but what the world has is copied: for a moment it takes its memory twice. Where there is no memory, the world may keep up to 8
  * bytes more than before for each sandbox that it would have, until it is freed.
@@ -362,7 +363,7 @@ bool sfi_run_write(struct sfi_run_world *world, uint32_t sandbox, uint32_t at, c
  * Makes a sandbox that has stopped ready at pc, with these arguments in a0 to a7, as a function is called: x1, the return
  * address, is that of its first gate of service 0 (0 where none is listed). x2, the stack pointer, is lower than
  * sfi_run_load sets it by the room that the image asks for (docs/IMAGE.md, "Names"). The other registers are as
- * sfi_run_load sets them, but for x30, which is pc in the third format. Its data stay, and its steps are counted on. Returns false where
+ * sfi_run_load sets them, but for x30, which is pc in the third and fourth format. Its data stay, and its steps are counted on. Returns false where
  * there is no such sandbox, it hasn't stopped, or no bundle or word of its code begins at pc, and changes nothing then.
  */
 bool sfi_run_enter(struct sfi_run_world *world, uint32_t sandbox, uint32_t pc, const uint32_t arguments[8]);
@@ -404,10 +405,10 @@ bool sfi_run_data(struct sfi_run_world *world, uint32_t sandbox, struct sfi_run_
 /*
  * Makes the sandbox ready with this pc and these registers, whether it was ready, stood at a call or had stopped; x0 stays
  * 0. Its data stay, and its steps are counted on. Returns false where there is no such sandbox, no bundle or word of its
- * code begins at pc, x24 to x27 aren't what they were, or a typed register (docs/IMAGE.md: x2 in the second format, six in
- * the third) would hold what its type forbids; and changes nothing then.
+ * code begins at pc, x24 to x27 (but x26 in the fourth format) aren't what they were, or a typed register (docs/IMAGE.md: x2 in
+ * the second format, six in the third, seven in the fourth) would hold what its type forbids; and changes nothing then.
  *
- * So a debugger sets a register of a sandbox that stands where a bundle begins, or in the third format a word before
+ * So a debugger sets a register of a sandbox that stands where a bundle begins, or in the others a word before
  * which no step of an address is open; and a host takes a sandbox that it called back to its call (sfi_run_call_back).
  */
 bool sfi_run_set_registers(struct sfi_run_world *world, uint32_t sandbox, const struct sfi_run_registers *registers);

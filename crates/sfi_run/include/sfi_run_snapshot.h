@@ -5,7 +5,7 @@
  *
  * The bytes are those of sfi_run.snapshots in Python. Numbers are little-endian, of 32 bits but for the steps:
  *
- *     SFIS, the version 1, the image's SHA-256 (32 bytes), the number of sandboxes
+ *     SNAP, the version 1, the image's SHA-256 (32 bytes), the number of sandboxes
  *     of each: kind (SFI_RUN_READY, _CALL, _EXITED or _STOPPED), the number of its exit or 0, pc, x0 to x31, steps (64 bits), the
  *              base and size of its data, the data
  *     the CRC-32 of all before (that of zlib)
@@ -103,7 +103,7 @@ static inline enum sfi_run_snapshot sfi_run_take(struct sfi_run_world *world, co
     uint32_t sandbox;
     if (room < size)
         return SFI_RUN_SNAPSHOT_NO_ROOM;
-    memcpy(bytes, "SFIS", 4);
+    memcpy(bytes, "SNAP", 4);
     sfi_run_put_word(bytes + 4, SFI_RUN_SNAPSHOT_VERSION);
     memcpy(bytes + 8, digest, 32);
     uint8_t *to = bytes + SFI_RUN_SNAPSHOT_HEAD;
@@ -145,7 +145,7 @@ static inline enum sfi_run_snapshot sfi_run_restore(struct sfi_run_world *world,
                                                     size_t length, uint64_t *steps) {
     struct sfi_run_region data;
     uint32_t sandbox;
-    if (length < SFI_RUN_SNAPSHOT_HEAD + SFI_RUN_SNAPSHOT_SUM || memcmp(bytes, "SFIS", 4) != 0 ||
+    if (length < SFI_RUN_SNAPSHOT_HEAD + SFI_RUN_SNAPSHOT_SUM || memcmp(bytes, "SNAP", 4) != 0 ||
         sfi_run_word_at(bytes + 4) != SFI_RUN_SNAPSHOT_VERSION ||
         sfi_run_word_at(bytes + length - SFI_RUN_SNAPSHOT_SUM) != sfi_run_sum(bytes, length - SFI_RUN_SNAPSHOT_SUM))
         return SFI_RUN_SNAPSHOT_BROKEN;

@@ -1,10 +1,10 @@
--- Where a mask of one step leads, and where an access on a register beside the data falls.
+-- Where a single mask leads, and where an access on a register beside the data falls.
 use Rattle.std.specs.Int.Bits.{bit_and, and_zero_r}
 use Rattle.std.proofs.Common.{◌*◌}
 use Rattle.std.specs.Prelude.{◌/◌}
 use Rattle.std.proofs.lemmas.Nat.{and_mask, and_block, mod_below, pow_pos, pow-add, div-add-mod'}
 use Rattle.std.proofs.Math.Pow.{pow-lt}
-use Rattle.sfi_formats.specs.Formats.{has_one_step}
+use Rattle.sfi_formats.specs.Formats.{has_single_mask}
 use Rattle.rv_word.specs.declared.instr.RegOp.TheVariants.{Add}
 use Rattle.rv_step.specs.Step.{result_of}
 use Rattle.sfi_image.specs.Parts.{IsRegion, IsOneBit}
@@ -12,7 +12,7 @@ use Rattle.sfi_image.specs.Spelling.{data_region, IsNearZero, InZoneAtZero, IsNe
 use Rattle.sfi_safe_runs.proofs.Accessing.{IsPlaced, IsWithin, near_access, one_address, stepped}
 use Rattle.sfi_safe_runs.proofs.Prelude.{◌≡◌, ℕ, suc, ◌+◌, ◌-◌, ◌%◌, ◌^◌, ◌<◌, ◌≤◌, ◌⊎◌, true, refl, sym, ap, ◌∙◌, subst, inl, inr, ⊎_elim, arith, cases_lt, ℤ, pos, negsuc, ◌+ℤ◌, ints, Contains, offset_by, address_after, addresses, word, Part, HasGuardRoom, IsRightPart, InData, InGuard, IsNear}
 
--- ==== What a mask of one step leaves: an address of the data, or one below their size.
+-- ==== What a single mask leaves: an address of the data, or one below their size.
 
 -- of a number a single bit is left, or none
 single_bit : (x m : ℕ) → (bit_and x (2 ^ m) ≡ 0) ⊎ (bit_and x (2 ^ m) ≡ 2 ^ m)
@@ -50,7 +50,7 @@ mask_leaves m k x =
     inr (record { from = omega arith; below = omega arith }))
     (single_bit (x / 2 ^ k) m)
 
--- the mask of one step leads below the size or into the data
+-- the single mask leads below the size or into the data
 pub one_step_masked : (base size least most x : ℕ) → IsRegion base size least most → IsOneBit base size
     → (bit_and x (base + size - 1) < size) ⊎ IsPlaced base size (bit_and x (base + size - 1))
 one_step_masked base size least most x region bit =
@@ -78,7 +78,7 @@ one_step_masked base size least most x region bit =
     (cases_lt j k)
 
 -- so it leads beside the data
-pub one_step_placed : (p : Part) (x far : ℕ) → IsRightPart p → has_one_step p.format ≡ true → IsNearIn p.format (data_region p) far (bit_and x (p.data_base + p.data_size - 1))
+pub one_step_placed : (p : Part) (x far : ℕ) → IsRightPart p → has_single_mask p.format ≡ true → IsNearIn p.format (data_region p) far (bit_and x (p.data_base + p.data_size - 1))
 one_step_placed p x far right one =
     ⊎_elim
     (λ (below : bit_and x (p.data_base + p.data_size - 1) < p.data_size). inr (one, inl (omega arith)))

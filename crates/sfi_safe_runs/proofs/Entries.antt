@@ -1,6 +1,6 @@
 -- Where sandboxes are entered: what the formats ask, and that a right layout has it.
-use Rattle.sfi_formats.specs.Formats.{has_stack, is_data_register, is_data_register_in, has_one_step}
-use Rattle.sfi_formats.proofs.Formats.{one_step_in_words}
+use Rattle.sfi_formats.specs.Formats.{has_stack, is_data_register, is_data_register_in, has_single_mask}
+use Rattle.sfi_formats.proofs.Formats.{single_in_words}
 use Rattle.sfi_image.specs.Parts.{IsBundleStart, data_mask_of, reserved_of}
 use Rattle.sfi_image.specs.Spelling.{data_region, InZoneAtZero, IsNearIn}
 use Rattle.sfi_image.specs.declared.reserved.Reserved.{Reserved}
@@ -15,7 +15,7 @@ use Rattle.sfi_image.proofs.Facts.{code_ends}
 use Rattle.std.specs.Prelude.{replicate}
 use Rattle.rv_step.proofs.States.{register_is}
 use Rattle.sfi_formats.specs.Limits.{slack}
-use Rattle.sfi_safe_runs.proofs.Prelude.{◌≡◌, ℕ, ◌%◌, List, true, false, refl, sym, ap, ◌∙◌, false≢true, Part, IsUnitStart, IsTyped, Format, Sfi1, Sfi2, Sfiw, ◌≢◌, zero, suc, ◌+◌, ◌-◌, ◌^◌, ◌<◌, ◌≤◌, ◌==◌, ◌⊎◌, Bool, cond, [], ◌∷◌, length, Option, Some, None, inl, inr, ⊎_elim, cases_lt, subst, arith, slice_index, Bytes, IsMemory, byte_at, AreApart, code_region, guarded_region, IsRightPart, Hart, IsHart, InGuard, HasReserved, IsEntry, CanBeEntered, ◌||◌, or_cases, eqb-true, with_register, unit, has_words, InData, IsNear, IsWordStart}
+use Rattle.sfi_safe_runs.proofs.Prelude.{◌≡◌, ℕ, ◌%◌, List, true, false, refl, sym, ap, ◌∙◌, false≢true, Part, IsUnitStart, IsTyped, Format, Sfi1, Sfi2, Sfiw, Sfis, ◌≢◌, zero, suc, ◌+◌, ◌-◌, ◌^◌, ◌<◌, ◌≤◌, ◌==◌, ◌⊎◌, Bool, cond, [], ◌∷◌, length, Option, Some, None, inl, inr, ⊎_elim, cases_lt, subst, arith, slice_index, Bytes, IsMemory, byte_at, AreApart, code_region, guarded_region, IsRightPart, Hart, IsHart, InGuard, HasReserved, IsEntry, CanBeEntered, ◌||◌, or_cases, eqb-true, with_register, unit, has_words, InData, IsNear, IsWordStart}
 use Rattle.sfi_image.specs.declared.span.Span.{Span}
 
 -- ==== What the formats ask.
@@ -25,17 +25,20 @@ pub bundles : (f : Format) → has_words f ≡ false → unit f ≡ 16
 bundles Sfi1 none = refl
 bundles Sfi2 none = refl
 bundles Sfiw none = absurd (false≢true (sym none))
+bundles Sfis none = absurd (false≢true (sym none))
 
 -- that in words is in words of 4 bytes, and has no stack pointer
 pub words : (f : Format) → has_words f ≡ true → unit f ≡ 4
 words Sfi1 has = absurd (false≢true has)
 words Sfi2 has = absurd (false≢true has)
 words Sfiw has = refl
+words Sfis has = refl
 
 no_stack : (f : Format) → has_words f ≡ true → has_stack f ≡ true → ⊥
 no_stack Sfi1 has stack = false≢true has
 no_stack Sfi2 has stack = false≢true has
 no_stack Sfiw has stack = false≢true stack
+no_stack Sfis has stack = false≢true stack
 
 pub to_word : (p : Part) (a : ℕ) → has_words p.format ≡ true → IsUnitStart p a → IsWordStart (code_region p) a
 to_word p a has start = record { held = start.held; aligned = ap (λ (u : ℕ). a % u) (sym (words p.format has)) ∙ start.aligned }
@@ -55,18 +58,18 @@ of_bundle p a none start = record { held = start.held; aligned = ap (λ (u : ℕ
 pub of_stack : (p : Part) (registers : List ℕ) → has_words p.format ≡ false → StackInData p registers → IsTyped p registers
 of_stack p registers none stack = record { stack = stack; words = λ has. absurd (false≢true (sym none ∙ has)) }
 
--- code in bundles has no masks of one step
-pub bundles_two_steps : (f : Format) → has_words f ≡ false → has_one_step f ≡ false
-bundles_two_steps f none = by (has_one_step f) refl
+-- code in bundles has no single masks
+pub bundles_two_steps : (f : Format) → has_words f ≡ false → has_single_mask f ≡ false
+bundles_two_steps f none = by (has_single_mask f) refl
   where
-    by : (one : Bool) → has_one_step f ≡ one → has_one_step f ≡ false
-    by true e = absurd (false≢true (sym none ∙ one_step_in_words f e))
+    by : (one : Bool) → has_single_mask f ≡ one → has_single_mask f ≡ false
+    by true e = absurd (false≢true (sym none ∙ single_in_words f e))
     by false e = e
 
-pub two_step_mask : (f : Format) (s : Span) → has_one_step f ≡ false → data_mask_of f s ≡ s.size - 1
+pub two_step_mask : (f : Format) (s : Span) → has_single_mask f ≡ false → data_mask_of f s ≡ s.size - 1
 two_step_mask f s two = rw two refl
 
-pub one_step_mask : (f : Format) (s : Span) → has_one_step f ≡ true → data_mask_of f s ≡ s.base + s.size - 1
+pub one_step_mask : (f : Format) (s : Span) → has_single_mask f ≡ true → data_mask_of f s ≡ s.base + s.size - 1
 one_step_mask f s one = rw one refl
 
 same_reserved : (p : Part) (u mask : ℕ) → unit p.format ≡ u → data_mask_of p.format (data_region p) ≡ mask
@@ -204,15 +207,17 @@ pub some_unit : (f : Format) → 4 ≤ unit f
 some_unit Sfi1 = omega arith
 some_unit Sfi2 = omega arith
 some_unit Sfiw = omega arith
+some_unit Sfis = omega arith
 
 -- and begins at an even address
 pub even_unit : (f : Format) (a : ℕ) → a % unit f ≡ 0 → a % 2 ≡ 0
 even_unit Sfi1 a even = omega arith
 even_unit Sfi2 a even = omega arith
 even_unit Sfiw a even = omega arith
+even_unit Sfis a even = omega arith
 
--- a data register is one of four, or one of two more where masks have one step
-pub data_register : (f : Format) (d : ℕ) → is_data_register_in f d ≡ true → (d ≡ 2) ⊎ ((d ≡ 3) ⊎ ((d ≡ 4) ⊎ ((d ≡ 29) ⊎ ((has_one_step f ≡ true) × ((d ≡ 26) ⊎ (d ≡ 31))))))
+-- a data register is one of four, or one of two more where masks are single
+pub data_register : (f : Format) (d : ℕ) → is_data_register_in f d ≡ true → (d ≡ 2) ⊎ ((d ≡ 3) ⊎ ((d ≡ 4) ⊎ ((d ≡ 29) ⊎ ((has_single_mask f ≡ true) × ((d ≡ 26) ⊎ (d ≡ 31))))))
 data_register f d is =
     ⊎_elim
     (λ (four : is_data_register d ≡ true). ⊎_elim
@@ -222,22 +227,22 @@ data_register f d is =
     (or_cases ((d == 2) || (d == 3)) (d == 4) e))
     (λ (e : (d == 29) ≡ true). inr (inr (inr (inl (eqb-true d 29 e)))))
     (or_cases ((d == 2) || (d == 3) || (d == 4)) (d == 29) four))
-    (λ (two : (((d == 26) || (d == 31)) && has_one_step f) ≡ true).
-    let both = and_parts ((d == 26) || (d == 31)) (has_one_step f) two in
+    (λ (two : (((d == 26) || (d == 31)) && has_single_mask f) ≡ true).
+    let both = and_parts ((d == 26) || (d == 31)) (has_single_mask f) two in
     inr (inr (inr (inr (both.1, ⊎_elim (λ (e : (d == 26) ≡ true). inl (eqb-true d 26 e)) (λ (e : (d == 31) ≡ true). inr (eqb-true d 31 e)) (or_cases (d == 26) (d == 31) both.0))))))
-    (or_cases (is_data_register d) (((d == 26) || (d == 31)) && has_one_step f) is)
+    (or_cases (is_data_register d) (((d == 26) || (d == 31)) && has_single_mask f) is)
 
 -- where these lie beside the data, each data register does
 pub each_beside : (f : Format) (data_at : Span) (registers : List ℕ)
     → IsNearIn f data_at slack (slice_index registers 2) → IsNearIn f data_at slack (slice_index registers 3) → IsNearIn f data_at slack (slice_index registers 4) → IsNearIn f data_at slack (slice_index registers 29)
-    → (has_one_step f ≡ true → IsNearIn f data_at slack (slice_index registers 26)) → (has_one_step f ≡ true → IsNearIn f data_at slack (slice_index registers 31))
+    → (has_single_mask f ≡ true → IsNearIn f data_at slack (slice_index registers 26)) → (has_single_mask f ≡ true → IsNearIn f data_at slack (slice_index registers 31))
     → (d : ℕ) → is_data_register_in f d ≡ true → IsNearIn f data_at slack (slice_index registers d)
 each_beside f data_at registers second third fourth last base offset d is = by (data_register f d is)
   where
     at : {r : ℕ} → d ≡ r → IsNearIn f data_at slack (slice_index registers r) → IsNearIn f data_at slack (slice_index registers d)
     at e beside = subst (λ (x : ℕ). IsNearIn f data_at slack (slice_index registers x)) (sym e) beside
 
-    by : (d ≡ 2) ⊎ ((d ≡ 3) ⊎ ((d ≡ 4) ⊎ ((d ≡ 29) ⊎ ((has_one_step f ≡ true) × ((d ≡ 26) ⊎ (d ≡ 31)))))) → IsNearIn f data_at slack (slice_index registers d)
+    by : (d ≡ 2) ⊎ ((d ≡ 3) ⊎ ((d ≡ 4) ⊎ ((d ≡ 29) ⊎ ((has_single_mask f ≡ true) × ((d ≡ 26) ⊎ (d ≡ 31)))))) → IsNearIn f data_at slack (slice_index registers d)
     by (inl e) = at e second
     by (inr (inl e)) = at e third
     by (inr (inr (inl e))) = at e fourth
@@ -273,9 +278,9 @@ entry p at =
 
 -- the mask has 32 bits
 pub mask_fits : (p : Part) → p.data_base + p.data_size + 4096 ≤ 2 ^ 32 → data_mask_of p.format (data_region p) < 2 ^ 32
-mask_fits p above = by (has_one_step p.format) refl
+mask_fits p above = by (has_single_mask p.format) refl
   where
-    by : (one : Bool) → has_one_step p.format ≡ one → data_mask_of p.format (data_region p) < 2 ^ 32
+    by : (one : Bool) → has_single_mask p.format ≡ one → data_mask_of p.format (data_region p) < 2 ^ 32
     by true e = let is = one_step_mask p.format (data_region p) e in omega arith
     by false e = let is = two_step_mask p.format (data_region p) e in omega arith
 

@@ -26,5 +26,5 @@ pub use Rattle.sfi_safe_runs.specs.Runs.{InData, InGuard, IsUnitStart, IsGate, H
 pub use Rattle.sfi_safe_runs.specs.Safety.{IsSafeRun, RunsSafelyFrom, RunsSafely, IsSafeStep, IsTrap, IsSafeState, IsSafeTurn}
 pub use Rattle.sfi_safe_runs.specs.Calling.{after_turns, CallsTyped, KeepsAll}
 pub use Rattle.sfi_formats.specs.declared.format.Format.{Format}
-pub use Rattle.sfi_formats.specs.declared.format.Format.TheVariants.{Sfi1, Sfi2, Sfiw}
+pub use Rattle.sfi_formats.specs.declared.format.Format.TheVariants.{Sfi1, Sfi2, Sfiw, Sfis}
 pub use Rattle.sfi_formats.specs.Formats.{unit, has_words}

@@ -1,8 +1,8 @@
 -- What a step keeps, and what stands where the machine reads.
 use Rattle.sfi_safe_runs.proofs.Prelude.{◌≡◌, ◌≢◌, ℕ, suc, ◌+◌, ◌<◌, ◌≤◌, ◌⊎◌, List, [], ◌∷◌, length, map, Option, Some, None, Bool, true, false, cond, ◌==◌, refl, sym, ap, ◌∙◌, subst, inl, inr, ⊎_elim, arith, add-zero, slice_index, slice_get, is_some, IsSome, range_with_len, or_cases, eqb-true, false≢true, offset_by, Instr, Load, Store, LoadKind, Bytes, byte_at, bytes_at, addresses, loaded, Next, Call, Trap, Outcome, Accesses, Hart, State, register, Stepped, Stands, IsStep, effect, after_load, next, unchanged, load_size, store_size, Gate, Part, Holds, AreApart, code_region, guarded_region, IsRightPart, is_gate_of, InData, InGuard, IsGate, HasCode, HasEmptyGuards, IsTrap, address_after, IsSafeState}
 use Rattle.sfi_formats.specs.declared.format.Format.{Format}
-use Rattle.sfi_formats.specs.declared.format.Format.TheVariants.{Sfi1, Sfi2, Sfiw}
-use Rattle.sfi_formats.specs.Formats.{has_words, has_one_step}
+use Rattle.sfi_formats.specs.declared.format.Format.TheVariants.{Sfi1, Sfi2, Sfiw, Sfis}
+use Rattle.sfi_formats.specs.Formats.{has_words, has_single_mask}
 use Rattle.rv_step.specs.declared.outcome.Cause.TheVariants as cause
 use Rattle.rv_step.proofs.Facts.{one_instruction, step_is_effect, other_bytes_stay, accessed_is_there, stopped_stays}
 use Rattle.std.specs.Prelude.{take, drop}
@@ -39,27 +39,28 @@ gate_of (g ∷ gates) a h =
 -- the guard zones may hold bytes where there is no zone at zero
 abbrev pub MayBePadded : Zones → Part → Type 0
 MayBePadded Empty p = Unit {0}
-MayBePadded Padded p = has_one_step p.format ≡ false
+MayBePadded Padded p = has_single_mask p.format ≡ false
 
 -- code in bundles has none
-pub two_steps_in_bundles : (f : Format) → has_words f ≡ false → has_one_step f ≡ false
+pub two_steps_in_bundles : (f : Format) → has_words f ≡ false → has_single_mask f ≡ false
 two_steps_in_bundles Sfi1 bundles = refl
 two_steps_in_bundles Sfi2 bundles = refl
 two_steps_in_bundles Sfiw bundles = absurd (false≢true (sym bundles))
+two_steps_in_bundles Sfis bundles = absurd (false≢true (sym bundles))
 
 pub bundles_may_be : (z : Zones) (p : Part) → has_words p.format ≡ false → MayBePadded z p
 bundles_may_be Empty p bundles = tt
 bundles_may_be Padded p bundles = two_steps_in_bundles p.format bundles
 
 -- where there is no zone at zero, the data and the guard zones are one span
-pub guarded : (p : Part) (a : ℕ) → has_one_step p.format ≡ false → IsRightPart p → InData p a ⊎ InGuard p a → Holds (guarded_region p) a
+pub guarded : (p : Part) (a : ℕ) → has_single_mask p.format ≡ false → IsRightPart p → InData p a ⊎ InGuard p a → Holds (guarded_region p) a
 guarded p a two_steps right (inl (from, below)) = let room : 4096 ≤ p.data_base = right.guard_room.below in (omega arith, omega arith)
 guarded p a two_steps right (inr (inl (inl (from, below)))) = let room : 4096 ≤ p.data_base = right.guard_room.below in (omega arith, omega arith)
 guarded p a two_steps right (inr (inl (inr (from, below)))) = let room : 4096 ≤ p.data_base = right.guard_room.below in (omega arith, omega arith)
 guarded p a two_steps right (inr (inr zone)) = absurd (false≢true (sym two_steps ∙ zone.0))
 
 -- what lies in the zone at zero lies in neither region
-zone_apart : (p : Part) (a : ℕ) → IsRightPart p → has_one_step p.format ≡ true → InZoneAtZero p.data_size a → (Holds (code_region p) a → ⊥) × (Holds (data_region p) a → ⊥)
+zone_apart : (p : Part) (a : ℕ) → IsRightPart p → has_single_mask p.format ≡ true → InZoneAtZero p.data_size a → (Holds (code_region p) a → ⊥) × (Holds (data_region p) a → ⊥)
 zone_apart p a right one_step (inl low) =
     let clear = right.zone_room one_step in
     let code = clear.code_above in

@@ -1,7 +1,7 @@
 -- Runs of a sandbox: its addresses, its typed registers, and what may happen to it.
 use Rattle.std.specs.Prelude.{◌≡◌, ◌+◌, ◌<◌, ℕ, List, length, take, drop, slice_get, slice_index, Some, None, ◌≤◌, true, false, [], ◌∷◌, Option}
 use Rattle.std.specs.List.{Contains}
-use Rattle.sfi_formats.specs.Formats.{code_base_register, code_mask_register, data_base_register, data_mask_register, stack_pointer, is_data_register_in, code_register, offset_register, unit, has_stack, has_words, has_one_step}
+use Rattle.sfi_formats.specs.Formats.{code_base_register, code_mask_register, data_base_register, data_mask_register, stack_pointer, is_data_register_in, code_register, offset_register, unit, has_stack, has_words, has_single_mask}
 use Rattle.sfi_formats.specs.declared.format.Format.{Format}
 use Rattle.sfi_image.specs.declared.part.Gate.{Gate}
 use Rattle.sfi_image.specs.declared.span.Span.{Span}
@@ -27,7 +27,7 @@ abbrev pub InData : Part → ℕ → Type 0
 InData p a = Holds (data_region p) a
 
 -- the address is one of the guard zones, on each side of the data, or of the zone at zero, where masks
--- have one step
+-- are single
 abbrev pub InGuard : Part → ℕ → Type 0
 InGuard p a = InZones p.format (data_region p) a
 
@@ -53,16 +53,16 @@ StackInData p registers = has_stack p.format ≡ true → InData p (slice_index 
 -- ---- of code in words
 
 -- Each typed register of code in words of this format holds what its type says, in a sandbox with these
--- regions: a data register an address in the data or near them, or where masks have one step near zero.
+-- regions: a data register an address in the data or near them, or where masks are single near zero.
 pub record AreWordsTyped (f : Format) (code_at data_at : Span) (registers : List ℕ) : Type 0 where
   pub each_data : (d : ℕ) → is_data_register_in f d ≡ true → IsNearIn f data_at slack (slice_index registers d)
   pub code : IsWordStart code_at (slice_index registers code_register)
-  pub offset : has_one_step f ≡ false → slice_index registers offset_register < data_at.size
+  pub offset : has_single_mask f ≡ false → slice_index registers offset_register < data_at.size
 
 -- ---- of any format
 
 -- The typed registers of its format hold what their types say: x2 lies in the data region where it is
--- a stack pointer, and in words six registers are typed, or one more where masks have one step. The first
+-- a stack pointer, and in words six registers are typed, or one more where masks are single. The first
 -- format has none, so nothing is asked.
 pub record IsTyped (p : Part) (registers : List ℕ) : Type 0 where
   pub stack : StackInData p registers
@@ -175,7 +175,7 @@ pub record KeepsBytesAs (t : Setting) (p : Part) (before after : Bytes) : Type 0
 pub record KeepsReserved (f : Format) (before after : Hart) : Type 0 where
   pub code_base : register after code_base_register ≡ register before code_base_register
   pub code_mask : register after code_mask_register ≡ register before code_mask_register
-  pub data_base : has_one_step f ≡ false
+  pub data_base : has_single_mask f ≡ false
       → register after data_base_register ≡ register before data_base_register
   pub data_mask : register after data_mask_register ≡ register before data_mask_register
 

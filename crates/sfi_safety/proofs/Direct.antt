@@ -1,5 +1,5 @@
 -- Runs with direct gates are as runs of the image's own code, in a memory in which the springboards' bytes are the image's: each turn is one there.
-use Rattle.sfi_safety.proofs.Prelude.{◌≡◌, ℕ, zero, suc, ◌+◌, ◌-◌, ◌%◌, ◌^◌, ◌<◌, ◌≤◌, ◌⊎◌, List, [], ◌∷◌, length, refl, sym, ap, ◌∙◌, subst, inl, inr, ⊎_elim, cases_lt, arith, Option, Some, None, All, unit, Format, Sfi1, Sfi2, Sfiw, Instr, Ecall, Next, Call, Trap, Outcome, Accesses, address_after, Hart, State, Stepped, Stands, IsStep, unchanged, Part, Gate, IsRightPart, IsBundleStart, AreApart, code_region, guarded_region, InData, InGuard, InCode, IsGate, IsUnitStart, HasCode, IsTyped, Bytes, byte_at, Turn, Steps, Replies, Changes, after_step, after_turn, after_turns, IsSafeState}
+use Rattle.sfi_safety.proofs.Prelude.{◌≡◌, ℕ, zero, suc, ◌+◌, ◌-◌, ◌%◌, ◌^◌, ◌<◌, ◌≤◌, ◌⊎◌, List, [], ◌∷◌, length, refl, sym, ap, ◌∙◌, subst, inl, inr, ⊎_elim, cases_lt, arith, Option, Some, None, All, unit, Format, Sfi1, Sfi2, Sfiw, Sfis, Instr, Ecall, Next, Call, Trap, Outcome, Accesses, address_after, Hart, State, Stepped, Stands, IsStep, unchanged, Part, Gate, IsRightPart, IsBundleStart, AreApart, code_region, guarded_region, InData, InGuard, InCode, IsGate, IsUnitStart, HasCode, IsTyped, Bytes, byte_at, Turn, Steps, Replies, Changes, after_step, after_turn, after_turns, IsSafeState}
 use Rattle.std.specs.Prelude.{IfSome, slice_get}
 use Rattle.rv_step.specs.Laws.{AgreeHere, IsSameStep}
 use Rattle.rv_comp.specs.declared.front.Front.TheVariants.{Read}
@@ -20,6 +20,7 @@ unit_is : (f : Format) → (unit f ≡ 16) ⊎ (unit f ≡ 4)
 unit_is Sfi1 = inl refl
 unit_is Sfi2 = inl refl
 unit_is Sfiw = inr refl
+unit_is Sfis = inr refl
 
 -- what is less than a unit past pc, in pc's own, lies in no unit that begins after pc
 same_unit : (u pc k gate : ℕ) → (u ≡ 16) ⊎ (u ≡ 4) → gate % u ≡ 0 → pc % u + k < u → gate ≤ pc + k → pc + k < gate + 4 → gate ≤ pc

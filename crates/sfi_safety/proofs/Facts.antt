@@ -1,12 +1,12 @@
 -- What holds of every sandbox without a finding, and that each rule is needed: the laws, for proofs here and in the crates above.
-use Rattle.std.specs.Prelude.{◌≡◌, false}
+use Rattle.std.specs.Prelude.{◌≡◌, false, true}
 use Rattle.sfi_formats.specs.declared.format.Format.{Format}
 use Rattle.sfi_formats.specs.Formats.{has_words}
 use Rattle.sfi_rules.specs.declared.rule.Rule.TheVariants.{V1, V2, V3, V4, V5, V6, V7, V8, V9, V10, V11, V12}
 use Rattle.sfi_safety.specs.Laws.{InstructionLeaves, TurnKeeps, EntryIsGood, CleanRunsSafely, CleanCallsTyped, CleanRunsSafelyAs, CleanCallsTypedAs}
 use Rattle.sfi_safety.specs.Needed.{IsNeeded, EachRuleIsNeeded, EachRuleOfWordsIsNeeded, IsStricter, IsAcceptedAndRuns}
 use Rattle.sfi_safety.specs.Samples.{sandbox, undecodable, crossing_store, ecall_at_no_gate, written_rd_forgotten, pair_on_x0, pair_across_bundles, jalr_offset_ignored, jump_to_any_start, running_off_the_end, gate_comes_back_elsewhere, stack_not_put_back, undecodable_after_ebreak, crossing_after_ebreak, ecall_after_ebreak, nops_after_ebreak, sandboxed_store}
-use Rattle.sfi_safety.specs.WordSamples.{undecodable_word, crossing_words, ecall_in_words, data_base_written, untyped_base, jump_past_its_register, jump_out, nop_at_the_end, data_register_not_put_back, code_register_not_put_back, offset_not_masked, stored_in_words}
+use Rattle.sfi_safety.specs.WordSamples.{undecodable_word, crossing_words, ecall_in_words, code_base_written, untyped_base, jump_past_its_register, jump_out, nop_at_the_end, data_register_not_put_back, code_register_not_put_back, offset_not_masked, stored_in_words}
 use Rattle.sfi_safety.proofs.Needed as needed
 use Rattle.sfi_safety.proofs.NeededWords as words
 use Rattle.sfi_safety.proofs.Sandboxed as sandboxed
@@ -79,34 +79,34 @@ gate_comes_back_elsewhere_is_unsafe = needed.gate_comes_back_elsewhere_unsafe
 pub stack_not_put_back_is_unsafe : IsNeeded V10 0x01000000 (sandbox stack_not_put_back)
 stack_not_put_back_is_unsafe = needed.stack_not_put_back_unsafe
 
-pub undecodable_word_is_unsafe : IsNeeded V1 0x01000000 (sandbox undecodable_word)
+pub undecodable_word_is_unsafe : (f : Format) → has_words f ≡ true → IsNeeded V1 0x01000000 (sandbox (undecodable_word f))
 undecodable_word_is_unsafe = words.undecodable_word_unsafe
 
-pub crossing_words_is_unsafe : IsNeeded V2 0x01000002 (sandbox crossing_words)
+pub crossing_words_is_unsafe : (f : Format) → has_words f ≡ true → IsNeeded V2 0x01000002 (sandbox (crossing_words f))
 crossing_words_is_unsafe = words.crossing_words_unsafe
 
-pub ecall_in_words_is_unsafe : IsNeeded V3 0x01000000 (sandbox ecall_in_words)
+pub ecall_in_words_is_unsafe : (f : Format) → has_words f ≡ true → IsNeeded V3 0x01000000 (sandbox (ecall_in_words f))
 ecall_in_words_is_unsafe = words.ecall_in_words_unsafe
 
-pub data_base_written_is_unsafe : IsNeeded V4 0x01000000 (sandbox data_base_written)
-data_base_written_is_unsafe = words.data_base_written_unsafe
+pub code_base_written_is_unsafe : (f : Format) → has_words f ≡ true → IsNeeded V4 0x01000000 (sandbox (code_base_written f))
+code_base_written_is_unsafe = words.code_base_written_unsafe
 
-pub untyped_base_is_unsafe : IsNeeded V5 0x01000000 (sandbox untyped_base)
+pub untyped_base_is_unsafe : (f : Format) → has_words f ≡ true → IsNeeded V5 0x01000000 (sandbox (untyped_base f))
 untyped_base_is_unsafe = words.untyped_base_unsafe
 
-pub jump_past_its_register_is_unsafe : IsNeeded V6 0x01000000 (sandbox jump_past_its_register)
+pub jump_past_its_register_is_unsafe : (f : Format) → has_words f ≡ true → IsNeeded V6 0x01000000 (sandbox (jump_past_its_register f))
 jump_past_its_register_is_unsafe = words.jump_past_its_register_unsafe
 
-pub jump_out_is_unsafe : IsNeeded V7 0x01000000 (sandbox jump_out)
+pub jump_out_is_unsafe : (f : Format) → has_words f ≡ true → IsNeeded V7 0x01000000 (sandbox (jump_out f))
 jump_out_is_unsafe = words.jump_out_unsafe
 
-pub nop_at_the_end_is_unsafe : IsNeeded V8 0x010000fc (sandbox nop_at_the_end)
+pub nop_at_the_end_is_unsafe : (f : Format) → has_words f ≡ true → IsNeeded V8 0x010000fc (sandbox (nop_at_the_end f))
 nop_at_the_end_is_unsafe = words.nop_at_the_end_unsafe
 
-pub data_register_not_put_back_is_unsafe : IsNeeded V10 0x01000004 (sandbox data_register_not_put_back)
+pub data_register_not_put_back_is_unsafe : (f : Format) → has_words f ≡ true → IsNeeded V10 0x01000004 (sandbox (data_register_not_put_back f))
 data_register_not_put_back_is_unsafe = words.data_register_not_put_back_unsafe
 
-pub code_register_not_put_back_is_unsafe : IsNeeded V11 0x01000000 (sandbox code_register_not_put_back)
+pub code_register_not_put_back_is_unsafe : (f : Format) → has_words f ≡ true → IsNeeded V11 0x01000000 (sandbox (code_register_not_put_back f))
 code_register_not_put_back_is_unsafe = words.code_register_not_put_back_unsafe
 
 pub offset_not_masked_is_unsafe : IsNeeded V12 0x01000000 (sandbox offset_not_masked)
@@ -129,5 +129,5 @@ nops_after_ebreak_is_safe = stricter.nops_stricter
 pub sandboxed_store_is_accepted : IsAcceptedAndRuns (sandbox sandboxed_store)
 sandboxed_store_is_accepted = sandboxed.accepted_and_runs
 
-pub stored_in_words_is_accepted : IsAcceptedAndRuns (sandbox stored_in_words)
+pub stored_in_words_is_accepted : (f : Format) → has_words f ≡ true → IsAcceptedAndRuns (sandbox (stored_in_words f))
 stored_in_words_is_accepted = sandboxed.accepted_words_run

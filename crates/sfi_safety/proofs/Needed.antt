@@ -1,5 +1,5 @@
 -- The rules that the samples break are needed, and so is each.
-use Rattle.sfi_safety.proofs.Prelude.{◌≡◌, ◌≢◌, ℕ, zero, suc, ◌+◌, ◌*◌, ◌<◌, ◌≤◌, ◌==◌, ◌||◌, List, [], ◌∷◌, length, take, drop, Some, false, refl, sym, ap, ◌∙◌, subst, inl, inr, arith, get_or-take, pos, slice_index, All, ints, Instr, And, Or, Sw, Op, Store, Jalr, Ecall, Ebreak, spelling, InRange, Spells, Bytes, Stands, unchanged, Call, is_gate_of, IsBundleStart, AreGateWords, bundle_place, bundle_bytes, HasCode, Steps, Replies, IsReply, IsEntry, IsNeeded, HasUnsafeRun, Hart, Finding, Format, has_words, CAddi, Sample, sandbox, nop, undecodable, crossing_store, running_off_the_end, gate_comes_back_elsewhere, V1, V2, V8, V9, add-zero, OpImm, Jal, minus, Sfi1, Sfi2, Piece, IsGate, BreaksAloneInBundle, EachRuleIsNeeded, Sfiw, false≢true, Addi, BreaksAlone, Rule, V3, V4, V5, V6, V7, V10, V11, V12}
+use Rattle.sfi_safety.proofs.Prelude.{◌≡◌, ◌≢◌, ℕ, zero, suc, ◌+◌, ◌*◌, ◌<◌, ◌≤◌, ◌==◌, ◌||◌, List, [], ◌∷◌, length, take, drop, Some, false, refl, sym, ap, ◌∙◌, subst, inl, inr, arith, get_or-take, pos, slice_index, All, ints, Instr, And, Or, Sw, Op, Store, Jalr, Ecall, Ebreak, spelling, InRange, Spells, Bytes, Stands, unchanged, Call, is_gate_of, IsBundleStart, AreGateWords, bundle_place, bundle_bytes, HasCode, Steps, Replies, IsReply, IsEntry, IsNeeded, HasUnsafeRun, Hart, Finding, Format, has_words, CAddi, Sample, sandbox, nop, undecodable, crossing_store, running_off_the_end, gate_comes_back_elsewhere, V1, V2, V8, V9, add-zero, OpImm, Jal, minus, Sfi1, Sfi2, Piece, IsGate, BreaksAloneInBundle, EachRuleIsNeeded, Sfiw, Sfis, false≢true, Addi, BreaksAlone, Rule, V3, V4, V5, V6, V7, V10, V11, V12}
 use Rattle.sfi_formats.specs.Limits.{service_most}
 use Rattle.sfi_safe_runs.proofs.Stepping.{two_steps_in_bundles}
 use Rattle.sfi_pairs.specs.Pairs.{stub}
@@ -359,5 +359,6 @@ each_rule f bundles V9 below stack = (0x01000000, sandbox (gate_comes_back_elsew
 each_rule Sfi1 bundles V10 below stack = absurd (false≢true (stack refl))
 each_rule Sfi2 bundles V10 below stack = (0x01000000, sandbox stack_not_put_back, refl, stack_not_put_back_unsafe)
 each_rule Sfiw bundles V10 below stack = absurd (false≢true (stack refl))
+each_rule Sfis bundles V10 below stack = absurd (false≢true (stack refl))
 each_rule f bundles V11 below stack = absurd (omega (arith, below))
 each_rule f bundles V12 below stack = absurd (omega (arith, below))

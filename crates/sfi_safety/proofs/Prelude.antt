@@ -18,7 +18,7 @@ pub use Rattle.rv_step.specs.State.{Hart, with_register, State, register, with_p
 pub use Rattle.rv_step.specs.declared.outcome.Outcome.TheVariants.{Next, Call, Trap}
 pub use Rattle.sfi_formats.specs.Formats.{code_most, data_most, has_stack, has_words, is_stack, unit, is_reserved}
 pub use Rattle.sfi_formats.specs.declared.format.Format.{Format}
-pub use Rattle.sfi_formats.specs.declared.format.Format.TheVariants.{Sfi1, Sfi2, Sfiw}
+pub use Rattle.sfi_formats.specs.declared.format.Format.TheVariants.{Sfi1, Sfi2, Sfiw, Sfis}
 pub use Rattle.sfi_image.specs.Parts.{is_gate_of, AreGates, IsRightPart, AreRight, IsRightLayout, AreOf, IsBundleStart, HasReserved}
 pub use Rattle.sfi_image.specs.Spelling.{code_region, AreApart, guarded_region, Part}
 pub use Rattle.sfi_image.specs.Numbers.{AreGateWords}

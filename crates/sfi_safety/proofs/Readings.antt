@@ -11,7 +11,7 @@ use Rattle.rv_word.specs.declared.length.Length.TheVariants.{Wide, Longer}
 use Rattle.std.specs.Int.{w16, from_le_bytes}
 use Rattle.std.proofs.Common.{take-append-drop}
 use Rattle.rv_word.proofs.Facts.{spellings_are_wide}
-use Rattle.sfi_safety.proofs.Prelude.{Format, Sfi1, Sfi2, Sfiw, Gate, is_gate_of, ◌≡◌, ℕ, suc, ◌+◌, ◌-◌, ◌*◌, ◌≤◌, List, [], ◌∷◌, ◌++◌, length, take, drop, true, false, refl, sym, ap, ◌∙◌, subst, inr, arith, get_or-take, false≢true, append-nil, Instr, Ebreak, spelling, InRange, Spells, OpImm, BundlePlace, Finding, bundle_place, bundle_bytes, Piece, IsReading, IsLongestReading, rest_of, is_empty, findings_from, rest_finding, AreBundleFindings, AreFindingsOfFirst, AreFindingsInBundles, Op, Store, pos, nat_lt, ◌&&◌, and_parts, ltb-true, ints, Ecall, Jalr, has_words, filter, breaks, all_rules, Addi, RegOp, Rule, w32, to_le_bytes, length-take, ◌<◌, inl, IsWordOf}
+use Rattle.sfi_safety.proofs.Prelude.{Format, Sfi1, Sfi2, Sfiw, Sfis, Gate, is_gate_of, ◌≡◌, ℕ, suc, ◌+◌, ◌-◌, ◌*◌, ◌≤◌, List, [], ◌∷◌, ◌++◌, length, take, drop, true, false, refl, sym, ap, ◌∙◌, subst, inr, arith, get_or-take, false≢true, append-nil, Instr, Ebreak, spelling, InRange, Spells, OpImm, BundlePlace, Finding, bundle_place, bundle_bytes, Piece, IsReading, IsLongestReading, rest_of, is_empty, findings_from, rest_finding, AreBundleFindings, AreFindingsOfFirst, AreFindingsInBundles, Op, Store, pos, nat_lt, ◌&&◌, and_parts, ltb-true, ints, Ecall, Jalr, has_words, filter, breaks, all_rules, Addi, RegOp, Rule, w32, to_le_bytes, length-take, ◌<◌, inl, IsWordOf}
 
 -- ==== What the samples' bundles are read as, and the findings of a sample.
 
@@ -148,6 +148,7 @@ module _ (format : Format) (gates : List Gate) (a b c d e f g h i j k l : ℕ) (
   in_each n Sfi1 one two three = one
   in_each n Sfi2 one two three = two
   in_each n Sfiw one two three = three
+  in_each n Sfis one two three = three
 
   pub quiet : (n : ℕ) → bytes_of (words_of (Ebreak ∷ Ebreak ∷ Ebreak ∷ Ebreak ∷ [])) ≡ bundle_bytes (sandbox s) (suc n) → IsQuiet (suc n) Sfi1 → IsQuiet (suc n) Sfi2 → IsQuiet (suc n) Sfiw
       → AreBundleFindings (bundle_place 0 (sandbox s) (suc n)) (bundle_bytes (sandbox s) (suc n)) []

@@ -1,6 +1,6 @@
 -- The samples: their layout, their image, where they are entered, and their steps.
-use Rattle.sfi_safety.proofs.Prelude.{◌≡◌, ℕ, zero, suc, ◌+◌, ◌-◌, ◌*◌, ◌%◌, ◌^◌, ◌<◌, ◌≤◌, ◌⊎◌, List, [], ◌∷◌, ◌++◌, length, replicate, take, drop, Option, Some, inl, inr, refl, sym, ap, subst, ◌∙◌, arith, get_or, get_or-drop, get_or-take, slice_index, true, false, nat_lt, All, list_all, and_parts, ltb-true, Instr, Ebreak, Spells, Format, Sfi1, Sfi2, Sfiw, has_words, code_most, data_most, Bytes, byte_at, bytes_at, addresses, address_after, Accesses, Hart, IsHart, State, Stepped, Stands, IsStep, effect, next, unchanged, Call, AreGates, Part, AreGateWords, AreApart, code_region, guarded_region, IsBundleStart, IsRightPart, IsRightLayout, AreOf, Finding, AreFindings, AreFindingsInBundles, InData, InGuard, IsGate, HasReserved, HasCode, IsUnitStart, IsTyped, Turn, Steps, IsEntry, IsRun, IsTurn, after_turn, after_step, IsSafeRun, HasOneFinding, HasUnsafeRun, IsNeeded, BreaksNoOther, BreaksAloneInBundle, Bool, false≢true, Sample, sandbox, bytes_of, words_of, Rule, InCode, unit, BreaksAlone, BreaksAloneInWord}
-use Rattle.sfi_formats.specs.Formats.{has_one_step}
+use Rattle.sfi_safety.proofs.Prelude.{◌≡◌, ℕ, zero, suc, ◌+◌, ◌-◌, ◌*◌, ◌%◌, ◌^◌, ◌<◌, ◌≤◌, ◌⊎◌, List, [], ◌∷◌, ◌++◌, length, replicate, take, drop, Option, Some, inl, inr, refl, sym, ap, subst, ◌∙◌, arith, get_or, get_or-drop, get_or-take, slice_index, true, false, nat_lt, All, list_all, and_parts, ltb-true, Instr, Ebreak, Spells, Format, Sfi1, Sfi2, Sfiw, Sfis, has_words, code_most, data_most, Bytes, byte_at, bytes_at, addresses, address_after, Accesses, Hart, IsHart, State, Stepped, Stands, IsStep, effect, next, unchanged, Call, AreGates, Part, AreGateWords, AreApart, code_region, guarded_region, IsBundleStart, IsRightPart, IsRightLayout, AreOf, Finding, AreFindings, AreFindingsInBundles, InData, InGuard, IsGate, HasReserved, HasCode, IsUnitStart, IsTyped, Turn, Steps, IsEntry, IsRun, IsTurn, after_turn, after_step, IsSafeRun, HasOneFinding, HasUnsafeRun, IsNeeded, BreaksNoOther, BreaksAloneInBundle, Bool, false≢true, Sample, sandbox, bytes_of, words_of, Rule, InCode, unit, BreaksAlone, BreaksAloneInWord}
+use Rattle.sfi_formats.specs.Formats.{has_single_mask}
 use Rattle.rv_comp.specs.declared.front.Front.TheVariants.{Read}
 use Rattle.sfi_image.specs.declared.span.Span.{Span}
 use Rattle.sfi_formats.specs.Limits.{gates_most}
@@ -12,7 +12,7 @@ use Rattle.sfi_safe_runs.proofs.Stepping.{read_all}
 use Rattle.sfi_rules.proofs.Findings.{of_bundles}
 use Rattle.std.specs.Prelude.{MatchBool}
 use Rattle.sfi_image.specs.Parts.{reserved_of}
-use Rattle.sfi_image.specs.Spelling.{spans, data_region, zone_end, zone_ends, IsClear, AreClear}
+use Rattle.sfi_image.specs.Spelling.{spans, data_region, zone_end, zone_ends, IsClear, AreClear, InZoneAtZero}
 use Rattle.std.proofs.lemmas.List.Elements.{All-nil, All-from_recursion}
 
 -- ---- the samples' layout
@@ -99,7 +99,7 @@ module _ (s : Sample) (is : IsSample s) where
 
   -- both regions lie above a zone at zero, if its format has one
   clear : AreClear (zone_ends (sandbox s ∷ [])) (spans (sandbox s ∷ []))
-  clear = by (has_one_step s.format) refl
+  clear = by (has_single_mask s.format) refl
     where
       all_clear : AreClear (zone_end 256 ∷ []) (spans (sandbox s ∷ []))
       all_clear =
@@ -109,7 +109,7 @@ module _ (s : Sample) (is : IsSample s) where
           All-from_recursion (λ t. All (λ end. IsClear end t) (zone_end 256 ∷ [])) (spans (sandbox s ∷ []))
           (All-from_recursion (λ end. IsClear end (code_region (sandbox s))) (zone_end 256 ∷ []) (code, tt), (All-from_recursion (λ end. IsClear end (guarded_region (sandbox s))) (zone_end 256 ∷ []) (guarded, tt), tt))
 
-      by : (b : Bool) → has_one_step s.format ≡ b → AreClear (zone_ends (sandbox s ∷ [])) (spans (sandbox s ∷ []))
+      by : (b : Bool) → has_single_mask s.format ≡ b → AreClear (zone_ends (sandbox s ∷ [])) (spans (sandbox s ∷ []))
       by true one_step = let ends : zone_end 256 ∷ [] ≡ zone_ends (sandbox s ∷ []) = rw (one_step) refl in subst (λ (es : List ℕ). AreClear es (spans (sandbox s ∷ []))) ends all_clear
       by false two_steps = let none : [] ≡ zone_ends (sandbox s ∷ []) = rw (two_steps) refl in subst (λ (es : List ℕ). AreClear es (spans (sandbox s ∷ []))) none (λ k d lt. All-nil _)
 
@@ -224,9 +224,9 @@ module _ (s : Sample) (is : IsSample s) (m : Bytes) (code : HasCode (sandbox s) 
   pub then_step : (h' : Hart) → effect i n h m ≡ next h' m → HasUnsafeRun (sandbox s) (record { hart = h'; memory = m }) → HasUnsafeRun (sandbox s) (record { hart = h; memory = m })
   then_step h' e rest = then_turn (sandbox s) (record { hart = h; memory = m }) (record { hart = h'; memory = m }) (Steps (effect i n h m)) step_at (ap (λ (r : Stepped). after_step r.outcome r.state) e) rest
 
-  -- where the instruction accesses an address far below the data, and there is no zone at zero, the run isn't safe
-  pub reaches : (a : ℕ) → Accesses i h a → a + 4096 < 0x02000000 → has_one_step s.format ≡ false → HasUnsafeRun (sandbox s) (record { hart = h; memory = m })
-  reaches a has below two_steps = record {
+  -- where the instruction accesses an address far below the data, and in no zone at zero, the run isn't safe
+  reaches_unless : (a : ℕ) → Accesses i h a → a + 4096 < 0x02000000 → ((has_single_mask s.format ≡ true) × InZoneAtZero 256 a → ⊥) → HasUnsafeRun (sandbox s) (record { hart = h; memory = m })
+  reaches_unless a has below no_zone = record {
     turns = Steps (effect i n h m) ∷ [];
     run = (step_at, tt);
     unsafe = λ safe. far (safe.1.within i n (stands s is m code h at n i pc within spelled) a has);
@@ -236,7 +236,19 @@ module _ (s : Sample) (is : IsSample s) (m : Bytes) (code : HasCode (sandbox s) 
       far (inl (from, under)) = omega arith
       far (inr (inl (inl (from, under)))) = omega arith
       far (inr (inl (inr (from, under)))) = omega arith
-      far (inr (inr zone)) = absurd (false≢true (sym two_steps ∙ zone.0))
+      far (inr (inr zone)) = no_zone zone
+
+  -- so it is where there is no zone at zero
+  pub reaches : (a : ℕ) → Accesses i h a → a + 4096 < 0x02000000 → has_single_mask s.format ≡ false → HasUnsafeRun (sandbox s) (record { hart = h; memory = m })
+  reaches a has below two_steps = reaches_unless a has below (λ zone. absurd (false≢true (sym two_steps ∙ zone.0)))
+
+  -- and, in each format, where the address lies above one
+  pub reaches_between : (a : ℕ) → Accesses i h a → 256 + 4096 ≤ a → a + 4096 < 0x02000000 → HasUnsafeRun (sandbox s) (record { hart = h; memory = m })
+  reaches_between a has above below = reaches_unless a has below (λ zone. outside zone.1)
+    where
+      outside : InZoneAtZero 256 a → ⊥
+      outside (inl low) = omega arith
+      outside (inr (high, word)) = omega arith
 
   -- where the instruction calls at no gate, the run isn't safe
   pub calls_elsewhere : effect i n h m ≡ unchanged Call h m → (IsGate (sandbox s) h.pc → ⊥) → HasUnsafeRun (sandbox s) (record { hart = h; memory = m })
@@ -277,6 +289,7 @@ pub of_both : (P : Format → Type 0) → InBoth P → (f : Format) → has_word
 of_both P both Sfi1 bundles = both.0
 of_both P both Sfi2 bundles = both.1
 of_both P both Sfiw bundles = absurd (false≢true (sym bundles))
+of_both P both Sfis bundles = absurd (false≢true (sym bundles))
 
 -- at an instruction of a bundle
 pub breaks_alone : (rule : Rule) (address : ℕ) (p : Part) → has_words p.format ≡ false → BreaksAloneInBundle rule address p → BreaksAlone rule address p

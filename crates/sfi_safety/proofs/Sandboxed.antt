@@ -7,9 +7,10 @@ use Rattle.sfi_safe_runs.proofs.Entries.{inserted_here, inserted_elsewhere}
 use Rattle.rv_comp.proofs.Facts.{word_spells}
 use Rattle.sfi_safety.proofs.Readings.{IsSpelled, op_spelled, store_spelled, ebreak_spelled, code_findings}
 use Rattle.sfi_safety.proofs.Samples.{IsSample, without_gates, size, right_layout, hart, first, enters, step_at}
-use Rattle.sfi_safety.specs.WordSamples.{stored_in_words}
+use Rattle.sfi_safety.specs.WordSamples.{in_words, stored_in_words}
+use Rattle.sfi_safety.proofs.Needed.{nop_spelled}
 use Rattle.sfi_safety.proofs.WordSamples.{typed_hart, at_word, enters_word, code_found}
-use Rattle.sfi_safety.proofs.Prelude.{◌≡◌, ◌≢◌, ℕ, ◌+◌, [], ◌∷◌, cond, Some, None, refl, ap, ◌∙◌, inl, inr, arith, pos, is_some, ints, And, Or, Sb, Op, Store, Jal, Ebreak, minus, InRange, Sfi1, Bytes, byte_at, in_front, stored, Trap, past, Stepped, effect, next, unchanged, Part, AreFindings, InGuard, HasCode, KeepsBytes, StoresByte, IsAcceptedAndRuns, IsAccepted, Nothing, sandbox}
+use Rattle.sfi_safety.proofs.Prelude.{◌≡◌, ◌≢◌, ℕ, ◌+◌, [], ◌∷◌, cond, Some, None, refl, ap, ◌∙◌, inl, inr, arith, pos, is_some, ints, And, Or, Sb, Op, Store, Jal, Ebreak, minus, InRange, Sfi1, Bytes, byte_at, in_front, stored, Trap, past, Stepped, effect, next, unchanged, Part, AreFindings, InGuard, HasCode, KeepsBytes, StoresByte, IsAcceptedAndRuns, IsAccepted, Nothing, sandbox, subst, false≢true, true, has_words, Format, Sfi2, Sfiw, Sfis, Instr, State, IsStep, nop}
 
 -- ==== The accepted sample: no rule is broken in it, and it stores a byte.
 
@@ -113,64 +114,79 @@ accepted_and_runs = record { bytes = image.spelling (p ∷ []); accepted = accep
 
 -- ==== The accepted sample in words: no rule is broken in it, and it stores a byte.
 
-abbrev pub part_in_words : Part
-part_in_words = sandbox stored_in_words
-
-is_word_sample : IsSample stored_in_words
-is_word_sample = without_gates stored_in_words refl refl refl
-
-no_finding_in_words : AreFindings 0 part_in_words []
-no_finding_in_words =
-    code_found (Op And 31 10 27) (Op Or 2 31 26) (Store Sb 2 10 (pos 0)) (Jal 0 (minus 12)) (op_spelled And 31 10 27 refl) (op_spelled Or 2 31 26 refl) (store_spelled Sb 2 10 refl) jump_there Nothing Nothing Nothing [] [] [] []
-    refl refl refl refl refl refl refl refl
-
 -- where a byte is there, the store is done
-word_store_done : (w : Bytes) → byte_at w 0x020000f0 ≡ Some 0 → effect (Store Sb 2 10 (pos 0)) 4 (typed_hart 0x01000008 0x020000f0 0x02000000 0x010000fc 240) w
-    ≡ next (past (typed_hart 0x01000008 0x020000f0 0x02000000 0x010000fc 240) 4) (stored w 0x020000f0 1 240)
-word_store_done w there =
-    let h = typed_hart 0x01000008 0x020000f0 0x02000000 0x010000fc 240 in
+word_store_done : (f : Format) (x31 : ℕ) (w : Bytes) → byte_at w 0x020000f0 ≡ Some 0 → effect (Store Sb 2 10 (pos 0)) 4 (typed_hart f 0x01000008 0x020000f0 0x01000000 0x010000fc x31) w
+    ≡ next (past (typed_hart f 0x01000008 0x020000f0 0x01000000 0x010000fc x31) 4) (stored w 0x020000f0 1 240)
+word_store_done f x31 w there =
+    let h = typed_hart f 0x01000008 0x020000f0 0x01000000 0x010000fc x31 in
     ap (λ o. cond (is_some (in_front o (Some []))) (next (past h 4) (stored w 0x020000f0 1 240)) (unchanged (Trap cause.Store 0x020000f0) h w)) there
 
-words_store : StoresByte part_in_words
-words_store =
-    let s = stored_in_words in
-    let e = enters_word s is_word_sample refl 0 (omega arith) in
-    let w = changed s is_word_sample e.0 e.1.code e.1.guards in
-    let step = step_at s is_word_sample w (changed_code s is_word_sample e.0 e.1.code e.1.guards) in
-    let before = there s is_word_sample e.0 e.1.code e.1.guards in
-    let done = word_store_done w before in
-    let h1 = typed_hart 0x01000004 0x02000000 0x02000000 0x010000fc 240 in
-    let h2 = typed_hart 0x01000008 0x020000f0 0x02000000 0x010000fc 240 in
-    record {
-      entry = record { hart = at_word 0x01000000; memory = e.0 };
-      is_entry = e.1;
-      changed = record { hart = at_word 0x01000000; memory = w };
-      masked = effect (Op And 31 10 27) 4 (at_word 0x01000000) w;
-      placed = effect (Op Or 2 31 26) 4 h1 w;
-      stored = effect (Store Sb 2 10 (pos 0)) 4 h2 w;
-      run = (
-        record { pc = refl; registers = refl; bytes = keeps s is_word_sample e.0 e.1.code e.1.guards },
-        (
-          step (at_word 0x01000000) 0 4 (Op And 31 10 27) refl (omega arith) (op_spelled And 31 10 27 refl),
-          (
-            step h1 4 4 (Op Or 2 31 26) refl (omega arith) (op_spelled Or 2 31 26 refl),
-            (step h2 8 4 (Store Sb 2 10 (pos 0)) refl (omega arith) (store_spelled Sb 2 10 refl), tt),
-          ),
-        ),
-      );
-      done = ap (λ (r : Stepped). r.outcome) done;
-      address = 0x020000f0;
-      inside = (omega arith, omega arith);
-      before = before;
-      after = ap (λ (r : Stepped). byte_at r.state.memory 0x020000f0) done ∙ store_is s is_word_sample e.0 e.1.code e.1.guards;
-    }
+-- where two instructions leave the address of that byte in x2, the first with this in x2 and x31
+module _ (f : Format) (has : has_words f ≡ true) (a b : Instr) (sa : IsSpelled a) (sb : IsSpelled b) (x2 x31 : ℕ)
+    (masked : (m : Bytes) → effect a 4 (at_word f 0x01000000) m ≡ next (typed_hart f 0x01000004 x2 0x01000000 0x010000fc x31) m)
+    (placed : (m : Bytes) → effect b 4 (typed_hart f 0x01000004 x2 0x01000000 0x010000fc x31) m ≡ next (typed_hart f 0x01000008 0x020000f0 0x01000000 0x010000fc x31) m) where
+  abbrev sample : Sample
+  sample = in_words f (a ∷ b ∷ Store Sb 2 10 (pos 0) ∷ Jal 0 (minus 12) ∷ [])
 
-pub accepted_words_run : IsAcceptedAndRuns part_in_words
-accepted_words_run = record {
-  bytes = image.spelling (part_in_words ∷ []);
-  accepted = record {
-    image = record { bytes_are = refl; layout = right_layout stored_in_words is_word_sample };
-    none_found = ([], [], no_finding_in_words, refl, refl);
-  };
-  stores = words_store;
-}
+  is_word_sample : IsSample sample
+  is_word_sample = without_gates sample refl refl refl
+
+  words_store : StoresByte (sandbox sample)
+  words_store =
+      let e = enters_word sample is_word_sample has 0 (omega arith) in
+      let w = changed sample is_word_sample e.0 e.1.code e.1.guards in
+      let step = step_at sample is_word_sample w (changed_code sample is_word_sample e.0 e.1.code e.1.guards) in
+      let before = there sample is_word_sample e.0 e.1.code e.1.guards in
+      let done = word_store_done f x31 w before in
+      let h1 = typed_hart f 0x01000004 x2 0x01000000 0x010000fc x31 in
+      let h2 = typed_hart f 0x01000008 0x020000f0 0x01000000 0x010000fc x31 in
+      let s0 : State = record { hart = at_word f 0x01000000; memory = w } in
+      let s1 : State = record { hart = h1; memory = w } in
+      record {
+        entry = record { hart = at_word f 0x01000000; memory = e.0 };
+        is_entry = e.1;
+        changed = s0;
+        masked = next h1 w;
+        placed = next h2 w;
+        stored = effect (Store Sb 2 10 (pos 0)) 4 h2 w;
+        run = (
+          record { pc = refl; registers = refl; bytes = keeps sample is_word_sample e.0 e.1.code e.1.guards },
+          (
+            subst (λ (r : Stepped). IsStep s0 r) (masked w) (step (at_word f 0x01000000) 0 4 a refl (omega arith) sa),
+            (
+              subst (λ (r : Stepped). IsStep s1 r) (placed w) (step h1 4 4 b refl (omega arith) sb),
+              (step h2 8 4 (Store Sb 2 10 (pos 0)) refl (omega arith) (store_spelled Sb 2 10 refl), tt),
+            ),
+          ),
+        );
+        done = ap (λ (r : Stepped). r.outcome) done;
+        address = 0x020000f0;
+        inside = (omega arith, omega arith);
+        before = before;
+        after = ap (λ (r : Stepped). byte_at r.state.memory 0x020000f0) done ∙ store_is sample is_word_sample e.0 e.1.code e.1.guards;
+      }
+
+  words_run : AreFindings 0 (sandbox sample) [] → IsAcceptedAndRuns (sandbox sample)
+  words_run none = record {
+    bytes = image.spelling (sandbox sample ∷ []);
+    accepted = record {
+      image = record { bytes_are = refl; layout = right_layout sample is_word_sample };
+      none_found = ([], [], none, refl, refl);
+    };
+    stores = words_store;
+  }
+
+pub accepted_words_run : (f : Format) → has_words f ≡ true → IsAcceptedAndRuns (sandbox (stored_in_words f))
+accepted_words_run Sfi1 has = absurd (false≢true has)
+accepted_words_run Sfi2 has = absurd (false≢true has)
+accepted_words_run Sfiw has =
+    let a = Op And 31 10 27 in
+    let b = Op Or 2 31 26 in
+    words_run Sfiw refl a b (op_spelled And 31 10 27 refl) (op_spelled Or 2 31 26 refl) 0x02000000 240 (λ m. refl) (λ m. refl)
+    (code_found Sfiw a b (Store Sb 2 10 (pos 0)) (Jal 0 (minus 12)) (op_spelled And 31 10 27 refl) (op_spelled Or 2 31 26 refl) (store_spelled Sb 2 10 refl) jump_there Nothing Nothing Nothing [] [] [] []
+    refl refl refl refl refl refl refl refl)
+accepted_words_run Sfis has =
+    let a = Op And 2 10 27 in
+    words_run Sfis refl a nop (op_spelled And 2 10 27 refl) nop_spelled 0x020000f0 0 (λ m. refl) (λ m. refl)
+    (code_found Sfis a nop (Store Sb 2 10 (pos 0)) (Jal 0 (minus 12)) (op_spelled And 2 10 27 refl) nop_spelled (store_spelled Sb 2 10 refl) jump_there Nothing Nothing Nothing [] [] [] []
+    refl refl refl refl refl refl refl refl)

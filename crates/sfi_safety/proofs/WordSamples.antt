@@ -1,60 +1,83 @@
 -- The samples in words: where they are entered, what they are read as, and what is found.
-use Rattle.sfi_safety.proofs.Prelude.{◌≡◌, ℕ, ◌+◌, ◌-◌, ◌*◌, ◌%◌, ◌^◌, ◌<◌, [], ◌∷◌, ◌++◌, length, replicate, true, refl, sym, ap, ◌∙◌, arith, has_words, Bytes, Hart, IsHart, IsEntry, HasReserved, IsUnitStart, IsTyped, AreFindings, IsNeeded, BreaksNoOther, HasUnsafeRun, unit, Rule, Sample, sandbox, suc, ◌==◌, Bool, List, take, drop, filter, cond, Some, None, subst, append-nil, add-zero, Instr, Ebreak, spelling, Sfiw, BundlePlace, Finding, bundle_place, bundle_bytes, Piece, IsReading, IsLongestReading, rest_of, is_empty, rest_finding, all_rules, w32, to_le_bytes, Nothing, V8, IsOwedBefore, BreaksAloneInWord, words_of, bytes_of}
-use Rattle.sfi_image.specs.Parts.{IsWordStart, reserved_of}
-use Rattle.sfi_image.specs.Spelling.{IsNearIn, code_region, data_region}
+use Rattle.sfi_safety.proofs.Prelude.{◌≡◌, ℕ, ◌+◌, ◌-◌, ◌*◌, ◌%◌, ◌^◌, ◌<◌, [], ◌∷◌, ◌++◌, length, replicate, true, refl, sym, ap, ◌∙◌, arith, has_words, Bytes, Hart, IsHart, IsEntry, HasReserved, IsUnitStart, IsTyped, IsNeeded, BreaksNoOther, HasUnsafeRun, unit, Rule, Sample, sandbox, suc, ◌==◌, Bool, List, take, drop, filter, cond, Some, None, subst, append-nil, add-zero, Instr, Ebreak, spelling, Format, Sfi1, Sfi2, Sfiw, Sfis, BundlePlace, Finding, bundle_place, bundle_bytes, Piece, IsReading, IsLongestReading, rest_of, is_empty, rest_finding, all_rules, w32, to_le_bytes, Nothing, V8, IsOwedBefore, BreaksAlone, BreaksAloneInWord, BreaksAloneInBundle, words_of, bytes_of, false≢true, list_all, nat_lt, code_region}
+use Rattle.std.specs.Prelude.{MatchBool}
+use Rattle.sfi_image.specs.Parts.{IsWordStart, reserved_of, data_mask_of}
+use Rattle.sfi_image.specs.Spelling.{IsNearIn, data_region}
 use Rattle.std.proofs.Common.{inl, inr}
-use Rattle.sfi_formats.proofs.Formats.{two_steps}
-use Rattle.sfi_formats.specs.Formats.{has_one_step}
-use Rattle.sfi_safe_runs.proofs.Entries.{words as word_unit, two_step_mask, of_word, of_words_typed, each_beside}
+use Rattle.sfi_formats.specs.Formats.{has_single_mask}
+use Rattle.sfi_safe_runs.proofs.Entries.{words as word_unit, of_word, of_words_typed, each_beside}
 use Rattle.sfi_safety.proofs.Samples.{IsSample, size, each_below, enters_with, needed_from}
 use Rattle.std.proofs.Math.Bool.{and-false}
+use Rattle.sfi_rules.proofs.Findings.{of_words}
 use Rattle.sfi_rules.specs.declared.owed.Owed.{Owed}
 use Rattle.sfi_rules.specs.words.Rules.{owed_next}
 use Rattle.sfi_rules.specs.words.Findings.{breaks, found_at, found_from, owed_past, IsWordFound, AreFoundInBundle, AreFoundOfFirst, AreFindingsInWords}
 use Rattle.sfi_safety.specs.WordSamples.{in_words}
 use Rattle.sfi_safety.proofs.Readings.{IsSpelled, BeginsNothing, nothing_begins, longest_of, ebreak_spelled, wide}
 
+-- ==== In either format whose code is in words.
+
+abbrev pub InBothOfWords : (Format → Type 0) → Type 0
+InBothOfWords P = P Sfiw × P Sfis
+
+pub of_both_of_words : (P : Format → Type 0) → InBothOfWords P → (f : Format) → has_words f ≡ true → P f
+of_both_of_words P both Sfi1 has = absurd (false≢true has)
+of_both_of_words P both Sfi2 has = absurd (false≢true has)
+of_both_of_words P both Sfiw has = both.0
+of_both_of_words P both Sfis has = both.1
+
 -- ==== Where the samples in words are entered.
 
--- x1 and x10 are 240, x3, x4 and x29 point to the data, the reserved registers but x26 have their values, and all others but x2, x30 and x31 are 0
-abbrev pub typed_hart : ℕ → ℕ → ℕ → ℕ → ℕ → Hart
-typed_hart pc x2 x26 x30 x31 = record {
+-- x6 points to the code, x10 to byte 240 of the data, x3, x4, x26 and x29 to byte 0, x25 and x27 have their values, and all others but x2, x24, x30 and x31 are 0
+abbrev pub typed_hart : Format → ℕ → ℕ → ℕ → ℕ → ℕ → Hart
+typed_hart f pc x2 x24 x30 x31 = record {
   pc = pc;
-  registers = 0 ∷ 240 ∷ x2 ∷ 0x02000000 ∷ 0x02000000 ∷ replicate 5 0 ++ (240 ∷ (replicate 13 0 ++ (0x01000000 ∷ 252 ∷ x26 ∷ 255 ∷ 0 ∷ 0x02000000 ∷ x30 ∷ x31 ∷ [])));
+  registers = 0 ∷ 0 ∷ x2 ∷ 0x02000000 ∷ 0x02000000 ∷ 0 ∷ 0x01000000 ∷ 0 ∷ 0 ∷ 0
+      ∷ 0x020000f0 ∷ replicate 13 0 ++ (x24 ∷ 252 ∷ 0x02000000 ∷ data_mask_of f (record { base = 0x02000000; size = 256 }) ∷ 0 ∷ 0x02000000 ∷ x30 ∷ x31 ∷ []);
 }
 
--- x2 points to the data, and x30 to the last word
-abbrev pub at_word : ℕ → Hart
-at_word pc = typed_hart pc 0x02000000 0x02000000 0x010000fc 0
+-- x2 points to the data, x24 to the code, and x30 to the last word
+abbrev pub at_word : Format → ℕ → Hart
+at_word f pc = typed_hart f pc 0x02000000 0x01000000 0x010000fc 0
 
-is_hart : (pc : ℕ) → pc % 2 ≡ 0 → pc < 2 ^ 32 → IsHart (at_word pc)
-is_hart pc even fits = record {
+-- its registers have 32 bits, in each format
+small : (f : Format) → list_all (λ x. nat_lt x (2 ^ 32)) (at_word f 0).registers ≡ true
+small Sfi1 = refl
+small Sfi2 = refl
+small Sfiw = refl
+small Sfis = refl
+
+is_hart : (f : Format) (pc : ℕ) → pc % 2 ≡ 0 → pc < 2 ^ 32 → IsHart (at_word f pc)
+is_hart f pc even fits = record {
   even = even;
   address = fits;
   count = refl;
-  words = each_below (2 ^ 32) (at_word pc).registers (omega arith) refl;
+  words = each_below (2 ^ 32) (at_word f pc).registers (omega arith) (small f);
   zero = refl;
 }
 
 module _ (s : Sample) (is : IsSample s) (has : has_words s.format ≡ true) where
   -- a run may begin at the word of that number
-  pub enters_word : (n : ℕ) → n < 64 → (m : Bytes) × IsEntry (sandbox s) (record { hart = at_word (0x01000000 + 4 * n); memory = m })
+  pub enters_word : (n : ℕ) → n < 64 → (m : Bytes) × IsEntry (sandbox s) (record { hart = at_word s.format (0x01000000 + 4 * n); memory = m })
   enters_word n few =
       let size = size s is in
       let at = 0x01000000 + 4 * n in
+      let h = at_word s.format at in
       let mask : length (sandbox s).code - unit s.format ≡ 252 = ap (λ (u : ℕ). length (sandbox s).code - u) (word_unit s.format has) ∙ ap (λ (n : ℕ). n - 4) size in
       let start : IsUnitStart (sandbox s) at = of_word (sandbox s) at has (record { held = (omega arith, omega (arith, size, few)); aligned = omega arith }) in
-      let reserved : HasReserved (sandbox s).format (reserved_of (sandbox s)) (at_word at).registers = record { code_base = refl; code_mask = sym mask; data_base = λ two. refl; data_mask = sym (two_step_mask s.format (data_region (sandbox s)) (two_steps s.format)) } in
+      let reserved : HasReserved (sandbox s).format (reserved_of (sandbox s)) h.registers = record { code_base = refl; code_mask = sym mask; data_base = λ _. refl; data_mask = refl } in
       let base : IsNearIn s.format (data_region (sandbox s)) 1020 0x02000000 = inl (record { low = omega arith; high = omega arith }) in
-      let none : has_one_step s.format ≡ true → IsNearIn s.format (data_region (sandbox s)) 1020 0 = λ one. inr (one, inl (omega (arith, size))) in
+      let none : has_single_mask s.format ≡ true → IsNearIn s.format (data_region (sandbox s)) 1020 0 = λ one. inr (one, inl (omega arith)) in
       let code : IsWordStart (code_region (sandbox s)) 0x010000fc = record { held = (omega arith, omega (arith, size)); aligned = refl } in
-      let typed : IsTyped (sandbox s) (at_word at).registers = of_words_typed (sandbox s) (at_word at).registers has (record { each_data = each_beside s.format (data_region (sandbox s)) (at_word at).registers base base base base (λ one. base) none; code = code; offset = λ _. omega arith }) in
-      enters_with s is (at_word at) (is_hart at (omega arith) (omega (arith, few))) start reserved typed
+      let typed : IsTyped (sandbox s) h.registers = of_words_typed (sandbox s) h.registers has (record { each_data = each_beside s.format (data_region (sandbox s)) h.registers base base base base (λ one. base) none; code = code; offset = λ _. omega arith }) in
+      enters_with s is h (is_hart s.format at (omega arith) (omega (arith, few))) start reserved typed
 
   -- with that one finding, and a run from the word of that number that is not safe
-  pub needed_at : (rule : Rule) (address n : ℕ) → n < 64 → AreFindings 0 (sandbox s) (record { sandbox = 0; address = address; rule = rule } ∷ []) → BreaksNoOther rule address (sandbox s)
-      → ((m : Bytes) → IsEntry (sandbox s) (record { hart = at_word (0x01000000 + 4 * n); memory = m }) → HasUnsafeRun (sandbox s) (record { hart = at_word (0x01000000 + 4 * n); memory = m })) → IsNeeded rule address (sandbox s)
-  needed_at rule address n few alone no_other runs = needed_from s is rule address (at_word (0x01000000 + 4 * n)) (enters_word n few) alone no_other runs
+  pub needed_at : (rule : Rule) (address n : ℕ) → n < 64 → AreFindingsInWords 0 (sandbox s) (record { sandbox = 0; address = address; rule = rule } ∷ []) → BreaksNoOther rule address (sandbox s)
+      → ((m : Bytes) → IsEntry (sandbox s) (record { hart = at_word s.format (0x01000000 + 4 * n); memory = m }) → HasUnsafeRun (sandbox s) (record { hart = at_word s.format (0x01000000 + 4 * n); memory = m })) → IsNeeded rule address (sandbox s)
+  needed_at rule address n few alone no_other runs =
+      let found : List Finding = record { sandbox = 0; address = address; rule = rule } ∷ [] in
+      needed_from s is rule address (at_word s.format (0x01000000 + 4 * n)) (enters_word n few) (of_words 0 (sandbox s) found has alone) no_other runs
 
 -- ==== What the words of the samples in words are read as, and the findings of such a sample.
 
@@ -79,23 +102,25 @@ pub ebreak_found : (b : BundlePlace) (at : ℕ) → IsWordFound b at Nothing (to
 ebreak_found b at = one_word b at Nothing Nothing Ebreak [] ebreak_spelled (ap (λ (t : Bool). found_at b at (cond t (Some V8) None) ++ []) (and-false (at + 4 == b.code_base + b.code_size))) refl
 
 -- the one rule that is broken at an instruction's word
-module _ (s : Sample) (number word : ℕ) (owed : Owed) (i : Instr) (is : IsSpelled i) (there : to_le_bytes w32 (spelling i) ≡ take 4 (drop (4 * word) (bundle_bytes (sandbox s) number))) (before : IsOwedBefore (sandbox s) number word owed) where
+module _ (s : Sample) (has : has_words s.format ≡ true) (number word : ℕ) (owed : Owed) (i : Instr) (is : IsSpelled i) (there : to_le_bytes w32 (spelling i) ≡ take 4 (drop (4 * word) (bundle_bytes (sandbox s) number))) (before : IsOwedBefore (sandbox s) number word owed) where
   abbrev at : ℕ
   at = 0x01000000 + 16 * number + 4 * word
 
-  pub alone : (rule : Rule) → filter (λ r. breaks (record { bundle = bundle_place 0 (sandbox s) number; address = at; owed = owed; instr = i; size = 4 }) r) all_rules ≡ rule ∷ [] → BreaksAloneInWord rule at (sandbox s)
-  alone rule broken = record {
-    number = number;
-    word = word;
-    owed = owed;
-    is_owed = before;
-    earlier = [];
-    here = wide i;
-    later = [];
-    longest = subst (λ (bytes : List ℕ). IsLongestReading bytes (wide i ∷ [])) there (longest_of (to_le_bytes w32 (spelling i)) (wide i ∷ []) (is, tt) (nothing_begins [] refl));
-    address_is = sym (add-zero at);
-    broken = broken;
-  }
+  pub alone : (rule : Rule) → filter (λ r. breaks (record { bundle = bundle_place 0 (sandbox s) number; address = at; owed = owed; instr = i; size = 4 }) r) all_rules ≡ rule ∷ [] → BreaksAlone rule at (sandbox s)
+  alone rule broken =
+      let in_word : BreaksAloneInWord rule at (sandbox s) = record {
+        number = number;
+        word = word;
+        owed = owed;
+        is_owed = before;
+        earlier = [];
+        here = wide i;
+        later = [];
+        longest = subst (λ (bytes : List ℕ). IsLongestReading bytes (wide i ∷ [])) there (longest_of (to_le_bytes w32 (spelling i)) (wide i ∷ []) (is, tt) (nothing_begins [] refl));
+        address_is = sym (add-zero at);
+        broken = broken;
+      } in
+      subst (λ (b : Bool). MatchBool b (BreaksAloneInWord rule at (sandbox s)) (BreaksAloneInBundle rule at (sandbox s))) (sym has) in_word
 
 -- ---- a bundle
 
@@ -115,9 +140,9 @@ ebreaks_found b =
 abbrev pub brk : ℕ
 brk = spelling Ebreak
 
-module _ (a b c d i j k l : ℕ) where
+module _ (f : Format) (a b c d i j k l : ℕ) where
   abbrev s : Sample
-  s = record { format = Sfiw; gates = []; first_words = a ∷ b ∷ c ∷ d ∷ brk ∷ brk ∷ brk ∷ brk ∷ []; last_words = i ∷ j ∷ k ∷ l ∷ [] }
+  s = record { format = f; gates = []; first_words = a ∷ b ∷ c ∷ d ∷ brk ∷ brk ∷ brk ∷ brk ∷ []; last_words = i ∷ j ∷ k ∷ l ∷ [] }
 
   -- one bundle of ebreaks more
   more : (n : ℕ) (found : List Finding) → bytes_of (words_of (replicate 4 Ebreak)) ≡ bundle_bytes (sandbox s) n → AreFoundOfFirst 0 (sandbox s) n found Nothing → AreFoundOfFirst 0 (sandbox s) (suc n) found Nothing
@@ -138,20 +163,20 @@ module _ (a b c d i j k l : ℕ) where
   all_found x z next first last = (16, next, refl, (x, z, Nothing, before_last x first, last, refl))
 
 -- all bundles together have the findings of the first, where the last is ebreaks
-pub first_found : (a b c d : ℕ) (x : List Finding) → AreFoundInBundle (bundle_place 0 (sandbox (s a b c d brk brk brk brk)) 0) Nothing (bundle_bytes (sandbox (s a b c d brk brk brk brk)) 0) x Nothing → AreFindingsInWords 0 (sandbox (s a b c d brk brk brk brk)) x
-first_found a b c d x first =
-    let p = sandbox (s a b c d brk brk brk brk) in
-    subst (AreFindingsInWords 0 p) (append-nil x) (all_found a b c d brk brk brk brk x [] Nothing first (ebreaks_found (bundle_place 0 p 15)))
+pub first_found : (f : Format) (a b c d : ℕ) (x : List Finding) → AreFoundInBundle (bundle_place 0 (sandbox (s f a b c d brk brk brk brk)) 0) Nothing (bundle_bytes (sandbox (s f a b c d brk brk brk brk)) 0) x Nothing → AreFindingsInWords 0 (sandbox (s f a b c d brk brk brk brk)) x
+first_found f a b c d x first =
+    let p = sandbox (s f a b c d brk brk brk brk) in
+    subst (AreFindingsInWords 0 p) (append-nil x) (all_found f a b c d brk brk brk brk x [] Nothing first (ebreaks_found (bundle_place 0 p 15)))
 
 -- where that is of four instructions, they are those at these
-module _ (a b c d : Instr) (sa : IsSpelled a) (sb : IsSpelled b) (sc : IsSpelled c) (sd : IsSpelled d) where
+module _ (f : Format) (a b c d : Instr) (sa : IsSpelled a) (sb : IsSpelled b) (sc : IsSpelled c) (sd : IsSpelled d) where
   abbrev place : BundlePlace
-  place = bundle_place 0 (sandbox (in_words (a ∷ b ∷ c ∷ d ∷ []))) 0
+  place = bundle_place 0 (sandbox (in_words f (a ∷ b ∷ c ∷ d ∷ []))) 0
 
-  pub code_found : (n1 n2 n3 : Owed) (fa fb fc fd : List Finding) → found_from place 0x01000000 Nothing (wide a ∷ []) ≡ fa → owed_next Sfiw Nothing a ≡ n1 → found_from place 0x01000004 n1 (wide b ∷ []) ≡ fb → owed_next Sfiw n1 b ≡ n2
-      → found_from place 0x01000008 n2 (wide c ∷ []) ≡ fc → owed_next Sfiw n2 c ≡ n3 → found_from place 0x0100000c n3 (wide d ∷ []) ≡ fd → owed_next Sfiw n3 d ≡ Nothing
-      → AreFindingsInWords 0 (sandbox (in_words (a ∷ b ∷ c ∷ d ∷ []))) (((fa ++ fb) ++ fc) ++ fd)
+  pub code_found : (n1 n2 n3 : Owed) (fa fb fc fd : List Finding) → found_from place 0x01000000 Nothing (wide a ∷ []) ≡ fa → owed_next f Nothing a ≡ n1 → found_from place 0x01000004 n1 (wide b ∷ []) ≡ fb → owed_next f n1 b ≡ n2
+      → found_from place 0x01000008 n2 (wide c ∷ []) ≡ fc → owed_next f n2 c ≡ n3 → found_from place 0x0100000c n3 (wide d ∷ []) ≡ fd → owed_next f n3 d ≡ Nothing
+      → AreFindingsInWords 0 (sandbox (in_words f (a ∷ b ∷ c ∷ d ∷ []))) (((fa ++ fb) ++ fc) ++ fd)
   code_found n1 n2 n3 fa fb fc fd ea oa eb ob ec oc ed od =
-      first_found (spelling a) (spelling b) (spelling c) (spelling d) (((fa ++ fb) ++ fc) ++ fd)
+      first_found f (spelling a) (spelling b) (spelling c) (spelling d) (((fa ++ fb) ++ fc) ++ fd)
       (four_found place Nothing n1 n2 n3 Nothing (spelling a) (spelling b) (spelling c) (spelling d) fa fb fc fd
       (one_word place 0x01000000 Nothing n1 a fa sa ea oa) (one_word place 0x01000004 n1 n2 b fb sb eb ob) (one_word place 0x01000008 n2 n3 c fc sc ec oc) (one_word place 0x0100000c n3 Nothing d fd sd ed od))

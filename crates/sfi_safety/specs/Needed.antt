@@ -8,12 +8,12 @@ use Rattle.sfi_formats.specs.Limits.{bundle_size, word_size}
 use Rattle.sfi_image.specs.Parts.{IsImage}
 use Rattle.sfi_image.specs.Spelling.{Part, spelling}
 use Rattle.sfi_rules.specs.declared.rule.Rule.{Rule}
-use Rattle.sfi_rules.specs.declared.rule.Rule.TheVariants.{V1, V2, V9, V10}
+use Rattle.sfi_rules.specs.declared.rule.Rule.TheVariants.{V1, V2, V9, V10, V12}
 use Rattle.sfi_rules.specs.Readings.{bundle_place, bundle_bytes, Piece, IsLongestReading, rest_of}
 use Rattle.sfi_rules.specs.Rules.{breaks, is_empty, number_of}
 use Rattle.sfi_rules.specs.declared.finding.Finding.{Finding}
 use Rattle.sfi_formats.specs.declared.format.Format.{Format}
-use Rattle.sfi_formats.specs.Formats.{has_stack, has_words}
+use Rattle.sfi_formats.specs.Formats.{has_stack, has_words, has_single_mask}
 use Rattle.sfi_rules.specs.Findings.{AreImageFindings, all_rules}
 use Rattle.sfi_rules.specs.declared.owed.Owed.{Owed}
 use Rattle.sfi_rules.specs.words.Findings as words
@@ -120,10 +120,12 @@ EachRuleIsNeeded = (f : Format) → has_words f ≡ false
     → (rule : Rule) → number_of rule ≤ 10 → (rule ≡ V10 → has_stack f ≡ true)
     → (address : ℕ) × (p : Part) × (p.format ≡ f) × IsNeeded rule address p
 
--- each rule of code in words is needed, too: all but V9, which is none of these
+-- In each format whose code is in words each rule is needed, too: all but V9, which is none of
+-- these, and V12 where masks of data have two steps.
 abbrev pub EachRuleOfWordsIsNeeded : Type 0
-EachRuleOfWordsIsNeeded = (rule : Rule) → rule ≢ V9
-    → (address : ℕ) × (p : Part) × (has_words p.format ≡ true) × IsNeeded rule address p
+EachRuleOfWordsIsNeeded = (f : Format) → has_words f ≡ true
+    → (rule : Rule) → rule ≢ V9 → (rule ≡ V12 → has_single_mask f ≡ false)
+    → (address : ℕ) × (p : Part) × (p.format ≡ f) × IsNeeded rule address p
 
 -- ---- a rule that is stricter than safety asks
 

@@ -9,7 +9,7 @@ use Rattle.rv_word.specs.declared.instr.StoreWidth.{StoreWidth}
 use Rattle.rv_word.specs.declared.instr.StoreWidth.TheVariants.{Sb, Sh, Sw}
 use Rattle.rv_word.specs.declared.instr.ImmOp.TheVariants.{Addi}
 use Rattle.sfi_scan.specs.private.Words.{IsMasking, IsPlacing, IsPair, IsStepOf, IsOffset, is_dropped, IsUseOf, IsUsedStep}
-use Rattle.sfi_formats.specs.Formats.{has_one_step, is_data_register_in}
+use Rattle.sfi_formats.specs.Formats.{has_single_mask, is_data_register_in}
 use Rattle.sfi_formats.specs.declared.format.Format.{Format}
 use Rattle.sfi_pairs.specs.Pairs.{is_small}
 use Rattle.sfi_scan.proofs.TableEntries.{any_of, kept, without_any, masking_word}
@@ -50,7 +50,7 @@ code_placing_word : (word : ℕ) → word ≡ 26177331 → IsWordOf word (Op Or 
 unfolding spelling InRange
 code_placing_word word e = ((omega arith, omega arith, omega arith), omega (arith, e))
 
-pub data_pair : (f : Format) (first second : ℕ) (r : Bool) → has_one_step f ≡ false → IsMasking first → OnTrue r (IsPlacing second) → OnTrue r (IsPair f first second)
+pub data_pair : (f : Format) (first second : ℕ) (r : Bool) → has_single_mask f ≡ false → IsMasking first → OnTrue r (IsPlacing second) → OnTrue r (IsPair f first second)
 data_pair f first second false two m h = tt
 data_pair f first second true two m h = inl (two, m, h)
 

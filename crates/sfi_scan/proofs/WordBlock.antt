@@ -6,7 +6,7 @@ use Rattle.sfi_masks.specs.Masks.{half_at as block_half, word_at, may_write_in_w
 use Rattle.sfi_rules.specs.words.Rules.{may_access}
 use Rattle.sfi_scan.specs.private.Words.{bytes_at, IsQuietWord, IsMasking, IsPlacing, IsPair, IsStepOf, IsUseOf, IsUsedStep, IsCleanHalfAlone}
 use Rattle.sfi_formats.specs.declared.format.Format.{Format}
-use Rattle.sfi_formats.specs.Formats.{has_one_step, is_data_register_in}
+use Rattle.sfi_formats.specs.Formats.{has_single_mask, is_data_register_in}
 use Rattle.sfi_scan.proofs.WordLook.{quiet_word, found_wide, found_halves, masking, placing, placing_code, masked, placed, stepping, code_owed, owing, plain, used}
 
 -- ---- what the masks tell to be free is plain
@@ -19,7 +19,7 @@ unkept r may = sym (none_of (is_reserved r) (is_data_register r) (r == 30) (r ==
     none_of false q r s = refl
 
 on_base : (f : Format) (base : ℕ) → may_be_on_in_words base ≡ true → may_access f base ≡ true
-on_base f base h = by (is_data_register base) (base == 26) (((base == 26) || (base == 31)) && has_one_step f) h
+on_base f base h = by (is_data_register base) (base == 26) (((base == 26) || (base == 31)) && has_single_mask f) h
   where
     by : (p q x : Bool) → (p || q) ≡ true → (p || x || q) ≡ true
     by true q x h = refl
@@ -89,7 +89,7 @@ module _ (b : BundlePlace) (within : IsWithinBlock b) (block : List ℕ) (long :
   pub masking_quiet : IsMasking (word_at block i) → IsQuietWord b block i
   masking_quiet m = word_leads Nothing Nothing (masking m.0) m.1 (masked word_bundle word_address 4 before m.0)
 
-  pub placing_quiet : has_one_step b.format ≡ false → IsPlacing (word_at block i) → IsQuietWord b block i
+  pub placing_quiet : has_single_mask b.format ≡ false → IsPlacing (word_at block i) → IsQuietWord b block i
   placing_quiet two p = word_leads Nothing Nothing (placing p.0) p.2 (placed word_bundle word_address 4 before p.0 two p.1)
 
   first_half : block_half block i ≡ half_at (bytes_at block i) 0

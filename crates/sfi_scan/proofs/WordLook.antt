@@ -8,7 +8,7 @@ use Rattle.rv_word.specs.declared.instr.ImmOp.TheVariants.{Addi}
 use Rattle.sfi_rules.specs.declared.owed.Owed.TheVariants.{Mask, PlaceOnly}
 use Rattle.rv_word.proofs.Facts.{one_spelling}
 use Rattle.sfi_formats.specs.declared.format.Format.{Format}
-use Rattle.sfi_formats.specs.Formats.{has_one_step, is_data_register_in}
+use Rattle.sfi_formats.specs.Formats.{has_single_mask, is_data_register_in}
 use Rattle.sfi_rules.specs.words.Findings.{lowest, found_at}
 use Rattle.sfi_scan.specs.private.Words.{IsCleanHalfAlone}
 use Rattle.sfi_scan.proofs.Readings.{word_wide, word_two}
@@ -62,9 +62,9 @@ module _ (b : BundlePlace) (at : ℕ) where
 
   -- it uses the register after its step
   left_used : (d : ℕ) (i : Instr) → uses d i ≡ true → left b.format (MaskOrUse d) i ≡ Some Nothing
-  left_used d i u = by (has_one_step b.format) refl i u
+  left_used d i u = by (has_single_mask b.format) refl i u
     where
-      by : (o : Bool) → has_one_step b.format ≡ o → (i : Instr) → uses d i ≡ true → left b.format (MaskOrUse d) i ≡ Some Nothing
+      by : (o : Bool) → has_single_mask b.format ≡ o → (i : Instr) → uses d i ≡ true → left b.format (MaskOrUse d) i ≡ Some Nothing
       by true e (Load kind rd rs1 imm) u = rw (e, u) refl
       by true e (Store width rs1 rs2 imm) u = rw (e, u) refl
       by false e (Load kind rd rs1 imm) u = rw (e, u) refl
@@ -90,11 +90,11 @@ placing d = Op Or d 31 26
 abbrev pub placing_code : Instr
 placing_code = Op Or 30 30 24
 
--- where a mask has one step, this is one
+-- where masks are single, this is one
 masking_write : (f : Format) (a : ℕ) → IsWrite f (masking a) Nothing
-masking_write f a = by (has_one_step f) refl
+masking_write f a = by (has_single_mask f) refl
   where
-    by : (o : Bool) → has_one_step f ≡ o → IsWrite f (masking a) Nothing
+    by : (o : Bool) → has_single_mask f ≡ o → IsWrite f (masking a) Nothing
     by true e = record { reserved = refl; offset = rw e refl; own_is = rw e refl }
     by false e = record { reserved = refl; offset = rw e refl; own_is = rw e refl }
 
@@ -103,40 +103,40 @@ same d = eq-eqb d d refl
 
 -- a data register of each format is one of this format
 pub data_in : (f : Format) (d : ℕ) → is_data_register d ≡ true → is_data_register_in f d ≡ true
-data_in f d h = or_left (is_data_register d) (((d == 26) || (d == 31)) && has_one_step f) h
+data_in f d h = or_left (is_data_register d) (((d == 26) || (d == 31)) && has_single_mask f) h
 
-placing_write : (f : Format) (d : ℕ) → has_one_step f ≡ false → is_data_register d ≡ true → IsWrite f (placing d) Nothing
+placing_write : (f : Format) (d : ℕ) → has_single_mask f ≡ false → is_data_register d ≡ true → IsWrite f (placing d) Nothing
 placing_write f d two h =
     let has = data_in f d h in
     typed f (placing d) d Nothing refl (or_left (is_data_register_in f d) (d == 30) has) (rw (has, two, same d) refl)
 
-single_write : (f : Format) (d a : ℕ) → has_one_step f ≡ true → is_data_register_in f d ≡ true → IsWrite f (single d a) Nothing
+single_write : (f : Format) (d a : ℕ) → has_single_mask f ≡ true → is_data_register_in f d ≡ true → IsWrite f (single d a) Nothing
 single_write f d a one has = typed f (single d a) d Nothing refl (or_left (is_data_register_in f d) (d == 30) has) (rw (has, one, same d) refl)
 
 module _ (b : BundlePlace) (at size : ℕ) (before : IsBeforeEnd b at size) where
   pub masked : (a : ℕ) → IsQuiet b at size Nothing (masking a) Nothing
   masked a = quiet_where b at size before Nothing Nothing Nothing (masking a) (computing b at (masking a) 31 refl).safe (masking_write b.format a) refl
 
-  pub masked_owed : (d : ℕ) → has_one_step b.format ≡ false → IsQuiet b at size (Mask d) (masking d) (PlaceOnly d)
+  pub masked_owed : (d : ℕ) → has_single_mask b.format ≡ false → IsQuiet b at size (Mask d) (masking d) (PlaceOnly d)
   masked_owed d two = quiet_where b at size before (Mask d) (PlaceOnly d) Nothing (masking d) (computing b at (masking d) 31 refl).safe (masking_write b.format d) (rw (two, same d) refl)
 
-  pub masked_or_used : (d : ℕ) → has_one_step b.format ≡ false → IsQuiet b at size (MaskOrUse d) (masking d) (PlaceOnly d)
+  pub masked_or_used : (d : ℕ) → has_single_mask b.format ≡ false → IsQuiet b at size (MaskOrUse d) (masking d) (PlaceOnly d)
   masked_or_used d two = quiet_where b at size before (MaskOrUse d) (PlaceOnly d) Nothing (masking d) (computing b at (masking d) 31 refl).safe (masking_write b.format d) (rw (two, same d) refl)
 
-  pub placed : (d : ℕ) → has_one_step b.format ≡ false → is_data_register d ≡ true → IsQuiet b at size Nothing (placing d) Nothing
+  pub placed : (d : ℕ) → has_single_mask b.format ≡ false → is_data_register d ≡ true → IsQuiet b at size Nothing (placing d) Nothing
   placed d two h = quiet_where b at size before Nothing Nothing Nothing (placing d) (computing b at (placing d) d refl).safe (placing_write b.format d two h) refl
 
-  pub placed_owed : (d : ℕ) → has_one_step b.format ≡ false → is_data_register d ≡ true → IsQuiet b at size (PlaceOnly d) (placing d) Nothing
+  pub placed_owed : (d : ℕ) → has_single_mask b.format ≡ false → is_data_register d ≡ true → IsQuiet b at size (PlaceOnly d) (placing d) Nothing
   placed_owed d two h = quiet_where b at size before (PlaceOnly d) Nothing Nothing (placing d) (computing b at (placing d) d refl).safe (placing_write b.format d two h) (rw (two, same d) refl)
 
-  -- the mask of one step, whatever of it is owed
-  pub single_alone : (d a : ℕ) → has_one_step b.format ≡ true → is_data_register_in b.format d ≡ true → IsQuiet b at size Nothing (single d a) Nothing
+  -- the single mask, whatever of it is owed
+  pub single_alone : (d a : ℕ) → has_single_mask b.format ≡ true → is_data_register_in b.format d ≡ true → IsQuiet b at size Nothing (single d a) Nothing
   single_alone d a one h = quiet_where b at size before Nothing Nothing Nothing (single d a) (computing b at (single d a) d refl).safe (single_write b.format d a one h) refl
 
-  pub single_owed : (d a : ℕ) → has_one_step b.format ≡ true → is_data_register_in b.format d ≡ true → IsQuiet b at size (Mask d) (single d a) Nothing
+  pub single_owed : (d a : ℕ) → has_single_mask b.format ≡ true → is_data_register_in b.format d ≡ true → IsQuiet b at size (Mask d) (single d a) Nothing
   single_owed d a one h = quiet_where b at size before (Mask d) Nothing Nothing (single d a) (computing b at (single d a) d refl).safe (single_write b.format d a one h) (rw (one, same d) refl)
 
-  pub single_or_used : (d a : ℕ) → has_one_step b.format ≡ true → is_data_register_in b.format d ≡ true → IsQuiet b at size (MaskOrUse d) (single d a) Nothing
+  pub single_or_used : (d a : ℕ) → has_single_mask b.format ≡ true → is_data_register_in b.format d ≡ true → IsQuiet b at size (MaskOrUse d) (single d a) Nothing
   single_or_used d a one h = quiet_where b at size before (MaskOrUse d) Nothing Nothing (single d a) (computing b at (single d a) d refl).safe (single_write b.format d a one h) (rw (one, same d) refl)
 
   pub code_owed : IsQuiet b at size Code placing_code Nothing
@@ -154,9 +154,9 @@ module _ (b : BundlePlace) (at size : ℕ) (before : IsBeforeEnd b at size) wher
       let both = and_parts (rd == d) (rs1 == d) s in
       let one : rd ≡ d = eqb-true rd d both.0 in
       let two : rs1 ≡ d = eqb-true rs1 d both.1 in
-      owing d (OpImm Addi rd rs1 imm) (MaskOrUse d) (ap Computes one) (or_left (is_data_register_in b.format d) (d == 30) has) (owes (has_one_step b.format) refl one two)
+      owing d (OpImm Addi rd rs1 imm) (MaskOrUse d) (ap Computes one) (or_left (is_data_register_in b.format d) (d == 30) has) (owes (has_single_mask b.format) refl one two)
     where
-      owes : (o : Bool) → has_one_step b.format ≡ o → rd ≡ d → rs1 ≡ d → owed_by b.format (OpImm Addi rd rs1 imm) ≡ Some (MaskOrUse d)
+      owes : (o : Bool) → has_single_mask b.format ≡ o → rd ≡ d → rs1 ≡ d → owed_by b.format (OpImm Addi rd rs1 imm) ≡ Some (MaskOrUse d)
       owes true e one two = rw (one, two, has, e, same d) refl
       owes false e one two = rw (one, two, has, e, same d) refl
   stepping d i has s = absurd cc

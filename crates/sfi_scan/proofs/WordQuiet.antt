@@ -8,7 +8,7 @@ use Rattle.sfi_rules.specs.words.Rules.{owed_of, breaks_reserved, is_reserved_on
 use Rattle.sfi_rules.specs.words.Findings.{is_at_gate, is_data_one}
 use Rattle.sfi_rules.proofs.Facts.{none_of}
 use Rattle.sfi_formats.specs.declared.format.Format.{Format}
-use Rattle.sfi_formats.specs.Formats.{has_one_step, is_data_register_in, is_reserved_in}
+use Rattle.sfi_formats.specs.Formats.{has_single_mask, is_data_register_in, is_reserved_in}
 
 -- ==== What an instruction writes: a register that is free, or a typed one and what it then owes.
 
@@ -46,7 +46,7 @@ free r h =
 
 -- it is no data register of any format
 no_data : (f : Format) (r : ℕ) → IsFree r → is_data_register_in f r ≡ false
-no_data f r free = ap₂ (λ (p q : Bool). p || (q && has_one_step f)) free.not_data (ap₂ (λ (p q : Bool). p || q) free.base free.offset)
+no_data f r free = ap₂ (λ (p q : Bool). p || (q && has_single_mask f)) free.not_data (ap₂ (λ (p q : Bool). p || q) free.base free.offset)
 
 abbrev pub is_reserved_or_typed_one : Option ℕ → Bool
 is_reserved_or_typed_one None = false
@@ -56,11 +56,11 @@ owes_none : (f : Format) (r : ℕ) (i : Instr) → IsFree r → owed_of f (Some 
 owes_none f r i free = rw (no_data f r free, free.code) refl
 
 breaks_offset_of : Format → Instr → Option ℕ → Bool
-breaks_offset_of f i d = is_register 31 d && not (has_one_step f || is_masking 27 31 i)
+breaks_offset_of f i d = is_register 31 d && not (has_single_mask f || is_masking 27 31 i)
 
 no_offset : (f : Format) (i : Instr) (r : ℕ) → destination i ≡ Some r → (r == 31) ≡ false → breaks_offset f i ≡ false
 unfolding breaks_offset_of
-no_offset f i r e other = ap (breaks_offset_of f i) e ∙ and_left (r == 31) (not (has_one_step f || is_masking 27 31 i)) other
+no_offset f i r e other = ap (breaks_offset_of f i) e ∙ and_left (r == 31) (not (has_single_mask f || is_masking 27 31 i)) other
 
 -- an instruction that writes none that is kept owes nothing
 pub unkept : (f : Format) (i : Instr) → is_reserved_or_typed_one (destination i) ≡ false → IsWrite f i Nothing
@@ -85,16 +85,16 @@ unkept f i h = by (destination i) refl h
 
 record IsTyped (f : Format) (r : ℕ) : Type 0 where
   reserved : is_reserved_in f r ≡ false
-  offset : (masking : Bool) → ((r == 31) && not (has_one_step f || masking)) ≡ false
+  offset : (masking : Bool) → ((r == 31) && not (has_single_mask f || masking)) ≡ false
 
--- x31 is a data register only where a mask has one step, and then a write of it asks no mask
-data_offset : (f : Format) (r : ℕ) → is_data_register_in f r ≡ true → (masking : Bool) → ((r == 31) && not (has_one_step f || masking)) ≡ false
-data_offset f r h masking = by (r == 31) (has_one_step f) refl refl
+-- x31 is a data register only where masks are single, and then a write of it asks no mask
+data_offset : (f : Format) (r : ℕ) → is_data_register_in f r ≡ true → (masking : Bool) → ((r == 31) && not (has_single_mask f || masking)) ≡ false
+data_offset f r h masking = by (r == 31) (has_single_mask f) refl refl
   where
-    by : (p o : Bool) → (r == 31) ≡ p → has_one_step f ≡ o → (p && not (o || masking)) ≡ false
+    by : (p o : Bool) → (r == 31) ≡ p → has_single_mask f ≡ o → (p && not (o || masking)) ≡ false
     by false o e g = refl
     by true true e g = refl
-    by true false e g = absurd (both_ways (has_one_step f) g (subst (λ (n : ℕ). is_data_register_in f n ≡ true) (eqb-true r 31 e) h))
+    by true false e g = absurd (both_ways (has_single_mask f) g (subst (λ (n : ℕ). is_data_register_in f n ≡ true) (eqb-true r 31 e) h))
 
 data_typed : (f : Format) (r : ℕ) → is_data_register_in f r ≡ true → IsTyped f r
 data_typed f r h = record {

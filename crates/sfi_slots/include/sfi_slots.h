@@ -80,7 +80,7 @@ bool sfi_slots_roll_back(struct sfi_slot *slots, size_t count, uint32_t number);
 /* Drops both versions. Not unless the current one is good. */
 bool sfi_slots_remove(struct sfi_slot *slots, size_t count, uint32_t number);
 /* Whether the current version may be entered at pc: it is on trial or good, all of its code is written, and a bundle of it
-   begins there, or in the third format a word. */
+   begins there, or in the third and fourth format a word. */
 bool sfi_slots_may_enter(const struct sfi_slot *slots, size_t count, uint32_t number, uint32_t pc);
 
 #ifdef __cplusplus

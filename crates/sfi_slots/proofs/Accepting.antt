@@ -5,7 +5,7 @@ use Rattle.sfi_image.specs.Spelling.{Holds}
 use Rattle.sfi_slots.specs.declared.bounds.SfiBounds.{SfiBounds}
 use Rattle.sfi_slots.specs.declared.slot.SfiVersion.{SfiVersion}
 use Rattle.sfi_slots.specs.declared.slot.SfiSlot.{SfiSlot}
-use Rattle.sfi_slots.specs.Slots.{AreBoundsApart, IsKept, IsVersionOf, IsApartFromOthers, receiving, new_accepted, accepted, next_of}
+use Rattle.sfi_slots.specs.Slots.{LieApart, IsKept, IsVersionOf, IsApartFromOthers, receiving, new_accepted, accepted, next_of}
 use Rattle.sfi_slots.specs.Laws.{Device, Owner, owner, after_accepted}
 use Rattle.sfi_slots.proofs.Harmless.{then_some, else_some}
 use Rattle.sfi_slots.proofs.Sound.{IsSound, written_of, set_at}
@@ -16,7 +16,7 @@ contains_more xs x y c = (suc c.0, omega (arith, c.1), c.2)
 contains_first : (xs : List Owner) (x : Owner) → Contains (x ∷ xs) x
 contains_first xs x = (0, omega arith, refl)
 
-apart_swapped : (b c : SfiBounds) → AreBoundsApart b c → AreBoundsApart c b
+apart_swapped : (b c : SfiBounds) → LieApart b c → LieApart c b
 apart_swapped b c a = record {
   regions = record {
     code_code = λ at x y. a.regions.code_code at y x;
@@ -37,23 +37,23 @@ module _ (d : Device) (n : ℕ) (b : SfiBounds) (s : SfiSlot) (sound : IsSound d
   slots = slice_set d.slots n (taken b s)
 
   -- a kept version of that slot is apart from one of another
-  apart_from : (j : ℕ) (t : SfiSlot) (a v : SfiVersion) → slice_get d.slots j ≡ Some t → j ≢ n → IsVersionOf a (taken b s) → IsVersionOf v t → IsKept a → IsKept v → AreBoundsApart a.bounds v.bounds
+  apart_from : (j : ℕ) (t : SfiSlot) (a v : SfiVersion) → slice_get d.slots j ≡ Some t → j ≢ n → IsVersionOf a (taken b s) → IsVersionOf v t → IsKept a → IsKept v → LieApart a.bounds v.bounds
   apart_from j t a v at_j differ of_a of_v kept_a kept_v = elim of_a [
     | inl e ↦ sound.versions.apart n j s t a v found at_j (λ same. differ (sym same)) (inl e) of_v kept_a kept_v
     | inr e ↦
         let all = fits j t at_j differ in
-        let apart : AreBoundsApart b v.bounds = elim of_v [
-          | inl w ↦ subst (λ (x : SfiVersion). AreBoundsApart b x.bounds) (sym w) (all.0 (subst IsKept w kept_v))
-          | inr w ↦ subst (λ (x : SfiVersion). AreBoundsApart b x.bounds) (sym w) (all.1 (subst IsKept w kept_v))
+        let apart : LieApart b v.bounds = elim of_v [
+          | inl w ↦ subst (λ (x : SfiVersion). LieApart b x.bounds) (sym w) (all.0 (subst IsKept w kept_v))
+          | inr w ↦ subst (λ (x : SfiVersion). LieApart b x.bounds) (sym w) (all.1 (subst IsKept w kept_v))
         ] in
-        subst (λ (x : SfiVersion). AreBoundsApart x.bounds v.bounds) (sym e) apart
+        subst (λ (x : SfiVersion). LieApart x.bounds v.bounds) (sym e) apart
   ]
 
   -- a slot of the list is that one, or as it was
   abbrev IsEither : ℕ → SfiSlot → Type 0
   IsEither i t = ((i ≡ n) × (t ≡ taken b s)) ⊎ ((i ≢ n) × (slice_get d.slots i ≡ Some t))
 
-  apart_either : (i j : ℕ) (t u : SfiSlot) (a v : SfiVersion) → IsEither i t → IsEither j u → i ≢ j → IsVersionOf a t → IsVersionOf v u → IsKept a → IsKept v → AreBoundsApart a.bounds v.bounds
+  apart_either : (i j : ℕ) (t u : SfiSlot) (a v : SfiVersion) → IsEither i t → IsEither j u → i ≢ j → IsVersionOf a t → IsVersionOf v u → IsKept a → IsKept v → LieApart a.bounds v.bounds
   apart_either i j t u a v (inl x) (inl y) differ of_a of_v kept_a kept_v = absurd (differ (x.0 ∙ sym y.0))
   apart_either i j t u a v (inl x) (inr y) differ of_a of_v kept_a kept_v = apart_from j u a v y.1 y.0 (subst (IsVersionOf a) x.1 of_a) of_v kept_a kept_v
   apart_either i j t u a v (inr x) (inl y) differ of_a of_v kept_a kept_v = apart_swapped v.bounds a.bounds (apart_from i t v a x.1 x.0 (subst (IsVersionOf v) y.1 of_v) of_a kept_v kept_a)

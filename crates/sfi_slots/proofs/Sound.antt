@@ -10,7 +10,7 @@ use Rattle.sfi_image.specs.Spelling.{Holds}
 use Rattle.sfi_slots.specs.declared.bounds.SfiBounds.{SfiBounds}
 use Rattle.sfi_slots.specs.declared.slot.SfiVersion.{SfiVersion}
 use Rattle.sfi_slots.specs.declared.slot.SfiSlot.{SfiSlot}
-use Rattle.sfi_slots.specs.Slots.{AreBoundsApart, IsKept, IsVersionOf, next_of, with_next, slots_after}
+use Rattle.sfi_slots.specs.Slots.{LieApart, IsKept, IsVersionOf, next_of, with_next, slots_after}
 use Rattle.sfi_slots.specs.Laws.{Device, Owner, owner, called}
 use Rattle.sfi_slots.proofs.Harmless.{ComesFrom, KeepsVersions, IsHarmless, versions_of, itself}
 
@@ -29,7 +29,7 @@ set_at xs n i x t at =
 
 -- versions that are kept lie apart, and were accepted
 pub record AreVersionsSound (slots : List SfiSlot) (owners : List Owner) : Type 0 where
-  pub apart : (i j : ℕ) (s t : SfiSlot) (a b : SfiVersion) → slice_get slots i ≡ Some s → slice_get slots j ≡ Some t → i ≢ j → IsVersionOf a s → IsVersionOf b t → IsKept a → IsKept b → AreBoundsApart a.bounds b.bounds
+  pub apart : (i j : ℕ) (s t : SfiSlot) (a b : SfiVersion) → slice_get slots i ≡ Some s → slice_get slots j ≡ Some t → i ≢ j → IsVersionOf a s → IsVersionOf b t → IsKept a → IsKept b → LieApart a.bounds b.bounds
   pub accepted : (i : ℕ) (s : SfiSlot) (a : SfiVersion) → slice_get slots i ≡ Some s → IsVersionOf a s → IsKept a → Contains owners (owner i a)
   pub memories : (i : ℕ) (s : SfiSlot) → slice_get slots i ≡ Some s → s.current.memory ≢ s.other.memory
 
@@ -65,13 +65,13 @@ owner_same : (i : ℕ) (a b : SfiVersion) → a.bounds ≡ b.bounds → a.number
 owner_same i a b e n = λ k. record { slot = i; number = n k; bounds = e k }
 
 module _ (olds slots : List SfiSlot) (owners : List Owner) (sound : AreVersionsSound olds owners) (origins : HaveOrigins KeepsVersions olds slots) where
-  apart_after : (i j : ℕ) (s t : SfiSlot) (a b : SfiVersion) → slice_get slots i ≡ Some s → slice_get slots j ≡ Some t → i ≢ j → IsVersionOf a s → IsVersionOf b t → IsKept a → IsKept b → AreBoundsApart a.bounds b.bounds
+  apart_after : (i j : ℕ) (s t : SfiSlot) (a b : SfiVersion) → slice_get slots i ≡ Some s → slice_get slots j ≡ Some t → i ≢ j → IsVersionOf a s → IsVersionOf b t → IsKept a → IsKept b → LieApart a.bounds b.bounds
   apart_after i j s t a b at_i at_j differ of_a of_b kept_a kept_b =
       let one = origins i s at_i in
       let other = origins j t at_j in
       let a_from = from_of one.slot s a one.is of_a kept_a in
       let b_from = from_of other.slot t b other.is of_b kept_b in
-      subst (λ x. AreBoundsApart x b.bounds) a_from.bounds (subst (λ y. AreBoundsApart a_from.version.bounds y) b_from.bounds
+      subst (λ x. LieApart x b.bounds) a_from.bounds (subst (λ y. LieApart a_from.version.bounds y) b_from.bounds
       (sound.apart i j one.slot other.slot a_from.version b_from.version one.is_at other.is_at differ a_from.is_of b_from.is_of a_from.kept b_from.kept))
 
   accepted_after : (i : ℕ) (s : SfiSlot) (a : SfiVersion) → slice_get slots i ≡ Some s → IsVersionOf a s → IsKept a → Contains owners (owner i a)

@@ -1,11 +1,14 @@
 -- Slots of a device, each with two versions of a plug-in: what a call makes of them, and what may
 -- be entered.
-use Rattle.std.specs.Prelude.{◌≡◌, ◌≢◌, ◌≤◌, ◌+◌, ◌-◌, ◌%◌, ◌^◌, ◌==◌, ◌&&◌, nat_lt, nat_le, ◌⊎◌, ℕ, List, Option, Some, None, Bool, true, slice_get, slice_set, if◌then◌else◌}
+use Rattle.std.specs.Prelude.{◌≡◌, ◌≢◌, ◌≤◌, ◌+◌, ◌-◌, ◌%◌, ◌^◌, ◌==◌, ◌&&◌, ◌||◌, nat_lt, nat_le, ◌⊎◌, ℕ, List, Option, Some, None, Bool, slice_get, slice_set, if◌then◌else◌}
 use Rattle.sfi_formats.specs.declared.format.Format.{Format}
-use Rattle.sfi_formats.specs.declared.format.Format.TheVariants.{Sfi1, Sfi2, Sfiw}
-use Rattle.sfi_formats.specs.Formats.{unit, has_one_step}
+use Rattle.sfi_formats.specs.declared.format.Format.TheVariants.{Sfi1, Sfi2, Sfiw, Sfis}
+use Rattle.sfi_formats.specs.Formats.{unit}
+use Rattle.sfi_formats.specs.Limits.{bundle_size}
 use Rattle.sfi_image.specs.declared.span.Span.{Span}
-use Rattle.sfi_image.specs.Spelling.{AreApart, Holds, with_guards, zone_end, IsClear}
+use Rattle.sfi_image.specs.Spelling.{Holds}
+use Rattle.sfi_image.specs.Bounds.{AreBoundsApart}
+use Rattle.sfi_image.specs.declared.bounds.Bounds.{Bounds}
 use Rattle.sfi_slots.specs.declared.bounds.SfiBounds.{SfiBounds}
 use Rattle.sfi_slots.specs.declared.slot.SfiVersion.{SfiVersion}
 use Rattle.sfi_slots.specs.declared.slot.SfiSlot.{SfiSlot}
@@ -16,39 +19,30 @@ use Rattle.sfi_slots.specs.declared.slot.SfiSlot.{SfiSlot}
 abbrev pub code_of : SfiBounds → Span
 code_of b = record { base = b.code_base; size = b.code_size }
 
--- the data region with a guard zone on each side
-abbrev pub guarded_data_of : SfiBounds → Span
-guarded_data_of b = with_guards (record { base = b.data_base; size = b.data_size })
-
--- the format of that number; each but 2 and 3 counts as that of the first
+-- the format of that number; each but 1, 2 and 3 counts as that of the fourth, which asks most of others
 abbrev pub format_of : ℕ → Format
-format_of number = if number == 3 then Sfiw else if number == 2 then Sfi2 else Sfi1
+format_of number =
+    if number == 1 then Sfi1 else if number == 2 then Sfi2 else if number == 3 then Sfiw else Sfis
 
--- no region or guard zone of `one` has an address in common with one of `other`
-pub record AreRegionsApart (one other : SfiBounds) : Type 0 where
-  pub code_code : AreApart (code_of one) (code_of other)
-  pub code_guarded : AreApart (code_of one) (guarded_data_of other)
-  pub guarded_code : AreApart (guarded_data_of one) (code_of other)
-  pub guarded_guarded : AreApart (guarded_data_of one) (guarded_data_of other)
-
--- where the format of `one` has a zone at zero, the span lies clear of it
-abbrev pub IsClearOfZone : SfiBounds → Span → Type 0
-IsClearOfZone one s = has_one_step (format_of one.format) ≡ true → IsClear (zone_end one.data_size) s
-
--- no region or guard zone of `other` meets a zone at zero of `one`
-pub record IsClearOf (one other : SfiBounds) : Type 0 where
-  pub code : IsClearOfZone one (code_of other)
-  pub guarded : IsClearOfZone one (guarded_data_of other)
+-- where it lies, and its image's format
+abbrev pub bounds_of : SfiBounds → Bounds
+bounds_of b = record {
+  format = format_of b.format;
+  code_base = b.code_base;
+  code_size = b.code_size;
+  data_base = b.data_base;
+  data_size = b.data_size;
+}
 
 -- no region or guard zone of one meets one of the other, nor a zone at zero of the other
-pub record AreBoundsApart (one other : SfiBounds) : Type 0 where
-  pub regions : AreRegionsApart one other
-  pub clear : IsClearOf one other
-  pub other_clear : IsClearOf other one
+abbrev pub LieApart : SfiBounds → SfiBounds → Type 0
+LieApart one other = AreBoundsApart (bounds_of one) (bounds_of other)
 
--- the bytes of a unit of code, a bundle or a word
+-- the bytes of a unit of code, a bundle or a word; of a number that no format has, a bundle's, since at
+-- its multiples a unit begins in each format
 abbrev pub unit_of : ℕ → ℕ
-unit_of number = unit (format_of number)
+unit_of number =
+    if (number == 3) || (number == 4) then unit (format_of number) else bundle_size
 
 -- ==== States of a version.
 
@@ -89,7 +83,7 @@ pub record MayEnter (s : SfiSlot) (pc : ℕ) : Type 0 where
 
 -- the version isn't kept, or lies apart
 abbrev pub IsApartFrom : SfiBounds → SfiVersion → Type 0
-IsApartFrom b v = IsKept v → AreBoundsApart b v.bounds
+IsApartFrom b v = IsKept v → LieApart b v.bounds
 
 -- both versions of the slot
 abbrev pub IsApartFromSlot : SfiBounds → SfiSlot → Type 0

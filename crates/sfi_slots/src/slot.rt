@@ -3,7 +3,8 @@ ghost use Rattle.std.specs.Prelude.{◌≡◌, ◌≢◌, ◌<◌, ◌↔◌, �
 ghost use Rattle.sfi_slots.specs.declared.slot.SfiSlot.{SfiSlot};
 ghost use Rattle.sfi_slots.specs.Slots.{IsKept, IsApartFrom, IsApartFromSlot, IsApartFromOthers, MayEnter, new_version, unit_of};
 
-use crate::bounds::{SfiBounds, are_bounds_apart, format_of};
+use crate::bounds::{SfiBounds, format_of, lie_apart};
+use sfi_formats::BUNDLE_SIZE;
 
 /// A version's state where there is none.
 pub const EMPTY: u32 = 0;
@@ -73,7 +74,7 @@ fn is_apart_from(bounds: &SfiBounds, version: &SfiVersion) -> bool
     if version.state < ACCEPTED {
         return true;
     }
-    are_bounds_apart(bounds, &version.bounds)
+    lie_apart(bounds, &version.bounds)
 }
 
 /// The same for both versions of a slot.
@@ -140,10 +141,15 @@ pub(crate) fn may_enter(slot: &SfiSlot, pc: u32) -> bool
     offset % unit_of(bounds.format) == 0
 }
 
-/// How many bytes a unit of code has in the format of that number: a sandbox is entered at multiples.
+/// How many bytes a unit of code has in the format of that number, or a bundle's where no format has it:
+/// a sandbox is entered at multiples.
 fn unit_of(number: u32) -> u32
     ensures is { result ≡ unit_of number }
     ensures positive { 0 < result }
 {
-    format_of(number).unit()
+    if number == 3 || number == 4 {
+        format_of(number).unit()
+    } else {
+        BUNDLE_SIZE
+    }
 }

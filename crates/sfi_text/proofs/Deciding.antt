@@ -3,7 +3,7 @@ use Rattle.sfi_text.proofs.Prelude.{◌≡◌, ℕ, Bool, true, false, List, [],
 use Rattle.sfi_text.specs.private.Reading.{candidate, IsInReach}
 use Rattle.sfi_formats.specs.Limits.{source_data_most}
 use Rattle.sfi_formats.specs.declared.format.Format.{Format}
-use Rattle.sfi_formats.specs.declared.format.Format.TheVariants.{Sfi1, Sfi2, Sfiw}
+use Rattle.sfi_formats.specs.declared.format.Format.TheVariants.{Sfi1, Sfi2, Sfiw, Sfis}
 use Rattle.std.specs.Int.{is_power_of_two}
 use Rattle.sfi_text.proofs.NameTables.{none_of_other, register_or_not}
 use Rattle.sfi_text.proofs.Decided.{Decided, decided_both, decided_le, decided_bit, decided_same}
@@ -124,14 +124,15 @@ mode_or_not token =
       ]
     ]
 
-no_format : (token : List ℕ) → (token ≡ codes "words" → ⊥) → (IsNumber token (pos 1) → ⊥) → (IsNumber token (pos 2) → ⊥) → (f : Format) → SaysFormat token f → ⊥
-no_format token words one two Sfi1 h = one h
-no_format token words one two Sfi2 h = two h
-no_format token words one two Sfiw h = words h
+no_format : (token : List ℕ) → (token ≡ codes "words" → ⊥) → (token ≡ codes "single" → ⊥) → (IsNumber token (pos 1) → ⊥) → (IsNumber token (pos 2) → ⊥) → (f : Format) → SaysFormat token f → ⊥
+no_format token words single one two Sfi1 h = one h
+no_format token words single one two Sfi2 h = two h
+no_format token words single one two Sfiw h = words h
+no_format token words single one two Sfis h = single h
 
-pub none_says : (token : List ℕ) → false ≡ bytes_eq token (codes "words") → ((z : ℤ) → IsNumber token z → IsInReach z → ⊥) → (f : Format) → SaysFormat token f → ⊥
-none_says token words none f h =
-    no_format token (λ is. false≢true (words ∙ (bytes_eq-Decides token (codes "words")).1 is)) (λ is. none (pos 1) is (omega (arith, ints), omega (arith, ints))) (λ is. none (pos 2) is (omega (arith, ints), omega (arith, ints))) f h
+pub none_says : (token : List ℕ) → false ≡ bytes_eq token (codes "words") → false ≡ bytes_eq token (codes "single") → ((z : ℤ) → IsNumber token z → IsInReach z → ⊥) → (f : Format) → SaysFormat token f → ⊥
+none_says token words single none f h =
+    no_format token (λ is. false≢true (words ∙ (bytes_eq-Decides token (codes "words")).1 is)) (λ is. false≢true (single ∙ (bytes_eq-Decides token (codes "single")).1 is)) (λ is. none (pos 1) is (omega (arith, ints), omega (arith, ints))) (λ is. none (pos 2) is (omega (arith, ints), omega (arith, ints))) f h
 
 integer_or_not : (z : ℤ) (n : ℕ) → Decided (z ≡ pos n)
 integer_or_not (pos m) n = elim (cases_eq m n) [ inl e ↦ inl (ap pos e) | inr not ↦ inr (λ h. let e = h in not cc) ]
@@ -151,11 +152,14 @@ format_or_not : (token : List ℕ) → IsToken token → StandsOrNot ImageFormat
 format_or_not token is_token =
     elim (decided_same token (codes "words")) [
       | inl words ↦ inl (record (operands 0 0 0 (pos 0)) { format = Sfiw }, words)
-      | inr no_words ↦ elim (is_or_not token is_token 1) [
-        | inl one ↦ inl (record (operands 0 0 0 (pos 0)) { format = Sfi1 }, one)
-        | inr no_one ↦ elim (is_or_not token is_token 2) [
-          | inl two ↦ inl (record (operands 0 0 0 (pos 0)) { format = Sfi2 }, two)
-          | inr no_two ↦ inr (λ o. no_format token no_words no_one no_two o.format)
+      | inr no_words ↦ elim (decided_same token (codes "single")) [
+        | inl single ↦ inl (record (operands 0 0 0 (pos 0)) { format = Sfis }, single)
+        | inr no_single ↦ elim (is_or_not token is_token 1) [
+          | inl one ↦ inl (record (operands 0 0 0 (pos 0)) { format = Sfi1 }, one)
+          | inr no_one ↦ elim (is_or_not token is_token 2) [
+            | inl two ↦ inl (record (operands 0 0 0 (pos 0)) { format = Sfi2 }, two)
+            | inr no_two ↦ inr (λ o. no_format token no_words no_single no_one no_two o.format)
+          ]
         ]
       ]
     ]

@@ -6,7 +6,7 @@ use Rattle.sfi_text.proofs.Taking.{takes_unique, blank_takes_none, One, either_o
 use Rattle.sfi_text.proofs.Forms.{stands_by_operand, reads_fit, fits_in_range, full_fence_in_range}
 use Rattle.sfi_text.proofs.Deciding.{number_no_name}
 use Rattle.sfi_formats.specs.declared.format.Format.{Format}
-use Rattle.sfi_formats.specs.declared.format.Format.TheVariants.{Sfi1, Sfi2, Sfiw}
+use Rattle.sfi_formats.specs.declared.format.Format.TheVariants.{Sfi1, Sfi2, Sfiw, Sfis}
 use Rattle.rv_word.specs.declared.instr.Instr.TheVariants as instr
 use Rattle.sfi_text.specs.declared.mnemonic.Mnemonic.TheVariants as mnemonic
 use Rattle.sfi_text.specs.declared.cause.TextCause.TheVariants as cause
@@ -22,6 +22,12 @@ mode_unique false false h = refl
 words_no_number : (token : List ℕ) (z : ℤ) → token ≡ codes "words" → IsNumber token z → ⊥
 words_no_number token z is h = number_no_name (codes "words") z (subst (λ t. IsNumber t z) is h) (refl, (refl, (refl, (refl, (refl, tt)))))
 
+single_no_number : (token : List ℕ) (z : ℤ) → token ≡ codes "single" → IsNumber token z → ⊥
+single_no_number token z is h = number_no_name (codes "single") z (subst (λ t. IsNumber t z) is h) (refl, (refl, (refl, (refl, (refl, (refl, tt))))))
+
+words_no_single : (token : List ℕ) → token ≡ codes "words" → token ≡ codes "single" → ⊥
+words_no_single token words single = let e : codes "words" ≡ codes "single" = sym words ∙ single in cc
+
 format_unique : (token : List ℕ) (f g : Format) → SaysFormat token f → SaysFormat token g → f ≡ g
 format_unique token Sfi1 Sfi1 h k = refl
 format_unique token Sfi2 Sfi2 h k = refl
@@ -32,6 +38,13 @@ format_unique token Sfi1 Sfiw h k = absurd (words_no_number token (pos 1) k h)
 format_unique token Sfi2 Sfiw h k = absurd (words_no_number token (pos 2) k h)
 format_unique token Sfiw Sfi1 h k = absurd (words_no_number token (pos 1) h k)
 format_unique token Sfiw Sfi2 h k = absurd (words_no_number token (pos 2) h k)
+format_unique token Sfi1 Sfis h k = absurd (single_no_number token (pos 1) k h)
+format_unique token Sfi2 Sfis h k = absurd (single_no_number token (pos 2) k h)
+format_unique token Sfis Sfi1 h k = absurd (single_no_number token (pos 1) h k)
+format_unique token Sfis Sfi2 h k = absurd (single_no_number token (pos 2) h k)
+format_unique token Sfiw Sfis h k = absurd (words_no_single token h k)
+format_unique token Sfis Sfiw h k = absurd (words_no_single token k h)
+format_unique token Sfis Sfis h k = refl
 
 -- a token gives one operand
 operand_unique : (a b : OperandValues) (part : OperandPart) (token : List ℕ) → Stands a part token → Stands b part token → SameAt part a b

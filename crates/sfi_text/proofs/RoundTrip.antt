@@ -13,7 +13,7 @@ use Rattle.sfi_text.specs.declared.mnemonic.Mnemonic.TheVariants as mnemonic
 use Rattle.sfi_text.proofs.Forms.{in_range_fits}
 use Rattle.sfi_text.proofs.Meaning.{means}
 use Rattle.sfi_formats.specs.declared.format.Format.{Format}
-use Rattle.sfi_formats.specs.declared.format.Format.TheVariants.{Sfi1, Sfi2, Sfiw}
+use Rattle.sfi_formats.specs.declared.format.Format.TheVariants.{Sfi1, Sfi2, Sfiw, Sfis}
 
 -- ==== Where a token ends: at a mark, at a space, at the end of the text.
 
@@ -151,11 +151,13 @@ format_says : (f : Format) → SaysFormat (format_name f) f
 format_says Sfi1 = inl (1, inl ((omega arith, (omega arith, tt)), refl), refl)
 format_says Sfi2 = inl (2, inl ((omega arith, (omega arith, tt)), refl), refl)
 format_says Sfiw = refl
+format_says Sfis = refl
 
 format_token : (f : Format) → IsToken (format_name f)
 format_token Sfi1 = inr (inl (pos 1, format_says Sfi1))
 format_token Sfi2 = inr (inl (pos 2, format_says Sfi2))
 format_token Sfiw = inl (refl, (refl, (refl, (refl, (refl, tt)))))
+format_token Sfis = inl (refl, (refl, (refl, (refl, (refl, (refl, tt))))))
 
 pub reads_printed : (o : OperandValues) (form : List OperandPart) (gap : List ℕ) → IsBlank gap → is_spaced form ≡ true → AllSuit o form → Reads o form (gap ++ flat_map (part_text o) form)
 reads_printed o [] gap blank spaced fits = subst IsBlank (sym (append-nil gap)) blank

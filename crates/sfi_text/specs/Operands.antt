@@ -22,7 +22,7 @@ use Rattle.sfi_text.specs.declared.form.OperandPart.TheVariants.{Rd, Rs1, Rs2, N
 use Rattle.sfi_text.specs.declared.cause.TextCause.{TextCause}
 use Rattle.sfi_text.specs.declared.cause.TextCause.TheVariants as cause
 use Rattle.sfi_formats.specs.declared.format.Format.{Format}
-use Rattle.sfi_formats.specs.declared.format.Format.TheVariants.{Sfi1, Sfi2, Sfiw}
+use Rattle.sfi_formats.specs.declared.format.Format.TheVariants.{Sfi1, Sfi2, Sfiw, Sfis}
 use Rattle.sfi_text.specs.Tokens.{IsNumber, is_too_long, Takes, IsBlank, IsStuck, IsRegister}
 use Rattle.sfi_source.specs.Names.{IsLabel}
 
@@ -153,11 +153,12 @@ abbrev pub mode_name : Bool → List ℕ
 mode_name true = codes "rvc"
 mode_name false = codes "norvc"
 
--- `token` says the format: 1 is SFI1, 2 is SFI2, and `words` is SFIW
+-- `token` says the format: 1 is SFI1, 2 is SFI2, `words` is SFIW, and `single` is SFIS
 abbrev pub SaysFormat : List ℕ → Format → Type 0
 SaysFormat token Sfi1 = IsNumber token (pos 1)
 SaysFormat token Sfi2 = IsNumber token (pos 2)
 SaysFormat token Sfiw = token ≡ codes "words"
+SaysFormat token Sfis = token ≡ codes "single"
 
 -- `token` stands at this part of a statement with the operands `o`
 abbrev pub Stands : OperandValues → OperandPart → List ℕ → Type 0

@@ -9,7 +9,7 @@ use Rattle.rv_word.specs.Spelling.{modulo}
 use Rattle.sfi_source.specs.Source.{upper, lower, Sandbox}
 use Rattle.sfi_text.specs.declared.keyword.DataWidth.{DataWidth}
 use Rattle.sfi_text.specs.declared.keyword.DataWidth.TheVariants.{Word, Half, Byte}
-use Rattle.sfi_formats.specs.declared.format.Format.TheVariants.{Sfi1, Sfi2, Sfiw}
+use Rattle.sfi_formats.specs.declared.format.Format.TheVariants.{Sfi1, Sfi2, Sfiw, Sfis}
 use Rattle.sfi_text.specs.declared.source_text.Listed.{Listed}
 use Rattle.sfi_source.specs.declared.item.Body.{Body}
 use Rattle.sfi_source.specs.declared.item.Item.{Item}
@@ -125,6 +125,7 @@ abbrev pub has_tables : Format → Bool
 has_tables Sfi1 = false
 has_tables Sfi2 = true
 has_tables Sfiw = true
+has_tables Sfis = true
 
 -- a sandbox at its beginning: it has a format and a size of data, and nothing else
 abbrev pub begin : Format → ℕ → Begun

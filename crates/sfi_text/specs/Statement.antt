@@ -2,7 +2,7 @@
 use Rattle.std.specs.Prelude.{◌≡◌, ℕ, ◌⊎◌, List, [], ◌∷◌, ℤ, pos, false, ◌++◌, codes}
 use Rattle.rv_word.specs.declared.instr.Instr.{Instr}
 use Rattle.rv_word.specs.declared.instr.Instr.TheVariants as instr
-use Rattle.sfi_formats.specs.declared.format.Format.TheVariants.{Sfi1, Sfi2, Sfiw}
+use Rattle.sfi_formats.specs.declared.format.Format.TheVariants.{Sfi1, Sfi2, Sfiw, Sfis}
 use Rattle.sfi_text.specs.declared.cause.TextCause.{TextCause}
 use Rattle.sfi_text.specs.declared.cause.TextCause.TheVariants as cause
 use Rattle.sfi_text.specs.declared.mnemonic.Mnemonic.{Mnemonic}
@@ -111,6 +111,7 @@ abbrev pub format_name : Format → List ℕ
 format_name Sfi1 = codes "1"
 format_name Sfi2 = codes "2"
 format_name Sfiw = codes "words"
+format_name Sfis = codes "single"
 
 -- registers are x0 to x31, and a space follows a comma
 abbrev pub part_text : OperandValues → OperandPart → List ℕ

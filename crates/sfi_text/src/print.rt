@@ -66,6 +66,7 @@ fn format_name(format: Format) -> &'static str
         Format::Sfi1 => "1",
         Format::Sfi2 => "2",
         Format::Sfiw => "words",
+        Format::Sfis => "single",
     }
 }
 

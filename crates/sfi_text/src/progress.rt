@@ -56,7 +56,7 @@ fn has_tables(format: Format) -> bool
 {
     match format {
         Format::Sfi1 => false,
-        Format::Sfi2 | Format::Sfiw => true,
+        Format::Sfi2 | Format::Sfiw | Format::Sfis => true,
     }
 }
 

@@ -131,6 +131,9 @@ fn read_format(token: &str) -> Result<Format, TextCause>
     if token == "words" {
         return Ok(Format::Sfiw);
     }
+    if token == "single" {
+        return Ok(Format::Sfis);
+    }
     match parse_number(token) {
         Some(1) => Ok(Format::Sfi1),
         Some(2) => Ok(Format::Sfi2),

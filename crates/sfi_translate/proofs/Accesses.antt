@@ -7,7 +7,7 @@ use Rattle.rv_word.specs.declared.instr.Instr.{Instr}
 use Rattle.rv_word.specs.declared.instr.Instr.TheVariants.{Op, OpImm, Load, Store, Branch, Jal, Jalr, Lui, Auipc, Fence, Ecall, Ebreak}
 use Rattle.rv_step.specs.State.{State, register}
 use Rattle.rv_step.specs.Step.{Stands}
-use Rattle.sfi_formats.specs.Formats.{has_one_step, has_stack, is_stack, is_data_register_in}
+use Rattle.sfi_formats.specs.Formats.{has_single_mask, has_stack, is_stack, is_data_register_in}
 use Rattle.sfi_image.specs.Spelling.{IsNear, IsNearIn, IsNearZero, data_region}
 use Rattle.sfi_rules.specs.Readings.{Piece, follows_data_pair}
 use Rattle.sfi_rules.specs.Rules as bundle_rules
@@ -33,7 +33,7 @@ nearer_zero : (size far a : ℕ) → far ≤ 4096 → IsNearZero size far a → 
 nearer_zero size far a less (inl below) = inl (omega (arith, less, below))
 nearer_zero size far a less (inr (above, fits)) = inr (omega (arith, less, above), fits)
 
--- what is typed lies near the data, or where a mask has one step near the first addresses
+-- what is typed lies near the data, or where masks are single near the first addresses
 near_in : (p : Part) (far a : ℕ) → far ≤ 4096 → IsNearIn p.format (data_region p) far a → IsNearIn p.format (data_region p) 4096 a
 near_in p far a less (inl lies) = inl (nearer p far a less lies)
 near_in p far a less (inr (one, zero)) = inr (one, nearer_zero p.data_size far a less zero)
@@ -85,18 +85,18 @@ module _ (p : Part) (s : State) (clean : IsCleanInWords p) (good : IsGoodInWords
       → IsKnown p base (register s.hart base) (x ∷ good.place.place.later) → IsNearIn p.format (data_region p) 4096 (register s.hart base)
   in_word x base none none' (inl lies) = near_in p 1020 _ (omega arith) lies
   in_word x base none none' (inr (inl e)) = absurd (false≢true (sym (none base) ∙ e))
-  in_word x base none none' (inr (inr (inl e))) = absurd (false≢true (sym (none' base) ∙ (and_parts (word_rules.masks p.format base x.instr) (has_one_step p.format || word_rules.begins_placing p.format base good.place.place.later) e).0))
+  in_word x base none none' (inr (inr (inl e))) = absurd (false≢true (sym (none' base) ∙ (and_parts (word_rules.masks p.format base x.instr) (has_single_mask p.format || word_rules.begins_placing p.format base good.place.place.later) e).0))
   in_word x base none none' (inr (inr (inr (lies, used)))) = near_in p (1020 + 2048) _ (omega arith) lies
 
   of_base : (base : ℕ) → word_rules.may_access p.format base ≡ true → ((d : ℕ) → word_rules.places p.format d good.place.place.here.instr ≡ false) → ((d : ℕ) → word_rules.masks p.format d good.place.place.here.instr ≡ false)
       → IsNearIn p.format (data_region p) 4096 (register s.hart base)
   of_base base may none none' =
-      ⊎_elim typed (on_base (has_one_step p.format) refl) (or_cases (is_data_register_in p.format base) (base == 26) may)
+      ⊎_elim typed (on_base (has_single_mask p.format) refl) (or_cases (is_data_register_in p.format base) (base == 26) may)
     where
       typed : is_data_register_in p.format base ≡ true → IsNearIn p.format (data_region p) 4096 (register s.hart base)
       typed is = in_word good.place.place.here base none none' (good.place.known.each_data base is)
 
-      on_base : (o : Bool) → has_one_step p.format ≡ o → (base == 26) ≡ true → IsNearIn p.format (data_region p) 4096 (register s.hart base)
+      on_base : (o : Bool) → has_single_mask p.format ≡ o → (base == 26) ≡ true → IsNearIn p.format (data_region p) 4096 (register s.hart base)
       on_base true one is = typed (subst (λ (r : ℕ). is_data_register_in p.format r ≡ true) (sym (eqb-true base 26 is)) one)
       on_base false two is =
           let e : register s.hart base ≡ p.data_base = ap (λ (r : ℕ). register s.hart r) (eqb-true base 26 is) ∙ good.kept.reserved.data_base two in
@@ -104,8 +104,8 @@ module _ (p : Part) (s : State) (clean : IsCleanInWords p) (good : IsGoodInWords
           inl (record { low = omega (arith, e); high = omega (arith, e, some) })
 
   word_based : (i : Instr) → good.place.place.here.instr ≡ i → word_rules.breaks_access p.format i ≡ false → IsBased p s i
-  word_based (Load kind rd rs1 imm) e free = of_base rs1 (not-false _ free) (λ d. ap (word_rules.places p.format d) e ∙ neither (has_one_step p.format)) (λ d. ap (word_rules.masks p.format d) e ∙ neither (has_one_step p.format))
-  word_based (Store width rs1 rs2 imm) e free = of_base rs1 (not-false _ free) (λ d. ap (word_rules.places p.format d) e ∙ neither (has_one_step p.format)) (λ d. ap (word_rules.masks p.format d) e ∙ neither (has_one_step p.format))
+  word_based (Load kind rd rs1 imm) e free = of_base rs1 (not-false _ free) (λ d. ap (word_rules.places p.format d) e ∙ neither (has_single_mask p.format)) (λ d. ap (word_rules.masks p.format d) e ∙ neither (has_single_mask p.format))
+  word_based (Store width rs1 rs2 imm) e free = of_base rs1 (not-false _ free) (λ d. ap (word_rules.places p.format d) e ∙ neither (has_single_mask p.format)) (λ d. ap (word_rules.masks p.format d) e ∙ neither (has_single_mask p.format))
   word_based (Op op rd rs1 rs2) e free = tt
   word_based (OpImm op rd rs1 imm) e free = tt
   word_based (Branch cond rs1 rs2 offset) e free = tt

@@ -25,7 +25,7 @@ use Rattle.sfi_safe_runs.proofs.Stepping.{in_data}
 use Rattle.sfi_translate.specs.Machine.{is_tested, row_step, is_done, fixed, with_data_base}
 use Rattle.std.specs.Option.{option_map}
 use Rattle.std.proofs.lemmas.List.{set-get_or}
-use Rattle.sfi_formats.specs.Formats.{has_one_step, unit}
+use Rattle.sfi_formats.specs.Formats.{has_single_mask, unit}
 use Rattle.sfi_translate.specs.Laws.{HasData}
 
 -- ==== What a slow step does at a line is a step: an access that doesn't pass its test traps.
@@ -154,7 +154,7 @@ module _ (p : Part) (right : IsRightPart p) (m : Bytes) (has : HasData p m) wher
 same_set : (l : List ℕ) (k v : ℕ) → get_or l k 0 ≡ v → set l k v ≡ l
 same_set l k v e = ap (λ (x : ℕ). set l k x) (sym e) ∙ set-get_or l k 0
 
-same_base : (p : Part) (l : List ℕ) → HasReserved p.format (reserved_of p) l → (o : Bool) → has_one_step p.format ≡ o → with_data_base p l ≡ l
+same_base : (p : Part) (l : List ℕ) → HasReserved p.format (reserved_of p) l → (o : Bool) → has_single_mask p.format ≡ o → with_data_base p l ≡ l
 same_base p l has true one = rw one refl
 same_base p l has false two = rw two (same_set l 26 p.data_base (has.data_base two))
 
@@ -168,5 +168,5 @@ fixed_is p h zero_is has =
     (ap (λ (x : List ℕ). set (with_data_base p (set (set x 24 p.code_base) 25 code)) 27 last) (same_set l 0 0 zero_is)
     ∙ ap (λ (x : List ℕ). set (with_data_base p (set x 25 code)) 27 last) (same_set l 24 p.code_base has.code_base)
     ∙ ap (λ (x : List ℕ). set (with_data_base p x) 27 last) (same_set l 25 code has.code_mask)
-    ∙ ap (λ (x : List ℕ). set x 27 last) (same_base p l has (has_one_step p.format) refl)
+    ∙ ap (λ (x : List ℕ). set x 27 last) (same_base p l has (has_single_mask p.format) refl)
     ∙ same_set l 27 last has.data_mask)

@@ -9,7 +9,7 @@ use Rattle.rv_mem.specs.Bytes.{Bytes}
 use Rattle.rv_step.specs.State.{Hart}
 use Rattle.rv_step.specs.Step.{Stands}
 use Rattle.sfi_formats.specs.declared.format.Format.{Format}
-use Rattle.sfi_formats.specs.declared.format.Format.TheVariants.{Sfi1, Sfi2, Sfiw}
+use Rattle.sfi_formats.specs.declared.format.Format.TheVariants.{Sfi1, Sfi2, Sfiw, Sfis}
 use Rattle.sfi_formats.specs.Formats.{unit}
 use Rattle.sfi_image.specs.Parts.{IsRightPart}
 use Rattle.sfi_image.proofs.Facts.{whole_bundles, code_ends}
@@ -70,6 +70,7 @@ pub units : (f : Format) → (unit f ≡ 16) ⊎ (unit f ≡ 4)
 units Sfi1 = inl refl
 units Sfi2 = inl refl
 units Sfiw = inr refl
+units Sfis = inr refl
 
 -- a unit lies between two heads
 in_block : (base u k o n at : ℕ) → base % 16 ≡ 0 → (u ≡ 16) ⊎ (u ≡ 4) → o + n ≤ u → at ≡ base + u * k + o → at % 128 + n ≤ 128

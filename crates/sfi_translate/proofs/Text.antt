@@ -1,8 +1,8 @@
 -- The text of readings, of sandboxes and of an image.
-use Rattle.sfi_translate.proofs.Prelude.{◌≡◌, ℕ, ◌+◌, ◌≤◌, List, [], ◌∷◌, ◌++◌, length, take, drop, sym, ap, ◌∙◌, subst, refl, arith, append_assoc, append-nil, drop-drop, Read, Adds, IsReadingText, Line, Does, spell, spelled, reading_lines, AreUnitLines, suc, ◌*◌, get_or, flat_map, take_all, length-take, Format, SandboxPart, Part, view, gate_line, IsUnitText, IsCodeText, IsSandboxText}
-use Rattle.std.proofs.Common.{length-drop, ◌<◌, add-zero, Bool}
+use Rattle.sfi_translate.proofs.Prelude.{◌≡◌, ℕ, ◌+◌, ◌≤◌, List, [], ◌∷◌, ◌++◌, length, take, drop, sym, ap, ◌∙◌, subst, refl, arith, append_assoc, append-nil, Read, Adds, IsReadingText, Line, Does, spell, spelled, reading_lines, AreUnitLines, suc, ◌*◌, get_or, flat_map, take_all, length-take, Format, SandboxPart, Part, view, gate_line, IsUnitText, IsCodeText, IsSandboxText}
+use Rattle.std.proofs.Common.{◌<◌, add-zero, Bool}
 use Rattle.std.proofs.lemmas.Grind.{flat_map-append}
-use Rattle.std.proofs.lemmas.List.{drop_all, take_more, length-map, get_or-map}
+use Rattle.std.proofs.lemmas.List.{take_more, length-map, get_or-map}
 use Rattle.rv_word.specs.declared.instr.Instr.{Instr}
 use Rattle.rv_comp.specs.Fronts.{Spells}
 use Rattle.sfi_report.proofs.Lines.{spell_fits, longer, longest_of_stuck}

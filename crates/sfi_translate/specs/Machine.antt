@@ -8,7 +8,7 @@ use Rattle.rv_step.specs.declared.outcome.Outcome.TheVariants.{Next, Call, Trap}
 use Rattle.rv_step.specs.declared.outcome.Cause.TheVariants as cause
 use Rattle.rv_step.specs.State.{Hart, State, register, with_pc, even_of}
 use Rattle.rv_step.specs.Step.{Stepped, effect, unchanged, load_size, store_size, is_taken}
-use Rattle.sfi_formats.specs.Formats.{unit, data_base_register, has_one_step}
+use Rattle.sfi_formats.specs.Formats.{unit, data_base_register, has_single_mask}
 use Rattle.sfi_image.specs.Parts.{data_mask_of}
 use Rattle.sfi_image.specs.Spelling.{Part, data_region}
 use Rattle.sfi_translate.specs.Lines.{Line, Function, End, Entry, Head, Does, is_far, head_bytes}
@@ -152,7 +152,7 @@ is_done p i h = true
 -- x26 has the data base, unless it is a data register
 abbrev pub with_data_base : Part → List ℕ → List ℕ
 with_data_base p registers =
-    if has_one_step p.format then registers else slice_set registers data_base_register p.data_base
+    if has_single_mask p.format then registers else slice_set registers data_base_register p.data_base
 
 -- x0 and the reserved registers have one value for lines, whatever is written there
 abbrev pub fixed : Part → Hart → Hart

@@ -7,7 +7,8 @@ use Rattle.rv_word.specs.Spelling.{offset_by}
 use Rattle.sfi_text.specs.Operands.{op_name, immediate_name, load_name, store_name, branch_name}
 use Rattle.sfi_report.specs.Listing.{hex_digits, line_end}
 use Rattle.std.specs.List.{flat_map}
-use Rattle.sfi_formats.specs.Formats.{unit}
+use Rattle.sfi_formats.specs.declared.format.Format.{Format}
+use Rattle.sfi_formats.specs.Formats.{has_single_mask, unit}
 use Rattle.sfi_image.specs.Spelling.{Part}
 use Rattle.sfi_image.specs.declared.part.Gate.{Gate}
 use Rattle.sfi_translate.specs.Lines.{Line, Function, End, Entry, Head, Does, is_far, AreLines}
@@ -114,10 +115,14 @@ pub record IsCodeText (sandbox : ℕ) (p : Part) (text : List ℕ) : Type 0 wher
 
 -- ---- of a sandbox
 
+-- what stands after the form of its first line: whether masks are single, where x26 has no one value
+unfoldable pub masks : Format → List ℕ
+masks f = if has_single_mask f then codes "_SINGLE" else codes ""
+
 -- its number, the unit of its code, and its fields
 abbrev pub sandbox_line : ℕ → Part → List ℕ
 sandbox_line sandbox p =
-    codes "SANDBOX(" ++ decimal sandbox ++ number_field (unit p.format)
+    codes "SANDBOX" ++ masks p.format ++ codes "(" ++ decimal sandbox ++ number_field (unit p.format)
     ++ address_field p.code_base ++ number_field (length p.code)
     ++ address_field p.data_base ++ number_field p.data_size
     ++ address_field p.start ++ number_field (length p.gates) ++ number_field (length p.init) ++ closing

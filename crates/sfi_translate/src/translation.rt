@@ -3,7 +3,7 @@ ghost use Rattle.std.specs.Prelude.{◌≡◌, ◌+◌, ◌^◌, ◌<◌, ◌≤
 ghost use Rattle.sfi_image.specs.Spelling.{view};
 ghost use Rattle.sfi_image.specs.Parts.{IsRightPart};
 ghost use Rattle.sfi_translate.specs.Translation.{address_line};
-ghost use Rattle.sfi_translate.specs.Translation.{function_line, spelled, sandbox_line, gate_line, data_line, last_line, IsCodeText, IsSandboxText, IsTranslation};
+ghost use Rattle.sfi_translate.specs.Translation.{function_line, masks, spelled, sandbox_line, gate_line, data_line, last_line, IsCodeText, IsSandboxText, IsTranslation};
 ghost use Rattle.sfi_translate.specs.Lines.{function_lines, entry_lines, head_lines};
 ghost use Rattle.sfi_translate.specs.private.{Adds, IsReadingText, IsUnitText};
 
@@ -130,7 +130,19 @@ fn push_code_lines(
     Ok(())
 }
 
-/// Appends the line of a sandbox's fields, `SANDBOX(..)`.
+/// What stands after the form of a sandbox's line.
+#[tactic(auto, unfolding(crate::specs::Translation::masks))]
+fn masks_suffix(format: Format) -> &'static str
+    ensures { result.now ≡ masks format }
+{
+    if format.has_single_mask() {
+        "_SINGLE"
+    } else {
+        ""
+    }
+}
+
+/// Appends the line of a sandbox's fields, `SANDBOX(..)` or `SANDBOX_SINGLE(..)`.
 fn push_sandbox_line(
     out: &mut String,
     format: Format,
@@ -140,7 +152,8 @@ fn push_sandbox_line(
     ensures { OnOk result (string_bytes out.new
         ≡ string_bytes out.old ++ sandbox_line sandbox (view format part.now)) }
 {
-    write!(out, "SANDBOX({sandbox}")?;
+    let suffix = masks_suffix(format);
+    write!(out, "SANDBOX{suffix}({sandbox}")?;
     push_number_field(out, format.unit() as usize)?;
     push_address_field(out, part.code_base)?;
     push_number_field(out, part.code.len())?;

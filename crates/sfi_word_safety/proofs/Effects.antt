@@ -1,5 +1,5 @@
 -- What each instruction does, and what passes a test of the rules.
-use Rattle.sfi_word_safety.proofs.Prelude.{◌≡◌, ◌≢◌, ℕ, ◌<◌, true, false, ◌&&◌, ◌||◌, ◌==◌, refl, sym, ap, ◌∙◌, arith, ⊎_elim, Option, Some, None, ℤ, pos, negsuc, and_parts, or_cases, eqb-true, eq-eqb, false≢true, leb-true, ltb-true, destination, is_register, writes_register, Instr, Op, OpImm, Or, Addi, is_data_register_in, is_or, is_small, is_pointer_step, ◌+◌, ◌*◌, ◌%◌, ◌^◌, ◌≤◌, ◌⊎◌, List, length, Bool, cond, not, Format, has_one_step, is_reserved_in, subst, inl, inr, slice_index, is_some, not-false, offset_by, Load, Store, Branch, Jal, Jalr, Lui, Auipc, Fence, Ecall, Ebreak, RegOp, LoadKind, Bytes, bytes_at, address_after, addresses, loaded, Hart, register, with_register, with_pc, past, even_of, effect, after_load, next, unchanged, word, result_of, load_size, store_size, is_taken, extended, Outcome, Next, Call, Trap, Part, is_gate_of, IsGate, breaks_reserved, ends_region, IsWordStart, HasReserved, is_word_start, breaks_ecall, breaks_jump, breaks_target}
+use Rattle.sfi_word_safety.proofs.Prelude.{◌≡◌, ◌≢◌, ℕ, ◌<◌, true, false, ◌&&◌, ◌||◌, ◌==◌, refl, sym, ap, ◌∙◌, arith, ⊎_elim, Option, Some, None, ℤ, pos, negsuc, and_parts, or_cases, eqb-true, eq-eqb, false≢true, leb-true, ltb-true, destination, is_register, writes_register, Instr, Op, OpImm, Or, Addi, is_data_register_in, is_or, is_small, is_pointer_step, ◌+◌, ◌*◌, ◌%◌, ◌^◌, ◌≤◌, ◌⊎◌, List, length, Bool, cond, not, Format, has_single_mask, is_reserved_in, subst, inl, inr, slice_index, is_some, not-false, offset_by, Load, Store, Branch, Jal, Jalr, Lui, Auipc, Fence, Ecall, Ebreak, RegOp, LoadKind, Bytes, bytes_at, address_after, addresses, loaded, Hart, register, with_register, with_pc, past, even_of, effect, after_load, next, unchanged, word, result_of, load_size, store_size, is_taken, extended, Outcome, Next, Call, Trap, Part, is_gate_of, IsGate, breaks_reserved, ends_region, IsWordStart, HasReserved, is_word_start, breaks_ecall, breaks_jump, breaks_target}
 use Rattle.sfi_safe_runs.proofs.Accessing.{IsWithin, kept, count_kept, written}
 use Rattle.std.specs.Prelude.{nat_le, nat_lt}
 use Rattle.rv_step.specs.declared.outcome.Cause.TheVariants as cause
@@ -29,11 +29,11 @@ pub data_register : (f : Format) (d : ℕ) → is_data_register_in f d ≡ true 
 data_register f d h =
     ⊎_elim
     (λ (a : ((d == 2) || (d == 3) || (d == 4) || (d == 29)) ≡ true). one_of_four a)
-    (λ (a : (((d == 26) || (d == 31)) && has_one_step f) ≡ true). ⊎_elim
+    (λ (a : (((d == 26) || (d == 31)) && has_single_mask f) ≡ true). ⊎_elim
     (λ (b : (d == 26) ≡ true). other d 26 b (omega arith) (omega arith))
     (λ (b : (d == 31) ≡ true). other d 31 b (omega arith) (omega arith))
-    (or_cases (d == 26) (d == 31) (and_parts ((d == 26) || (d == 31)) (has_one_step f) a).0))
-    (or_cases ((d == 2) || (d == 3) || (d == 4) || (d == 29)) (((d == 26) || (d == 31)) && has_one_step f) h)
+    (or_cases (d == 26) (d == 31) (and_parts ((d == 26) || (d == 31)) (has_single_mask f) a).0))
+    (or_cases ((d == 2) || (d == 3) || (d == 4) || (d == 29)) (((d == 26) || (d == 31)) && has_single_mask f) h)
   where
     one_of_four : ((d == 2) || (d == 3) || (d == 4) || (d == 29)) ≡ true → IsOther d
     one_of_four h =

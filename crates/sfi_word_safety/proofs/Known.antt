@@ -1,5 +1,5 @@
 -- What is known of the typed registers before an instruction, and what it makes of that.
-use Rattle.sfi_word_safety.proofs.Prelude.{◌≡◌, ℕ, ◌+◌, ◌<◌, ◌≤◌, ◌⊎◌, List, ◌∷◌, length, true, false, not, ◌&&◌, ◌||◌, ◌==◌, refl, sym, ap, ◌∙◌, subst, inl, inr, ⊎_elim, arith, Option, Some, None, ℤ, slice_index, bit_and, bit_or, and_parts, or_cases, eqb-true, eq-eqb, not-false, false≢true, cases_Bool, offset_by, InRange, IsImm12, destination, is_register, writes_register, Instr, Op, OpImm, Load, Store, Branch, Jal, Jalr, Ecall, Addi, And, Or, Add, Bytes, address_after, Accesses, Hart, register, effect, word, result_of, load_size, store_size, is_masking, is_placing, Part, Piece, is_jump, InData, InGuard, is_data_register_in, IsWordStart, IsNear, HasReserved, AreWordsTyped, places, masks, begins_placing, begins_masking, begins_using, begins_code, is_pointer_step, uses, is_small, may_access, breaks_access, may_write_data, breaks_data_of, breaks_data, may_write_code, breaks_code, breaks_offset, IsRightPart, has_words, ◌-◌, IsKnown, IsCodeKnown, AreKnown, Format, has_one_step, IsNearIn, is_or, Bool, cond}
+use Rattle.sfi_word_safety.proofs.Prelude.{◌≡◌, ℕ, ◌+◌, ◌<◌, ◌≤◌, ◌⊎◌, List, ◌∷◌, length, true, false, not, ◌&&◌, ◌||◌, ◌==◌, refl, sym, ap, ◌∙◌, subst, inl, inr, ⊎_elim, arith, Option, Some, None, ℤ, slice_index, bit_and, bit_or, and_parts, or_cases, eqb-true, eq-eqb, not-false, false≢true, cases_Bool, offset_by, InRange, IsImm12, destination, is_register, writes_register, Instr, Op, OpImm, Load, Store, Branch, Jal, Jalr, Ecall, Addi, And, Or, Add, Bytes, address_after, Accesses, Hart, register, effect, word, result_of, load_size, store_size, is_masking, is_placing, Part, Piece, is_jump, InData, InGuard, is_data_register_in, IsWordStart, IsNear, HasReserved, AreWordsTyped, places, masks, begins_placing, begins_masking, begins_using, begins_code, is_pointer_step, uses, is_small, may_access, breaks_access, may_write_data, breaks_data_of, breaks_data, may_write_code, breaks_code, breaks_offset, IsRightPart, has_words, ◌-◌, IsKnown, IsCodeKnown, AreKnown, Format, has_single_mask, IsNearIn, is_or, Bool, cond}
 use Rattle.sfi_formats.specs.Formats.{code_most, data_most}
 use Rattle.sfi_safe_runs.proofs.Accessing.{imm12_within, first_address, load_sized, store_sized, load_range, store_range, masked_code}
 use Rattle.sfi_safe_runs.proofs.Beside.{one_step_placed, beside_access, beside_stepped, beside_used}
@@ -11,17 +11,17 @@ use Rattle.sfi_image.specs.Parts.{reserved_of}
 use Rattle.sfi_image.specs.Spelling.{code_region, data_region}
 
 -- where a mask has two steps, it ends by `or d, x31, x26`
-places_two : (f : Format) (d : ℕ) (i : Instr) → has_one_step f ≡ false → places f d i ≡ true → i ≡ Op Or d 31 26
+places_two : (f : Format) (d : ℕ) (i : Instr) → has_single_mask f ≡ false → places f d i ≡ true → i ≡ Op Or d 31 26
 places_two f d i two h = or_is d 31 26 i (rw two at h)
 
 -- where it has one, by `and d, a, x27`, with which it begins, too
-places_one : (f : Format) (d : ℕ) (i : Instr) → has_one_step f ≡ true → places f d i ≡ true → (a : ℕ) × (i ≡ Op And d a 27)
+places_one : (f : Format) (d : ℕ) (i : Instr) → has_single_mask f ≡ true → places f d i ≡ true → (a : ℕ) × (i ≡ Op And d a 27)
 places_one f d i one h = masking_is 27 d i (rw one at h)
 
-masks_one : (f : Format) (d : ℕ) (i : Instr) → has_one_step f ≡ true → masks f d i ≡ true → (a : ℕ) × (i ≡ Op And d a 27)
+masks_one : (f : Format) (d : ℕ) (i : Instr) → has_single_mask f ≡ true → masks f d i ≡ true → (a : ℕ) × (i ≡ Op And d a 27)
 masks_one f d i one h = masking_is 27 d i (rw one at h)
 
-placing_left : (f : Format) (d : ℕ) (later : List Piece) → has_one_step f ≡ false → (has_one_step f || begins_placing f d later) ≡ true → begins_placing f d later ≡ true
+placing_left : (f : Format) (d : ℕ) (later : List Piece) → has_single_mask f ≡ false → (has_single_mask f || begins_placing f d later) ≡ true → begins_placing f d later ≡ true
 placing_left f d later two h = rw two at h
 
 -- what isn't so in either case isn't so
@@ -54,7 +54,7 @@ record IsPlain (i : Instr) : Type 0 where
 near_here : (p : Part) (d v : ℕ) (x : Piece) (later : List Piece) → IsPlain x.instr → IsKnown p d v (x ∷ later) → IsNearIn p.format (data_region p) 1020 v
 near_here p d v x later plain (inl lies) = lies
 near_here p d v x later plain (inr (inl h)) = absurd (false≢true (sym (plain.places p.format d) ∙ h))
-near_here p d v x later plain (inr (inr (inl h))) = absurd (false≢true (sym (plain.masks p.format d) ∙ (and_parts (masks p.format d x.instr) (has_one_step p.format || begins_placing p.format d later) h).0))
+near_here p d v x later plain (inr (inr (inl h))) = absurd (false≢true (sym (plain.masks p.format d) ∙ (and_parts (masks p.format d x.instr) (has_single_mask p.format || begins_placing p.format d later) h).0))
 near_here p d v x later plain (inr (inr (inr h))) = absurd (false≢true (sym (plain.uses d) ∙ h.1))
 
 start_here : (p : Part) (v : ℕ) (x : Piece) (later : List Piece) → IsPlain x.instr → IsCodeKnown p v (x ∷ later) → IsWordStart (code_region p) v
@@ -62,9 +62,9 @@ start_here p v x later plain (inl start) = start
 start_here p v x later plain (inr h) = absurd (false≢true (sym (plain.placing 24 30) ∙ h.0))
 
 flow_plain : (i : Instr) → is_flow i ≡ true → IsPlain i
-flow_plain (Branch condition rs1 rs2 offset) h = record { places = λ f d. neither (has_one_step f); masks = λ f d. neither (has_one_step f); uses = λ d. refl; placing = λ b t. refl; masking = λ m t. refl }
-flow_plain (Jal rd offset) h = record { places = λ f d. neither (has_one_step f); masks = λ f d. neither (has_one_step f); uses = λ d. refl; placing = λ b t. refl; masking = λ m t. refl }
-flow_plain (Jalr rd rs1 imm) h = record { places = λ f d. neither (has_one_step f); masks = λ f d. neither (has_one_step f); uses = λ d. refl; placing = λ b t. refl; masking = λ m t. refl }
+flow_plain (Branch condition rs1 rs2 offset) h = record { places = λ f d. neither (has_single_mask f); masks = λ f d. neither (has_single_mask f); uses = λ d. refl; placing = λ b t. refl; masking = λ m t. refl }
+flow_plain (Jal rd offset) h = record { places = λ f d. neither (has_single_mask f); masks = λ f d. neither (has_single_mask f); uses = λ d. refl; placing = λ b t. refl; masking = λ m t. refl }
+flow_plain (Jalr rd rs1 imm) h = record { places = λ f d. neither (has_single_mask f); masks = λ f d. neither (has_single_mask f); uses = λ d. refl; placing = λ b t. refl; masking = λ m t. refl }
 flow_plain _ h = absurd (false≢true h)
 
 flow_jumps : (i : Instr) → is_flow i ≡ true → (r : ℕ) → destination i ≡ Some r → is_jump i ≡ true
@@ -84,7 +84,7 @@ pub code_at_flow : (p : Part) (registers : List ℕ) (x : Piece) (later : List P
 code_at_flow p registers x later flow known = start_here p _ x later (flow_plain x.instr flow) known.code
 
 ecall_plain : IsPlain Ecall
-ecall_plain = record { places = λ f d. neither (has_one_step f); masks = λ f d. neither (has_one_step f); uses = λ d. refl; placing = λ b t. refl; masking = λ m t. refl }
+ecall_plain = record { places = λ f d. neither (has_single_mask f); masks = λ f d. neither (has_single_mask f); uses = λ d. refl; placing = λ b t. refl; masking = λ m t. refl }
 
 pub typed_at_ecall : (p : Part) (registers : List ℕ) (x : Piece) (later : List Piece) → Ecall ≡ x.instr → AreKnown p registers (x ∷ later) → AreWordsTyped p.format (code_region p) (data_region p) registers
 typed_at_ecall p registers x later e known =
@@ -105,17 +105,17 @@ module _ (p : Part) (words : has_words p.format ≡ true) (right : IsRightPart p
   base_lies x later base imm known none none' small may =
       ⊎_elim
       (λ (is : is_data_register_in p.format base ≡ true). by (known.each_data base is))
-      (λ (is : (base == 26) ≡ true). on_base (eqb-true base 26 is) (has_one_step p.format) refl)
+      (λ (is : (base == 26) ≡ true). on_base (eqb-true base 26 is) (has_single_mask p.format) refl)
       (or_cases (is_data_register_in p.format base) (base == 26) may)
     where
       by : IsKnown p base (register h base) (x ∷ later) → IsNearIn p.format (data_region p) 1020 (register h base) ⊎ (IsNearIn p.format (data_region p) (1020 + 2048) (register h base) × (is_small imm ≡ true))
       by (inl lies) = inl lies
       by (inr (inl e)) = absurd (false≢true (sym (none base) ∙ e))
-      by (inr (inr (inl e))) = absurd (false≢true (sym (none' base) ∙ (and_parts (masks p.format base x.instr) (has_one_step p.format || begins_placing p.format base later) e).0))
+      by (inr (inr (inl e))) = absurd (false≢true (sym (none' base) ∙ (and_parts (masks p.format base x.instr) (has_single_mask p.format || begins_placing p.format base later) e).0))
       by (inr (inr (inr (lies, used_here)))) = inr (lies, small base used_here)
 
       -- x26 is a data register, or holds the data base
-      on_base : base ≡ 26 → (one : Bool) → has_one_step p.format ≡ one → IsNearIn p.format (data_region p) 1020 (register h base) ⊎ (IsNearIn p.format (data_region p) (1020 + 2048) (register h base) × (is_small imm ≡ true))
+      on_base : base ≡ 26 → (one : Bool) → has_single_mask p.format ≡ one → IsNearIn p.format (data_region p) 1020 (register h base) ⊎ (IsNearIn p.format (data_region p) (1020 + 2048) (register h base) × (is_small imm ≡ true))
       on_base same true e = by (known.each_data base (rw (same, e) refl))
       on_base same false e =
           let at : register h base ≡ p.data_base = ap (λ (r : ℕ). register h r) same ∙ reserved.data_base e in
@@ -129,10 +129,10 @@ module _ (p : Part) (words : has_words p.format ≡ true) (right : IsRightPart p
   pub accesses_near : (i : Instr) (n : ℕ) (later : List Piece) → InRange i → breaks_access p.format i ≡ false → AreKnown p h.registers (record { instr = i; size = n } ∷ later) → (a : ℕ) → Accesses i h a → InData p a ⊎ InGuard p a
   accesses_near (Load kind rd rs1 imm) n later range free known a has =
       access_near (register h rs1) imm (load_size kind) a (load_range kind rd rs1 imm range) (load_sized kind).most
-      (base_lies (record { instr = Load kind rd rs1 imm; size = n }) later rs1 imm known (λ d. neither (has_one_step p.format)) (λ d. neither (has_one_step p.format)) (λ d u. (and_parts (rs1 == d) (is_small imm) (and_parts ((rs1 == d) && is_small imm) (not (rd == 0)) u).0).1) (not-false _ free)) has
+      (base_lies (record { instr = Load kind rd rs1 imm; size = n }) later rs1 imm known (λ d. neither (has_single_mask p.format)) (λ d. neither (has_single_mask p.format)) (λ d u. (and_parts (rs1 == d) (is_small imm) (and_parts ((rs1 == d) && is_small imm) (not (rd == 0)) u).0).1) (not-false _ free)) has
   accesses_near (Store width rs1 rs2 imm) n later range free known a has =
       access_near (register h rs1) imm (store_size width) a (store_range width rs1 rs2 imm range) (store_sized width).most
-      (base_lies (record { instr = Store width rs1 rs2 imm; size = n }) later rs1 imm known (λ d. neither (has_one_step p.format)) (λ d. neither (has_one_step p.format)) (λ d u. (and_parts (rs1 == d) (is_small imm) u).1) (not-false _ free)) has
+      (base_lies (record { instr = Store width rs1 rs2 imm; size = n }) later rs1 imm known (λ d. neither (has_single_mask p.format)) (λ d. neither (has_single_mask p.format)) (λ d u. (and_parts (rs1 == d) (is_small imm) u).1) (not-false _ free)) has
   accesses_near other n later range free known a (k, below, is) = absurd (omega arith)
 
   -- a use that fell into the data leaves its base near them
@@ -164,17 +164,17 @@ module _ (p : Part) (words : has_words p.format ≡ true) (right : IsRightPart p
 
     data_stays : (d : ℕ) → IsKnown p d (register h d) (x ∷ later) → writes_register d x.instr ≡ false → ((a : ℕ) → Accesses x.instr h a → InData p a) → IsKnown p d (register after d) later
     data_stays d (inl lies) none inside = inl (subst (λ (a : ℕ). IsNearIn p.format (data_region p) 1020 a) (sym (stays d none)) lies)
-    data_stays d (inr (inl e)) none inside = by (has_one_step p.format) refl
+    data_stays d (inr (inl e)) none inside = by (has_single_mask p.format) refl
       where
-        by : (one : Bool) → has_one_step p.format ≡ one → IsKnown p d (register after d) later
+        by : (one : Bool) → has_single_mask p.format ≡ one → IsKnown p d (register after d) later
         by true one = let is = places_one p.format d x.instr one e in absurd (clash d (Op And d is.0 27) is.1 refl none)
         by false two = absurd (clash d (Op Or d 31 26) (places_two p.format d x.instr two e) refl none)
-    data_stays d (inr (inr (inl e))) none inside = by (has_one_step p.format) refl
+    data_stays d (inr (inr (inl e))) none inside = by (has_single_mask p.format) refl
       where
-        both : (masks p.format d x.instr ≡ true) × ((has_one_step p.format || begins_placing p.format d later) ≡ true)
-        both = and_parts (masks p.format d x.instr) (has_one_step p.format || begins_placing p.format d later) e
+        both : (masks p.format d x.instr ≡ true) × ((has_single_mask p.format || begins_placing p.format d later) ≡ true)
+        both = and_parts (masks p.format d x.instr) (has_single_mask p.format || begins_placing p.format d later) e
 
-        by : (one : Bool) → has_one_step p.format ≡ one → IsKnown p d (register after d) later
+        by : (one : Bool) → has_single_mask p.format ≡ one → IsKnown p d (register after d) later
         by true one = let is = masks_one p.format d x.instr one both.0 in absurd (clash d (Op And d is.0 27) is.1 refl none)
         by false two = inr (inl (placing_left p.format d later two both.1))
     data_stays d (inr (inr (inr (lies, used_here)))) none inside =
@@ -182,9 +182,9 @@ module _ (p : Part) (words : has_words p.format ≡ true) (right : IsRightPart p
 
     -- the last step of a mask leads into the data, or where it is the only one also below their size
     data_placed : (d : ℕ) → d < length h.registers → (d ≡ 0 → ⊥) → places p.format d x.instr ≡ true → IsNearIn p.format (data_region p) 1020 (register after d)
-    data_placed d within some e = by (has_one_step p.format) refl
+    data_placed d within some e = by (has_single_mask p.format) refl
       where
-        by : (one : Bool) → has_one_step p.format ≡ one → IsNearIn p.format (data_region p) 1020 (register after d)
+        by : (one : Bool) → has_single_mask p.format ≡ one → IsNearIn p.format (data_region p) 1020 (register after d)
         by true one =
             let is = places_one p.format d x.instr one e in
             let value : register after d ≡ bit_and (register h is.0) (register h 27) = result_there x.instr And d is.0 27 x.size h m is.1 some within in
@@ -200,7 +200,7 @@ module _ (p : Part) (words : has_words p.format ≡ true) (right : IsRightPart p
 
     step_near : (d : ℕ) (imm : ℤ) → x.instr ≡ OpImm Addi d d imm → IsKnown p d (register h d) (x ∷ later) → IsNearIn p.format (data_region p) 1020 (register h d)
     step_near d imm e known = near_here p d (register h d) (record { instr = OpImm Addi d d imm; size = x.size }) later
-        (record { places = λ f d. neither (has_one_step f); masks = λ f d. neither (has_one_step f); uses = λ d. refl; placing = λ b t. refl; masking = λ m t. refl })
+        (record { places = λ f d. neither (has_single_mask f); masks = λ f d. neither (has_single_mask f); uses = λ d. refl; placing = λ b t. refl; masking = λ m t. refl })
         (subst (λ (i : Instr). IsKnown p d (register h d) (record { instr = i; size = x.size } ∷ later)) e known)
 
     data_written : (d : ℕ) → is_data_register_in p.format d ≡ true → writes_register d x.instr ≡ true → breaks_data p.format x.instr later ≡ false → IsKnown p d (register after d) later
@@ -262,7 +262,7 @@ module _ (p : Part) (words : has_words p.format ≡ true) (right : IsRightPart p
         (cases_Bool (writes_register 30 x.instr))
 
     -- the offset register
-    offset_after : has_one_step p.format ≡ false → breaks_offset p.format x.instr ≡ false → register after 31 < p.data_size
+    offset_after : has_single_mask p.format ≡ false → breaks_offset p.format x.instr ≡ false → register after 31 < p.data_size
     offset_after two free =
         ⊎_elim
         (λ (some : writes_register 31 x.instr ≡ true).
@@ -326,7 +326,7 @@ module _ (p : Part) (words : has_words p.format ≡ true) (right : IsRightPart p
             let b = plain.masking 25 30 in
             false≢true (rw (a, b) at may)
 
-        not_offset : has_one_step p.format ≡ false → destination x.instr ≡ Some 31 → ⊥
+        not_offset : has_single_mask p.format ≡ false → destination x.instr ≡ Some 31 → ⊥
         not_offset two e =
             let some = writes_one 31 e in
             let may : is_masking 27 31 x.instr ≡ true = not-false _ (rw (some, two) at v12) in

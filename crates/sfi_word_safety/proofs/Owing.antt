@@ -1,5 +1,5 @@
 -- What is owed after an instruction is what comes there, where it breaks no rule that looks ahead and what was owed before it comes.
-use Rattle.sfi_word_safety.proofs.Prelude.{◌≡◌, ℕ, Bool, true, false, cond, not, ◌&&◌, ◌||◌, ◌==◌, List, ◌∷◌, Option, Some, None, refl, sym, ap, ◌∙◌, subst, destination, Instr, is_masking, is_placing, Piece, is_jump, is_data_register_in, places, masks, begins_placing, begins_masking, is_pointer_step, uses, begins_using, begins_code, may_write_data, breaks_data_of, breaks_data, may_write_code, breaks_code, eqb-true, false≢true, is_register, Owed, Nothing, Mask, PlaceOnly, MaskOrUse, Code, left, owed_by_data, owed_by_code, owed_of, owed_by, Format, has_one_step, Op, And}
+use Rattle.sfi_word_safety.proofs.Prelude.{◌≡◌, ℕ, Bool, true, false, cond, not, ◌&&◌, ◌||◌, ◌==◌, List, ◌∷◌, Option, Some, None, refl, sym, ap, ◌∙◌, subst, destination, Instr, is_masking, is_placing, Piece, is_jump, is_data_register_in, places, masks, begins_placing, begins_masking, is_pointer_step, uses, begins_using, begins_code, may_write_data, breaks_data_of, breaks_data, may_write_code, breaks_code, eqb-true, false≢true, is_register, Owed, Nothing, Mask, PlaceOnly, MaskOrUse, Code, left, owed_by_data, owed_by_code, owed_of, owed_by, Format, has_single_mask, Op, And}
 use Rattle.sfi_rules.specs.words.Rules.{owed_by_mask}
 use Rattle.sfi_pairs.proofs.Facts.{masking_is}
 use Rattle.sfi_rules.proofs.Facts.{and_is}
@@ -39,14 +39,14 @@ is_nothing Code = false
 -- ---- the first step of a mask
 
 -- of two steps
-masks_two : (f : Format) (d : ℕ) (i : Instr) → has_one_step f ≡ false → masks f d i ≡ true → i ≡ Op And 31 d 27
+masks_two : (f : Format) (d : ℕ) (i : Instr) → has_single_mask f ≡ false → masks f d i ≡ true → i ≡ Op And 31 d 27
 masks_two f d i two h = and_is 31 d 27 i (rw two at h)
 
 -- it is no use
 masks_no_use : (f : Format) (d : ℕ) (i : Instr) → masks f d i ≡ true → uses d i ≡ false
-masks_no_use f d i h = by (has_one_step f) refl
+masks_no_use f d i h = by (has_single_mask f) refl
   where
-    by : (one : Bool) → has_one_step f ≡ one → uses d i ≡ false
+    by : (one : Bool) → has_single_mask f ≡ one → uses d i ≡ false
     by true e = let a = masking_is 27 d i (rw e at h) in ap (uses d) a.1
     by false e = ap (uses d) (masks_two f d i e h)
 
@@ -74,10 +74,10 @@ either f false false b o later apart e = refl
 
 pub left_is : (f : Format) (o : Owed) (x : Piece) (later : List Piece) → meets f o (x ∷ later) ≡ meets_if f (left f o x.instr) later
 left_is f Nothing x later = refl
-left_is f (Mask d) x later = one f (masks f d x.instr) (Some (owed_by_mask f d)) later (has_one_step f || begins_placing f d later) (mask_owed f d later (has_one_step f))
+left_is f (Mask d) x later = one f (masks f d x.instr) (Some (owed_by_mask f d)) later (has_single_mask f || begins_placing f d later) (mask_owed f d later (has_single_mask f))
 left_is f (PlaceOnly d) x later = last f (places f d x.instr) later
 left_is f (MaskOrUse d) x later =
-    either f (masks f d x.instr) (uses d x.instr) (has_one_step f || begins_placing f d later) (owed_by_mask f d) later (λ h. masks_no_use f d x.instr h) (mask_owed f d later (has_one_step f))
+    either f (masks f d x.instr) (uses d x.instr) (has_single_mask f || begins_placing f d later) (owed_by_mask f d) later (λ h. masks_no_use f d x.instr h) (mask_owed f d later (has_single_mask f))
 left_is f Code x later = last f (is_placing 24 30 x.instr) later
 
 -- ---- what an instruction owes
@@ -144,11 +144,11 @@ and_true true = refl
 and_true false = refl
 
 -- the first of two steps of a mask owes nothing itself
-masking_owes : (f : Format) (d : ℕ) (i : Instr) (later : List Piece) → has_one_step f ≡ false → masks f d i ≡ true → meets_if f (owed_by f i) later ≡ true
+masking_owes : (f : Format) (d : ℕ) (i : Instr) (later : List Piece) → has_single_mask f ≡ false → masks f d i ≡ true → meets_if f (owed_by f i) later ≡ true
 masking_owes f d i later two h = ap (λ (j : Instr). meets_if f (owed_by f j) later) (masks_two f d i two h) ∙ (rw two refl)
 
 -- where the first step of a mask leaves something owed, it owes nothing itself
-mask_left : (f : Format) (d : ℕ) (i : Instr) (later : List Piece) (step : Bool) → has_one_step f ≡ step → masks f d i ≡ true
+mask_left : (f : Format) (d : ℕ) (i : Instr) (later : List Piece) (step : Bool) → has_single_mask f ≡ step → masks f d i ≡ true
     → (meets_if f (Some (cond step Nothing (PlaceOnly d))) later && meets_if f (owed_by f i) later) ≡ meets_if f (both (Some (cond step Nothing (PlaceOnly d))) (owed_by f i)) later
 mask_left f d i later true e h = refl
 mask_left f d i later false e h = rw (masking_owes f d i later e h) (and_true (begins_placing f d later))
@@ -159,7 +159,7 @@ left_masks f Nothing i later = refl
 left_masks f (Mask d) i later = by (masks f d i) refl
   where
     by : (m : Bool) → masks f d i ≡ m → (meets_if f (cond m (Some (owed_by_mask f d)) None) later && meets_if f (owed_by f i) later) ≡ meets_if f (both (cond m (Some (owed_by_mask f d)) None) (owed_by f i)) later
-    by true e = mask_left f d i later (has_one_step f) refl e
+    by true e = mask_left f d i later (has_single_mask f) refl e
     by false e = refl
 left_masks f (PlaceOnly d) i later = by (places f d i)
   where
@@ -169,7 +169,7 @@ left_masks f (PlaceOnly d) i later = by (places f d i)
 left_masks f (MaskOrUse d) i later = by (masks f d i) (uses d i) refl
   where
     by : (m u : Bool) → masks f d i ≡ m → (meets_if f (cond m (Some (owed_by_mask f d)) (cond u (Some Nothing) None)) later && meets_if f (owed_by f i) later) ≡ meets_if f (both (cond m (Some (owed_by_mask f d)) (cond u (Some Nothing) None)) (owed_by f i)) later
-    by true u e = mask_left f d i later (has_one_step f) refl e
+    by true u e = mask_left f d i later (has_single_mask f) refl e
     by false true e = refl
     by false false e = refl
 left_masks f Code i later = by (is_placing 24 30 i)

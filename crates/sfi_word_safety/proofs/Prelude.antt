@@ -19,7 +19,7 @@ pub use Rattle.rv_step.specs.State.{Hart, State, register, with_register, with_p
 pub use Rattle.rv_step.specs.declared.outcome.Outcome.{Outcome}
 pub use Rattle.rv_step.specs.declared.outcome.Outcome.TheVariants.{Next, Call, Trap}
 pub use Rattle.sfi_pairs.specs.Pairs.{is_masking, is_placing, is_small, uses}
-pub use Rattle.sfi_formats.specs.Formats.{is_reserved, is_reserved_in, is_data_register_in, has_words, has_one_step}
+pub use Rattle.sfi_formats.specs.Formats.{is_reserved, is_reserved_in, is_data_register_in, has_words, has_single_mask}
 pub use Rattle.sfi_image.specs.Spelling.{Part, IsNear, IsNearIn}
 pub use Rattle.sfi_image.specs.Parts.{is_gate_of, IsRightPart, HasReserved, IsWordStart}
 pub use Rattle.sfi_rules.specs.Readings.{Piece, IsReading, rest_of, is_jump}

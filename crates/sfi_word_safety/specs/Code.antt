@@ -1,6 +1,6 @@
 -- Accepted code in words, and the places where its runs stand.
 use Rattle.std.specs.Prelude.{◌≡◌, ◌+◌, ℕ, List, [], ◌∷◌, true, false, length, ◌%◌, ◌<◌, ◌⊎◌, Option, IfSome, drop, slice_index, bit_and}
-use Rattle.sfi_formats.specs.Formats.{has_words, is_data_register_in, code_register, offset_register, has_one_step}
+use Rattle.sfi_formats.specs.Formats.{has_words, is_data_register_in, code_register, offset_register, has_single_mask}
 use Rattle.sfi_image.specs.Spelling.{Part, AreApart, code_region, data_region, guarded_region, IsNearIn}
 use Rattle.sfi_image.specs.Parts.{is_gate_of, IsRightPart, reserved_of, IsWordStart}
 use Rattle.sfi_rules.specs.Readings.{Piece, IsReading, rest_of}
@@ -66,7 +66,7 @@ IsCodeKnown p value pieces =
 pub record AreKnown (p : Part) (registers : List ℕ) (pieces : List Piece) : Type 0 where
   pub each_data : (d : ℕ) → is_data_register_in p.format d ≡ true → IsKnown p d (slice_index registers d) pieces
   pub code : IsCodeKnown p (slice_index registers code_register) pieces
-  pub offset : has_one_step p.format ≡ false → slice_index registers offset_register < p.data_size
+  pub offset : has_single_mask p.format ≡ false → slice_index registers offset_register < p.data_size
 
 -- from this offset on the rest of the code is read whole, and breaks no rule
 pub record IsPlace (p : Part) (offset : ℕ) : Type 0 where

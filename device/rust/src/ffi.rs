@@ -12,7 +12,7 @@ macro_rules! numbers {
 
 numbers!(Status: Done = 0, NotAccepted = 1, CheckerStopped = 2, NoSandbox = 3, NoGuards = 4, NoEntry = 5, NoMemory = 6,
     CodeIsHost = 7, DataIsHost = 8, OtherRules = 9, EntryDiffers = 10, GuardIsOpen = 11, DataIsClosed = 12, IsMirrored = 13,
-    BadPlace = 14, BadStore = 15, Busy = 16);
+    BadPlace = 14, BadStore = 15, Busy = 16, NoZoneAtZero = 17);
 numbers!(State: Empty = 0, Ready = 1, Exited = 2, Trapped = 3);
 numbers!(Outcome: Replied = 0, GoesOn = 1, Yielded = 2, Left = 3);
 numbers!(News: Starts = 0, IsRefused = 1, IsKept = 2, GaveUp = 3);

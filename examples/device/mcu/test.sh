@@ -102,11 +102,20 @@ refused() { # reason; the sandboxes on standard input
         "$(run <"$room/image.hex"; echo "status $?")"
 }
 
+refused_format() {
+    printf '.format single\n.sandbox 256\n ebreak\n' | "$SFI" build --at "$(printf %x:%x "$flash_code" "$chip_ram")" >"$room/image.hex"
+    report "$chip: the host refuses the fourth format" \
+        "device: sandbox 0: its format wants the addresses below its data's size plus 4096 closed, and the last 4096, and here they aren't"$'\nstatus 2' \
+        "$(run <"$room/image.hex"; echo "status $?")"
+}
+
 try_places() {
     refused "sandbox 0: there is no memory for its data and guard zones" \
         < <(sandbox "$flash_code" "$(hex "host_ram - 512")" 256 "" "" <<<ebreak)
     refused "sandbox 0: its code isn't in the flash" \
         < <(sandbox "$(hex "flash_code - 256")" "$chip_ram" 256 "" "" <<<ebreak)
+    # The data of the fourth format begin at a single bit, and not all chips have memory at one.
+    [ $((chip_ram & (chip_ram - 1))) -ne 0 ] || refused_format
     yes $'.sandbox 256\n ebreak' | head -n $((2 * sandboxes_most + 2)) >"$room/many.s"
     build "$room/many.s" 1 >"$room/image.hex"
     report "$chip: too many sandboxes" \

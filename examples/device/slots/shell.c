@@ -149,7 +149,9 @@ static void judge_update(void) {
         return print_slot(number, "started");
     item("slot=", number);
     print(" stays: ");
-    if (outcome == SFI_DEVICE_UPDATE_REFUSED)
+    if (outcome == SFI_DEVICE_UPDATE_REFUSED && status == SFI_DEVICE_NO_ZONE_AT_ZERO)
+        print("the zone at zero of its format isn't closed here");
+    else if (outcome == SFI_DEVICE_UPDATE_REFUSED)
         print_verdict(status, &verdict);
     else
         print(reasons[outcome]);

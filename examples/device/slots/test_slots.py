@@ -65,6 +65,10 @@ class Slots(OnDevice):
             with self.subTest(image_format=image_format):
                 self.walk(image_format)
 
+    def test_single_masks_are_refused(self):
+        """Low addresses aren't closed there."""
+        self.assertEqual(self.device.update(1, image_of(PLUGIN, "single")), "slot=1 stays: the zone at zero of its format isn't closed here")
+
     def walk(self, image_format):
         """Two plug-ins come beside a third one that runs; one is called, killed, called again, and updated."""
         names = names_of(PLUGIN, image_format, place_of(1))

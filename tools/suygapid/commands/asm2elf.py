@@ -14,7 +14,6 @@ import gc
 import os
 import sys
 
-from suygapid.image.layout import Offered
 from suygapid.passes import checking
 from suygapid.passes.assembly import Broken, Refused
 from suygapid.passes.improving import PASSES
@@ -29,7 +28,7 @@ def parsed(words):
     parser.add_argument("files", nargs="+", metavar="IN.s", help="assembly of gcc or clang")
     parser.add_argument("-o", dest="output", metavar="OUT.s", help="where to write; standard output if absent")
     parser.add_argument("--into", metavar="FOLDER", help="where to write a file of the same name for each of several")
-    parser.add_argument("--format", type=format_of, choices=Offered([1, 2, WORDS]), default=WORDS, help="the image's format; words if absent")
+    parser.add_argument("--format", type=format_of, choices=[1, 2, *IN_WORDS], default=WORDS, help="the image's format; words if absent")
     parser.add_argument("--passes", metavar="NAMES",
                         help=f"the passes that make the code cheaper; {','.join(PASSES)} if absent, "
                              f"with --debug {','.join(checking.PASSES)}")

@@ -17,7 +17,6 @@ from collections import Counter
 from concurrent.futures import ThreadPoolExecutor
 from dataclasses import dataclass, replace
 
-from suygapid import TOOLS
 from suygapid.cc.compilers import (
     CLANG, GCC, PLUS_PLUS_SOURCES, SOURCES, WITH_VALUE, Failed, compiled, default_compiler, is_clang, is_source, reserved, run, tell)
 from suygapid.cc.signatures import lines_of
@@ -28,12 +27,13 @@ from suygapid.elf.image import as_text, image
 from suygapid.elf.small import LIMIT, ROOM, SMALL, options_of, small_bytes, with_limit
 from suygapid.elf.tools import Target, assembled, assembled_file, rewritten_each
 from suygapid.elf.where import told
-from suygapid.image.layout import MOST_SANDBOXES, NAMED as FORMATS, Offered
+from suygapid.image.layout import MOST_SANDBOXES, NAMED as FORMATS
 from suygapid.image.names import LONGEST, SERVICE, is_name, too_long_lists
 from suygapid.library import plus_plus, small_library
 from suygapid.library.archives import NAMED, folders_of, headers
 from suygapid.library.archives import SMALL as SMALL_LIBRARY
 from suygapid.passes.shares import shares_of
+from suygapid.passes.typed import IN_WORDS
 from suygapid.services import GATES
 
 LINKED = (".o", ".a")
@@ -88,14 +88,14 @@ def options_parser():
     parser.add_argument("-l", dest="libraries", action="append", default=[], metavar="NAME", help="links libNAME.a, after the files")
     parser.add_argument("-L", dest="folders", action="append", default=[], metavar="FOLDER", help="where libraries are")
     parser.add_argument("--keep", metavar="NAME.elf", help="a file to write the linked program into, beside the image")
-    parser.add_argument("--format", choices=Offered(FORMATS), default="words", help="the image's format; words if absent")
+    parser.add_argument("--format", choices=FORMATS, default="words", help="the image's format; words if absent")
     parser.add_argument("--movable", action="store_true",
                         help="makes code that does the same wherever its image is moved (tools/sfi-move, sfi_c_move)")
     parser.add_argument("--debug", action="store_true",
                         help=f"makes a slower program, by {' '.join(DEBUG)}, that traps where a pointer leads outside the data, the stack "
                              "meets the objects, or memory of malloc is misused")
     parser.add_argument("--stack", type=room, metavar="N", help="room for the stack at least, in bytes; 8192 if absent")
-    add_memory(parser)
+    add_memory(parser, "16M for a program with a heap, in words, without --heap and --at, else the least that has room,")
     parser.add_argument("--sandbox", type=number(0, MOST_SANDBOXES - 1), default=0, metavar="N",
                         help="the place, counted from 0, where it lies: each program of an image has another")
     parser.add_argument("--at", type=place, metavar="CODE:DATA", help="the place where it lies, in hexadecimal, in that of --sandbox")
@@ -137,7 +137,7 @@ def parsed(words):
         parser.error("a FILE of C, C++ or assembly is wanted")
     options.cc = options.cc or default_compiler()
     options.target, options.takes_small = Target(options.format, options.movable, options.debug), False
-    if options.debug and options.format not in ("words", "single"):
+    if options.debug and options.format not in IN_WORDS:
         parser.error("--debug is for words")
     if options.debug and options.passes is not None:
         parser.error("--debug has passes of its own")
@@ -342,14 +342,8 @@ def written(options, program):
         return told(program, options.where)
     if options.output and options.output.endswith(".elf"):
         return program.content
-    run(checker_of(options), as_text(made))
+    run([options.program, "check"], as_text(made))
     return made if options.output and options.output.endswith(".image") else as_text(made)
-
-
-def checker_of(options):
-    """What reads the image and judges it: of single masks the second checker, since the program doesn't know them yet."""
-    prepared = [sys.executable, os.path.join(TOOLS, "second_checker.py"), "--prepared"]
-    return prepared if options.format == "single" else [options.program, "check"]
 
 
 def write(output, content):

@@ -20,7 +20,7 @@ def parsed(words):
     parser.add_argument("-o", dest="output", metavar="FILE", help="where to write; standard output if absent")
     parser.add_argument("--stack", type=room, metavar="BYTES",
                         help="room for the stack at least; what sfi-cc was given, or 8192, if absent")
-    add_memory(parser)
+    add_memory(parser, "that which sfi-cc chose")
     parser.add_argument("--at", type=place, action="append", default=[], metavar="CODE:DATA",
                         help="where the next program lies, in hexadecimal; it was linked there or with --movable")
     parser.add_argument("--raw", action="store_true", help="writes the image's bytes, and not their digits")

@@ -76,6 +76,6 @@ def region(text: str) -> int:
     return found
 
 
-def add_memory(parser: argparse.ArgumentParser) -> None:
+def add_memory(parser: argparse.ArgumentParser, absent: str) -> None:
     parser.add_argument("--memory", "--data", type=region, metavar="SIZE",
-                        help="the size of the data region, a power of two, as 65536 or 64K: of objects, heap and stack")
+                        help=f"the size of the data region, a power of two, as 65536 or 64K: of objects, heap and stack; {absent} if absent")

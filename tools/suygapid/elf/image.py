@@ -7,16 +7,17 @@ from typing import Iterable, Optional, Sequence
 from suygapid.elf.elf import Elf, Wrong
 from suygapid.elf.moving import is_movable
 from suygapid.image.layout import (
-    ADDRESSES, GUARD, MOST_CODE, MOST_DATA, MOST_SANDBOXES, NAMED_WITH_SINGLE as NAMED, SINGLE, WITH_SINGLE as FORMATS, Part, are_apart,
-    is_one_bit, spelled)
+    ADDRESSES, FORMATS, GUARD, MOST_CODE, MOST_DATA, MOST_SANDBOXES, NAMED, SINGLE, Part, are_apart, is_one_bit, spelled)
 from suygapid.image.names import footer, moved_names
 
 SMALLEST = 256  # bytes of a region
 DEFAULT_STACK, DEFAULT_HEAP = 8192, 98304
-DEFAULT_MEMORY = SMALLEST  # bytes of the data region at least, where no option says how many it, the heap or the stack has
+DEFAULT_MEMORY = 16 << 20  # bytes of the data region of a program with a heap in code in words: linking.py says which
 HEAP_SIZE = "__heap_size"  # holds what the heap may give out, in programs that have one: runtime/heap.c
+TAKING = {"__heap_more", "__heap_take"}  # what takes memory of it: runtime/heap.c, and with --debug heap_checks.c
 UNITS = {"K": 1 << 10, "M": 1 << 20, "G": 1 << 30}  # of sizes that options give
 TOP = 16  # the first stack pointer lies so far below the data's end
+ROUNDED = 2048  # %hi of an address so near a multiple of 4096, or nearer, is that multiple
 Place = tuple[int, int]  # where code and data begin
 BREAK = b"\x02\x90"  # c.ebreak fills the code up
 
@@ -136,6 +137,14 @@ def listed(counts: dict[str, int], unit: str = "") -> str:
     return " and ".join([*filter(None, [", ".join(words[:-1])]), words[-1]])
 
 
+def least_size(elf: Elf, counts: dict[str, int], above: int) -> int:
+    """The bytes that what has so many needs. Where masks of data are single, none of what `lui` leaves of an object's address, or of
+    a base above it, may be the region's end, which isn't masked into the region's other end."""
+    reach = counts["objects"] + above - TOP
+    rounded = reach + ROUNDED if number_of(elf) == SINGLE and reach > ROUNDED else 0
+    return power(max(sum(counts.values()) + above, rounded))
+
+
 def check_room(elf: Elf, size: int, counts: dict[str, int], above: int) -> None:
     """Whether objects, stack and heap of so many bytes, in this order, fit in the region, below what lies above the stack."""
     largest, needed = most_of(MOST_DATA, elf), sum(counts.values()) + above
@@ -166,12 +175,23 @@ def counts_of(elf: Elf, stack: Optional[int], wanted: Optional[int]) -> dict[str
     return {"objects": used_by(elf), "stack": stack_of(elf, stack), "heap": least_heap(elf, wanted is not None)}
 
 
+def least_memory(elf: Elf) -> int:
+    """The bytes that the data region has at least, where no option says its size: more than it takes, as the program was linked, if
+    malloc may have all."""
+    has_all = TAKING & elf.symbols.keys() and "__sfi_heap" not in elf.symbols
+    return elf.symbols.get("__sfi_memory_least", SMALLEST) if has_all else SMALLEST
+
+
 def memory_size(elf: Elf, stack: Optional[int] = None, wanted: Optional[int] = None) -> int:
     """The bytes of the data region: as many as are wanted, or the least that have room for all."""
-    wanted, is_told = wanted_of(elf, wanted), stack is not None or {"__sfi_heap", "__sfi_stack"} & elf.symbols.keys()
+    wanted = wanted_of(elf, wanted)
     counts, above = counts_of(elf, stack, wanted), above_stack(elf)
-    size = wanted or max(power(sum(counts.values()) + above), SMALLEST if is_told else DEFAULT_MEMORY)
+    least = least_size(elf, counts, above)
+    size = wanted or max(least, least_memory(elf))
     check_room(elf, size, counts, above)
+    if size < least:
+        raise Wrong(f"{elf.name}: objects reach into the last {ROUNDED} bytes of {size}, where format single has none: "
+                    f"--memory {spelled_size(least)} gives more")
     return size
 
 

@@ -7,17 +7,18 @@ from suygapid.cc.compilers import Failed, ran, tell
 from suygapid.elf import islands, moving
 from suygapid.elf import runtime
 from suygapid.elf.elf import Elf, Wrong
-from suygapid.elf.image import code_size, memory_size
+from suygapid.elf.image import DEFAULT_MEMORY, code_size, memory_size
 from suygapid.elf.tools import archived, assembled, binutil
 from suygapid.image.names import API, SERVICE, entries, marked, signatures
 from suygapid.library import plus_plus, small_library
 from suygapid.library.archives import SMALL, Libraries, folders_of
+from suygapid.passes.typed import IN_WORDS
 from suygapid.services import GATES
 
 CODE, DATA = 0x01000000, 0x00800000  # a sandbox's place is its number plus 1 times the first, its data lie the second above
 BESIDE = 0x00400000  # bytes at most of code, and of data, that lie so, with room for guard zones beside the data
 LARGE, APART = 0x20000000, 0x08000000  # where other data begin, above the code of 16 sandboxes, and how far apart at least
-SINGLE_CODE, HIGHEST_BIT = 0xc1000000, 31  # where masks of data are single: the code lies above all data, the bases of which are single bits
+HIGH, HIGHEST_BIT = 0xc1000000, 31  # where masks of data are single: the code that lies above all data, whose bases are single bits
 WORDS = ["-m", "elf32lriscv", "--no-relax", "--gc-sections", "-z", "noexecstack", "--no-warn-rwx-segments"]
 UNDEFINED = b"undefined"  # what the linker says of a symbol
 TOO_MANY_SMALL = b"the small objects and the room below them exceed"  # what the linker script says
@@ -28,23 +29,34 @@ def place_of(sandbox, code, data, image_format="words"):
     """Where code and data of so many bytes begin. Sandboxes of other numbers have other places, with a data region's size, or the
     least distance, between their data, so that all 16 have room where none has more than 64 MiB."""
     if image_format == "single":
-        return single_place_of(sandbox, data)
+        return single_place_of(sandbox, code, data)
     base = (sandbox + 1) * CODE
     if max(code, data) <= BESIDE:
         return base, base + DATA
     return base, max(LARGE, data) + sandbox * max(APART, 2 * data)
 
 
-def single_place_of(sandbox, data):
-    """The same where masks of data are single: 11 sandboxes have room where none has more than 1 MiB. The largest data lie highest."""
-    bits = [HIGHEST_BIT - 1, HIGHEST_BIT] if data < 1 << HIGHEST_BIT - 1 else [HIGHEST_BIT, HIGHEST_BIT - 1]
-    return SINGLE_CODE + sandbox * CODE, 1 << (bits[sandbox] if sandbox < 2 else HIGHEST_BIT - sandbox)
+def single_place_of(sandbox, code, data):
+    """The same where masks of data are single: 11 sandboxes have room where none has more than 1 MiB, and 7 where none has more than 16.
+    Nothing lies as low as data are large; those of 32 MiB have a zone at zero over the code of small sandboxes, which wants --at then."""
+    base = (sandbox + 1) * CODE + DATA if max(code, data) <= BESIDE else HIGH + sandbox * CODE
+    return base, 1 << HIGHEST_BIT - sandbox
+
+
+def default_memory(options):
+    """The bytes of data that a program with a heap has at least, where no option says how many: None in bundles, which may have few,
+    and at a place of its own, beside which others may lie. Single masks have to have room below the data."""
+    if options.format not in IN_WORDS or options.at:
+        return None
+    _, data = place_of(options.sandbox, 0, DEFAULT_MEMORY, options.format)
+    return min(DEFAULT_MEMORY, data // 2)
 
 
 def numbers_of(options, place, names, libraries):
     """The numbers that the linker script and what makes images of linked files ask for."""
     numbers = dict(zip(("__sfi_code_base", "__sfi_data_base"), place))
-    sizes = {"memory": options.memory, "stack": options.stack, "heap": options.heap, "heap_least": libraries.least_heap}
+    sizes = {"memory": options.memory, "memory_least": default_memory(options), "stack": options.stack, "heap": options.heap,
+             "heap_least": libraries.least_heap}
     numbers.update((f"__sfi_{name}", size) for name, size in sizes.items() if size is not None)
     if options.api is not None:
         numbers[API] = options.api
@@ -190,9 +202,10 @@ def words_of(options, place, libraries, objects, folder):
     own = [os.path.join(made, name) for name in ("libruntime.a", "libgates.a", "libmovable.a", *main)]
     heap = [os.path.join(made, "heap_checks.o"), "--wrap=exit_with"] if options.target.is_checking and libraries.have_heap else []
     fresh = os.path.join(folder, "program.elf")
-    first = [binutil("ld"), *WORDS, *numbers_of(options, place, names, libraries), *START]
+    exceptions = runtime.EXCEPTIONS * libraries.have_exceptions  # before the numbers: the linker moves what stands before INSERT
+    first = [binutil("ld"), *WORDS, *exceptions, *numbers_of(options, place, names, libraries), *START]
     return fresh, first, [
-        *runtime.EXCEPTIONS * libraries.have_exceptions, "-T", runtime.SCRIPT, *options.linker, "-o", fresh, os.path.join(made, "crt0.o"),
+        "-T", runtime.SCRIPT, *options.linker, "-o", fresh, os.path.join(made, "crt0.o"),
         *(path for path in objects if path not in archives), *names.objects(folder), *heap,
         "--whole-archive", *libraries.whole, "--no-whole-archive",
         "--start-group", *archives, *named, *names.archives(folder), *libraries.archives, *own, "--end-group"]

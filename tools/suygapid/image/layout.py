@@ -8,25 +8,16 @@ from typing import Callable, Iterable
 
 from suygapid import services
 
-FORMATS = {b"SFI1": 1, b"SFI2": 2, b"SFIW": 3}
+WORDS, SINGLE = 3, 4  # the formats of code in words: with masks of data of two steps, and with single ones
+FORMATS = {b"SFI1": 1, b"SFI2": 2, b"SFIW": WORDS, b"SFIS": SINGLE}
 MAGICS = {number: magic for magic, number in FORMATS.items()}
-NAMED = {"1": b"SFI1", "2": b"SFI2", "words": b"SFIW"}  # as options name them
-WORDS, SINGLE = 3, 4  # formats of code in words: with masks of data of two steps, and with single ones, which the program doesn't know yet
-WITH_SINGLE = {**FORMATS, b"SFIS": SINGLE}
-NAMED_WITH_SINGLE = {**NAMED, "single": b"SFIS"}
-MOST_CODE = {1: 65536, 2: 1048576, 3: 16777216}  # bytes of a region, by the format
-MOST_DATA = {1: 1048576, 2: 1048576, 3: 1073741824}
-MOST_CODE[SINGLE], MOST_DATA[SINGLE] = MOST_CODE[WORDS], MOST_DATA[WORDS]
+NAMED = {"1": b"SFI1", "2": b"SFI2", "words": b"SFIW", "single": b"SFIS"}  # as options name them
+MOST_CODE = {1: 65536, 2: 1048576, 3: 16777216, 4: 16777216}  # bytes of a region, by the format
+MOST_DATA = {1: 1048576, 2: 1048576, 3: 1073741824, 4: 1073741824}
 GUARD, MOST_GATES, MOST_SANDBOXES = 4096, 64, 16
 ADDRESSES = 1 << 32
 MOST_SERVICE = max(services.GATES.values())
 FAULTS = ["", "Magic", "Count", "Short", "Code", "Data", "GuardRoom", "Start", "Gates", "Init", "Overlap", "Trailing"]
-
-
-class Offered(tuple):
-    """The formats that an option's help lists. It takes `single`, too."""
-    def __contains__(self, name: object) -> bool:
-        return name == "single" or super().__contains__(name)
 
 
 class Fault(Exception):
@@ -162,10 +153,10 @@ def read_part(read, format, spans, zones):
     return Part(code_base, code, data_base, data_size, start, gates, init, format, offset)
 
 
-def parts(data: bytes, formats: dict[bytes, int] = FORMATS) -> list[Part]:
-    """The sandboxes of an image in one of these formats; Fault where the bytes are none."""
+def parts(data: bytes) -> list[Part]:
+    """The sandboxes of an image; Fault where the bytes are none."""
     read, spans, zones = Bytes(data), list[tuple[int, int]](), list[tuple[int, int]]()
-    format = formats.get(read.take(4))
+    format = FORMATS.get(read.take(4))
     need(format, "Magic")
     (count,) = read.words(1)
     need(1 <= count <= MOST_SANDBOXES, "Count")

@@ -35,11 +35,11 @@ def is_fresh() -> bool:
     return is_ready() and all(os.path.getmtime(it) <= os.path.getmtime(HOST) for it in sources)
 
 
-def make() -> Optional[str]:
-    """Builds the host, where this machine runs it and has a compiler and the headers, unless it is newer than these. Returns its path, or
-    None where there is none."""
+def make(anew: bool = False) -> Optional[str]:
+    """Builds the host, where this machine runs it and has a compiler and the headers, unless it is newer than these, or `anew`. Returns
+    its path, or None where there is none."""
     compiler = os.environ.get("CC") or next((it for it in ("gcc", "clang") if shutil.which(it)), None)
-    if is_possible() and compiler is not None and all(os.path.isdir(it) for it in INCLUDED) and not is_fresh():
+    if is_possible() and compiler is not None and all(os.path.isdir(it) for it in INCLUDED) and (anew or not is_fresh()):
         os.makedirs(os.path.dirname(HOST), exist_ok=True)
         fresh = f"{HOST}.{os.getpid()}"
         subprocess.run([compiler, *FLAGS, *(f"-I{it}" for it in INCLUDED), SOURCE, "-o", fresh], check=True)

@@ -48,9 +48,9 @@ static const uint8_t *code_of(const struct native_sandbox *it) {
     return sfi_code_bytes(it->text);
 }
 
-static bool has_stack(const struct native_sandbox *it) {
+static uint8_t format_of(const struct native_sandbox *it) {
     (void)it;
-    return image_bytes[MAGIC_SIZE - 1] == '2';
+    return image_bytes[MAGIC_SIZE - 1];
 }
 
 /* ---- the services */
@@ -243,7 +243,8 @@ static bool read_image(int image) {
         return false;
     image_size = bytes_of_text(bytes, image_size);
     image_bytes = bytes;
-    return sfi_read_image(bytes, image_size, &loaded) && loaded.count == 1 && loaded.sandboxes[0].data_size % SFI_ZONE == 0;
+    return sfi_read_image(bytes, image_size, &loaded) && !has_single_masks(bytes) && loaded.count == 1 &&
+        loaded.sandboxes[0].data_size % SFI_ZONE == 0;
 }
 
 /* Loads the image in a file and its code, which the program SFI makes. Whether it can be run. */
@@ -347,16 +348,6 @@ static const char *image_of(char **words, uint64_t *budget) {
     return *budget == 0 ? NULL : image;
 }
 
-/* The program of an installation, or of a checkout. */
-static const char *program_beside(void) {
-    static const char place[] = "/../../../../sfi";
-    static char path[AT_ONCE];
-    const ssize_t length = readlink("/proc/self/exe", path, sizeof path - sizeof place);
-    if (length > 0)
-        strcpy(strrchr(path, '/'), place);
-    return path;
-}
-
 /* Goes on as the program SFI. Of what can't be read twice, as a pipe, it gets what has been read. */
 static int go_on(const char *program, char **words, const char *image, int file) {
     static char copy[32];
@@ -385,6 +376,47 @@ static int run_words(const char *program, char **words) {
     return go_on(program, words, image, file);
 }
 
+/* The path of a file at the top of an installation, or of a checkout. */
+static const char *beside(char path[AT_ONCE], const char *name) {
+    static const char place[] = "/../../../../";
+    const ssize_t length = readlink("/proc/self/exe", path, AT_ONCE - sizeof place - strlen(name));
+    if (length > 0)
+        sprintf(strrchr(path, '/'), "%s%s", place, name);
+    return path;
+}
+
+/* Tells of what an installation was built, as ./sfi does. */
+static void tell_made_of(void) {
+    static char path[AT_ONCE];
+    char commit[99], logic[99];
+    FILE *const noted = fopen(beside(path, "built.json"), "r");
+    if (noted != NULL && fscanf(noted, "{\"commit\": \"%98[^\"]\", \"logic\": \"%98[^\"]\"}", commit, logic) == 2)
+        printf("commit=%s logic=%s\n", commit, logic);
+    if (noted != NULL)
+        fclose(noted);
+}
+
+/* Whether one of these words alone is asked for. */
+static bool is_version(char **words) {
+    return *words != NULL && words[1] == NULL && (strcmp(*words, "--version") == 0 || strcmp(*words, "-V") == 0);
+}
+
+/* Does what the program of an installation does, which itself knows only its version. */
+static int run_installed(const char *program, char **words) {
+    extern char **environ;
+    pid_t child;
+    int status = -1;
+    if (!is_version(words))
+        return run_words(program, words);
+    if (posix_spawn(&child, program, NULL, NULL, words - 1, environ) == 0)
+        while (waitpid(child, &status, 0) < 0 && errno == EINTR)
+            ;
+    if (!WIFEXITED(status))
+        return FAULT;
+    tell_made_of();
+    return WEXITSTATUS(status);
+}
+
 /* Does what sfi-exec asks for: `words` begin with TOLD. */
 static int run_told(const char *program, char **words, int count) {
     static struct host host;
@@ -401,5 +433,6 @@ int main(int count, char **words) {
     const bool is_named = count > 2 && strcmp(words[1], "--program") == 0;
     if (is_named && count > WORDS && strcmp(words[3], "--told") == 0)
         return run_told(words[2], words + 4, count - 4);
-    return is_named ? run_words(words[2], words + 3) : run_words(program_beside(), words + 1);
+    static char path[AT_ONCE];
+    return is_named ? run_words(words[2], words + 3) : run_installed(beside(path, "sfi"), words + 1);
 }

@@ -1,5 +1,5 @@
-"""Tests of code in words with single masks, which the program doesn't know yet: `tools/unit_tests.py tools/suygapid/passes`. The second
-checker accepts what the tools make, and bench/interpreter.c does with it what native programs do."""
+"""Tests of code in words with single masks: `tools/unit_tests.py tools/suygapid/passes`. Both checkers accept what the tools make, and
+bench/interpreter.c does with it what native programs do."""
 import os
 import re
 import struct
@@ -8,6 +8,7 @@ import sys
 import unittest
 
 import second_checker
+from suygapid.elf.linking import place_of
 from suygapid.image import layout
 from suygapid.passes.improving import PASSES
 from suygapid.passes.instructions import Op
@@ -19,7 +20,7 @@ from suygapid.passes.test_random import HERE, NATIVE, STACK, native_answer
 from suygapid.passes.test_rewriting import labels_of
 from suygapid.passes.typed import SINGLE, free_addresses
 from suygapid.passes.word_places import part_sizes
-from testing import GCC, SFI_CC, SFI_IMAGE, TOOLS, TOP, Folder, by_turns, needs
+from testing import GCC, SFI, SFI_CC, SFI_IMAGE, TOOLS, TOP, Folder, by_turns, needs, needs_program
 
 EXAMPLES = os.path.join(TOP, "examples", "c")
 CASES = {"crc32": "prose", "sort": "sort-numbers", "json": "json-tree", "regex": "regex-class", "lz": "prose", "stack": "stack-primes",
@@ -70,6 +71,7 @@ class Masks(unittest.TestCase):
         self.assertEqual(free_addresses(code("mv tp,a0"), 2), ())
 
 
+@needs_program
 @needs(GCC, NATIVE)
 class Programs(Folder):
     @classmethod
@@ -89,9 +91,11 @@ class Programs(Folder):
         return self.ran(SFI_CC, "--format", SINGLE, "-w", "--jobs", "1", *words)
 
     def answers(self, image, given=b""):
-        """What an image's sandboxes do, which the second checker accepts."""
-        self.assertEqual(second_checker.judged(bytes.fromhex(image.decode()), second_checker.PREPARED)[0], 0)
-        said = self.ran(self.interpreter, "once", "100", "10000000", given.hex(), data=image).decode()
+        """What an image's sandboxes do, which the second checker accepts, too."""
+        self.assertEqual(second_checker.judged(bytes.fromhex(image.decode()))[0], 0)
+        said = self.ran(self.interpreter, "once", "1000", "1000000", given.hex(), data=image).decode()
+        run = [SFI, "run", "--rounds", "1000", "--quantum", "1000000", *["--input", given.hex()] * bool(given)]
+        self.assertEqual(self.ran(*run, data=image).decode(), said)
         return [re.sub(r"^sandbox=\d+ | steps=\d+", "", line) for line in said.splitlines()]
 
     def test_examples(self):
@@ -118,14 +122,38 @@ class Programs(Folder):
         names = [self.path(f"{number}.elf") for number in (0, 1, 2, 10)]
         image = self.ran(SFI_IMAGE, *names)
         self.assertEqual(self.answers(image), ["exit=9 out="] * 4)
-        found = layout.parts(bytes.fromhex(image.decode()), layout.WITH_SINGLE)
-        self.assertEqual([part.data_base for part in found], [1 << bit for bit in (30, 31, 29, 21)])
-        self.assertEqual(found[0].reserved(), [found[0].code_base, found[0].code_size - 4, 1 << 30, (1 << 30) + found[0].data_size - 1])
+        found = layout.parts(bytes.fromhex(image.decode()))
+        self.assertEqual([part.data_base for part in found], [1 << bit for bit in (31, 30, 29, 21)])
+        self.assertEqual(found[0].reserved(), [0x1800000, found[0].code_size - 4, 1 << 31, (1 << 31) + found[0].data_size - 1])
         moved = self.ran(SFI_IMAGE, "--at", "1000000:800000", names[0])
         self.assertEqual(self.answers(moved), ["exit=9 out="])
         for where, why in (("1000000:c00000", "more than one bit"), ("1000:800000", "zone at zero"), ("1000000:4000", "zone at zero")):
             done = subprocess.run([SFI_IMAGE, "--at", where, names[0]], capture_output=True, text=True, check=False)
             self.assertEqual((done.returncode, why in done.stderr), (1, True), done.stderr)
+
+    def test_the_usual_place(self):
+        """It is that of a text, and larger programs lie apart, too."""
+        text = ".format single\n" + ".sandbox 1048576\nebreak\n" * 11
+        for number, part in enumerate(layout.parts(bytes.fromhex(self.ran(SFI, "build", data=text.encode()).decode()))):
+            self.assertEqual(place_of(number, part.code_size, part.data_size, SINGLE), (part.code_base, part.data_base))
+        code = struct.pack("<64I", *[0x100073] * 64)
+        for size, data_size, numbers in ((256, 1 << 20, range(11)), (1 << 22, 1 << 22, range(9)), (1 << 24, 1 << 20, (0, 10)), (1 << 23, 1 << 30, (0,))):
+            places = [place_of(number, size, data_size, SINGLE) for number in numbers]
+            made = [layout.Part(base, code * (size // 256), data, data_size, base) for base, data in places]
+            self.assertEqual(len(layout.parts(layout.spelled(b"SFIS", made))), len(numbers))
+
+    def test_no_object_lies_where_lui_rounds_to_the_end(self):
+        """A data register gets the address of one by `lui`, which a mask leaves in the data then."""
+        text = "int table[{}];\nint main(void) {{ for (int i = 0; i < {}; i++) table[i] += i; return table[{}]; }}\n"
+        path = self.write("table.c", text.format(440, 440, 439).replace("]; }", "] - 397; }"))
+        for options, size in (("--stack", "16"), 8192), ((), 16384):
+            image = self.image(*options, path)
+            self.assertEqual((self.answers(image), layout.parts(bytes.fromhex(image.decode()))[0].data_size), (["exit=42 out="], size))
+        in_words = self.ran(SFI_CC, "--program", SFI, "--stack", "16", path)
+        self.assertEqual(layout.parts(bytes.fromhex(in_words.decode()))[0].data_size, 4096)
+        done = subprocess.run([SFI_CC, "--format", SINGLE, "--stack", "16", "--memory", "4096", path], capture_output=True, text=True, check=False)
+        self.assertEqual(done.returncode, 1)
+        self.assertIn("objects reach into the last 2048 bytes of 4096, where format single has none: --memory 8K gives more", done.stderr)
 
     def test_a_null_pointer_traps(self):
         path = self.write("null.c", '#include "gates.h"\nint *volatile p;\nint main(void) { return *p; }\n')
@@ -170,10 +198,10 @@ class Layouts(unittest.TestCase):
             image = layout.spelled(b"SFIS", [part])
             fault = ""
             try:
-                layout.parts(image, layout.WITH_SINGLE)
+                layout.parts(image)
             except layout.Fault as wrong:
                 fault = f"layout fault {wrong.number} {wrong}"
-            status, lines = second_checker.judged(image, second_checker.PREPARED)
+            status, lines = second_checker.judged(image)
             self.assertEqual(fault, lines[-1] if status else "", hex(data_base))
         self.assertRaises(layout.Fault, layout.parts, b"SFIS" + bytes(100))
 

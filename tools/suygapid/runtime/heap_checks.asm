@@ -632,8 +632,9 @@ give_back.part.0:
 	j	.L80
 	.cfi_endproc
 .LFE40:
-	.section	.text.take,"ax",@progbits
-take:
+	.section	.text.__heap_take,"ax",@progbits
+	.globl	__heap_take
+__heap_take:
 .LFB20:
 	.cfi_startproc
 	addi	sp,sp,-64
@@ -906,7 +907,7 @@ malloc:
 	li	a1,16
 	addi	sp,sp,16
 	.cfi_def_cfa_offset 0
-	tail	take
+	tail	__heap_take
 	.cfi_endproc
 .LFE26:
 	.section	.text.calloc,"ax",@progbits
@@ -928,7 +929,7 @@ calloc:
 	mul	s0,a0,a1
 	li	a1,16
 	mv	a0,s0
-	call	take
+	call	__heap_take
 	beq	a0,zero,.L138
 	mv	a2,s0
 	lw	s0,8(sp)
@@ -1015,7 +1016,7 @@ realloc:
 	li	a1,16
 	mv	a0,s1
 	lw	s4,4(a5)
-	call	take
+	call	__heap_take
 	mv	s3,a0
 	beq	a0,zero,.L151
 	mv	a2,s1
@@ -1044,7 +1045,7 @@ realloc:
 	li	a1,16
 	addi	sp,sp,32
 	.cfi_def_cfa_offset 0
-	tail	take
+	tail	__heap_take
 	.cfi_endproc
 .LFE28:
 	.section	.text.free,"ax",@progbits
@@ -1094,7 +1095,7 @@ memalign:
 	mv	a1,a5
 	addi	sp,sp,16
 	.cfi_def_cfa_offset 0
-	tail	take
+	tail	__heap_take
 	.cfi_endproc
 .LFE30:
 	.section	.text.aligned_alloc,"ax",@progbits
@@ -1118,7 +1119,7 @@ aligned_alloc:
 	mv	a1,a5
 	addi	sp,sp,16
 	.cfi_def_cfa_offset 0
-	tail	take
+	tail	__heap_take
 	.cfi_endproc
 .LFE43:
 	.section	.text.malloc_usable_size,"ax",@progbits
@@ -1160,7 +1161,7 @@ _malloc_r:
 	li	a1,16
 	addi	sp,sp,16
 	.cfi_def_cfa_offset 0
-	tail	take
+	tail	__heap_take
 	.cfi_endproc
 .LFE33:
 	.section	.text._calloc_r,"ax",@progbits
@@ -1183,7 +1184,7 @@ _calloc_r:
 	mul	s0,a1,a5
 	li	a1,16
 	mv	a0,s0
-	call	take
+	call	__heap_take
 	beq	a0,zero,.L187
 	mv	a2,s0
 	lw	s0,8(sp)
@@ -1271,7 +1272,7 @@ _realloc_r:
 	li	a1,16
 	mv	a0,s2
 	lw	s4,4(a5)
-	call	take
+	call	__heap_take
 	mv	s3,a0
 	beq	a0,zero,.L200
 	mv	a2,s2
@@ -1300,7 +1301,7 @@ _realloc_r:
 	li	a1,16
 	addi	sp,sp,32
 	.cfi_def_cfa_offset 0
-	tail	take
+	tail	__heap_take
 	.cfi_endproc
 .LFE35:
 	.section	.text._free_r,"ax",@progbits
@@ -1349,7 +1350,7 @@ _memalign_r:
 	.cfi_restore 1
 	addi	sp,sp,16
 	.cfi_def_cfa_offset 0
-	tail	take
+	tail	__heap_take
 	.cfi_endproc
 .LFE37:
 	.section	.text._malloc_usable_size_r,"ax",@progbits

@@ -184,7 +184,8 @@ static void *no_memory(void) {
     return 0;
 }
 
-static void *take(size count, size alignment, const void *by) {
+/* elf/image.py looks for it: a program that has it takes memory. */
+void *__heap_take(size count, size alignment, const void *by) {
     size room = sizeof(struct block) + ((count + ZONE + ALIGNMENT - 1) & -ALIGNMENT);
     if (!cursor && __heap_size >= 2 * sizeof(struct block))
         begin();
@@ -239,15 +240,15 @@ static void give_back(void *bytes, const void *by) {
 static void *take_cleared(size count, size each, const void *by) {
     if (each && count > (size)-1 / each)
         return no_memory();
-    void *bytes = take(count * each, ALIGNMENT, by);
+    void *bytes = __heap_take(count * each, ALIGNMENT, by);
     return bytes ? memset(bytes, 0, count * each) : 0;
 }
 
 static void *take_other(void *bytes, size count, const void *by) {
     if (!bytes)
-        return take(count, ALIGNMENT, by);
+        return __heap_take(count, ALIGNMENT, by);
     size before = block_of(bytes, by)->count;
-    void *other = count ? take(count, ALIGNMENT, by) : 0;
+    void *other = count ? __heap_take(count, ALIGNMENT, by) : 0;
     if (other)
         memcpy(other, bytes, before < count ? before : count);
     if (other || !count)
@@ -256,7 +257,7 @@ static void *take_other(void *bytes, size count, const void *by) {
 }
 
 static void *take_aligned(size alignment, size count, const void *by) {
-    return take(count, alignment < ALIGNMENT ? ALIGNMENT : alignment, by);
+    return __heap_take(count, alignment < ALIGNMENT ? ALIGNMENT : alignment, by);
 }
 
 /* The functions, and those that newlib's own call, with a first argument that says which thread it is. A program's own go first. */
@@ -265,7 +266,7 @@ static void *take_aligned(size alignment, size count, const void *by) {
 #define WEAK __attribute__((weak))
 #define THREAD __attribute__((unused)) void *thread
 
-WEAK void *malloc(size count) { return take(count, ALIGNMENT, CALLER); }
+WEAK void *malloc(size count) { return __heap_take(count, ALIGNMENT, CALLER); }
 WEAK void *calloc(size count, size each) { return take_cleared(count, each, CALLER); }
 WEAK void *realloc(void *bytes, size count) { return take_other(bytes, count, CALLER); }
 WEAK void free(void *bytes) { give_back(bytes, CALLER); }
@@ -273,7 +274,7 @@ WEAK void *memalign(size alignment, size count) { return take_aligned(alignment,
 WEAK void *aligned_alloc(size alignment, size count) { return take_aligned(alignment, count, CALLER); }
 WEAK size malloc_usable_size(void *bytes) { return bytes ? block_of(bytes, CALLER)->count : 0; }
 
-WEAK void *_malloc_r(THREAD, size count) { return take(count, ALIGNMENT, CALLER); }
+WEAK void *_malloc_r(THREAD, size count) { return __heap_take(count, ALIGNMENT, CALLER); }
 WEAK void *_calloc_r(THREAD, size count, size each) { return take_cleared(count, each, CALLER); }
 WEAK void *_realloc_r(THREAD, void *bytes, size count) { return take_other(bytes, count, CALLER); }
 WEAK void _free_r(THREAD, void *bytes) { give_back(bytes, CALLER); }

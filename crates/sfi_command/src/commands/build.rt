@@ -20,7 +20,8 @@ digits, or with --raw its bytes. `sfi check` accepts what is built.
 
 The first --at is the place of the first sandbox, and so on. A sandbox without
 one has its usual place: code at N times 01000000, data 00800000 above it, where
-N counts the sandboxes from 1.
+N counts the sandboxes from 1. In the fourth format its code lies 00800000
+higher, and its data at 80000000, half of that for the next one, and so on.
 
 Exit status:
   0  built

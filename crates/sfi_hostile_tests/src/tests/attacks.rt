@@ -1,5 +1,5 @@
 //! Code that tries to get out of its sandbox.
-use super::images::{C_EBREAK, C_NOP, EBREAK, HEAD, SFI1, SFI2, SFIW, bytes_of};
+use super::images::{C_EBREAK, C_NOP, EBREAK, HEAD, SFI1, SFI2, SFIS, SFIW, SINGLE_HEAD, bytes_of};
 use sfi_check::{Feed, Refusal, StreamAnswer, check, check_stream};
 use sfi_formats::Format;
 use sfi_image::ReaderSource;
@@ -158,6 +158,43 @@ anywhere V1 0 00000000 no instruction
 end V8 0 13000000 addi at the end
 ";
 
+/// Such rows for code in words whose masks are single.
+const SINGLE_ATTACKS: &str = "
+anywhere V5 0 2320b500 store on x10
+anywhere V5 0 83250f00 load on the code register
+anywhere V5 0 2320bc00 store on the code base
+anywhere V5 0 23a0bd00 store on the mask
+anywhere V5 4 130d4d0023a0b200 step before an access on x5
+anywhere V10 4 b36ea50123a0be0073001000 data register from x10
+anywhere V10 4 930e0500b37fb50173001000 mask of another register
+anywhere V10 4 3301b500b371b10173001000 mask into another register
+anywhere V10 4 032d0d002320bd0073001000 store on a register that was loaded
+anywhere V10 4 930ff0ff23a0bf0073001000 store on x31 as it was written
+anywhere V10 4 33e1af0173001000 base put on an offset
+anywhere V10 4 3371a50173001000 mask by x26
+anywhere V10 4 33f1ad0073001000 operands of and exchanged
+anywhere V10 4 130d4d00a32ebd3e73001000 access 1021 bytes after a step
+anywhere V10 4 938f0fffa3a1afc073001000 access 1021 bytes before a step
+anywhere V10 4 9381410003a0010073001000 load into x0 after a step
+anywhere V10 4 938141009381410023a0b10073001000 two steps
+anywhere V10 4 130d01012320bd0073001000 step from another register
+anywhere V10 0 670d0f00 jalr links x26
+anywhere V10 0 ef0f0000 jal links x31
+anywhere V10 2 110d0290 c.addi x26, 4
+anywhere V10 2 954f0290 c.li x31
+anywhere V6 0 67800000 jump on x1
+anywhere V11 4 337f950167000f00 half a pair
+anywhere V11 0 337fb501336f8f0167000f00 code register masked as data
+6 V7 0 19200290 c.jal 6
+anywhere V4 0 b37db501 mask of the mask
+anywhere V4 0 e70d0f00 jalr links x27
+anywhere V4 0 0d4c0290 c.li x24
+anywhere V3 0 73000000 ecall
+anywhere V2 2 0100130001000290 addi across a word's end
+anywhere V1 0 00000000 no instruction
+end V8 0 13000000 addi at the end
+";
+
 /// Where an attack breaks its rule, by the first word of its row.
 fn harm_of(word: &str) -> Option<Harm> {
     match word {
@@ -203,13 +240,13 @@ fn attack_of<'a>(line: &'a str) -> Option<Attack<'a>> {
 fn begins(format: Format, target: u32) -> bool {
     match format {
         Format::Sfi1 | Format::Sfi2 => target % 16 == 0,
-        Format::Sfiw => target % 4 == 0,
+        Format::Sfiw | Format::Sfis => target % 4 == 0,
     }
 }
 
 /// Whether an attack is tried from this place of a bundle on: in words it begins with one.
 fn is_tried(format: Format, place: u32) -> bool {
-    format != Format::Sfiw || place % 4 == 0
+    !format.has_words() || place % 4 == 0
 }
 
 impl<'a> Attack<'a> {
@@ -251,16 +288,17 @@ impl<'a> Attack<'a> {
         let Some(after) = 16u32.saturating_sub(spot.place).checked_sub(self.len()) else {
             return Ok(None);
         };
-        let magic = match spot.format {
-            Format::Sfi1 => SFI1,
-            Format::Sfi2 => SFI2,
-            Format::Sfiw => SFIW,
+        let (magic, head) = match spot.format {
+            Format::Sfi1 => (SFI1, HEAD),
+            Format::Sfi2 => (SFI2, HEAD),
+            Format::Sfiw => (SFIW, HEAD),
+            Format::Sfis => (SFIS, SINGLE_HEAD),
         };
         let [filler, rest] = spot.filler.pieces(spot.place);
         let words = spot.bundle.saturating_mul(4);
         let pieces = [
             (magic, 1),
-            (HEAD, 1),
+            (head, 1),
             (EBREAK, words as usize),
             filler,
             rest,
@@ -351,6 +389,7 @@ fn attacks_are_found(rt: HostRuntime) -> Result<(), Fail> {
         (ATTACKS, Format::Sfi1),
         (ATTACKS, Format::Sfi2),
         (WORD_ATTACKS, Format::Sfiw),
+        (SINGLE_ATTACKS, Format::Sfis),
     ];
     for (table, format) in tables {
         for line in table.lines().skip(1) {

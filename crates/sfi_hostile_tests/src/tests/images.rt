@@ -11,9 +11,15 @@ pub(super) const SFI2: &str = "53464932";
 
 pub(super) const SFIW: &str = "53464957";
 
+pub(super) const SFIS: &str = "53464953";
+
 /// The head of one sandbox after the magic: code 256 bytes at 01000000, data 256 at 01800000, start
 /// at the code's first byte, no gates, no first data bytes.
 pub(super) const HEAD: &str = "0100000000000001000100000000800100010000000000010000000000000000";
+
+/// The same with data at 80000000, a single bit.
+pub(super) const SINGLE_HEAD: &str =
+    "0100000000000001000100000000008000010000000000010000000000000000";
 
 /// `ebreak`. The smallest image's code is 64 of them.
 pub(super) const EBREAK: &str = "73001000";

@@ -6,7 +6,7 @@ use Rattle.rv_word.specs.declared.instr.Instr.{Instr}
 use Rattle.rv_word.specs.declared.instr.Instr.TheVariants.{Op, OpImm, Load, Store, Jal, Jalr}
 use Rattle.rv_word.specs.Outlines.{destination}
 use Rattle.sfi_formats.specs.declared.format.Format.{Format}
-use Rattle.sfi_formats.specs.Formats.{data_base_register, data_mask_register, is_data_register, code_register, offset_register, has_one_step}
+use Rattle.sfi_formats.specs.Formats.{data_base_register, data_mask_register, is_data_register, code_register, offset_register, has_single_mask}
 use Rattle.sfi_source.specs.declared.item.Body.{Body}
 use Rattle.sfi_source.specs.declared.item.Body.TheVariants.{Plain, To, High, Low, Base}
 use Rattle.sfi_source.specs.declared.item.Item.{Item}
@@ -21,19 +21,19 @@ use Rattle.rv_comp.specs.Table.{expansion}
 -- a step before its use.
 
 -- `and x31, a, x27`; `or d, x31, x26`: d becomes the address of the data region with the offset of a.
--- Where a mask has one step it is `and d, a, x27`: d becomes a, if that lies in the data region.
+-- Where masks are single it is `and d, a, x27`: d becomes a, if that lies in the data region.
 abbrev pub data_mask : Format → ℕ → ℕ → List BundleSlot
 data_mask f d a =
-    if has_one_step f then Wide (Op And d a data_mask_register) ∷ []
+    if has_single_mask f then Wide (Op And d a data_mask_register) ∷ []
     else Wide (Op And offset_register a data_mask_register)
     ∷ Wide (Op Or d offset_register data_base_register) ∷ []
 
 -- ---- a load, a store, an indirect jump
 
--- an access on a is made on x26: it is one on x0, and a masked 0 is the region's first address. (Where a
--- mask has one step, a masked 0 is 0, and an access there traps.)
+-- an access on a is made on x26: it is one on x0, and a masked 0 is the region's first address. (Where
+-- masks are single, a masked 0 is 0, and an access there traps.)
 abbrev pub is_made_on_x26 : Format → ℕ → Bool
-is_made_on_x26 f a = (a == 0) && not (has_one_step f)
+is_made_on_x26 f a = (a == 0) && not (has_single_mask f)
 
 -- the base on which an access on a is made: a data register itself; x26 for x0, where a masked 0 is the
 -- region's first address; x29 for any other register

@@ -11,47 +11,47 @@ use Rattle.rv_step.specs.declared.outcome.Outcome.TheVariants.{Next}
 use Rattle.sfi_source.specs.declared.item.Body.TheVariants.{Plain}
 use Rattle.sfi_source.specs.declared.item.Item.{Item}
 use Rattle.sfi_formats.specs.Formats.{is_data_register, stack_pointer}
-use Rattle.sfi_formats.specs.declared.format.Format.TheVariants.{Sfiw}
+use Rattle.sfi_formats.specs.declared.format.Format.{Format}
 use Rattle.sfi_rewrite.specs.Samples.{Meets, LeavesInside, LeavesOutside, sample_push}
 use Rattle.sfi_rewrite.specs.words.Expansion.{mask_after, is_step_before_use, IsPlainExpansion, IsExpansion}
 use Rattle.sfi_rewrite.specs.words.Transparency.{KeepsTo, effect_in}
 
--- the expansion of i, which is no step, in 32-bit slots
-abbrev pub MeetsExpansion : Instr → Type 0
-MeetsExpansion i = Meets Sfiw i (IsPlainExpansion Sfiw false false i)
+-- the expansion of i, which is no step, in 32-bit slots of code of this format
+abbrev pub MeetsExpansion : Format → Instr → Type 0
+MeetsExpansion f i = Meets f i (IsPlainExpansion f false false i)
 
 -- all that IsTransparent asks where i writes no data register, and i is done
-abbrev pub MeetsTransparent : Instr → Type 0
-MeetsTransparent i = (m : MeetsExpansion i) × (mask_after Sfiw (destination i) ≡ [])
-    × KeepsTo m.code_at m.data_at m.state.hart i × ((effect_in Sfiw m.state i).outcome ≡ Next)
+abbrev pub MeetsTransparent : Format → Instr → Type 0
+MeetsTransparent f i = (m : MeetsExpansion f i) × (mask_after f (destination i) ≡ [])
+    × KeepsTo m.code_at m.data_at m.state.hart i × ((effect_in f m.state i).outcome ≡ Next)
 
 -- all that IsTransparent asks of the instruction of an item that is a step, which the first item of
 -- `later` uses, holds in some state
-abbrev pub MeetsStep : Item → List Item → Instr → Type 0
-MeetsStep x later i = (m : Meets Sfiw i (IsExpansion Sfiw x later)) × (x.body ≡ Plain i)
+abbrev pub MeetsStep : Format → Item → List Item → Instr → Type 0
+MeetsStep f x later i = (m : Meets f i (IsExpansion f x later)) × (x.body ≡ Plain i)
     × (is_step_before_use x later ≡ true) × KeepsTo m.code_at m.data_at m.state.hart i
-    × ((effect_in Sfiw m.state i).outcome ≡ Next)
+    × ((effect_in f m.state i).outcome ≡ Next)
 
 -- i writes the data register, and keeps to its sandbox
-abbrev pub WritesData : (d : ℕ) (i : Instr) → MeetsExpansion i → Type 0
-WritesData d i m = (destination i ≡ Some d) × (is_data_register d ≡ true)
+abbrev pub WritesData : (f : Format) (d : ℕ) (i : Instr) → MeetsExpansion f i → Type 0
+WritesData f d i m = (destination i ≡ Some d) × (is_data_register d ≡ true)
     × KeepsTo m.code_at m.data_at m.state.hart i
 
 -- all that KeepsData asks of an instruction that writes data register d holds in some state; there
 -- i is done, and leaves d in the data region
-abbrev pub MeetsInside : ℕ → Instr → Type 0
-MeetsInside d i = (m : MeetsExpansion i) × WritesData d i m
-    × LeavesInside m.data_at d (effect_in Sfiw m.state i)
+abbrev pub MeetsInside : Format → ℕ → Instr → Type 0
+MeetsInside f d i = (m : MeetsExpansion f i) × WritesData f d i m
+    × LeavesInside m.data_at d (effect_in f m.state i)
 
 -- all that KeepsData asks holds in some state; there i is done, and leaves d outside of the data
 -- region
-abbrev pub MeetsOutside : ℕ → Instr → Type 0
-MeetsOutside d i = (m : MeetsExpansion i) × WritesData d i m
-    × LeavesOutside m.data_at d (effect_in Sfiw m.state i)
+abbrev pub MeetsOutside : Format → ℕ → Instr → Type 0
+MeetsOutside f d i = (m : MeetsExpansion f i) × WritesData f d i m
+    × LeavesOutside m.data_at d (effect_in f m.state i)
 
 -- all that KeepsData asks holds in some state, and there i isn't done
-abbrev pub MeetsStop : ℕ → Instr → Type 0
-MeetsStop d i = (m : MeetsExpansion i) × WritesData d i m × ((effect_in Sfiw m.state i).outcome ≢ Next)
+abbrev pub MeetsStop : Format → ℕ → Instr → Type 0
+MeetsStop f d i = (m : MeetsExpansion f i) × WritesData f d i m × ((effect_in f m.state i).outcome ≢ Next)
 
 -- ---- the samples
 

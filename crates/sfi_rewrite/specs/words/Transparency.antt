@@ -14,7 +14,7 @@ use Rattle.rv_step.specs.State.{Hart, State, register}
 use Rattle.rv_step.specs.Step.{Stepped, effect}
 use Rattle.rv_step.specs.Rows.{LeadTo}
 use Rattle.sfi_source.specs.declared.item.Item.{Item}
-use Rattle.sfi_formats.specs.Formats.{data_base_register, is_data_register, code_register, offset_register, has_one_step}
+use Rattle.sfi_formats.specs.Formats.{data_base_register, is_data_register, code_register, offset_register, has_single_mask}
 use Rattle.sfi_formats.specs.declared.format.Format.{Format}
 use Rattle.sfi_image.specs.declared.span.Span.{Span}
 use Rattle.sfi_image.specs.Spelling.{Holds}
@@ -51,8 +51,8 @@ KeepsTo code_at data_at h i = Unit {0}
 abbrev pub meant_base : Format → ℕ → ℕ
 meant_base f a = if is_made_on_x26 f a then data_base_register else a
 
--- What the instruction means in a sandbox: an access on x0 is one on x26, any other is itself. (Where a
--- mask has one step each is itself.)
+-- What the instruction means in a sandbox: an access on x0 is one on x26, any other is itself. (Where
+-- masks are single each is itself.)
 abbrev pub meant : Format → Instr → Instr
 meant f (Load kind rd a imm) = Load kind rd (meant_base f a) imm
 meant f (Store width a rs2 imm) = Store width (meant_base f a) rs2 imm
@@ -60,11 +60,11 @@ meant f i = i
 
 -- ---- what slots do
 
--- The address that v masks to: that of the data region with the offset of v. Where a mask has one step:
+-- The address that v masks to: that of the data region with the offset of v. Where masks are single:
 -- what v has in common with the mask, so v itself where that lies in the data region, or below its size.
 abbrev pub masked_in : Format → Span → ℕ → ℕ
 masked_in f data_at v =
-    if has_one_step f then bit_and v (data_mask_of f data_at) else masked data_at v
+    if has_single_mask f then bit_and v (data_mask_of f data_at) else masked data_at v
 
 -- what the instruction, as it is meant, does in the state, where it has 4 bytes
 abbrev pub effect_in : Format → State → Instr → Stepped

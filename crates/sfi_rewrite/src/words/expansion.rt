@@ -35,7 +35,7 @@ fn push_mask(format: Format, slots: &mut Expansion, target: Reg, a: Reg)
     requires { length slots.old + 2 ≤ 5 }
     ensures { slots.new ≡ slots.old ++ data_mask format target a }
 {
-    if format.has_one_step() {
+    if format.has_single_mask() {
         slots.push(&[masking(target, a)]);
         return;
     }
@@ -63,7 +63,7 @@ fn push_mask_after(format: Format, slots: &mut Expansion, written: Reg)
 fn is_made_on_x26(format: Format, a: Reg) -> bool
     ensures { result ≡ is_made_on_x26 format a }
 {
-    a.number() == 0 && !format.has_one_step()
+    a.number() == 0 && !format.has_single_mask()
 }
 
 /// The base on which an access on `a` is made: a data register itself, x26 where that stands for x0,

@@ -8,7 +8,7 @@ use Rattle.rv_word.specs.Spelling.{offset_by}
 use Rattle.rv_word.specs.Outlines.{destination, writes_register}
 use Rattle.sfi_pairs.specs.Pairs.{is_masking, is_placing, uses}
 use Rattle.sfi_formats.specs.Limits.{word_size}
-use Rattle.sfi_formats.specs.Formats.{code_base_register, code_mask_register, data_base_register, data_mask_register, is_data_register_in, code_register, offset_register, has_one_step, is_reserved_in}
+use Rattle.sfi_formats.specs.Formats.{code_base_register, code_mask_register, data_base_register, data_mask_register, is_data_register_in, code_register, offset_register, has_single_mask, is_reserved_in}
 use Rattle.sfi_formats.specs.declared.format.Format.{Format}
 use Rattle.sfi_rules.specs.Readings.{Piece, is_jump}
 use Rattle.sfi_rules.specs.Rules.{is_empty, ends_region}
@@ -31,17 +31,17 @@ is_or rd a b (Op Or x y z) = (x == rd) && (y == a) && (z == b)
 is_or rd a b _ = false
 
 -- The last step of d's mask: `or d, x31, x26`, by which d becomes an address of the data region. Where
--- a mask has one step: `and d, a, x27`.
+-- masks are single: `and d, a, x27`.
 abbrev pub places : Format → ℕ → Instr → Bool
 places f d i =
-    if has_one_step f then is_masking data_mask_register d i
+    if has_single_mask f then is_masking data_mask_register d i
     else is_or d offset_register data_base_register i
 
 -- The first step of d's mask: `and x31, d, x27`, by which x31 becomes d's offset in the data region.
--- Where a mask has one step, that one.
+-- Where masks are single, that one.
 abbrev pub masks : Format → ℕ → Instr → Bool
 masks f d i =
-    if has_one_step f then is_masking data_mask_register d i
+    if has_single_mask f then is_masking data_mask_register d i
     else is_and offset_register d data_mask_register i
 
 -- the pieces begin with the last step of d's mask
@@ -52,7 +52,7 @@ begins_placing f d (x ∷ later) = places f d x.instr
 -- the pieces begin with d's mask: its first step, and then its last, unless that is the same
 abbrev pub begins_masking : Format → ℕ → List Piece → Bool
 begins_masking f d [] = false
-begins_masking f d (x ∷ later) = masks f d x.instr && (has_one_step f || begins_placing f d later)
+begins_masking f d (x ∷ later) = masks f d x.instr && (has_single_mask f || begins_placing f d later)
 
 -- `addi d, d, k`: a pointer goes on by k bytes
 abbrev pub is_pointer_step : ℕ → Instr → Bool
@@ -147,18 +147,18 @@ may_write_code i later = is_placing code_base_register code_register i
 abbrev pub breaks_code : Instr → List Piece → Bool
 breaks_code i later = writes_register code_register i && not (may_write_code i later)
 
--- V12: the instruction writes x31, and isn't `and x31, a, x27`. (Where a mask has one step this is never
+-- V12: the instruction writes x31, and isn't `and x31, a, x27`. (Where masks are single this is never
 -- broken.)
 abbrev pub breaks_offset : Format → Instr → Bool
 breaks_offset f i = writes_register offset_register i
-    && not (has_one_step f || is_masking data_mask_register offset_register i)
+    && not (has_single_mask f || is_masking data_mask_register offset_register i)
 
 -- ==== What is still owed: what the next one or two instructions must be after a write of a data
 -- register or of x30, as a kind and one register.
 
 -- what is owed after the first step of d's mask
 abbrev pub owed_by_mask : Format → ℕ → Owed
-owed_by_mask f d = if has_one_step f then Nothing else PlaceOnly d
+owed_by_mask f d = if has_single_mask f then Nothing else PlaceOnly d
 
 -- what is still owed after this instruction; None: the instruction isn't one that was owed
 abbrev pub left : Format → Owed → Instr → Option Owed

@@ -6,7 +6,7 @@ use Rattle.rv_comp.specs.Fronts.{IsShortSpelling}
 use Rattle.rv_word.specs.declared.instr.Instr.{Instr}
 use Rattle.rv_word.specs.declared.outline.Outline.{Outline}
 use Rattle.rv_word.specs.declared.outline.Outline.TheVariants.{Computes, Loads, Stores, Branches, Jumps, JumpsTo, Orders, Calls, Stops}
-use Rattle.sfi_formats.specs.Formats.{code_register, has_one_step, is_data_register, is_data_register_in, is_reserved, offset_register, code_base_register, code_mask_register, data_base_register, data_mask_register}
+use Rattle.sfi_formats.specs.Formats.{code_register, has_single_mask, is_data_register, is_data_register_in, is_reserved, offset_register, code_base_register, code_mask_register, data_base_register, data_mask_register}
 use Rattle.sfi_formats.specs.declared.format.Format.{Format}
 use Rattle.sfi_image.specs.declared.bundle.BundlePlace.{BundlePlace}
 use Rattle.sfi_rules.specs.declared.owed.Owed.{Owed}
@@ -127,7 +127,7 @@ IsCodePair first second = ((a : ℕ) × IsWordOf first (Op And code_register a c
 
 -- the words are a pair: of data, where a mask has two steps, or the pair of the code register
 abbrev pub IsPair : Format → ℕ → ℕ → Type 0
-IsPair f first second = ((has_one_step f ≡ false) × IsMasking first × IsPlacing second)
+IsPair f first second = ((has_single_mask f ≡ false) × IsMasking first × IsPlacing second)
     ⊎ IsCodePair first second
 
 -- a pair begins with halfword i

@@ -80,7 +80,7 @@ fn are_pair_words(format: Format, first: u32, second: u32) -> bool
     ensures { OnTrue result (IsPair format first second) }
 {
     if is_any_data_masking_word(first) {
-        if format.has_one_step() {
+        if format.has_single_mask() {
             return false;
         }
         return is_any_data_placing_word(second);
@@ -199,7 +199,7 @@ fn used_steps(place: &BundlePlace, block: &[u8; BLOCK_BYTES], free: u64, words: 
     steps
 }
 
-/// Whether the word at halfword `i` jumps or branches, or where a mask has one step is a mask or an access,
+/// Whether the word at halfword `i` jumps or branches, or where masks are single is a mask or an access,
 /// and breaks no rule.
 #[inline(always)]
 fn is_clean_other_at(place: &BundlePlace, block: &[u8; BLOCK_BYTES], i: usize) -> bool
@@ -213,7 +213,7 @@ fn is_clean_other_at(place: &BundlePlace, block: &[u8; BLOCK_BYTES], i: usize) -
     is_clean_other_word(&bundle, address, word_at(block, 2 * i))
 }
 
-/// The bits of `words` that break no rule and jump or branch, or where a mask has one step are masks or
+/// The bits of `words` that break no rule and jump or branch, or where masks are single are masks or
 /// accesses.
 #[inline(always)]
 fn clean_others(place: &BundlePlace, block: &[u8; BLOCK_BYTES], words: u64) -> u64

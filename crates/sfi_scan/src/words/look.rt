@@ -10,7 +10,7 @@ ghost use Rattle.rv_word.specs.declared.instr.Instr.TheVariants.{Op};
 ghost use Rattle.rv_word.specs.declared.instr.RegOp.TheVariants.{And, Or};
 ghost use Rattle.rv_word.specs.declared.outline.Outline.TheVariants.{Computes};
 ghost use Rattle.sfi_image.specs.declared.bundle.BundlePlace.{BundlePlace};
-ghost use Rattle.sfi_formats.specs.Formats.{has_one_step, is_data_register, is_data_register_in};
+ghost use Rattle.sfi_formats.specs.Formats.{has_single_mask, is_data_register, is_data_register_in};
 ghost use Rattle.sfi_rules.specs.Readings.{IsWithin};
 ghost use Rattle.sfi_rules.specs.declared.owed.Owed.TheVariants.{Nothing, Mask, MaskOrUse};
 ghost use Rattle.sfi_rules.specs.words.Findings.{IsWordFound};
@@ -109,26 +109,26 @@ fn is_data_masking_word(a: Reg, word: u32) -> bool
 fn is_data_placing_word(format: Format, d: Reg, word: u32) -> bool
     ensures word { OnTrue result (IsWordOf word (Op Or d 31 26)) }
     ensures data { OnTrue result (is_data_register d ≡ true) }
-    ensures two_steps { OnTrue result (has_one_step format ≡ false) }
+    ensures two_steps { OnTrue result (has_single_mask format ≡ false) }
 {
     if !is_data_register(d) {
         return false;
     }
-    if format.has_one_step() {
+    if format.has_single_mask() {
         return false;
     }
     let offset = Reg::numbered(OFFSET_REGISTER);
     op_word(RegOp::Or, d, offset, Reg::numbered(DATA_BASE_REGISTER)) == word
 }
 
-/// Whether the word is `and d, a, x27`, and d is a data register, whose mask has one step.
+/// Whether the word is `and d, a, x27`, and d is a data register, whose masks are single.
 #[inline(always)]
 fn is_single_mask_word(format: Format, d: Reg, a: Reg, word: u32) -> bool
     ensures word { OnTrue result (IsWordOf word (Op And d a 27)) }
     ensures data { OnTrue result (is_data_register_in format d ≡ true) }
-    ensures one_step { OnTrue result (has_one_step format ≡ true) }
+    ensures one_step { OnTrue result (has_single_mask format ≡ true) }
 {
-    if !format.has_one_step() {
+    if !format.has_single_mask() {
         return false;
     }
     if !is_data_register_in(format, d) {
@@ -191,20 +191,20 @@ fn is_known_clean_alone(place: &BundlePlace, address: u32, outline: Option<Outli
 }
 
 /// Whether the word, a load or a store, breaks no rule, and leaves nothing owed, where nothing is owed
-/// before it, in a format whose masks have one step. In others the masks of a block tell of it.
+/// before it, in a format whose masks are single. In others the masks of a block tell of it.
 #[inline(always)]
 fn is_clean_one_step_access(place: &BundlePlace, address: u32, word: u32) -> bool
     requires within { IsWithin place.now }
     requires before_end { IsBeforeEnd place.now address 4 }
     ensures { OnTrue result (IsQuietThere place.now address Nothing word Nothing) }
 {
-    if !place.format.has_one_step() {
+    if !place.format.has_single_mask() {
         return false;
     }
     is_known_clean_alone(place, address, outline32(word))
 }
 
-/// Whether the word jumps or branches, or where a mask has one step is a mask or an access, and breaks no
+/// Whether the word jumps or branches, or where masks are single is a mask or an access, and breaks no
 /// rule, and leaves nothing owed, where nothing is owed before it. A call for each opcode, so that the
 /// compiler drops outlines that it cannot have.
 #[inline(always)]
@@ -278,13 +278,13 @@ fn after_nothing(place: &BundlePlace, address: u32, word: u32) -> Option<Owed>
 /// Whether the word is `and x31, d, x27`, and the mask of d has two steps.
 fn is_data_masking_word_of(format: Format, d: u8, word: u32) -> bool
     ensures word { OnTrue result (IsWordOf word (Op And 31 d 27)) }
-    ensures two_steps { OnTrue result (has_one_step format ≡ false) }
+    ensures two_steps { OnTrue result (has_single_mask format ≡ false) }
 {
     let a = rs1_of(word);
     if a.number() != d {
         return false;
     }
-    if format.has_one_step() {
+    if format.has_single_mask() {
         return false;
     }
     is_data_masking_word(a, word)
@@ -294,7 +294,7 @@ fn is_data_masking_word_of(format: Format, d: u8, word: u32) -> bool
 fn is_data_placing_word_of(format: Format, d: u8, word: u32) -> bool
     ensures word { OnTrue result (IsWordOf word (Op Or d 31 26)) }
     ensures data { OnTrue result (is_data_register d ≡ true) }
-    ensures two_steps { OnTrue result (has_one_step format ≡ false) }
+    ensures two_steps { OnTrue result (has_single_mask format ≡ false) }
 {
     let rd = rd_of(word);
     if rd.number() != d {

@@ -33,7 +33,7 @@ fn is_owed_by_code(owed: Owed) -> bool
 fn owed_by_mask(format: Format, d: u8) -> Owed
     ensures { result ≡ owed_by_mask format d }
 {
-    if format.has_one_step() {
+    if format.has_single_mask() {
         Owed::Nothing
     } else {
         Owed::PlaceOnly(d)

@@ -25,11 +25,11 @@ pub(crate) fn is_code_placing(instr: &Instr) -> bool
 }
 
 /// Whether the instruction is the last step of the mask of data register `d`: `or d, x31, x26`, which
-/// puts an address of the data into it, or `and d, a, x27` where a mask has one step.
+/// puts an address of the data into it, or `and d, a, x27` where masks are single.
 pub(crate) fn is_data_placing(format: Format, d: u8, instr: &Instr) -> bool
     ensures { result ≡ places format d instr.now }
 {
-    if format.has_one_step() {
+    if format.has_single_mask() {
         return is_masking(DATA_MASK_REGISTER, d, instr);
     }
     match *instr {
@@ -48,11 +48,11 @@ pub(crate) fn is_data_placing(format: Format, d: u8, instr: &Instr) -> bool
 }
 
 /// Whether the instruction is the first step of the mask of data register `d`: `and x31, d, x27`, which
-/// masks it to an offset in the data, or `and d, a, x27` where a mask has one step.
+/// masks it to an offset in the data, or `and d, a, x27` where masks are single.
 pub(crate) fn is_data_masking(format: Format, d: u8, instr: &Instr) -> bool
     ensures { result ≡ masks format d instr.now }
 {
-    if format.has_one_step() {
+    if format.has_single_mask() {
         return is_masking(DATA_MASK_REGISTER, d, instr);
     }
     match *instr {
@@ -169,7 +169,7 @@ fn breaks_offset(format: Format, instr: &Instr) -> bool
     ensures { result ≡ breaks_offset format instr.now }
 {
     instr.writes_register(OFFSET_REGISTER)
-        && !(format.has_one_step() || is_masking(DATA_MASK_REGISTER, OFFSET_REGISTER, instr))
+        && !(format.has_single_mask() || is_masking(DATA_MASK_REGISTER, OFFSET_REGISTER, instr))
 }
 
 /// Whether the instruction breaks V8: it ends the code region, and control may run on past it.

@@ -4,10 +4,10 @@ use sfi_formats::Format;
 use sfi_image::{Gate, ImageFault, LayoutFault, parse_image, write_image, write_image_as};
 use std::test::Fail;
 
-// The head of an image with one sandbox: code 256 at 01000000, data 256 at 01800000, start
+// The head of an image with one sandbox: code 256 at 01000000, data 256 at 80000000, start
 // 01000020, two gates, two first data bytes; and the gates (01000000, 1) and (01000010, 0).
 const HEAD: [u8; 52] = [
-    0x53, 0x46, 0x49, 0x31, 1, 0, 0, 0, 0, 0, 0, 1, 0, 1, 0, 0, 0, 0, 0x80, 1, 0, 1, 0, 0, 0x20, 0,
+    0x53, 0x46, 0x49, 0x31, 1, 0, 0, 0, 0, 0, 0, 1, 0, 1, 0, 0, 0, 0, 0, 0x80, 0, 1, 0, 0, 0x20, 0,
     0, 1, 2, 0, 0, 0, 2, 0, 0, 0, 0, 0, 0, 1, 1, 0, 0, 0, 0x10, 0, 0, 1, 0, 0, 0, 0,
 ];
 
@@ -30,7 +30,7 @@ fn reads_an_image(rt: HostRuntime) -> Result<(), Fail> {
     assert_eq!(rt; parts.len(), 1);
     let part = &parts[0];
     assert_eq!(rt; part.code_base, 0x0100_0000);
-    assert_eq!(rt; part.data_base, 0x0180_0000);
+    assert_eq!(rt; part.data_base, 0x8000_0000);
     assert_eq!(rt; part.data_size, 256);
     assert_eq!(rt; part.start, 0x0100_0020);
     let gates = [
@@ -55,6 +55,7 @@ const FORMATS: &[(Format, &[u8])] = &[
     (Format::Sfi1, b"SFI1"),
     (Format::Sfi2, b"SFI2"),
     (Format::Sfiw, b"SFIW"),
+    (Format::Sfis, b"SFIS"),
 ];
 
 #[test]

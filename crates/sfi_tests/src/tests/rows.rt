@@ -38,6 +38,7 @@ mod images;
 mod lines;
 mod reports;
 mod runs;
+mod single;
 mod texts;
 mod typed;
 mod word_sources;
@@ -263,6 +264,17 @@ fn word_source_rows(rt: HostRuntime) -> Result<(), Fail> {
     try_rows(&rt, rt.alloc(), word_sources::EXPANSIONS)?;
     try_rows(&rt, rt.alloc(), word_sources::IMAGES)?;
     try_rows(&rt, rt.alloc(), word_sources::REFUSED)
+}
+
+#[test]
+fn single_rows(rt: HostRuntime) -> Result<(), Fail> {
+    try_rows(&rt, rt.alloc(), single::KEPT)?;
+    try_rows(&rt, rt.alloc(), single::BROKEN)?;
+    try_rows(&rt, rt.alloc(), single::LAYOUTS)?;
+    try_rows(&rt, rt.alloc(), single::RUNS)?;
+    try_rows(&rt, rt.alloc(), single::ANSWERS)?;
+    try_rows(&rt, rt.alloc(), single::EXPANSIONS)?;
+    try_rows(&rt, rt.alloc(), single::BUILDS)
 }
 
 #[test]

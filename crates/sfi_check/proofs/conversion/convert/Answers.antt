@@ -1,7 +1,7 @@
 use Rattle.sfi_check.proofs.Prelude.{Err, List, refl, sym, ap, ◌∙◌, subst, has_words, Part, format_of}
 use Rattle.sfi_check.specs.Converting.{IsConvertFault, AnswersLayout, AnswersFindings}
 use Rattle.sfi_check.specs.declared.conversion.ConvertFault.{ConvertFault}
-use Rattle.sfi_check.proofs.Converted.{first_not_second, third_not_second, converted_means, stack_means, stack_alone_means, refused_means, refused_layout, refused_findings}
+use Rattle.sfi_check.proofs.Converted.{first_not_second, words_not_second, converted_means, stack_means, stack_alone_means, refused_means, refused_layout, refused_findings}
 use Rattle.sfi_check.proofs.conversion.convert.Goals as goal
 
 pub returns-then-begins-clause-only_stack : goal.returns-then-begins-clause-only_stack
@@ -11,7 +11,7 @@ pub returns-then-begins-clause-only_converted : goal.returns-then-begins-clause-
 returns-then-begins-clause-only_converted c new is = first_not_second c.args.bytes.now is.parts is.accepted is.first (c.if-begins.ensures.0 refl)
 
 pub returns-then-begins-clause-only_words : goal.returns-then-begins-clause-only_words
-returns-then-begins-clause-only_words c is = third_not_second c.args.bytes.now is.parts is.accepted is.third (c.if-begins.ensures.0 refl)
+returns-then-begins-clause-only_words c is = words_not_second c.args.bytes.now is.parts is.accepted is.words (c.if-begins.ensures.0 refl)
 
 -- ---- accepted
 pub returns-then-has_words-clause-only_layout : goal.returns-then-has_words-clause-only_layout

@@ -1,6 +1,6 @@
 use Rattle.sfi_image.proofs.Prelude.{◌≡◌, ℕ, ◌-◌, ◌++◌, ◌∷◌, [], false, true, refl, ap, sym, ◌∙◌, subst}
 use Rattle.std.specs.Prelude.{max}
-use Rattle.sfi_image.specs.private.{ends_below}
+use Rattle.sfi_image.specs.Spelling.{ends_below}
 use Rattle.sfi_image.proofs.ClearZones.{IsLeast, one_end, clear_of_largest, largest_clear}
 use Rattle.sfi_image.proofs.zones.are_clear_of_zones.Goals as goal
 use Rattle.sfi_image.proofs.zones.are_clear_of_zones.Goals.{then-not-is_clear-via-then-not-is_clear, then-not-is_clear-via-else-not-is_clear+then-not-is_clear-2}

@@ -1,6 +1,6 @@
 use Rattle.sfi_image.proofs.Prelude.{◌≡◌, ℕ, ◌<◌, ◌/◌, length, get_or, take, ap, sym, ◌∙◌, subst, subst₂, arith, take_more, take_all}
 use Rattle.std.specs.Prelude.{max}
-use Rattle.sfi_image.specs.private.{ends_below}
+use Rattle.sfi_image.specs.Spelling.{ends_below}
 use Rattle.sfi_image.proofs.ClearZones.{IsLeast, length_ends, end_at, larger, one_end}
 use Rattle.sfi_image.proofs.zones.largest_end.Goals as goal
 

@@ -1,5 +1,5 @@
 use Rattle.sfi_image.proofs.Prelude.{ℕ, ◌≤◌, ◌↔◌, All, take}
-use Rattle.sfi_image.specs.private.{ends_below}
+use Rattle.sfi_image.specs.Spelling.{ends_below}
 use Rattle.sfi_image.proofs.zones.largest_end.Given as goal
 
 abbrev pub invariant-loop-number : goal.invariant-loop-number

@@ -5,7 +5,7 @@ use Rattle.sfi_link.proofs.Linking.{CodesLeft, all_left, one_fewer, code_refused
 use Rattle.sfi_link.proofs.linker.codes_of.Goals as goal
 
 pub loop-number-init : goal.loop-number-init
-loop-number-init c = rw (c.new-codes.ensures.items, c.new-spans.ensures.items) (all_left c.args.given.now c.args.placed.now)
+loop-number-init c = rw (c.new-codes.ensures.items, c.new-spans.ensures.items) (all_left c.args.given.now c.args.placed.now c.requires.right)
 
 pub returns-in_err-code : goal.returns-in_err-code
 returns-in_err-code c =

@@ -67,7 +67,7 @@ source; $ sfi check
 ";
 
 /// Images as their own bytes, and what doesn't begin as one.
-pub(super) const BYTES: &str = "19 commands
+pub(super) const BYTES: &str = "21 commands
 source; text hi
 = checked; $ sfi build --raw | sfi check; $ sfi build --raw | sfi check --report; > accepted sandboxes=1 bundles=16
 = run; $ sfi build --raw | sfi run; > sandbox=0 exit=105 steps=19 out=4869
@@ -77,6 +77,7 @@ source; text hi
 = a magic alone; source; bytes 53464931; $ sfi check; $ sfi check --report; $ sfi dis; $ sfi run; $ sfi convert; > layout fault 3 Short
 = that of the second format; source; bytes 53464932; $ sfi check; $ sfi dis; > layout fault 3 Short
 = that of the third; source; bytes 53464957; $ sfi check; $ sfi dis; > layout fault 3 Short
+= that of the fourth; source; bytes 53464953; $ sfi check; $ sfi dis; > layout fault 3 Short
 = part of a magic; source; bytes 534649; $ sfi check; $ sfi dis; > input fault hex odd
 = no format's magic; source; bytes 53464933; $ sfi check; > input fault hex digit 0
 = white space before one; source; bytes 2053464931; $ sfi check; > input fault hex digit 0
