@@ -28,6 +28,11 @@ elf_of() { # output, format, options and files
     "$tools/sfi-cc" --program "$sfi" --format "$format" -o "$output" "$@"
 }
 
+# Where the first sandbox's code lies unless told.
+first_code() { # format
+    case "$1" in single) echo 01800000 ;; *) echo 01000000 ;; esac
+}
+
 line_of() { # ELF files; what the sandboxes do
     "$tools/sfi-image" "$@" | "$sfi" run --rounds 100 --quantum 10000 | sed 's/ steps=[0-9]*//'
 }
@@ -57,7 +62,7 @@ try_linked() { # format
     elf_of "gate.$1.elf" "$1" --gate finish=0 elf/gate.c
     report "a gate of another name, format $1" "sandbox=0 exit=9 out=" "$(line_of "$room/gate.$1.elf")"
     elf_of "null.$1.elf" "$1" elf/null.c
-    report "a call of null traps, format $1" "trap=Break at=01000000" \
+    report "a call of null traps, format $1" "trap=Break at=$(first_code "$1")" \
         "$(line_of "$room/null.$1.elf" | grep -o 'trap=[A-Za-z]* at=[0-9a-f]*')"
     report "a frame larger than the stack, format $1" \
         "sfi-cc: frame.elf: the frame of deep has 20016 bytes, and the stack has room for XX: give --stack 20032 or more" \
