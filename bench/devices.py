@@ -36,7 +36,7 @@ def print_checker(library, folder):
     checker = os.path.join(folder, "checker.o")
     added = host_bytes(folder, f"CHECKER={checker}") - host_bytes(folder)
     judge = worst_verdict.Judge(checker, folder)
-    verdicts = judge.verdicts([images.image("mixed", 1, 65536, format=it) for it in (1, 2, 3)])
+    verdicts = judge.verdicts([images.image("mixed", 1, 65536, format=it) for it in (1, 2, 3, 4)])
     print(f"| {added / 1000:.0f} KB |", " | ".join(f"{it / 1e6:.2f} million" for _, it in verdicts), "|")
     kept = worst_verdict.kept_lines()
     for kind in worst_verdict.KINDS:

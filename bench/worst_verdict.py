@@ -3,10 +3,10 @@
 
     bench/worst_verdict.py --checker FILE [--kind NAME] [--seed N] [--generations N] [--write]
 
-FILE is checker.o of device/checker.sh. It judges on QEMU's `virt`, which counts instructions (verdicts.c). Four climbs go on
-from the worst that are kept in worst_verdict.txt: of accepted code in words, and in bundles; of gates, 64 in each of 16
-sandboxes; and of 4096 bytes that are refused, in which a verdict ends. Each generation changes the best few images
-at random. What is found has to be no worse than what is kept, and the README of examples/device has to name that: with --write
+FILE is checker.o of device/checker.sh. It judges on QEMU's `virt`, which counts instructions (verdicts.c). Five climbs go
+on from the worst that are kept in worst_verdict.txt: of accepted code in words, in words with single masks, and in bundles; of
+gates, 64 in each of 16 sandboxes; and of 4096 bytes that are refused, in which a verdict ends. Each generation changes the best few
+images at random. What is found has to be no worse than what is kept, and the README of examples/device has to name that: with --write
 what is found is kept. Nothing is proved by it: these are the worst that were found.
 
 The last line is `N passed, M failed`. It wants what examples/device wants, and gcc 12, whose counts the kept ones are.
@@ -31,6 +31,7 @@ PAGE = MCU.parent / "README.md"
 IMAGES = 0x81000000  # verdicts.c
 ACCEPTED, REFUSED = 0, 1
 CODE, DATA, APART, EBREAK = 0x01000000, 0x01800000, 0x01000000, struct.pack("<I", 0x00100073)
+OF_WORDS, OF_SINGLE = b"SFIW", b"SFIS"  # magics
 PROBE = 1024  # bytes of code that a climb tries
 BEST = 6  # images that a generation goes on from
 CHILDREN = 24
@@ -47,9 +48,9 @@ class Kind:
     bytes: int = 65536  # of the code that is measured as a whole
 
 
-ALL = (b"SFI1", b"SFI2", b"SFIW")
-KINDS = [Kind("words", ACCEPTED, (b"SFIW",)), Kind("bundles", ACCEPTED, (b"SFI1", b"SFI2")), Kind("gates", ACCEPTED, ALL, True, 16384),
-         Kind("refused", REFUSED, ALL, False, 4096)]
+ALL = (b"SFI1", b"SFI2", OF_WORDS, OF_SINGLE)
+KINDS = [Kind("words", ACCEPTED, (OF_WORDS,)), Kind("single", ACCEPTED, (OF_SINGLE,)), Kind("bundles", ACCEPTED, (b"SFI1", b"SFI2")),
+         Kind("gates", ACCEPTED, ALL, True, 16384), Kind("refused", REFUSED, ALL, False, 4096)]
 
 
 @dataclasses.dataclass(frozen=True)
@@ -59,13 +60,19 @@ class Genes:
     pattern: bytes
 
 
+def places(magic, number):
+    """Where code and data of the sandbox of a number lie. Where masks are single, the data base is a single bit."""
+    code, data = CODE + number * APART, DATA + number * APART
+    return (data, 1 << (31 - number)) if magic == OF_SINGLE else (code, data)
+
+
 def part_of(genes, kind, size, number=0):
     """A sandbox of so many bytes of code."""
-    base = CODE + number * APART
+    base, data = places(genes.magic, number)
     end = b"" if kind.status == REFUSED or kind.gates else EBREAK * 4
     code = (genes.pattern * (size // len(genes.pattern) + 1))[:size - len(end)] + end
     gates = {base + 16 * gate: 0 for gate in range(size // 16)} if kind.gates else {}
-    return Part(base, code, DATA + number * APART, 4096, base, gates)
+    return Part(base, code, data, 4096, base, gates)
 
 
 def image_of(genes, kind, size):
@@ -118,8 +125,8 @@ def words_of(*several):
     return struct.pack(f"<{len(several)}I", *several)
 
 
-# What accepted code in bundles is made of: a masked access, of 32 and of 16 bits, a write of x2 put right, a masked jump, and
-# accesses on x2.
+# What accepted code is made of: a masked access, of 32 and of 16 bits, a write of x2 put right, a masked jump, accesses on x2,
+# and a write of x2 with its single mask.
 PHRASES = [
     pair(31, 10, 27, 26) + words_of(i_type(0, 31, 2, 5, 0x03)),
     pair(29, 10, 27, 26) + words_of(s_type(0, 5, 29, 2)),
@@ -128,7 +135,8 @@ PHRASES = [
     words_of(i_type(16, 2, 0, 2, 0x13)) + pair(2, 2, 27, 26),
     struct.pack("<HH", 0x0001, 0x6141) + pair(2, 2, 27, 26),
     pair(31, 1, 25, 24) + words_of(i_type(0, 31, 0, 0, 0x67)),
-    words_of(i_type(0, 2, 2, 5, 0x03), s_type(4, 5, 2, 2))]
+    words_of(i_type(0, 2, 2, 5, 0x03), s_type(4, 5, 2, 2)),
+    words_of(i_type(16, 2, 0, 2, 0x13), r_type(0, 27, 2, 7, 2))]
 
 
 def unit(pick):
@@ -140,14 +148,14 @@ def unit(pick):
 
 # The stub of a gate: ecall, and a jump to x1, masked into x30 or x31.
 STUBS = {b"SFI1": "73000000b3ff9001b3ef8f0167800f00", b"SFI2": "73000000b3ff9001b3ef8f0167800f00",
-         b"SFIW": "7300000033ff9001336f8f0167000f00"}
+         OF_WORDS: "7300000033ff9001336f8f0167000f00", OF_SINGLE: "7300000033ff9001336f8f0167000f00"}
 
 
 def fresh(kind, pick):
     magic = pick.choice(kind.magics)
     if kind.gates and pick.random() < 0.5:
         return Genes(magic, bytes.fromhex(STUBS[magic]))
-    length = pick.choice((4, 8, 16)) if magic == b"SFIW" else pick.choice((16, 32))
+    length = pick.choice((4, 8, 16)) if magic in (OF_WORDS, OF_SINGLE) else pick.choice((16, 32))
     return Genes(magic, b"".join(unit(pick) for _ in range(length // 4)))
 
 
