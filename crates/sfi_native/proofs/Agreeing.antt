@@ -197,7 +197,6 @@ module _ (p : Part) (right : IsRightPart p) where
 
     related_like : (g h : Going) (c : Core) → IsLike g h → IsRelated p l h c → IsRelated p l g c
     related_like g h c like is = record {
-      two_steps = is.two_steps;
       register_count = subst (λ (x : Hart). length x.registers ≡ 32) like.hart is.register_count;
       words = subst (λ (x : Hart). (r : ℕ) → register (fixed p x) r < 2 ^ 32) like.hart is.words;
       registers = subst (λ (x : Hart). (r : ℕ) → r < 32 → Holds l c r (assigned l.plan r) (register (fixed p x) r)) like.hart is.registers;

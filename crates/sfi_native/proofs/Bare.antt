@@ -124,7 +124,6 @@ module _ (p : Part) (l : Layout) (table_at : ℕ) (c : Core) where
 
   bare_related : (g : Going) → IsRelated p l g c → IsRelated p l g bare
   bare_related g is = record {
-    two_steps = is.two_steps;
     register_count = is.register_count;
     words = is.words;
     registers = λ r small. holds_on l c bare r (value p g r) (assigned l.plan r)

@@ -34,7 +34,6 @@ counted_core c n f = with_flags (with_register c 14 n) f
 pub related_as : (p : Part) (l : Layout) (g : Going) (c : Core) (place : ControlPoint) (n : ℕ) → IsRelated p l g c → n ≡ g.left
     → IsRelated p l (record { place = place; state = g.state; left = n }) c
 related_as p l g c place n is same = record {
-  two_steps = is.two_steps;
   register_count = is.register_count;
   words = is.words;
   registers = is.registers;
@@ -52,7 +51,6 @@ module _ (p : Part) (l : Layout) (layout : IsLayout p.data_size l) (g : Going) (
   module _ (n m : ℕ) (f : Flags) (same : m ≡ n) (fits : n < 2 ^ 32) where
     pub counted_related : IsRelated p l (having n g) (counted_core c m f)
     counted_related = record {
-      two_steps = is.two_steps;
       register_count = is.register_count;
       words = is.words;
       registers = λ r small. holds_on l c (counted_core c m f) r (value p g r) (assigned l.plan r) (λ e. refl)

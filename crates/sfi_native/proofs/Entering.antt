@@ -228,10 +228,10 @@ module _ (p : Part) (l : Layout) (layout : IsLayout p.data_size l) (code : List 
     mask = length p.code - unit p.format
 
     mask_loaded : (c : Core) → IsRelated p l k c → loaded c 4 (address c (slot 25)) ≡ Ok mask
-    mask_loaded c held = fixed_loaded p l layout k c 25 (omega arith) refl held ∙ ap Ok (fixed_at p k.state.hart 25 held.two_steps held.register_count)
+    mask_loaded c held = fixed_loaded p l layout k c 25 (omega arith) refl held ∙ ap Ok (fixed_at p k.state.hart 25 held.register_count)
 
     base_loaded : (c : Core) → IsRelated p l k c → loaded c 4 (address c (slot 24)) ≡ Ok p.code_base
-    base_loaded c held = fixed_loaded p l layout k c 24 (omega arith) refl held ∙ ap Ok (fixed_at p k.state.hart 24 held.two_steps held.register_count)
+    base_loaded c held = fixed_loaded p l layout k c 24 (omega arith) refl held ∙ ap Ok (fixed_at p k.state.hart 24 held.register_count)
 
     pub record Starts (at distance : ℕ) : Type 0 where
       pub after : Core

@@ -4,7 +4,6 @@ use Rattle.std.specs.Prelude.{Ok}
 use Rattle.std.proofs.lemmas.Bool.{cases_Bool, cases_eq, cases_lt, false≢true, lt-ltb}
 use Rattle.std.proofs.lemmas.List.{get_or-set_same, get_or-set_other, length-set}
 use Rattle.rv_step.specs.State.{Hart, register, with_pc, with_register as with_value}
-use Rattle.sfi_formats.specs.Formats.{has_single_mask}
 use Rattle.sfi_image.specs.Spelling.{Part}
 use Rattle.sfi_translate.specs.Machine.{ControlPoint, Going, fixed, goes_with}
 use Rattle.x86_instr.specs.declared.operand.Register.{Register}
@@ -38,7 +37,7 @@ pub record IsWritten (p : Part) (g : Going) (rd v : ℕ) (k : Hart) : Type 0 whe
   pub new : is_fixed rd ≡ false → register (fixed p k) rd ≡ v
   pub old : (r : ℕ) → (is_fixed rd ≡ true) ⊎ (r ≡ rd → ⊥) → register (fixed p k) r ≡ value p g r
 
-module _ (p : Part) (g : Going) (two : has_single_mask p.format ≡ false) (count : length g.state.hart.registers ≡ 32) (pc rd v : ℕ) where
+module _ (p : Part) (g : Going) (count : length g.state.hart.registers ≡ 32) (pc rd v : ℕ) where
   abbrev before : Hart
   before = with_pc (fixed p g.state.hart) pc
 
@@ -46,7 +45,7 @@ module _ (p : Part) (g : Going) (two : has_single_mask p.format ≡ false) (coun
   after = fixed p (with_value before rd v)
 
   before_count : length before.registers ≡ 32
-  before_count = fixed_length p g.state.hart two ∙ count
+  before_count = fixed_length p g.state.hart ∙ count
 
   value_count : length (with_value before rd v).registers ≡ 32
   value_count = elim (cases_Bool (rd == 0)) [
@@ -55,10 +54,10 @@ module _ (p : Part) (g : Going) (two : has_single_mask p.format ≡ false) (coun
   ]
 
   after_count : length after.registers ≡ 32
-  after_count = fixed_length p (with_value before rd v) two ∙ value_count
+  after_count = fixed_length p (with_value before rd v) ∙ value_count
 
   free_is : (r : ℕ) → is_fixed r ≡ false → register (fixed p after) r ≡ register (with_value before rd v) r
-  free_is r free = fixed_free p after r two after_count free ∙ fixed_free p (with_value before rd v) r two value_count free
+  free_is r free = fixed_free p after r after_count free ∙ fixed_free p (with_value before rd v) r value_count free
 
   other_is : (r : ℕ) → (r ≡ rd → ⊥) → register (with_value before rd v) r ≡ value p g r
   other_is r other = elim (cases_Bool (rd == 0)) [
@@ -75,7 +74,7 @@ module _ (p : Part) (g : Going) (two : has_single_mask p.format ≡ false) (coun
     count = after_count;
     new = λ free. free_is rd free ∙ (rw (fixed_zero rd free) (get_or-set_same before.registers rd v 0 (omega (arith, small, before_count))));
     old = λ r other. elim (cases_Bool (is_fixed r)) [
-      | inl held ↦ fixed_same p after g.state.hart r two after_count count held
+      | inl held ↦ fixed_same p after g.state.hart r after_count count held
       | inr free ↦ free_is r free ∙ other_is r (apart_is r free other)
     ];
   }
@@ -86,7 +85,6 @@ module _ (p : Part) (l : Layout) (layout : IsLayout p.data_size l) where
   -- free registers may have anything
   pub related_kept : (g : Going) (c d : Core) → IsRelated p l g c → Kept c d → IsRelated p l g d
   related_kept g c d is k = record {
-    two_steps = is.two_steps;
     register_count = is.register_count;
     words = is.words;
     registers = λ r small. holds_kept l layout.plan_is_right c d r (value p g r) k (is.registers r small);
@@ -200,7 +198,6 @@ module _ (p : Part) (l : Layout) (layout : IsLayout p.data_size l) where
   pub unwritten : (g : Going) (c : Core) (place : ControlPoint) (rd v : ℕ) (k : Hart) → IsRelated p l g c → IsWritten p g rd v k → is_fixed rd ≡ true
       → IsRelated p l (record { place = place; state = record { hart = k; memory = g.state.memory }; left = g.left }) c
   unwritten g c place rd v k is w held = record {
-    two_steps = is.two_steps;
     register_count = w.count;
     words = λ r. subst (λ x. x < 2 ^ 32) (sym (w.old r (inl held))) (is.words r);
     registers = λ r small. subst (λ x. Holds l c r (assigned l.plan r) x) (sym (w.old r (inl held))) (is.registers r small);
@@ -277,7 +274,6 @@ module _ (p : Part) (l : Layout) (layout : IsLayout p.data_size l) where
 
       pub moved : IsRelated p l turned e
       moved = record {
-        two_steps = is.two_steps;
         register_count = w.count;
         words = word_is;
         registers = related_to e not_fixed (subst (λ o. Holds l e rd o v) (sym own) has)
@@ -317,7 +313,6 @@ module _ (p : Part) (l : Layout) (layout : IsLayout p.data_size l) where
 
         rewritten : IsRelated p l turned stored_core
         rewritten = record {
-          two_steps = is.two_steps;
           register_count = w.count;
           words = word_is;
           registers = related_to stored_core free (subst (λ o. Holds l stored_core rd o v) (sym none) (number_written c.memory at v fits))
@@ -389,7 +384,6 @@ module _ (p : Part) (l : Layout) (layout : IsLayout p.data_size l) where
 -- where the turn is doesn't matter
 pub related_goes : (p : Part) (l : Layout) (g : Going) (c : Core) (place : ControlPoint) (pc : ℕ) → IsRelated p l g c → IsRelated p l (goes_with g place pc) c
 related_goes p l g c place pc is = record {
-  two_steps = is.two_steps;
   register_count = is.register_count;
   words = is.words;
   registers = is.registers;

@@ -3,7 +3,6 @@ use Rattle.std.proofs.Common.{List, [], sym, append-nil, ◌≡◌, ℕ, ◌+◌
 use Rattle.std.specs.Prelude.{nat_le, ◌||◌}
 use Rattle.std.proofs.lemmas.Bool.{cases_Bool, le-leb, lt-ltb, le-ltb, lt-leb}
 use Rattle.rv_mem.specs.Bytes.{byte_at}
-use Rattle.sfi_formats.specs.Formats.{has_single_mask}
 use Rattle.sfi_image.specs.Spelling.{Part}
 use Rattle.sfi_translate.specs.Machine.{Going}
 use Rattle.x86_instr.specs.declared.operand.Register.{Register}
@@ -99,9 +98,8 @@ module _ (p : Part) (l : Layout) (g : Going) (layout : IsLayout p.data_size l) w
       let place : l.data_start + k - l.data_start ≡ k = omega arith in
       rw (apart k small, data_has k small, place) refl
 
-  held_is : has_single_mask p.format ≡ false → length g.state.hart.registers ≡ 32 → ((r : ℕ) → value p g r < 2 ^ 32) → g.left < 2 ^ 32 → IsRelated p l g held
-  held_is two count words few = record {
-    two_steps = two;
+  held_is : length g.state.hart.registers ≡ 32 → ((r : ℕ) → value p g r < 2 ^ 32) → g.left < 2 ^ 32 → IsRelated p l g held
+  held_is count words few = record {
     register_count = count;
     words = words;
     registers = λ r small. holds r small (words r) (assigned l.plan r) refl;
@@ -150,7 +148,7 @@ module _ (p : Part) (l : Layout) (g : Going) (layout : IsLayout p.data_size l) w
   }
 
 pub each_code_can_be_run : EachCodeCanBeRun
-each_code_can_be_run is fixups at p l g two layout count words few ends frame data_apart = (
+each_code_can_be_run is fixups at p l g layout count words few ends frame data_apart = (
   held p l g layout,
   record {
     layout = layout;
@@ -158,7 +156,7 @@ each_code_can_be_run is fixups at p l g two layout count words few ends frame da
     text_is_low = ends;
     faults_are_handled = refl;
     stands = record { before = []; after = []; bytes_are = sym (append-nil (spellings is)); at_is = omega arith };
-    related = held_is p l g layout two count words few;
+    related = held_is p l g layout count words few;
     guards = held_guards p l g layout;
   },
 )

@@ -48,7 +48,6 @@ module _ (p : Part) (l : Layout) (layout : IsLayout p.data_size l) where
       → IsRelated p l (record { place = place; state = record { hart = fixed p (record { pc = from; registers = registers }); memory = m }; left = left }) d
       → IsRelated p l (record { place = next; state = record { hart = fixed p (record { pc = to; registers = registers }); memory = m }; left = left }) d
   replaced registers m left from to place next d is = record {
-    two_steps = is.two_steps;
     register_count = is.register_count;
     words = is.words;
     registers = is.registers;

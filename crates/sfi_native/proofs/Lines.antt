@@ -105,7 +105,7 @@ module _ (p : Part) (l : Layout) (layout : IsLayout p.data_size l) (g : Going) (
   pub finish : (front : List Native) (rd v : ℕ) → rd < 32 → v < 2 ^ 32 → Computed front c v → Comes (front ++ write l.plan rd) p l c (turn_with rd v g.left)
   finish front rd v small fits done =
       let kept = related_kept p l layout g c done.after is done.kept in
-      let w = wrote p l layout g done.after kept place rd v (hart_with rd v) small fits (hart_written p g is.two_steps is.register_count pc rd v small) done.result in
+      let w = wrote p l layout g done.after kept place rd v (hart_with rd v) small fits (hart_written p g is.register_count pc rd v small) done.result in
       record { core = w.0; runs = runs_join front (write l.plan rd) c done.after w.0 done.runs (straight_runs (write l.plan rd) done.after w.0 (write_straight l.plan rd) w.1); related = w.2; others = others_join p l c done.after w.0 (others_kept p l c done.after done.kept) w.3 }
 
   -- a result that was computed where rd lies, or in eax, goes to rd
@@ -113,7 +113,7 @@ module _ (p : Part) (l : Layout) (layout : IsLayout p.data_size l) (g : Going) (
       → Leaves (number (result_in o)) front c v → Comes (front ++ settle l.plan o rd) p l c (turn_with rd v g.left)
   settled front None rd v small fits own done = finish front rd v small fits (leaves_in_eax front c v done)
   settled front (Some q) rd v small fits own done =
-      let w = hart_written p g is.two_steps is.register_count pc rd v small in
+      let w = hart_written p g is.register_count pc rd v small in
       record {
         core = done.after;
         runs = runs_join front [] c done.after done.after done.runs (straight_runs [] done.after done.after refl refl);
@@ -138,7 +138,7 @@ module _ (p : Part) (l : Layout) (layout : IsLayout p.data_size l) (g : Going) (
   -- ---- x0
 
   zero_is : (r : ℕ) → r == 0 ≡ true → value p g r ≡ 0
-  zero_is r e = ap (value p g) (eqb-true r 0 e) ∙ fixed_at p g.state.hart 0 is.two_steps is.register_count
+  zero_is r e = ap (value p g) (eqb-true r 0 e) ∙ fixed_at p g.state.hart 0 is.register_count
 
   keeps : (op : RegOp) (a : ℕ) → keeps_beside_zero op ≡ true → a < 2 ^ 32 → result_of op a 0 ≡ a
   keeps Add a may fits = omega (arith, fits)
@@ -262,7 +262,7 @@ module _ (p : Part) (l : Layout) (layout : IsLayout p.data_size l) (g : Going) (
   number_by None rd v small fits own =
       let d = with_register c 0 v in
       let k = kept_register c 0 v (omega arith) in
-      let w = wrote p l layout g d (related_kept p l layout g c d is k) place rd v (hart_with rd v) small fits (hart_written p g is.two_steps is.register_count pc rd v small) refl in (
+      let w = wrote p l layout g d (related_kept p l layout g c d is k) place rd v (hart_with rd v) small fits (hart_written p g is.register_count pc rd v small) refl in (
         record {
           core = w.0;
           runs = runs_join (MovImm Rax v ∷ []) (write l.plan rd) c d w.0 (straight_runs (MovImm Rax v ∷ []) c d refl refl) (straight_runs (write l.plan rd) d w.0 (write_straight l.plan rd) w.1);
@@ -273,7 +273,7 @@ module _ (p : Part) (l : Layout) (layout : IsLayout p.data_size l) (g : Going) (
       )
   number_by (Some q) rd v small fits own =
       let d = with_register c (number q) v in
-      let w = hart_written p g is.two_steps is.register_count pc rd v small in
+      let w = hart_written p g is.register_count pc rd v small in
       let result = updated_same c.registers (number q) v in
       let k = but_register c (number q) v in (
         record {
@@ -309,7 +309,7 @@ module _ (p : Part) (l : Layout) (layout : IsLayout p.data_size l) (g : Going) (
 
   -- no register changes
   pub none_comes : IsRelated p l (turn_with 0 0 g.left) c
-  none_comes = unwritten p l layout g c place 0 0 (hart_with 0 0) is (hart_written p g is.two_steps is.register_count pc 0 0 (omega arith)) refl
+  none_comes = unwritten p l layout g c place 0 0 (hart_with 0 0) is (hart_written p g is.register_count pc 0 0 (omega arith)) refl
 
 module _ (target : Target) (p : Part) (code rest : List Line) (at n owed next : ℕ) (l : Layout) (layout : IsLayout p.data_size l) (g : Going) (below : CountsBelow g owed next) (c : Core) (is : IsRelated p l (owing owed g) c) where
   -- the step that is done counts with those that are owed

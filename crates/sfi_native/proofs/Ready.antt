@@ -1,6 +1,6 @@
 -- The lines that a turn comes to are ready: an access lies in the data, or touches a guard zone.
 use Rattle.std.proofs.Common.{◌≡◌, ℕ, ◌+◌, ◌-◌, ◌%◌, ◌^◌, ◌<◌, ◌≤◌, ◌⊎◌, Bool, true, false, refl, sym, ap, subst, arith, inl, inr, ◌∙◌}
-use Rattle.sfi_formats.specs.Formats.{has_single_mask}
+use Rattle.sfi_formats.proofs.Formats.{two_steps}
 use Rattle.std.proofs.lemmas.Bool.{false≢true}
 use Rattle.std.specs.Prelude.{ℤ, pos, negsuc, int_le, ◌+ℤ◌}
 use Rattle.std.proofs.lemmas.Int.{ints}
@@ -57,18 +57,18 @@ module _ (base size value n : ℕ) (low : 4096 ≤ base) (high : base + size + 4
 
 -- ==== What a turn has before a line is what the line's code asks for.
 
-around : (p : Part) (a : ℕ) → has_single_mask p.format ≡ false → IsRightPart p → InData p a ⊎ InGuard p a → IsAround p.data_base p.data_size a
-around p a two right (inl (from, below)) = (omega (arith, from), omega (arith, below))
-around p a two right (inr (inl (inl (from, below)))) = (omega (arith, from, right.guard_room.below), omega (arith, below))
-around p a two right (inr (inl (inr (from, below)))) = (omega (arith, from), omega (arith, below))
-around p a two right (inr (inr zone)) = absurd (false≢true (sym two ∙ zone.0))
+around : (p : Part) (a : ℕ) → IsRightPart p → InData p a ⊎ InGuard p a → IsAround p.data_base p.data_size a
+around p a right (inl (from, below)) = (omega (arith, from), omega (arith, below))
+around p a right (inr (inl (inl (from, below)))) = (omega (arith, from, right.guard_room.below), omega (arith, below))
+around p a right (inr (inl (inr (from, below)))) = (omega (arith, from), omega (arith, below))
+around p a right (inr (inr zone)) = absurd (false≢true (sym (two_steps p.format) ∙ zone.0))
 
 -- a base lies near the data, where a mask has two steps
-near_data : (p : Part) (a : ℕ) → has_single_mask p.format ≡ false → IsNearIn p.format (data_region p) 4096 a → IsNear (data_region p) 4096 a
-near_data p a two (inl lies) = lies
-near_data p a two (inr zero) = absurd (false≢true (sym two ∙ zero.0))
+near_data : (p : Part) (a : ℕ) → IsNearIn p.format (data_region p) 4096 a → IsNear (data_region p) 4096 a
+near_data p a (inl lies) = lies
+near_data p a (inr zero) = absurd (false≢true (sym (two_steps p.format) ∙ zero.0))
 
-module _ (p : Part) (g : Going) (two : has_single_mask p.format ≡ false) (right : IsRightPart p) (same : fixed p g.state.hart ≡ g.state.hart) where
+module _ (p : Part) (g : Going) (right : IsRightPart p) (same : fixed p g.state.hart ≡ g.state.hart) where
   -- an access to the data, or to a guard zone
   abbrev Does : ℕ → ℤ → ℕ → Type 0
   Does v offset n = (IsInData p (offset_by v offset) n × IsThere g.state.memory (offset_by v offset) n) ⊎ TouchesGuards p v offset n
@@ -81,11 +81,11 @@ module _ (p : Part) (g : Going) (two : has_single_mask p.format ≡ false) (righ
     fits = let least : 256 ≤ p.data_size = right.data_placed.at_least in omega (arith, few, least)
 
     at_number : (k : ℕ) → k < n → IsAround p.data_base p.data_size (address_after (offset_by v offset) k)
-    at_number k below = around p _ two right (safe.0.each (address_after (offset_by v offset) k) ((addresses_are_these (offset_by v offset) n (address_after (offset_by v offset) k)).1 (k, below, refl)))
+    at_number k below = around p _ right (safe.0.each (address_after (offset_by v offset) k) ((addresses_are_these (offset_by v offset) n (address_after (offset_by v offset) k)).1 (k, below, refl)))
 
     stays : (int_le (pos (p.data_base - 4096)) (pos v +ℤ offset) ≡ true) × (int_le (pos v +ℤ offset +ℤ pos n) (pos (p.data_base + p.data_size + 4096)) ≡ true)
     stays =
-        let from = near_data p v two safe.0.from in
+        let from = near_data p v safe.0.from in
         exact p.data_base p.data_size v n right.guard_room.below right.guard_room.above (omega (arith, right.data_placed.at_most, data_at_most p.format)) some few (from.low, from.high) offset range
         (at_number 0 some) (at_number (n - 1) (omega (arith, some)))
 

@@ -79,7 +79,6 @@ module _ (p : Part) (l : Layout) (g k : Going) (layout : IsLayout p.data_size l)
 
   pub served_related : IsRelated p l k served
   served_related = record {
-    two_steps = was.two_steps;
     register_count = proper.state.hart.count;
     words = word_is;
     registers = λ r small. holds r small (assigned l.plan r) refl;

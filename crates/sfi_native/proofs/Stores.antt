@@ -95,7 +95,6 @@ module _ (p : Part) (l : Layout) (layout : IsLayout p.data_size l) (g : Going) (
 
   pub related_stored : IsRelated p l turned (with_memory c (written c.memory (store_size width) place v))
   related_stored = record {
-    two_steps = is.two_steps;
     register_count = is.register_count;
     words = is.words;
     registers = λ r small. holds_on l c (with_memory c (written c.memory (store_size width) place v)) r (value p g r) (assigned l.plan r)

@@ -113,7 +113,6 @@ module _ (p : Part) (l : Layout) (base : ℕ) (table : List ℕ) (at : ℕ) (c :
 
   tabled_related : (g : Going) → IsLayout p.data_size l → DoNotMeet at (table_size p) l.frame frame_size → DoNotMeet at (table_size p) l.data_start p.data_size → IsRelated p l g c → IsRelated p l g tabled
   tabled_related g layout by_frame by_data is = record {
-    two_steps = is.two_steps;
     register_count = is.register_count;
     words = is.words;
     registers = λ r small. holds_on l c tabled r (value p g r) (assigned l.plan r)

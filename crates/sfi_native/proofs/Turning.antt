@@ -7,7 +7,7 @@ use Rattle.rv_word.specs.declared.instr.Instr.TheVariants.{Op, OpImm, Load, Stor
 use Rattle.rv_word.specs.Spelling.{offset_by}
 use Rattle.rv_step.specs.State.{Hart, State, even_of, register, with_pc}
 use Rattle.rv_step.specs.Step.{is_taken}
-use Rattle.sfi_formats.specs.Formats.{has_single_mask, unit}
+use Rattle.sfi_formats.specs.Formats.{unit}
 use Rattle.sfi_image.specs.Spelling.{Part}
 use Rattle.sfi_image.proofs.Formats.{code_at_most}
 use Rattle.sfi_translate.specs.Lines.{Line, Function, End, Entry, Head, Does, head_bytes}
@@ -111,16 +111,16 @@ module _ (sandbox : ℕ) (p : Part) (code : List Line) (s : State) (left : ℕ) 
       let reached = (translated_runs_as_image Assembly sandbox p code s left moves g turn).reached in
       record { state = reached.state; fixed_is = reached_harts_are_fixed sandbox p g.state turn.clean reached }
 
-  ready : (moves : ℕ) (g : Going) → has_single_mask p.format ≡ false → Turns moves g → (lines : List Line) → g.place ≡ Before lines → IsReadyAt p g (Before lines)
-  ready moves g two turn [] e = tt
-  ready moves g two turn (Function n at ∷ rest) e = tt
-  ready moves g two turn (End at ∷ rest) e = tt
-  ready moves g two turn (Entry at ∷ rest) e = tt
-  ready moves g two turn (Head at ∷ rest) e = tt
-  ready moves g two turn (Does at n i ∷ rest) e =
+  ready : (moves : ℕ) (g : Going) → Turns moves g → (lines : List Line) → g.place ≡ Before lines → IsReadyAt p g (Before lines)
+  ready moves g turn [] e = tt
+  ready moves g turn (Function n at ∷ rest) e = tt
+  ready moves g turn (End at ∷ rest) e = tt
+  ready moves g turn (Entry at ∷ rest) e = tt
+  ready moves g turn (Head at ∷ rest) e = tt
+  ready moves g turn (Does at n i ∷ rest) e =
       let it = turns_are_ready Assembly sandbox p code rest s left moves g at n i turn e in
       let here = proper moves g turn in
-      (it.in_range, accesses p g two turn.clean.right here.fixed_is i here.state.memory it.in_range it.access)
+      (it.in_range, accesses p g turn.clean.right here.fixed_is i here.state.memory it.in_range it.access)
 
   -- a turn is never lost
   found : (moves : ℕ) (g : Going) → Turns moves g → g.place ≡ Lost → ⊥
@@ -293,7 +293,7 @@ module _ (sandbox : ℕ) (p : Part) (code : List Line) (s : State) (left : ℕ) 
         next = turn_more Assembly sandbox p code s left moves g between turn step
 
         followed : IsCovered between.place → Follows t placed_most p l base code m between
-        followed covered = (one p code l t base fits fixups lie g between m here has at (few_left moves g few turn) (Before (line ∷ rest)) e own (ready moves g here.related.two_steps turn (line ∷ rest) e) covered).0
+        followed covered = (one p code l t base fits fixups lie g between m here has at (few_left moves g few turn) (Before (line ∷ rest)) e own (ready moves g turn (line ∷ rest) e) covered).0
 
         by : ((lines : List Line) → between.place ≡ Before lines → (f : Follows t placed_most p l base code m between) → CodePart n f.after last) → (place : ControlPoint) → between.place ≡ place → IsNoEnd place → CodePart (suc n) m last
         by on (Before lines) is goes_on =

@@ -1,9 +1,8 @@
 -- A turn of a sandbox without a finding as a whole, round by round.
-use Rattle.std.proofs.Common.{◌≡◌, ℕ, zero, suc, ◌+◌, ◌-◌, ◌*◌, ◌^◌, ◌<◌, ◌≤◌, ◌⊎◌, inl, inr, false, List, length, Some, None, refl, sym, ap, ◌∙◌, subst, arith, ⊎_elim}
+use Rattle.std.proofs.Common.{◌≡◌, ℕ, zero, suc, ◌+◌, ◌-◌, ◌*◌, ◌^◌, ◌<◌, ◌≤◌, ◌⊎◌, inl, inr, List, length, Some, None, refl, sym, ap, ◌∙◌, subst, arith, ⊎_elim}
 use Rattle.rv_step.specs.declared.outcome.Outcome.{Outcome}
 use Rattle.rv_step.specs.declared.outcome.Outcome.TheVariants.{Next}
 use Rattle.rv_step.specs.State.{Hart, State, register}
-use Rattle.sfi_formats.specs.Formats.{has_single_mask}
 use Rattle.sfi_formats.specs.Limits.{guard}
 use Rattle.sfi_image.specs.Spelling.{Part}
 use Rattle.sfi_translate.specs.Lines.{Line}
@@ -272,10 +271,10 @@ zones_and_data p l from n layout (inr after) = inr (omega (arith, after, layout.
 
 module _ (sandbox : ℕ) (p : Part) (code : List Line) (l : Layout) (base : ℕ) (table : List ℕ) (table_at : ℕ) (host : Host) (s : State) (left : ℕ) where
   -- a processor before that line
-  entered_there : has_single_mask p.format ≡ false → IsCleanPart sandbox p → AreLines sandbox p code → AreEntries l.plan p code table → IsReached p s → left < 2 ^ 31 → IsLayout p.data_size l → base + exit_of l.plan code < 2 ^ 47 → table_at + table_size p ≤ 2 ^ 47
+  entered_there : IsCleanPart sandbox p → AreLines sandbox p code → AreEntries l.plan p code table → IsReached p s → left < 2 ^ 31 → IsLayout p.data_size l → base + exit_of l.plan code < 2 ^ 47 → table_at + table_size p ≤ 2 ^ 47
       → AreApart p l base code table_at host.own → ((c : Core) → host.relies c) → (first : Going) → HostMoves p code (begun s left) first → IsInCode first.place → IsReached p first.state → first.left < 2 ^ 31
       → (t : Text) × (m : Machine) × IsEntered sandbox p code l t base host s left m
-  entered_there two clean are_lines entries reached few layout low table_low apart relies first begins inside comes first_few =
+  entered_there clean are_lines entries reached few layout low table_low apart relies first begins inside comes first_few =
       let is = whole_code l.plan (end_address p) code in
       let size = whole_size l.plan (end_address p) code in
       let fits = each_code_fits l.plan sandbox p code clean.right are_lines in
@@ -284,7 +283,7 @@ module _ (sandbox : ℕ) (p : Part) (code : List Line) (l : Layout) (base : ℕ)
       let text : Text = record { base = base; bytes = spellings is; fixups = fixups; handled = guarded_data p.data_size l } in
       let owes = with_owed l.plan p first in
       let owes_fit : owes.left < 2 ^ 32 = omega (arith, first_few, there_few l.plan p first.place) in
-      let it = each_code_can_be_run is fixups base p l owes two layout comes.state.hart.count
+      let it = each_code_can_be_run is fixups base p l owes layout comes.state.hart.count
       (subst (λ (h : Hart). (r : ℕ) → register h r < 2 ^ 32) (sym same) comes.state.hart.words) owes_fit (omega (arith, low, size))
       (subst (λ n. DoNotMeet base n l.frame frame_size) (sym size) apart.text.from_frame) (subst (λ n. DoNotMeet base n l.data_start p.data_size) (sym size) (zones_and_data p l base (exit_of l.plan code) layout apart.text.from_zones)) in
       let held = each_table_can_be_held p l base code table table_at is text base owes it.0 entries (omega (arith, fits)) (omega (arith, low)) (omega (arith, table_low)) apart.table.from_frame apart.table.from_zones it.1 in
@@ -314,7 +313,7 @@ module _ (sandbox : ℕ) (p : Part) (code : List Line) (l : Layout) (base : ℕ)
       )
 
 pub each_turn_can_begin : EachTurnCanBegin
-each_turn_can_begin sandbox p code l base table table_at does own s left two clean lines entries reached few layout low table_low apart =
+each_turn_can_begin sandbox p code l base table table_at does own s left clean lines entries reached few layout low table_low apart =
     let end = each_turn_ends Assembly sandbox p code s left clean lines reached (omega (arith, few)) in
     let first : IsTurnTo Assembly sandbox p code s left 0 (begun s left) = record { clean = clean; lines = lines; reached = reached; fits = omega (arith, few); moved = refl } in
     let it = host_part sandbox p code s left end.0 0 (begun s left) end.1 first end.2.moved end.3 in
@@ -324,7 +323,7 @@ each_turn_can_begin sandbox p code l base table table_at does own s left two cle
       begins = it.leads;
       leads = ⊎_elim
           (λ (inside : IsInCode it.next.place).
-          inr (entered_there sandbox p code l base table table_at (host_of does own) s left two clean lines entries reached few layout low table_low apart (λ c. tt) it.next it.leads inside
+          inr (entered_there sandbox p code l base table table_at (host_of does own) s left clean lines entries reached few layout low table_low apart (λ c. tt) it.next it.leads inside
           (translated_runs_as_image Assembly sandbox p code s left it.moved it.next it.turn).reached below))
           (λ (over : IsOver it.next). inl over)
           (handed_over p code (begun s left) it.next it.leads);

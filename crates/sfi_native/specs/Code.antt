@@ -58,7 +58,7 @@ store_eax None r = MovStore Dword (slot r) Rax
 
 -- moves a result from eax to register r's place
 abbrev pub write : Plan → ℕ → List Native
-write plan r = if is_fixed r then [] else store_eax (assigned plan r) r ∷ []
+write plan r = if is_fixed plan.format r then [] else store_eax (assigned plan r) r ∷ []
 
 -- ==== Values where they lie.
 

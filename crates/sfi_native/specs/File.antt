@@ -37,12 +37,13 @@ sandbox_bytes plan p entries accesses code =
     fields (fields_of p) ++ flat_map place_bytes plan.assigned ++ count (length code) ++ count (length accesses)
     ++ flat_map number entries ++ flat_map access_bytes accesses ++ code
 
--- the bytes are those of the sandbox of that number, by some right plan, and few
+-- the bytes are those of the sandbox of that number, by some right plan for its format, and few
 pub record IsSandboxFile (sandbox : ℕ) (p : Part) (bytes : List ℕ) : Type 0 where
   pub lines : List Line
   pub lines_are : AreLines sandbox p lines
   pub plan : Plan
   pub plan_is_right : IsRightPlan plan
+  pub format_is : plan.format ≡ p.format
   pub table : List ℕ
   pub entries : AreEntries plan p lines table
   pub small : exit_of plan lines ≤ bytes_most * length p.code + end_size

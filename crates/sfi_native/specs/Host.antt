@@ -32,7 +32,7 @@ pub record Reads (p : Part) (l : Layout) (c : Core) (s : State) : Type 0 where
   pub registers : (r : ℕ) → r < 32 → Holds l c r (assigned l.plan r) (register s.hart r)
   pub bytes : (k : ℕ) → k < p.data_size → c.memory (l.data_start + k) ≡ byte_at s.memory (p.data_base + k)
 
--- The state is one of a machine, in which x0 and x24 to x27 have the values that lines take them to have. All states that a
+-- The state is one of a machine, in which x0 and the reserved registers have the values that lines take them to have. All states that a
 -- run comes to are such.
 pub record IsProper (p : Part) (s : State) : Type 0 where
   pub state : IsState s
@@ -124,7 +124,7 @@ pub record IsHost (p : Part) (l : Layout) (base : ℕ) (code : List Line) (host 
 abbrev pub EachWorkCanBeDone : Type 1
 EachWorkCanBeDone =
     (p : Part) (l : Layout) (base : ℕ) (code : List Line) (own : ℕ → Type 0) (g k : Going) (m : Machine)
-    → IsLayout p.data_size l → IsProper p k.state → IsHosts g.place → g.left < 2 ^ 31 → IsRelated p l g m.core → HostMoves p code g k
+    → IsLayout p l → IsProper p k.state → IsHosts g.place → g.left < 2 ^ 31 → IsRelated p l g m.core → HostMoves p code g k
     → (n : Machine) × Serves p l base code own k m n
 
 -- a host that relies on nothing
@@ -135,7 +135,7 @@ host_of does own = record { does = does; own = own; relies = λ c. Unit {0} }
 -- turns can begin (`EachTurnCanBegin`).
 abbrev pub ThereIsAHost : Type 1
 ThereIsAHost =
-    (p : Part) (l : Layout) (base : ℕ) (code : List Line) (own : ℕ → Type 0) → IsRightPart p → IsLayout p.data_size l
+    (p : Part) (l : Layout) (base : ℕ) (code : List Line) (own : ℕ → Type 0) → IsRightPart p → IsLayout p l
     → (does : Machine → Option Ending → Machine → Type 0) × IsHost p l base code (host_of does own)
 
 -- ==== Code and host by turns.

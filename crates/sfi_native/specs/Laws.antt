@@ -9,8 +9,6 @@ use Rattle.rv_word.specs.Spelling.{InRange, offset_by}
 use Rattle.rv_mem.specs.Bytes.{IsMemory, IsThere, address_after}
 use Rattle.rv_step.specs.State.{even_of}
 use Rattle.rv_step.specs.Step.{is_taken, load_size, store_size, word}
-use Rattle.sfi_formats.specs.Formats.{has_single_mask}
-use Rattle.sfi_formats.specs.Limits.{guard}
 use Rattle.sfi_image.specs.Parts.{HasGuardRoom}
 use Rattle.sfi_image.specs.Spelling.{Part}
 use Rattle.sfi_translate.specs.Lines.{Line, Does}
@@ -22,7 +20,7 @@ use Rattle.x86_step.specs.Running.{HasAt, spellings}
 use Rattle.sfi_native.specs.declared.plan.Plan.{Plan}
 use Rattle.sfi_native.specs.declared.jump.Jump.{Jump}
 use Rattle.sfi_native.specs.declared.layout.Layout.{Layout}
-use Rattle.sfi_native.specs.Layout.{DoNotMeet, GuardsAreEmpty, IsLayout, IsRelated, OthersStay, frame_size, guarded_data, owing, value}
+use Rattle.sfi_native.specs.Layout.{DoNotMeet, IsClosed, IsLayout, IsRelated, OthersStay, closed_above, closed_below, frame_size, owing, value, window}
 use Rattle.sfi_native.specs.Code.{branch_line, computing_line, does_compute, has_test, indirect_jump, jal_line, jalr_line, load_line, store_line, leave_line_size}
 use Rattle.sfi_native.specs.Faults.{HasFixups, front_of}
 use Rattle.sfi_native.specs.Places.{AreLast, IsAt, code_of, end_address, exit_of, instruction_code, placed, start, whole_code, with_owed}
@@ -53,33 +51,33 @@ end_of at is = at + length (spellings is)
 abbrev pub IsLow : Text → Type 0
 IsLow t = t.base + length t.bytes < 2 ^ 47
 
--- The processor is before code that stands in a fixed text, and has the turn's state. Faults are handled in data and guard zones.
+-- The processor is before code that stands in a fixed text, and has the turn's state. Faults are handled in the window.
 pub record IsBefore (is : List Native) (t : Text) (at : ℕ) (p : Part) (l : Layout) (g : Going) (c : Core) : Type 0 where
-  pub layout : IsLayout p.data_size l
+  pub layout : IsLayout p l
   pub text_is_fixed : IsFixed t c
   pub text_is_low : IsLow t
-  pub faults_are_handled : t.handled ≡ guarded_data p.data_size l
+  pub faults_are_handled : t.handled ≡ window p l
   pub stands : HasAt t at (spellings is)
   pub related : IsRelated p l g c
-  pub guards : GuardsAreEmpty p.data_size l c
+  pub closed : IsClosed p l c
 
 -- For each code, apart from frame and data, there is a processor that is before it, in a text that is nothing else, with any
--- fixups. As in all that follows, the format's masks have two steps (`IsRelated`).
+-- fixups.
 abbrev pub EachCodeCanBeRun : Type 0
 EachCodeCanBeRun =
-    (is : List Native) (fixups : ℕ → Option Fixup) (at : ℕ) (p : Part) (l : Layout) (g : Going) → has_single_mask p.format ≡ false
-    → IsLayout p.data_size l → length g.state.hart.registers ≡ 32 → ((r : ℕ) → value p g r < 2 ^ 32) → g.left < 2 ^ 32
+    (is : List Native) (fixups : ℕ → Option Fixup) (at : ℕ) (p : Part) (l : Layout) (g : Going) → IsLayout p l
+    → length g.state.hart.registers ≡ 32 → ((r : ℕ) → value p g r < 2 ^ 32) → g.left < 2 ^ 32
     → end_of at is < 2 ^ 47 → DoNotMeet at (length (spellings is)) l.frame frame_size
     → DoNotMeet at (length (spellings is)) l.data_start p.data_size
-    → (c : Core) × IsBefore is (record { base = at; bytes = spellings is; fixups = fixups; handled = guarded_data p.data_size l }) at p l g c
+    → (c : Core) × IsBefore is (record { base = at; bytes = spellings is; fixups = fixups; handled = window p l }) at p l g c
 
--- A processor that is before code can have each table of entries, anywhere apart from frame, data and guard zones.
+-- A processor that is before code can have each table of entries, anywhere apart from frame and window.
 abbrev pub EachTableCanBeHeld : Type 0
 EachTableCanBeHeld =
     (p : Part) (l : Layout) (base : ℕ) (code : List Line) (table : List ℕ) (at : ℕ) (is : List Native) (t : Text) (from : ℕ)
     (g : Going) (c : Core) → AreEntries l.plan p code table → exit_of l.plan code < 2 ^ 32 → base < 2 ^ 64 → at + table_size p ≤ 2 ^ 64
     → DoNotMeet at (table_size p) l.frame frame_size
-    → DoNotMeet at (table_size p) (l.data_start - guard) (p.data_size + 2 * guard)
+    → DoNotMeet at (table_size p) (window p l).at (window p l).size
     → IsBefore is t from p l g c
     → (d : Core) × IsBefore is t from p l g d × (it : HasTable p l base code d) × (it.at ≡ at)
 
@@ -89,12 +87,12 @@ pub record IsInData (p : Part) (at n : ℕ) : Type 0 where
   pub fits : n ≤ p.data_size
   pub tested : is_tested p at n ≡ true
 
--- An access of n bytes at an offset from a register's value touches a guard zone and nothing beyond, and doesn't wrap.
-pub record TouchesGuards (p : Part) (value : ℕ) (offset : ℤ) (n : ℕ) : Type 0 where
+-- An access of n bytes at an offset from a register's value stays in the window, without wrapping, and isn't wholly in the data.
+pub record MissesData (p : Part) (value : ℕ) (offset : ℤ) (n : ℕ) : Type 0 where
   pub room : HasGuardRoom p.data_base p.data_size
   pub fits : n ≤ p.data_size
-  pub low : int_le (pos (p.data_base - guard)) (pos value +ℤ offset) ≡ true
-  pub high : int_le (pos value +ℤ offset +ℤ pos n) (pos (p.data_base + p.data_size + guard)) ≡ true
+  pub low : int_le (pos p.data_base) (pos value +ℤ offset +ℤ pos (closed_below p)) ≡ true
+  pub high : int_le (pos value +ℤ offset +ℤ pos n) (pos (p.data_base + p.data_size + closed_above p)) ≡ true
   pub tested : is_tested p (offset_by value offset) n ≡ false
 
 -- Some steps are left, fewer than 2^31, and few are owed before and behind a line.
@@ -209,10 +207,10 @@ StoreLinesRun =
     → IsThere g.state.memory to (store_size width) → IsBefore line t at p l (owing owed g) c
     → LeadsTo t at (end_of at line) p l c (owing next (line_step target p code (Does address size (Store width rs1 rs2 imm) ∷ rest) g))
 
--- the instruction is an access to a guard zone
+-- the instruction is an access that misses the data
 abbrev pub Faults : Part → Going → Instr → Type 0
-Faults p g (Load kind rd rs1 imm) = TouchesGuards p (value p g rs1) imm (load_size kind)
-Faults p g (Store width rs1 rs2 imm) = TouchesGuards p (value p g rs1) imm (store_size width)
+Faults p g (Load kind rd rs1 imm) = MissesData p (value p g rs1) imm (load_size kind)
+Faults p g (Store width rs1 rs2 imm) = MissesData p (value p g rs1) imm (store_size width)
 Faults p g i = ⊥
 
 -- Such a line goes on where its fixup says, which subtracts what is owed, and leaves its instruction to a slow step.
@@ -250,7 +248,7 @@ Accesses p g (Store width rs1 rs2 imm) =
     Stores p g (offset_by (value p g rs1) imm) (store_size width) ⊎ Faults p g (Store width rs1 rs2 imm)
 Accesses p g i = Unit {0}
 
--- an access is in the data or touches a guard zone
+-- an access is in the data or misses them
 abbrev pub IsReady : Part → Going → Line → Type 0
 IsReady p g (Does at n i) = InRange i × Accesses p g i
 IsReady p g line = Unit {0}

@@ -1,12 +1,12 @@
 -- Where a sandbox's state lies in a processor, and when both have the same state.
-use Rattle.std.specs.Prelude.{◌≡◌, ℕ, ◌+◌, ◌-◌, ◌*◌, ◌%◌, ◌^◌, ◌<◌, ◌≤◌, ◌⊎◌, true, false, length, Option, Some, None}
+use Rattle.std.specs.Prelude.{◌≡◌, ℕ, ◌+◌, ◌-◌, ◌*◌, ◌%◌, ◌^◌, ◌<◌, ◌≤◌, ◌⊎◌, true, length, Option, Some, None, if◌then◌else◌}
 use Rattle.rv_mem.specs.Bytes.{byte_at}
 use Rattle.rv_step.specs.State.{register}
 use Rattle.sfi_formats.specs.Formats.{has_single_mask}
 use Rattle.sfi_formats.specs.Limits.{guard}
 use Rattle.sfi_image.specs.Spelling.{Part}
 use Rattle.sfi_translate.specs.Machine.{Going, fixed}
-use Rattle.x86_step.specs.State.{Core, Span, number_at}
+use Rattle.x86_step.specs.State.{Core, IsIn, Span, number_at}
 use Rattle.x86_instr.specs.declared.operand.Register.{Register}
 use Rattle.x86_instr.specs.Spelling.{number}
 use Rattle.sfi_native.specs.declared.layout.Layout.{Layout}
@@ -28,20 +28,30 @@ DoNotMeet a m b n = (a + m ≤ b) ⊎ (b + n ≤ a)
 abbrev pub page_size : ℕ
 page_size = 4096
 
--- The plan is right. A guard zone lies on each side of the data. A host can leave it unmapped, since the data are
--- whole pages. These and the frame don't meet, and lie below 2^47, where a process has its memory.
-pub record IsLayout (data_size : ℕ) (l : Layout) : Type 0 where
-  pub plan_is_right : IsRightPlan l.plan
-  pub frame_ends : l.frame + frame_size ≤ 2 ^ 47
-  pub data_begins : guard ≤ l.data_start
-  pub data_ends : l.data_start + data_size + guard ≤ 2 ^ 47
-  pub is_page : l.data_start % page_size ≡ 0
-  pub are_pages : data_size % page_size ≡ 0
-  pub apart : DoNotMeet l.frame frame_size (l.data_start - guard) (data_size + 2 * guard)
+-- How many bytes are closed below the data: a guard zone. Where masks are single, accesses also go by addresses near 0: all
+-- that 32 bits and an offset can lead to is closed.
+abbrev pub closed_below : Part → ℕ
+closed_below p = if has_single_mask p.format then p.data_base + guard else guard
 
--- the data, with a guard zone on each side
-abbrev pub guarded_data : ℕ → Layout → Span
-guarded_data data_size l = record { at = l.data_start - guard; size = data_size + 2 * guard }
+-- and how many above them
+abbrev pub closed_above : Part → ℕ
+closed_above p = if has_single_mask p.format then 2 ^ 32 - (p.data_base + p.data_size) + guard else guard
+
+-- where accesses go: the data, with what is closed on each side
+abbrev pub window : Part → Layout → Span
+window p l = record { at = l.data_start - closed_below p; size = closed_below p + p.data_size + closed_above p }
+
+-- The plan is right, and one for the sandbox's format. A host can leave what is closed in the window unmapped, since the data are
+-- whole pages. Window and frame don't meet, and lie below 2^47, where a process has its memory.
+pub record IsLayout (p : Part) (l : Layout) : Type 0 where
+  pub plan_is_right : IsRightPlan l.plan
+  pub format_is : l.plan.format ≡ p.format
+  pub frame_ends : l.frame + frame_size ≤ 2 ^ 47
+  pub window_begins : closed_below p ≤ l.data_start
+  pub window_ends : l.data_start + p.data_size + closed_above p ≤ 2 ^ 47
+  pub is_page : l.data_start % page_size ≡ 0
+  pub are_pages : p.data_size % page_size ≡ 0
+  pub apart : DoNotMeet l.frame frame_size (window p l).at (window p l).size
 
 -- the host's address of the sandbox's address 0, of which r15 holds 64 bits
 abbrev pub origin : ℕ → Layout → ℕ
@@ -61,10 +71,8 @@ abbrev pub owing : ℕ → Going → Going
 owing n g = record { place = g.place; state = g.state; left = g.left + n }
 
 -- The processor has the turn's state: rsp (4) leads to the frame, r14 (14) has the turn's `left` (in code with what is owed: `with_owed`), r15 (15) the origin of
--- the data. Where the turn is, rip says, which isn't part of it. No processor has the state of a sandbox whose masks are single:
--- code takes x26 to be fixed, and an access outside the data to be near them.
+-- the data. Where the turn is, rip says, which isn't part of it.
 pub record IsRelated (p : Part) (l : Layout) (g : Going) (c : Core) : Type 0 where
-  pub two_steps : has_single_mask p.format ≡ false
   pub register_count : length g.state.hart.registers ≡ 32
   pub words : (r : ℕ) → value p g r < 2 ^ 32
   pub registers : (r : ℕ) → r < 32 → Holds l c r (assigned l.plan r) (value p g r)
@@ -76,14 +84,13 @@ pub record IsRelated (p : Part) (l : Layout) (g : Going) (c : Core) : Type 0 whe
   pub bytes_are_written : (k : ℕ) → k < p.data_size → c.writable (l.data_start + k) ≡ true
   pub origin_is : c.registers 15 ≡ origin p.data_base l
 
--- No byte is in the guard zones, so that an access there faults.
-pub record GuardsAreEmpty (data_size : ℕ) (l : Layout) (c : Core) : Type 0 where
-  pub below : (a : ℕ) → l.data_start ≤ a + guard → a < l.data_start → c.memory a ≡ None
-  pub above : (a : ℕ) → l.data_start + data_size ≤ a → a < l.data_start + data_size + guard → c.memory a ≡ None
-
 -- the address is none of n from a on
 abbrev pub IsOutside : ℕ → ℕ → ℕ → Type 0
 IsOutside at a n = (at < a) ⊎ (a + n ≤ at)
+
+-- No byte is in the window but the data's, so that an access elsewhere in it faults.
+abbrev pub IsClosed : Part → Layout → Core → Type 0
+IsClosed p l c = (a : ℕ) → IsIn (window p l) a → IsOutside a l.data_start p.data_size → c.memory a ≡ None
 
 -- From one state of the processor to the other, eax, ecx, edx (0 to 2), r14 (14), registers in which the sandbox's lie, and
 -- flags may change, and memory in the frame's registers and in data; all else stays.

@@ -1,15 +1,17 @@
 -- Which of the sandbox's registers lie in registers of the processor, the others in a frame in memory; how many steps code owes
 -- where; and where nops stand.
 use Rattle.std.specs.Prelude.{[], ◌≡◌, ℕ, ◌+◌, ◌-◌, ◌/◌, ◌%◌, ◌^◌, ◌==◌, ◌||◌, Bool, true, false, get_or, length, Option, Some, None}
+use Rattle.sfi_formats.specs.declared.format.Format.{Format}
+use Rattle.sfi_formats.specs.Formats.{is_reserved_in}
 use Rattle.x86_instr.specs.declared.operand.Register.{Register}
 use Rattle.x86_instr.specs.declared.operand.Register.TheVariants.{Rbx, Rbp, Rsi, Rdi, R8, R9, R10, R11, R12, R13}
 use Rattle.x86_instr.specs.Spelling.{number}
 use Rattle.x86_instr.specs.declared.instr.NopSize.{NopSize}
 use Rattle.sfi_native.specs.declared.plan.Plan.{Plan}
 
--- x0 and x24 to x27 have one value for lines, so that none writes them
-abbrev pub is_fixed : ℕ → Bool
-is_fixed r = (r == 0) || ((r == 24) || ((r == 25) || ((r == 26) || (r == 27))))
+-- x0 and the reserved registers of the format have one value for lines, so that none writes them
+abbrev pub is_fixed : Format → ℕ → Bool
+is_fixed f r = (r == 0) || is_reserved_in f r
 
 -- the registers of the processor that code has no other use for
 abbrev pub is_assignable : Register → Bool
@@ -33,7 +35,7 @@ assigned plan r = get_or plan.assigned r None
 -- and padded is free.
 pub record IsRightPlan (plan : Plan) : Type 0 where
   pub count : length plan.assigned ≡ 32
-  pub in_frame : (r : ℕ) → is_fixed r ≡ true → assigned plan r ≡ None
+  pub in_frame : (r : ℕ) → is_fixed plan.format r ≡ true → assigned plan r ≡ None
   pub assignable : (r : ℕ) (q : Register) → assigned plan r ≡ Some q → is_assignable q ≡ true
   pub apart : (r s : ℕ) (q : Register) → assigned plan r ≡ Some q → assigned plan s ≡ Some q → r ≡ s
 

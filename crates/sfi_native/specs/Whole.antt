@@ -1,8 +1,6 @@
 -- A turn of native code as a whole: code and host by turns come to its end, which is what the image's own steps come to.
-use Rattle.std.specs.Prelude.{◌≡◌, false, ◌⊎◌, ℕ, ◌+◌, ◌-◌, ◌*◌, ◌^◌, ◌<◌, ◌≤◌, List, length, Option}
+use Rattle.std.specs.Prelude.{◌≡◌, ◌⊎◌, ℕ, ◌+◌, ◌-◌, ◌*◌, ◌^◌, ◌<◌, ◌≤◌, List, length, Option}
 use Rattle.rv_step.specs.State.{State}
-use Rattle.sfi_formats.specs.Formats.{has_single_mask}
-use Rattle.sfi_formats.specs.Limits.{guard}
 use Rattle.sfi_image.specs.Spelling.{Part}
 use Rattle.sfi_safety.specs.Places.{IsCleanPart}
 use Rattle.sfi_translate.specs.Lines.{Line, AreLines}
@@ -13,7 +11,7 @@ use Rattle.sfi_native.specs.declared.layout.Layout.{Layout}
 use Rattle.sfi_native.specs.Entries.{AreEntries}
 use Rattle.sfi_native.specs.Faults.{HasFixups}
 use Rattle.sfi_native.specs.Host.{Ending, EndsWithin, HandsOver, Host, HostMoves, IsHost, IsInCode, Serves, host_of}
-use Rattle.sfi_native.specs.Layout.{DoNotMeet, IsLayout, IsOutside, frame_size, guarded_data}
+use Rattle.sfi_native.specs.Layout.{DoNotMeet, IsLayout, IsOutside, frame_size, window}
 use Rattle.sfi_native.specs.Laws.{IsBefore, placed_most}
 use Rattle.sfi_native.specs.Places.{IsAt, end_address, exit_of, whole_code, with_owed}
 use Rattle.sfi_native.specs.Table.{HasTable, table_size}
@@ -22,17 +20,17 @@ use Rattle.sfi_native.specs.Table.{HasTable, table_size}
 abbrev pub begun : State → ℕ → Going
 begun s left = record { place = Loop; state = s; left = left }
 
--- so many bytes from an address on lie apart from frame, data and guard zones
+-- so many bytes from an address on lie apart from frame and window
 pub record LieApart (p : Part) (l : Layout) (from n : ℕ) : Type 0 where
   pub from_frame : DoNotMeet from n l.frame frame_size
-  pub from_zones : DoNotMeet from n (l.data_start - guard) (p.data_size + 2 * guard)
+  pub from_window : DoNotMeet from n (window p l).at (window p l).size
 
 -- So lie the text, the table and the host's own memory, and apart from one another.
 pub record AreApart (p : Part) (l : Layout) (base : ℕ) (code : List Line) (table_at : ℕ) (own : ℕ → Type 0) : Type 0 where
   pub text : LieApart p l base (exit_of l.plan code)
   pub table : LieApart p l table_at (table_size p)
   pub table_from_text : DoNotMeet table_at (table_size p) base (exit_of l.plan code)
-  pub own_from_zones : (a : ℕ) → own a → IsOutside a (l.data_start - guard) (p.data_size + 2 * guard)
+  pub own_from_window : (a : ℕ) → own a → IsOutside a (window p l).at (window p l).size
   pub own_from_frame : (a : ℕ) → own a → IsOutside a l.frame frame_size
   pub own_from_text : (a : ℕ) → own a → IsOutside a base (exit_of l.plan code)
   pub own_from_table : (a : ℕ) → own a → IsOutside a table_at (table_size p)
@@ -45,9 +43,9 @@ frame_span l = record { at = l.frame; size = frame_size }
 abbrev pub table_span : Part → ℕ → Span
 table_span p table_at = record { at = table_at; size = table_size p }
 
--- Code accesses its frame, its table, and its data with their guard zones, where an access faults.
+-- Code accesses its frame, its table, and its window, where an access that misses the data faults.
 abbrev pub IsAccessed : Part → Layout → ℕ → ℕ → Type 0
-IsAccessed p l table_at a = IsIn (frame_span l) a ⊎ (IsIn (table_span p table_at) a ⊎ IsIn (guarded_data p.data_size l) a)
+IsAccessed p l table_at a = IsIn (frame_span l) a ⊎ (IsIn (table_span p table_at) a ⊎ IsIn (window p l) a)
 
 -- The code of a sandbox without a finding is a text, which ends at the way out, and has its table of entries and the host's fixups. A turn has begun, from a state that a run comes to and with so many steps left, fewer than 2^31; its host has made the
 -- first moves, and has entered code. (The host makes several turns of one with more: `TurnsAddUp`.)
@@ -79,7 +77,7 @@ pub record EndsAsImage (p : Part) (code : List Line) (l : Layout) (base : ℕ) (
   pub ends : HandsOver p l host.own last m e n
 
 -- Whatever the host does, the turn ends so, by so many instructions of code at most: five lines for each step left, and five. All
--- that these access lies in frame, table, data and guard zones.
+-- that these access lies in frame, table and window.
 pub record TurnEnds (p : Part) (code : List Line) (l : Layout) (t : Text) (base table_at : ℕ) (host : Host) (s : State) (left : ℕ)
     (m : Machine) : Type 0 where
   pub rounds : ℕ
@@ -112,12 +110,11 @@ pub record CanBegin (sandbox : ℕ) (p : Part) (code : List Line) (l : Layout) (
     pub begins : HostMoves p code (begun s left) first
     pub leads : IsOver first ⊎ ((t : Text) × (m : Machine) × IsEntered sandbox p code l t base host s left m)
 
--- So it is wherever masks have two steps, and text, table, frame, data and the host's own memory lie apart.
+-- So it is wherever text, table, frame, window and the host's own memory lie apart.
 abbrev pub EachTurnCanBegin : Type 1
 EachTurnCanBegin =
     (sandbox : ℕ) (p : Part) (code : List Line) (l : Layout) (base : ℕ) (table : List ℕ) (table_at : ℕ)
     (does : Machine → Option Ending → Machine → Type 0) (own : ℕ → Type 0) (s : State) (left : ℕ)
-    → has_single_mask p.format ≡ false → IsCleanPart sandbox p → AreLines sandbox p code → AreEntries l.plan p code table
-    → IsReached p s → left < 2 ^ 31
-    → IsLayout p.data_size l → base + exit_of l.plan code < 2 ^ 47 → table_at + table_size p ≤ 2 ^ 47
+    → IsCleanPart sandbox p → AreLines sandbox p code → AreEntries l.plan p code table → IsReached p s → left < 2 ^ 31
+    → IsLayout p l → base + exit_of l.plan code < 2 ^ 47 → table_at + table_size p ≤ 2 ^ 47
     → AreApart p l base code table_at own → CanBegin sandbox p code l base (host_of does own) s left

@@ -24,4 +24,4 @@ pub record AddsLines (old new : List Held) (holds : List Line → Type 0) : Type
 abbrev pub IsRightAt : Plan → ℕ → Type 0
 IsRightAt plan n =
     (q : Register) → assigned plan n ≡ Some q
-    → (is_assignable q ≡ true) × (is_fixed n ≡ false) × ((r : ℕ) → r < n → assigned plan r ≡ Some q → ⊥)
+    → (is_assignable q ≡ true) × (is_fixed plan.format n ≡ false) × ((r : ℕ) → r < n → assigned plan r ≡ Some q → ⊥)

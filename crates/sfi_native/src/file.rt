@@ -1,8 +1,7 @@
 //! The file of an image's native code.
 ghost use Rattle.std.specs.Prelude.{◌≡◌, ℕ, ◌++◌, ◌<◌, List, OnOk, IfOk, IfNone, IfSome, length, map, true, false, ◌+◌, ◌*◌};
 ghost use Rattle.std.specs.List.{flat_map};
-ghost use Rattle.sfi_formats.specs.Formats.{has_single_mask};
-ghost use Rattle.sfi_image.specs.Spelling.{fields, fields_of, format_of, number, view};
+ghost use Rattle.sfi_image.specs.Spelling.{fields, fields_of, number, view};
 ghost use Rattle.sfi_image.specs.Parts.{IsRightPart};
 ghost use Rattle.sfi_report.specs.private.{Adds};
 ghost use Rattle.sfi_translate.specs.Lines.{AreLines};
@@ -143,6 +142,7 @@ fn push_by(
 ) -> Result<bool, AllocError>
     requires part { IsRightPart (view format part.now) }
     requires plan { IsRightPlan plan.now }
+    requires plan_format { plan.now.format ≡ format }
     requires lines { AreLines sandbox (view format part.now) (map line_of lines.now) }
     ensures many { IfOk result (λ ok. ok ≡ false
         → (bytes_most * length (view format part.now).code + end_size < exit_of plan.now (map line_of lines.now)) × (out.new.items ≡ out.old.items)) }
@@ -173,7 +173,7 @@ fn push_sandbox(
         → Adds out.old.items out.new.items (IsSandboxFile sandbox (view format part.now))) }
 {
     let lines = lines_of(alloc, format, sandbox, part)?;
-    let mut plan = plan_of(alloc, part, &lines)?;
+    let mut plan = plan_of(alloc, format, part, &lines)?;
     if push_by(out, alloc, format, sandbox, part, &plan, &lines)? {
         return Ok(true);
     }
@@ -216,20 +216,15 @@ fn close(out: &mut Vec<u8>) -> Result<(), AllocError>
     push_number(out, crc32(out))
 }
 
-/// The file of the native code of an image with these bytes. None where the format's masks are single: there is no native code
-/// for these yet.
+/// The file of the native code of an image with these bytes. None where a sandbox has no code, as [`compile`] says.
 pub fn native_file(
     alloc: Global,
     image: &Image<'_>,
     bytes: &[u8],
 ) -> Result<Option<Vec<u8>>, AllocError>
     ensures file { IfOk result (λ file. IfSome file (λ it. IsNativeFile bytes.now image.now it.items)) }
-    ensures given { IfOk result (λ file. IfSome file (λ it. has_single_mask (format_of image.now) ≡ false)) }
-    ensures refused { IfOk result (λ file. IfNone file (has_single_mask (format_of image.now) ≡ true)) }
+    ensures always { IfOk result (λ file. IfNone file ⊥) }
 {
-    if image.format().has_single_mask() {
-        return Ok(None);
-    }
     let mut out = Vec::new(alloc);
     push_front(&mut out, image, bytes)?;
     if !push_sandboxes(&mut out, alloc, image)? {

@@ -1,11 +1,16 @@
 //! Where a sandbox's state lies.
 ghost use Rattle.std.specs.Prelude.{◌≡◌, IfSome, IfNone};
-ghost use Rattle.sfi_native.specs.Layout.{IsLayout};
+ghost use Rattle.sfi_image.specs.Spelling.{view};
+ghost use Rattle.sfi_native.specs.Layout.{IsLayout, closed_above as is_closed_above, closed_below as is_closed_below};
 
 use crate::plan::Plan;
+use sfi_formats::Format;
+use sfi_image::SandboxPart;
 
 /// The bytes of a page, and of a guard zone.
 const PAGE: u64 = 4096;
+/// How many addresses a sandbox has.
+const ADDRESSES: u64 = 1 << 32;
 /// Where a process's memory ends.
 const END: u64 = 1 << 47;
 
@@ -20,28 +25,54 @@ pub struct Layout {
     pub data_start: u64,
 }
 
+/// How many bytes are closed below the data.
+fn closed_below(format: Format, part: &SandboxPart<'_>) -> u64
+    ensures { result ≡ is_closed_below (view format part.now) }
+{
+    if format.has_single_mask() {
+        return u64::from(part.data_base) + PAGE;
+    }
+    PAGE
+}
+
+/// How many bytes are closed above the data.
+fn closed_above(format: Format, part: &SandboxPart<'_>) -> u64
+    ensures { result ≡ is_closed_above (view format part.now) }
+{
+    if !format.has_single_mask() {
+        return PAGE;
+    }
+    let end = u64::from(part.data_base) + u64::from(part.data_size);
+    if end > ADDRESSES {
+        return PAGE;
+    }
+    ADDRESSES - end + PAGE
+}
+
 impl Layout {
-    /// The layout of that plan and frame and of data of so many bytes, with a guard zone of 4096 bytes on each side; none
-    /// where the plan isn't right, the data aren't whole pages, the frame meets data or zones, or one goes on below address 0
-    /// or beyond 2^47.
-    pub fn new(plan: Plan, frame: u64, data_start: u64, data_size: u32) -> Option<Layout>
+    /// The layout of that plan and frame and of that sandbox's data, with what is closed on each side: 4096 bytes, or, where masks
+    /// are single, up to 4096 bytes beyond the sandbox's 2^32 addresses. None where the plan isn't right, the data aren't whole
+    /// pages, the frame meets these, or one goes on below address 0 or beyond 2^47.
+    pub fn new(plan: Plan, frame: u64, data_start: u64, part: &SandboxPart<'_>) -> Option<Layout>
         ensures some { IfSome result (λ l.
-            (l ≡ record { plan = plan; frame = frame; data_start = data_start }) × IsLayout data_size l) }
+            (l ≡ record { plan = plan; frame = frame; data_start = data_start }) × IsLayout (view plan.format part.now) l) }
         ensures none { IfNone result
-            (IsLayout data_size (record { plan = plan; frame = frame; data_start = data_start }) → ⊥) }
+            (IsLayout (view plan.format part.now) (record { plan = plan; frame = frame; data_start = data_start }) → ⊥) }
     {
         if !plan.is_right() {
             return None;
         }
-        if data_start % PAGE != 0 || u64::from(data_size) % PAGE != 0 {
+        let data_size = u64::from(part.data_size);
+        if data_start % PAGE != 0 || data_size % PAGE != 0 {
             return None;
         }
-        let zone_start = data_start.checked_sub(PAGE)?;
-        let size = u64::from(data_size) + 2 * PAGE;
-        if frame > END - 144 || zone_start > END - size {
+        let below = closed_below(plan.format, part);
+        let start = data_start.checked_sub(below)?;
+        let size = below + data_size + closed_above(plan.format, part);
+        if frame > END - 144 || start > END - size {
             return None;
         }
-        if frame + 144 <= zone_start || zone_start + size <= frame {
+        if frame + 144 <= start || start + size <= frame {
             Some(Layout {
                 plan,
                 frame,

@@ -6,7 +6,7 @@
 //! eax, ecx and edx are free between lines. `specs/Code.antt` says which instructions a line becomes, `specs/Layout.antt` when a processor has the
 //! state of a turn. Laws say that the bytes of lines then do what these do: `Facts::computing_lines_run`, `branch_lines_run`,
 //! `jal_lines_run`, `jalr_lines_run`, `load_lines_run`, `store_lines_run`, `faulting_lines_run`; `lines_stand`,
-//! `placed_lines_run`, `placed_steps_run` of all that [`compile`] writes (`specs/Places.antt`). An access to a guard zone faults:
+//! `placed_lines_run`, `placed_steps_run` of all that [`compile`] writes (`specs/Places.antt`). An access beside the data faults:
 //! the host then goes out by the table of accesses that [`compile`] makes, too (`specs/Faults.antt`). `native_turns_end` speaks
 //! of that code and a host (`specs/Host.antt`), in a whole turn of an accepted sandbox, and of how many instructions it takes at
 //! most (`specs/Whole.antt`).
@@ -37,6 +37,8 @@ pub mod plan;
 mod register_jump;
 #[cfg(test)]
 mod register_tests;
+#[cfg(test)]
+mod single_tests;
 #[cfg(test)]
 mod tests;
 mod uses;

@@ -92,7 +92,7 @@ fn store_eax(plan: &Plan, r: Reg) -> Instr
 pub(crate) fn put_write(out: &mut Vec<u8>, plan: &Plan, r: Reg) -> Result<(), AllocError>
     ensures { OnOk result (out.new.items ≡ out.old.items ++ spellings (write plan.now r)) }
 {
-    if is_fixed(r.number()) {
+    if is_fixed(plan.format, r) {
         return Ok(());
     }
     put(out, store_eax(plan, r))

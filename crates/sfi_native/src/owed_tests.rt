@@ -25,7 +25,7 @@ const ADDITIONS: [u8; 44] = [
 #[test]
 fn computations_count_late(rt: HostRuntime) -> Result<(), Fail> {
     let mut out = Vec::new(rt.alloc());
-    let plan = Plan::in_frame(rt.alloc());
+    let plan = Plan::in_frame(rt.alloc(), Format::Sfiw);
     assert!(rt; push_computing_line(&mut out, &plan, 0, 5, 6, addition())?);
     assert!(rt; push_computing_line(&mut out, &plan, 0, 3, 0, addition())?);
     assert!(rt; push_computing_line(&mut out, &plan, 0, 0, 63, addition())?);
@@ -47,7 +47,7 @@ const ACCESSES: [u8; 38] = [
 #[test]
 fn accesses_count_late(rt: HostRuntime) -> Result<(), Fail> {
     let mut out = Vec::new(rt.alloc());
-    let plan = Plan::in_frame(rt.alloc());
+    let plan = Plan::in_frame(rt.alloc(), Format::Sfiw);
     let (x2, x10, x11) = (Reg::numbered(2), Reg::numbered(10), Reg::numbered(11));
     push_load_line(&mut out, &plan, 3, 1, LoadKind::Lb, x10, x2, 0xffff_fffc)?;
     push_store_line(&mut out, &plan, 0, 2, StoreWidth::Sw, x2, x11, 256)?;
@@ -111,7 +111,7 @@ fn push_jumps(out: &mut Vec<u8>, plan: &Plan) -> Result<(), Fail> {
 #[test]
 fn jumps_count_by_their_labels(rt: HostRuntime) -> Result<(), Fail> {
     let mut out = Vec::new(rt.alloc());
-    let plan = Plan::in_frame(rt.alloc());
+    let plan = Plan::in_frame(rt.alloc(), Format::Sfiw);
     push_jumps(&mut out, &plan)?;
     push_head_line(&mut out, 0x0100_0080, 7, 4096)?;
     push_leave_line(&mut out, 0x0100_0084, 8, 4096)?;
@@ -195,7 +195,7 @@ pub(crate) fn line(offset: u32, size: u32, instr: Instr) -> Line {
 
 #[test]
 fn code_counts_late(rt: HostRuntime) -> Result<(), Fail> {
-    let mut plan = Plan::in_frame(rt.alloc());
+    let mut plan = Plan::in_frame(rt.alloc(), Format::Sfiw);
     plan.code_base = 0x0100_0000;
     plan.owed = vec![in rt.alloc(); 0, 0, 1, 0, 1, 0, 2]?;
     let lines = [
@@ -236,7 +236,7 @@ fn maps_owe_what_was_not_counted(rt: HostRuntime) -> Result<(), Fail> {
         line(20, 4, addition()),
     ];
     let part = part_of(rt.alloc(), &[0; 24]);
-    let plan = plan_of(rt.alloc(), &part, lines.as_slice())?;
+    let plan = plan_of(rt.alloc(), Format::Sfiw, &part, lines.as_slice())?;
     assert!(rt; plan.code_base == 0x0100_0000);
     let owed = [0, 0, 1, 2, 3, 0, 4, 0, 5, 0, 6, 0];
     assert!(rt; plan.owed.as_slice() == owed.as_slice());
@@ -263,7 +263,7 @@ fn maps_owe_at_labels_as_jumps_do(rt: HostRuntime) -> Result<(), Fail> {
         line(24, 4, addition()),
     ];
     let part = part_of(rt.alloc(), &[0; 28]);
-    let plan = plan_of(rt.alloc(), &part, lines.as_slice())?;
+    let plan = plan_of(rt.alloc(), Format::Sfiw, &part, lines.as_slice())?;
     let owed = [0, 0, 1, 0, 2, 0, 1, 0, 2, 0, 3, 0, 0, 0];
     assert!(rt; plan.owed.as_slice() == owed.as_slice());
     Ok(())
@@ -280,7 +280,7 @@ fn maps_owe_fewer_than_63(rt: HostRuntime) -> Result<(), Fail> {
         lines.push(line(4 + 2 * n, 2, addition()))?;
     }
     let part = part_of(rt.alloc(), &[0; 136]);
-    let plan = plan_of(rt.alloc(), &part, lines.as_slice())?;
+    let plan = plan_of(rt.alloc(), Format::Sfiw, &part, lines.as_slice())?;
     let owed = plan.owed.as_slice();
     assert!(rt; owed.len() == 68);
     assert!(rt; owed[2] == 1 && owed[3] == 2 && owed[63] == 62);

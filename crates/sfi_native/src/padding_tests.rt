@@ -21,7 +21,7 @@ const PADDED: [u8; 32] = [
 /// The second unit is entered before its nop, and its access is behind it.
 #[test]
 fn nops_stand_before_instructions(rt: HostRuntime) -> Result<(), Fail> {
-    let mut plan = Plan::in_frame(rt.alloc());
+    let mut plan = Plan::in_frame(rt.alloc(), Format::Sfiw);
     plan.code_base = 0x0100_0000;
     plan.padding = vec![in rt.alloc(); None, None, Some(NopSize::Three), None]?;
     let lines = [line(0, 4, addition()), line(4, 4, load())];
@@ -59,7 +59,7 @@ fn jumps_stand_off_borders(rt: HostRuntime) -> Result<(), Fail> {
     lines.push(line(28, 4, back))?;
     lines.push(line(32, 4, addition()))?;
     let part = part_of(rt.alloc(), &[0; 36]);
-    let plan = plan_of(rt.alloc(), &part, lines.as_slice())?;
+    let plan = plan_of(rt.alloc(), Format::Sfiw, &part, lines.as_slice())?;
     let padding = plan.padding.as_slice();
     assert!(rt; padding.len() == 18);
     for (place, nop) in padding.iter().enumerate() {

@@ -5,6 +5,8 @@ ghost use Rattle.sfi_native.specs.Registers.{IsRightPlan, IsUnpadded, nop as nop
 ghost use Rattle.sfi_native.specs.private.{IsRightAt};
 
 use rv_word::Reg;
+use sfi_formats::Format;
+use sfi_pairs::is_reserved_in;
 use std::alloc::Global;
 use x86_instr::{NopSize, Register};
 
@@ -12,6 +14,8 @@ use x86_instr::{NopSize, Register};
 /// code counts late, and before which instructions nops stand.
 #[derive(Drop)]
 pub struct Plan {
+    /// The format of the image whose code it is for, which says the registers that no line writes.
+    pub format: Format,
     /// For x0 to x31 the processor's register; none: it lies in the frame.
     pub assigned: [Option<Register>; 32],
     /// The address from which `owed` and `padding` go.
@@ -23,11 +27,11 @@ pub struct Plan {
     pub padding: Vec<Option<NopSize>>,
 }
 
-/// A register that has one value for lines, so that none writes it.
-pub(crate) fn is_fixed(r: u8) -> bool
-    ensures { result ≡ is_fixed_register r }
+/// A register that has one value for lines of that format, so that none writes it.
+pub(crate) fn is_fixed(format: Format, r: Reg) -> bool
+    ensures { result ≡ is_fixed_register format r }
 {
-    r == 0 || r == 24 || r == 25 || r == 26 || r == 27
+    r.number() == 0 || is_reserved_in(format, r)
 }
 
 /// A register of the processor that code has no other use for.
@@ -51,13 +55,15 @@ fn is_assignable(q: Register) -> bool
 
 impl Plan {
     /// All registers lie in the frame, and each step is counted at once.
-    pub fn in_frame(alloc: Global) -> Plan
+    pub fn in_frame(alloc: Global, format: Format) -> Plan
         ensures right { IsRightPlan result }
+        ensures format { result.format ≡ format }
         ensures none { (r : ℕ) → assigned result r ≡ None }
         ensures at_once { result.owed.items ≡ [] }
         ensures unpadded { IsUnpadded result }
     {
         Plan {
+            format,
             assigned: [None; 32],
             code_base: 0,
             owed: Vec::new(alloc),
@@ -127,7 +133,7 @@ impl Plan {
         let Some(q) = self.assigned[n] else {
             return true;
         };
-        is_assignable(q) && !is_fixed(n as u8) && !self.has_before(n, q)
+        is_assignable(q) && !is_fixed(self.format, Reg::numbered(n as u8)) && !self.has_before(n, q)
     }
 
     /// Whether code may have the plan: registers that no line writes lie in the frame, and no two lie in one register.

@@ -5,13 +5,14 @@ use crate::{
     Jump, Plan, plan_of, push_branch_line, push_computing_line, push_load_line, push_store_line,
 };
 use rv_word::{Cond, ImmOp, Instr, LoadKind, Reg, RegOp, StoreWidth};
+use sfi_formats::Format;
 use std::alloc::Global;
 use std::test::Fail;
 use x86_instr::Register;
 
 /// x2 in rsi, x5 in r8, x6 in rbx, x7 in r11.
 fn some_registers(alloc: Global) -> Plan {
-    let mut plan = Plan::in_frame(alloc);
+    let mut plan = Plan::in_frame(alloc, Format::Sfiw);
     plan.assigned[2] = Some(Register::Rsi);
     plan.assigned[5] = Some(Register::R8);
     plan.assigned[6] = Some(Register::Rbx);
@@ -205,7 +206,7 @@ fn registers_of_called_functions_come_first(rt: HostRuntime) -> Result<(), Fail>
         line(20, 4, ret),
     ];
     let part = part_of(rt.alloc(), &[0; 24]);
-    let plan = plan_of(rt.alloc(), &part, lines.as_slice())?;
+    let plan = plan_of(rt.alloc(), Format::Sfiw, &part, lines.as_slice())?;
     for (r, wanted) in [(5_usize, 3_u8), (1, 5), (6, 6)] {
         let found = match plan.assigned[r] {
             Some(q) => q.number(),

@@ -27,7 +27,7 @@ const BYTES: [u8; 48] = [
 
 #[test]
 fn lines_are_spelled(rt: HostRuntime) -> Result<(), Fail> {
-    let plan = Plan::in_frame(rt.alloc());
+    let plan = Plan::in_frame(rt.alloc(), Format::Sfiw);
     let mut out = Vec::new(rt.alloc());
     let (x5, x6, x7) = (Reg::numbered(5), Reg::numbered(6), Reg::numbered(7));
     let add = Instr::Op {
@@ -80,7 +80,7 @@ const JUMPS: [u8; 94] = [
 
 #[test]
 fn jumps_are_spelled(rt: HostRuntime) -> Result<(), Fail> {
-    let plan = Plan::in_frame(rt.alloc());
+    let plan = Plan::in_frame(rt.alloc(), Format::Sfiw);
     let mut out = Vec::new(rt.alloc());
     let ahead = Jump {
         from: 0x0100_0000,
@@ -133,7 +133,7 @@ const ACCESSES: [u8; 38] = [
 
 #[test]
 fn accesses_are_spelled(rt: HostRuntime) -> Result<(), Fail> {
-    let plan = Plan::in_frame(rt.alloc());
+    let plan = Plan::in_frame(rt.alloc(), Format::Sfiw);
     let mut out = Vec::new(rt.alloc());
     push_load_line(
         &mut out,
@@ -210,7 +210,7 @@ const DIVISIONS: [u8; 170] = [
 
 #[test]
 fn divisions_are_spelled(rt: HostRuntime) -> Result<(), Fail> {
-    let plan = Plan::in_frame(rt.alloc());
+    let plan = Plan::in_frame(rt.alloc(), Format::Sfiw);
     let mut out = Vec::new(rt.alloc());
     for op in [RegOp::Div, RegOp::Remu, RegOp::Rem, RegOp::Divu] {
         let division = Instr::Op {
@@ -235,7 +235,7 @@ fn jump_register() -> Instr {
 
 #[test]
 fn each_kind_of_line_is_spelled(rt: HostRuntime) -> Result<(), Fail> {
-    let plan = Plan::in_frame(rt.alloc());
+    let plan = Plan::in_frame(rt.alloc(), Format::Sfiw);
     let mut out = Vec::new(rt.alloc());
     let branch = Instr::Branch {
         cond: Cond::Bgeu,
@@ -341,7 +341,7 @@ pub(crate) fn part_of(alloc: Global, code: &[u8]) -> SandboxPart<'_> {
 
 #[test]
 fn code_is_compiled(rt: HostRuntime) -> Result<(), Fail> {
-    let plan = Plan::in_frame(rt.alloc());
+    let plan = Plan::in_frame(rt.alloc(), Format::Sfiw);
     let at = 0x0100_0000;
     let branch = Instr::Branch {
         cond: Cond::Bgeu,
@@ -394,7 +394,7 @@ const STORE_OFFSET: u32 = 4 + 5 + 4 + 4 + 3 + 4;
 
 #[test]
 fn accesses_are_told(rt: HostRuntime) -> Result<(), Fail> {
-    let plan = Plan::in_frame(rt.alloc());
+    let plan = Plan::in_frame(rt.alloc(), Format::Sfiw);
     let at = 0x0100_0000;
     let load = Instr::Load {
         kind: LoadKind::Lw,

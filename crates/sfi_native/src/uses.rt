@@ -1,5 +1,5 @@
 //! How often lines use registers, and a plan by that.
-ghost use Rattle.std.specs.Prelude.{◌<◌, IfOk, IfSome};
+ghost use Rattle.std.specs.Prelude.{◌≡◌, ◌<◌, IfOk, IfSome};
 ghost use Rattle.sfi_native.specs.Registers.{IsRightPlan};
 
 use crate::line::Line;
@@ -8,6 +8,7 @@ use crate::padding::padding_of;
 use crate::plan::{Plan, is_fixed};
 use crate::weights::weights_of;
 use rv_word::{Instr, Reg};
+use sfi_formats::Format;
 use sfi_image::SandboxPart;
 use std::alloc::{AllocError, Global};
 use x86_instr::Register;
@@ -70,7 +71,7 @@ impl Uses {
         let mut most = 0;
         let mut found = None;
         for r in 0..32 {
-            let free = plan.assigned[r].is_none() && !is_fixed(r as u8);
+            let free = plan.assigned[r].is_none() && !is_fixed(plan.format, Reg::numbered(r as u8));
             if free && self.counts[r] > most {
                 most = self.counts[r];
                 found = Some(r);
@@ -93,8 +94,10 @@ fn uses_of(alloc: Global, lines: &[Line]) -> Result<Uses, AllocError> {
 }
 
 /// The plan that has the most used registers in the processor's, counts each step at once, and has no nops.
-fn plan_by(alloc: Global, uses: &Uses) -> Plan {
-    let mut plan = Plan::in_frame(alloc);
+fn plan_by(alloc: Global, format: Format, uses: &Uses) -> Plan
+    ensures { result.format ≡ format }
+{
+    let mut plan = Plan::in_frame(alloc, format);
     for k in 0..10 {
         if let Some(r) = uses.busiest(&plan) {
             plan.assigned[r] = Some(ASSIGNABLE[k]);
@@ -103,18 +106,24 @@ fn plan_by(alloc: Global, uses: &Uses) -> Plan {
     plan
 }
 
-/// A plan for these lines of a sandbox, in which the registers that they use most, above all in loops, lie in the processor's,
+/// A plan for these lines of a sandbox of an image of that format, in which the registers that they use most, above all in loops, lie in the processor's,
 /// steps are counted as late as [`owed_of`] says, and nops stand where [`padding_of`] says.
-pub fn plan_of(alloc: Global, part: &SandboxPart<'_>, lines: &[Line]) -> Result<Plan, AllocError>
-    ensures { IfOk result (λ plan. IsRightPlan plan) }
+pub fn plan_of(
+    alloc: Global,
+    format: Format,
+    part: &SandboxPart<'_>,
+    lines: &[Line],
+) -> Result<Plan, AllocError>
+    ensures right { IfOk result (λ plan. IsRightPlan plan) }
+    ensures format { IfOk result (λ plan. plan.format ≡ format) }
 {
-    let mut plan = plan_by(alloc, &uses_of(alloc, lines)?);
+    let mut plan = plan_by(alloc, format, &uses_of(alloc, lines)?);
     plan.code_base = part.code_base;
     plan.owed = owed_of(alloc, part, lines)?;
     plan.padding = padding_of(alloc, part, &plan, lines)?;
     if plan.is_right() {
         Ok(plan)
     } else {
-        Ok(Plan::in_frame(alloc))
+        Ok(Plan::in_frame(alloc, format))
     }
 }
