@@ -62,7 +62,7 @@ negative_small k range = omega (arith, ints, range.0)
 pub positive_small : (k : ℕ) → IsImm12 (pos k) → k < 2048
 positive_small k range = omega (arith, ints, range.1)
 
--- An offset of 12 bits that leads into the data doesn't wrap: guard zones lie before and behind.
+-- An offset of 12 bits that leads into the data doesn't wrap: there is room for guard zones before and behind.
 module _ (a base size n start : ℕ) (low : 4096 ≤ base) (high : base + size + 4096 ≤ 2 ^ 32) (few : n ≤ size) (some : 0 < n) (fits : a < 2 ^ 32) (ends : start + size ≤ 2 ^ 64) where
   abbrev Inside : ℕ → Type 0
   Inside at = (base ≤ at) × (at - base + n ≤ size)
@@ -94,7 +94,7 @@ pub address_is : (d : Core) (x : Register) (n o a : ℕ) → d.registers 15 ≡ 
 address_is d x n o a base index has = rw (ne_eqb (number x) 4 index, base, has) refl
 
 -- an access of n bytes that is in the data
-module _ (p : Part) (l : Layout) (layout : IsLayout p.data_size l) (g : Going) (c : Core) (is : IsRelated p l g c) (room : HasGuardRoom p.data_base p.data_size)
+module _ (p : Part) (l : Layout) (layout : IsLayout p l) (g : Going) (c : Core) (is : IsRelated p l g c) (room : HasGuardRoom p.data_base p.data_size)
     (n : ℕ) (some : 0 < n) (few : n ≤ p.data_size) (rs1 : ℕ) (imm : ℤ) (range : IsImm12 imm) (tested : is_tested p (offset_by (value p g rs1) imm) n ≡ true) where
   abbrev at : ℕ
   at = offset_by (value p g rs1) imm
@@ -106,13 +106,13 @@ module _ (p : Part) (l : Layout) (layout : IsLayout p.data_size l) (g : Going) (
   below = omega (arith, offset_is (value p g rs1) imm)
 
   pub within : (p.data_base ≤ at) × (at - p.data_base + n ≤ p.data_size)
-  within = inside_at (value p g rs1) p.data_base p.data_size n l.data_start room.below room.above few some (is.words rs1) (omega (arith, layout.data_ends)) at below close
+  within = inside_at (value p g rs1) p.data_base p.data_size n l.data_start room.below room.above few some (is.words rs1) (omega (arith, layout.window_ends)) at below close
 
   pub place_is : (d : Core) (x : Register) → Kept c d → (number x ≡ 4 → ⊥) → d.registers (number x) ≡ value p g rs1
       → address d (data_address x (word imm)) ≡ l.data_start + (at - p.data_base)
   place_is d x kept index has =
       address_is d x (word imm) (origin p.data_base l) (value p g rs1) (kept.registers 15 (omega arith) ∙ is.origin_is) index has
-      ∙ in_host (value p g rs1) p.data_base p.data_size n l.data_start room.below room.above few some (is.words rs1) (omega (arith, layout.data_ends)) imm range close
+      ∙ in_host (value p g rs1) p.data_base p.data_size n l.data_start room.below room.above few some (is.words rs1) (omega (arith, layout.window_ends)) imm range close
 
   -- what both have there
   pub number_is : number_at c.memory n (l.data_start + (at - p.data_base)) ≡ option_map number_of (bytes_at g.state.memory (addresses at n))

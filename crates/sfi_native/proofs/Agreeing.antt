@@ -281,7 +281,7 @@ module _ (p : Part) (right : IsRightPart p) where
             record { outcome = answer.1; hart = refl; left = refl; bytes = it.related.bytes; spares = it.spares.memory },
           )
 
-      works : IsLayout p.data_size l → (g k : Going) (m : Machine) → g.place ≡ Slow → g.left < 2 ^ 31 → IsProper p g.state → IsProper p k.state → IsAlike p l base code g m → HostMoves p code g k → Works p l base code host k m
+      works : IsLayout p l → (g k : Going) (m : Machine) → g.place ≡ Slow → g.left < 2 ^ 31 → IsProper p g.state → IsProper p k.state → IsAlike p l base code g m → HostMoves p code g k → Works p l base code host k m
       works layout g k m slow few proper proper_then alike leads =
           let n = each_work_can_be_done p l base code own g k m layout proper_then (subst IsHosts (sym slow) tt) few (slow_related g m slow alike) leads in
           let answer = served_answer k m n.0 n.1 (handed_over p code g k leads) in

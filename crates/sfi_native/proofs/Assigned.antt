@@ -172,7 +172,7 @@ module _ (plan : Plan) where
   pub right_at : IsRightPlan plan → (n : ℕ) → IsRightAt plan n
   right_at right n q own = (
     right.assignable n q own,
-    elim (cases_Bool (is_fixed n)) [
+    elim (cases_Bool (is_fixed plan.format n)) [
       | inl held ↦ let clash : None ≡ Some q = sym (right.in_frame n held) ∙ own in cc
       | inr free ↦ free
     ],
@@ -192,7 +192,7 @@ module _ (plan : Plan) where
       | inr past ↦ let clash : None ≡ Some q = sym (get_or_past plan.assigned r None (omega (arith, past, count))) ∙ own in cc
     ]
 
-    in_frame : (r : ℕ) → is_fixed r ≡ true → (o : Option Register) → assigned plan r ≡ o → o ≡ None
+    in_frame : (r : ℕ) → is_fixed plan.format r ≡ true → (o : Option Register) → assigned plan r ≡ o → o ≡ None
     in_frame r held None own = refl
     in_frame r held (Some q) own = absurd (false≢true (sym (each r (within r q own) q own).1 ∙ held))
 

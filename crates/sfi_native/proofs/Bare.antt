@@ -3,7 +3,6 @@ use Rattle.std.proofs.Common.{◌/◌, ◌≡◌, ℕ, ◌+◌, ◌*◌, ◌<◌
 use Rattle.std.specs.Prelude.{nat_le}
 use Rattle.std.proofs.lemmas.Bool.{and_parts, cases_lt, le-leb, leb-true, lt-ltb, ltb-true}
 use Rattle.sfi_formats.specs.Formats.{unit}
-use Rattle.sfi_formats.specs.Limits.{guard}
 use Rattle.sfi_image.specs.Spelling.{Part}
 use Rattle.sfi_translate.specs.Lines.{Line}
 use Rattle.sfi_translate.specs.Machine.{Going}
@@ -14,7 +13,7 @@ use Rattle.x86_step.specs.State.{Core, IsIn, Span, Text, number_at, with_memory}
 use Rattle.sfi_native.specs.declared.layout.Layout.{Layout}
 use Rattle.sfi_native.specs.Registers.{assigned}
 use Rattle.sfi_native.specs.Laws.{IsBefore}
-use Rattle.sfi_native.specs.Layout.{GuardsAreEmpty, IsRelated, frame_size, guarded_data, slots_size, value}
+use Rattle.sfi_native.specs.Layout.{IsClosed, IsRelated, frame_size, window, slots_size, value}
 use Rattle.sfi_native.specs.Table.{HasTable, table_size}
 use Rattle.sfi_native.specs.Whole.{IsAccessed, frame_span, table_span}
 use Rattle.sfi_native.proofs.Assigned.{holds_on}
@@ -94,31 +93,27 @@ module _ (p : Part) (l : Layout) (table_at : ℕ) (c : Core) where
       ap (where_one (in_span (frame_span l) a) (in_span (table_span p table_at) a) (in_span data_span a)) none
       ∙ none_is (in_span (frame_span l) a) (in_span (table_span p table_at) a) (in_span data_span a)
 
-  pub has_no_others : guard ≤ l.data_start → HasNoOthers (IsAccessed p l table_at) bytes
-  has_no_others begins a =
+  pub has_no_others : HasNoOthers (IsAccessed p l table_at) bytes
+  has_no_others a =
       one_or_none (IsAccessed p l table_at a) (in_span (frame_span l) a) (in_span (table_span p table_at) a) (in_span data_span a) (c.memory a)
       (λ is. inl (span_is (frame_span l) a is))
       (λ is. inr (inl (span_is (table_span p table_at) a is)))
-      (λ is. inr (inr (let inside = span_is data_span a is in (omega (arith, inside.0), omega (arith, inside.1, begins)))))
+      (λ is. inr (inr (let inside = span_is data_span a is in (omega (arith, inside.0), omega (arith, inside.1)))))
 
-  -- in data and guard zones it has what was there
-  in_guarded : GuardsAreEmpty p.data_size l c → guard ≤ l.data_start → (a : ℕ) → IsIn (guarded_data p.data_size l) a → c.memory a ≡ bytes a
-  in_guarded guards begins a is = elim (cases_lt a l.data_start) [
-    | inl before ↦
-        let low = is.0 in
-        let none = guards.below a (omega (arith, low, begins)) before in none ∙ sym (missing a none)
+  -- in the window it has what was there
+  in_window : IsClosed p l c → (a : ℕ) → IsIn (window p l) a → c.memory a ≡ bytes a
+  in_window closed a is = elim (cases_lt a l.data_start) [
+    | inl before ↦ let none = closed a is (inl before) in none ∙ sym (missing a none)
     | inr from ↦ elim (cases_lt a (l.data_start + p.data_size)) [
       | inl inside ↦ sym (in_data a (from, inside))
-      | inr behind ↦
-          let high = is.1 in
-          let none = guards.above a behind (omega (arith, high, begins)) in none ∙ sym (missing a none)
+      | inr behind ↦ let none = closed a is (inr behind) in none ∙ sym (missing a none)
     ]
   ]
 
-  pub agree : GuardsAreEmpty p.data_size l c → guard ≤ l.data_start → Agree (IsAccessed p l table_at) bytes c.memory
-  agree guards begins a (inl is) = sym (in_frame a is)
-  agree guards begins a (inr (inl is)) = sym (in_table a is)
-  agree guards begins a (inr (inr is)) = in_guarded guards begins a is
+  pub agree : IsClosed p l c → Agree (IsAccessed p l table_at) bytes c.memory
+  agree closed a (inl is) = sym (in_frame a is)
+  agree closed a (inr (inl is)) = sym (in_table a is)
+  agree closed a (inr (inr is)) = in_window closed a is
 
   -- ==== It has the turn's state, and its table.
 
@@ -146,10 +141,7 @@ module _ (p : Part) (l : Layout) (table_at : ℕ) (c : Core) where
     faults_are_handled = here.faults_are_handled;
     stands = here.stands;
     related = bare_related g here.related;
-    guards = record {
-      below = λ a from under. missing a (here.guards.below a from under);
-      above = λ a from under. missing a (here.guards.above a from under);
-    };
+    closed = λ a is outside. missing a (here.closed a is outside);
   }
 
 pub bare_table : (p : Part) (l : Layout) (base : ℕ) (code : List Line) (c : Core) (has : HasTable p l base code c) → HasTable p l base code (bare p l has.at c)

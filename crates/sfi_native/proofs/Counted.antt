@@ -14,7 +14,7 @@ use Rattle.sfi_native.specs.declared.layout.Layout.{Layout}
 use Rattle.sfi_native.specs.Laws.{IsBefore, end_of}
 use Rattle.sfi_native.specs.Code.{count, count_size}
 use Rattle.sfi_native.proofs.Counting.{Counts, counts, having}
-use Rattle.sfi_native.proofs.Kept.{guards_kept}
+use Rattle.sfi_native.proofs.Kept.{closed_kept}
 use Rattle.sfi_native.proofs.Runs.{Runs, back_fixed, back_stands, end_append, straight_runs, then_reaches}
 
 -- ==== Its bytes.
@@ -65,7 +65,7 @@ module _ (t : Text) (at : ℕ) (p : Part) (l : Layout) (g : Going) (c : Core) (o
     faults_are_handled = here.faults_are_handled;
     stands = back_stands t at (count owed next) js c it.core here.text_is_fixed here.text_is_low here.stands runs;
     related = it.related;
-    guards = guards_kept p l here.layout c it.core it.stay here.guards;
+    closed = closed_kept p l here.layout c it.core it.stay here.closed;
   }
 
   pub ends : end_of from js ≡ end_of at (count owed next ++ js)

@@ -46,7 +46,7 @@ related_as p l g c place n is same = record {
   origin_is = is.origin_is;
 }
 
-module _ (p : Part) (l : Layout) (layout : IsLayout p.data_size l) (g : Going) (c : Core) (is : IsRelated p l g c) where
+module _ (p : Part) (l : Layout) (layout : IsLayout p l) (g : Going) (c : Core) (is : IsRelated p l g c) where
   -- r14 gets a number
   module _ (n m : ℕ) (f : Flags) (same : m ≡ n) (fits : n < 2 ^ 32) where
     pub counted_related : IsRelated p l (having n g) (counted_core c m f)

@@ -109,7 +109,7 @@ entry_few plan p None = omega arith
 entry_few plan p (Some []) = omega arith
 entry_few plan p (Some (line ∷ rest)) = omega arith
 
-module _ (p : Part) (l : Layout) (layout : IsLayout p.data_size l) (base : ℕ) (code : List Line) (lie : LieInCode p code) (t : Text) (low_text : IsLow t) (in_reach : base + exit_of l.plan code < 2 ^ 47) where
+module _ (p : Part) (l : Layout) (layout : IsLayout p l) (base : ℕ) (code : List Line) (lie : LieInCode p code) (t : Text) (low_text : IsLow t) (in_reach : base + exit_of l.plan code < 2 ^ 47) where
   -- the row of an address, as the processor reads it
   module _ (d : Core) (has : HasTable p l base code d) (to : ℕ) (edx : d.registers 2 ≡ to) (starts : is_unit_start p to ≡ true) where
     abbrev entry : ℕ
@@ -222,7 +222,7 @@ no_difference a b fa fb = elim (cases_Bool (a == b)) [
   | inr e ↦ ne_eqb _ 0 (λ z. eqb-false a b e (omega (arith, fa, fb, z))) ∙ sym e
 ]
 
-module _ (p : Part) (l : Layout) (layout : IsLayout p.data_size l) (code : List Line) (lie : LieInCode p code) (t : Text) (low_text : IsLow t) (k : Going) where
+module _ (p : Part) (l : Layout) (layout : IsLayout p l) (code : List Line) (lie : LieInCode p code) (t : Text) (low_text : IsLow t) (k : Going) where
   module _ (d : Core) (is : IsRelated p l k d) (to : ℕ) (edx : d.registers 2 ≡ to) (fits : to < 2 ^ 32) where
     abbrev mask : ℕ
     mask = length p.code - unit p.format

@@ -1,9 +1,11 @@
 -- The sandbox's registers in free registers of the processor, and back.
 use Rattle.std.proofs.Common.{◌≡◌, ℕ, ◌+◌, ◌*◌, ◌%◌, ◌^◌, ◌<◌, ◌≤◌, ◌==◌, ◌⊎◌, inl, inr, true, false, length, List, [], ◌∷◌, Option, Some, None, if◌then◌else◌, refl, sym, ap, ◌∙◌, subst, arith, nat_lt, eqb-true}
 use Rattle.std.specs.Prelude.{Ok}
-use Rattle.std.proofs.lemmas.Bool.{cases_Bool, cases_eq, cases_lt, false≢true, lt-ltb}
+use Rattle.std.proofs.lemmas.Bool.{cases_Bool, cases_eq, cases_lt, false≢true, lt-ltb, or_parts}
 use Rattle.std.proofs.lemmas.List.{get_or-set_same, get_or-set_other, length-set}
 use Rattle.rv_step.specs.State.{Hart, register, with_pc, with_register as with_value}
+use Rattle.sfi_formats.specs.declared.format.Format.{Format}
+use Rattle.sfi_formats.specs.Formats.{is_reserved_in}
 use Rattle.sfi_image.specs.Spelling.{Part}
 use Rattle.sfi_translate.specs.Machine.{ControlPoint, Going, fixed, goes_with}
 use Rattle.x86_instr.specs.declared.operand.Register.{Register}
@@ -28,14 +30,14 @@ use Rattle.sfi_native.proofs.Memory.{load_there, may_write_each, number_elsewher
 
 -- ==== A hart with a value in a register.
 
-fixed_zero : (r : ℕ) → is_fixed r ≡ false → r == 0 ≡ false
-fixed_zero r free = grind arith
+fixed_zero : (f : Format) (r : ℕ) → is_fixed f r ≡ false → r == 0 ≡ false
+fixed_zero f r free = (or_parts (r == 0) (is_reserved_in f r) free).0
 
 -- register rd has v, if it isn't fixed, and the others have what they had
 pub record IsWritten (p : Part) (g : Going) (rd v : ℕ) (k : Hart) : Type 0 where
   pub count : length k.registers ≡ 32
-  pub new : is_fixed rd ≡ false → register (fixed p k) rd ≡ v
-  pub old : (r : ℕ) → (is_fixed rd ≡ true) ⊎ (r ≡ rd → ⊥) → register (fixed p k) r ≡ value p g r
+  pub new : is_fixed p.format rd ≡ false → register (fixed p k) rd ≡ v
+  pub old : (r : ℕ) → (is_fixed p.format rd ≡ true) ⊎ (r ≡ rd → ⊥) → register (fixed p k) r ≡ value p g r
 
 module _ (p : Part) (g : Going) (count : length g.state.hart.registers ≡ 32) (pc rd v : ℕ) where
   abbrev before : Hart
@@ -56,7 +58,7 @@ module _ (p : Part) (g : Going) (count : length g.state.hart.registers ≡ 32) (
   after_count : length after.registers ≡ 32
   after_count = fixed_length p (with_value before rd v) ∙ value_count
 
-  free_is : (r : ℕ) → is_fixed r ≡ false → register (fixed p after) r ≡ register (with_value before rd v) r
+  free_is : (r : ℕ) → is_fixed p.format r ≡ false → register (fixed p after) r ≡ register (with_value before rd v) r
   free_is r free = fixed_free p after r after_count free ∙ fixed_free p (with_value before rd v) r value_count free
 
   other_is : (r : ℕ) → (r ≡ rd → ⊥) → register (with_value before rd v) r ≡ value p g r
@@ -65,15 +67,15 @@ module _ (p : Part) (g : Going) (count : length g.state.hart.registers ≡ 32) (
     | inr e ↦ rw e (get_or-set_other before.registers rd r v 0 other)
   ]
 
-  apart_is : (r : ℕ) → is_fixed r ≡ false → (is_fixed rd ≡ true) ⊎ (r ≡ rd → ⊥) → r ≡ rd → ⊥
-  apart_is r free (inl held) e = false≢true (sym free ∙ ap is_fixed e ∙ held)
+  apart_is : (r : ℕ) → is_fixed p.format r ≡ false → (is_fixed p.format rd ≡ true) ⊎ (r ≡ rd → ⊥) → r ≡ rd → ⊥
+  apart_is r free (inl held) e = false≢true (sym free ∙ ap (is_fixed p.format) e ∙ held)
   apart_is r free (inr other) e = other e
 
   pub hart_written : rd < 32 → IsWritten p g rd v after
   hart_written small = record {
     count = after_count;
-    new = λ free. free_is rd free ∙ (rw (fixed_zero rd free) (get_or-set_same before.registers rd v 0 (omega (arith, small, before_count))));
-    old = λ r other. elim (cases_Bool (is_fixed r)) [
+    new = λ free. free_is rd free ∙ (rw (fixed_zero p.format rd free) (get_or-set_same before.registers rd v 0 (omega (arith, small, before_count))));
+    old = λ r other. elim (cases_Bool (is_fixed p.format r)) [
       | inl held ↦ fixed_same p after g.state.hart r after_count count held
       | inr free ↦ free_is r free ∙ other_is r (apart_is r free other)
     ];
@@ -81,7 +83,7 @@ module _ (p : Part) (g : Going) (count : length g.state.hart.registers ≡ 32) (
 
 -- ==== The frame.
 
-module _ (p : Part) (l : Layout) (layout : IsLayout p.data_size l) where
+module _ (p : Part) (l : Layout) (layout : IsLayout p l) where
   -- free registers may have anything
   pub related_kept : (g : Going) (c d : Core) → IsRelated p l g c → Kept c d → IsRelated p l g d
   related_kept g c d is k = record {
@@ -118,9 +120,13 @@ module _ (p : Part) (l : Layout) (layout : IsLayout p.data_size l) where
   pub slot_loaded : (g : Going) (c : Core) (r : ℕ) → r < 32 → IsRelated p l g c → Holds l c r None (value p g r) → loaded c 4 (address c (slot r)) ≡ Ok (value p g r)
   slot_loaded g c r small is has = ap (loaded c 4) (slot_is g c r small is) ∙ load_there c 4 (l.frame + 4 * r) (value p g r) (slot_below r small) has
 
-  pub fixed_loaded : (g : Going) (c : Core) (r : ℕ) → r < 32 → is_fixed r ≡ true → IsRelated p l g c → loaded c 4 (address c (slot r)) ≡ Ok (value p g r)
+  -- the plan has the same fixed registers
+  as_plan : (r : ℕ) → is_fixed l.plan.format r ≡ is_fixed p.format r
+  as_plan r = ap (λ f. is_fixed f r) layout.format_is
+
+  pub fixed_loaded : (g : Going) (c : Core) (r : ℕ) → r < 32 → is_fixed p.format r ≡ true → IsRelated p l g c → loaded c 4 (address c (slot r)) ≡ Ok (value p g r)
   fixed_loaded g c r small held is =
-      slot_loaded g c r small is (subst (λ o. Holds l c r o (value p g r)) (layout.plan_is_right.in_frame r held) (is.registers r small))
+      slot_loaded g c r small is (subst (λ o. Holds l c r o (value p g r)) (layout.plan_is_right.in_frame r (as_plan r ∙ held)) (is.registers r small))
 
   fetched_from : (g : Going) (c : Core) (dst : Register) (r : ℕ) → r < 32 → IsRelated p l g c → (o : Option Register) → Holds l c r o (value p g r)
       → exec (Mov Dword dst (operand_of o r) ∷ []) c ≡ Ok (with_register c (number dst) (value p g r))
@@ -195,7 +201,7 @@ module _ (p : Part) (l : Layout) (layout : IsLayout p.data_size l) where
   brought g c dst r small is = brought_from g c dst r small is (assigned l.plan r) (is.registers r small)
 
   -- a fixed register isn't written
-  pub unwritten : (g : Going) (c : Core) (place : ControlPoint) (rd v : ℕ) (k : Hart) → IsRelated p l g c → IsWritten p g rd v k → is_fixed rd ≡ true
+  pub unwritten : (g : Going) (c : Core) (place : ControlPoint) (rd v : ℕ) (k : Hart) → IsRelated p l g c → IsWritten p g rd v k → is_fixed p.format rd ≡ true
       → IsRelated p l (record { place = place; state = record { hart = k; memory = g.state.memory }; left = g.left }) c
   unwritten g c place rd v k is w held = record {
     register_count = w.count;
@@ -223,7 +229,7 @@ module _ (p : Part) (l : Layout) (layout : IsLayout p.data_size l) where
     stored_core = with_memory c (written c.memory 4 at v)
 
     word_is : (r : ℕ) → value p turned r < 2 ^ 32
-    word_is r = elim (cases_Bool (is_fixed rd)) [
+    word_is r = elim (cases_Bool (is_fixed p.format rd)) [
       | inl held ↦ subst (λ x. x < 2 ^ 32) (sym (w.old r (inl held))) (is.words r)
       | inr free ↦ elim (cases_eq r rd) [
         | inl same ↦ subst (λ x. x < 2 ^ 32) (sym (ap (value p turned) same ∙ w.new free)) fits
@@ -244,7 +250,7 @@ module _ (p : Part) (l : Layout) (layout : IsLayout p.data_size l) where
     ]
 
     -- where the value is in its place and the others are as before
-    related_to : (e : Core) → is_fixed rd ≡ false → Holds l e rd (assigned l.plan rd) v
+    related_to : (e : Core) → is_fixed p.format rd ≡ false → Holds l e rd (assigned l.plan rd) v
         → ((r : ℕ) → r < 32 → (r ≡ rd → ⊥) → Holds l c r (assigned l.plan r) (value p g r) → Holds l e r (assigned l.plan r) (value p g r))
         → (r : ℕ) → r < 32 → Holds l e r (assigned l.plan r) (value p turned r)
     related_to e free new old r below = elim (cases_eq r rd) [
@@ -263,9 +269,9 @@ module _ (p : Part) (l : Layout) (layout : IsLayout p.data_size l) where
       numbered : Free (number q)
       numbered = free_register l.plan right rd q own
 
-      not_fixed : is_fixed rd ≡ false
-      not_fixed = elim (cases_Bool (is_fixed rd)) [
-        | inl held ↦ let clash : None ≡ Some q = sym (right.in_frame rd held) ∙ own in cc
+      not_fixed : is_fixed p.format rd ≡ false
+      not_fixed = elim (cases_Bool (is_fixed p.format rd)) [
+        | inl held ↦ let clash : None ≡ Some q = sym (right.in_frame rd (as_plan rd ∙ held)) ∙ own in cc
         | inr free ↦ free
       ]
 
@@ -307,7 +313,7 @@ module _ (p : Part) (l : Layout) (layout : IsLayout p.data_size l) where
 
       -- ---- in the frame
 
-      module _ (free : is_fixed rd ≡ false) (none : assigned l.plan rd ≡ None) where
+      module _ (free : is_fixed p.format rd ≡ false) (none : assigned l.plan rd ≡ None) where
         was : Holds l c rd None (value p g rd)
         was = subst (λ o. Holds l c rd o (value p g rd)) none (is.registers rd small)
 
@@ -371,14 +377,14 @@ module _ (p : Part) (l : Layout) (layout : IsLayout p.data_size l) where
           λ k low. updated_other c.registers (number q) v k (λ e. omega (arith, e, low, (free_register l.plan right rd q own).above)),
         )
 
-      wrote_free : is_fixed rd ≡ false → (o : Option Register) → assigned l.plan rd ≡ o → Wrote (store_eax o rd ∷ [])
+      wrote_free : is_fixed p.format rd ≡ false → (o : Option Register) → assigned l.plan rd ≡ o → Wrote (store_eax o rd ∷ [])
       wrote_free free None e = wrote_frame free e
       wrote_free free (Some q) e = wrote_register q e
 
       pub wrote : Wrote (write l.plan rd)
-      wrote = elim (cases_Bool (is_fixed rd)) [
-        | inl held ↦ (c, rw held refl, unwritten g c place rd v k is w held, others_same p l c, λ k low. refl)
-        | inr free ↦ subst (λ t. Wrote (if t then [] else store_eax (assigned l.plan rd) rd ∷ [])) (sym free) (wrote_free free (assigned l.plan rd) refl)
+      wrote = elim (cases_Bool (is_fixed p.format rd)) [
+        | inl held ↦ (c, rw (as_plan rd, held) refl, unwritten g c place rd v k is w held, others_same p l c, λ k low. refl)
+        | inr free ↦ subst (λ t. Wrote (if t then [] else store_eax (assigned l.plan rd) rd ∷ [])) (sym (as_plan rd ∙ free)) (wrote_free free (assigned l.plan rd) refl)
       ]
 
 -- where the turn is doesn't matter

@@ -1,4 +1,4 @@
--- The code of accesses that touch a guard zone.
+-- The code of accesses that miss the data.
 use Rattle.std.proofs.Common.{◌≡◌, ℕ, ◌+◌, ◌-◌, ◌*◌, ◌%◌, ◌^◌, ◌<◌, ◌≤◌, true, Option, Some, None, List, ◌∷◌, ◌++◌, refl, ap, ◌∙◌, sym, subst, append_assoc, arith, inl, inr, length}
 use Rattle.std.specs.Prelude.{Err, ℤ, pos, negsuc, int_le, ◌+ℤ◌}
 use Rattle.std.proofs.lemmas.Bool.{cases_lt, leb-false, le-ltb, lt-ltb}
@@ -29,8 +29,8 @@ use Rattle.x86_step.proofs.Facts.{faults_resume}
 use Rattle.x86_step.proofs.Missing.{load_missing, number_missing}
 use Rattle.x86_step.proofs.Running.{has_front, in_more}
 use Rattle.sfi_native.specs.declared.layout.Layout.{Layout}
-use Rattle.sfi_native.specs.Layout.{GuardsAreEmpty, IsLayout, IsRelated, guarded_data, origin, owing, value}
-use Rattle.sfi_native.specs.Laws.{CountsBelow, FaultingLinesRun, IsBefore, TouchesGuards, LeadsTo, end_of, line_most}
+use Rattle.sfi_native.specs.Layout.{IsClosed, IsLayout, IsRelated, closed_above, closed_below, origin, owing, value, window}
+use Rattle.sfi_native.specs.Laws.{CountsBelow, FaultingLinesRun, IsBefore, MissesData, LeadsTo, end_of, line_most}
 use Rattle.sfi_native.specs.Code.{count, data_address, load_from, read, register_or, result_in, settle, store_to}
 use Rattle.sfi_native.specs.Registers.{assigned, owed}
 use Rattle.sfi_native.specs.Places.{owed_behind}
@@ -44,68 +44,83 @@ use Rattle.sfi_native.proofs.Runs.{Runs, back_fixed, back_stands, runs_join, str
 
 -- ==== Where the access goes.
 
--- An offset of 12 bits that leads to the data or a guard zone leads there in the host, too.
-module _ (a base size n start : ℕ) (low : 4096 ≤ base) (high : base + size + 4096 ≤ 2 ^ 32) (fits : a < 2 ^ 32) (some : 0 < n)
-    (begins : 4096 ≤ start) (ends : start + size + 4096 ≤ 2 ^ 47) where
+-- An access of n bytes at an offset of 12 bits that stays in the window is there in the host, too. (r15 has the data's start less their
+-- base, to which a register's 32 bits and the offset are added.)
+module _ (a base size n start below above : ℕ) (low : 4096 ≤ base) (high : base + size + 4096 ≤ 2 ^ 32) (fits : a < 2 ^ 32) (some : 0 < n)
+    (begins : below ≤ start) (ends : start + size + above ≤ 2 ^ 47) where
   pub record Reach (imm : ℤ) : Type 0 where
-    pub from : base ≤ offset_by a imm + 4096
-    pub below : offset_by a imm + n ≤ base + size + 4096
-    pub place : ((start + (2 ^ 64 - base)) % 2 ^ 64 + a * 2 ^ 0 + sign_extended (word imm)) % 2 ^ 64 ≡ start + offset_by a imm - base
+    pub place : ℕ
+    pub place_is : ((start + (2 ^ 64 - base)) % 2 ^ 64 + a * 2 ^ 0 + sign_extended (word imm)) % 2 ^ 64 ≡ place
+    pub from : start ≤ place + below
+    pub to : place + n ≤ start + size + above
+    pub inside : start ≤ place → place + n ≤ start + size → (offset_by a imm + (2 ^ 32 - base)) % 2 ^ 32 ≤ size - n
 
-  in_host : (imm : ℤ) → IsImm12 imm → int_le (pos (base - 4096)) (pos a +ℤ imm) ≡ true
-      → int_le (pos a +ℤ imm +ℤ pos n) (pos (base + size + 4096)) ≡ true → Reach imm
-  in_host (pos k) range from below =
+  in_host : (imm : ℤ) → IsImm12 imm → int_le (pos base) (pos a +ℤ imm +ℤ pos below) ≡ true
+      → int_le (pos a +ℤ imm +ℤ pos n) (pos (base + size + above)) ≡ true → Reach imm
+  in_host (pos k) range from to =
       let small = positive_small k range in
       let at_is : offset_by a (pos k) ≡ (a + k) % 2 ^ 32 = omega (arith, ints, fits, small) in
-      let f : base ≤ a + k + 4096 = omega (arith, ints, from) in
-      let b : a + k + n ≤ base + size + 4096 = omega (arith, ints, below) in
-      let whole : offset_by a (pos k) ≡ a + k = omega (arith, at_is, b, high, some) in
+      let f : base ≤ a + k + below = omega (arith, ints, from) in
+      let t : a + k + n ≤ base + size + above = omega (arith, ints, to) in
       let d : word (pos k) ≡ k = omega (arith, ints, small) in
       let near : sign_extended (word (pos k)) ≡ k = ap sign_extended d ∙ (rw (lt-ltb k (2 ^ 31) (omega (arith, small))) refl) in
-      record { from = omega (arith, whole, f); below = omega (arith, whole, b); place = omega (arith, near, whole, f, b, ends, begins, low, high) }
-  in_host (negsuc k) range from below =
+      record {
+        place = start + a + k - base;
+        place_is = omega (arith, near, f, t, ends, begins, low, high);
+        from = omega (arith, f, begins);
+        to = omega (arith, t, f, begins);
+        inside = λ first last. omega (arith, at_is, first, last, f, begins, high, low, some);
+      }
+  in_host (negsuc k) range from to =
       let small = negative_small k range in
       let at_is : offset_by a (negsuc k) ≡ (a + (2 ^ 32 - 1 - k)) % 2 ^ 32 = grind (arith, ints) in
-      let f : base + k + 1 ≤ a + 4096 = omega (arith, ints, from, low) in
-      let b : a + n ≤ base + size + 4096 + k + 1 = omega (arith, ints, below) in
-      let whole : offset_by a (negsuc k) + 1 + k ≡ a = omega (arith, at_is, f, low, small, fits) in
+      let f : base + k + 1 ≤ a + below = omega (arith, ints, from) in
+      let t : a + n ≤ base + size + above + k + 1 = omega (arith, ints, to) in
       let d : word (negsuc k) ≡ 2 ^ 32 - 1 - k = omega (arith, ints, small) in
       let far : sign_extended (word (negsuc k)) ≡ 2 ^ 64 - 1 - k = ap sign_extended d ∙ (rw (le-ltb (2 ^ 32 - 1 - k) (2 ^ 31) (omega (arith, small))) (omega (arith, small))) in
-      record { from = omega (arith, whole, f); below = omega (arith, whole, b); place = omega (arith, far, whole, f, b, ends, begins, low, high, small) }
+      record {
+        place = start + a - (base + k + 1);
+        place_is = omega (arith, far, f, t, ends, begins, low, high, small);
+        from = omega (arith, f, begins);
+        to = omega (arith, t, f, begins);
+        inside = λ first last. omega (arith, at_is, first, last, f, begins, high, low, some, small);
+      }
 
-module _ (p : Part) (l : Layout) (layout : IsLayout p.data_size l) (g : Going) (c : Core) (is : IsRelated p l g c) (guards : GuardsAreEmpty p.data_size l c)
-    (n : ℕ) (some : 0 < n) (rs1 : ℕ) (imm : ℤ) (range : IsImm12 imm) (access : TouchesGuards p (value p g rs1) imm n) where
-  abbrev at : ℕ
-  at = offset_by (value p g rs1) imm
+module _ (p : Part) (l : Layout) (layout : IsLayout p l) (g : Going) (c : Core) (is : IsRelated p l g c) (closed : IsClosed p l c)
+    (n : ℕ) (some : 0 < n) (rs1 : ℕ) (imm : ℤ) (range : IsImm12 imm) (access : MissesData p (value p g rs1) imm n) where
+  reach : Reach (value p g rs1) p.data_base p.data_size n l.data_start (closed_below p) (closed_above p) access.room.below access.room.above (is.words rs1) some layout.window_begins layout.window_ends imm
+  reach = in_host (value p g rs1) p.data_base p.data_size n l.data_start (closed_below p) (closed_above p) access.room.below access.room.above (is.words rs1) some layout.window_begins layout.window_ends imm range access.low access.high
 
   abbrev place : ℕ
-  place = l.data_start + at - p.data_base
+  place = reach.place
 
-  reach : Reach (value p g rs1) p.data_base p.data_size n l.data_start access.room.below access.room.above (is.words rs1) some layout.data_begins layout.data_ends imm
-  reach = in_host (value p g rs1) p.data_base p.data_size n l.data_start access.room.below access.room.above (is.words rs1) some layout.data_begins layout.data_ends imm range access.low access.high
+  in_window : (k : ℕ) → k < n → IsIn (window p l) (place + k)
+  in_window k small = (omega (arith, reach.from), omega (arith, reach.to, small, layout.window_begins))
 
-  -- one of its bytes is in a guard zone
+  -- one of its bytes is closed
   missing : number_at c.memory n place ≡ None
-  missing = elim (cases_lt at p.data_base) [
+  missing = elim (cases_lt place l.data_start) [
     | inl before ↦
-        number_missing c.memory n 0 place some (guards.below (place + 0) (omega (arith, reach.from, before, layout.data_begins)) (omega (arith, reach.from, before, layout.data_begins)))
-    | inr behind ↦
-        let far : p.data_size - n < (at + (2 ^ 32 - p.data_base)) % 2 ^ 32 = leb-false _ _ access.tested in
-        let close : at + n ≤ p.data_base + p.data_size + 4096 = reach.below in
-        let over : p.data_base + p.data_size < at + n = omega (arith, far, behind, close, access.fits, access.room.above) in
-        number_missing c.memory n (n - 1) place (omega (arith, some))
-        (guards.above (place + (n - 1)) (omega (arith, over, behind, some)) (omega (arith, close, behind, some)))
+        number_missing c.memory n 0 place some (closed (place + 0) (in_window 0 some) (inl (omega (arith, before))))
+    | inr behind ↦ elim (cases_lt (l.data_start + p.data_size) (place + n)) [
+      | inl over ↦
+          number_missing c.memory n (n - 1) place (omega (arith, some))
+          (closed (place + (n - 1)) (in_window (n - 1) (omega (arith, some))) (inr (omega (arith, over, some))))
+      | inr inside ↦
+          let far : p.data_size - n < (offset_by (value p g rs1) imm + (2 ^ 32 - p.data_base)) % 2 ^ 32 = leb-false _ _ access.tested in
+          let close = reach.inside behind inside in
+          absurd (omega (arith, far, close))
+    ]
   ]
 
   host_place : (d : Core) (x : Register) → (number x ≡ 4 → ⊥) → d.registers (number x) ≡ value p g rs1 → Kept c d → address d (data_address x (word imm)) ≡ place
-  host_place d x index has kept = address_is d x (word imm) (origin p.data_base l) (value p g rs1) (kept.registers 15 (omega arith) ∙ is.origin_is) index has ∙ reach.place
+  host_place d x index has kept = address_is d x (word imm) (origin p.data_base l) (value p g rs1) (kept.registers 15 (omega arith) ∙ is.origin_is) index has ∙ reach.place_is
 
   abbrev Handled : ℕ → Type 0
-  Handled to = LiesIn (IsIn (guarded_data p.data_size l)) (Some (record { at = to; size = n }))
+  Handled to = LiesIn (IsIn (window p l)) (Some (record { at = to; size = n }))
 
   handled_there : Handled place
-  handled_there a from below =
-      (omega (arith, reach.from, from, layout.data_begins), omega (arith, reach.from, reach.below, below, layout.data_begins))
+  handled_there a from below = (omega (arith, reach.from, from), omega (arith, reach.to, below, layout.window_begins))
 
   -- all of its bytes lie where faults are handled
   pub handled : (d : Core) (x : Register) → (number x ≡ 4 → ⊥) → d.registers (number x) ≡ value p g rs1 → Kept c d → Handled (address d (data_address x (word imm)))
@@ -157,11 +172,11 @@ two_few None (Some k) r1 r2 = omega arith
 two_few (Some q) None r1 r2 = omega arith
 two_few (Some q) (Some k) r1 r2 = omega arith
 
--- an access that lies in data and guard zones is one of an instruction whose faults are handled
-handled_by : (p : Part) (l : Layout) (t : Text) (access : Native) (d : Core) (span : Span) → t.handled ≡ guarded_data p.data_size l → accessed access d ≡ Some span
-    → LiesIn (IsIn (guarded_data p.data_size l)) (Some span) → IsHandled t.handled (accessed access d)
-handled_by p l t access d span zones is lies =
-    subst (λ own. IsHandled own (accessed access d)) (sym zones) (subst (λ own. IsHandled (guarded_data p.data_size l) own) (sym is) lies)
+-- an access that lies in the window is one of an instruction whose faults are handled
+handled_by : (p : Part) (l : Layout) (t : Text) (access : Native) (d : Core) (span : Span) → t.handled ≡ window p l → accessed access d ≡ Some span
+    → LiesIn (IsIn (window p l)) (Some span) → IsHandled t.handled (accessed access d)
+handled_by p l t access d span there is lies =
+    subst (λ own. IsHandled own (accessed access d)) (sym there) (subst (λ own. IsHandled (window p l) own) (sym is) lies)
 
 -- Behind code that only changes free registers, an instruction that faults goes on by its fixup, which subtracts what is owed.
 module _ (p : Part) (l : Layout) (t : Text) (at : ℕ) (f : Fixup) (g : Going) (owed address : ℕ) (below : CountsBelow g owed 0) (subtracts : f.subtracted ≡ owed) where
@@ -213,10 +228,10 @@ faulting_lines_run target p code rest address size (Load kind rd rs1 imm) distan
     let it = goes_on p l t at f g n address below subtracts front back load c first.core stands
     (straight_runs front c first.core first.straight first.runs) first.kept
     (λ after. load_faults kind (result_in place) to after first.core
-    (faults p l here.layout (owing n g) c here.related here.guards (load_size kind) (load_sized kind).some rs1 imm range.2 access first.core x index first.result first.kept))
+    (faults p l here.layout (owing n g) c here.related here.closed (load_size kind) (load_sized kind).some rs1 imm range.2 access first.core x index first.result first.kept))
     (read_few o rs1) has
     (handled_by p l t load first.core _ here.faults_are_handled (load_access kind (result_in place) to first.core)
-    (handled p l here.layout (owing n g) c here.related here.guards (load_size kind) (load_sized kind).some rs1 imm range.2 access first.core x index first.result first.kept)) in
+    (handled p l here.layout (owing n g) c here.related here.closed (load_size kind) (load_sized kind).some rs1 imm range.2 access first.core x index first.result first.kept)) in
     rw access.tested (it.leads, it.edx)
 faulting_lines_run target p code rest address size (Store width rs1 rs2 imm) distance out f l t at g c range below access here has subtracts =
     let o1 = assigned l.plan rs1 in
@@ -240,9 +255,9 @@ faulting_lines_run target p code rest address size (Store width rs1 rs2 imm) dis
     let it = goes_on p l t at f g n address below subtracts (one ++ two) last store c d stands
     (runs_join one two c first.core d (straight_runs one c first.core first.straight first.runs) (straight_runs two first.core d second.straight second.runs)) kept
     (λ after. store_faults width to y after d
-    (faults p l here.layout (owing n g) c here.related here.guards (store_size width) (store_sized width).some rs1 imm range.2 access d x index in_x kept))
+    (faults p l here.layout (owing n g) c here.related here.closed (store_size width) (store_sized width).some rs1 imm range.2 access d x index in_x kept))
     (two_few o1 o2 rs1 rs2) has
     (handled_by p l t store d _ here.faults_are_handled (store_access width to y d)
-    (handled p l here.layout (owing n g) c here.related here.guards (store_size width) (store_sized width).some rs1 imm range.2 access d x index in_x kept)) in
+    (handled p l here.layout (owing n g) c here.related here.closed (store_size width) (store_sized width).some rs1 imm range.2 access d x index in_x kept)) in
     rw access.tested (it.leads, it.edx)
 faulting_lines_run target p code rest address size i distance out f l t at g c range below access here has subtracts = absurd access

@@ -18,7 +18,7 @@ use Rattle.sfi_native.specs.Code.{count, leave_code, leave_line}
 use Rattle.sfi_native.proofs.Fetching.{related_kept}
 use Rattle.sfi_native.proofs.Counted.{before, behind as reaches_behind, ends, it, none_few}
 use Rattle.sfi_native.proofs.Counting.{counted_core, counted_related, counted_stay}
-use Rattle.sfi_native.proofs.Kept.{guards_kept, kept_register, others_join, others_kept}
+use Rattle.sfi_native.proofs.Kept.{closed_kept, kept_register, others_join, others_kept}
 use Rattle.sfi_native.proofs.Runs.{back_fixed, back_stands, end_append, jal_effect, jumps_to, straight_runs, then_reaches}
 
 -- A line that goes out always.
@@ -106,7 +106,7 @@ module _ (p : Part) (l : Layout) (t : Text) (from at owed out : ℕ) (few : owed
         faults_are_handled = here.faults_are_handled;
         stands = back_stands t from front (leave_code at out) c d here.text_is_fixed here.text_is_low here.stands runs;
         related = counted_related p l here.layout (owing owed g) c here.related (g.left + 0) r.result r.flags less fits;
-        guards = guards_kept p l here.layout c d stay here.guards;
+        closed = closed_kept p l here.layout c d stay here.closed;
       } in
       let end : end_of place (leave_code at out) ≡ end_of from end_line = end_append from front (leave_code at out) in
       let last = leaves p l t place at out (owing 0 g) d own (ap (λ a. is_canonical (jumped a out)) end ∙ canonical) in

@@ -11,13 +11,13 @@ use Rattle.x86_step.specs.Step.{unknown}
 use Rattle.x86_step.specs.Running.{spellings}
 use Rattle.sfi_native.specs.declared.layout.Layout.{Layout}
 use Rattle.sfi_native.specs.Laws.{EachCodeCanBeRun}
-use Rattle.sfi_native.specs.Layout.{DoNotMeet, GuardsAreEmpty, Holds, IsLayout, IsRelated, frame_size, guarded_data, origin, slots_size, value}
+use Rattle.sfi_native.specs.Layout.{DoNotMeet, IsClosed, Holds, IsLayout, IsRelated, frame_size, window, origin, slots_size, value}
 use Rattle.sfi_native.specs.Registers.{IsRightPlan, assigned}
 use Rattle.sfi_native.proofs.Assigned.{has_value, not_assigned, other_register, with_values}
-use Rattle.sfi_native.proofs.Kept.{outside_slots}
+use Rattle.sfi_native.proofs.Kept.{beside_frame, outside_slots}
 use Rattle.sfi_native.proofs.Memory.{number_of_bytes}
 
-module _ (p : Part) (l : Layout) (g : Going) (layout : IsLayout p.data_size l) where
+module _ (p : Part) (l : Layout) (g : Going) (layout : IsLayout p l) where
   abbrev pub in_frame : ℕ → Bool
   in_frame a = nat_le l.frame a && nat_lt a (l.frame + slots_size)
 
@@ -63,8 +63,8 @@ module _ (p : Part) (l : Layout) (g : Going) (layout : IsLayout p.data_size l) w
 
   pub apart : (k : ℕ) → k < p.data_size → in_frame (l.data_start + k) ≡ false
   apart k small = frame_lacks (l.data_start + k) (elim layout.apart [
-    | inl above ↦ inr (omega (arith, above, layout.data_begins))
-    | inr below ↦ inl (omega (arith, below, small, layout.data_begins))
+    | inl above ↦ inr (omega (arith, above, layout.window_begins))
+    | inr below ↦ inl (omega (arith, below, small, layout.window_begins))
   ])
 
   byte_is : (k a : ℕ) → k < slots_size → a ≡ l.frame + k → bytes a ≡ Some (frame_byte k)
@@ -119,26 +119,18 @@ module _ (p : Part) (l : Layout) (g : Going) (layout : IsLayout p.data_size l) w
     | inr e ↦ rw e refl
   ]
 
-  guards_lack : (a : ℕ) → in_data a ≡ false → l.data_start ≤ a + 4096 → a < l.data_start + p.data_size + 4096 → bytes a ≡ None
-  guards_lack a none from below =
-      let lacks : in_frame a ≡ false = frame_lacks a (elim layout.apart [
-        | inl above ↦ inr (omega (arith, above, from, layout.data_begins))
-        | inr under ↦ inl (omega (arith, under, below, layout.data_begins))
-      ]) in
+  held_closed : IsClosed p l held
+  held_closed a is outside =
+      let lacks : in_frame a ≡ false = frame_lacks a (outside_slots a l.frame (beside_frame p l layout a is)) in
+      let none : in_data a ≡ false = data_lacks a outside in
       rw (lacks, none) refl
-
-  held_guards : GuardsAreEmpty p.data_size l held
-  held_guards = record {
-    below = λ a from under. guards_lack a (data_lacks a (inl under)) from (omega (arith, under));
-    above = λ a from under. guards_lack a (data_lacks a (inr from)) (omega (arith, from)) under;
-  }
 
   beside : (at n b m a : ℕ) → DoNotMeet at n b m → at ≤ a → a < at + n → (a < b) ⊎ (b + m ≤ a)
   beside at n b m a (inl before) low high = inl (omega (arith, before, high))
   beside at n b m a (inr after) low high = inr (omega (arith, after, low))
 
   fixed_is : (bytes : List ℕ) (fixups : ℕ → Option Fixup) (at : ℕ) → at + length bytes < 2 ^ 64 → DoNotMeet at (length bytes) l.frame frame_size → DoNotMeet at (length bytes) l.data_start p.data_size
-      → IsFixed (record { base = at; bytes = bytes; fixups = fixups; handled = guarded_data p.data_size l }) held
+      → IsFixed (record { base = at; bytes = bytes; fixups = fixups; handled = window p l }) held
   fixed_is bytes fixups at ends frame data_apart = record {
     ends = ends;
     apart = λ a low high.
@@ -157,6 +149,6 @@ each_code_can_be_run is fixups at p l g layout count words few ends frame data_a
     faults_are_handled = refl;
     stands = record { before = []; after = []; bytes_are = sym (append-nil (spellings is)); at_is = omega arith };
     related = held_is p l g layout count words few;
-    guards = held_guards p l g layout;
+    closed = held_closed p l g layout;
   },
 )

@@ -2,7 +2,6 @@
 use Rattle.std.proofs.Common.{◌/◌, ◌≡◌, ℕ, ◌+◌, ◌-◌, ◌*◌, ◌<◌, ◌≤◌, ◌⊎◌, inl, inr, List, length, refl, sym, ap, ◌∙◌, subst, arith, ⊎_elim}
 use Rattle.rv_step.specs.State.{register}
 use Rattle.sfi_formats.specs.Formats.{unit}
-use Rattle.sfi_formats.specs.Limits.{guard}
 use Rattle.sfi_image.specs.Spelling.{Part}
 use Rattle.sfi_translate.specs.Lines.{Line}
 use Rattle.sfi_translate.specs.Machine.{Assembly, Before, ControlPoint, Going, IsTranslatedStepAt, Lost, Loop, Slow, Stopped}
@@ -12,7 +11,7 @@ use Rattle.x86_step.specs.State.{Core, number_at, Machine, Text}
 use Rattle.sfi_native.specs.declared.layout.Layout.{Layout}
 use Rattle.sfi_native.specs.Registers.{assigned}
 use Rattle.sfi_native.specs.declared.plan.Plan.{Plan}
-use Rattle.sfi_native.specs.Layout.{Holds, IsLayout, IsOutside, OthersStay, frame_size, slots_size}
+use Rattle.sfi_native.specs.Layout.{Holds, IsLayout, IsOutside, OthersStay, frame_size, slots_size, window}
 use Rattle.sfi_native.specs.Laws.{IsBefore}
 use Rattle.sfi_native.specs.Host.{Host, HostMoves, HostReads, IsHosts, IsInCode, Serves, Spares, SparesMemory, arrives, makes}
 use Rattle.sfi_native.specs.Places.{IsAt, IsAtPlace, end_address, exit_of, owed_there, whole_code, with_owed}
@@ -70,7 +69,7 @@ one_way p code g h k (makes _ a _ is step more) (makes _ b _ too other others) =
 -- ==== What stays.
 
 module _ (p : Part) (l : Layout) (own : ℕ → Type 0) where
-  pub spares_others : IsLayout p.data_size l → (c d : Core) → OthersStay p l c d → Spares p l own c d
+  pub spares_others : IsLayout p l → (c d : Core) → OthersStay p l c d → Spares p l own c d
   spares_others layout c d stay = record {
     pointers = pointers_stay p l layout c d stay;
     memory = record { elsewhere = λ a not_own by_frame by_data. stay.elsewhere a (outside_slots a l.frame by_frame) by_data; writable = λ a not_own. ap (λ w. w a) stay.writable };
@@ -111,7 +110,6 @@ module _ (p : Part) (code : List Line) (l : Layout) (t : Text) (base table_at : 
     pub ready_on : (g k : Going) (m n : Machine) → Ready g m → Serves p l base code host.own k m n → host.relies n.core → Ready k n
     ready_on g k m n here it relies =
         let layout = here.stands.layout in
-        let low = layout.data_begins in
         let spares = it.spares in
         let own = here.apart in
         let has = here.table in
@@ -136,14 +134,9 @@ module _ (p : Part) (code : List Line) (l : Layout) (t : Text) (base table_at : 
             faults_are_handled = here.stands.faults_are_handled;
             stands = here.stands.stands;
             related = it.related;
-            guards = record {
-              below = λ a from under.
-                  spares.memory.elsewhere a (λ is. inside a (l.data_start - guard) (p.data_size + 2 * guard) (omega (arith, from, low)) (omega (arith, under, low)) (own.own_from_zones a is))
-                  (beside_frame p l layout a from (omega (arith, under))) (inl under) ∙ here.stands.guards.below a from under;
-              above = λ a from under.
-                  spares.memory.elsewhere a (λ is. inside a (l.data_start - guard) (p.data_size + 2 * guard) (omega (arith, from, low)) (omega (arith, under, low)) (own.own_from_zones a is))
-                  (beside_frame p l layout a (omega (arith, from)) under) (inr from) ∙ here.stands.guards.above a from under;
-            };
+            closed = λ a is outside.
+                spares.memory.elsewhere a (λ its. inside a (window p l).at (window p l).size is.0 is.1 (own.own_from_window a its))
+                (beside_frame p l layout a is) outside ∙ here.stands.closed a is outside;
           };
           table = record {
             table = has.table;

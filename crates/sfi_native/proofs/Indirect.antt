@@ -52,7 +52,7 @@ target_is a imm small =
 target_fits : (a : ℕ) (imm : ℤ) → even_of (offset_by a imm) < 2 ^ 32
 target_fits a imm = omega (arith, offset_is a imm)
 
-module _ (p : Part) (l : Layout) (layout : IsLayout p.data_size l) (g : Going) (c : Core) (is : IsRelated p l g c) where
+module _ (p : Part) (l : Layout) (layout : IsLayout p l) (g : Going) (c : Core) (is : IsRelated p l g c) where
   pub record Targets (rs1 : ℕ) (imm : ℤ) : Type 0 where
     pub core : Core
     pub runs : exec (target_code l.plan rs1 (word imm)) c ≡ Ok core
@@ -77,7 +77,7 @@ module _ (p : Part) (l : Layout) (layout : IsLayout p.data_size l) (g : Going) (
 
 -- ==== From the target in edx on.
 
-module _ (p : Part) (l : Layout) (layout : IsLayout p.data_size l) (base : ℕ) (code : List Line) (lie : LieInCode p code) (t : Text) (low_text : IsLow t) (in_reach : base + exit_of l.plan code < 2 ^ 47) (k : Going) (few : k.left < 2 ^ 31) where
+module _ (p : Part) (l : Layout) (layout : IsLayout p l) (base : ℕ) (code : List Line) (lie : LieInCode p code) (t : Text) (low_text : IsLow t) (in_reach : base + exit_of l.plan code < 2 ^ 47) (k : Going) (few : k.left < 2 ^ 31) where
   module _ (d : Core) (is : IsRelated p l (owing 0 k) d) (has : HasTable p l base code d) (to : ℕ) (edx : d.registers 2 ≡ to) (fits : to < 2 ^ 32)
       (at distance : ℕ) (ahead : distance + (start_size + enter_size) < 2 ^ 31) where
     abbrev steps_end : ℕ
@@ -103,7 +103,7 @@ module _ (p : Part) (l : Layout) (layout : IsLayout p.data_size l) (base : ℕ) 
       pub target : after.registers 2 ≡ to
 
     -- out, with nothing owed
-    goes_out : (most place : ℕ) (e : Core) → most ≤ 12 → Reaches t most (record { rip = at; core = d }) (record { rip = place; core = e }) → Kept d e → e.registers 2 ≡ to → IsLayout p.data_size l → Goes place 0
+    goes_out : (most place : ℕ) (e : Core) → most ≤ 12 → Reaches t most (record { rip = at; core = d }) (record { rip = place; core = e }) → Kept d e → e.registers 2 ≡ to → IsLayout p l → Goes place 0
     goes_out most place e fewer reached kept same right = record {
       after = e;
       reached = in_more t most 12 _ _ fewer reached;

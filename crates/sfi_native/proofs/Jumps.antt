@@ -32,7 +32,7 @@ use Rattle.sfi_native.specs.Code.{branch_jump, compare_code, count, has_test, is
 use Rattle.sfi_native.specs.Registers.{assigned}
 use Rattle.sfi_native.proofs.Assigned.{free, holds_on, not_left}
 use Rattle.sfi_native.proofs.Arithmetic.{low_is, met_is, unmet_is}
-use Rattle.sfi_native.proofs.Kept.{guards_kept, kept_flags, others_join, others_kept, others_same}
+use Rattle.sfi_native.proofs.Kept.{closed_kept, kept_flags, others_join, others_kept, others_same}
 use Rattle.sfi_native.proofs.Counting.{counts, related_as}
 use Rattle.sfi_native.proofs.Runs.{Runs, back_fixed, back_stands, branch_effect, end_append, falls, jumps_to, runs_join, skipped, straight_runs, then_reaches}
 use Rattle.sfi_native.proofs.Tested.{jumps_by_test, tested_few}
@@ -42,7 +42,7 @@ use Rattle.sfi_native.proofs.Lengths.{branch_few, compare_few, number_few}
 
 -- ==== A branch.
 
-module _ (p : Part) (l : Layout) (layout : IsLayout p.data_size l) where
+module _ (p : Part) (l : Layout) (layout : IsLayout p l) where
   -- where the turn is doesn't matter
   replaced : (registers : List ℕ) (m : Bytes) (left from to : ℕ) (place next : ControlPoint) (d : Core)
       → IsRelated p l (record { place = place; state = record { hart = fixed p (record { pc = from; registers = registers }); memory = m }; left = left }) d
@@ -191,7 +191,7 @@ module _ (p : Part) (l : Layout) (t : Text) (at : ℕ) (front : List Native) (co
         faults_are_handled = here.faults_are_handled;
         stands = back_stands t at (front ++ (skip ∷ [])) (tested_jump owed j) c d here.text_is_fixed here.text_is_low whole to_jump;
         related = is;
-        guards = guards_kept p l here.layout c d stay here.guards;
+        closed = closed_kept p l here.layout c d stay here.closed;
       } in
       let it = jumps_by_test t p l j k below from owed (omega (arith, few)) d own (subst (λ a. IsJump a j) (sym end_is) jump) in
       record {
@@ -256,7 +256,7 @@ jal_lines_run target p code rest address size owed rd offset j l t at g c range 
       faults_are_handled = here.faults_are_handled;
       stands = back_stands t at front (tested_jump (owed + 1) j) c done here.text_is_fixed here.text_is_low here.stands number.runs;
       related = related_as p l _ done k.place (one_less g.left + (owed + 1)) number.related same;
-      guards = guards_kept p l here.layout c done number.others here.guards;
+      closed = closed_kept p l here.layout c done number.others here.closed;
     } in
     let it = jumps_by_test t p l j k left from (owed + 1) (omega (arith, below.few)) done own (subst (λ a. IsJump a j) (sym end_is) jump) in (
       record {

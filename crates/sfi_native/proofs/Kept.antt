@@ -1,13 +1,12 @@
 -- What code keeps that computes a value.
 use Rattle.std.proofs.Common.{◌≡◌, ℕ, ◌+◌, ◌<◌, ◌≤◌, List, ◌++◌, refl, ap, ◌∙◌, arith, inl, inr}
 use Rattle.std.proofs.lemmas.Bool.{ne_eqb}
-use Rattle.sfi_formats.specs.Limits.{guard}
 use Rattle.sfi_image.specs.Spelling.{Part}
 use Rattle.x86_instr.specs.declared.instr.Instr.{Instr as Native}
 use Rattle.x86_step.specs.declared.machine.Flags.{Flags}
-use Rattle.x86_step.specs.State.{Core, updated, with_flags, with_register}
+use Rattle.x86_step.specs.State.{Core, IsIn, updated, with_flags, with_register}
 use Rattle.sfi_native.specs.declared.layout.Layout.{Layout}
-use Rattle.sfi_native.specs.Layout.{GuardsAreEmpty, IsLayout, IsOutside, OthersStay, frame_size, slots_size}
+use Rattle.sfi_native.specs.Layout.{IsClosed, IsLayout, IsOutside, OthersStay, frame_size, slots_size, window}
 use Rattle.sfi_native.proofs.Runs.{Runs, runs_join}
 
 -- eax, ecx, edx and the flags may differ
@@ -35,26 +34,23 @@ module _ (p : Part) (l : Layout) where
   pub others_same : (c : Core) → OthersStay p l c c
   others_same c = record { others = λ k more not_left apart. refl; elsewhere = λ a by_frame by_data. refl; writable = refl }
 
-  pub beside_frame : IsLayout p.data_size l → (a : ℕ) → l.data_start ≤ a + guard → a < l.data_start + p.data_size + guard → IsOutside a l.frame frame_size
-  beside_frame layout a from below = elim layout.apart [
-    | inl above ↦ inr (omega (arith, above, from, layout.data_begins))
-    | inr under ↦ inl (omega (arith, under, below, layout.data_begins))
+  pub beside_frame : IsLayout p l → (a : ℕ) → IsIn (window p l) a → IsOutside a l.frame frame_size
+  beside_frame layout a is = elim layout.apart [
+    | inl above ↦ let low = is.0 in inr (omega (arith, above, low))
+    | inr under ↦ let high = is.1 in inl (omega (arith, under, high))
   ]
 
-  pub guards_kept : IsLayout p.data_size l → (c d : Core) → OthersStay p l c d → GuardsAreEmpty p.data_size l c → GuardsAreEmpty p.data_size l d
-  guards_kept layout c d stay empty = record {
-    below = λ a from under. stay.elsewhere a (outside_slots a l.frame (beside_frame layout a from (omega (arith, under)))) (inl under) ∙ empty.below a from under;
-    above = λ a from under. stay.elsewhere a (outside_slots a l.frame (beside_frame layout a (omega (arith, from)) under)) (inr from) ∙ empty.above a from under;
-  }
+  pub closed_kept : IsLayout p l → (c d : Core) → OthersStay p l c d → IsClosed p l c → IsClosed p l d
+  closed_kept layout c d stay closed a is outside = stay.elsewhere a (outside_slots a l.frame (beside_frame layout a is)) outside ∙ closed a is outside
 
   -- what lies behind the frame's registers is no data, and stays
-  pub behind_slots : IsLayout p.data_size l → (k : ℕ) → k < frame_size → IsOutside (l.frame + k) l.data_start p.data_size
+  pub behind_slots : IsLayout p l → (k : ℕ) → k < frame_size → IsOutside (l.frame + k) l.data_start p.data_size
   behind_slots layout k small = elim layout.apart [
-    | inl above ↦ inl (omega (arith, above, small, layout.data_begins))
-    | inr under ↦ inr (omega (arith, under, layout.data_begins))
+    | inl above ↦ inl (omega (arith, above, small, layout.window_begins))
+    | inr under ↦ inr (omega (arith, under, layout.window_begins))
   ]
 
-  pub pointers_stay : IsLayout p.data_size l → (c d : Core) → OthersStay p l c d → (k : ℕ) → slots_size ≤ k → k < frame_size → d.memory (l.frame + k) ≡ c.memory (l.frame + k)
+  pub pointers_stay : IsLayout p l → (c d : Core) → OthersStay p l c d → (k : ℕ) → slots_size ≤ k → k < frame_size → d.memory (l.frame + k) ≡ c.memory (l.frame + k)
   pointers_stay layout c d stay k behind small = stay.elsewhere (l.frame + k) (inr (omega (arith, behind))) (behind_slots layout k small)
 
 pub kept_join : (c d e : Core) → Kept c d → Kept d e → Kept c e

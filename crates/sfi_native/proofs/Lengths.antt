@@ -28,7 +28,7 @@ unfoldable use Rattle.sfi_native.specs.Code.{computation, compute, compute_imm, 
 use Rattle.sfi_native.specs.Code.{are_exchanged, beside_code, bring, combine, compare_code, computing_line, count, data_address, ecx_code, fetch, has_test, imm_code, is_number, keeps_beside_zero, lies_in, load_code, load_from, load_line, needs_ecx, number_code, op_code, op_imm_code, operand_of, place_beside, place_code, read, register_or, result_in, settle, store_code, store_eax, store_line, store_to, target_code, test_code, tested_jump, unless, write}
 
 write_few : (plan : Plan) (r : ℕ) → length (write plan r) ≤ 1
-write_few plan r = cond_both (is_fixed r) [] (store_eax (assigned plan r) r ∷ []) (λ (is : List Native). length is ≤ 1) (λ e. omega arith) (λ e. omega arith)
+write_few plan r = cond_both (is_fixed plan.format r) [] (store_eax (assigned plan r) r ∷ []) (λ (is : List Native). length is ≤ 1) (λ e. omega arith) (λ e. omega arith)
 
 settle_few : (plan : Plan) (place : Option Register) (rd : ℕ) → length (settle plan place rd) ≤ 1
 settle_few plan (Some q) rd = omega arith

@@ -53,7 +53,7 @@ store_straight None rd = refl
 store_straight (Some q) rd = refl
 
 pub write_straight : (plan : Plan) (rd : ℕ) → are_straight (write plan rd) ≡ true
-write_straight plan rd = elim (cases_Bool (is_fixed rd)) [ inl e ↦ rw e refl | inr e ↦ rw e (store_straight (assigned plan rd) rd) ]
+write_straight plan rd = elim (cases_Bool (is_fixed plan.format rd)) [ inl e ↦ rw e refl | inr e ↦ rw e (store_straight (assigned plan rd) rd) ]
 
 first_true : (a b : Bool) → a && b ≡ true → a ≡ true
 first_true true b both = refl
@@ -82,18 +82,18 @@ comes_join p l c is js g k one two = record {
 }
 
 -- steps are counted
-pub count_comes : (p : Part) (l : Layout) → IsLayout p.data_size l → (c : Core) (g : Going) (owed next left : ℕ) → g.left ≡ left + owed → left + next < 2 ^ 32 → owed < 2 ^ 31 → next < 2 ^ 31
+pub count_comes : (p : Part) (l : Layout) → IsLayout p l → (c : Core) (g : Going) (owed next left : ℕ) → g.left ≡ left + owed → left + next < 2 ^ 32 → owed < 2 ^ 31 → next < 2 ^ 31
     → IsRelated p l g c → Comes (count owed next) p l c (having (left + next) g)
 count_comes p l layout c g owed next left has fits few few_next is =
     let it = counts p l layout g c is owed next left has fits few few_next in
     record { core = it.core; runs = straight_runs (count owed next) c it.core it.straight it.runs; related = it.related; others = it.stay }
 
-pub then_count : (p : Part) (l : Layout) → IsLayout p.data_size l → (c : Core) (is : List Native) (g : Going) (owed next left : ℕ) → g.left ≡ left + owed → left + next < 2 ^ 32 → owed < 2 ^ 31 → next < 2 ^ 31
+pub then_count : (p : Part) (l : Layout) → IsLayout p l → (c : Core) (is : List Native) (g : Going) (owed next left : ℕ) → g.left ≡ left + owed → left + next < 2 ^ 32 → owed < 2 ^ 31 → next < 2 ^ 31
     → Comes is p l c g → Comes (is ++ count owed next) p l c (having (left + next) g)
 then_count p l layout c is g owed next left has fits few few_next come =
     comes_join p l c is (count owed next) g (having (left + next) g) come (count_comes p l layout come.core g owed next left has fits few few_next come.related)
 
-module _ (p : Part) (l : Layout) (layout : IsLayout p.data_size l) (g : Going) (c : Core) (is : IsRelated p l g c) (place : ControlPoint) (pc : ℕ) where
+module _ (p : Part) (l : Layout) (layout : IsLayout p l) (g : Going) (c : Core) (is : IsRelated p l g c) (place : ControlPoint) (pc : ℕ) where
   -- the hart after a value goes to rd
   abbrev pub hart_with : ℕ → ℕ → Hart
   hart_with rd v = fixed p (with_value (with_pc (fixed p g.state.hart) pc) rd v)
@@ -311,7 +311,7 @@ module _ (p : Part) (l : Layout) (layout : IsLayout p.data_size l) (g : Going) (
   pub none_comes : IsRelated p l (turn_with 0 0 g.left) c
   none_comes = unwritten p l layout g c place 0 0 (hart_with 0 0) is (hart_written p g is.register_count pc 0 0 (omega arith)) refl
 
-module _ (target : Target) (p : Part) (code rest : List Line) (at n owed next : ℕ) (l : Layout) (layout : IsLayout p.data_size l) (g : Going) (below : CountsBelow g owed next) (c : Core) (is : IsRelated p l (owing owed g) c) where
+module _ (target : Target) (p : Part) (code rest : List Line) (at n owed next : ℕ) (l : Layout) (layout : IsLayout p l) (g : Going) (below : CountsBelow g owed next) (c : Core) (is : IsRelated p l (owing owed g) c) where
   -- the step that is done counts with those that are owed
   pub then_counted : (by : List Native) (k : Going) → k.left ≡ g.left + owed → Comes by p l c k → Comes (by ++ count (owed + 1) next) p l c (having (one_less g.left + next) k)
   then_counted by k same come =

@@ -59,7 +59,7 @@ load_straight : (kind : LoadKind) (dst : Register) (a : Address) → are_straigh
 load_straight Lb dst a = refl
 load_straight _ dst a = refl
 
-module _ (p : Part) (l : Layout) (layout : IsLayout p.data_size l) (g : Going) (c : Core) (is : IsRelated p l g c) (room : HasGuardRoom p.data_base p.data_size) (memory : IsMemory g.state.memory) (kind : LoadKind) (few : load_size kind ≤ p.data_size) (rs1 : ℕ) (imm : ℤ) (v : ℕ) (small : rs1 < 32) (range : IsImm12 imm)
+module _ (p : Part) (l : Layout) (layout : IsLayout p l) (g : Going) (c : Core) (is : IsRelated p l g c) (room : HasGuardRoom p.data_base p.data_size) (memory : IsMemory g.state.memory) (kind : LoadKind) (few : load_size kind ≤ p.data_size) (rs1 : ℕ) (imm : ℤ) (v : ℕ) (small : rs1 < 32) (range : IsImm12 imm)
     (tested : is_tested p (offset_by (value p g rs1) imm) (load_size kind) ≡ true) (reads_it : read_at g.state.memory (offset_by (value p g rs1) imm) (load_size kind) ≡ Some v) where
   abbrev at : ℕ
   at = offset_by (value p g rs1) imm
@@ -89,7 +89,7 @@ module _ (p : Part) (l : Layout) (layout : IsLayout p.data_size l) (g : Going) (
       let place = place_is p l layout g c is room n (load_sized kind).some few rs1 imm range tested d x first.kept (not_frame l.plan layout.plan_is_right rs1 base refl Rax (omega arith)) first.result in
       let load : loaded d n (address d to) ≡ Ok v =
       ap (loaded d n) place
-      ∙ load_there d n (l.data_start + (at - p.data_base)) v (omega (arith, inside.1, layout.data_ends)) (ap (λ m. number_at m n (l.data_start + (at - p.data_base))) first.kept.memory ∙ there) in
+      ∙ load_there d n (l.data_start + (at - p.data_base)) v (omega (arith, inside.1, layout.window_ends)) (ap (λ m. number_at m n (l.data_start + (at - p.data_base))) first.kept.memory ∙ there) in
       let after = with_register d (number dst) (extended kind v) in
       record {
         after = after;

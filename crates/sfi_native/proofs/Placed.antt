@@ -179,7 +179,7 @@ module _ (p : Part) (code rest to : List Line) (l : Layout) (t : Text) (base owe
       stands = back_stands t (base + start l.plan code (line ∷ rest)) (padding l.plan line) (placed_bare l.plan code rest line) c c here.text_is_fixed here.text_is_low
           (line_stands l.plan t code base lines_stand line rest last) (padding_runs l.plan line c);
       related = subst (λ n. IsRelated p l (owing n g) c) same here.related;
-      guards = here.guards;
+      closed = here.closed;
     }
 
     ends : end_of place (placed_bare l.plan code rest line) ≡ base + start l.plan code rest
@@ -261,7 +261,7 @@ module _ (p : Part) (code rest to : List Line) (l : Layout) (t : Text) (base owe
         text_is_low = here.text_is_low;
         stands = has_front t behind (spellings leave) (spellings (indirect_jump 0)) end_stands;
         related = subst (λ n. IsRelated p l (owing n g) c) same here.related;
-        guards = here.guards;
+        closed = here.closed;
         faults_are_handled = here.faults_are_handled;
       } in
       let out : jumped (end_of behind leave) indirect_jump_size ≡ base + exit_of l.plan code = omega (arith, low_end, front_length (end_address p) end_owed (owed_few l.plan (end_address p))) in

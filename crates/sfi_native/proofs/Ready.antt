@@ -1,6 +1,6 @@
--- The lines that a turn comes to are ready: an access lies in the data, or touches a guard zone.
-use Rattle.std.proofs.Common.{◌≡◌, ℕ, ◌+◌, ◌-◌, ◌%◌, ◌^◌, ◌<◌, ◌≤◌, ◌⊎◌, Bool, true, false, refl, sym, ap, subst, arith, inl, inr, ◌∙◌}
-use Rattle.sfi_formats.proofs.Formats.{two_steps}
+-- The lines that a turn comes to are ready: an access lies in the data, or misses them in the window.
+use Rattle.std.proofs.Common.{if◌then◌else◌, ◌≡◌, ℕ, ◌+◌, ◌-◌, ◌%◌, ◌^◌, ◌<◌, ◌≤◌, ◌⊎◌, Bool, true, false, refl, sym, ap, subst, arith, inl, inr, ◌∙◌}
+use Rattle.sfi_formats.specs.Formats.{has_single_mask}
 use Rattle.std.proofs.lemmas.Bool.{false≢true}
 use Rattle.std.specs.Prelude.{ℤ, pos, negsuc, int_le, ◌+ℤ◌}
 use Rattle.std.proofs.lemmas.Int.{ints}
@@ -15,63 +15,93 @@ use Rattle.rv_mem.proofs.Facts.{addresses_are_these}
 use Rattle.rv_step.specs.State.{Hart, register}
 use Rattle.rv_step.specs.Step.{load_size, store_size}
 use Rattle.sfi_image.specs.Spelling.{Part, IsNear, IsNearIn, data_region}
-use Rattle.sfi_image.specs.Parts.{IsRightPart}
+use Rattle.sfi_image.specs.Parts.{HasGuardRoom, IsRightPart}
 use Rattle.sfi_image.proofs.Formats.{data_at_most}
 use Rattle.sfi_safe_runs.specs.Runs.{InData, InGuard}
 use Rattle.sfi_safe_runs.proofs.Accessing.{load_range, load_sized, store_range, store_sized}
 use Rattle.sfi_translate.specs.Machine.{Going, fixed, is_tested}
 use Rattle.sfi_translate.specs.Ready.{AccessesSafely, IsSafeAccess}
+unfoldable use Rattle.sfi_native.specs.Layout.{closed_above, closed_below}
 use Rattle.sfi_native.specs.Layout.{value}
-use Rattle.sfi_native.specs.Laws.{Accesses, IsInData, TouchesGuards}
+use Rattle.sfi_native.specs.Laws.{Accesses, IsInData, MissesData}
 use Rattle.sfi_native.proofs.Accessing.{negative_small, positive_small}
 
--- ==== An access that stays near the data doesn't wrap.
+-- ==== An access near the data, or anywhere in 32 bits, stays in a window.
+
+-- the access lies where so many bytes are closed below the data, and so many above
+abbrev Stays : ℕ → ℕ → ℕ → ℕ → ℕ → ℕ → ℤ → Type 0
+Stays base size below above n value offset =
+    (int_le (pos base) (pos value +ℤ offset +ℤ pos below) ≡ true) × (int_le (pos value +ℤ offset +ℤ pos n) (pos (base + size + above)) ≡ true)
 
 -- the address lies in the data or in a guard zone
-abbrev pub IsAround : ℕ → ℕ → ℕ → Type 0
+abbrev IsAround : ℕ → ℕ → ℕ → Type 0
 IsAround base size a = (base ≤ a + 4096) × (a < base + size + 4096)
 
 by_cases : (t : Bool) → (t ≡ false → ⊥) → t ≡ true
 by_cases true wrong = refl
 by_cases false wrong = absurd (wrong refl)
 
-module _ (base size value n : ℕ) (low : 4096 ≤ base) (high : base + size + 4096 ≤ 2 ^ 32) (most : size ≤ 2 ^ 30) (some : 0 < n) (few : n ≤ 4) (near : IsAround base size value) where
-  pub exact : (offset : ℤ) → IsImm12 offset → IsAround base size (address_after (offset_by value offset) 0) → IsAround base size (address_after (offset_by value offset) (n - 1))
-      → (int_le (pos (base - 4096)) (pos value +ℤ offset) ≡ true) × (int_le (pos value +ℤ offset +ℤ pos n) (pos (base + size + 4096)) ≡ true)
-  exact (pos k) range first last =
+module _ (base size value n : ℕ) (low : 4096 ≤ base) (high : base + size + 4096 ≤ 2 ^ 32) (some : 0 < n) (few : n ≤ 4) where
+  -- near the data it doesn't wrap
+  pub near : (offset : ℤ) → size ≤ 2 ^ 30 → IsAround base size value → IsImm12 offset
+      → IsAround base size (address_after (offset_by value offset) 0) → IsAround base size (address_after (offset_by value offset) (n - 1))
+      → Stays base size 4096 4096 n value offset
+  near (pos k) most lies range first last =
       let small = positive_small k range in
       let at_is : offset_by value (pos k) ≡ (value + k) % 2 ^ 32 = refl in
-      let whole : offset_by value (pos k) ≡ value + k = omega (arith, at_is, small, near.0, near.1, first.0, first.1, high, most) in
+      let whole : offset_by value (pos k) ≡ value + k = omega (arith, at_is, small, lies.0, lies.1, first.0, first.1, high, most) in
       let end : value + k + n ≤ base + size + 4096 = omega (arith, whole, first.0, first.1, last.0, last.1, high, most, some, few) in (
-        by_cases (int_le (pos (base - 4096)) (pos value +ℤ pos k)) (λ e. omega (arith, ints, whole, first.0, e)),
+        by_cases (int_le (pos base) (pos value +ℤ pos k +ℤ pos 4096)) (λ e. omega (arith, ints, whole, first.0, e)),
         by_cases (int_le (pos value +ℤ pos k +ℤ pos n) (pos (base + size + 4096))) (λ e. omega (arith, ints, end, e)),
       )
-  exact (negsuc k) range first last =
+  near (negsuc k) most lies range first last =
       let small = negative_small k range in
       let at_is : offset_by value (negsuc k) ≡ (value + (2 ^ 32 - 1 - k)) % 2 ^ 32 = grind (arith, ints) in
-      let whole : offset_by value (negsuc k) + 1 + k ≡ value = omega (arith, at_is, small, near.0, near.1, first.0, first.1, high, low, most) in
+      let whole : offset_by value (negsuc k) + 1 + k ≡ value = omega (arith, at_is, small, lies.0, lies.1, first.0, first.1, high, low, most) in
       let end : value + n ≤ base + size + 4096 + k + 1 = omega (arith, whole, first.0, first.1, last.0, last.1, high, most, some, few) in (
-        by_cases (int_le (pos (base - 4096)) (pos value +ℤ negsuc k)) (λ e. omega (arith, ints, whole, first.0, low, e)),
+        by_cases (int_le (pos base) (pos value +ℤ negsuc k +ℤ pos 4096)) (λ e. omega (arith, ints, whole, first.0, low, e)),
         by_cases (int_le (pos value +ℤ negsuc k +ℤ pos n) (pos (base + size + 4096))) (λ e. omega (arith, ints, end, e)),
+      )
+
+  -- a number of 32 bits and an offset lead less than a guard zone beyond all addresses
+  pub wide : (offset : ℤ) → value < 2 ^ 32 → IsImm12 offset → Stays base size (base + 4096) (2 ^ 32 - (base + size) + 4096) n value offset
+  wide (pos k) fits range =
+      let small = positive_small k range in
+      let end : value + k + n ≤ base + size + (2 ^ 32 - (base + size) + 4096) = omega (arith, small, fits, high, few) in (
+        by_cases (int_le (pos base) (pos value +ℤ pos k +ℤ pos (base + 4096))) (λ e. omega (arith, ints, e)),
+        by_cases (int_le (pos value +ℤ pos k +ℤ pos n) (pos (base + size + (2 ^ 32 - (base + size) + 4096)))) (λ e. omega (arith, ints, end, e)),
+      )
+  wide (negsuc k) fits range =
+      let small = negative_small k range in
+      let end : value + n ≤ base + size + (2 ^ 32 - (base + size) + 4096) + k + 1 = omega (arith, fits, high, few) in (
+        by_cases (int_le (pos base) (pos value +ℤ negsuc k +ℤ pos (base + 4096))) (λ e. omega (arith, ints, small, e)),
+        by_cases (int_le (pos value +ℤ negsuc k +ℤ pos n) (pos (base + size + (2 ^ 32 - (base + size) + 4096)))) (λ e. omega (arith, ints, end, e)),
       )
 
 -- ==== What a turn has before a line is what the line's code asks for.
 
-around : (p : Part) (a : ℕ) → IsRightPart p → InData p a ⊎ InGuard p a → IsAround p.data_base p.data_size a
-around p a right (inl (from, below)) = (omega (arith, from), omega (arith, below))
-around p a right (inr (inl (inl (from, below)))) = (omega (arith, from, right.guard_room.below), omega (arith, below))
-around p a right (inr (inl (inr (from, below)))) = (omega (arith, from), omega (arith, below))
-around p a right (inr (inr zone)) = absurd (false≢true (sym (two_steps p.format) ∙ zone.0))
+-- where a mask has two steps, a byte of an access lies around the data
+around : (p : Part) (a : ℕ) → has_single_mask p.format ≡ false → IsRightPart p → InData p a ⊎ InGuard p a → IsAround p.data_base p.data_size a
+around p a two right (inl (from, below)) = (omega (arith, from), omega (arith, below))
+around p a two right (inr (inl (inl (from, below)))) = (omega (arith, from, right.guard_room.below), omega (arith, below))
+around p a two right (inr (inl (inr (from, below)))) = (omega (arith, from), omega (arith, below))
+around p a two right (inr (inr zone)) = absurd (false≢true (sym two ∙ zone.0))
 
--- a base lies near the data, where a mask has two steps
-near_data : (p : Part) (a : ℕ) → IsNearIn p.format (data_region p) 4096 a → IsNear (data_region p) 4096 a
-near_data p a (inl lies) = lies
-near_data p a (inr zero) = absurd (false≢true (sym (two_steps p.format) ∙ zero.0))
+-- and a base near them
+near_data : (p : Part) (a : ℕ) → has_single_mask p.format ≡ false → IsNearIn p.format (data_region p) 4096 a → IsNear (data_region p) 4096 a
+near_data p a two (inl lies) = lies
+near_data p a two (inr zero) = absurd (false≢true (sym two ∙ zero.0))
+
+-- in each format a base has 32 bits
+near_fits : (p : Part) (a : ℕ) → p.data_size ≤ 2 ^ 30 → HasGuardRoom p.data_base p.data_size → IsNearIn p.format (data_region p) 4096 a → a < 2 ^ 32
+near_fits p a most room (inl lies) = omega (arith, lies.high, room.above)
+near_fits p a most room (inr (single, inl below)) = omega (arith, below, most)
+near_fits p a most room (inr (single, inr above)) = above.1
 
 module _ (p : Part) (g : Going) (right : IsRightPart p) (same : fixed p g.state.hart ≡ g.state.hart) where
-  -- an access to the data, or to a guard zone
+  -- an access to the data, or one that misses them
   abbrev Does : ℕ → ℤ → ℕ → Type 0
-  Does v offset n = (IsInData p (offset_by v offset) n × IsThere g.state.memory (offset_by v offset) n) ⊎ TouchesGuards p v offset n
+  Does v offset n = (IsInData p (offset_by v offset) n × IsThere g.state.memory (offset_by v offset) n) ⊎ MissesData p v offset n
 
   module _ (rs1 : ℕ) (offset : ℤ) (n : ℕ) (some : 0 < n) (few : n ≤ 4) (range : IsImm12 offset) (safe : IsSafeAccess p g.state.memory (register g.state.hart rs1) offset n) where
     abbrev v : ℕ
@@ -80,14 +110,24 @@ module _ (p : Part) (g : Going) (right : IsRightPart p) (same : fixed p g.state.
     fits : n ≤ p.data_size
     fits = let least : 256 ≤ p.data_size = right.data_placed.at_least in omega (arith, few, least)
 
-    at_number : (k : ℕ) → k < n → IsAround p.data_base p.data_size (address_after (offset_by v offset) k)
-    at_number k below = around p _ right (safe.0.each (address_after (offset_by v offset) k) ((addresses_are_these (offset_by v offset) n (address_after (offset_by v offset) k)).1 (k, below, refl)))
+    most : p.data_size ≤ 2 ^ 30
+    most = omega (arith, right.data_placed.at_most, data_at_most p.format)
 
-    stays : (int_le (pos (p.data_base - 4096)) (pos v +ℤ offset) ≡ true) × (int_le (pos v +ℤ offset +ℤ pos n) (pos (p.data_base + p.data_size + 4096)) ≡ true)
-    stays =
-        let from = near_data p v safe.0.from in
-        exact p.data_base p.data_size v n right.guard_room.below right.guard_room.above (omega (arith, right.data_placed.at_most, data_at_most p.format)) some few (from.low, from.high) offset range
-        (at_number 0 some) (at_number (n - 1) (omega (arith, some)))
+    at_number : has_single_mask p.format ≡ false → (k : ℕ) → k < n → IsAround p.data_base p.data_size (address_after (offset_by v offset) k)
+    at_number two k below = around p _ two right (safe.0.each (address_after (offset_by v offset) k) ((addresses_are_these (offset_by v offset) n (address_after (offset_by v offset) k)).1 (k, below, refl)))
+
+    stays_in : (single : Bool) → has_single_mask p.format ≡ single
+        → Stays p.data_base p.data_size (if single then p.data_base + 4096 else 4096) (if single then 2 ^ 32 - (p.data_base + p.data_size) + 4096 else 4096) n v offset
+    stays_in true one =
+        wide p.data_base p.data_size v n right.guard_room.below right.guard_room.above some few offset (near_fits p v most right.guard_room safe.0.from) range
+    stays_in false two =
+        let from = near_data p v two safe.0.from in
+        near p.data_base p.data_size v n right.guard_room.below right.guard_room.above some few offset most (from.low, from.high) range
+        (at_number two 0 some) (at_number two (n - 1) (omega (arith, some)))
+
+    stays : Stays p.data_base p.data_size (closed_below p) (closed_above p) n v offset
+    unfolding closed_below closed_above
+    stays = stays_in (has_single_mask p.format) refl
 
     here : Does v offset n
     here = by safe.1

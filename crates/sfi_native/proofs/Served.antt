@@ -26,7 +26,7 @@ use Rattle.sfi_native.proofs.Assigned.{has_value, not_assigned, other_register a
 
 -- ==== The state.
 
-module _ (p : Part) (l : Layout) (g k : Going) (layout : IsLayout p.data_size l) (c : Core) (was : IsRelated p l g c) (proper : IsProper p k.state) (few : k.left < 2 ^ 32) where
+module _ (p : Part) (l : Layout) (g k : Going) (layout : IsLayout p l) (c : Core) (was : IsRelated p l g c) (proper : IsProper p k.state) (few : k.left < 2 ^ 32) where
   -- frame and data as the turn has them
   abbrev bytes : ℕ → Option ℕ
   bytes a =

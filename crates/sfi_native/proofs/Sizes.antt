@@ -163,7 +163,7 @@ eax_most None r below = omega (arith, slot_most 0 r below, length-append (memory
 eax_most (Some q) r below = move_most _ 0x8B (modrm 3 (number q) 0)
 
 write_most : (plan : Plan) (r : ℕ) → r < 32 → bytes (write plan r) ≤ 4
-write_most plan r below = cond_both (is_fixed r) [] (store_eax (assigned plan r) r ∷ []) (λ (is : List Native). bytes is ≤ 4) (λ e. omega arith) (λ e. eax_most (assigned plan r) r below)
+write_most plan r below = cond_both (is_fixed plan.format r) [] (store_eax (assigned plan r) r ∷ []) (λ (is : List Native). bytes is ≤ 4) (λ e. omega arith) (λ e. eax_most (assigned plan r) r below)
 
 settle_most : (plan : Plan) (o : Option Register) (r : ℕ) → r < 32 → bytes (settle plan o r) ≤ 4
 settle_most plan None r below = write_most plan r below

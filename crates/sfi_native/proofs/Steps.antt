@@ -11,7 +11,7 @@ use Rattle.sfi_native.specs.Laws.{ArePlacedSteps, Follows, IsBefore, IsCovered, 
 use Rattle.sfi_native.specs.Faults.{HasFixups}
 use Rattle.sfi_native.specs.Table.{HasTable, LieInCode}
 use Rattle.sfi_native.specs.Places.{IsAt, end_address, exit_of, whole_code, with_owed}
-use Rattle.sfi_native.proofs.Kept.{guards_kept, others_join, others_same}
+use Rattle.sfi_native.proofs.Kept.{closed_kept, others_join, others_same}
 use Rattle.sfi_native.proofs.Placed.{placed_lines_run}
 use Rattle.sfi_native.proofs.Table.{table_stays}
 use Rattle.x86_step.proofs.Running.{in_more, stays}
@@ -57,7 +57,7 @@ module _ (p : Part) (code : List Line) (l : Layout) (t : Text) (base : ℕ) (few
     faults_are_handled = here.faults_are_handled;
     stands = here.stands;
     related = f.alike.related;
-    guards = guards_kept p l here.layout m.core f.after.core f.others here.guards;
+    closed = closed_kept p l here.layout m.core f.after.core f.others here.closed;
   }
 
   many : (n : ℕ) (g k : Going) (m : Machine) → Stands g m → HasTable p l base code m.core → IsAt l.plan base code g m → g.left < 2 ^ 31 → ArePlacedSteps p code n g k → Follows t (placed_most * n) p l base code m k

@@ -59,7 +59,7 @@ old_byte m at n v a room apart = others_stay m (addresses at n) (bytes_low_first
 
 -- ==== Both memories after it.
 
-module _ (p : Part) (l : Layout) (layout : IsLayout p.data_size l) (g : Going) (c : Core) (is : IsRelated p l g c) (width : StoreWidth) (at v : ℕ)
+module _ (p : Part) (l : Layout) (layout : IsLayout p l) (g : Going) (c : Core) (is : IsRelated p l g c) (width : StoreWidth) (at v : ℕ)
     (low : p.data_base ≤ at) (high : at - p.data_base + store_size width ≤ p.data_size) (room : p.data_base + p.data_size ≤ 2 ^ 32) where
   abbrev place : ℕ
   place = l.data_start + (at - p.data_base)
@@ -148,7 +148,7 @@ puts Sh a src c d is = rw is refl
 puts Sw a src c d is = rw is refl
 
 -- what a store leaves
-store_comes : (p : Part) (l : Layout) (layout : IsLayout p.data_size l) (g : Going) (c : Core) (is : IsRelated p l g c) (width : StoreWidth) (rs1 rs2 : ℕ) (imm : ℤ) → rs1 < 32 → rs2 < 32 → IsImm12 imm
+store_comes : (p : Part) (l : Layout) (layout : IsLayout p l) (g : Going) (c : Core) (is : IsRelated p l g c) (width : StoreWidth) (rs1 rs2 : ℕ) (imm : ℤ) → rs1 < 32 → rs2 < 32 → IsImm12 imm
     → IsInData p (offset_by (value p g rs1) imm) (store_size width) → IsThere g.state.memory (offset_by (value p g rs1) imm) (store_size width)
     → Comes (store_code l.plan width rs1 rs2 (word imm)) p l c
     (record { place = g.place; state = record { hart = g.state.hart; memory = stored g.state.memory (offset_by (value p g rs1) imm) (store_size width) (value p g rs2) }; left = g.left })
@@ -181,7 +181,7 @@ store_comes p l layout g c is width rs1 rs2 imm f1 f2 range in_data there =
     let where_is : address c2 to ≡ place = place_is p l layout g c is in_data.room n sized.some in_data.fits rs1 imm range in_data.tested c2 x kept (not_frame l.plan right rs1 o1 refl Rax (omega arith)) in_x in
     let put : stores c2 n (address c2 to) (c2.registers (number y)) ≡ Ok c3 =
     ap (stores c2 n (address c2 to)) second.result ∙ ap (λ q. stores c2 n q b) where_is
-    ∙ store_there c2 n place old.0 b (omega (arith, w.1, layout.data_ends)) held (may_be_written p l layout g c2 is2 width (offset_by a imm) b w.0 w.1 inside) in
+    ∙ store_there c2 n place old.0 b (omega (arith, w.1, layout.window_ends)) held (may_be_written p l layout g c2 is2 width (offset_by a imm) b w.0 w.1 inside) in
     let runs : exec (store_code l.plan width rs1 rs2 (word imm)) c ≡ Ok c3 =
     exec_append (read o1 Rax rs1) (read o2 Rcx rs2 ++ (store_to width to y ∷ [])) c c1 first.runs
     ∙ exec_append (read o2 Rcx rs2) (store_to width to y ∷ []) c1 c2 second.runs

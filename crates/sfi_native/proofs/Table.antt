@@ -48,7 +48,7 @@ pub outside : (at n b m a : ℕ) → DoNotMeet at n b m → at ≤ a → a < at 
 outside at n b m a (inl before) low high = inl (omega (arith, before, high))
 outside at n b m a (inr after) low high = inr (omega (arith, after, low))
 
-module _ (p : Part) (l : Layout) (layout : IsLayout p.data_size l) (base : ℕ) (code : List Line) (c d : Core) where
+module _ (p : Part) (l : Layout) (layout : IsLayout p l) (base : ℕ) (code : List Line) (c d : Core) where
   pub table_stays : OthersStay p l c d → HasTable p l base code c → HasTable p l base code d
   table_stays stay has =
       let same_there = λ (n : ℕ) (fits : n + 4 ≤ table_size p). number_same c.memory d.memory 4 (has.at + n) (λ j few.

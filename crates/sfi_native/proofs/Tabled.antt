@@ -3,18 +3,17 @@ use Rattle.std.proofs.Common.{◌≡◌, ℕ, ◌+◌, ◌-◌, ◌*◌, ◌/◌
 use Rattle.std.specs.Prelude.{nat_le, slice_index}
 use Rattle.std.proofs.lemmas.Bool.{cases_Bool, le-leb, le-ltb, lt-leb, lt-ltb}
 use Rattle.sfi_formats.specs.Formats.{unit}
-use Rattle.sfi_formats.specs.Limits.{guard}
 use Rattle.sfi_image.specs.Spelling.{Part}
 use Rattle.sfi_translate.specs.Lines.{Line}
 use Rattle.sfi_translate.specs.Machine.{Going, label}
 use Rattle.sfi_translate.proofs.LinesStand.{units}
-use Rattle.x86_step.specs.State.{Core, number_at, with_memory, written}
+use Rattle.x86_step.specs.State.{Core, IsIn, number_at, with_memory, written}
 use Rattle.sfi_native.specs.Registers.{assigned}
 use Rattle.sfi_native.proofs.Assigned.{holds_on}
 use Rattle.sfi_native.specs.declared.layout.Layout.{Layout}
 use Rattle.sfi_native.specs.Entries.{AreEntries, unit_address}
 use Rattle.sfi_native.specs.Laws.{EachTableCanBeHeld}
-use Rattle.sfi_native.specs.Layout.{DoNotMeet, GuardsAreEmpty, IsLayout, IsRelated, frame_size, slots_size, value}
+use Rattle.sfi_native.specs.Layout.{DoNotMeet, IsClosed, IsLayout, IsRelated, frame_size, slots_size, value, window}
 use Rattle.sfi_native.specs.Places.{exit_of}
 use Rattle.sfi_native.specs.Table.{HasTable, table_size}
 use Rattle.sfi_native.proofs.Memory.{long_number_of_bytes, number_elsewhere, number_of_bytes, written_elsewhere, written_here}
@@ -104,14 +103,14 @@ module _ (p : Part) (l : Layout) (base : ℕ) (table : List ℕ) (at : ℕ) (c :
   apart b n (inl before) j small = table_lacks (b + j) (inr (omega (arith, before)))
   apart b n (inr after) j small = table_lacks (b + j) (inl (omega (arith, after, small)))
 
-  -- data and guard zones lie apart from the frame
-  zones_apart : IsLayout p.data_size l → (a : ℕ) → l.data_start ≤ a + guard → a < l.data_start + p.data_size + guard → memory a ≡ rows a
-  zones_apart layout a from under = pointers_lack a (elim layout.apart [
-    | inl above ↦ inr (omega (arith, above, from, layout.data_begins))
-    | inr below ↦ inl (omega (arith, below, under, layout.data_begins))
+  -- the window lies apart from the frame
+  window_apart : IsLayout p l → (a : ℕ) → IsIn (window p l) a → memory a ≡ rows a
+  window_apart layout a is = pointers_lack a (elim layout.apart [
+    | inl above ↦ let low = is.0 in inr (omega (arith, above, low))
+    | inr below ↦ let high = is.1 in inl (omega (arith, below, high))
   ])
 
-  tabled_related : (g : Going) → IsLayout p.data_size l → DoNotMeet at (table_size p) l.frame frame_size → DoNotMeet at (table_size p) l.data_start p.data_size → IsRelated p l g c → IsRelated p l g tabled
+  tabled_related : (g : Going) → IsLayout p l → DoNotMeet at (table_size p) l.frame frame_size → DoNotMeet at (table_size p) l.data_start p.data_size → IsRelated p l g c → IsRelated p l g tabled
   tabled_related g layout by_frame by_data is = record {
     register_count = is.register_count;
     words = is.words;
@@ -125,16 +124,14 @@ module _ (p : Part) (l : Layout) (base : ℕ) (table : List ℕ) (at : ℕ) (c :
     frame_is_written = is.frame_is_written;
     few = is.few;
     left = is.left;
-    bytes = λ k small. zones_apart layout (l.data_start + k) (omega arith) (omega (arith, small)) ∙ apart l.data_start p.data_size by_data k small ∙ is.bytes k small;
+    bytes = λ k small. window_apart layout (l.data_start + k) (omega arith, omega (arith, small)) ∙ apart l.data_start p.data_size by_data k small ∙ is.bytes k small;
     bytes_are_written = is.bytes_are_written;
     origin_is = is.origin_is;
   }
 
-  guards_stay : IsLayout p.data_size l → DoNotMeet at (table_size p) (l.data_start - guard) (p.data_size + 2 * guard) → GuardsAreEmpty p.data_size l c → GuardsAreEmpty p.data_size l tabled
-  guards_stay layout by_zones empty = record {
-    below = λ a from under. zones_apart layout a from (omega (arith, under)) ∙ table_lacks a (beside at (table_size p) (l.data_start - guard) (p.data_size + 2 * guard) a by_zones (omega (arith, from, layout.data_begins)) (omega (arith, under, layout.data_begins))) ∙ empty.below a from under;
-    above = λ a from under. zones_apart layout a (omega (arith, from)) under ∙ table_lacks a (beside at (table_size p) (l.data_start - guard) (p.data_size + 2 * guard) a by_zones (omega (arith, from)) (omega (arith, under, layout.data_begins))) ∙ empty.above a from under;
-  }
+  closed_stays : IsLayout p l → DoNotMeet at (table_size p) (window p l).at (window p l).size → IsClosed p l c → IsClosed p l tabled
+  closed_stays layout by_window closed a is outside =
+      window_apart layout a is ∙ table_lacks a (beside at (table_size p) (window p l).at (window p l).size a by_window is.0 is.1) ∙ closed a is outside
 
   -- a row's number
   row_there : (number c j place : ℕ) → place ≡ at + (2 * (unit p.format * number) + (4 * c + j)) → number < length p.code / unit p.format → c < 2 → j < 4
@@ -172,13 +169,14 @@ module _ (p : Part) (l : Layout) (base : ℕ) (table : List ℕ) (at : ℕ) (c :
     code_is = long_number_of_bytes memory 8 (l.frame + (slots_size + 8)) base low (written_here with_origin 8 (l.frame + (slots_size + 8)) base);
   }
 
-of_zones : (p : Part) (l : Layout) (at : ℕ) → IsLayout p.data_size l → DoNotMeet at (table_size p) (l.data_start - guard) (p.data_size + 2 * guard) → DoNotMeet at (table_size p) l.data_start p.data_size
-of_zones p l at layout (inl before) = inl (omega (arith, before))
-of_zones p l at layout (inr after) = inr (omega (arith, after, layout.data_begins))
+-- so many bytes beside the window are beside the data
+pub of_window : (p : Part) (l : Layout) (from n : ℕ) → DoNotMeet from n (window p l).at (window p l).size → DoNotMeet from n l.data_start p.data_size
+of_window p l from n (inl before) = inl (omega (arith, before))
+of_window p l from n (inr after) = inr (omega (arith, after))
 
 pub each_table_can_be_held : EachTableCanBeHeld
-each_table_can_be_held p l base code table at is t from g c entries few low ends by_frame by_zones before =
-    let by_data = of_zones p l at before.layout by_zones in (
+each_table_can_be_held p l base code table at is t from g c entries few low ends by_frame by_window before =
+    let by_data = of_window p l at (table_size p) by_window in (
       tabled p l base table at c ends,
       record {
         layout = before.layout;
@@ -187,7 +185,7 @@ each_table_can_be_held p l base code table at is t from g c entries few low ends
         faults_are_handled = before.faults_are_handled;
         stands = before.stands;
         related = tabled_related p l base table at c ends g before.layout by_frame by_data before.related;
-        guards = guards_stay p l base table at c ends before.layout by_zones before.guards;
+        closed = closed_stays p l base table at c ends before.layout by_window before.closed;
       },
       has_table p l base table at c ends code entries few low by_frame by_data,
       refl,

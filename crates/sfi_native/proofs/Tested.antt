@@ -23,7 +23,7 @@ use Rattle.sfi_native.specs.Code.{count, count_size, has_test, leap, leave_line,
 use Rattle.sfi_native.proofs.Counted.{before, behind as reaches_behind, ends, it, size_most}
 use Rattle.sfi_native.proofs.Fetching.{related_kept}
 use Rattle.sfi_native.proofs.Heads.{leave_line_runs}
-use Rattle.sfi_native.proofs.Kept.{guards_kept, kept_flags, others_join, others_kept, others_same}
+use Rattle.sfi_native.proofs.Kept.{closed_kept, kept_flags, others_join, others_kept, others_same}
 use Rattle.sfi_native.proofs.Lists.{leave_line_bytes, tested_size}
 use Rattle.sfi_native.proofs.Runs.{branch_effect, end_append, jal_effect, jumps_to, out_over, straight_runs}
 
@@ -122,7 +122,7 @@ module _ (t : Text) (p : Part) (l : Layout) (to owed label exit : ℕ) (few : ow
         faults_are_handled = here.faults_are_handled;
         stands = has_back t at (spellings (test_code owed label)) (spellings (leave_line to owed exit)) parts;
         related = related_kept p l here.layout (owing owed g) d compared here.related kept;
-        guards = guards_kept p l here.layout d compared others here.guards;
+        closed = closed_kept p l here.layout d compared others here.closed;
       } in
       let same : end_of test_end (leave_line to owed exit) ≡ end = end_append at (test_code owed label) (leave_line to owed exit) in
       let out = leave_line_runs p l t test_end to owed exit few g below compared own (ap (λ a. is_canonical (jumped a exit)) same ∙ can.exit_is) in

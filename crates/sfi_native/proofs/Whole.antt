@@ -3,7 +3,6 @@ use Rattle.std.proofs.Common.{◌≡◌, ℕ, zero, suc, ◌+◌, ◌-◌, ◌*�
 use Rattle.rv_step.specs.declared.outcome.Outcome.{Outcome}
 use Rattle.rv_step.specs.declared.outcome.Outcome.TheVariants.{Next}
 use Rattle.rv_step.specs.State.{Hart, State, register}
-use Rattle.sfi_formats.specs.Limits.{guard}
 use Rattle.sfi_image.specs.Spelling.{Part}
 use Rattle.sfi_translate.specs.Lines.{Line}
 use Rattle.sfi_translate.specs.Machine.{Assembly, AreTranslatedSteps, Before, ControlPoint, Going, Loop, Lost, Slow, Stopped}
@@ -22,7 +21,7 @@ use Rattle.x86_step.specs.Running.{spellings}
 use Rattle.x86_step.specs.Step.{Reaches}
 use Rattle.sfi_native.specs.declared.layout.Layout.{Layout}
 use Rattle.sfi_native.specs.Faults.{HasFixups, accesses_of, fixup_by}
-use Rattle.sfi_native.specs.Layout.{DoNotMeet, IsLayout, frame_size, guarded_data}
+use Rattle.sfi_native.specs.Layout.{DoNotMeet, IsLayout, frame_size, window}
 use Rattle.sfi_native.specs.Places.{IsAt, IsAtPlace, end_address, exit_of, whole_code, with_owed}
 use Rattle.sfi_native.specs.Table.{HasTable, LieInCode, table_size}
 use Rattle.sfi_native.proofs.OwedSteps.{there_few}
@@ -35,7 +34,7 @@ use Rattle.sfi_native.proofs.Hosts.{Ready, one_way, ready_on, memory_join, spare
 use Rattle.sfi_native.proofs.Served.{all_made, handed_over, has_place, never_lost}
 use Rattle.sfi_native.proofs.CodeSizes.{each_code_fits, whole_size}
 use Rattle.sfi_native.proofs.Table.{lines_lie_in_code}
-use Rattle.sfi_native.proofs.Tabled.{each_table_can_be_held}
+use Rattle.sfi_native.proofs.Tabled.{each_table_can_be_held, of_window}
 use Rattle.sfi_native.proofs.Ways.{one_way_out}
 use Rattle.sfi_native.proofs.Turning.{CodePart, HostPart, Turns, code_part, few_left, host_part, proper}
 
@@ -124,12 +123,11 @@ module _ (sandbox : ℕ) (p : Part) (code : List Line) (s : State) (left : ℕ) 
 
     accesses : AccessesLieIn (IsAccessed p l table_at) t m
     accesses =
-        let zones = here.stands.layout.data_begins in
         subst (λ at. AccessesLieIn (IsAccessed p l at) t m) here.table_is
         (ways_out_access_no_others (IsAccessed p l here.table.at) t bare_does.made bare_machine bare_does.out m.core.memory bare_does.reached (comes_out bare_machine bare_does)
-        (has_no_others p l here.table.at m.core zones)
+        (has_no_others p l here.table.at m.core)
         (λ a is. inr (inr (subst (λ span. IsIn span a) here.stands.faults_are_handled is)))
-        (agree p l here.table.at m.core here.stands.guards zones))
+        (agree p l here.table.at m.core here.stands.closed))
 
     only : (most : ℕ) (k : Machine) → Reaches t most m k → k.rip ≡ t.base + length t.bytes → k ≡ code_does.out
     only most k reached e = one_way_out t most code_does.made m k code_does.out reached code_does.reached e is_out
@@ -244,7 +242,7 @@ with_pc_in_edx is t at p l g c pc here = record {
   faults_are_handled = here.faults_are_handled;
   stands = here.stands;
   related = related_kept p l here.layout g c (with_register c 2 pc) here.related (kept_register c 2 pc (omega arith));
-  guards = record { below = here.guards.below; above = here.guards.above };
+  closed = here.closed;
 }
 
 -- which the table doesn't use
@@ -265,13 +263,9 @@ table_with_pc p l base code c pc has = (
   refl,
 )
 
-zones_and_data : (p : Part) (l : Layout) (from n : ℕ) → IsLayout p.data_size l → DoNotMeet from n (l.data_start - guard) (p.data_size + 2 * guard) → DoNotMeet from n l.data_start p.data_size
-zones_and_data p l from n layout (inl before) = inl (omega (arith, before))
-zones_and_data p l from n layout (inr after) = inr (omega (arith, after, layout.data_begins))
-
 module _ (sandbox : ℕ) (p : Part) (code : List Line) (l : Layout) (base : ℕ) (table : List ℕ) (table_at : ℕ) (host : Host) (s : State) (left : ℕ) where
   -- a processor before that line
-  entered_there : IsCleanPart sandbox p → AreLines sandbox p code → AreEntries l.plan p code table → IsReached p s → left < 2 ^ 31 → IsLayout p.data_size l → base + exit_of l.plan code < 2 ^ 47 → table_at + table_size p ≤ 2 ^ 47
+  entered_there : IsCleanPart sandbox p → AreLines sandbox p code → AreEntries l.plan p code table → IsReached p s → left < 2 ^ 31 → IsLayout p l → base + exit_of l.plan code < 2 ^ 47 → table_at + table_size p ≤ 2 ^ 47
       → AreApart p l base code table_at host.own → ((c : Core) → host.relies c) → (first : Going) → HostMoves p code (begun s left) first → IsInCode first.place → IsReached p first.state → first.left < 2 ^ 31
       → (t : Text) × (m : Machine) × IsEntered sandbox p code l t base host s left m
   entered_there clean are_lines entries reached few layout low table_low apart relies first begins inside comes first_few =
@@ -280,13 +274,13 @@ module _ (sandbox : ℕ) (p : Part) (code : List Line) (l : Layout) (base : ℕ)
       let fits = each_code_fits l.plan sandbox p code clean.right are_lines in
       let same = reached_harts_are_fixed sandbox p first.state clean comes in
       let fixups = fixup_by (accesses_of l.plan code code) base (exit_of l.plan code) in
-      let text : Text = record { base = base; bytes = spellings is; fixups = fixups; handled = guarded_data p.data_size l } in
+      let text : Text = record { base = base; bytes = spellings is; fixups = fixups; handled = window p l } in
       let owes = with_owed l.plan p first in
       let owes_fit : owes.left < 2 ^ 32 = omega (arith, first_few, there_few l.plan p first.place) in
       let it = each_code_can_be_run is fixups base p l owes layout comes.state.hart.count
       (subst (λ (h : Hart). (r : ℕ) → register h r < 2 ^ 32) (sym same) comes.state.hart.words) owes_fit (omega (arith, low, size))
-      (subst (λ n. DoNotMeet base n l.frame frame_size) (sym size) apart.text.from_frame) (subst (λ n. DoNotMeet base n l.data_start p.data_size) (sym size) (zones_and_data p l base (exit_of l.plan code) layout apart.text.from_zones)) in
-      let held = each_table_can_be_held p l base code table table_at is text base owes it.0 entries (omega (arith, fits)) (omega (arith, low)) (omega (arith, table_low)) apart.table.from_frame apart.table.from_zones it.1 in
+      (subst (λ n. DoNotMeet base n l.frame frame_size) (sym size) apart.text.from_frame) (subst (λ n. DoNotMeet base n l.data_start p.data_size) (sym size) (of_window p l base (exit_of l.plan code) apart.text.from_window)) in
+      let held = each_table_can_be_held p l base code table table_at is text base owes it.0 entries (omega (arith, fits)) (omega (arith, low)) (omega (arith, table_low)) apart.table.from_frame apart.table.from_window it.1 in
       let made = all_made p code (begun s left) first begins (λ rest e. let clash : Loop ≡ Before rest = e in cc) (omega (arith, few)) in
       let place = has_place l.plan base code first.place first.state.hart.pc made.last (never_lost p code (begun s left) first begins) in
       let core = with_register held.0 2 first.state.hart.pc in

@@ -30,11 +30,11 @@ page_size = 4096
 
 -- How many bytes are closed below the data: a guard zone. Where masks are single, accesses also go by addresses near 0: all
 -- that 32 bits and an offset can lead to is closed.
-abbrev pub closed_below : Part → ℕ
+unfoldable pub closed_below : Part → ℕ
 closed_below p = if has_single_mask p.format then p.data_base + guard else guard
 
 -- and how many above them
-abbrev pub closed_above : Part → ℕ
+unfoldable pub closed_above : Part → ℕ
 closed_above p = if has_single_mask p.format then 2 ^ 32 - (p.data_base + p.data_size) + guard else guard
 
 -- where accesses go: the data, with what is closed on each side

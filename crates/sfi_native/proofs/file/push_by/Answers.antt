@@ -39,6 +39,7 @@ returns-clause-adds c = λ _.
         lines_are = c.requires.lines;
         plan = plan;
         plan_is_right = c.requires.plan;
+        format_is = c.requires.plan_format;
         table = table;
         entries = entries;
         small = small;

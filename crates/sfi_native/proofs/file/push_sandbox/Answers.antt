@@ -14,7 +14,7 @@ returns-clause-always c =
     let lines = map line_of c.deref-3.result.now in
     let are : AreLines c.args.sandbox p lines = search rules in
     let first = c.in_ok-plan.plan in
-    let plan : Plan = record { assigned = first.assigned; code_base = first.code_base; owed = first.owed; padding = c.clear.new.self } in
+    let plan : Plan = record { format = first.format; assigned = first.assigned; code_base = first.code_base; owed = first.owed; padding = c.clear.new.self } in
     elim (cases_Bool c.in_ok-small.small) [
       | inl e ↦ e
       | inr e ↦
