@@ -1,5 +1,5 @@
 //! Where a sandbox's state lies.
-ghost use Rattle.std.specs.Prelude.{◌≡◌, IfSome, IfNone};
+ghost use Rattle.std.specs.Prelude.{◌≡◌, ◌^◌, ◌≤◌, IfSome, IfNone};
 ghost use Rattle.sfi_image.specs.Spelling.{view};
 ghost use Rattle.sfi_native.specs.Layout.{IsLayout, closed_above as is_closed_above, closed_below as is_closed_below};
 
@@ -26,8 +26,10 @@ pub struct Layout {
 }
 
 /// How many bytes are closed below the data.
+#[tactic(auto, unfolding(crate::specs::Layout::closed_below))]
 fn closed_below(format: Format, part: &SandboxPart<'_>) -> u64
-    ensures { result ≡ is_closed_below (view format part.now) }
+    ensures is { result ≡ is_closed_below (view format part.now) }
+    ensures few { result ≤ 2 ^ 33 }
 {
     if format.has_single_mask() {
         return u64::from(part.data_base) + PAGE;
@@ -36,8 +38,10 @@ fn closed_below(format: Format, part: &SandboxPart<'_>) -> u64
 }
 
 /// How many bytes are closed above the data.
+#[tactic(auto, unfolding(crate::specs::Layout::closed_above))]
 fn closed_above(format: Format, part: &SandboxPart<'_>) -> u64
-    ensures { result ≡ is_closed_above (view format part.now) }
+    ensures is { result ≡ is_closed_above (view format part.now) }
+    ensures few { result ≤ 2 ^ 33 }
 {
     if !format.has_single_mask() {
         return PAGE;

@@ -137,7 +137,6 @@ impl Plan {
     }
 
     /// Whether code may have the plan: registers that no line writes lie in the frame, and no two lie in one register.
-    #[tactic(auto, using(crate::proofs::Assigned::right_at, crate::proofs::Assigned::right_from, crate::proofs::Assigned::one_more_right))]
     pub fn is_right(&self) -> bool
         ensures { IsTrue result ↔ IsRightPlan self.now }
     {
