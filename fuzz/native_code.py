@@ -3,8 +3,8 @@
 
     fuzz/native_code.py [--library PATH] [--commands PATH] [--program PATH] [--rounds N] [--seconds S] [--plant] [SEED ..]
 
-Each case is an image that is accepted, in one of the three formats that have native code: an example, random code, or one of these
-with changes; its data are whole pages. It is run by libsfi_run_native, which is made of --library and --commands, and by libsfi_run. Both get the same calls:
+Each case is an image that is accepted, in one of the four formats: an example, random code, or one of these with changes; its data are
+whole pages. It is run by libsfi_run_native, which is made of --library and --commands, and by libsfi_run. Both get the same calls:
 turns of a few or many steps, replies, exits, callbacks, other registers, entries, stops, resets, other data; signals come meanwhile.
 After each call the answers are compared, and of each sandbox the event, steps, pc, registers and data. Then it is run by the
 console's services in both ways, and by `sfi run`: the lines are compared, with pc, registers and data. With --plant native code gets
@@ -32,7 +32,7 @@ import measure
 from suygapid.image import layout
 
 KINDS = dict(turn=30, reply=20, write=8, enter=8, set_registers=6, call_back=5, call=4, stop=3, until=2, exit=2, reset=2, read=2)
-FORMATS = {1: "images in the first format", 2: "images in the second format", 3: "images in words"}
+FORMATS = {1: "images in the first format", 2: "images in the second format", 3: "images in words", layout.SINGLE: "images with single masks"}
 NAMES = [*FORMATS.values(), *KINDS, *beside.SEEN, "all data", "lines of sfi run", "outcomes of libsfi_run", "pc and registers of sfi run"]
 CALLS_OF_AN_IMAGE = 40
 EDGES = [0, 1, 63, 64, 65, 66, 127, 128, 129, 130]  # steps near those of one distance between heads
@@ -96,11 +96,6 @@ def with_pages(pick, data):
     return data if natively.has_pages(data) else None
 
 
-def has_native_code(image):
-    """Whether the image is in a format of which native code is made."""
-    return layout.parts(image)[0].format in FORMATS
-
-
 def without_code(image):
     """What is the same of images that differ in their code alone."""
     for part in layout.parts(image):
@@ -129,7 +124,7 @@ class Images:
     def make(self, pick):
         while True:
             found = self.small(pick)
-            if found and self.judge.verdict(found).status == 0 and has_native_code(found) and (larger := with_pages(pick, found)):
+            if found and self.judge.verdict(found).status == 0 and (larger := with_pages(pick, found)):
                 return larger
 
     def with_another_instruction(self, pick, image):

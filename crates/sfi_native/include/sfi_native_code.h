@@ -1,15 +1,16 @@
 /* Runs the native code of an accepted image on x86-64 Linux: for hosts in C11 that define _GNU_SOURCE before the first header. The
    file must be what `sfi native` wrote of this image, kept with it: only its checksum and the sandboxes' fields are compared. The
    image's translation (sfi_native.h) has the sandboxes, and the steps that code leaves to the host. A thread that takes turns doesn't
-   block SIGSEGV and SIGBUS, nor leave a turn by longjmp. A typed register with what its type forbids reaches 4 GiB off the data
-   (docs/IMAGE.md). Not proved: that this file keeps crates/sfi_native/specs (File, Layout, Table, Faults, Host, Whole). */
+   block SIGSEGV and SIGBUS, nor leave a turn by longjmp. Where masks have two steps, a typed register with what its type forbids
+   reaches 4 GiB off the data (docs/IMAGE.md). Not proved: that this file keeps crates/sfi_native/specs (File, Layout, Table, Faults, Host, Whole). */
 #ifndef SFI_NATIVE_CODE_H
 #define SFI_NATIVE_CODE_H
 #include "sfi_native_guards.h"
 #if !defined(__x86_64__) || !defined(__LP64__) || !defined(__linux__)
 #error "native code wants Linux on x86-64, with pointers of 64 bits"
 #endif
-enum { SFI_ASSIGNABLE = 0x3fe8, SFI_KEPT = 14, SFI_FIXED = 0xf000001, SFI_COUNTED = 0x7fffffff };  /* rbx, rbp, rsi, rdi, r8 to r13; x0, x24 to x27 */
+enum { SFI_ASSIGNABLE = 0x3fe8, SFI_KEPT = 14, SFI_FIXED = 0xf000001, SFI_COUNTED = 0x7fffffff };  /* rbx, rbp, rsi, rdi, r8 to r13; x0, x24 to
+    x27, but not x26 where masks are single */
 enum { SFI_FRONT = 24, SFI_FIELDS = 28, SFI_PLACES = 32, SFI_ACCESS = 12, SFI_BACK = 8, SFI_IN_FRAME = 255 };  /* in the file: specs/File.antt */
 
 /* A sandbox's code in a map of its own: the text, up to the way out; behind it, not to be executed, the table, which has each unit's
@@ -81,11 +82,15 @@ static const uint8_t *sfi_access_at(const struct sfi_code *code, uintptr_t offse
     return NULL;
 }
 
-/* Takes a fault if rip is an access of the running code and the address in a guard zone: goes out, the pc in edx and nothing owed. */
+/* Takes a fault if rip is an access of the running code and the address in the window, beside the data: goes out, the pc in edx and
+   nothing owed. */
 static int sfi_takes_fault(uintptr_t address, greg_t registers[]) {
     const struct sfi_code *const code = sfi_running.code;
     const uintptr_t place = address - (uintptr_t)sfi_running.data;
-    if (code == NULL || (place + SFI_ZONE >= SFI_ZONE && place - code->sandbox->data_size >= SFI_ZONE))
+    if (code == NULL)
+        return 0;
+    const struct sfi_window window = sfi_window_of(code->sandbox, 1);
+    if (place < code->sandbox->data_size || place + window.below >= window.size)
         return 0;
     const uint8_t *const at = sfi_access_at(code, (uintptr_t)registers[REG_RIP] - (uintptr_t)code->text);
     if (at == NULL)
@@ -103,12 +108,13 @@ static void sfi_unmap_code(struct sfi_code codes[], size_t count) {  /* while no
 
 /* Reads where registers are. Whether no two are in one, and none where it can't be. */
 static int sfi_hold_registers(const uint8_t *places, struct sfi_code *code) {
+    const sfi_u32 fixed = SFI_FIXED & ~(code->sandbox->single << 26);
     sfi_u32 free = SFI_ASSIGNABLE;
     for (int r = 0; r < SFI_PLACES; r++) {
         const uint8_t place = places[r];
         if (place == SFI_IN_FRAME)
             continue;
-        if (place >= SFI_KEPT || !(free >> place & 1) || SFI_FIXED >> r & 1)
+        if (place >= SFI_KEPT || !(free >> place & 1) || fixed >> r & 1)
             return 0;
         free &= ~(1u << place);
         code->held[place] = (uint8_t)r;
@@ -155,8 +161,9 @@ static int sfi_map_code(const uint8_t *file, size_t length, const struct sfi_san
     const uint8_t *at = sfi_is_native_file(file, length, count) ? file + SFI_FRONT : NULL, *const end = at ? file + length - SFI_BACK : NULL;
     memset(codes, 0, count * sizeof *codes);
     for (const struct sfi_sandbox *s = sandboxes; at != NULL && s < sandboxes + count; s++) {
+        const sfi_u32 is_single = file[19] == 'S', unit = is_single || file[19] == 'W' ? 4 : 16;
         const int is_of_it = end - at >= SFI_FIELDS + SFI_PLACES + 8 && memcmp(at, &s->code, SFI_FIELDS) == 0 && s->data_size % SFI_ZONE == 0;
-        at = is_of_it && s->unit == (file[19] == 'W' ? 4 : 16) ? sfi_map_sandbox(at + SFI_FIELDS, end, s, &codes[s - sandboxes]) : NULL;
+        at = is_of_it && s->unit == unit && s->single == is_single ? sfi_map_sandbox(at + SFI_FIELDS, end, s, &codes[s - sandboxes]) : NULL;
     }
     sfi_unmap_code(codes, at != NULL && at == end ? 0 : count);
     return at != NULL && at == end;

@@ -1,4 +1,4 @@
-/* The data of a sandbox between two guard zones, and the faults of the processor there, for hosts on Linux: a handler of SIGSEGV
+/* The data of a sandbox in a window of closed addresses, and the faults of the processor there, for hosts on Linux: a handler of SIGSEGV
    and SIGBUS, which leaves to others what isn't an access of a sandbox. Nothing of this file is proved. */
 #ifndef SFI_NATIVE_GUARDS_H
 #define SFI_NATIVE_GUARDS_H
@@ -81,32 +81,43 @@ static size_t sfi_room_of(const struct sfi_sandbox *s) {
     return ((size_t)s->data_size + SFI_ZONE - 1) / SFI_ZONE * SFI_ZONE;
 }
 
-/* Data of zeros between guard zones, or NULL. */
-static uint8_t *sfi_map_data(const struct sfi_sandbox *s) {
-    const size_t room = sfi_room_of(s);
-    uint8_t *const zone = mmap(NULL, room + 2 * SFI_ZONE, PROT_NONE, MAP_PRIVATE | MAP_ANONYMOUS | MAP_NORESERVE, -1, 0);
-    if (zone == MAP_FAILED)
-        return NULL;
-    if (mprotect(zone + SFI_ZONE, room, PROT_READ | PROT_WRITE) || sfi_handle_faults()) {
-        munmap(zone, room + 2 * SFI_ZONE);
-        return NULL;
-    }
-    return zone + SFI_ZONE;
+/* What is closed but for the data in it: a guard zone on each side of these. Native code of single masks adds any number of 32 bits to
+   the place of address 0: for it that is all there, and a guard zone on each side (`window`, specs/Layout.antt). */
+struct sfi_window { size_t below, size; };  /* the bytes below the data, and all */
+static struct sfi_window sfi_window_of(const struct sfi_sandbox *s, int has_code) {
+    if (has_code && s->single)
+        return (struct sfi_window){ SFI_ZONE + (size_t)s->data, ((size_t)1 << 32) + 2 * SFI_ZONE };
+    return (struct sfi_window){ SFI_ZONE, sfi_room_of(s) + 2 * SFI_ZONE };
 }
 
-/* The same, or NULL also where as many are there as may be: the host keeps maps of its own. */
-static uint8_t *sfi_new_data(const struct sfi_sandbox *s) {
+/* Data of zeros in their window, or NULL. */
+static uint8_t *sfi_map_data(const struct sfi_sandbox *s, int has_code) {
+    const struct sfi_window window = sfi_window_of(s, has_code);
+    uint8_t *const all = mmap(NULL, window.size, PROT_NONE, MAP_PRIVATE | MAP_ANONYMOUS | MAP_NORESERVE, -1, 0);
+    if (all == MAP_FAILED)
+        return NULL;
+    if (mprotect(all + window.below, sfi_room_of(s), PROT_READ | PROT_WRITE) || sfi_handle_faults()) {
+        munmap(all, window.size);
+        return NULL;
+    }
+    return all + window.below;
+}
+
+/* The same, or NULL also where as many are there as may be: the host keeps maps of its own. `has_code`: whether native code is to run
+   with them, and not steps of the host alone, which test accesses. */
+static uint8_t *sfi_new_data(const struct sfi_sandbox *s, int has_code) {
     const size_t count = __atomic_add_fetch(&sfi_data_count, 1, __ATOMIC_RELAXED);
-    uint8_t *const data = count > SFI_DATA_MOST ? NULL : sfi_map_data(s);
+    uint8_t *const data = count > SFI_DATA_MOST ? NULL : sfi_map_data(s, has_code);
     if (data == NULL)
         __atomic_sub_fetch(&sfi_data_count, 1, __ATOMIC_RELAXED);
     return data;
 }
 
-static void sfi_free_data(const struct sfi_sandbox *s, uint8_t *data) {
+static void sfi_free_data(const struct sfi_sandbox *s, int has_code, uint8_t *data) {
+    const struct sfi_window window = sfi_window_of(s, has_code);
     if (data == NULL)
         return;
-    munmap(data - SFI_ZONE, sfi_room_of(s) + 2 * SFI_ZONE);
+    munmap(data - window.below, window.size);
     __atomic_sub_fetch(&sfi_data_count, 1, __ATOMIC_RELAXED);
 }
 #endif

@@ -46,7 +46,7 @@ static int sfi_read_image(const uint8_t *bytes, size_t length, struct sfi_image 
     memcpy(&count, bytes + 4, sizeof count);
     image->count = count;
     for (size_t k = 0; at != NULL && k < count && count <= SFI_SANDBOXES_MOST; k++) {
-        image->sandboxes[k].single = bytes[3] == 'S';  /* there is no native code of such an image yet */
+        image->sandboxes[k].single = bytes[3] == 'S';
         image->sandboxes[k].unit = bytes[3] == 'W' || bytes[3] == 'S' ? 4 : 16;
         at = sfi_read_sandbox(at, end, &image->sandboxes[k], image->gates[k]);
     }

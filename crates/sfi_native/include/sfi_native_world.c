@@ -10,7 +10,7 @@
 #endif
 
 enum { WORD_SIZE = 4, CALL_SIZE = 4, SLACK = 1020 }; /* SLACK: docs/IMAGE.md, typed registers */
-enum { MAGIC_SIZE = 4, STACK = '2', SINGLE_MASKS = 'S' }; /* docs/IMAGE.md, the layout and the formats */
+enum { MAGIC_SIZE = 4, STACK = '2' }; /* docs/IMAGE.md, the layout and the second format */
 enum { ECALL = 0x73 }; /* the instruction */
 enum { WRITTEN_MOST = 1 << 17, PAGES_ASKED = 4096 }; /* up to so many bytes zeros are just written; so many pages are asked for at once */
 /* `module` is the includer's, and so are `entered`, the 32 registers of a function that is called, but for x30 in words. `number` and
@@ -22,6 +22,7 @@ struct native_sandbox {
     struct sfi_hart hart;
     uint64_t steps;
     uint32_t kind, number, address;
+    bool has_code; /* it runs by native code, not by steps alone */
 };
 
 struct native_world {
@@ -36,11 +37,6 @@ static int native_turn(struct native_sandbox *it, sfi_u32 *at);
 /* Where the image has the code of a sandbox, and the last byte of its magic, which says the format. */
 static const uint8_t *code_of(const struct native_sandbox *it);
 static uint8_t format_of(const struct native_sandbox *it);
-
-/* Whether an image is in the fourth format. It has no native code: what a host closes for that isn't the zone at zero. */
-static bool has_single_masks(const uint8_t *image) {
-    return image[MAGIC_SIZE - 1] == SINGLE_MASKS;
-}
 
 static uint32_t word_at(const uint8_t *bytes) {
     uint32_t word;
@@ -165,11 +161,12 @@ static void make_first(struct native_sandbox *it) {
     it->steps = 0;
 }
 
-/* Makes a sandbox where nothing is. Whether there was memory. */
-static bool make_sandbox(const struct sfi_sandbox *s, struct native_sandbox *it) {
+/* Makes a sandbox where nothing is, by native code or not. Whether there was memory. */
+static bool make_sandbox(const struct sfi_sandbox *s, bool has_code, struct native_sandbox *it) {
     memset(it, 0, sizeof *it);
     it->text = s;
-    it->hart.data = sfi_new_data(s);
+    it->has_code = has_code;
+    it->hart.data = sfi_new_data(s, has_code);
     if (it->hart.data == NULL)
         return false;
     make_first(it);
@@ -178,13 +175,13 @@ static bool make_sandbox(const struct sfi_sandbox *s, struct native_sandbox *it)
 
 static void free_sandboxes(struct native_sandbox *all, size_t count) {
     while (count-- > 0)
-        sfi_free_data(all[count].text, all[count].hart.data);
+        sfi_free_data(all[count].text, all[count].has_code, all[count].hart.data);
 }
 
 /* Makes sandboxes where nothing is: all of them, or none. */
-static bool make_sandboxes(const struct sfi_sandbox *s, size_t count, struct native_sandbox *all) {
+static bool make_sandboxes(const struct sfi_sandbox *s, size_t count, bool has_code, struct native_sandbox *all) {
     for (size_t k = 0; k < count; k++)
-        if (!make_sandbox(&s[k], &all[k])) {
+        if (!make_sandbox(&s[k], has_code, &all[k])) {
             free_sandboxes(all, k);
             return false;
         }
@@ -378,24 +375,21 @@ static bool is_near(const struct sfi_sandbox *s, uint64_t far, uint32_t address)
 }
 
 /* Whether a data register may hold it: with single masks also an address at most SLACK bytes beside those below the data's size. */
-static bool may_be_data(const struct sfi_sandbox *s, uint8_t format, uint32_t address) {
-    return is_near(s, SLACK, address) || (format == SINGLE_MASKS && address + SLACK < s->data_size + 2 * SLACK);
+static bool may_be_data(const struct sfi_sandbox *s, uint32_t address) {
+    return is_near(s, SLACK, address) || (s->single && address + SLACK < s->data_size + 2 * SLACK);
 }
 
 /* Whether the reserved registers hold what is there, and the typed registers of the format what their types say (docs/IMAGE.md). */
 static bool may_hold(const struct native_sandbox *it, const uint32_t x[32]) {
     const struct sfi_sandbox *const s = it->text;
     const uint32_t *const own = it->hart.x;
-    const uint8_t format = format_of(it);
     if (x[24] != own[24] || x[25] != own[25] || x[27] != own[27])
         return false;
     if (s->unit != WORD_SIZE)
-        return x[26] == own[26] && (format != STACK || is_near(s, 0, x[2]));
-    if (!may_be_data(s, format, x[2]) || !may_be_data(s, format, x[3]) || !may_be_data(s, format, x[4]) || !may_be_data(s, format, x[29]) ||
-        !is_unit(s, x[30]))
+        return x[26] == own[26] && (format_of(it) != STACK || is_near(s, 0, x[2]));
+    if (!may_be_data(s, x[2]) || !may_be_data(s, x[3]) || !may_be_data(s, x[4]) || !may_be_data(s, x[29]) || !is_unit(s, x[30]))
         return false;
-    return format == SINGLE_MASKS ? may_be_data(s, format, x[26]) && may_be_data(s, format, x[31])
-                                  : x[26] == own[26] && x[31] < s->data_size;
+    return s->single ? may_be_data(s, x[26]) && may_be_data(s, x[31]) : x[26] == own[26] && x[31] < s->data_size;
 }
 
 bool sfi_run_set_registers(struct sfi_run_world *world, uint32_t sandbox, const struct sfi_run_registers *registers) {

@@ -106,8 +106,6 @@ static uint8_t *compiled(const struct shared *it, size_t *length) {
 /* Whether there is native code of the image, which is mapped then. */
 static bool compile(struct shared *it) {
     size_t length = 0;
-    if (has_single_masks(it->bytes))
-        return false;
     for (size_t k = 0; k < it->image.count; k++)
         if (it->image.sandboxes[k].data_size % SFI_ZONE != 0)
             return false;
@@ -192,7 +190,7 @@ void sfi_run_module_free(struct sfi_run_module *module) {
 static int native_turn(struct native_sandbox *it, sfi_u32 *at) {
     const struct shared *const of = it->module;
     int how = SFI_NEXT;
-    if (of->is_native)
+    if (it->has_code)
         return sfi_native_turn(&of->codes[it->text - of->image.sandboxes], &it->hart, at);
     while (how == SFI_NEXT && it->hart.left != 0)
         how = sfi_step(it->text, &it->hart, at);
@@ -219,9 +217,9 @@ static void end_sandboxes(struct native_sandbox *all, size_t count) {
         release(all[k].module);
 }
 
-/* Makes the sandboxes of a module where nothing is: all of them, or none. */
-static bool make_of_module(struct shared *it, struct native_sandbox *all) {
-    const bool is_made = make_sandboxes(it->image.sandboxes, it->image.count, all);
+/* Makes the sandboxes of a module where nothing is, by native code or not: all of them, or none. */
+static bool make_of_module(struct shared *it, bool has_code, struct native_sandbox *all) {
+    const bool is_made = make_sandboxes(it->image.sandboxes, it->image.count, has_code, all);
     for (size_t k = 0; is_made && k < it->image.count; k++) {
         all[k].module = it;
         all[k].entered = it->entered[k];
@@ -249,7 +247,7 @@ bool sfi_run_instance(struct sfi_run_module *module, struct sfi_run_world *world
     if (it == NULL)
         return false;
     struct native_world *const made = it->is_native ? new_world(it->image.count) : NULL;
-    if (made == NULL || !make_of_module(it, made->all)) {
+    if (made == NULL || !make_of_module(it, true, made->all)) {
         free(made);
         return sfi_stepped_instance(&it->stepped, world);
     }
@@ -277,7 +275,7 @@ uint32_t sfi_run_engine(const struct sfi_run_world *world) {
     if (world->held != NATIVE)
         return world->held ? SFI_RUN_INTERPRETED : SFI_RUN_NO_ENGINE;
     for (size_t k = 0; k < it->count; k++)
-        if (!((const struct shared *)it->all[k].module)->is_native)
+        if (!it->all[k].has_code)
             return SFI_RUN_INTERPRETED;
     return SFI_RUN_NATIVE;
 }
@@ -298,31 +296,29 @@ static bool have_common_address(struct span one, struct span other) {
 }
 
 /* Whether addresses lie in the zone at zero of a sandbox, if its format has one. */
-static bool is_in_zone(struct span it, const struct sfi_sandbox *s, bool has_zone) {
-    return has_zone && (it.first < (int64_t)s->data_size + SFI_ZONE || it.last > ((int64_t)1 << 32) - SFI_ZONE);
+static bool is_in_zone(struct span it, const struct sfi_sandbox *s) {
+    return s->single && (it.first < (int64_t)s->data_size + SFI_ZONE || it.last > ((int64_t)1 << 32) - SFI_ZONE);
 }
 
 /* Whether code, data or a guard zone of the two have a common address, or lie in a zone at zero of the other, where it has one. */
-static bool meet(const struct sfi_sandbox *one, bool has_one_zone, const struct sfi_sandbox *other, bool has_other_zone) {
+static bool meet(const struct sfi_sandbox *one, const struct sfi_sandbox *other) {
     const struct sfi_sandbox *const both[2] = {one, other};
-    const bool has_zone[2] = {has_one_zone, has_other_zone};
     struct span code[2], guarded[2];
     for (int k = 0; k < 2; k++) {
         code[k] = (struct span){both[k]->code, (int64_t)both[k]->code + both[k]->code_size};
         guarded[k] = (struct span){(int64_t)both[k]->data - SFI_ZONE, (int64_t)both[k]->data + both[k]->data_size + SFI_ZONE};
     }
     for (int k = 0; k < 2; k++)
-        if (is_in_zone(code[k], both[1 - k], has_zone[1 - k]) || is_in_zone(guarded[k], both[1 - k], has_zone[1 - k]))
+        if (is_in_zone(code[k], both[1 - k]) || is_in_zone(guarded[k], both[1 - k]))
             return true;
     return have_common_address(code[0], code[1]) || have_common_address(code[0], guarded[1]) ||
         have_common_address(guarded[0], code[1]) || have_common_address(guarded[0], guarded[1]);
 }
 
 static bool some_meet(const struct native_world *world, const struct shared *module) {
-    const bool has_zone = has_single_masks(module->bytes);
     for (size_t k = 0; k < world->count; k++)
         for (size_t other = 0; other < module->image.count; other++)
-            if (meet(world->all[k].text, format_of(&world->all[k]) == SINGLE_MASKS, &module->image.sandboxes[other], has_zone))
+            if (meet(world->all[k].text, &module->image.sandboxes[other]))
                 return true;
     return false;
 }
@@ -337,7 +333,8 @@ uint32_t sfi_run_add(struct sfi_run_world *world, struct sfi_run_module *module,
     if (some_meet(before, it))
         return SFI_RUN_CHANGE_MEETS;
     struct native_world *const made = new_world(before->count + it->image.count);
-    if (made == NULL || !make_of_module(it, made->all + before->count)) {
+    struct native_sandbox *const all = made != NULL ? made->all + before->count : NULL;
+    if (made == NULL || !((it->is_native && make_of_module(it, true, all)) || make_of_module(it, false, all))) {
         free(made);
         return SFI_RUN_CHANGE_NO_MEMORY;
     }

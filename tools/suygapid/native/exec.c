@@ -243,8 +243,7 @@ static bool read_image(int image) {
         return false;
     image_size = bytes_of_text(bytes, image_size);
     image_bytes = bytes;
-    return sfi_read_image(bytes, image_size, &loaded) && !has_single_masks(bytes) && loaded.count == 1 &&
-        loaded.sandboxes[0].data_size % SFI_ZONE == 0;
+    return sfi_read_image(bytes, image_size, &loaded) && loaded.count == 1 && loaded.sandboxes[0].data_size % SFI_ZONE == 0;
 }
 
 /* Loads the image in a file and its code, which the program SFI makes. Whether it can be run. */
@@ -253,7 +252,7 @@ static bool load(const char *program, int image, struct sfi_run_world *world) {
     const uint8_t *const file = read_image(image) ? answer(program, "native", image, &length) : NULL;
     struct native_world *const made = new_world(1);
     if (file == NULL || !is_of_image(file, length) || !sfi_map_code(file, length, loaded.sandboxes, 1, codes) || made == NULL ||
-        !make_sandboxes(loaded.sandboxes, 1, made->all))
+        !make_sandboxes(loaded.sandboxes, 1, true, made->all))
         return false;
     world->held = 1;
     world->at = made;
