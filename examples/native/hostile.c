@@ -43,7 +43,7 @@ static void test_steps(void) {
     struct world none = new_world(ROUNDS, BY_EXIT);
     take_turn(&none, 0);
     check(none.how == SFI_NEXT && none.hart.left == 0 && none.hart.pc == sandbox->start, "a turn without a step");
-    sfi_free_data(sandbox, none.hart.data);
+    sfi_free_data(sandbox, 1, none.hart.data);
     for (size_t k = 0; k < sizeof left / sizeof *left; k++)
         for (sfi_u32 rounds = 0; rounds < 40; rounds += 13)
             try_run(rounds, rounds % 2 ? ABOVE : BELOW, left[k], "a turn of that many steps");
@@ -78,7 +78,7 @@ static void test_worlds(void) {
     }
     for (int k = 0; k < WORLDS; k++) {
         check(is_as_translated(&worlds[k], 100 + k % 50, k % 3 - 1, 333), "one of many worlds");
-        sfi_free_data(sandbox, worlds[k].hart.data);
+        sfi_free_data(sandbox, 1, worlds[k].hart.data);
     }
 }
 
@@ -118,7 +118,7 @@ static void try_ticks(void (*handler)(int), int least) {
     while (ticks < least)
         try_endings("a run among a timer's ticks");
     set_timer(SIG_IGN, 0, 0);
-    sfi_free_data(sandbox, inner.hart.data);
+    sfi_free_data(sandbox, 1, inner.hart.data);
 }
 
 static void test_timer(void) {
@@ -136,7 +136,7 @@ static void test_fork(void) {
     if (child == 0)
         _exit(failures != 0);
     end_child(child, "a child between turns");
-    sfi_free_data(sandbox, it.hart.data);
+    sfi_free_data(sandbox, 1, it.hart.data);
     try_ticks(on_forking_tick, 30);
 }
 
@@ -210,7 +210,7 @@ static void test_handler_before(void) {
     check(faults == 5 && is_masked, "a signal that is sent");
     try_hidden_data(&it, &hidden, SIGSEGV);
     try_hidden_data(&it, &lost, SIGBUS);
-    sfi_free_data(sandbox, it.hart.data);
+    sfi_free_data(sandbox, 1, it.hart.data);
     try_endings("a run after faults");
 }
 
@@ -262,6 +262,47 @@ static void test_handler_once(void) {
     check(fate(0) == SIGSEGV, "a handler for one fault gets one");
 }
 
+/* ---- accesses anywhere */
+
+/* Numbers at which something begins or ends: each power of two, and these places, with their neighbours. */
+static size_t edges(sfi_u32 found[], size_t room) {
+    const sfi_u32 places[] = { 0, sandbox->data_size, sandbox->data_size + SFI_ZONE, sandbox->data - SFI_ZONE, sandbox->data,
+        sandbox->data + sandbox->data_size, sandbox->data + sandbox->data_size + SFI_ZONE, sandbox->code };
+    size_t count = 0;
+    for (sfi_u32 k = 0; k < 32 + sizeof places / sizeof *places; k++)
+        for (sfi_u32 beside = 0; beside < 14 && count < room; beside++)
+            found[count++] = (k < 32 ? 1u << k : places[k - 32]) + (const sfi_u32[]){ 0, 1, 2, 3, 4, 5, -1u, -2u, -3u, -4u, -2047u, -2048u, 2047, 2048 }[beside];
+    return count;
+}
+
+/* Runs to accesses by sp, gp or tp with that number, which is no type's. Whether it trapped. */
+static int try_plain(int base, sfi_u32 number) {
+    struct world it = new_world(0, PLAIN), other = translated(0, BY_EXIT, 1000000);
+    restart(&other, 0, PLAIN);
+    it.hart.x[base] = other.hart.x[base] = number;
+    take_turn(&it, 1000000);
+    other.hart.left = 1000000;
+    other.how = sfi_turn(sandbox, &other.hart, &other.at);
+    check(is_same(&it, &other), "an access by any number");
+    sfi_free_data(sandbox, 1, it.hart.data);
+    free(other.hart.data);
+    return it.how == SFI_LOAD || it.how == SFI_STORE;
+}
+
+/* Where masks are single, native code may access whatever a data register holds: what isn't in the data traps, each time by a fault. */
+static void test_anywhere(void) {
+    static sfi_u32 numbers[1000];
+    const size_t count = edges(numbers, sizeof numbers / sizeof *numbers);
+    struct sigaction action = { .sa_flags = SA_SIGINFO | SA_NODEFER };
+    int traps = 0, runs = 0;
+    action.sa_sigaction = later_handler;
+    sigaction(SIGSEGV, &action, &before_later);
+    for (int base = 2; sandbox->single && base < 5; base++)
+        for (size_t k = 0; k < count; k++, runs++)
+            traps += try_plain(base, numbers[k]);
+    check(later_faults == traps && (traps > runs / 2 || !sandbox->single), "traps are faults");
+}
+
 /* ---- maps and files */
 
 /* How many pages are mapped. */
@@ -279,12 +320,12 @@ static void test_maps(void) {
     const long before = mapped_pages();
     for (; !is_done; tries++) {
         maps_left = tries;
-        uint8_t *const data = sfi_new_data(sandbox);
+        uint8_t *const data = sfi_new_data(sandbox, 1);
         is_done = data != NULL && sfi_map_code(file, length, sandbox, 1, &other);
         maps_left = -1;
         if (is_done)
             sfi_unmap_code(&other, 1);
-        sfi_free_data(sandbox, data);
+        sfi_free_data(sandbox, 1, data);
         check(mapped_pages() == before, "what is mapped is given back");
     }
     check(tries == 6, "each call of mmap and mprotect may fail");
@@ -319,7 +360,7 @@ static const struct test {
     enum before before;
 } tests[] = {
     { "steps", test_steps, DEFAULT }, { "threads", test_threads, DEFAULT }, { "worlds", test_worlds, DEFAULT },
-    { "timer", test_timer, DEFAULT }, { "fork", test_fork, DEFAULT }, { "files", test_files, DEFAULT }, { "maps", test_maps, DEFAULT },
+    { "anywhere", test_anywhere, DEFAULT }, { "timer", test_timer, DEFAULT }, { "fork", test_fork, DEFAULT }, { "files", test_files, DEFAULT }, { "maps", test_maps, DEFAULT },
     { "fates", test_fates, DEFAULT }, { "ignored", test_ignored, IGNORED }, { "handler-once", test_handler_once, HANDLED_ONCE },
     { "handler-before", test_handler_before, HANDLED }, { "handler-after", test_handler_after, HANDLED },
 };

@@ -11,7 +11,7 @@
 #include <unistd.h>
 #include "sfi_native_code.h"
 
-enum { ROUNDS = 3000, WORLDS = 1000, THREADS = 8, ABOVE = 1, BELOW = -1, BY_EXIT = 0 };
+enum { ROUNDS = 3000, WORLDS = 1000, THREADS = 8, ABOVE = 1, BELOW = -1, BY_EXIT = 0, PLAIN = 2 };
 static const struct sfi_sandbox *const sandbox = &sfi_sandboxes[0];
 static struct sfi_code code;
 static uint8_t *file;
@@ -53,7 +53,7 @@ static void run(struct world *it, sfi_u32 quantum) {
 }
 
 static struct world new_world(sfi_u32 rounds, int ending) {
-    struct world it = { .hart.data = sfi_new_data(sandbox) };
+    struct world it = { .hart.data = sfi_new_data(sandbox, 1) };
     if (it.hart.data == NULL)
         abort();
     restart(&it, rounds, ending);
@@ -91,7 +91,7 @@ static void try_run(sfi_u32 rounds, int ending, sfi_u32 quantum, const char *wha
     struct world it = new_world(rounds, ending);
     run(&it, quantum);
     check(is_as_translated(&it, rounds, ending, quantum), what);
-    sfi_free_data(sandbox, it.hart.data);
+    sfi_free_data(sandbox, 1, it.hart.data);
 }
 
 /* Runs with each ending. */

@@ -5,24 +5,25 @@ import os
 import struct
 import subprocess
 
+import testing
 from suygapid.isa import decoding
 
 HERE = os.path.dirname(os.path.abspath(__file__))
 SOURCE, DECODER = (os.path.join(HERE, it) for it in ("hostile.s", "decode.c"))
 HOSTS = {  # the files of each host, and its tests
-    ("hostile.c",): ("steps", "threads", "worlds", "timer", "fork", "files", "maps", "fates", "ignored", "handler-once", "handler-before",
-                     "handler-after"),
+    ("hostile.c",): ("steps", "threads", "worlds", "anywhere", "timer", "fork", "files", "maps", "fates", "ignored", "handler-once",
+                     "handler-before", "handler-after"),
     ("hostile_signals.c", "hostile_other.c"): ("each-instruction", "nested", "thread-signals", "thread-forks", "thread-maps", "first", "stacks",
                                                "faults", "kept", "copies"),
 }
 # Each build, with tests that it leaves out. The thread sanitizer blocks all signals while a handler runs, and so a sandbox's faults
 # there; it and the address sanitizer want larger stacks than the smallest.
-WITH_HANDLERS = {"timer", "fork", "files", "maps", "fates", "ignored", "handler-once", "handler-before", "handler-after", "each-instruction", "nested",
+WITH_HANDLERS = {"anywhere", "timer", "fork", "files", "maps", "fates", "ignored", "handler-once", "handler-before", "handler-after", "each-instruction", "nested",
                  "thread-signals", "thread-forks", "first", "stacks", "faults", "kept", "copies"}
 BUILDS = (
     (("gcc", "-O2"), set()),
     (("clang", "-O2"), set()),
-    (("gcc", "-O1", "-g", "-fsanitize=thread"), WITH_HANDLERS),
+    (("gcc", "-O1", "-g", "-fsanitize=thread"), WITH_HANDLERS | {"worlds"}),  # it has no room for as many windows of 4 GiB
     (("gcc", "-O1", "-g", "-fsanitize=address,undefined", "-fno-sanitize-recover"), {"stacks", "thread-forks"}),
 )
 SECONDS = 600  # that a test may take before it counts as hung
@@ -33,20 +34,21 @@ DECODED = 20000  # words of 32 bits
 
 def tests(run, sfi, compilers, flags, folder):
     """What each test is, and whether it passed. `run` gives a program's output."""
+    text, native, host = (os.path.join(folder, it) for it in ("hostile.inc", "hostile.native", "hostile"))
     with open(SOURCE, "rb") as file:
-        image = run([sfi, "build"], file.read())
-    text, native = (os.path.join(folder, it) for it in ("hostile.inc", "hostile.native"))
-    for path, data in ((text, run([sfi, "translate"], image)), (native, run([sfi, "native"], image))):
-        with open(path, "wb") as file:
-            file.write(data)
-    for compiler, left_out in BUILDS:
-        for files, names in HOSTS.items() if compiler[0] in compilers else ():
-            host = os.path.join(folder, "hostile")
-            sources = [os.path.join(HERE, it) for it in files]
-            subprocess.run([*compiler, *flags, f'-DSFI_TEXT="{text}"', *sources, "-pthread", "-o", host], check=True)
-            for name in names:
-                if name not in left_out:
-                    yield f"{files[0]}, {name}, by {' '.join(compiler)}", is_passed([host, native, name])
+        source = file.read()
+    for format, builds in ((b"words", BUILDS), (b"single", [BUILDS[0], *testing.by_turns(BUILDS[1:], 1)])):
+        image = run([sfi, "build"], source.replace(b".format words", b".format " + format))
+        for path, data in ((text, run([sfi, "translate"], image)), (native, run([sfi, "native"], image))):
+            with open(path, "wb") as file:
+                file.write(data)
+        for compiler, left_out in builds:
+            for files, names in HOSTS.items() if compiler[0] in compilers else ():
+                sources = [os.path.join(HERE, it) for it in files]
+                subprocess.run([*compiler, *flags, f'-DSFI_TEXT="{text}"', *sources, "-pthread", "-o", host], check=True)
+                for name in names:
+                    if name not in left_out:
+                        yield f"{files[0]}, {name}, {format.decode()}, by {' '.join(compiler)}", is_passed([host, native, name])
 
 
 def is_passed(words):

@@ -36,7 +36,7 @@ static struct inner new_inner(sfi_u32 rounds, sfi_u32 steps) {
 }
 
 static void free_inner(struct inner *it) {
-    sfi_free_data(sandbox, it->world.hart.data);
+    sfi_free_data(sandbox, 1, it->world.hart.data);
     for (int k = 0; k < 3; k++)
         free(it->wanted[k].hart.data);
 }
@@ -86,7 +86,7 @@ static void test_each_instruction(void) {
         run(&it, 400);
         is_stepping = 0;
         check(is_as_translated(&it, 40, ending_of(k), 400), "a run that is interrupted at each instruction");
-        sfi_free_data(sandbox, it.hart.data);
+        sfi_free_data(sandbox, 1, it.hart.data);
     }
     check(instructions > 3 * 40 * 15 && stepped.runs > 50, "there is a signal at each instruction");
     free_inner(&stepped);
@@ -196,7 +196,7 @@ static void test_fork_among_threads(void) {
         if (child == 0)
             _exit(failures != 0);
         end_child(child, "a child of a host of threads");
-        sfi_free_data(sandbox, it.hart.data);
+        sfi_free_data(sandbox, 1, it.hart.data);
     }
     join(threads);
 }
@@ -212,7 +212,7 @@ static void *map_thread(void *number) {
         }
         sfi_unmap_code(&own, 1);
         check(is_as_translated(&it, 100, ending_of(k), 333), "a run by code of its own");
-        sfi_free_data(sandbox, it.hart.data);
+        sfi_free_data(sandbox, 1, it.hart.data);
         maps_done++;
     }
     return NULL;
@@ -235,7 +235,7 @@ static void *first_thread(void *number) {
     struct world it = new_world(100, ending_of(1 + (int)(uintptr_t)number % 2));
     run(&it, 1000000);
     check(it.how == ((uintptr_t)number % 2 == 0 ? SFI_STORE : SFI_LOAD), "a thread's first trap");
-    sfi_free_data(sandbox, it.hart.data);
+    sfi_free_data(sandbox, 1, it.hart.data);
     return NULL;
 }
 
@@ -285,7 +285,7 @@ static void *small_thread(void *number) {
         struct world it = new_world(100, ending_of(k));
         run(&it, 333);
         check(it.how == (const int[]){ SFI_CALL, SFI_STORE, SFI_LOAD }[k % 3], "a run on a small stack");
-        sfi_free_data(sandbox, it.hart.data);
+        sfi_free_data(sandbox, 1, it.hart.data);
     }
     return NULL;
 }

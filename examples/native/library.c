@@ -14,10 +14,11 @@
 #include <stdlib.h>
 #include <string.h>
 #include <sys/mman.h>
+#include <sys/resource.h>
 #include <sys/wait.h>
 #include <unistd.h>
 
-enum { THREADS = 6, LIVES = 300, CALLS = 20, WORLDS_MOST = 70000, STEPS = 1000, DATA = 4096, MOST_IMAGE = 1 << 16 };
+enum { THREADS = 6, LIVES = 300, CALLS = 20, WORLDS_MOST = 70000, STEPS = 1000, DATA = 4096, MOST_IMAGE = 1 << 16, FORMAT_AT = 3 };
 
 static void wanted(bool is_so, const char *what) {
     if (is_so)
@@ -85,8 +86,26 @@ static void see_fault(struct sfi_run_world *world, uint32_t sandbox, const struc
     wanted(event.kind == SFI_RUN_TRAPPED && event.number == SFI_RUN_LOAD && event.a0 == data.base - 4, "fault traps");
 }
 
+static bool has_single_masks(const struct image *image) {
+    return image->bytes[FORMAT_AT] == 'S';
+}
+
+/* A load from any address: one of the data's first word, or with single masks one that traps where it is. */
+static void see_load(struct sfi_run_world *world, uint32_t sandbox, const struct image *image, uint32_t address) {
+    const uint32_t arguments[8] = {address}, at = address & (DATA - 1);
+    struct sfi_run_event event;
+    wanted(sfi_run_call(world, sandbox, export(image, "load"), arguments, STEPS, &event), "load is entered");
+    if (has_single_masks(image))
+        wanted(event.kind == SFI_RUN_TRAPPED && event.number == SFI_RUN_LOAD && event.a0 == at, "load traps");
+    else
+        wanted(event.kind == SFI_RUN_CALL && (at != 0 || event.a0 == 7) && sfi_run_exit(world, sandbox, 0), "load loads");
+}
+
 static void see_all(struct sfi_run_world *world, uint32_t sandbox, const struct image *image) {
     end_start(world, sandbox);
+    see_load(world, sandbox, image, 0);
+    see_load(world, sandbox, image, DATA - 4);
+    see_load(world, sandbox, image, 0x00100000);
     see_add(world, sandbox, image, 40, 2);
     see_fault(world, sandbox, image);
     wanted(sfi_run_reset(world, sandbox) && sfi_run_steps(world, sandbox) == 0, "it is reset");
@@ -259,6 +278,42 @@ static void handler_after(void) {
     sfi_run_free(&world);
 }
 
+/* Has the process no more than so many addresses beyond those that it has; all, if that is 0. */
+static void limit_addresses(size_t more) {
+    enum { PAGE = 4096 };
+    struct rlimit limit;
+    FILE *const file = fopen("/proc/self/statm", "r");
+    size_t pages = 0;
+    wanted(file != NULL && fscanf(file, "%zu", &pages) == 1 && getrlimit(RLIMIT_AS, &limit) == 0, "the addresses are told");
+    fclose(file);
+    limit.rlim_cur = more ? pages * PAGE + more : limit.rlim_max;
+    wanted(setrlimit(RLIMIT_AS, &limit) == 0, "the addresses are limited");
+}
+
+/* Where there is no room for a window of 4 GiB, what wants one goes step by step. */
+static void limited(void) {
+    const uint32_t engine = has_single_masks(&whole) ? SFI_RUN_INTERPRETED : SFI_RUN_NATIVE;
+    struct sfi_run_world native = world_of(&whole);
+    struct sfi_run_module beside = module_of(&far);
+    uint32_t first = 0;
+    limit_addresses(1 << 30);
+    struct sfi_run_world under = world_of(&far);
+    wanted(sfi_run_engine(&under) == engine, "it is native where it can be");
+    see_all(&under, 0, &far);
+    wanted(sfi_run_add(&native, &beside, &first) == SFI_RUN_CHANGED && first == 1, "another is added");
+    wanted(sfi_run_engine(&native) == engine, "it is native where it can be, too");
+    see_all(&native, 0, &whole);
+    see_all(&native, 1, &far);
+    limit_addresses(0);
+    see_all(&native, 1, &far);
+    wanted(sfi_run_remove(&native, 1) == SFI_RUN_CHANGED && sfi_run_engine(&native) == SFI_RUN_NATIVE, "the other is native");
+    wanted(sfi_run_instance(&beside, &under) && sfi_run_engine(&under) == SFI_RUN_NATIVE, "there is room again");
+    see_all(&under, 0, &far);
+    sfi_run_free(&under);
+    sfi_run_free(&native);
+    sfi_run_module_free(&beside);
+}
+
 /* Whether the host can have many more maps. */
 static bool has_maps(void) {
     enum { PAGE = 4096, PAGES = 4000 };
@@ -295,7 +350,7 @@ int main(int count, char **words) {
         const char *name;
         void (*test)(void);
     } tests[] = {{"engines", engines}, {"calls-back", calls_back}, {"threads", threads}, {"stack", stack}, {"forks", forks},
-                 {"handler-before", handler_before}, {"handler-after", handler_after}, {"maps", maps}};
+                 {"handler-before", handler_before}, {"handler-after", handler_after}, {"limited", limited}, {"maps", maps}};
     wanted(count == 5, "there are four words");
     read_image(words[1], &whole);
     read_image(words[2], &far);

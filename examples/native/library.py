@@ -21,33 +21,36 @@ import libraries
 import measure
 import testing
 
-TESTS = ("engines", "calls-back", "threads", "stack", "forks", "handler-before", "handler-after", "maps")
-# Each build, with tests that it leaves out: sanitizers want larger stacks than the least, and maps of their own.
+TESTS = ("engines", "calls-back", "threads", "stack", "forks", "handler-before", "handler-after", "limited", "maps")
+# Each build, with tests that it leaves out: sanitizers want larger stacks than the least, and maps and addresses of their own.
 BUILDS = (
     (("gcc", "-O2"), set()),
     (("clang", "-O2"), set()),
-    (("gcc", "-O1", "-g", "-fsanitize=thread"), {"stack", "maps"}),
-    (("gcc", "-O1", "-g", "-fsanitize=address,undefined", "-fno-sanitize-recover"), {"stack", "maps"}),
+    (("gcc", "-O1", "-g", "-fsanitize=thread"), {"stack", "limited", "maps"}),
+    (("gcc", "-O1", "-g", "-fsanitize=address,undefined", "-fno-sanitize-recover"), {"stack", "limited", "maps"}),
 )
 WARNINGS = ["-std=gnu11", "-Wall", "-Wextra", "-Werror"]
-IMAGES = (("whole", "1000000:1800000", 4096), ("far", "2000000:2800000", 4096), ("small", "4000000:4800000", 256))  # places, bytes of data
+SIZES = {"whole": 4096, "far": 4096, "small": 256}  # bytes of data
+PLACES = {"words": ("1000000:1800000", "2000000:2800000", "4000000:4800000"),
+          "single": ("1000000:80000000", "2000000:800000", "4000000:40000000")}
 SECONDS = 300  # that a test may take
 ENGINE = "import sys, sfi_run; print(sfi_run.World(open(sys.argv[1], 'rb').read()).engine)"
 
 
-def built_images(program, folder):
+def built_images(program, folder, format):
     """The paths of the images."""
     with open(os.path.join(HERE, "library.s"), encoding="ascii") as file:
-        text = file.read()
-    for name, place, size in IMAGES:
+        text = file.read().replace(".format words", f".format {format}")
+    for (name, size), place in zip(SIZES.items(), PLACES[format]):
         with open(os.path.join(folder, name), "wb") as file:
             source = re.sub(r"(?m)^\.sandbox \d+", f".sandbox {size}", text).encode()
             subprocess.run([program, "build", "--raw", "--at", place], input=source, stdout=file, check=True)
-    return [os.path.join(folder, name) for name, _, _ in IMAGES]
+    return [os.path.join(folder, name) for name in SIZES]
 
 
 def host(compiler, parts, folder):
     """The path of the host, by a compiler."""
+    os.makedirs(folder)
     own, path = (os.path.join(folder, it) for it in ("own.o", "host"))
     libraries.compile_native(own, compiler)
     included = [f"-I{libraries.path(it, 'include')}" for it in ("sfi_native", "sfi_run", "sfi_c")]
@@ -74,16 +77,16 @@ def is_its_own(given, image, folder):
 
 def tried(given, folder):
     """What each test is, and whether it passed."""
-    images = built_images(given.program, folder)
-    yield "beside libsfi_run", is_its_own(given, images[0], folder)
     parts = libraries.native_parts(given.library, given.commands, folder)
-    for compiler, left_out in [BUILDS[0], *testing.by_turns(BUILDS[1:], 1)]:
-        if not shutil.which(compiler[0]):
-            continue
-        path = host(compiler, parts, folder)
-        for name in TESTS:
-            if name not in left_out:
-                yield f"{name}, by {' '.join(compiler)}", is_passed([path, *images, name])
+    builds = [it for it in [BUILDS[0], *testing.by_turns(BUILDS[1:], 1)] if shutil.which(it[0][0])]
+    hosts = [(compiler, left_out, host(compiler, parts, os.path.join(folder, str(k)))) for k, (compiler, left_out) in enumerate(builds)]
+    for format in PLACES:
+        images = built_images(given.program, folder, format)
+        yield f"beside libsfi_run, {format}", is_its_own(given, images[0], folder)
+        for compiler, left_out, path in hosts:
+            for name in TESTS:
+                if name not in left_out:
+                    yield f"{name}, {format}, by {' '.join(compiler)}", is_passed([path, *images, name])
 
 
 def main():

@@ -5,6 +5,7 @@
 .gate ask 3
 .export add
 .export fault
+.export load
 .export doubled
 
         call exit
@@ -14,6 +15,9 @@ add:    add  a0, a0, a1
 
 fault:  la   t0, first              # four bytes below the data
         lw   a0, -4(t0)
+        ret
+
+load:   lw   a0, 0(a0)
         ret
 
 doubled:

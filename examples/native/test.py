@@ -7,6 +7,7 @@ is that of zlib; files with bytes changed or missing are refused, also by a righ
 """
 import os
 import random
+import resource
 import shutil
 import struct
 import subprocess
@@ -75,31 +76,37 @@ def other_files(file):
         yield f"{place} bytes", file[:place]
     for place in (FRONT, FRONT + 1, SIZES - 1, SIZES + 7, SIZES + 8, len(file) // 2, len(file) - 9):
         yield f"{place} bytes and a checksum", closed(file[:place])
+    for format in {b"W": b"S1", b"S": b"W1"}.get(file[19:20], b""):
+        yield f"the format {format}", closed(file[:19] + bytes([format]) + file[20:-8])
     for place in (SIZES, SIZES + 4):
         for size in (0, 2 ** 31, 2 ** 32 - 1):
             yield f"size {size} at {place}", closed(file[:place] + struct.pack("<I", size) + file[place + 4:-8])
 
 
-def is_loaded(folder, image, file):
-    """Whether the host of `sfi exec` runs the image by that file, which stands for what a program answers."""
+def is_loaded(folder, image, file, most=resource.RLIM_INFINITY):
+    """Whether the host of `sfi exec` runs the image by that file, which stands for what a program answers, with so many addresses."""
     paths = [written(os.path.join(folder, name), data) for name, data in (("image", image), ("native", file))]
     program = written(os.path.join(folder, "program"), f"#!/bin/sh\nexec cat {paths[1]}\n".encode())
     os.chmod(program, 0o755)
-    return printed([native.HOST, "--program", program, "--told", "1", paths[0], "1", "1", "--"]).startswith(native.LOADED)
+    limit = ["prlimit", f"--as={most}"] if most != resource.RLIM_INFINITY else []
+    return printed([*limit, native.HOST, "--program", program, "--told", "1", paths[0], "1", "1", "--"]).startswith(native.LOADED)
 
 
 def try_refusals(sfi, folder, image):
     """Whether files that aren't whole are refused."""
     file = printed([sfi, "native"], image)
+    is_wide = guarded.layout.parts(image)[0].format == guarded.layout.SINGLE  # it takes 4 GiB of addresses
     yield "the file itself is loaded", is_loaded(folder, image, file)
+    yield "the file is loaded within 2 GiB", is_loaded(folder, image, file, 1 << 31) != is_wide
+    yield "the file is loaded within 6 GiB", is_loaded(folder, image, file, 6 << 30)
     for what, other in other_files(file):
         yield f"a file with {what} is loaded", not is_loaded(folder, image, other)
 
 
 def try_zones(sfi, images):
-    """Whether loads and stores of these images trap below the data and above them."""
+    """Whether loads and stores of these images trap below the data and above them, and on both sides of address 0."""
     zones = set().union(*(guarded.trapping_zones(printed([sfi, "run"], it), it) for it in images))
-    yield f"accesses trap in {sorted(zones)} alone", len(zones) == 4
+    yield f"accesses trap in {sorted(zones)} alone", len(zones) == 8
 
 
 def main():
@@ -111,14 +118,16 @@ def main():
         return 0
     pick = random.Random(given.seed)
     images = [guarded.grown(it) for it in corpus.examples(given.program)] + guarded.images(pick, given.program, given.images)
-    images = [it for it in images if natively.has_pages(it) and guarded.layout.parts(it)[0].format in guarded.FORMATS]
+    images = [it for it in images if natively.has_pages(it)]
     tried = [(f"{len(images)} images have data of whole pages", len(images) > given.images), ("the host is there", native.make() is not None)]
     tried += try_zones(given.program, images)
     with tempfile.TemporaryDirectory() as folder:
         library = natively.library(given.library, given.commands, folder)
         for image in images:
             tried += try_image(given.program, library, image)
-        tried += try_refusals(given.program, folder, next(it for it in images if len(guarded.layout.parts(it)) == 1))
+        alone = {parts[0].format: it for it in images if len(parts := guarded.layout.parts(it)) == 1}
+        for image in alone.values():
+            tried += try_refusals(given.program, folder, image)
         tried += hostile.decodes(printed, compilers[0], FLAGS, folder, pick)
         tried += hostile.tests(printed, given.program, [it[0] for it in compilers], FLAGS, folder)
     return trial.ended(tried)
