@@ -2,15 +2,15 @@
    file must be what `sfi native` wrote of this image, kept with it: only its checksum and the sandboxes' fields are compared. The
    image's translation (sfi_native.h) has the sandboxes, and the steps that code leaves to the host. A thread that takes turns doesn't
    block SIGSEGV and SIGBUS, nor leave a turn by longjmp. Where masks have two steps, a typed register with what its type forbids
-   reaches 4 GiB off the data (docs/IMAGE.md). Not proved: that this file keeps crates/sfi_native/specs (File, Layout, Table, Faults, Host, Whole). */
+   reaches 4 GiB off the data (docs/IMAGE.md). Not proved: that this file keeps crates/sfi_native/specs (File, Layout, Table, Faults,
+   Host, Whole). */
 #ifndef SFI_NATIVE_CODE_H
 #define SFI_NATIVE_CODE_H
 #include "sfi_native_guards.h"
 #if !defined(__x86_64__) || !defined(__LP64__) || !defined(__linux__)
 #error "native code wants Linux on x86-64, with pointers of 64 bits"
 #endif
-enum { SFI_ASSIGNABLE = 0x3fe8, SFI_KEPT = 14, SFI_FIXED = 0xf000001, SFI_COUNTED = 0x7fffffff };  /* rbx, rbp, rsi, rdi, r8 to r13; x0, x24 to
-    x27, but not x26 where masks are single */
+enum { SFI_ASSIGNABLE = 0x3fe8, SFI_KEPT = 14, SFI_FIXED = 0xf000001, SFI_COUNTED = 0x7fffffff };  /* rbx, rbp, rsi, rdi, r8 to r13; x0, x24 to x27 */
 enum { SFI_FRONT = 24, SFI_FIELDS = 28, SFI_PLACES = 32, SFI_ACCESS = 12, SFI_BACK = 8, SFI_IN_FRAME = 255 };  /* in the file: specs/File.antt */
 
 /* A sandbox's code in a map of its own: the text, up to the way out; behind it, not to be executed, the table, which has each unit's
@@ -108,7 +108,7 @@ static void sfi_unmap_code(struct sfi_code codes[], size_t count) {  /* while no
 
 /* Reads where registers are. Whether no two are in one, and none where it can't be. */
 static int sfi_hold_registers(const uint8_t *places, struct sfi_code *code) {
-    const sfi_u32 fixed = SFI_FIXED & ~(code->sandbox->single << 26);
+    const sfi_u32 fixed = SFI_FIXED & ~(code->sandbox->single << 26);  /* x26 is a typed register there */
     sfi_u32 free = SFI_ASSIGNABLE;
     for (int r = 0; r < SFI_PLACES; r++) {
         const uint8_t place = places[r];

@@ -11,7 +11,8 @@
 #endif
 
 enum { SFI_ZONE = 4096 };  /* the bytes of a guard zone (docs/IMAGE.md), and of a page */
-enum { SFI_DATA_MOST = 20000 };  /* made and not freed: each takes 2 or 3 of the 65530 maps that Linux gives a process */
+/* Made and not freed: each takes 2 or 3 of the 65530 maps that Linux gives a process, and where masks are single 4 GiB of its 128 TiB. */
+enum { SFI_DATA_MOST = 20000 };
 static size_t sfi_data_count;
 
 /* Whether the fault at that address is one of a sandbox's access: then the registers are where it goes on. An includer has it. */
