@@ -230,6 +230,24 @@ class Native(unittest.TestCase):
         self.assertEqual((world.turn(0, 9).kind, world.steps(0)), (worlds.TRAPPED, 1))
         world.free()
 
+    def test_single_masks_lead_to_the_data_or_to_a_trap(self):
+        """By hand: `and x31, x10, x27`, which is 80000fff, and `lw x10, N(x31)`."""
+        rows = [(0, 0, 0), (0x1000, 0, 0), (0x40000000, 0, 0), (0x7fffffff, 0, 0xfff), (0, -1, 0xffffffff), (0xfff, 2047, 0x17fe),
+                (0xffffffff, 0, 0x80000fff), (0x80000ffd, 4, 0x80001001), (0x80000000, -4, 0x7ffffffc), (0x80001000, 0, None),
+                (0xc0000ffc, 0, None)]
+        path = natively.library(calls.LIBRARY, natively.COMMANDS)
+        for a0, number, trap in rows:
+            words = struct.pack("<2I", 0x01b57fb3, (number & 0xfff) << 20 | 31 << 15 | 2 << 12 | 10 << 7 | 3) + 62 * b"\x73\0\x10\0"
+            image = b"SFIS" + struct.pack("<8I", 1, 0x1000000, len(words), 0x80000000, natively.PAGE, 0x1000000, 0, 0) + words
+            world = worlds.Library(worlds.Calls(path))
+            world.load(image)
+            self.assertTrue(natively.is_native(path, world))
+            self.assertTrue(world.stop(0) and world.enter(0, 0x1000000, [a0] + [0] * 7))
+            event = world.turn(0, 1000)
+            wanted = (worlds.TRAPPED, *((3, 0x1000008, 0x1000008, 2) if trap is None else (4, trap, 0x1000004, 1)))
+            self.assertEqual((event.kind, event.number, event.a0, event.pc, world.steps(0)), wanted, f"{a0:x} {number}")
+            world.free()
+
     def test_a_fault_of_the_process_is_told(self):
         printed = io.StringIO()
         with contextlib.redirect_stdout(printed):
