@@ -4,6 +4,7 @@ import signal
 import threading
 import time
 import unittest
+from unittest import mock
 
 from test_calls import AT, IMAGE
 from test_sfi_run import built  # which also finds the package
@@ -43,6 +44,27 @@ more:   addi s0, s0, -1
         bnez s0, more
 far:    j    far
 """
+
+
+class Telling(sfi_run.Library):
+    """The library, which tells that a turn begins."""
+
+    def __init__(self):
+        super().__init__()
+        self.begins = threading.Event()
+
+    def __getitem__(self, name):
+        if name in ("turn", "until"):
+            self.begins.set()
+        return super().__getitem__(name)
+
+
+class Clock:
+    """One that stands still until it is set."""
+    now = 0.0
+
+    def monotonic(self):
+        return self.now
 
 
 class Later:
@@ -96,19 +118,24 @@ class Limits(unittest.TestCase):
     def test_a_signal(self):
         def raises(number, frame):
             raise KeyboardInterrupt
-        before = signal.signal(signal.SIGINT, raises)
+        before, telling = signal.signal(signal.SIGINT, raises), Telling()
         self.addCleanup(signal.signal, signal.SIGINT, before)
-        for run in (lambda: self.sandbox.call(AT["spin"], 7, steps=MANY), lambda: self.sandbox.turn((1 << 32) - 1),
-                    lambda: self.sandbox.until([AT["get"]], (1 << 32) - 1), lambda: list(self.sandbox.events(MANY))):
-            timer = soon(lambda: signal.raise_signal(signal.SIGINT))
+        world = sfi_run.World(IMAGE, telling)
+        self.addCleanup(world.close)
+        sandbox = world[0]
+        sandbox.stop()
+        for run in (lambda: sandbox.call(AT["spin"], 7, steps=MANY), lambda: sandbox.turn((1 << 32) - 1),
+                    lambda: sandbox.until([AT["get"]], (1 << 32) - 1), lambda: list(sandbox.events(MANY))):
+            telling.begins.clear()
+            sender = threading.Thread(target=lambda: telling.begins.wait() and signal.raise_signal(signal.SIGINT), daemon=True)
+            sender.start()
             with self.assertRaises(KeyboardInterrupt):
                 run()
-                time.sleep(1)
-            timer.join()
-            if isinstance(self.sandbox.event, sfi_run.Ready):
-                self.sandbox.stop()
-            self.assertEqual(self.sandbox.call(AT["get"], 61, steps=100), 1061)
-            self.sandbox.enter(AT["spin"])
+            sender.join()
+            if isinstance(sandbox.event, sfi_run.Ready):
+                sandbox.stop()
+            self.assertEqual(sandbox.call(AT["get"], 61, steps=100), 1061)
+            sandbox.enter(AT["spin"])
 
     def test_so_many_steps(self):
         before = self.sandbox.steps
@@ -117,14 +144,15 @@ class Limits(unittest.TestCase):
         self.assertEqual(self.sandbox.steps - before, 5 * _limits.STEPS)
 
     def test_calls_of_handlers_end_too(self):
-        found = []
+        found, clock = [], Clock()
 
         def serve(call):
+            clock.now = SOON
             with self.assertRaises(sfi_run.NotReturned) as told:
                 self.sandbox.call(AT["spin"], 7, steps=MANY)
             found.append(told.exception.cause)
             call.reply(call.a0)
-        with self.assertRaises(sfi_run.NotReturned) as told:
+        with mock.patch.object(_limits, "time", clock), self.assertRaises(sfi_run.NotReturned) as told:
             self.sandbox.call(AT["parse"], 7, steps=MANY, serve=serve, timeout=SOON)
         self.assertEqual((found, told.exception.cause), ([Ended.TIMED_OUT], Ended.TIMED_OUT))
         inner = lambda call: (self.ends_within(call), call.reply(call.a0))
@@ -145,11 +173,13 @@ class Limits(unittest.TestCase):
     def test_plugins(self):
         stop = threading.Event()
         with Module(IMAGE) as module:
-            for plugin in (names.Plugin(IMAGE, steps=MANY, timeout=SOON, interrupt=stop), module.instance(steps=MANY, timeout=SOON, interrupt=stop)):
+            for plugin in (names.Plugin(IMAGE, steps=MANY, timeout=60, interrupt=stop), module.instance(steps=MANY, timeout=60, interrupt=stop)):
                 stop.clear()
                 for call in (plugin.spin, lambda: plugin.call64("spin"), lambda: plugin.call_words("spin")):
+                    plugin.timeout = SOON
                     with self.assertRaisesRegex(sfi_run.NotReturned, "is over: its time is over. Of the sandbox: it has stopped"):
                         call()
+                    plugin.timeout = 60
                     self.assertEqual(plugin.get(61), 1061)
                 stop.set()
                 with self.assertRaisesRegex(sfi_run.NotReturned, "it is interrupted"):
