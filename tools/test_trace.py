@@ -87,6 +87,13 @@ class Instructions(Traces):
         self.assertEqual(lines, ["01000000 00100073 ebreak  trap=Break at=01000000",
                                  "sandbox=0 trap=Break at=01000000 steps=0 out="])
 
+    def test_an_image_by_its_bytes_or_digits_whatever_its_name(self):
+        text = self.sfi("build", given=LOOP)
+        wanted = self.traced(self.write("loop.hex", text))
+        (self.room / "loop.image").write_bytes(bytes.fromhex(text))
+        for path in (self.room / "loop.image", self.write("loop", text)):
+            self.assertEqual(self.traced(path), wanted)
+
     def test_the_most_steps(self):
         for steps in ("1", "2", "5"):
             self.assertIn(f" ready steps={steps} ", self.traced("--steps", steps, self.write("loop.s", LOOP))[-1])
@@ -193,6 +200,8 @@ class OfC(Traces):
         subprocess.run([SFI_CC, "--program", SFI, "-g", "-o", linked, self.file], check=True)
         for options in (("--profile", "line"), ("--calls",)):
             self.assertEqual(self.traced(*options, linked), self.traced(*options, self.file))
+        shutil.copy(linked, self.path("slow"))
+        self.assertEqual(self.traced("--calls", self.path("slow")), self.traced("--calls", linked))
 
     def test_a_break_at_a_line(self):
         """With -Og, so that no pass moves an instruction of another line to the front."""
@@ -224,7 +233,7 @@ class Faults(Traces):
             self.assertIn(told, said)
 
     def test_words(self):
-        for words in ([], ["--profile", "other", "a.hex"], ["--steps", "0", "a.hex"], ["--calls", "--break", "a", "a.hex"], ["--input", "1", "a.hex"]):
+        for words in ([], ["--profile", "other", "a.hex"], ["--steps", "0", "a.hex"], ["--calls", "--break", "a", "a.hex"], ["--every", "7", "a.hex"], ["--input", "1", "a.hex"]):
             status, lines, said = self.call(*words)
             self.assertEqual((status, lines), (2, []))
             self.assertIn("usage: sfi-trace", said)

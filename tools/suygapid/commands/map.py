@@ -2,7 +2,7 @@
 
     tools/sfi-map [-o FILE.svg] IMAGE | TEXT.s | PROGRAM.elf | FILE.c .. [OPTIONS OF sfi-cc]
 
-An image may be its own bytes or hexadecimal text (.hex); it is drawn whether it is accepted or not.
+An image may be its own bytes or hexadecimal text; it is drawn whether it is accepted or not.
 """
 import argparse
 import os
@@ -12,7 +12,7 @@ import sys
 from suygapid.commands.options import add_program, add_version
 from suygapid.image.layout import Fault
 from suygapid.pictures.map import picture
-from suygapid.trace.programs import Failed, Program, program
+from suygapid.trace.programs import Failed, program
 
 
 def parsed(words):
@@ -27,20 +27,10 @@ def parsed(words):
     return options, files
 
 
-def shown(sfi, files):
-    """The program of these words, also of an image as bytes."""
-    if len(files) == 1 and os.path.isfile(files[0]):
-        with open(files[0], "rb") as file:
-            data = file.read()
-        if data[:3] == b"SFI":
-            return Program(sfi, data.hex())
-    return program(sfi, files)
-
-
 def main():
     options, files = parsed(sys.argv[1:])
     try:
-        found = shown(options.program, files)
+        found = program(options.program, files)
         report = subprocess.run([options.program, "check", "--report"], input=found.image.hex(), capture_output=True, text=True, check=False).stdout
         drawn = picture(found, os.path.basename(next(it for it in files if not it.startswith("-"))), report)
         with open(options.output or sys.stdout.fileno(), "w", encoding="utf-8", closefd=options.output is not None) as file:

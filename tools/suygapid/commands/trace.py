@@ -1,9 +1,9 @@
 """Runs a program with the console's services, and shows what it does: each instruction, each call, what it comes by at
 breakpoints, or where its steps go, also as a picture.
 
-    tools/sfi-trace [OPTIONS] IMAGE.hex | TEXT.s | PROGRAM.elf | FILE.c .. [OPTIONS OF sfi-cc]
+    tools/sfi-trace [OPTIONS] IMAGE | TEXT.s | PROGRAM.elf | FILE.c .. [OPTIONS OF sfi-cc]
 
-An image has no names; those of a source text are its labels; C is compiled by tools/sfi-cc with -g, and has lines, and so has
+An image, as bytes or hexadecimal text, has no names; those of a source text are its labels; C is compiled by tools/sfi-cc with -g, and has lines, and so has
 what sfi-cc linked with -g. The last lines are those of `sfi run`. docs/C.md says more.
 """
 import argparse
@@ -24,7 +24,7 @@ def count(text):
 
 
 def parsed(words):
-    parser = argparse.ArgumentParser(prog="sfi-trace", usage="sfi-trace [OPTIONS] IMAGE.hex | TEXT.s | PROGRAM.elf | FILE.c .. [OPTIONS OF sfi-cc]",
+    parser = argparse.ArgumentParser(prog="sfi-trace", usage="sfi-trace [OPTIONS] IMAGE | TEXT.s | PROGRAM.elf | FILE.c .. [OPTIONS OF sfi-cc]",
                                      description=__doc__.split("\n\n", maxsplit=1)[0], allow_abbrev=False)
     what = parser.add_mutually_exclusive_group()
     what.add_argument("--calls", action="store_true", help="prints the calls of gates alone, with their replies")
@@ -43,6 +43,8 @@ def parsed(words):
     options, files = parser.parse_known_args(words)
     if not files:
         parser.error("an image, a source text or a FILE of C is wanted")
+    if options.every > 1 and not options.profile:
+        parser.error("--every goes with --profile")
     return options, files
 
 

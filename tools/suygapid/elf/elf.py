@@ -4,6 +4,7 @@ from dataclasses import dataclass
 from typing import Iterator, NamedTuple, Optional
 
 IMAGE = (b"SFI", b"534649")  # with which an image begins, as bytes and as text
+LINKED = b"\x7fELF"
 LOADED, EXECUTABLE = 1, 1  # a segment's kind, and its flag
 ALLOCATED = 2  # a section's flag: it has room in memory
 SYMBOLS = 2  # a section's kind
@@ -39,7 +40,7 @@ class Elf:
         path = self.name
         if self.content.lstrip().startswith(IMAGE):
             raise Wrong(f"{path} is an image, which `sfi exec` runs, and no program that sfi-cc linked (-o PROGRAM.elf)")
-        if self.content[:6] != b"\x7fELF\x01\x01" or self.content[16:20] != b"\x02\x00\xf3\x00":
+        if self.content[:6] != LINKED + b"\x01\x01" or self.content[16:20] != b"\x02\x00\xf3\x00":
             raise Wrong(f"{path} is no linked ELF file of 32-bit RISC-V")
         try:
             self.entry, segments, sections = struct.unpack_from("<3I", self.content, 24)

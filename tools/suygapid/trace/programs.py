@@ -9,7 +9,7 @@ from dataclasses import dataclass
 
 from suygapid import TOOLS
 from suygapid.cc import compilers
-from suygapid.elf.elf import Elf, Wrong
+from suygapid.elf.elf import IMAGE, LINKED, Elf, Wrong
 from suygapid.elf.image import as_text, image
 from suygapid.elf.where import lines_of
 
@@ -136,24 +136,34 @@ def compiled(sfi, words):
         return Linked(sfi, path)
 
 
+def of_file(sfi, path):
+    """The program of an image, of a source text of `sfi build` or that sfi-cc linked, or None of a file for sfi-cc."""
+    if path.endswith(SOURCES) and not path.endswith(".s"):
+        return None
+    try:
+        with open(path, "rb") as file:
+            data = file.read()
+    except OSError as error:
+        raise Failed(f"{path} can't be read: {error.strerror}") from error
+    try:
+        if path.endswith(".s"):
+            text = data.decode()
+            return Program(sfi, run(sfi, "build", given=text), run(sfi, "map", given=text))
+        if path.endswith(".elf") or data.startswith(LINKED):
+            return Linked(sfi, path)
+        if data.startswith(IMAGE[0]):
+            return Program(sfi, data.hex())
+        if path.endswith(".hex") or data.lstrip().startswith(IMAGE[1]):
+            return Program(sfi, data.decode())
+    except ValueError as error:
+        raise Failed(f"{path} isn't {'text' if path.endswith('.s') else 'hexadecimal'}") from error
+    return None
+
+
 def program(sfi, words):
-    """The program of an image (.hex), of a source text of `sfi build` (one .s), that sfi-cc linked (.elf), or of files for sfi-cc
-    with its options."""
-    if len(words) == 1 and words[0].endswith(".elf"):
-        return Linked(sfi, words[0])
-    if len(words) == 1 and words[0].endswith((".hex", ".s")):
-        try:
-            with open(words[0], encoding="utf-8") as file:
-                text = file.read()
-        except (OSError, UnicodeDecodeError) as error:
-            raise Failed(f"{words[0]} can't be read: {getattr(error, 'strerror', error)}") from error
-        if words[0].endswith(".hex"):
-            try:
-                return Program(sfi, text)
-            except ValueError as error:
-                raise Failed(f"{words[0]} isn't hexadecimal") from error
-        return Program(sfi, run(sfi, "build", given=text), run(sfi, "map", given=text))
-    if not any(it.endswith(SOURCES) for it in words):
-        raise Failed(f"{words[0]} is neither an image in hexadecimal (.hex) nor a source text (.s) nor a program "
-                     "that sfi-cc linked (.elf) nor a file for it")
-    return compiled(sfi, words)
+    """The program of an image (its bytes or their digits), of a source text of `sfi build` (one .s), that sfi-cc linked, or of files for
+    sfi-cc with its options."""
+    found = of_file(sfi, words[0]) if len(words) == 1 else None
+    if found is None and not any(it.endswith(SOURCES) for it in words):
+        raise Failed(f"{words[0]} is neither an image nor a source text (.s) nor a program that sfi-cc linked nor a file for it")
+    return found or compiled(sfi, words)
