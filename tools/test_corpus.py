@@ -183,7 +183,7 @@ class Kept(Corpus):
     def test_a_second_run_does_what_is_new(self):
         folder = self.images(40)
         status, lines, said = self.corpus("check", folder, "none")
-        self.assertEqual((status, said), (5, ""))
+        self.assertEqual((status, said), (5, "sfi-corpus: not judged: 'none': No such file or directory\n"))
         self.assertRegex(lines[-1], f"^files=41: 36 accepted, 4 refused, 0 no image, 1 not judged; 40 judged anew by {LOGIC}$")
         self.image("many/00000.image", SHORT)
         self.image("many/new.image", SMALLEST)
@@ -199,7 +199,9 @@ class Kept(Corpus):
         (self.room / "below" / "missing").symlink_to("nowhere")
         (self.room / "below" / "again").symlink_to("a")  # a folder that stands there already
         os.mkfifo(self.room / "below" / "pipe")
-        self.assertRegex(self.corpus("check", "below")[1][-1], "^files=2: 1 accepted, 0 refused, 0 no image, 1 not judged; ")
+        _, lines, said = self.corpus("check", "below")
+        self.assertRegex(lines[-1], "^files=2: 1 accepted, 0 refused, 0 no image, 1 not judged; ")
+        self.assertEqual(said, "sfi-corpus: not judged: 'below/missing': No such file or directory\n")
         self.assertEqual([it["file"] for it in self.told()], ["below/a/b/one.image", "below/missing"])
 
     def test_names_that_are_no_text(self):
@@ -424,10 +426,19 @@ class Cluster(Corpus):
         status, lines, _ = self.on_cluster("check", "--scheduler", self.address, "--send", folder, "none")
         self.assertEqual(status, 5)
         self.assertRegex(lines[-1], "^files=4001: 3600 accepted, 400 refused, 0 no image, 1 not judged; 0 judged anew")
+        status, _, said = self.on_cluster("check", "--scheduler", self.address, "none")
+        self.assertEqual(status, 5)
+        self.assertIn("not judged: 'none': No such file or directory: workers read files by these names, unless --send", said)
         self.noted.write_text('{"commit": "ba9876543210", "logic": "fedcba9876543210"}\n', encoding="utf-8")
         status, _, said = self.on_cluster("check", "--scheduler", self.address, folder)  # the worker has been asked, and keeps its answer
         self.assertEqual(status, 5)
         self.assertIn("has a checker of {'version': ", said)
+        self.processes.pop(-2).kill()
+        self.env["PYTHONPATH"] = ""
+        self.start("worker", "--scheduler-file", "address.json", "--nthreads", "1", "--no-nanny", "--local-directory", self.folder)
+        self.env["PYTHONPATH"] = str(self.room / "site")
+        status, _, said = self.on_cluster("check", "--scheduler", self.address, folder)
+        self.assertEqual((status, "No module named 'sfi_check'" in said, "its Python wants the wheel" in said), (5, True, True), said)
 
 
 class NoCluster(Corpus):
@@ -439,6 +450,9 @@ class NoCluster(Corpus):
         status, _, said = self.run_words(*words, env=env)
         self.assertEqual(status, 5)
         self.assertIn("doesn't answer" if DASK else "python3-distributed", said)
+        status, _, said = self.run_words(python, "-m", "sfi_check.corpus", "check", "--scheduler", "nowhere", "x", env=env)
+        self.assertEqual(status, 5)
+        self.assertIn("nowhere is no address of a scheduler" if DASK else "python3-distributed", said)
 
 
 if __name__ == "__main__":

@@ -13,6 +13,7 @@ from __future__ import annotations
 
 import argparse
 import importlib.util
+import itertools
 import os
 import re
 import shlex
@@ -58,7 +59,7 @@ def _add_place_of_work(parser: argparse.ArgumentParser) -> None:
     where = parser.add_mutually_exclusive_group()
     where.add_argument("--jobs", type=jobs, default=len(os.sched_getaffinity(0)), metavar="N",
                        help="as many at a time on this machine; one for each processor if absent")
-    where.add_argument("--scheduler", metavar="ADDRESS", help="of a Dask cluster, whose workers have this package")
+    where.add_argument("--scheduler", metavar="ADDRESS", help="of a Dask cluster, as tcp://HOST:8786, whose workers have this package")
 
 
 def parsed(words: Optional[Sequence[str]]) -> argparse.Namespace:
@@ -115,6 +116,7 @@ def check(store: Store, options: argparse.Namespace) -> int:
     built = built_words()
     names = list(files.found(options.files))
     unread: list[Judged] = []
+    failed: list[Judged] = []  # the first of those that aren't judged
     jobs = files.batches(names, lambda some: store.known(some, built))
     if options.send:
         jobs = files.with_bytes(jobs, unread.append)
@@ -124,6 +126,7 @@ def check(store: Store, options: argparse.Namespace) -> int:
     def keep(judged: list[Judged]) -> None:
         store.add(judged, built)
         counts.update(it.status for it in judged)
+        failed.extend(itertools.islice((it for it in judged if it.failure), 1 - len(failed)))
 
     answers = engine.results(files.judged, jobs, options.jobs, options.scheduler)
     for answer in shown(answers, len(names), lambda it: len(it.judged), "file"):
@@ -133,7 +136,12 @@ def check(store: Store, options: argparse.Namespace) -> int:
         fresh += sum(it.verdict is not None for it in answer.judged)
     keep(unread)
     said = ", ".join(f"{counts[status]} {word}" for status, word in enumerate(report.WORDS))
-    print(f"files={len(names)}: {said}, {sum(counts.values()) - sum(counts[it] for it in range(3))} not judged; {fresh} judged anew by {built}")
+    lacking = sum(counts.values()) - sum(counts[it] for it in range(3))
+    print(f"files={len(names)}: {said}, {lacking} not judged; {fresh} judged anew by {built}")
+    for it in failed:
+        more = f", and {lacking - 1} more" if lacking > 1 else ""
+        advice = ": workers read files by these names, unless --send sends the bytes" if options.scheduler and not options.send else ""
+        print(f"sfi-corpus: not judged: {it.file!r}: {it.failure}{more}{advice}", file=sys.stderr)
     return max(counts, default=0)
 
 

@@ -104,7 +104,7 @@ def _on_cluster(work: Callable[[Job], Result], jobs: Iterable[Job], address: str
     except ImportError as error:
         raise Failed("a cluster wants Dask's `distributed`, which Debian has as python3-distributed") from error
     try:
-        with Client(address, timeout=SECONDS) as client:
+        with _client(Client, address) as client:
             client.wait_for_workers(1, timeout=SECONDS)
             _of_one_version(client)
             waiting, flow = iter(jobs), as_completed()
@@ -124,12 +124,21 @@ def _on_cluster(work: Callable[[Job], Result], jobs: Iterable[Job], address: str
         raise Failed(f"the cluster at {address} has no worker, or doesn't answer: {error}") from error
 
 
+def _client(connect: Callable[..., Any], address: str) -> Any:
+    try:
+        return connect(address, timeout=SECONDS)
+    except ValueError as error:
+        raise Failed(f"{address} is no address of a scheduler, as tcp://HOST:8786 is: {error}") from error
+
+
 def _of_one_version(client: Any) -> None:
     """Fails where a worker has no such package as this one, or one that was built of something else."""
     try:
         told = client.run(built)
-    except ImportError as error:
-        raise Failed(f"a worker lacks what it needs: {error}: each wants the wheel") from error
+    except (OSError, TimeoutError):
+        raise
+    except Exception as error:  # what a worker can't import is told as text
+        raise Failed(f"a worker lacks what it needs, {error}: its Python wants the wheel") from error
     for worker, other in told.items():
         if other != built():
             raise Failed(f"the worker {worker} has a checker of {other}, and not of {built()}")
