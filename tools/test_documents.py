@@ -97,7 +97,7 @@ class Links(unittest.TestCase):
 
 
 class Folders(unittest.TestCase):
-    """README files that have a line, `- NAME: what it is`, for each file and folder beside them."""
+    """README files that have a line, `- NAME: what it is`, for each file and folder beside them but tests (`test_*`)."""
 
     def test_each_file_has_a_line(self):
         for folder in ("device", "examples", "examples/c", "examples/device", "tools", "tools/suygapid"):
@@ -105,8 +105,7 @@ class Folders(unittest.TestCase):
                 names = {it.split("/")[0] for it in files_of_git(self, testing.TOP / folder)}
                 text = (testing.TOP / folder / "README.md").read_text(encoding="utf-8")
                 named = re.findall(r"^- `([\w.-]+)/?`: ", text, re.M)
-                named += re.findall(r"`([\w.-]+)`", "".join(re.findall(r"^- tests of these: .*", text, re.M)))
-                self.assertEqual(sorted(named), sorted(names - {"README.md"}))
+                self.assertEqual(sorted(named), sorted(it for it in names - {"README.md"} if not it.startswith("test_")))
 
 
 if __name__ == "__main__":

@@ -131,7 +131,7 @@ impl<'world> Sandbox<'world> {
     /// Calls a function: enters it at pc, with at most eight arguments, runs it for at most `steps` steps in all, and answers its
     /// result, with which it exits. `serve` replies to its calls of gates of other services, as in [`serve`](Self::serve), and
     /// may call functions, too: while one waits for its reply, the other runs on its stack, and then it waits again. Where it
-    /// doesn't return, the call is over, as [`NotReturned`] says; so it is where `serve` panics.
+    /// doesn't return, the call is over, as [`NotReturned`] says; so it is where `serve` panics. No arguments are `&[0u32; 0]`.
     pub fn call<A: Argument, const N: usize>(
         &mut self,
         pc: u32,

@@ -43,7 +43,14 @@ enum sfi_run_engine {
 uint32_t sfi_run_engine(const struct sfi_run_world *world);
 
 /* Where the host can read and write the data of a native sandbox itself, between two calls: its first byte, or NULL where it isn't
- * native. They are as many as sfi_run_data says, and stay there until the sandbox is removed or the world is freed. */
+ * native. They are as many as sfi_run_data says, and stay there until the sandbox is removed or the world is freed:
+ *
+ *     uint8_t *bytes = sfi_native_data(&world, 0);
+ *     if (bytes != NULL && sfi_run_data(&world, 0, &data))
+ *         bytes[address - data.base] = 7;
+ *
+ * with the address of a byte of the sandbox's data, as a function of it has answered, which the host compares with data.base and
+ * data.size. */
 uint8_t *sfi_native_data(struct sfi_run_world *world, uint32_t sandbox);
 
 #ifdef __cplusplus

@@ -8,7 +8,8 @@
  *     sfi_run_limit_time(&limit, 20000000); // 20 milliseconds
  *     how = sfi_run_function_watched(&world, 0, pc, arguments, UINT64_MAX, serve, NULL, &watch, &result);
  *
- * Meanwhile another thread, or a signal handler, may say sfi_run_limit_end(&limit).
+ * Meanwhile another thread, or a signal handler, may say sfi_run_limit_end(&limit). Where either ended it, `how` is SFI_RUN_ENDED_CUT.
+ * With -std=c11 sfi_run_limit_time wants -D_POSIX_C_SOURCE=200809L.
  */
 #ifndef SFI_RUN_LIMIT_H
 #define SFI_RUN_LIMIT_H

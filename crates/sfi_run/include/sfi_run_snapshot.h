@@ -3,6 +3,16 @@
  * calls of sfi_run.h: whatever the bytes are, each sandbox of the world stays in its own data, since those calls see to it. Who can
  * write a snapshot decides what its sandboxes' data are and where their code goes on, and no more.
  *
+ *     const size_t size = sfi_run_snapshot_size(&world);
+ *     uint8_t *bytes = (uint8_t *)malloc(size);
+ *     taken = sfi_run_take(&world, digest, bytes, size);
+ *
+ *     sfi_run_load(image, length, &again, &verdict); // of the same image, in another process, too
+ *     restored = sfi_run_restore(&again, digest, bytes, size, NULL);
+ *
+ * `digest` is the SHA-256 of the image's bytes, by a function of the host's own. Where nothing but this header reads the snapshot, any 32
+ * bytes will do by which the host knows the image.
+ *
  * The bytes are those of sfi_run.snapshots in Python. Numbers are little-endian, of 32 bits but for the steps:
  *
  *     SNAP, the version 1, the image's SHA-256 (32 bytes), the number of sandboxes
