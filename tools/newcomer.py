@@ -5,8 +5,8 @@ tries less, by tools/release_trial.py and tools/package_trial.py.
     tools/newcomer.py RELEASE [FOLDER [WAY]..]   # RELEASE has what tools/release.py made; FOLDER keeps Debian, out/debian if absent
 
 Each way to get the release has a root of its own, which debootstrap made, and there a user without rights and network. What the
-user does stands in README.md, docs/C.md, docs/EMBEDDING.md and the bindings' README.md of the release, from which the commands and
-programs are taken as they stand, and what they print. It takes the rights of root, debootstrap, and for the packages of Debian
+user does stands in README.md, docs/C.md, docs/EMBEDDING.md, headers and the bindings' README.md of the release, from which the commands
+and programs are taken as they stand, and what they print; newcomer_hosts.py has what stands around single lines. It takes the rights of root, debootstrap, and for the packages of Debian
 that those documents ask for a network. The last line is `N passed, M failed`, or `0 passed, 0 failed, 1 skipped`.
 """
 import os
@@ -20,6 +20,8 @@ import tempfile
 from dataclasses import dataclass, field
 
 sys.dont_write_bytecode = True
+import evidence
+import newcomer_hosts
 import release_trial
 import version
 
@@ -28,6 +30,8 @@ BOOKWORM, TRIXIE = "bookworm", "trixie"  # the latter has the node that README.m
 HOME, ARCHIVES = "/home/new", "var/cache/apt/archives"
 PATH = "/usr/local/sbin:/usr/local/bin:/usr/sbin:/usr/bin:/sbin:/bin"
 SHARED = 'mount -t tmpfs -o mode=1777 none /dev/shm && exec "$@"'  # which processes of Python share, as on any Debian
+# Begins the loopback of a network that has nothing else, and goes on as the words say.
+LOOPBACK = "import fcntl, os, socket, struct, sys; fcntl.ioctl(socket.socket(), 0x8914, struct.pack('16sh14x', b'lo', 1)); os.execvp(sys.argv[1], sys.argv[1:])"
 UNPACKED = f"{version.NAME}-{version.version()}-x86_64-linux"
 EXITED = " || [ $? = 105 ]"  # the status of the program that README.md runs last
 TOLD = " || [ $? = 3 ]"  # the status after help and version
@@ -35,14 +39,9 @@ GREETING = "hello 42"  # what each host of docs/EMBEDDING.md prints
 CMAKE = 'cmake_minimum_required(VERSION 3.16)\nproject(host C)\nfind_package(suygapid REQUIRED)\nadd_executable(host host.c)\n' \
         "target_link_libraries(host suygapid::sfi_run)\n"
 
-# A plug-in that goes on from bytes.
-LATER = """from sfi_run.names import Plugin
-say = {"print": lambda text, length: print(text, end=" ")}
-with open("plugin.image", "rb") as file, Plugin(file.read(), **say) as plugin:
-    kept = plugin.snapshot()
-with open("plugin.image", "rb") as file, Plugin.restore(file.read(), kept, **say) as plugin:
-    print(plugin.add(40, 2))
-"""
+NATIVE = "crates/sfi_run/out/linked/libsfi_run_native"
+HANDED_ON = ("plugin.image", "busy.image", f"{NATIVE}.a", f"{NATIVE}.so")  # by the first way to those that have no compiler for sandboxes
+LIMITS, SNAPSHOTS, VIEWS = (f"crates/{it}.h" for it in ("sfi_run/include/sfi_run_limit", "sfi_run/include/sfi_run_snapshot", "sfi_native/include/sfi_run_native"))
 # What bash offers behind `sfi ch`.
 COMPLETED = """bash -c '. /usr/share/bash-completion/completions/sfi && COMP_WORDS=(sfi ch) COMP_CWORD=1 && _sfi && echo "${COMPREPLY[@]}"'"""
 
@@ -86,6 +85,24 @@ class Documents:
         """A line of such a block."""
         return next(it for it in self.block(document, words).splitlines() if words in it)
 
+    def prose(self, document, form):
+        """The groups of the first words of a document that have this form, whatever parts its lines."""
+        found = re.search(form, " ".join((self.top / document).read_text(encoding="utf-8").split()))
+        if found is None:
+            raise Fault(f"{document} doesn't say {form}")
+        return found
+
+    def host(self, text, *documents):
+        """A host of newcomer_hosts.py, with the lines that these documents, or headers in their comments, have for its words."""
+        told = [line.removeprefix(" *").strip() for it in documents for line in (self.top / it).read_text(encoding="utf-8").splitlines()]
+
+        def line(found):
+            for it in told:
+                if it.startswith(found[1]):
+                    return it
+            raise Fault(f"{' and '.join(documents)} have no line that begins with {found[1]!r}")
+        return re.sub(r"@(.+)@", line, text)
+
 
 def installed(words):
     """Commands of a checkout or a release as they are typed where it is installed."""
@@ -116,16 +133,12 @@ def programs_in_c(documents):
                  ("sandbox=0 trap=Store at=017ffff8", "main, wrong.c:2"))]
 
 
-def pictures(documents):
-    """Where steps go, and an image, drawn by the tools that docs/C.md names."""
-    told = " ".join((documents.top / "docs" / "C.md").read_text(encoding="utf-8").split())
-    found = re.search(r"`(tools/sfi-trace --profile function) slow.c` .*?\(`(--flame slow)` .*?`(tools/sfi-map)` draws", told)
-    if found is None:
-        raise Fault("docs/C.md doesn't say what profiles and draws")
-    profile, flame, draw = found.groups()
-    words = [f"{profile} hello.c", f"{profile.split()[0]} {flame} hello.c", f"{draw} -o map.svg hello.c", "ls slow.speedscope.json"]
-    return Step(" && ".join([*words, "grep -l '</svg>' slow.svg map.svg"]),
-                ("share  function\n", "main", "slow.speedscope.json\n", "slow.svg\nmap.svg\n"))
+def traces(documents):
+    """Where steps go and an image, as docs/C.md has them drawn, and a linked program step by step."""
+    drawn = documents.block("docs/C.md", "sfi-trace --profile function")
+    return [Step(drawn + "ls hello.speedscope.json\ngrep -l '</svg>' hello.svg map.svg",
+                 ("share  function\n", "  main  hello.c:", "hello.speedscope.json\n", "hello.svg\nmap.svg\n")),
+            Step("tools/sfi-trace wrong.elf", ("# wrong.c:2\n", "trap=Store at=017ffff8 steps=21"))]
 
 
 def plugin(documents):
@@ -134,8 +147,25 @@ def plugin(documents):
     return Step(written("plugin.c", source) + documents.line("docs/EMBEDDING.md", "--export add --import print"))
 
 
+def busy(documents):
+    """The plug-in that never ends."""
+    words = documents.line("docs/EMBEDDING.md", "--export add --import print")
+    return Step(written("busy.c", newcomer_hosts.PLUGIN) + words.replace("add --import print plugin.c -o plugin", "where,first,spin busy.c -o busy"))
+
+
 def host_in_c(documents, words):
     return Step(written("host.c", documents.block("docs/EMBEDDING.md", "#include \"sfi_run_serve.h\"")) + words, (GREETING,))
+
+
+def busy_in_c(documents, words):
+    """A host of it, linked with the library for native code by the words for host.c."""
+    text = documents.host(newcomer_hosts.C, LIMITS, SNAPSHOTS, VIEWS)
+    return Step(written("busy_host.c", text) + words.replace("host", "busy_host").replace("--libs sfi_run)", "--libs sfi_run_native)"),
+                (newcomer_hosts.ENDED,))
+
+
+def has_evidence(documents):
+    return (documents.top / evidence.RELEASED).is_file()
 
 
 def by_tar(documents):
@@ -143,17 +173,17 @@ def by_tar(documents):
     inside = f"cd {UNPACKED} && "
     host = documents.block("docs/EMBEDDING.md", "pkg-config --cflags --libs sfi_run")
     steps = [Step(take, (release_trial.ACCEPTED, "installed "))]
-    steps += [Step(f"{inside}{it.words}", it.wanted) for it in (tour(documents), *programs_in_c(documents), pictures(documents), plugin(documents))]
-    steps.append(Step(inside + host_in_c(documents, host).words, (GREETING,)))
-    named = re.search(r"`([\w/]+/suygapid_run\.c)` of a release", (documents.top / "docs" / "EMBEDDING.md").read_text(encoding="utf-8"))
-    if named is None:
-        raise Fault("docs/EMBEDDING.md doesn't say where suygapid_run.c is")
+    typed = [tour(documents), *programs_in_c(documents), *traces(documents), plugin(documents), host_in_c(documents, host), busy(documents),
+             busy_in_c(documents, host)]
+    steps += [Step(inside + it.words, it.wanted) for it in typed]
+    named = documents.prose("docs/EMBEDDING.md", r"`([\w/]+/suygapid_run\.c)` of a release")
     in_one_file = f"gcc -O2 -Icrates/sfi_run/include -Icrates/sfi_c/include host.c {named[1]} -o host"
     steps += [Step(f"{inside}{in_one_file} && ./host", (GREETING,)),
               Step(f"{inside}tools/sfi-cc --memory 256K -o big.image hello.c && ./sfi exec big.image{EXITED}", ("Hi",)),
               Step(f"{inside}./sfi --version{TOLD}", (f"sfi {version.version()}", "commit=", "logic=")),
               Step(f"{inside}cc -O1 -DSUYGAPID_CHECK_MAIN crates/sfi_c/out/suygapid_check.c -o check && ./check < plugin.image",
                    ("accepted sandboxes=1",)),
+              *([Step(inside + documents.prose("docs/THEOREM.md", f"`([^`]* {evidence.RELEASED})`")[1], ("\nyes\n",))] if has_evidence(documents) else []),
               Step("~/.local/bin/sfi-check " + f"{UNPACKED}/plugin.image", ("accepted sandboxes=1",)),
               Step(f"{inside}./install --remove ~/.local && ! ls ~/.local/bin", ("removed ",))]
     return Way(("python3", "gcc", "libc6-dev", "pkg-config", "gcc-riscv64-unknown-elf"), (f"{UNPACKED}.tar.gz*",), steps)
@@ -163,9 +193,10 @@ def by_debian(documents):
     install = documents.line("README.md", "sudo apt install").removeprefix("sudo ").replace("apt install", "apt install -qq -y")
     build = "cmake -S . -B build && cmake --build build && build/host"
     flags = "gcc host.c -o host $(pkg-config --cflags --libs sfi_run) && ./host"
-    programs = [Step(installed(it.words), it.wanted) for it in (tour(documents), *programs_in_c(documents), pictures(documents), plugin(documents))]
+    typed = [tour(documents), *programs_in_c(documents), *traces(documents), plugin(documents), busy(documents)]
+    programs = [Step(installed(it.words), it.wanted) for it in typed]
     return Way(("gcc", "libc6-dev", "pkg-config", "cmake"), ("*.deb",), [
-        Step(install, (), True), Step("cp -r /usr/share/doc/suygapid/examples ."), *programs, host_in_c(documents, flags),
+        Step(install, (), True), Step("cp -r /usr/share/doc/suygapid/examples ."), *programs, host_in_c(documents, flags), busy_in_c(documents, flags),
         Step(written("CMakeLists.txt", CMAKE) + build, (GREETING,)), Step(f"sfi --version{TOLD}", (f"sfi {version.version()}\ncommit=", "logic=")), Step("ls -l /usr/share/man/man1/sfi-cc.1"),
         Step(COMPLETED, ("check\n",)),
         Step("sfi-gdb wrong.elf -batch -ex 'break clear' -ex continue -ex backtrace", ("clear", "main")),
@@ -175,11 +206,14 @@ def by_debian(documents):
 def by_pip(documents):
     source = documents.block("docs/EMBEDDING.md", "from sfi_run.names import Plugin\n\ndef say")
     install = documents.line("README.md", "pip install")
-    return Way(("python3-venv",), ("*.whl", "plugin.image"), [
+    cluster = "mkdir -p cluster/images && cp *.whl cluster && cp *.image cluster/images && cd cluster\n"
+    return Way(("python3-venv", "python3-distributed"), ("*.whl", *map(os.path.basename, HANDED_ON)), [
         Step(f"python3 -m venv mine && . mine/bin/activate && {install}", ("",)),
         Step(written("host.py", source) + "mine/bin/python host.py", (GREETING,)),
         Step("mine/bin/sfi-check plugin.image && mine/bin/sfi-corpus check plugin.image", ("accepted sandboxes=1", "files=1: 1 accepted")),
-        Step(written("later.py", LATER) + "mine/bin/python later.py", (GREETING,)),
+        Step(written("busy.py", documents.host(newcomer_hosts.PYTHON, "bindings/python/README.md"))
+             + f"SFI_RUN_LIBRARY=$PWD/{os.path.basename(NATIVE)}.so mine/bin/python busy.py", (newcomer_hosts.ENDED,)),
+        Step(cluster + documents.block("docs/EMBEDDING.md", "dask scheduler"), ("files=2: 2 accepted", "2 judged anew")),
         Step("mine/bin/sfi-check --version", (f"version={version.version()} commit=", "logic="))])
 
 
@@ -193,11 +227,13 @@ def by_cargo(documents):
     source = documents.block("docs/EMBEDDING.md", "use sfi_run::{names, World};")
     add = documents.line("README.md", "cargo add").partition("#")
     begin = f"cargo init -q --name host && {add[0]} && {add[2].partition(': ')[2]}"
-    return Way(("cargo",), ("*.crate", "plugin.image"), [
-        Step(begin), Step(written("src/main.rs", source) + "cargo run -q --offline", (GREETING,))])
+    native = f"SFI_RUN_LIBRARY=$PWD/{os.path.basename(NATIVE)}.a"
+    return Way(("cargo",), ("*.crate", *map(os.path.basename, HANDED_ON)), [
+        Step(begin), Step(written("src/main.rs", source) + "cargo run -q --offline", (GREETING,)),
+        Step(written("src/main.rs", documents.host(newcomer_hosts.RUST, "bindings/rust/README.md")) + f"{native} cargo run -q --offline",
+             (newcomer_hosts.ENDED,))])
 
 
-# The first makes plugin.image, which those take that have no compiler for it.
 WAYS = {"tar": by_tar, "apt": by_debian, "pip": by_pip, "npm": by_npm, "cargo": by_cargo}
 
 
@@ -237,9 +273,9 @@ class Root:
 
     def run(self, step):
         """What a step prints. A user's has no network."""
-        apart = ["--mount", "--pid", "--fork"] if step.by_root else ["--mount", "--pid", "--fork", "--net"]
-        words = ["unshare", *apart, f"--root={self.top}", "--mount-proc=/proc", "sh", "-c", SHARED, "sh", "env", "-i", f"PATH={PATH}",
-                 "DEBIAN_FRONTEND=noninteractive", "LC_ALL=C.UTF-8", "TERM=dumb"]
+        apart = [] if step.by_root else ["unshare", "--net", sys.executable, "-c", LOOPBACK]
+        words = [*apart, "unshare", "--mount", "--pid", "--fork", f"--root={self.top}", "--mount-proc=/proc", "sh", "-c", SHARED, "sh", "env", "-i",
+                 f"PATH={PATH}", "DEBIAN_FRONTEND=noninteractive", "LC_ALL=C.UTF-8", "TERM=dumb"]
         words += ["HOME=/root"] if step.by_root else ["runuser", "-u", "new", "--", "env", f"HOME={HOME}"]
         folder = HOME if (self.top / HOME[1:]).is_dir() else "/"
         done = subprocess.run([*words, "sh", "-e", "-c", f"cd {folder}\n{step.words}"], stdin=subprocess.DEVNULL, stdout=subprocess.PIPE,
@@ -252,7 +288,7 @@ class Root:
 
 
 def go(name, way, release, folder):
-    """Goes a way. plugin.image is kept beside the roots."""
+    """Goes a way. What the first one hands on is kept beside the roots."""
     root = Root(folder, name, way)
     home = root.top / HOME[1:]
     for path in [path for it in way.files for path in (*release.glob(it), *folder.glob(it))]:
@@ -260,8 +296,8 @@ def go(name, way, release, folder):
     for step in way.steps:
         print(f"{name}: {step.words.strip().splitlines()[-1]}", flush=True)
         root.run(step)
-    for image in home.glob("*/plugin.image"):
-        shutil.copy(image, folder)
+    for path in [path for it in HANDED_ON for path in home.glob(f"*/{it}")]:
+        shutil.copy(path, folder)
     shutil.rmtree(root.top)
 
 
