@@ -13,7 +13,6 @@ the definitions by which its clauses `accepted` and `safe` say that accepted byt
 rule is among them. With --safety the page has these alone. The last line is the hash of all above. That LOG is what a run over
 these sources printed is the word of whoever makes the page.
 """
-import hashlib
 import pathlib
 import shutil
 import subprocess
@@ -28,6 +27,7 @@ import installed
 import kit_words
 import statements
 import version
+from crate_hashes import crate_line, hash_of
 
 THEOREM = "\n## The theorem\n"
 KIT_WORDS = "\n## Words of the toolchain\n"
@@ -59,25 +59,7 @@ def kind_of(text):
     return SAFETY if text.startswith(SAFETY.title) else WHOLE
 
 
-def hash_of(data):
-    return hashlib.sha256(data).hexdigest()
-
-
-def hash_of_files(paths):
-    """One hash of the names and the bytes of files, in the order of the names."""
-    lines = (f"{hash_of(it.read_bytes())}  {it.relative_to(TOP)}\n" for it in sorted(paths))
-    return hash_of("".join(lines).encode())
-
-
 # ---- what was built and proved
-
-def crate_line(crate):
-    """The hashes of a crate's definitions and of all its sources."""
-    folder = TOP / "crates" / crate
-    specs = list(folder.glob("specs/**/*.antt"))
-    sources = [it for part in ("src", "specs", "proofs") for it in (folder / part).glob("**/*") if it.suffix in (".rt", ".antt")]
-    return f"crate {crate} definitions={hash_of_files(specs)} sources={hash_of_files(sources)}"
-
 
 def verdicts(log, stated):
     """Of each crate in a log of `rt ci` the lines of the functions whose contracts the page has and those that name its axioms,

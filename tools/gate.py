@@ -10,7 +10,8 @@ for one more check of each crate that has any.
 The edits that are left out wait in git's own folder, or in out/ where there is none, while `rt ci` runs, and are put back however it ends. What a killed
 run left there is put back by the next.
 
-What `rt ci` printed goes to out/ci.log, too: where it took nothing that earlier runs kept, a release has it (tools/release.py).
+What `rt ci` printed goes to out/ci.log, too, below the hashes of all crates' sources as they were when it began: where it took
+nothing that earlier runs kept, a release has it (tools/release.py).
 What it and its parts took goes to out/times.txt, one a line: `took SECONDS PROCESSOR PART`, where PROCESSOR is the seconds of all
 processors; and as `at SECONDS STEP CRATE` how long after it began `rt ci` said that a crate or its tests are proved, or that its
 edits are begun. `./test` adds its scripts.
@@ -23,6 +24,9 @@ import signal
 import subprocess
 import sys
 import time
+
+sys.dont_write_bytecode = True
+import crate_hashes
 
 TOP = os.path.dirname(os.path.dirname(os.path.abspath(__file__)))
 TIMES = os.path.join("out", "times.txt")
@@ -105,6 +109,8 @@ def run_without(edits, aside):
     try:
         set_aside(edits, aside)
         with open(TIMES, "w", encoding="utf-8") as file, open(LOG, "wb") as log:
+            log.writelines(f"{it}\n".encode() for it in crate_hashes.lines())
+            log.flush()
             return run_timed(file, log)
     finally:
         put_back(aside)

@@ -24,6 +24,7 @@ import hashlib
 import io
 import os
 import pathlib
+import re
 import subprocess
 import sys
 import tarfile
@@ -33,6 +34,7 @@ TOP = pathlib.Path(__file__).resolve().parent.parent
 sys.dont_write_bytecode = True
 import checker_file
 import converted
+import crate_hashes
 import definitions
 import device_checkers
 import evidence
@@ -103,14 +105,26 @@ def built_files():
     return found
 
 
+def check_sources(log, text):
+    """Raises Lacking where the log isn't of these sources: by the hashes with which one of tools/gate.py begins, or else by its time."""
+    told = [it for it in text.splitlines() if it.startswith("crate ")]
+    other = sorted({*told} ^ {*crate_hashes.lines()}) if told else []
+    if other:
+        raise Lacking(f"{log} is of other sources, as of {other[0].split()[1]}")
+    sfi, time = toolchain.sfi(), log.stat().st_mtime
+    if not told and any(sfi.is_changed(it, time) for it in definitions.crate_names()):
+        raise Lacking(f"{log} is older than a source")
+
+
 def evidence_files(log):
     """The page of evidence and the log of which it is made."""
     if not log.is_file():
         raise Lacking(f"there is no {log}, which ./test makes on a new machine, and `rt ci --anew > {log}` on any; both take long")
-    sfi, time = toolchain.sfi(), log.stat().st_mtime
-    if any(sfi.is_changed(it, time) for it in definitions.crate_names()):
-        raise Lacking(f"{log} is older than a source")
     text = log.read_text(encoding="utf-8", errors="replace")
+    check_sources(log, text)
+    last = (text.splitlines() or [""])[-1]
+    if not re.fullmatch(r"\d+ passed, 0 failed", last):
+        raise Lacking(f"{log} ends in {last!r}, and not in `N passed, 0 failed`")
     page = evidence.page(text, evidence.kit())
     faults, _ = verify_evidence.judged(page)
     if faults:

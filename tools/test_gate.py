@@ -50,7 +50,8 @@ class Gate(unittest.TestCase):
             for edit in edits:
                 written(f"{self.top}/crates/{crate}/must-fail/{edit}", f"# {edit}\n")
         os.makedirs(f"{self.top}/tools")
-        shutil.copy(f"{TOP}/tools/gate.py", f"{self.top}/tools/gate.py")
+        for name in ("gate.py", "crate_hashes.py"):
+            shutil.copy(f"{TOP}/tools/{name}", f"{self.top}/tools/{name}")
         written(f"{room.name}/bin/rt", RT)
         os.chmod(f"{room.name}/bin/rt", 0o755)
         self.environment = {**os.environ, "PATH": f"{room.name}/bin:{os.environ['PATH']}", "HOME": room.name}
@@ -75,7 +76,9 @@ class Gate(unittest.TestCase):
     def test_log(self):
         self.tried()
         with open(f"{self.top}/out/ci.log", encoding="utf-8") as file:
-            self.assertEqual(file.read(), SAID)
+            lines = file.read().splitlines(keepends=True)
+        self.assertEqual(["crate " + it for it in EDITS], [it.partition(" definitions=")[0] for it in lines[:len(EDITS)]])
+        self.assertEqual("".join(lines[len(EDITS):]), SAID)
 
     def test_all(self):
         self.assertEqual(self.tried("--all"), self.every)

@@ -305,7 +305,7 @@ class Scratch(Installing):
 
     def release(self):
         """A release with a log that says that all is proved."""
-        log = self.write("log", test_evidence.log_of(definitions.crate_names()))
+        log = self.write("log", test_evidence.log_of(definitions.crate_names()) + "1 passed, 0 failed\n")
         return run(sys.executable, self.top / "tools" / "release.py", *WITHOUT, "--log", log, self.room / "made")
 
     @contextlib.contextmanager

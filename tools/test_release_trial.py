@@ -14,6 +14,7 @@ from unittest import mock
 
 import checker_file
 import converted
+import crate_hashes
 import definitions
 import device_checkers
 import evidence
@@ -228,6 +229,9 @@ def once(make):
     return answer
 
 
+DONE = "3 passed, 0 failed\n"
+
+
 class EvidenceOfARelease(Folder):
     """The page and the log in a release. What the page says of contracts and definitions is made once."""
 
@@ -253,16 +257,21 @@ class EvidenceOfARelease(Folder):
             self.files()
 
     def test_a_log(self):
-        text = test_evidence.log_of(definitions.crate_names())
+        text = test_evidence.log_of(definitions.crate_names()) + DONE
         found = self.files(text)
         self.assertEqual(sorted(found), ["evidence/ci.log", "evidence/page.txt"])
         self.assertEqual(found["evidence/ci.log"], (text.encode(), False))
         self.assertEqual(verify_evidence.judged(found["evidence/page.txt"][0].decode())[0], [])
+        hashes = "\n".join(crate_hashes.lines()) + "\n"
+        self.assertEqual(self.files(hashes + text, 1)["evidence/page.txt"], found["evidence/page.txt"])  # whose time says nothing then
 
     def test_logs_that_prove_nothing(self):
         crates = definitions.crate_names()
-        for text, time, why in (("", None, "isn't the log of a whole"), (test_evidence.log_of(crates[1:]), None, f"{crates[0]} isn't proved"),
-                                (test_evidence.log_of(crates), 1, "is older than a source")):
+        whole, others = test_evidence.log_of(crates), "\n".join(crate_hashes.lines()[1:]) + "\n"
+        for text, time, why in ((DONE, None, "isn't the log of a whole"), (test_evidence.log_of(crates[1:]) + DONE, None, f"{crates[0]} isn't proved"),
+                                (whole + DONE, 1, "is older than a source"), (whole, None, "ends in .*, and not in `N passed, 0 failed`"),
+                                (whole + "2 passed, 1 failed\n", None, "ends in '2 passed, 1 failed'"),
+                                (others + whole + DONE, None, f"is of other sources, as of {crates[0]}")):
             with self.subTest(why), self.assertRaisesRegex(release.Lacking, why):
                 self.files(text, time)
 
