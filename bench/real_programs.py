@@ -27,6 +27,7 @@ from suygapid.commands.options import size as size_of
 from suygapid.elf.runtime import OVERRIDDEN
 from suygapid.kept import kept, root
 from suygapid.library.newlib import folder_of
+from suygapid.passes.typed import USUAL
 
 PRICED = ("lua", "bzip2", "zlib", "cjson")
 BUILT = ("lua", "mujs", "zstd", "sqlite")
@@ -198,7 +199,7 @@ def main():
     parser.add_argument("--format", action="append", choices=programs.FORMATS)
     parser.add_argument("--sources", default=os.path.join(root(), "sources"))
     options, options_given = parser.parse_known_args()
-    options.given, options.fetch, options.format = options_given, False, options.format or ["words"]
+    options.given, options.fetch, options.format = options_given, False, options.format or [USUAL]
     with tempfile.TemporaryDirectory() as folder:
         if options.builds:
             return builds(options, folder)

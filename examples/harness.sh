@@ -49,12 +49,13 @@ c_image() { # a program, a format, the image's file; fails where a compiler isn'
 formats="1 2 words" # where places are stated that the fourth format, whose data begin at a single bit, hasn't
 all_formats="$formats single"
 
-# What compilers make is tried in words each time, and in other formats by turns, of which the number of commits says whose it is:
+# What compilers make is tried in the usual format each time, and in others by turns, of which the number of commits says whose it is:
 # all have it where EACH_FORMAT is set (by `./test --all`), or git knows no commits.
+usual=single # that of tools/sfi-cc
 commits=$(git -C "$programs" rev-list --count HEAD 2>"$room/which") || EACH_FORMAT=1
 is_due() { # a format, a test's number, and one of how many has its turn
-    local -A after=([1]=0 [2]=$(($3 / 2)) [single]=$(($3 / 4)))
-    [ "$1" = words ] || [ -n "${EACH_FORMAT:-}" ] || [ $(((commits + $2 + after[$1]) % $3)) = 0 ]
+    local -A after=([1]=0 [2]=$(($3 / 2)) [words]=$(($3 / 4)))
+    [ "$1" = "$usual" ] || [ -n "${EACH_FORMAT:-}" ] || [ $(((commits + $2 + after[$1]) % $3)) = 0 ]
 }
 
 due() { # one of how many has its turn; tests: a line for each of them and each format that it is tried in

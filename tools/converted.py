@@ -1,5 +1,5 @@
 """The libraries that a release has compiled and converted, so that sfi-cc doesn't have to at their first use: newlib, what
-it has of files, floating point, the small library and what each program is linked with, by gcc for code in words. Beside them are the licences of their
+it has of files, floating point, the small library and what each program is linked with, by gcc in the usual format. Beside them are the licences of their
 sources, which are Debian's packages newlib-source and gcc-12-source."""
 import os
 import pathlib
@@ -12,10 +12,11 @@ from suygapid.elf.tools import Target, binutil
 from suygapid.library import newlib, softfloat
 from suygapid.library.archives import SMALL, archive_of, folders_of
 from suygapid.library.sources import GCC_SOURCE, NEWLIB_SOURCE, unpacked
+from suygapid.passes.typed import USUAL
 
 TOP = pathlib.Path(kept.RELEASED).resolve().parent.parent.parent
 MADE = pathlib.Path(kept.RELEASED).relative_to(TOP)
-TARGET = Target("words")
+TARGET = Target(USUAL)
 LIBRARIES = ("files", "newlib", SMALL)
 LICENCES = {NEWLIB_SOURCE: ("COPYING.NEWLIB",), GCC_SOURCE: ("COPYING3", "COPYING3.LIB", "COPYING.RUNTIME")}
 

@@ -185,7 +185,7 @@ int main(void) { return malloc(5) == own; }"""
                     self.assertIn(f"program.c:{marked_line(text)}\n", done.stderr)
 
     def test_refused(self):
-        for words, told in ((("--format", "1"), "--debug is for words"), (("--format", "2"), "--debug is for words"),
+        for words, told in ((("--format", "1"), "--debug is for words and single"), (("--format", "2"), "--debug is for words and single"),
                             (("--passes", "known"), "--debug has passes of its own")):
             done = subprocess.run([SFI_CC, "--debug", *words, "x.c"], capture_output=True, text=True, check=False)
             self.assertEqual(done.returncode, 2)
@@ -195,7 +195,11 @@ int main(void) { return malloc(5) == own; }"""
         """An access in a guard zone, a second program, a budget, and what is no program."""
         wrong = self.built("int main(void) { volatile int *volatile at = 0;\n return at[-2]; } /* here */", "-g")
         done = self.ran(wrong)
-        self.assertRegex(done.stderr, r"(?s)trap=Load at=017ffff8.*: main, program\.c:2\n017ffff8: in the guard zone, 8 bytes below")
+        self.assertRegex(done.stderr, r"(?s)trap=Load at=fffffff8.*: main, program\.c:2\nfffffff8: in the zone at zero: a pointer is null or wrong\n")
+        in_words = self.ran(self.built("int main(void) { volatile int *volatile at = 0;\n return at[-2]; }", "-g", "--format", "words"))
+        self.assertRegex(in_words.stderr, r"(?s)trap=Load at=017ffff8.*: main, program\.c:2\n017ffff8: in the guard zone, 8 bytes below")
+        os.remove(wrong)
+        wrong = self.built("int main(void) { volatile int *volatile at = 0;\n return at[-2]; } /* here */", "-g")
         other = self.path("other.elf")
         os.rename(wrong, other)
         fine = self.built("int main(void) { return 7; }", "--sandbox", "1")

@@ -9,7 +9,7 @@ import device_checkers
 import release_trial
 from testing import SFI, TOP, Folder, needs, needs_program
 
-PACKED = ("device", "examples/device", "examples/rust", "crates/sfi_c/include", "crates/sfi_slots/include", "tools")
+PACKED = ("device", "examples/c/gates.h", "examples/device", "examples/rust", "crates/sfi_c/include", "crates/sfi_slots/include", "tools")
 
 
 @needs("git", "riscv64-unknown-elf-gcc", "cmake", "make", "qemu-system-riscv32")

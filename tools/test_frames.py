@@ -97,7 +97,7 @@ class Backtraces(Folder):
 
     @needs("gdb-multiarch")
     def test_as_gdb_tells(self):
-        for format_ in ("1", "words"):
+        for format_ in ("1", "words", "single"):
             elf = self.linked(CALLS, "--format", format_, "-O1")
             found = [it.function for it in self.told(elf)]
             by_gdb = self.by_gdb(elf)

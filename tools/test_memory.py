@@ -108,7 +108,7 @@ class Places(unittest.TestCase):
     SIZES = [(256, 256), (1 << 22, 1 << 22), (1 << 22, 1 << 23), (1 << 23, 256), (1 << 24, 1 << 26), (256, 1 << 26)]  # of code and data
 
     def spans(self, sandbox, code, data):
-        code_base, data_base = place_of(sandbox, code, data)
+        code_base, data_base = place_of(sandbox, code, data, "words")
         self.assertEqual((code_base % code, data_base % data), (0, 0))
         self.assertLessEqual(data_base + data + GUARD, 1 << 32)
         return [range(code_base, code_base + code), range(data_base - GUARD, data_base + data + GUARD)]
@@ -156,9 +156,9 @@ class Sizes(Programs):
         """What has no heap, bundles and what has a place of its own are small; of single masks what there is room for below the data."""
         for words, size in ((("--format", "1"), 65536), (("--format", "2"), 65536), (("--format", "2", "--library", "newlib"), 131072),
                             (("--at", "02000000:03000000"), 65536), (("--at", "02000000:02100000", "--stack", "64K"), 131072), (("--movable",), 1 << 24),
-                            (("--sandbox", "15"), 1 << 24), (("--format", "single"), 1 << 24), (("--format", "single", "--sandbox", "6"), 1 << 24),
-                            (("--format", "single", "--sandbox", "7"), 1 << 23), (("--format", "single", "--sandbox", "10"), 1 << 20),
-                            (("--format", "single", "--sandbox", "7", "--memory", "1M"), 1 << 20)):
+                            (("--format", "words", "--sandbox", "15"), 1 << 24), (("--format", "words"), 1 << 24), (("--sandbox", "6"), 1 << 24),
+                            (("--sandbox", "7"), 1 << 23), (("--sandbox", "10"), 1 << 20),
+                            (("--sandbox", "7", "--memory", "1M"), 1 << 20)):
             if "newlib" not in words or not lacking(NEWLIB):
                 with self.subTest(words):
                     self.assertEqual(self.size(*words), size)
@@ -176,9 +176,13 @@ class Sizes(Programs):
         for size, sandbox, base in (("64K", 0, 0x01800000), ("4M", 0, 0x01800000), ("4M", 15, 0x10800000), ("8M", 0, 0x20000000), ("8M", 15, 0x98000000),
                                     ("64M", 1, 0x28000000), ("512M", 2, 0xA0000000), ("1G", 0, 0x40000000)):
             with self.subTest(size=size, sandbox=sandbox):
-                self.assertEqual(self.place(TAKES, "--memory", size, "--sandbox", str(sandbox)), [(sandbox + 1) << 24, base, sizes[size]])
+                self.assertEqual(self.place(TAKES, "--format", "words", "--memory", size, "--sandbox", str(sandbox)), [(sandbox + 1) << 24, base, sizes[size]])
         large = "char large[20000000];\nint main(void) { return large[(int)large & 255]; }\n"
-        self.assertEqual(self.place(large), [0x01000000, 0x20000000, 1 << 25])
+        self.assertEqual(self.place(large, "--format", "words"), [0x01000000, 0x20000000, 1 << 25])
+        for size, sandbox, code in (("64K", 0, 0x01800000), ("4M", 3, 0x04800000), ("8M", 0, 0xC1000000), ("16M", 6, 0xC7000000), ("1M", 10, 0x0B800000)):
+            with self.subTest(size=size, sandbox=sandbox):
+                self.assertEqual(self.place(TAKES, "--memory", size, "--sandbox", str(sandbox))[:2], [code, 1 << 31 - sandbox])
+        self.assertEqual(self.place(large), [0xC1000000, 0x80000000, 1 << 25])
         self.assertEqual(self.place(large, "--at", "03000000:0a000000"), [0x03000000, 0x0A000000, 1 << 25])
         self.assertEqual(self.call(large, "--at", "03000000:0b000000"),
                          (1, "sfi-cc: memory.elf: the data have 33554432 bytes, and lie at 0xb000000, which is no multiple of that: "
@@ -187,7 +191,7 @@ class Sizes(Programs):
     def test_what_has_no_room(self):
         """The objects and the stack come first, so that the rest of what is missing is the heap's."""
         told = r"sfi-cc: memory.elf: (\d+) bytes of objects, 8192 of stack and (\d+) of heap don't fit in (\d+), by(?: (\d+) of stack and)? (\d+) of heap: (.*)\n"
-        for words, more in ((("--heap", "60000", "--memory", "64K"), "--memory 128K gives more"), (("--heap", "1G"), "format words has room for no more"),
+        for words, more in ((("--heap", "60000", "--memory", "64K"), "--memory 128K gives more"), (("--heap", "1G"), "format single has room for no more"),
                             (("--heap", "1M", "--format", "2"), "format 2 has room for no more"),
                             (("--heap", "60000", "--memory", "4K"), "--memory 128K gives more")):
             status, said = self.call(TAKES, *words)
@@ -215,10 +219,10 @@ class Sizes(Programs):
 
     def test_where(self):
         """What lies between the objects and the region's end is the heap's and the stack's, and an overflow is told with both."""
-        said = subprocess.run([SFI_CC, "--memory", "128K", "--where", "0181f000", "--where", "017ffff0", self.write("memory.c", TAKES)],
+        said = subprocess.run([SFI_CC, "--memory", "128K", "--where", "8001f000", "--where", "7ffffff0", self.write("memory.c", TAKES)],
                               capture_output=True, text=True, check=True).stdout
-        self.assertRegex(said, r"^0181f000: in the memory of heap and stack, \d+ bytes behind the objects\n"
-                               r"017ffff0: in the guard zone, 16 bytes below the data: the stack has likely overflowed its room of 8704 bytes beside "
+        self.assertRegex(said, r"^8001f000: in the memory of heap and stack, \d+ bytes behind the objects\n"
+                               r"7ffffff0: in the guard zone, 16 bytes below the data: the stack has likely overflowed its room of 8704 bytes beside "
                                r"the heap \(--stack gives more\), or a pointer is wrong\n$")
 
 
@@ -253,7 +257,7 @@ class Shared(Programs):
 
     @needs("gcc")
     def test_much(self):
-        for words in ((), ("--movable",), ("--debug",), ("--sandbox", "3"), ("--format", "single")):
+        for words in ((), ("--movable",), ("--debug",), ("--sandbox", "3"), ("--format", "words")):
             with self.subTest(words):
                 self.much(*words)
 

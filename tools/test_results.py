@@ -143,7 +143,7 @@ class Processes(Folder):
     def test_functions(self):
         """Several processes write what one does, and refuse what one does."""
         with mock.patch("suygapid.passes.rewriting.MANY", 0):
-            for image_format in (1, 2, "words"):
+            for image_format in (1, 2, "words", "single"):
                 wanted, found = (rewriting.rewritten("a.s", ASSEMBLY, image_format=image_format, jobs=jobs) for jobs in (1, 3))
                 self.assertEqual(found, wanted)
             for jobs in (1, 3):

@@ -52,7 +52,7 @@ class Steps(Calls):
         status, image, told = self.made()
         self.assertEqual((status, told), (0, []))
         self.assertEqual(self.read("check.input"), image)
-        self.assertEqual(bytes.fromhex(image)[:4], b"SFIW")
+        self.assertEqual(bytes.fromhex(image)[:4], b"SFIS")
 
     def test_which_fails(self):
         rows = [
@@ -163,11 +163,30 @@ cp {self.folder}/main.asm "$2"
 
     def test_headers_of_images(self):
         """The format, and the size of the data region."""
-        rows = [(["--format", "1"], b"SFI1", 16384), ([], b"SFIW", 16384), (["--stack", "100000"], b"SFIW", 131072),
-                (["--data", "65536"], b"SFIW", 65536), (["--format", "words"], b"SFIW", 16384), (["--format", "2"], b"SFI2", 16384)]
+        rows = [(["--format", "1"], b"SFI1", 16384), ([], b"SFIS", 16384), (["--stack", "100000"], b"SFIS", 131072),
+                (["--data", "65536"], b"SFIS", 65536), (["--format", "words"], b"SFIW", 16384), (["--format", "2"], b"SFI2", 16384),
+                (["--movable"], b"SFIS", 16384), (["--sandbox", "15"], b"SFIS", 16384)]
         for options, magic, size in rows:
             image = bytes.fromhex(self.made(*options)[1])
             self.assertEqual((image[:4], int.from_bytes(image[20:24], "little")), (magic, size))
+
+    def test_format_by_place(self):
+        """Words where single masks have no such place, as far as options say it; what shows when the size is known is refused."""
+        for at, memory, magic in (("1000000:1800000", "16K", b"SFIW"), ("1000000:2000000", "16K", b"SFIS"), ("1000000:2000000", "16M", b"SFIW"),
+                                  ("1000000:2000000", "32M", b"SFIW"), ("fffff000:2000000", "16K", b"SFIW"), ("5000:80000000", "16K", b"SFIS"),
+                                  ("4000:80000000", "16K", b"SFIW"), ("1000000:8000", "16K", b"SFIS"), ("1000000:4000", "16K", b"SFIW")):
+            with self.subTest(at, memory=memory):
+                status, image, told = self.made("--at", at, "--memory", memory)
+                self.assertEqual((status, told, bytes.fromhex(image)[:4]), (0, [], magic))
+        self.assertEqual(self.made("--at", "4000:80000000"), (1, "", [
+            "sfi-cc: the program: the code or the data lie in the zone at zero, the addresses below 0x5000 and the last 4096: give less --memory, or "
+            "compile it with --format words"]))
+        self.assertEqual(self.made("--format", "single", "--at", "1000000:1800000"), (1, "", [
+            "sfi-cc: the program: the data lie at 0x1800000, which is more than one bit: compile it with --format words"]))
+        self.assertEqual(self.made("-c", "-o", self.path("made.o")), (0, "", []))
+        status, _, told = self.call(self.path("made.o"), "--at", "1000000:1800000")
+        self.assertEqual((status, told[-2:]), (1, ["sfi-cc: without --format this program is of format words",
+                                                   f"sfi-cc: {BINUTILS}ld failed, in status 1"]))
 
     def test_names(self):
         """The table at the image's end, as docs/IMAGE.md has it; a program of exports needs no main."""
@@ -251,10 +270,11 @@ cp {self.folder}/main.asm "$2"
         self.write("main.asm", '\t.file 1 "main.c"\n' + ASSEMBLY.replace("main:\n", "main:\n\t.loc 1 3 1\n"))
         found = self.listed()
         for address, told in ((found["main"], "main, main.c:3"), (found["exit_with"], "exit_with"),
-                              (found["_sfi_start"] + 4, "_sfi_start"), (0, "neither the program's code nor its data")):
+                              (found["_sfi_start"] + 4, "_sfi_start"), (0, "in the zone at zero: a pointer is null or wrong"),
+                              (0x100000, "neither the program's code nor its data")):
             self.assertEqual(self.made("--where", f"{address:x}", check="exit 9"), (0, f"{address:08x}: {told}\n", []))
         stack = "the stack has likely overflowed its room of"
-        self.assertRegex(self.made("--where", "017ffff8")[1], f"^017ffff8: in the guard zone, 8 bytes below the data: {stack} ")
+        self.assertRegex(self.made("--where", "7ffffff8")[1], f"^7ffffff8: in the guard zone, 8 bytes below the data: {stack} ")
 
     def test_objects_and_archives(self):
         """An object is given in place of its source; a program gets of an archive what it calls."""
@@ -351,7 +371,7 @@ class Libraries(Calls):
             for number in range(count):
                 self.write(f"{name}/f{number}.asm", f"\t.globl\t{name}{number}\n{name}{number}:\n\tret\n")
         words = ["-o", self.path("made.elf"), self.write("main.s", ASSEMBLY)]
-        told = f"files of a library are converted for format words, which may take a minute, once: kept in {self.path('home')}/suygapid/library-"
+        told = f"files of a library are converted for format single, which may take a minute, once: kept in {self.path('home')}/suygapid/library-"
         home = {**os.environ, "XDG_CACHE_HOME": self.path("home")}
         for names, wanted in ((["few"], []), (["large", "larger"], [f"sfi-cc: 41 {told}"]), (["larger", "large"], [])):
             libraries = [word for name in names for word in ("--library", self.path(name))]

@@ -7,7 +7,7 @@ from suygapid.commands.cc import LIMITS
 from suygapid.elf.small import LIMIT, SMALL, options_of, with_limit
 from testing import GCC, SFI_CC, Folder, needs
 
-DATA = 0x01800000
+DATA = 0x80000000
 OBJECTS = """\
 struct pair { int one, two; long long sum; };
 struct pair zeroed;

@@ -12,7 +12,9 @@ import sys
 import tempfile
 import unittest
 
+from suygapid.image.layout import NAMED
 from suygapid.library.sources import GCC_SOURCE, NEWLIB_SOURCE
+from suygapid.passes.typed import USUAL
 
 TOOLS = pathlib.Path(__file__).resolve().parent
 TOP = TOOLS.parent
@@ -21,7 +23,7 @@ SFI_CC, SFI_IMAGE = str(TOOLS / "sfi-cc"), str(TOOLS / "sfi-image")
 GCC, CLANG = "riscv64-unknown-elf-gcc", "clang"
 PICOLIBC = "/usr/lib/picolibc/riscv64-unknown-elf"
 OF_BINUTILS = ("riscv64-unknown-elf-as", "riscv64-unknown-elf-ld")
-FORMATS = ("1", "2", "words", "single")
+FORMATS = tuple(NAMED)
 EACH_FORMAT = "EACH_FORMAT"  # in the environment: what compilers make is tried in each format, as by ./test --all
 SOURCES = {it.name: it for it in (GCC_SOURCE, NEWLIB_SOURCE)}
 # By what tests name, what that stands on: the compilers of sandboxes, and what sfi-cc compiles of sources when it is first wanted.
@@ -79,12 +81,12 @@ def by_turns(things, count):
 
 
 def formats_due(number, count):
-    """The formats in which a test of what compilers make is tried: words each time, and the others by turns. `count` tests,
+    """The formats in which a test of what compilers make is tried: the usual one each time, and the others by turns. `count` tests,
     of which this is the one of a number, take turns."""
-    turn, after = commits(), {"1": 0, "2": count // 2, "single": count // 4}
+    turn, after = commits(), {"1": 0, "2": count // 2, "words": count // 4}
     if not turn or os.environ.get(EACH_FORMAT):
         return FORMATS
-    return tuple(it for it in FORMATS if it == "words" or (turn + number + after[it]) % count == 0)
+    return tuple(it for it in FORMATS if it == USUAL or (turn + number + after[it]) % count == 0)
 
 
 class Folder(unittest.TestCase):

@@ -1,5 +1,5 @@
 #!/usr/bin/env bash
-# Compiles the C examples by `sfi-cc --movable` in words, and by turns in bundles, moves each image to two other places, and
+# Compiles the C examples by `sfi-cc --movable` in the usual format, and by turns in others, moves each image to two other places, and
 # compares what it does there, on the inputs of expected.txt, with what the native program did, and addresses.c with an image that is built there.
 #
 #     examples/c/moved.sh [--all] [SFI]   # SFI is the program; ./sfi at the top if absent. Without --all: some of them
@@ -12,12 +12,16 @@ sfi=$(realpath "${1:-$here/../../sfi}")
 export SFI=$sfi
 cd "$here" || exit 1
 source ../harness.sh
-all_formats=$formats # the places have data bases of more than one bit
 tools=$(realpath ../../tools)
 export tools programs room
 
-# Code and data go different ways, and the last place has the data below the code.
-places="01000000:01800000 09100000:02400000 fff00000:00100000"
+# First the usual place. Code and data go different ways, and the last place has the data below the code.
+places_of() { # format
+    case "$1" in
+    single) echo "01800000:80000000 09100000:02000000 fff00000:00100000" ;;
+    *) echo "01000000:01800000 09100000:02400000 fff00000:00100000" ;;
+    esac
+}
 
 compile() { # program, format; makes an image that can be moved
     "$tools/sfi-cc" --program "$SFI" --movable --format "$2" -O2 -fno-tree-loop-distribute-patterns -o "$room/$1.$2" "$programs/$1.c"
@@ -32,7 +36,8 @@ run_of() { # image, input in digits; what it does, without the steps
 }
 
 try_place() { # program, format, place
-    local name input wanted image="$room/$1.$2" what="$1, format $2, at $3"
+    local name input wanted image="$room/$1.$2" what="$1, format $2, at $3" places
+    places=$(places_of "$2")
     if [ "$3" != "${places%% *}" ]; then
         move "$image" "$3" "$image.moved"
         image=$image.moved
@@ -49,14 +54,15 @@ try_program() { # program, format
         report "$1, format $2: compiled" image "$(cat "$room/messages")"
         return
     fi
-    for place in $places; do
+    for place in $(places_of "$2"); do
         try_place "$1" "$2" "$place"
     done
 }
 
 # Each address that a moved program holds is the one that it has where it is built there.
 try_addresses() { # format, compiler; options of sfi-cc
-    local format=$1 place image="$room/addresses"
+    local format=$1 place image="$room/addresses" places
+    places=$(places_of "$1")
     shift
     "$tools/sfi-cc" --program "$sfi" --movable --format "$format" "$@" -o "$image" elf/addresses.c elf/elsewhere.c
     for place in ${places#* }; do
@@ -84,14 +90,18 @@ try_refusals() {
     report "an object that can't be moved" "can't be moved: compile all of it with --movable" \
         "$(refusal "$tools/sfi-cc" --program "$sfi" --movable elf/elsewhere.c "$room/fixed.o" | grep -o "can't be moved.*")"
     local format at
-    while read -r format at; do # in words the data begin with room for a step of a pointer
+    while read -r format at; do # in words and single the data begin with room for a step of a pointer
         report "an address at an odd place, format $format" \
             "sfi-cc: the program: odd has an address at $at, which is no multiple of 4, so it can't be moved" \
             "$(refusal "$tools/sfi-cc" --program "$sfi" --format "$format" --movable elf/odd.c)"
-    done < <(printf '%s\n' "words 0x1800041" "2 0x1800001")
+    done < <(printf '%s\n' "single 0x80000041" "words 0x1800041" "2 0x1800001")
     "$tools/sfi-cc" --program "$sfi" -o "$room/fixed.elf" elf/odd.c
     report "a program that can't be moved" "sfi-image: $room/fixed.elf can't be moved: link it with --movable, or with --at" \
-        "$(refusal "$tools/sfi-image" --at 02000000:02800000 "$room/fixed.elf")"
+        "$(refusal "$tools/sfi-image" --at 02000000:08000000 "$room/fixed.elf")"
+    "$tools/sfi-cc" --program "$sfi" --movable -o "$room/movable.elf" elf/elsewhere.c elf/addresses.c
+    report "a place that the usual format has not" \
+        "sfi-image: $room/movable.elf: the data lie at 0x2800000, which is more than one bit: compile it with --format words" \
+        "$(refusal "$tools/sfi-image" --at 02000000:02800000 "$room/movable.elf")"
 }
 
 # A source text: what is moved to a place is what is built there.
@@ -119,7 +129,7 @@ last:   la   t1, text
 text:   .byte 72, 105, 33
 END
     "$sfi" build <"$image.s" >"$image"
-    for place in $places; do
+    for place in $(places_of "$1"); do
         move "$image" "$place" "$image.moved"
         report "a text, format $1, at $place" "$("$sfi" build --at "$place" <"$image.s")" "$(cat "$image.moved")"
         report "a text, format $1, at $place: run" "exit=33 out=486921" "$(run_of "$image.moved" "")"
@@ -127,7 +137,7 @@ END
     done
 }
 
-for format in 2 words; do try_text "$format"; done
+for format in 2 words single; do try_text "$format"; done
 why=$(lacking riscv64-unknown-elf-gcc)
 if [ -n "$why" ]; then
     skip 1 "images that are moved" "$why"

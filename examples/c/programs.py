@@ -3,7 +3,7 @@
 
     examples/c/programs.py [OPTIONS] [NAME ..|--all]
 
-Without names it tries a sample in words, or all in each format where EACH_FORMAT is set, as by ./test. Exit codes and outputs are compared, and a table has the steps, the bytes of code, and the seconds of `sfi run`. The sources
+Without names it tries a sample in the usual format, or all in each format where EACH_FORMAT is set, as by ./test. Exit codes and outputs are compared, and a table has the steps, the bytes of code, and the seconds of `sfi run`. The sources
 are Debian's: those of GCC in gcc-12-source, the others' archives in the folder --sources, where --fetch has apt-get put
 them. A program whose sources aren't there is skipped. The last line is `N passed, M failed[, K skipped]`.
 """
@@ -30,9 +30,9 @@ from inputs import input_of
 from suygapid.elf.elf import Elf
 from suygapid.kept import root
 from suygapid.library.sources import GCC_SOURCE, unpacked
-from testing import GCC, NEWLIB, lacking
+from suygapid.passes.typed import USUAL
+from testing import FORMATS, GCC, NEWLIB, lacking
 
-FORMATS = ("1", "2", "words", "single")
 GCC_PARTS = ("zlib", "libdecnumber", "libiberty", "include")
 HEADERS = {  # what configurations would make: GCC's, and one of Mbed TLS in C alone, without files, network, clock and source of chance
     "config.h": "",
@@ -331,7 +331,7 @@ def parsed(words):
     parser = argparse.ArgumentParser(prog="programs.py", description=__doc__.split("\n", maxsplit=1)[0])
     parser.add_argument("names", nargs="*", metavar="NAME", help=f"of {', '.join(PROGRAMS)}; if absent {', '.join(SAMPLE)}")
     parser.add_argument("--all", action="store_true", help="tries all programs")
-    parser.add_argument("--format", action="append", choices=FORMATS, help="all if absent, but words of the sample")
+    parser.add_argument("--format", action="append", choices=FORMATS, help=f"all if absent, but {USUAL} of the sample")
     parser.add_argument("--sources", metavar="FOLDER", default=os.path.join(root(), "sources"),
                         help="where the archives of source packages are; %(default)s if absent")
     parser.add_argument("--fetch", action="store_true", help="runs `apt-get source --download-only` there for those that aren't")
@@ -340,7 +340,7 @@ def parsed(words):
     if not set(options.names) <= set(PROGRAMS):
         parser.error(f"the programs are {', '.join(PROGRAMS)}")
     is_whole = options.all or bool(os.environ.get("EACH_FORMAT"))
-    options.format = options.format or (FORMATS if is_whole or options.names else ["words"])
+    options.format = options.format or (FORMATS if is_whole or options.names else [USUAL])
     options.names = options.names or (PROGRAMS if is_whole else SAMPLE)
     return options
 

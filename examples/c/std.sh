@@ -1,5 +1,5 @@
 # The programs of std, which use standard headers alone, and two programs that are one image: compiled by each compiler
-# that is there, and compared with what native gcc makes of std, in words, and by turns in bundles.
+# that is there, and compared with what native gcc makes of std, in the usual format, and by turns in others.
 std_programs="base64 json_tokens matrix_product functions ends"
 warnings="-std=c11 -O2 -Wall -Wextra -Werror"
 
@@ -66,9 +66,9 @@ make_library() { # compiler, format
 # The functions of the library that a program has are those that it calls, and what these call, also by default.
 try_linking() { # compiler
     local names found way
-    names=$(riscv64-unknown-elf-nm "$room/$1.words/libsmall.a" 2>"$room/messages" | awk '$2 == "W" && $3 !~ /^_/ { print $3 }')
+    names=$(riscv64-unknown-elf-nm "$room/$1.$usual/libsmall.a" 2>"$room/messages" | awk '$2 == "W" && $3 !~ /^_/ { print $3 }')
     for way in "-fhosted -fno-builtin -I include library/*.c" ""; do
-        compile "$1" words $way -o "$room/base64.elf" std/base64.c
+        compile "$1" "$usual" $way -o "$room/base64.elf" std/base64.c
         found=$(riscv64-unknown-elf-nm "$room/base64.elf" | awk '{ print $3 }' | grep -xF "$names" | sort | paste -sd' ')
         report "base64 by $1 $way: functions of the library" "getchar putchar" "$found"
     done

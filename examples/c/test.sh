@@ -1,5 +1,5 @@
 #!/usr/bin/env bash
-# Compiles, checks and runs the C examples in words, two in each other format, on each input of expected.txt, and compares
+# Compiles, checks and runs the C examples in the usual format, two in each other one, on each input of expected.txt, and compares
 # what they do with what the native programs did. Then reads the headers as C++, and compiles the programs of std.sh and compares them
 # with native ones.
 #

@@ -68,6 +68,7 @@ compare_examples() { # format
 }
 
 # The last input of each program, or all of them. In bundles a third of the programs are tried.
+usual=words # which lie at other addresses than the host
 compare_programs() { # format; in words, too, one of how many has its turn
     local program input last='' number=0
     while read -r program input _; do
@@ -433,7 +434,7 @@ try_docs() {
 }
 
 linked() { # a program of cases, its sandbox, an option of the tool
-    ../../tools/sfi-cc --sandbox "$2" "$3" -o "$room/$1.elf" "cases/$1.c"
+    ../../tools/sfi-cc --format words --sandbox "$2" "$3" -o "$room/$1.elf" "cases/$1.c"
 }
 
 mkdir "$room/top"

@@ -48,7 +48,7 @@ try_debugging() { # words of sfi-cc
         return
     fi
     debugged_source >"$room/debugged.c"
-    succeeds "$chip: a program for gdb" "$shared/../../tools/sfi-cc" --program "$SFI" -Og -g "$@" -o "$room/debugged.elf" "$room/debugged.c"
+    succeeds "$chip: a program for gdb" "$shared/../../tools/sfi-cc" --program "$SFI" --format words -Og -g "$@" -o "$room/debugged.elf" "$room/debugged.c"
     "$shared/../../tools/sfi-image" "$room/debugged.elf" >"$room/image.hex"
     said=$(by_gdb "hbreak sum" continue next "info symbol \$pc" next "info symbol \$pc" "x/3i \$pc" delete \
         "hbreak twice" continue bt delete continue)

@@ -1,5 +1,5 @@
 #!/usr/bin/env bash
-# Compiles Rust programs for sandboxes in words, one in each other format, and compares what they do with the same programs
+# Compiles Rust programs for sandboxes in the usual format, one in each other one, and compares what they do with the same programs
 # compiled natively.
 #
 #     examples/rust/test.sh [SFI]      # SFI is the program; ./sfi at the top if absent

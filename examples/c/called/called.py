@@ -41,7 +41,7 @@ def natively(folder):
 
 
 def ways_of(options):
-    """The ways in words, and those in bundles whose turn it is."""
+    """The ways in the usual format, and those in others whose turn it is."""
     pairs = [(compiler, level) for level in options.level for compiler in options.compiler]
     return [(*pair, image_format) for number, pair in enumerate(pairs) for image_format in formats_due(number, 5)]
 

@@ -1,5 +1,5 @@
 #!/usr/bin/env bash
-# Links archives, libraries, two sandboxes and constructors in words, and in the first or the second format by turns, debugs
+# Links archives, libraries, two sandboxes and constructors in the usual format, and in others by turns, debugs
 # programs by gdb, and tries what is refused.
 #
 #     examples/c/elf/test.sh [SFI]      # SFI is the program; ./sfi at the top if absent
@@ -104,19 +104,19 @@ try_far_branches() { # format, accesses
     report "branches over $2 accesses, format $1" "sandbox=0 exit=2 out=" "$(line_of "$room/far.elf")"
 }
 
-# A step of a data register before a load into x0 keeps its masks.
-try_step() {
-    elf_of step.elf words elf/step.s
-    report "a load into x0 after a step" "accepted exit=5" "$("$tools/sfi-image" "$room/step.elf" >"$room/step.hex"
+# A step of a data register before a load into x0 keeps its masks, of which there are so many.
+try_step() { # format, masks
+    elf_of step.elf "$1" elf/step.s
+    report "a load into x0 after a step, format $1" "accepted exit=5" "$("$tools/sfi-image" "$room/step.elf" >"$room/step.hex"
         echo "$("$sfi" check <"$room/step.hex" | cut -d' ' -f1) $("$sfi" run <"$room/step.hex" | grep -o 'exit=[0-9]*')")"
-    report "masks between them" 2 "$(riscv64-unknown-elf-objdump -d "$room/step.elf" | grep -B3 'lw.*zero,0(sp)' | grep -cE 'and|or')"
+    report "masks between them, format $1" "$2" "$(riscv64-unknown-elf-objdump -d "$room/step.elf" | grep -B3 'lw.*zero,0(sp)' | grep -cE 'and|or')"
 }
 
 # More small objects than there is room for.
 try_many() {
     { for number in $(seq 60); do echo "volatile int objects$number[16];"; done
         echo "int main(void) { return 40"; printf ' + (objects%s[3] = 1)' $(seq 60); echo "; }"; } >"$room/many.c"
-    elf_of many.elf words "$room/many.c"
+    elf_of many.elf "$usual" "$room/many.c"
     report "more small objects than there is room for" "sandbox=0 exit=100 out=" "$(line_of "$room/many.elf")"
 }
 
@@ -193,23 +193,23 @@ try_debugging() {
 
 try_refusals() {
     report "an undefined symbol" "undefined reference to \`absent'" \
-        "$(refusal elf_of x.elf words elf/undefined.c >/dev/null; grep -o 'undefined reference.*' "$room/messages" | head -n 1)"
-    report "an ecall" "asm2elf: ecall.s:4: ecall: a sandbox calls its host through gates alone" "$(refusal elf_of x.elf words elf/ecall.s)"
+        "$(refusal elf_of x.elf "$usual" elf/undefined.c >/dev/null; grep -o 'undefined reference.*' "$room/messages" | head -n 1)"
+    report "an ecall" "asm2elf: ecall.s:4: ecall: a sandbox calls its host through gates alone" "$(refusal elf_of x.elf "$usual" elf/ecall.s)"
     report "objects of two formats" "objects of several formats: compile all of them with one --format" \
-        "$(elf_of two.o 2 -c elf/twice.c && refusal elf_of x.elf words elf/calls_twice.c "$room/two.o" >/dev/null
+        "$(elf_of two.o 2 -c elf/twice.c && refusal elf_of x.elf "$usual" elf/calls_twice.c "$room/two.o" >/dev/null
         grep -o 'objects of several.*' "$room/messages" | head -n 1)"
     report "two sandboxes at one place" \
-        "sfi-image: $room/post.words.elf and $room/post.words.elf lie at one place: link each with a --sandbox of its own" \
-        "$(refusal "$tools/sfi-image" "$room/post.words.elf" "$room/post.words.elf")"
-    report "two formats in one image" "sfi-image: $room/post.words.elf and $room/take.elf are of different formats" \
-        "$(elf_of take.elf 2 --sandbox 1 primes_take.c && refusal "$tools/sfi-image" "$room/post.words.elf" "$room/take.elf")"
+        "sfi-image: $room/post.$usual.elf and $room/post.$usual.elf lie at one place: link each with a --sandbox of its own" \
+        "$(refusal "$tools/sfi-image" "$room/post.$usual.elf" "$room/post.$usual.elf")"
+    report "two formats in one image" "sfi-image: $room/post.$usual.elf and $room/take.elf are of different formats" \
+        "$(elf_of take.elf 2 --sandbox 1 primes_take.c && refusal "$tools/sfi-image" "$room/post.$usual.elf" "$room/take.elf")"
     report "no ELF file" "sfi-image: elf/null.c is no linked ELF file of 32-bit RISC-V" "$(refusal "$tools/sfi-image" elf/null.c)"
-    head -c 3000 "$room/post.words.elf" >"$room/short.elf"
+    head -c 3000 "$room/post.$usual.elf" >"$room/short.elf"
     report "an ELF file that is cut off" "sfi-image: $room/short.elf is cut off, or no ELF file" \
         "$(refusal "$tools/sfi-image" "$room/short.elf")"
-    riscv64-unknown-elf-strip -o "$room/bare.elf" "$room/post.words.elf"
+    riscv64-unknown-elf-strip -o "$room/bare.elf" "$room/post.$usual.elf"
     report "an ELF file without symbols" 1 "$(refusal "$tools/sfi-image" "$room/bare.elf" | grep -c 'link it by tools/sfi-cc')"
-    report "a data region that is too small" 1 "$(refusal "$tools/sfi-image" --data 4096 "$room/post.words.elf" | grep -c "don't fit in 4096")"
+    report "a data region that is too small" 1 "$(refusal "$tools/sfi-image" --data 4096 "$room/post.$usual.elf" | grep -c "don't fit in 4096")"
 }
 
 why=$(lacking riscv64-unknown-elf-gcc)
@@ -231,7 +231,8 @@ for format in $(formats_due); do
     try_far_branches "$format" 222
     try_far_branches "$format" 255
 done
-try_step
+try_step words 2
+try_step single 1
 try_many
 try_debugging
 try_refusals

@@ -33,14 +33,14 @@ sys.path.insert(0, os.path.join(TOP, "tools"))
 
 from suygapid.cc.compilers import GCC, Failed, ran
 from suygapid.library.sources import GCC_SOURCE, unpacked
-from testing import CLANG, PICOLIBC, lacking, sample
+from suygapid.passes.typed import USUAL
+from testing import CLANG, FORMATS, PICOLIBC, lacking, sample
 
 QEMU = "qemu-riscv32"
 TESTS = "gcc/testsuite/gcc.c-torture/execute"
 COMPILERS = {"gcc": GCC, "clang": CLANG}
 LEVELS = ("-O0", "-O1", "-O2", "-O3", "-Os")
-FORMATS = ("1", "2", "words", "single")
-OF_SAMPLE = ("words", "words", "1", "words", "2")  # the formats of a sample's tests
+OF_SAMPLE = (USUAL, USUAL, "1", USUAL, "2", "words")  # the formats of a sample's tests
 TOOLS = os.path.join(TOP, "tools")
 SAMPLE = 100
 CSMITH = ["csmith", "--max-funcs", "4", "--max-block-depth", "3"]  # some 20 KB of C each

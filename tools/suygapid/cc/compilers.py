@@ -7,6 +7,7 @@ import sys
 from typing import Iterable, Optional, Sequence
 
 from suygapid import TOP
+from suygapid.passes.typed import IN_WORDS
 
 GCC, CLANG = "riscv64-unknown-elf-gcc", "clang"
 RESERVED = (24, 25, 26, 27, 31)  # the sandbox's own registers
@@ -122,7 +123,7 @@ def version(compiler: str) -> str:
 
 def reserved(image_format: str) -> tuple[int, ...]:
     """The registers that are the sandbox's own in a format."""
-    return RESERVED_IN_WORDS if image_format in ("words", "single") else RESERVED
+    return RESERVED_IN_WORDS if image_format in IN_WORDS else RESERVED
 
 
 def by_gcc(compiler, given, file, assembly, registers):

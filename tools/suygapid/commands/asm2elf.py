@@ -18,7 +18,7 @@ from suygapid.passes import checking
 from suygapid.passes.assembly import Broken, Refused
 from suygapid.passes.improving import PASSES
 from suygapid.passes.rewriting import rewritten
-from suygapid.passes.typed import IN_WORDS, WORDS, format_of
+from suygapid.passes.typed import IN_WORDS, USUAL, format_of
 
 ENCODING = {"encoding": "utf-8", "errors": "surrogateescape"}
 
@@ -28,11 +28,11 @@ def parsed(words):
     parser.add_argument("files", nargs="+", metavar="IN.s", help="assembly of gcc or clang")
     parser.add_argument("-o", dest="output", metavar="OUT.s", help="where to write; standard output if absent")
     parser.add_argument("--into", metavar="FOLDER", help="where to write a file of the same name for each of several")
-    parser.add_argument("--format", type=format_of, choices=[1, 2, *IN_WORDS], default=WORDS, help="the image's format; words if absent")
+    parser.add_argument("--format", type=format_of, choices=[1, 2, *IN_WORDS], default=USUAL, help=f"the image's format; {USUAL} if absent")
     parser.add_argument("--passes", metavar="NAMES",
                         help=f"the passes that make the code cheaper; {','.join(PASSES)} if absent, "
                              f"with --debug {','.join(checking.PASSES)}")
-    parser.add_argument("--debug", action="store_true", help="in words: an ebreak ends the run where masks would change something")
+    parser.add_argument("--debug", action="store_true", help="in words or single: an ebreak ends the run where masks would change something")
     parser.add_argument("--jobs", type=int, default=os.cpu_count() or 1, metavar="N", help="how many processes share a long file's functions; "
                                                                                           "as many as there are processors if absent")
     parser.add_argument("--movable", action="store_true", help="addresses are made from the bases of the sandbox's regions at run time")
@@ -44,7 +44,7 @@ def parsed(words):
     if not set(options.passes) <= set(passes):
         parser.error(f"the passes are {', '.join(passes)}")
     if options.debug and options.format not in IN_WORDS:
-        parser.error("--debug is for words")
+        parser.error(f"--debug is for {' and '.join(IN_WORDS)}")
     if len(options.files) > 1 and not options.into:
         parser.error("several files want --into")
     return options

@@ -88,7 +88,7 @@ def options_parser():
     parser.add_argument("-l", dest="libraries", action="append", default=[], metavar="NAME", help="links libNAME.a, after the files")
     parser.add_argument("-L", dest="folders", action="append", default=[], metavar="FOLDER", help="where libraries are")
     parser.add_argument("--keep", metavar="NAME.elf", help="a file to write the linked program into, beside the image")
-    parser.add_argument("--format", choices=FORMATS, default="words", help="the image's format; words if absent")
+    parser.add_argument("--format", choices=FORMATS, help=f"the image's format; if absent {linking.USUAL_FORMATS}")
     parser.add_argument("--movable", action="store_true",
                         help="makes code that does the same wherever its image is moved (tools/sfi-move, sfi_c_move)")
     parser.add_argument("--debug", action="store_true",
@@ -136,9 +136,11 @@ def parsed(words):
     if not files:
         parser.error("a FILE of C, C++ or assembly is wanted")
     options.cc = options.cc or default_compiler()
+    options.is_told = options.format is not None
+    options.format = options.format or linking.usual_format(options.at, options.memory)
     options.target, options.takes_small = Target(options.format, options.movable, options.debug), False
     if options.debug and options.format not in IN_WORDS:
-        parser.error("--debug is for words")
+        parser.error(f"--debug is for {' and '.join(IN_WORDS)}")
     if options.debug and options.passes is not None:
         parser.error("--debug has passes of its own")
     given = [*DEBUG * options.debug, *given]
@@ -366,6 +368,8 @@ def main():
                 write(options.output, written(options, program_of(options, given, files, folder)))
     except Failed as failed:
         tell(failed.told)
+        if linking.SEVERAL_FORMATS in failed.told and not options.is_told:
+            print(f"sfi-cc: without --format this program is of format {options.format}", file=sys.stderr)
         print(f"sfi-cc: {failed}", file=sys.stderr)
         return failed.status
     except Wrong as wrong:

@@ -9,6 +9,7 @@ from suygapid.elf.moving import is_movable
 from suygapid.image.layout import (
     ADDRESSES, FORMATS, GUARD, MOST_CODE, MOST_DATA, MOST_SANDBOXES, NAMED, SINGLE, Part, are_apart, is_one_bit, spelled)
 from suygapid.image.names import footer, moved_names
+from suygapid.passes.typed import WORDS
 
 SMALLEST = 256  # bytes of a region
 DEFAULT_STACK, DEFAULT_HEAP = 8192, 98304
@@ -19,6 +20,7 @@ UNITS = {"K": 1 << 10, "M": 1 << 20, "G": 1 << 30}  # of sizes that options give
 TOP = 16  # the first stack pointer lies so far below the data's end
 ROUNDED = 2048  # %hi of an address so near a multiple of 4096, or nearer, is that multiple
 Place = tuple[int, int]  # where code and data begin
+OTHER = f"compile it with --format {WORDS}"  # what is said of a place that single masks have not
 BREAK = b"\x02\x90"  # c.ebreak fills the code up
 
 
@@ -223,9 +225,10 @@ class Sandbox(Part):
         if not GUARD <= self.data_base <= ADDRESSES - self.data_size - GUARD:
             raise Wrong(f"{self.path}: there is no room for a guard zone beside the data at {self.data_base:#x}")
         if self.format == SINGLE and not is_one_bit(self.data_base):
-            raise Wrong(f"{self.path}: the data lie at {self.data_base:#x}, which is more than one bit")
-        if not all(are_apart(span, zone) for span in self.spans(GUARD) for zone in self.zones()):
-            raise Wrong(f"{self.path}: the code or the data lie in the zone at zero, the addresses below {self.data_size + GUARD:#x} and the last {GUARD}")
+            raise Wrong(f"{self.path}: the data lie at {self.data_base:#x}, which is more than one bit: {OTHER}")
+        if self.is_in_own_zone():
+            raise Wrong(f"{self.path}: the code or the data lie in the zone at zero, the addresses below {self.data_size + GUARD:#x} and the last "
+                        f"{GUARD}: give less --memory, or {OTHER}")
 
     def moved(self, code_base: int, data_base: int) -> "Sandbox":
         """The same at another place: the code stays as it is, and of the data the addresses in the table of names change."""

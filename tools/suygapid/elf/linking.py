@@ -7,28 +7,42 @@ from suygapid.cc.compilers import Failed, ran, tell
 from suygapid.elf import islands, moving
 from suygapid.elf import runtime
 from suygapid.elf.elf import Elf, Wrong
-from suygapid.elf.image import DEFAULT_MEMORY, code_size, memory_size
+from suygapid.elf.image import DEFAULT_MEMORY, SMALLEST, code_size, memory_size
 from suygapid.elf.tools import archived, assembled, binutil
+from suygapid.image.layout import FORMATS, NAMED, Part, is_one_bit
 from suygapid.image.names import API, SERVICE, entries, marked, signatures
 from suygapid.library import plus_plus, small_library
 from suygapid.library.archives import SMALL, Libraries, folders_of
-from suygapid.passes.typed import IN_WORDS
+from suygapid.passes.typed import IN_WORDS, SINGLE, USUAL, WORDS
 from suygapid.services import GATES
 
 CODE, DATA = 0x01000000, 0x00800000  # a sandbox's place is its number plus 1 times the first, its data lie the second above
 BESIDE = 0x00400000  # bytes at most of code, and of data, that lie so, with room for guard zones beside the data
 LARGE, APART = 0x20000000, 0x08000000  # where other data begin, above the code of 16 sandboxes, and how far apart at least
 HIGH, HIGHEST_BIT = 0xc1000000, 31  # where masks of data are single: the code that lies above all data, whose bases are single bits
-WORDS = ["-m", "elf32lriscv", "--no-relax", "--gc-sections", "-z", "noexecstack", "--no-warn-rwx-segments"]
+OF_LD = ["-m", "elf32lriscv", "--no-relax", "--gc-sections", "-z", "noexecstack", "--no-warn-rwx-segments"]
 UNDEFINED = b"undefined"  # what the linker says of a symbol
 TOO_MANY_SMALL = b"the small objects and the room below them exceed"  # what the linker script says
+SEVERAL_FORMATS = b"objects of several formats"
 START = ["-u", "_start"]  # what a C library does before main and after it, where one has it
 
+USUAL_FORMATS = f"{USUAL}, but {WORDS} where --at names data at more than one bit, or code or data in the zone at zero"
 
-def place_of(sandbox, code, data, image_format="words"):
+
+def usual_format(at, memory):
+    """The format of a program for which no option names one: by its place, and by the size of its data as far as options say it, that of
+    single masks, or words where these have no such place."""
+    if at is None:
+        return USUAL
+    code, data = at
+    least = Part(code, bytes(SMALLEST), data, memory or SMALLEST, code, format=FORMATS[NAMED[USUAL]])
+    return USUAL if is_one_bit(data) and not least.is_in_own_zone() else WORDS
+
+
+def place_of(sandbox, code, data, image_format=USUAL):
     """Where code and data of so many bytes begin. Sandboxes of other numbers have other places, with a data region's size, or the
     least distance, between their data, so that all 16 have room where none has more than 64 MiB."""
-    if image_format == "single":
+    if image_format == SINGLE:
         return single_place_of(sandbox, code, data)
     base = (sandbox + 1) * CODE
     if max(code, data) <= BESIDE:
@@ -203,7 +217,7 @@ def words_of(options, place, libraries, objects, folder):
     heap = [os.path.join(made, "heap_checks.o"), "--wrap=exit_with"] if options.target.is_checking and libraries.have_heap else []
     fresh = os.path.join(folder, "program.elf")
     exceptions = runtime.EXCEPTIONS * libraries.have_exceptions  # before the numbers: the linker moves what stands before INSERT
-    first = [binutil("ld"), *WORDS, *exceptions, *numbers_of(options, place, names, libraries), *START]
+    first = [binutil("ld"), *OF_LD, *exceptions, *numbers_of(options, place, names, libraries), *START]
     return fresh, first, [
         "-T", runtime.SCRIPT, *options.linker, "-o", fresh, os.path.join(made, "crt0.o"),
         *(path for path in objects if path not in archives), *names.objects(folder), *heap,

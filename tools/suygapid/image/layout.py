@@ -74,6 +74,10 @@ class Part:
     def zones(self) -> list[tuple[int, int]]:
         return zones_of(self.format, self.data_size)
 
+    def is_in_own_zone(self) -> bool:
+        """Whether its code, its data or their guard zones lie where its own accesses lead to beside the data."""
+        return not all(are_apart(span, zone) for span in self.spans(GUARD) for zone in self.zones())
+
     def meets(self, other: "Part") -> bool:
         own, others = self.spans(GUARD), other.spans(GUARD)
         return not all(are_apart(it, that) for these, those in ((own, others), (own, other.zones()), (self.zones(), others))

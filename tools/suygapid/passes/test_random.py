@@ -3,7 +3,7 @@
     [SFI=PATH] [SEED=N] [COUNT=N] tools/unit_tests.py tools/suygapid/passes test_random.py
 
 Each program goes through gcc at -O0 to -O3 and -Os and, where it is there, through clang at -O2, then
-through the tool with all its passes. Two programs, the same each time, run in words; one runs in each
+through the tool with all its passes. Two programs, the same each time, run in the usual format; one runs in each
 format, one of six, by the number of commits. SEED=N in the
 environment takes COUNT=N others from there on, each in each format. A failure names its seed. Where a
 compiler isn't there the test is skipped."""
@@ -11,11 +11,12 @@ import os
 import subprocess
 
 from suygapid.passes.random_c import Program
+from suygapid.passes.typed import USUAL
 from testing import CLANG, COMPILERS, FORMATS, GCC, SFI, SFI_CC, TOP, Folder, needs, needs_program, sample
 
 HERE = os.path.dirname(os.path.abspath(__file__))
 EXAMPLES = os.path.join(TOP, "examples", "c")
-IN_WORDS = (1, 2)  # the seeds of what is tried each time
+USUALLY = (1, 2)  # the seeds of what is tried each time
 STACK = 1 << 19  # the programs call themselves some hundred times
 NATIVE = "gcc"
 GCC_WAYS = [["-O0"], ["-O1"], ["-O2", "-fno-section-anchors", "-mno-explicit-relocs"], ["-Os"], ["-O3", "-funroll-loops"]]
@@ -40,7 +41,7 @@ def programs():
     if "SEED" in os.environ:
         first = int(os.environ["SEED"])
         return [(seed, FORMATS) for seed in range(first, first + int(os.environ.get("COUNT", 1)))]
-    return [(seed, ("words",)) for seed in IN_WORDS] + [(max(IN_WORDS) + 1 + sample(), FORMATS)]
+    return [(seed, (USUAL,)) for seed in USUALLY] + [(max(USUALLY) + 1 + sample(), FORMATS)]
 
 
 def ways():

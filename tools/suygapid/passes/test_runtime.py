@@ -1,5 +1,5 @@
 """Tests of the functions that compilers call by themselves: `tools/unit_tests.py tools/suygapid/passes`. C programs give
-their native answers, by gcc and by clang, in words, and by turns in bundles. They are skipped where a compiler or the program isn't there."""
+their native answers, by gcc and by clang, in the usual format, and by turns in others. They are skipped where a compiler or the program isn't there."""
 import random
 import re
 import struct

@@ -149,7 +149,7 @@ class Programs(Folder):
         for options, size in (("--stack", "16"), 8192), ((), 16384):
             image = self.image(*options, path)
             self.assertEqual((self.answers(image), layout.parts(bytes.fromhex(image.decode()))[0].data_size), (["exit=42 out="], size))
-        in_words = self.ran(SFI_CC, "--program", SFI, "--stack", "16", path)
+        in_words = self.ran(SFI_CC, "--format", "words", "--program", SFI, "--stack", "16", path)
         self.assertEqual(layout.parts(bytes.fromhex(in_words.decode()))[0].data_size, 4096)
         done = subprocess.run([SFI_CC, "--format", SINGLE, "--stack", "16", "--memory", "4096", path], capture_output=True, text=True, check=False)
         self.assertEqual(done.returncode, 1)

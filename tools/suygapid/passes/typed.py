@@ -17,6 +17,7 @@ from suygapid.passes.small_data import SmallData
 
 WORDS, SINGLE = "words", "single"  # the formats' names
 IN_WORDS = (WORDS, SINGLE)
+USUAL = SINGLE  # that of code for which no option names one; elf/linking.py says where a program has another
 OWN = {"t4": 29, "t5": 30}  # the sandbox's own registers, beside those of the other formats
 MASKS = {WORDS: 2, SINGLE: 1}  # how many instructions it takes to mask an address, or to set a data register to another register
 FREE = {WORDS: ADDRESSES[:2], SINGLE: ADDRESSES}  # the data registers that compilers leave alone
