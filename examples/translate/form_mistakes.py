@@ -33,4 +33,8 @@ MISTAKES = {
     "a jump ahead isn't looked at": (" || (0x##to##u ^ 0x##at##u) >= SFI_HEAD)", ")"),
     "a function's end is forgotten": ("#define END(at) pc_ = 0x##at##u; goto out;", "#define END(at) goto out;"),
     "x25 is that of bundles": ("r25 = code_size_ - unit_,", "r25 = code_size_ - 16u,"),
+    "x27 is never that of single masks": ("r27 = data_size_ - 1 + (single_ ? data_ : 0)", "r27 = data_size_ - 1"),
+    "x26 is fixed where masks are single": (" && !(single_ && (k) == 26)", ""),
+    "x26 is the data base where masks are single": ("r26 = single_ ? h->x[26] : data_", "r26 = data_"),
+    "x26 is lost after a function": (" if (single_) h->x[26] = r26;", ""),
 }

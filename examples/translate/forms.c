@@ -65,7 +65,7 @@ static sfi_u32 differing(const struct given *given) {
     for (sfi_u32 k = 0; k < given->left; k++) {
         struct sfi_hart stepped = {.pc = given->pc, .left = SFI_MOST, .data = stepped_data}, done;
         for (int r = 1; r < 32; r++)
-            stepped.x[r] = r >= 24 && r <= 27 ? given->x[r] : word(s);
+            stepped.x[r] = r >= 24 && r <= 27 && !(s->single && r == 26) ? given->x[r] : word(s);
         stepped_data[number() % DATA_SIZE] = (uint8_t)number();
         done = stepped;
         done.data = memcpy(done_data, stepped_data, DATA_SIZE);

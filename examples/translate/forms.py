@@ -28,9 +28,7 @@ from suygapid.image import layout
 from suygapid.isa.decoding import Instruction
 
 HEADER = "sfi_native.h"
-CODE, CODE_SIZE, DATA, DATA_SIZE, PLACE, MASK = 0x01000000, 65536, 0x01800000, 256, 8, 0xFFFFFFFF
-RESERVED = (24, 25, 26, 27)
-FREE = [number for number in range(32) if number not in RESERVED]
+CODE, CODE_SIZE, DATA_SIZE, PLACE, MASK = 0x01000000, 65536, 256, 8, 0xFFFFFFFF
 GIVEN, FOUND = "<35I", "<36I"  # and the data
 FUNCTION_WAY, STEP_WAY, TURN_WAY, MANY_WAY = range(4)
 LEAST_LEFT = 65  # SFI_MOST: with this many steps left no jump goes on
@@ -47,19 +45,31 @@ VECTORS = [  # of crates/rv_tests: kind, x11, x12, and x10 afterwards
     ("div", 7, 0, ONES), ("rem", 7, 0, 7), ("div", LEAST, ONES, LEAST), ("rem", LEAST, ONES, 0), ("mulhsu", ONES, ONES, ONES)]
 
 
+class Form:
+    """A sandbox of a form: the words that begin it, its format, where its data begin, and the registers that lines write."""
+
+    def __init__(self, head, number, data, reserved):
+        self.head, self.data, self.free = head, data, [it for it in range(32) if it not in reserved]
+        self.part = layout.Part(CODE, bytes(CODE_SIZE), data, DATA_SIZE, CODE, format=number)
+
+
+USUAL = Form("SANDBOX", layout.WORDS, 0x01800000, (24, 25, 26, 27))
+SINGLE = Form("SANDBOX_SINGLE", layout.SINGLE, 0x02000000, (24, 25, 27))
+
+
 class Line:
     """A line: the instruction as it is decoded, and the operands as `sfi dis` lists them."""
 
-    def __init__(self, pick, kind, at, targets, size=None, registers=None):
-        rd, rs1, rs2, number = pick.choice(FREE), pick.randrange(32), pick.randrange(32), self.number_of(pick, kind)
-        self.at, self.kind, self.size = at, kind, size or (4 if kind == "ecall" else pick.choice([2, 4]))
+    def __init__(self, pick, kind, at, targets, size=None, registers=None, form=USUAL):
+        rd, rs1, rs2, number = pick.choice(form.free), pick.randrange(32), pick.randrange(32), self.number_of(pick, kind)
+        self.form, self.at, self.kind, self.size = form, at, kind, size or (4 if kind == "ecall" else pick.choice([2, 4]))
         if kind in lines.LOADS + lines.STORES:
             rs1 = pick.choice([rs1, 26, 31])
         elif kind == "or":
             rs2 = pick.choice([rs2, 26, 27])
         elif pick.random() < 0.45:
             same = pick.choice([rs1, rs2])
-            rd = same if same in FREE else rd
+            rd = same if same in form.free else rd
         rd, rs1, rs2 = registers or (rd, rs1, rs2)
         if kind in lines.BRANCHES or kind == "jal":
             number = pick.choice(targets) - at
@@ -106,61 +116,60 @@ class Line:
         return self.text() + f"{middle}EBREAK({self.at + 4:08x},4)\n"
 
 
-def made_lines(pick, count):
+def made_lines(pick, count, form=USUAL):
     """So many lines of each kind, at random places of four functions."""
     kinds = [kind for kind in KINDS for _ in range(count)]
     places = sorted(pick.sample(range(CODE_SIZE // PLACE), len(kinds)))
     addresses = [CODE + PLACE * place for place in places]
     pick.shuffle(kinds)
-    return [Line(pick, kind, at, [it + 4 for it in addresses]) for kind, at in zip(kinds, addresses)]
+    return [Line(pick, kind, at, [it + 4 for it in addresses], form=form) for kind, at in zip(kinds, addresses)]
 
 
-def made_run(pick, count):
+def made_run(pick, count, form=USUAL):
     """So many lines, one after another, across the end of a function. A third has no jump."""
     begin = CODE + lines.FUNCTION_MOST - 4 * (count // 2)
     addresses = [begin + 4 * place for place in range(count)]
     kinds = [pick.choice(lines.COMPUTATIONS if 3 * place < count else GOING_ON if pick.random() < 0.97 else KINDS)
              for place in range(count)]
     near = [addresses[max(0, place - 9):place + 9] if pick.random() < 0.6 else addresses for place in range(count)]
-    made = [Line(pick, *it, 4) for it in zip(kinds, addresses, near)]
+    made = [Line(pick, *it, 4, form=form) for it in zip(kinds, addresses, near)]
     for place in range(0, count // 3, 8):
-        made[place:place + 2] = masked(pick, addresses[place])
+        made[place:place + 2] = masked(pick, addresses[place], form)
     return made
 
 
-def masked(pick, at):
+def masked(pick, at, form):
     """A mask of an offset, and the data base set in it, or in another register."""
-    offset, address, other = pick.choice(FREE[1:]), pick.choice(FREE[1:]), pick.randrange(32)
-    return [Line(pick, "and", at, [], 4, (offset, other, 27)), Line(pick, "or", at + 4, [], 4, (address, pick.choice([offset, offset, other]), 26))]
+    offset, address, other = pick.choice(form.free[1:]), pick.choice(form.free[1:]), pick.randrange(32)
+    made = ("and", at, (offset, other, 27)), ("or", at + 4, (address, pick.choice([offset, offset, other]), 26))
+    return [Line(pick, kind, at, [], 4, registers, form) for kind, at, registers in made]
 
 
 def text_of(made, shown=Line.alone):
     """A translation with these lines; each function has one."""
-    text = [f"SANDBOX(0,4,{CODE:08x},{CODE_SIZE},{DATA:08x},{DATA_SIZE},{CODE:08x},0,0)\nDATA(0,0)\n"]
+    text = [f"{made[0].form.head}(0,4,{CODE:08x},{CODE_SIZE},{made[0].form.data:08x},{DATA_SIZE},{CODE:08x},0,0)\nDATA(0,0)\n"]
     for begin in range(CODE, CODE + CODE_SIZE, lines.FUNCTION_MOST):
         text += [f"END({begin:08x})\n"] * (begin > CODE) + [f"FUNCTION(0,{begin:08x})\n"]
         text += [shown(it) for it in made if begin <= it.at < begin + lines.FUNCTION_MOST] or [f"EBREAK({begin:08x},4)\n"]
     return "".join(text) + "LAST\n"
 
 
-def part():
-    return layout.Part(CODE, bytes(CODE_SIZE), DATA, DATA_SIZE, CODE, format=3)
-
-
-def word(pick):
-    near = [0, 1, 2, 31, 32, ONES, LEAST, LEAST - 1, DATA, DATA + DATA_SIZE - 1, DATA + DATA_SIZE - 4, DATA - 1, CODE, CODE + 4]
+def word(pick, data):
+    near = [0, 1, 2, 31, 32, ONES, LEAST, LEAST - 1, data, data + DATA_SIZE - 1, data + DATA_SIZE - 4, data - 1, CODE, CODE + 4]
     return pick.choice([pick.choice(near), pick.getrandbits(32), pick.randrange(-300, 300) & MASK])
 
 
 def state(pick, line):
     """Registers that make its access fall in the data, at an end of them, or anywhere."""
-    x = [0] + [word(pick) for _ in range(31)]
-    x[24:28] = part().reserved()
-    if line.kind in lines.BRANCHES and line.instruction.rs2 in FREE[1:] and pick.random() < 0.3:
+    form = line.form
+    x = [0] + [word(pick, form.data) for _ in range(31)]
+    for number, value in zip(range(24, 28), form.part.reserved()):
+        x[number] = x[number] if number in form.free else value
+    if line.kind in lines.BRANCHES and line.instruction.rs2 in form.free[1:] and pick.random() < 0.3:
         x[line.instruction.rs2] = x[line.instruction.rs1]
-    if line.is_access() and line.instruction.rs1 in FREE[1:] and pick.random() < 0.8:
+    if line.is_access() and line.instruction.rs1 in form.free[1:] and pick.random() < 0.8:
         places = [0, 1, *range(DATA_SIZE - 4, DATA_SIZE + 1), -1, pick.randrange(DATA_SIZE)]
-        x[line.instruction.rs1] = DATA + pick.choice(places) - line.number & MASK
+        x[line.instruction.rs1] = form.data + pick.choice(places) - line.number & MASK
     return x
 
 
@@ -180,7 +189,7 @@ def packed(way, at, left, x, data):
 
 def cases(pick, made, states):
     """For each line, way and state: what the C program reads, and what it is to write."""
-    given = part()
+    given = made[0].form.part
     for line in made:
         for _ in range(states):
             x, data = state(pick, line), pick.randbytes(DATA_SIZE)
@@ -193,7 +202,7 @@ def cases(pick, made, states):
 
 def many(made, states):
     """For each line so many states, in the same shape: its function is to do in each what sfi_step does."""
-    x = [0] * 24 + list(part().reserved()) + [0] * 4
+    x = [0] * 24 + list(made[0].form.part.reserved()) + [0] * 4
     return [(line, packed(MANY_WAY, line.at, states, x, bytes(DATA_SIZE)), (0,)) for line in made]
 
 
@@ -206,7 +215,7 @@ def made_ahead(pick):
 
 def turns(pick, made, count):
     """So many turns of those lines, in the same shape."""
-    given, decoded = part(), {line.at: line.instruction for line in made}
+    given, decoded = made[0].form.part, {line.at: line.instruction for line in made}
     for _ in range(count):
         line, left = pick.choice(made), pick.choice([0, 1, 64, 65, 66, 128, 129, pick.randrange(600)])
         it = machine.Machine(given)
@@ -228,7 +237,7 @@ def vectors():
         line.size, line.operands = 4, ["10", "11", "12"]
         made.append(line)
         x = [0] * 32
-        x[24:28], x[11], x[12] = part().reserved(), x11, x12
+        x[24:28], x[11], x[12] = USUAL.part.reserved(), x11, x12
         after = x[:10] + [x10] + x[11:]
         for way, told in ((FUNCTION_WAY, (None, 0)), (STEP_WAY, (NEXT, line.at))):
             tried.append((line, packed(way, line.at, 99, x, bytes(DATA_SIZE)),
@@ -244,7 +253,7 @@ def landings():
     for to, how, steps, left in ((CODE + 8, 1, 2, 99), (CODE + 9, 1, 2, 99), (CODE + 8, 1, 1, LEAST_LEFT), (CODE + 10, 1, 1, 99), (CODE + 4, 1, 1, 99),
                                  (CODE + lines.FUNCTION_MOST + 8, 0, 1, 99), (0, 0, 1, 99), (2, 1, 1, 99)):
         x = [0] * 32
-        x[24:28], x[11] = part().reserved(), to
+        x[24:28], x[11] = USUAL.part.reserved(), to
         after = x[:10] + [steps - 1] + x[11:]
         tried.append((made[0], packed(FUNCTION_WAY, CODE, left, x, bytes(DATA_SIZE)),
                       (how, 0, (to & ~1) + 2 * (steps - 1), left - steps, *after, bytes(DATA_SIZE))))
@@ -318,10 +327,13 @@ class Tally:
 
 
 def sets_of(pick, given):
-    """Sets of lines: of each kind, some with the manual's values, indirect jumps, and random code."""
+    """Sets of lines: of each kind, some with the manual's values, indirect jumps, and random code; and of single masks some of each."""
     made, run, ahead = made_lines(pick, given.lines), made_run(pick, 600), made_ahead(pick)
-    return [(text_of(made), list(cases(pick, made, given.states)) + many(made, given.many)), *((text_of(it), tried) for it, tried in (vectors(), landings())),
-            *((text_of(it, Line.text), list(turns(pick, it, 100 * given.states))) for it in (run, ahead))]
+    found = [(text_of(made), list(cases(pick, made, given.states)) + many(made, given.many)), *((text_of(it), tried) for it, tried in (vectors(), landings())),
+             *((text_of(it, Line.text), list(turns(pick, it, 100 * given.states))) for it in (run, ahead))]
+    single, run = made_lines(pick, -(-given.lines // 3), SINGLE), made_run(pick, 300, SINGLE)
+    return [*found, (text_of(single), list(cases(pick, single, given.states)) + many(single, given.many // 4)),
+            (text_of(run, Line.text), list(turns(pick, run, 50 * given.states)))]
 
 
 def main():
