@@ -127,10 +127,10 @@ def tour(documents):
 def programs_in_c(documents):
     """The C programs of docs/C.md, of README.md, and one with a trap."""
     hello, wrong = documents.block("docs/C.md", "return 105;"), documents.block("docs/C.md", "volatile int *volatile nowhere")
-    return [Step(written("hello.c", hello) + documents.line("docs/C.md", "hello.c > hello.hex && ./sfi run"), ("sandbox=0 exit=105 steps=32 out=4869\n",)),
+    return [Step(written("hello.c", hello) + documents.line("docs/C.md", "hello.c > hello.hex && ./sfi run"), ("sandbox=0 exit=105 steps=31 out=4869\n",)),
             Step(documents.line("docs/C.md", "examples/c/hello.c > hello.hex"), ("Hello, world\n",)),
             Step(written("wrong.c", wrong) + documents.line("docs/C.md", "-g -o wrong.elf wrong.c && ") + " || true",
-                 ("sandbox=0 trap=Store at=017ffff8", "main, wrong.c:2"))]
+                 ("sandbox=0 trap=Store at=fffffff8", "main, wrong.c:2"))]
 
 
 def traces(documents):
