@@ -25,7 +25,7 @@ use Rattle.sfi_native.specs.declared.plan.Plan.{Plan}
 use Rattle.sfi_native.specs.Places.{code_of, whole_code}
 use Rattle.sfi_native.specs.declared.jump.Jump.{Jump}
 use Rattle.sfi_native.specs.Registers.{assigned, owed as owed_at}
-use Rattle.sfi_native.specs.Code.{avoid_minus_one, avoid_zero, branch_jump, branch_line, code_slot, is_bare, met_by, bring, combine, ecx_code, operand_of, place_code, read, register_or, result_in, settle, compare_code, compare_divisor, compute, compute_imm, count, count_size, data_address, divide_by_one, divide_signed, divide_unsigned, end_code, enter_code, enter_size, fetch, imm_code, indirect_jump, indirect_jump_size, has_test, jalr_line, leave_code, load_code, load_from, number_code, opposite, remainder, slot, start_code, start_size, steps_code, store_code, store_to, table_entry, table_owed, table_slot, test_code, target_code, test_divisor, tested_jump, write, leap, leave_size, leave_line, leave_line_size, tested}
+use Rattle.sfi_native.specs.Code.{avoid_minus_one, avoid_zero, branch_jump, branch_line, code_slot, is_bare, met_by, bring, combine, ecx_code, operand_of, place_code, read, register_or, result_in, settle, compare_code, compare_divisor, compute, compute_imm, count, count_size, data_address, divide_by_one, divide_signed, divide_unsigned, end_code, enter_code, enter_size, fetch, imm_code, indirect_jump, indirect_jump_size, has_test, jal_line, jalr_line, leave_code, load_code, load_from, number_code, opposite, remainder, slot, start_code, start_size, steps_code, store_code, store_to, table_entry, table_owed, table_slot, test_code, target_code, test_divisor, tested_jump, write, leap, leave_size, leave_line, leave_line_size, tested}
 use Rattle.sfi_translate.specs.Machine.{most}
 
 pub no_part : (old : List ℕ) → old ≡ old ++ spellings []
@@ -56,6 +56,10 @@ pub imm_parts : (plan : Plan) (old : List ℕ) (op : ImmOp) (rd rs1 n : ℕ)
 imm_parts plan old op rd rs1 n =
     let o = assigned plan rd in
     three_parts old (bring plan (result_in o) rs1) (compute_imm op (result_in o) n) (settle plan o rd)
+
+pub jal_parts : (plan : Plan) (old : List ℕ) (owed rd behind : ℕ) (j : Jump)
+    → (old ++ spellings (number_code plan rd behind)) ++ spellings (tested_jump (owed + 1) j) ≡ old ++ spellings (jal_line plan owed rd behind j)
+jal_parts plan old owed rd behind j = two_parts old (number_code plan rd behind) (tested_jump (owed + 1) j)
 
 -- ==== What counts steps.
 

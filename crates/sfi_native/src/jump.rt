@@ -175,7 +175,7 @@ pub fn push_branch_line(
 
 /// Writes the line of a jal behind what is there; `behind` is the address of what follows it in the sandbox. So many steps are
 /// owed before it, fewer than 63.
-#[tactic(auto, using(crate::proofs::Lists::two_parts))]
+#[tactic(auto, using(crate::proofs::Lists::jal_parts))]
 pub fn push_jal_line(
     out: &mut Vec<u8>,
     plan: &Plan,

@@ -65,13 +65,13 @@ impl Uses {
     }
 
     /// Of the registers that lie in the frame so far and aren't fixed the one that is used most, if one is used.
-    fn busiest(&self, plan: &Plan) -> Option<usize>
+    fn busiest(&self, format: Format, places: &[Option<Register>; 32]) -> Option<usize>
         ensures { IfSome result (λ r. r < 32) }
     {
         let mut most = 0;
         let mut found = None;
         for r in 0..32 {
-            let free = plan.assigned[r].is_none() && !is_fixed(plan.format, Reg::numbered(r as u8));
+            let free = places[r].is_none() && !is_fixed(format, Reg::numbered(r as u8));
             if free && self.counts[r] > most {
                 most = self.counts[r];
                 found = Some(r);
@@ -93,21 +93,19 @@ fn uses_of(alloc: Global, lines: &[Line]) -> Result<Uses, AllocError> {
     Ok(uses)
 }
 
-/// The plan that has the most used registers in the processor's, counts each step at once, and has no nops.
-fn plan_by(alloc: Global, format: Format, uses: &Uses) -> Plan
-    ensures { result.format ≡ format }
-{
-    let mut plan = Plan::in_frame(alloc, format);
+/// Where the most used registers lie in the processor's; the others lie in the frame.
+fn places_by(format: Format, uses: &Uses) -> [Option<Register>; 32] {
+    let mut places = [None; 32];
     for k in 0..10 {
-        if let Some(r) = uses.busiest(&plan) {
-            plan.assigned[r] = Some(ASSIGNABLE[k]);
+        if let Some(r) = uses.busiest(format, &places) {
+            places[r] = Some(ASSIGNABLE[k]);
         }
     }
-    plan
+    places
 }
 
-/// A plan for these lines of a sandbox of an image of that format, in which the registers that they use most, above all in loops, lie in the processor's,
-/// steps are counted as late as [`owed_of`] says, and nops stand where [`padding_of`] says.
+/// A plan for these lines of a sandbox of an image of that format, in which the registers that they use most, above all in loops,
+/// lie in the processor's, steps are counted as late as [`owed_of`] says, and nops stand where [`padding_of`] says.
 pub fn plan_of(
     alloc: Global,
     format: Format,
@@ -117,7 +115,8 @@ pub fn plan_of(
     ensures right { IfOk result (λ plan. IsRightPlan plan) }
     ensures format { IfOk result (λ plan. plan.format ≡ format) }
 {
-    let mut plan = plan_by(alloc, format, &uses_of(alloc, lines)?);
+    let mut plan = Plan::in_frame(alloc, format);
+    plan.assigned = places_by(format, &uses_of(alloc, lines)?);
     plan.code_base = part.code_base;
     plan.owed = owed_of(alloc, part, lines)?;
     plan.padding = padding_of(alloc, part, &plan, lines)?;
