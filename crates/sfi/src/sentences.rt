@@ -200,11 +200,6 @@ const SENTENCES: &[Sentence] = &[
         says: "the sandbox can't lie where --at says",
     },
     Sentence {
-        kind: "native",
-        name: "SingleMasks",
-        says: "there is no native code yet for a format whose masks are single",
-    },
-    Sentence {
         kind: "option",
         name: "hex",
         says: "--input wants hexadecimal digits, two for each byte",

@@ -2,7 +2,6 @@ pub mod InputPieces
 pub mod Sources
 pub mod Conversions
 pub mod Moves
-mod Natives
 pub mod Images
 mod MovedLinks
 pub mod Facts

@@ -5,12 +5,11 @@ use Rattle.sfi_io.specs.declared.hexadecimal.HexStop.{HexStop}
 use Rattle.sfi_io.specs.declared.hexadecimal.HexStop.TheVariants as hex
 use Rattle.sfi_build.specs.declared.fault.BuildFault.{BuildFault}
 use Rattle.sfi_build.specs.Texts.{IsWantOfMemory}
-use Rattle.sfi_answers.specs.declared.fault.InputFault.TheVariants.{Hex, SingleMasks, TooLarge}
+use Rattle.sfi_answers.specs.declared.fault.InputFault.TheVariants.{Hex, TooLarge}
 use Rattle.sfi_answers.specs.declared.fault.Stop.{Stop}
 use Rattle.sfi_answers.specs.declared.fault.Stop.TheVariants as stop
 use Rattle.sfi_answers.specs.declared.verdict.Answer.{Answer}
-use Rattle.sfi_formats.specs.Formats.{has_single_mask}
-use Rattle.sfi_image.specs.Spelling.{Part, format_of}
+use Rattle.sfi_image.specs.Spelling.{Part}
 use Rattle.sfi_check.specs.Verdict.{bundle_count, HasFindings, AnswersLayout, AnswersFindings, AnswersAccepted}
 use Rattle.sfi_rules.specs.Rules.{number_of}
 use Rattle.sfi_rules.specs.declared.finding.Finding.{Finding}
@@ -267,25 +266,6 @@ pub record SaysNativeFile (bytes : List ℕ) (status : ℕ) (file : List ℕ) : 
 abbrev pub SaysNative : List ℕ → ℕ → List ℕ → Type 0
 SaysNative bytes status text = SaysNativeFile bytes status text ⊎ SaysRefused false bytes status text
 
--- The bytes are an image without findings, and this says whether its format's masks are single: of
--- such an image there is no native code.
-pub record HasMasks (single : Bool) (bytes : List ℕ) : Type 0 where
-  pub parts : List Part
-  pub accepted : IsAccepted bytes parts
-  pub masks : has_single_mask (format_of parts) ≡ single
-
--- why there is no native code: the bytes have that fault of the layout; or they are an image without
--- findings, and its masks are single
-abbrev pub IsNotCompiled : List ℕ → Stop → Type 0
-IsNotCompiled bytes (stop.Layout k) = IsFault bytes k
-IsNotCompiled bytes (stop.Input SingleMasks) = HasMasks true bytes
-IsNotCompiled bytes _ = ⊥
-
 -- `native`
 abbrev pub native : Meaning
-native = record {
-  says = SaysNative;
-  is_done = HasMasks false;
-  is_refused = HasSomeFindings;
-  why = IsNotCompiled;
-}
+native = on_verdict SaysNative

@@ -23,7 +23,7 @@ use Rattle.sfi_build.specs.declared.table_fault.TableFault.TheVariants as table
 use Rattle.sfi_build.specs.declared.fault.BuildFault.{BuildFault}
 use Rattle.sfi_build.specs.declared.fault.BuildFault.TheVariants as build
 use Rattle.sfi_answers.specs.declared.fault.InputFault.{InputFault}
-use Rattle.sfi_answers.specs.declared.fault.InputFault.TheVariants.{Hex, Utf8, TooLarge, NotOld, Words, NoSandbox, NoPlace, NoFile, SingleMasks}
+use Rattle.sfi_answers.specs.declared.fault.InputFault.TheVariants.{Hex, Utf8, TooLarge, NotOld, Words, NoSandbox, NoPlace, NoFile}
 use Rattle.sfi_answers.specs.declared.fault.Stop.{Stop}
 use Rattle.sfi_answers.specs.declared.fault.Stop.TheVariants as stop
 use Rattle.sfi_answers.specs.Answers.{Meaning}
@@ -53,7 +53,7 @@ layout_text k = fault_text (codes "layout") (layouts.number_of k) (layout_name k
 
 -- ---- of what was read
 
--- a fault of `convert`, `move`, `exec` and `native` by its number among theirs
+-- a fault of `convert`, `move` and `exec` by its number among theirs
 abbrev pub input_text : InputFault → List ℕ
 input_text (Hex Odd) = codes "input fault hex odd" ++ line_end
 input_text (Hex (Digit place)) = codes "input fault hex digit " ++ decimal place ++ line_end
@@ -66,7 +66,6 @@ input_text Words =
 input_text NoSandbox = codes "move fault 2 NoSandbox" ++ line_end
 input_text NoPlace = codes "move fault 3 NoPlace" ++ line_end
 input_text NoFile = codes "exec fault 7 NoFile" ++ line_end
-input_text SingleMasks = codes "native fault 2 SingleMasks" ++ line_end
 
 -- ---- of a source, by the line or the sandbox where it is
 

@@ -1,9 +1,7 @@
 -- Words that private contracts and proofs alone cite: no public statement rests on them.
 use Rattle.std.specs.Prelude.{◌≡◌, ◌≢◌, List, [], Result, Ok, Err, ℕ, Bool, true, false, ◌++◌, Option, Some, None, IfSome, Vec, ◌+◌, length, nat_lt, if◌then◌else◌, option_map}
 use Rattle.std.specs.declared.alloc.Global.{Global}
-use Rattle.sfi_formats.specs.Formats.{has_single_mask}
 use Rattle.sfi_formats.specs.declared.place.Place.{Place}
-use Rattle.sfi_image.specs.Spelling.{Part, format_of}
 use Rattle.sfi_places.specs.Moving.{IsMoved, IsMoveFault}
 use Rattle.sfi_places.specs.declared.moving.MoveFault.TheVariants as moving
 use Rattle.sfi_answers.specs.Answers.{check, refused_line, IsAcceptedImage}
@@ -52,16 +50,6 @@ AnswersConvertFault fault (Err (stop.Input other)) = ⊥
 AnswersConvertFault fault (Err (stop.Layout k)) = fault ≡ Refused (refusal.Layout k)
 AnswersConvertFault fault (Err (stop.Build other)) = ⊥
 AnswersConvertFault fault (Err stop.Memory) = Unit {0}
-
--- ---- native code
-
--- there is none so: the masks of an image with these parts are single; or memory ran out
-abbrev pub IsNativeStop : List Part → Stop → Type 0
-IsNativeStop parts (stop.Input faults.SingleMasks) = has_single_mask (format_of parts) ≡ true
-IsNativeStop parts (stop.Input other) = ⊥
-IsNativeStop parts (stop.Layout k) = ⊥
-IsNativeStop parts (stop.Build fault) = ⊥
-IsNativeStop parts stop.Memory = Unit {0}
 
 -- ---- a sandbox that is moved
 

@@ -1,29 +1,27 @@
 //! The command `native`.
 
-ghost use Rattle.std.specs.Prelude.{◌≡◌, IfErr, IfOk, false};
-ghost use Rattle.sfi_formats.specs.Formats.{has_single_mask};
-ghost use Rattle.sfi_image.specs.Spelling.{format_of};
+ghost use Rattle.std.specs.Prelude.{◌≡◌, IfErr, IfOk};
+ghost use Rattle.sfi_answers.specs.declared.fault.Stop.TheVariants.{Memory};
 ghost use Rattle.sfi_answers.specs.Answers.{Answers, native};
-ghost use Rattle.sfi_answers.specs.private.{IsNativeStop};
 ghost use Rattle.sfi_native.specs.File.{IsNativeFile};
 
 use crate::checking::refusal_answer;
-use crate::fault::{InputFault, Stop};
+use crate::fault::Stop;
 use crate::verdict::Answer;
 use sfi_check::check;
 use sfi_image::Image;
 use sfi_native::native_file;
 use std::alloc::Global;
 
-/// The file of an image with these bytes, unless its masks are single.
+/// The file of an image with these bytes. No image's code is so long that there is none (law `EachCodeFits`); where it was,
+/// that would be want of memory.
 fn file_of(alloc: Global, image: &Image<'_>, bytes: &[u8]) -> Result<Vec<u8>, Stop>
     ensures file { IfOk result (λ it. IsNativeFile bytes.now image.now it.items) }
-    ensures two_steps { IfOk result (λ it. has_single_mask (format_of image.now) ≡ false) }
-    ensures stop { IfErr result (IsNativeStop image.now) }
+    ensures memory { IfErr result (λ stop. stop ≡ Memory) }
 {
     match native_file(alloc, image, bytes)? {
         Some(file) => Ok(file),
-        None => Err(Stop::Input(InputFault::SingleMasks)),
+        None => Err(Stop::Memory),
     }
 }
 

@@ -35,8 +35,6 @@ pub enum InputFault {
     NoPlace,
     /// The image is to be in a file, and files can't be opened here.
     NoFile,
-    /// It is an accepted image whose format's masks are single: there is no native code for these yet.
-    SingleMasks,
 }
 
 /// Why a command gives no verdict: a fault of the text, of the image that it spells or of the

@@ -64,7 +64,6 @@ fn input_line(alloc: Global, fault: InputFault) -> Result<String, AllocError>
         InputFault::NoSandbox => String::from_str(alloc, "move fault 2 NoSandbox\n"),
         InputFault::NoPlace => String::from_str(alloc, "move fault 3 NoPlace\n"),
         InputFault::NoFile => String::from_str(alloc, "exec fault 7 NoFile\n"),
-        InputFault::SingleMasks => String::from_str(alloc, "native fault 2 SingleMasks\n"),
     }
 }
 

@@ -10,11 +10,11 @@ use Rattle.sfi_io.specs.Hexadecimal.{GivesImage, IsHexFault, SpellsBytes}
 use Rattle.sfi_io.specs.declared.hexadecimal.HexFault.{HexFault}
 use Rattle.sfi_io.specs.declared.hexadecimal.HexFault.TheVariants.{Odd, Digit}
 use Rattle.sfi_io.proofs.Facts.{texts_begin_as_none}
-use Rattle.sfi_answers.specs.Answers.{IsLayoutFault, IsNoImage, IsNotCompiled, Meaning, check, dis, native, on_image, translate}
+use Rattle.sfi_answers.specs.Answers.{IsLayoutFault, IsNoImage, Meaning, check, dis, native, on_image, translate}
 use Rattle.sfi_answers.specs.Building.{IsNotConverted, IsNotMade, convert}
 use Rattle.sfi_answers.specs.Moving.{IsNotMoved, move}
 use Rattle.sfi_tool.specs.Running.{run}
-use Rattle.sfi_answers.specs.declared.fault.InputFault.TheVariants.{Hex, Utf8, TooLarge, NotOld, Words, NoSandbox, NoPlace, NoFile, SingleMasks}
+use Rattle.sfi_answers.specs.declared.fault.InputFault.TheVariants.{Hex, Utf8, TooLarge, NotOld, Words, NoSandbox, NoPlace, NoFile}
 use Rattle.sfi_answers.specs.declared.fault.Stop.{Stop}
 use Rattle.sfi_answers.specs.declared.fault.Stop.TheVariants as stop
 use Rattle.sfi_command.specs.declared.job.Job.TheVariants.{Check, Dis, Build, Map, Run, Exec, Convert, Move, Native, Translate}
@@ -62,15 +62,6 @@ moves number to bytes (stop.Layout j) _ a b = absurd b
 moves number to bytes (stop.Input NoSandbox) _ a b = absurd b
 moves number to bytes (stop.Input NoPlace) _ a b = absurd b
 moves number to bytes _ other a b = absurd a
-
-natives : IsOne IsNotCompiled
-natives bytes (stop.Layout j) (stop.Layout k) a b = ap (λ x. stop.Layout x) (one_fault bytes j k a b)
-natives bytes (stop.Layout j) (stop.Input SingleMasks) a b = absurd (never_both bytes b.parts j b.accepted.image a)
-natives bytes (stop.Input SingleMasks) (stop.Layout k) a b = absurd (never_both bytes a.parts k a.accepted.image b)
-natives bytes (stop.Input SingleMasks) (stop.Input SingleMasks) a b = refl
-natives bytes (stop.Layout j) _ a b = absurd b
-natives bytes (stop.Input SingleMasks) _ a b = absurd b
-natives bytes _ other a b = absurd a
 
 -- ---- of input
 
@@ -148,4 +139,4 @@ one_of_job (Exec image budget) = not_here
 one_of_job (Convert raw) = images (convert raw) conversions
 one_of_job (Move raw sandbox place) = images (move raw sandbox place) (moves sandbox place)
 one_of_job (Translate whole) = images (translate whole) layouts
-one_of_job Native = images native natives
+one_of_job Native = images native layouts

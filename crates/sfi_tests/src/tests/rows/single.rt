@@ -113,7 +113,7 @@ put 0 53464953; put 16 00000080
 > 01000004 00100073 ebreak; ..
 = reported; put 36 130d5000; $ sfi check --report; > 0 01000004 V10 data ebreak; > refused findings=1 first=V10 sandbox=0 at=01000004
 = converted; $ sfi convert; > convert fault 5 Words
-= compiled; $ sfi native; > native fault 2 SingleMasks
+= compiled; $ sfi native; >.. SFIN
 = with a finding; put 36 130d5000; $ sfi convert; $ sfi native; $ sfi translate; > refused findings=1 first=V10 sandbox=0 at=01000004
 = cut short; cut 40; $ sfi convert; $ sfi native; > layout fault 3 Short
 = translated; $ sfi translate
