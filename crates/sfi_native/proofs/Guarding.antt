@@ -30,7 +30,7 @@ use Rattle.x86_step.proofs.Missing.{load_missing, number_missing}
 use Rattle.x86_step.proofs.Running.{has_front, in_more}
 use Rattle.sfi_native.specs.declared.layout.Layout.{Layout}
 use Rattle.sfi_native.specs.Layout.{IsClosed, IsLayout, IsRelated, closed_above, closed_below, origin, owing, value, window}
-use Rattle.sfi_native.specs.Laws.{CountsBelow, FaultingLinesRun, IsBefore, MissesData, LeadsTo, end_of, line_most}
+use Rattle.sfi_native.specs.Laws.{CountsBelow, FaultingLinesRun, IsBefore, LeavesData, LeadsTo, end_of, line_most}
 use Rattle.sfi_native.specs.Code.{count, data_address, load_from, read, register_or, result_in, settle, store_to}
 use Rattle.sfi_native.specs.Registers.{assigned, owed}
 use Rattle.sfi_native.specs.Places.{owed_behind}
@@ -87,7 +87,7 @@ module _ (a base size n start below above : ℕ) (low : 4096 ≤ base) (high : b
       }
 
 module _ (p : Part) (l : Layout) (layout : IsLayout p l) (g : Going) (c : Core) (is : IsRelated p l g c) (closed : IsClosed p l c)
-    (n : ℕ) (some : 0 < n) (rs1 : ℕ) (imm : ℤ) (range : IsImm12 imm) (access : MissesData p (value p g rs1) imm n) where
+    (n : ℕ) (some : 0 < n) (rs1 : ℕ) (imm : ℤ) (range : IsImm12 imm) (access : LeavesData p (value p g rs1) imm n) where
   reach : Reach (value p g rs1) p.data_base p.data_size n l.data_start (closed_below p) (closed_above p) access.room.below access.room.above (is.words rs1) some layout.window_begins layout.window_ends imm
   reach = in_host (value p g rs1) p.data_base p.data_size n l.data_start (closed_below p) (closed_above p) access.room.below access.room.above (is.words rs1) some layout.window_begins layout.window_ends imm range access.low access.high
 

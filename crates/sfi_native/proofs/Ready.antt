@@ -1,4 +1,4 @@
--- The lines that a turn comes to are ready: an access lies in the data, or misses them in the window.
+-- The lines that a turn comes to are ready: an access lies in the window, wholly in the data or not.
 use Rattle.std.proofs.Common.{if◌then◌else◌, ◌≡◌, ℕ, ◌+◌, ◌-◌, ◌%◌, ◌^◌, ◌<◌, ◌≤◌, ◌⊎◌, Bool, true, false, refl, sym, ap, subst, arith, inl, inr, ◌∙◌}
 use Rattle.sfi_formats.specs.Formats.{has_single_mask}
 use Rattle.std.proofs.lemmas.Bool.{false≢true}
@@ -23,7 +23,7 @@ use Rattle.sfi_translate.specs.Machine.{Going, fixed, is_tested}
 use Rattle.sfi_translate.specs.Ready.{AccessesSafely, IsSafeAccess}
 unfoldable use Rattle.sfi_native.specs.Layout.{closed_above, closed_below}
 use Rattle.sfi_native.specs.Layout.{value}
-use Rattle.sfi_native.specs.Laws.{Accesses, IsInData, MissesData}
+use Rattle.sfi_native.specs.Laws.{Accesses, IsInData, LeavesData}
 use Rattle.sfi_native.proofs.Accessing.{negative_small, positive_small}
 
 -- ==== An access near the data, or anywhere in 32 bits, stays in a window.
@@ -99,9 +99,9 @@ near_fits p a most room (inr (single, inl below)) = omega (arith, below, most)
 near_fits p a most room (inr (single, inr above)) = above.1
 
 module _ (p : Part) (g : Going) (right : IsRightPart p) (same : fixed p g.state.hart ≡ g.state.hart) where
-  -- an access to the data, or one that misses them
+  -- an access to the data, or one that isn't wholly in them
   abbrev Does : ℕ → ℤ → ℕ → Type 0
-  Does v offset n = (IsInData p (offset_by v offset) n × IsThere g.state.memory (offset_by v offset) n) ⊎ MissesData p v offset n
+  Does v offset n = (IsInData p (offset_by v offset) n × IsThere g.state.memory (offset_by v offset) n) ⊎ LeavesData p v offset n
 
   module _ (rs1 : ℕ) (offset : ℤ) (n : ℕ) (some : 0 < n) (few : n ≤ 4) (range : IsImm12 offset) (safe : IsSafeAccess p g.state.memory (register g.state.hart rs1) offset n) where
     abbrev v : ℕ

@@ -63,8 +63,8 @@ front image ps =
     codes "SFIN" ++ number 5 ++ count (length image) ++ number (crc32 image) ++ magic (format_of ps) ++ count (length ps)
 
 -- how many bytes come before, and the checksum of all before
-abbrev pub closed : List ℕ → List ℕ
-closed bytes =
+abbrev pub sealed : List ℕ → List ℕ
+sealed bytes =
     let counted = bytes ++ count (length bytes) in
     counted ++ number (crc32 counted)
 
@@ -72,4 +72,4 @@ closed bytes =
 pub record IsNativeFile (image : List ℕ) (ps : List Part) (file : List ℕ) : Type 0 where
   pub sandboxes : List ℕ
   pub are : AreSandboxFiles 0 ps sandboxes
-  pub file_is : file ≡ closed (front image ps ++ sandboxes)
+  pub file_is : file ≡ sealed (front image ps ++ sandboxes)

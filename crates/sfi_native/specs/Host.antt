@@ -32,8 +32,8 @@ pub record Reads (p : Part) (l : Layout) (c : Core) (s : State) : Type 0 where
   pub registers : (r : ℕ) → r < 32 → Holds l c r (assigned l.plan r) (register s.hart r)
   pub bytes : (k : ℕ) → k < p.data_size → c.memory (l.data_start + k) ≡ byte_at s.memory (p.data_base + k)
 
--- The state is one of a machine, in which x0 and the reserved registers have the values that lines take them to have. All states that a
--- run comes to are such.
+-- The state is one of a machine, in which x0 and the reserved registers have the values that lines take them to have. All
+-- states that a run comes to are such.
 pub record IsProper (p : Part) (s : State) : Type 0 where
   pub state : IsState s
   pub fixed_is : fixed p s.hart ≡ s.hart

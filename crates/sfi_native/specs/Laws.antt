@@ -88,7 +88,7 @@ pub record IsInData (p : Part) (at n : ℕ) : Type 0 where
   pub tested : is_tested p at n ≡ true
 
 -- An access of n bytes at an offset from a register's value stays in the window, without wrapping, and isn't wholly in the data.
-pub record MissesData (p : Part) (value : ℕ) (offset : ℤ) (n : ℕ) : Type 0 where
+pub record LeavesData (p : Part) (value : ℕ) (offset : ℤ) (n : ℕ) : Type 0 where
   pub room : HasGuardRoom p.data_base p.data_size
   pub fits : n ≤ p.data_size
   pub low : int_le (pos p.data_base) (pos value +ℤ offset +ℤ pos (closed_below p)) ≡ true
@@ -207,10 +207,10 @@ StoreLinesRun =
     → IsThere g.state.memory to (store_size width) → IsBefore line t at p l (owing owed g) c
     → LeadsTo t at (end_of at line) p l c (owing next (line_step target p code (Does address size (Store width rs1 rs2 imm) ∷ rest) g))
 
--- the instruction is an access that misses the data
+-- the instruction is an access that isn't wholly in the data
 abbrev pub Faults : Part → Going → Instr → Type 0
-Faults p g (Load kind rd rs1 imm) = MissesData p (value p g rs1) imm (load_size kind)
-Faults p g (Store width rs1 rs2 imm) = MissesData p (value p g rs1) imm (store_size width)
+Faults p g (Load kind rd rs1 imm) = LeavesData p (value p g rs1) imm (load_size kind)
+Faults p g (Store width rs1 rs2 imm) = LeavesData p (value p g rs1) imm (store_size width)
 Faults p g i = ⊥
 
 -- Such a line goes on where its fixup says, which subtracts what is owed, and leaves its instruction to a slow step.
@@ -248,7 +248,7 @@ Accesses p g (Store width rs1 rs2 imm) =
     Stores p g (offset_by (value p g rs1) imm) (store_size width) ⊎ Faults p g (Store width rs1 rs2 imm)
 Accesses p g i = Unit {0}
 
--- an access is in the data or misses them
+-- an access is wholly in the data or not
 abbrev pub IsReady : Part → Going → Line → Type 0
 IsReady p g (Does at n i) = InRange i × Accesses p g i
 IsReady p g line = Unit {0}

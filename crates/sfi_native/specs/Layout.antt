@@ -28,8 +28,8 @@ DoNotMeet a m b n = (a + m ≤ b) ⊎ (b + n ≤ a)
 abbrev pub page_size : ℕ
 page_size = 4096
 
--- How many bytes are closed below the data: a guard zone. Where masks are single, accesses also go by addresses near 0: all
--- that 32 bits and an offset can lead to is closed.
+-- How many bytes are closed below the data: a guard zone. Where masks are single an access may also lie near 0: there all 2^32
+-- addresses but the data are closed, and a guard zone on each side of them.
 unfoldable pub closed_below : Part → ℕ
 closed_below p = if has_single_mask p.format then p.data_base + guard else guard
 

@@ -43,7 +43,7 @@ frame_span l = record { at = l.frame; size = frame_size }
 abbrev pub table_span : Part → ℕ → Span
 table_span p table_at = record { at = table_at; size = table_size p }
 
--- Code accesses its frame, its table, and its window, where an access that misses the data faults.
+-- Code accesses its frame, its table, and its window, where an access that isn't wholly in the data faults.
 abbrev pub IsAccessed : Part → Layout → ℕ → ℕ → Type 0
 IsAccessed p l table_at a = IsIn (frame_span l) a ⊎ (IsIn (table_span p table_at) a ⊎ IsIn (window p l) a)
 

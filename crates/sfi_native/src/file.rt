@@ -10,7 +10,7 @@ ghost use Rattle.sfi_native.specs.Lines.{line_of};
 ghost use Rattle.sfi_native.specs.Places.{exit_of};
 ghost use Rattle.sfi_native.specs.Registers.{IsRightPlan};
 ghost use Rattle.sfi_native.specs.Sizes.{bytes_most};
-ghost use Rattle.sfi_native.specs.File.{AreSandboxFiles, IsNativeFile, IsSandboxFile, access_bytes, closed, count, front, place_bytes, sandbox_bytes};
+ghost use Rattle.sfi_native.specs.File.{AreSandboxFiles, IsNativeFile, IsSandboxFile, access_bytes, count, front, place_bytes, sandbox_bytes, sealed};
 
 use crate::checksum::crc32;
 use crate::compilation::{CompiledCode, compile};
@@ -209,14 +209,14 @@ fn push_front(out: &mut Vec<u8>, image: &Image<'_>, bytes: &[u8]) -> Result<(), 
 }
 
 /// Appends how many bytes there are, and then the checksum of all.
-fn close(out: &mut Vec<u8>) -> Result<(), AllocError>
-    ensures { OnOk result (out.new.items ≡ closed out.old.items) }
+fn seal(out: &mut Vec<u8>) -> Result<(), AllocError>
+    ensures { OnOk result (out.new.items ≡ sealed out.old.items) }
 {
     push_count(out, out.len())?;
     push_number(out, crc32(out))
 }
 
-/// The file of the native code of an image with these bytes. None where a sandbox has no code, as [`compile`] says.
+/// The file of the native code of an image with these bytes. None where a sandbox has no code, as [`compile`] says, which never is.
 pub fn native_file(
     alloc: Global,
     image: &Image<'_>,
@@ -230,6 +230,6 @@ pub fn native_file(
     if !push_sandboxes(&mut out, alloc, image)? {
         return Ok(None);
     }
-    close(&mut out)?;
+    seal(&mut out)?;
     Ok(Some(out))
 }

@@ -54,7 +54,7 @@ fn closed_above(format: Format, part: &SandboxPart<'_>) -> u64
 }
 
 impl Layout {
-    /// The layout of that plan and frame and of that sandbox's data, with what is closed on each side: 4096 bytes, or, where masks
+    /// The layout of that plan and frame and of the data of that sandbox, of an image of the plan's format, with what is closed on each side: 4096 bytes, or, where masks
     /// are single, up to 4096 bytes beyond the sandbox's 2^32 addresses. None where the plan isn't right, the data aren't whole
     /// pages, the frame meets these, or one goes on below address 0 or beyond 2^47.
     pub fn new(plan: Plan, frame: u64, data_start: u64, part: &SandboxPart<'_>) -> Option<Layout>

@@ -2,7 +2,7 @@
 use crate::owed_tests::line;
 use crate::tests::part_of;
 use crate::{Layout, Plan, plan_of, push_computing_line};
-use rv_word::{ImmOp, Instr, Reg};
+use rv_word::{ImmOp, Instr, Reg, RegOp};
 use sfi_formats::Format;
 use std::alloc::Global;
 use std::test::Fail;
@@ -13,6 +13,15 @@ fn addition() -> Instr {
         rd: Reg::numbered(26),
         rs1: Reg::numbered(5),
         imm: 8,
+    }
+}
+
+fn mask() -> Instr {
+    Instr::Op {
+        op: RegOp::And,
+        rd: Reg::numbered(26),
+        rs1: Reg::numbered(5),
+        rs2: Reg::numbered(27),
     }
 }
 
@@ -44,12 +53,13 @@ fn x26_is_written(rt: HostRuntime) -> Result<(), Fail> {
 
 #[test]
 fn x26_lies_in_a_register(rt: HostRuntime) -> Result<(), Fail> {
-    let lines = [line(0, 4, addition())];
-    let part = part_of(rt.alloc(), &[0; 4]);
+    let lines = [line(0, 4, addition()), line(4, 4, mask())];
+    let part = part_of(rt.alloc(), &[0; 8]);
     for (format, wanted) in [(Format::Sfis, true), (Format::Sfiw, false)] {
         let plan = plan_of(rt.alloc(), format, &part, lines.as_slice())?;
         assert!(rt; plan.assigned[26].is_some() == wanted);
         assert!(rt; plan.assigned[5].is_some());
+        assert!(rt; plan.assigned[27].is_none());
     }
     Ok(())
 }

@@ -104,8 +104,8 @@ fn places_by(format: Format, uses: &Uses) -> [Option<Register>; 32] {
     places
 }
 
-/// A plan for these lines of a sandbox of an image of that format, in which the registers that they use most, above all in loops,
-/// lie in the processor's, steps are counted as late as [`owed_of`] says, and nops stand where [`padding_of`] says.
+/// A plan for these lines of a sandbox of an image of that format. The registers that they use most, above all in loops, lie in
+/// the processor's, steps are counted as late as [`owed_of`] says, and nops stand where [`padding_of`] says.
 pub fn plan_of(
     alloc: Global,
     format: Format,
