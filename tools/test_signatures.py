@@ -244,7 +244,7 @@ class Signatures(Folder):
         """A claim's number stays where the image is moved."""
         path = self.write("far.c", '#include "gates.h"\nSFI_IMPORT int ask(int);\nSFI_EXPORT int f(const char *it) { return ask(*it); }\n')
         self.call("--movable", "-o", "far.elf", path)
-        for at in ("1000000:1800000", "3000000:5000000"):
+        for at in ("1800000:80000000", "3000000:4000000"):
             image = subprocess.run([SFI_IMAGE, "--raw", "--at", at, self.path("far.elf")], capture_output=True, check=True).stdout
             self.assertEqual((told(image, "export"), told(image, "import")), ({"f": "(s)i"}, {"ask": "(i)i"}))
 
@@ -252,10 +252,10 @@ class Signatures(Folder):
     def test_moves(self):
         path = self.write("far.c", '#include "gates.h"\nSFI_EXPORT int f(const char *it) { return *it; }\n')
         before = self.made("--movable", path)
-        move = [os.path.join(os.path.dirname(SFI_CC), "sfi-move"), "--program", SFI, "--raw", "--at", "3000000:5000000"]
+        move = [os.path.join(os.path.dirname(SFI_CC), "sfi-move"), "--program", SFI, "--raw", "--at", "3000000:4000000"]
         after = subprocess.run(move, input=before, capture_output=True, check=True).stdout
         self.assertEqual(told(after, "export"), {"f": "(s)i"})
-        self.assertEqual(entries(after)[0], ("export", "f", entries(before)[0][2] - 0x1000000 + 0x3000000))
+        self.assertEqual(entries(after)[0], ("export", "f", entries(before)[0][2] - 0x1800000 + 0x3000000))
 
     @needs("gcc")
     def test_natively(self):

@@ -50,7 +50,7 @@ HEAP = 300000
 MEMORY, SECONDS = 3 << 30, 300  # what a conversion may take
 NATIVE_SECONDS, CSMITH_SECONDS = 30, 5  # many of csmith's programs never end
 RUN = ["run", "--rounds", "1000", "--quantum", "1000000"]
-ELSEWHERE = "05000000:09000000"  # a place for what can be moved
+ELSEWHERE = "05000000:08000000"  # a place for what can be moved
 MACHINE = ["-march=rv32imc", "-mabi=ilp32"]
 QUIET = ["-w", "-Wno-everything"]
 DIRECTIVE = re.compile(r'dg-(?:options|additional-options)\s+"([^"]*)"\s*(\{\s*target)?')
