@@ -136,12 +136,12 @@ class Programs(Folder):
         for words, end in (([], b""), (["--export", "main"], STACK + ROOM + struct.pack("<3I", 0, 9, 21) + b"SFIN")):
             path = self.linked("--movable", *words)
             _, before, _ = call(IMAGE, "--raw", path)
-            status, after, told = call(IMAGE, "--raw", "--at", "3000000:5000000", path)
+            status, after, told = call(IMAGE, "--raw", "--at", "3000000:4000000", path)
             self.assertEqual((status, told, after[len(after) - len(end):]), (0, "", end))
-            self.assertEqual(call(MOVE, "--raw", "--at", "3000000:5000000", content=before), (0, after, ""))
+            self.assertEqual(call(MOVE, "--raw", "--at", "3000000:4000000", content=before), (0, after, ""))
 
     def test_one_that_is_not(self):
         path = self.linked()
-        self.assertEqual(call(IMAGE, "--raw", "--at", "1000000:1800000", path)[0], 0)  # where it was linked
-        self.assertEqual(call(IMAGE, "--at", "3000000:5000000", path),
+        self.assertEqual(call(IMAGE, "--raw", "--at", "1800000:80000000", path)[0], 0)  # where it was linked
+        self.assertEqual(call(IMAGE, "--at", "3000000:4000000", path),
                          (1, b"", f"sfi-image: {path} can't be moved: link it with --movable, or with --at\n"))
