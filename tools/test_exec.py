@@ -102,7 +102,7 @@ class Programs(Folder):
 
     def built(self, source, *words):
         program = self.path("program.elf")
-        subprocess.run([SFI_CC, "--program", SFI, "--format", "words", "-O1", "-w", *words, "-o", program, source], check=True)
+        subprocess.run([SFI_CC, "--program", SFI, "-O1", "-w", *words, "-o", program, source], check=True)
         return program
 
     def ran(self, words, given=b"", stdout=subprocess.PIPE):
