@@ -186,7 +186,7 @@ __attribute__((noinline)) static void sfi_run_code(const struct sfi_code *code, 
     h->left -= before - (sfi_u32)kept[14];
 }
 
-/* As sfi_turn of sfi_native.h, by this code, of data that sfi_new_data made. Code is entered as `from_loop` says
+/* As sfi_turn of sfi_native.h, by this code, of data that sfi_new_data made for code. Code is entered as `from_loop` says
    (crates/sfi_translate/specs/Machine.antt); where it has come out a step of the host comes first: a faulting access does so again. */
 static int sfi_native_turn(const struct sfi_code *code, struct sfi_hart *h, sfi_u32 *at) {
     const struct sfi_sandbox *const s = code->sandbox;

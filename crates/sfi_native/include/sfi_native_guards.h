@@ -83,7 +83,7 @@ static size_t sfi_room_of(const struct sfi_sandbox *s) {
 }
 
 /* What is closed but for the data in it: a guard zone on each side of these. Native code of single masks adds any number of 32 bits to
-   the place of address 0: for it that is all there, and a guard zone on each side (`window`, specs/Layout.antt). */
+   the place of address 0: for it all 2^32 addresses are closed, and a guard zone on each side of them (`window`, specs/Layout.antt). */
 struct sfi_window { size_t below, size; };  /* the bytes below the data, and all */
 static struct sfi_window sfi_window_of(const struct sfi_sandbox *s, int has_code) {
     if (has_code && s->single)
