@@ -130,7 +130,7 @@ def programs_in_c(documents):
     return [Step(written("hello.c", hello) + documents.line("docs/C.md", "hello.c > hello.hex && ./sfi run"), ("sandbox=0 exit=105 steps=31 out=4869\n",)),
             Step(documents.line("docs/C.md", "examples/c/hello.c > hello.hex"), ("Hello, world\n",)),
             Step(written("wrong.c", wrong) + documents.line("docs/C.md", "-g -o wrong.elf wrong.c && ") + " || true",
-                 ("sandbox=0 trap=Store at=fffffff8", "main, wrong.c:2"))]
+                 (documents.block("docs/C.md", " trap=Store").splitlines()[0], "main, wrong.c:2"))]
 
 
 def traces(documents):
@@ -138,7 +138,7 @@ def traces(documents):
     drawn = documents.block("docs/C.md", "sfi-trace --profile function")
     return [Step(drawn + "ls hello.speedscope.json\ngrep -l '</svg>' hello.svg map.svg",
                  ("share  function\n", "  main  hello.c:", "hello.speedscope.json\n", "hello.svg\nmap.svg\n")),
-            Step("tools/sfi-trace wrong.elf", ("# wrong.c:2\n", "trap=Store at=017ffff8 steps=21"))]
+            Step("tools/sfi-trace wrong.elf", ("# wrong.c:2\n", documents.block("docs/C.md", " trap=Store").splitlines()[0]))]
 
 
 def plugin(documents):
