@@ -106,14 +106,13 @@ put 0 53464953; put 16 00000080; $ sfi run; $ sfi run --rounds 1000 --quantum 1
 ";
 
 /// What the other commands answer, and the state at an entry.
-pub(super) const ANSWERS: &str = "14 commands
+pub(super) const ANSWERS: &str = "13 commands
 put 0 53464953; put 16 00000080
 = listed; put 36 337db501; $ sfi dis
 > format SFIS; > sandbox 0 code 01000000 256 data 80000000 256 start 01000000 gates 0 init 0; > 01000000 01b57d33 and x26, x10, x27
 > 01000004 00100073 ebreak; ..
 = reported; put 36 130d5000; $ sfi check --report; > 0 01000004 V10 data ebreak; > refused findings=1 first=V10 sandbox=0 at=01000004
 = converted; $ sfi convert; > convert fault 5 Words
-= compiled; $ sfi native; >.. SFIN
 = with a finding; put 36 130d5000; $ sfi convert; $ sfi native; $ sfi translate; > refused findings=1 first=V10 sandbox=0 at=01000004
 = cut short; cut 40; $ sfi convert; $ sfi native; > layout fault 3 Short
 = translated; $ sfi translate
