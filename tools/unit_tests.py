@@ -35,6 +35,12 @@ def iter_tests(suite):
         yield from iter_tests(it) if isinstance(it, unittest.TestSuite) else (it,)
 
 
+def tests_in(reports):
+    """The tests that ran and of which, or of a part of which, these tell: not what makes a class ready."""
+    tests = {getattr(test, "test_case", test) for test, _ in reports}
+    return {it for it in tests if isinstance(it, unittest.TestCase)}
+
+
 def main(folder, pattern="test_*.py", *names):
     loader = unittest.TestLoader()
     loader.testNamePatterns = [f"*.{it}" for it in names] or None
@@ -44,7 +50,7 @@ def main(folder, pattern="test_*.py", *names):
     skipped = len(result.skipped)
     for test, why in result.skipped:
         print(f"skipped: {test.id()}: {why}")
-    passed = result.testsRun - failed - skipped
+    passed = result.testsRun - len(tests_in([*result.failures, *result.errors, *result.skipped])) - len(result.unexpectedSuccesses)
     if len(files.took) > 1:
         print(f"seconds of processors: {files.told()}")
     print(f"{passed} passed, {failed} failed" + (f", {skipped} skipped" if skipped else ""))
