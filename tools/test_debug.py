@@ -44,6 +44,8 @@ int main(void) { return fill(twelve); }""",
 int main(void) { struct link *volatile first = malloc(sizeof *first); free(first);
  return first->next->next == 0; } /* here */""",
 }
+# These the zone at zero traps, not an `ebreak`.
+BY_THE_ZONE, IN_ZONE = ("a store by NULL",), "trap=Store at=00000004"
 # Each traps with what malloc says, in or called from the line that is marked.
 MISUSES = {
     "behind the block": "int main(void) { char *p = malloc(twelve); p[twelve] = 0;\n free(p); /* here */\n return 0; }",
@@ -120,7 +122,7 @@ class Debug(Folder):
                     text = BEGINNING + body
                     done = self.ran(self.built(text, "--debug", compiler=compiler))
                     self.assertEqual(done.returncode, 126)
-                    self.assertIn("trap=Break", done.stderr)
+                    self.assertRegex(done.stderr, IN_ZONE if what in BY_THE_ZONE else "trap=Break")
                     self.stops_here(text, done)
 
     def misuses(self, names, *library):

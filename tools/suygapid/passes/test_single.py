@@ -53,6 +53,12 @@ class Masks(unittest.TestCase):
         self.assertEqual(made("la sp,far", is_movable=True),
                          "lui sp, %hi(far); and sp, sp, x27; add sp, sp, x26; and sp, sp, x27; addi sp, sp, %lo(far); and sp, sp, x27")
 
+    def test_room_in_movable_code(self):
+        """So is it to the objects' end, with which a frame that gets masks is compared."""
+        self.assertTrue(made("addi sp,sp,-2000", is_movable=True, is_checking=True).startswith(
+            "lui x29, %hi(__sfi_end+2000); and x29, x29, x27; add x29, x29, x26; and x29, x29, x27; addi x29, x29, %lo(__sfi_end+2000); "
+            "and x29, x29, x27; bgeu sp, x29, .+8; ebreak"))
+
     def test_largest_count(self):
         """x27 is no offset."""
         self.assertTrue(made("sub sp,sp,a0", is_checking=True).startswith("sub x29, x27, x26; and x29, x29, x27; bgeu x29, a0, .+8; ebreak; sub sp"))
