@@ -24,7 +24,7 @@ LIBRARY = os.path.join(os.path.dirname(measure.HERE), "crates", "sfi_c")
 REPEATS = 10
 GROUPS = 5  # scan.c and checker.c print the best of this number of groups
 BUNDLES = 65536
-FORMATS = [it for it in images.MAGICS if it != images.SINGLE]  # of which an image has room for 16 sandboxes
+FORMATS = list(images.MAGICS)
 
 
 def node_with(path, image):
@@ -46,6 +46,11 @@ def commands_of(folder, checker, module):
     images_at = {n: os.path.join(folder, str(n)) for n in FORMATS}
     commands = {(name, n): [*words, path] for n, path in images_at.items() for name, words in programs.items() if n < 3 or name == "library"}
     return commands | {("node", n): node_with(module, path) for n, path in images_at.items() if module}
+
+
+def image_of(kind, n):
+    """Of 16 sandboxes, or with single masks, for which an image hasn't the places, of one with as much code."""
+    return images.image(kind, *[1, 16 * BUNDLES] * (n == images.SINGLE), format=n)
 
 
 def speed(words):
@@ -94,7 +99,7 @@ def main():
         print("| image |", " | ".join(f"{name}, format {n}" for name, n in commands), "|")
         for kind in images.KINDS:
             for n in FORMATS:
-                measure.written(os.path.join(folder, str(n)), images.image(kind, format=n))
+                measure.written(os.path.join(folder, str(n)), image_of(kind, n))
             cells, ratios = rows_of(kind, commands, options.rounds)
             all_ratios.append(ratios)
             print("|", " | ".join(cells), "|", flush=True)
