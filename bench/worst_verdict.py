@@ -21,7 +21,8 @@ import subprocess
 import tempfile
 
 import measure
-from suygapid.image.layout import Part, spelled
+import images
+from suygapid.image.layout import FORMATS, Part, spelled
 from suygapid.isa.encoding import i_type, r_type, s_type
 
 HERE = pathlib.Path(__file__).resolve().parent
@@ -30,8 +31,8 @@ MCU = HERE.parent / "examples" / "device" / "mcu"
 PAGE = MCU.parent / "README.md"
 IMAGES = 0x81000000  # verdicts.c
 ACCEPTED, REFUSED = 0, 1
-CODE, DATA, APART, EBREAK = 0x01000000, 0x01800000, 0x01000000, struct.pack("<I", 0x00100073)
-OF_WORDS, OF_SINGLE = b"SFIW", b"SFIS"  # magics
+EBREAK = struct.pack("<I", 0x00100073)
+OF_WORDS, OF_SINGLE = images.MAGICS[images.WORDS], images.MAGICS[images.SINGLE]
 PROBE = 1024  # bytes of code that a climb tries
 BEST = 6  # images that a generation goes on from
 CHILDREN = 24
@@ -60,15 +61,9 @@ class Genes:
     pattern: bytes
 
 
-def places(magic, number):
-    """Where code and data of the sandbox of a number lie. Where masks are single, the data base is a single bit."""
-    code, data = CODE + number * APART, DATA + number * APART
-    return (data, 1 << (31 - number)) if magic == OF_SINGLE else (code, data)
-
-
 def part_of(genes, kind, size, number=0):
     """A sandbox of so many bytes of code."""
-    base, data = places(genes.magic, number)
+    base, data = images.place_of(number, size, FORMATS[genes.magic])
     end = b"" if kind.status == REFUSED or kind.gates else EBREAK * 4
     code = (genes.pattern * (size // len(genes.pattern) + 1))[:size - len(end)] + end
     gates = {base + 16 * gate: 0 for gate in range(size // 16)} if kind.gates else {}

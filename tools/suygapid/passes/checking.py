@@ -30,10 +30,9 @@ class Checking(InWords):
         return [*super().masks_of_access(base), *stopped_unless(f"beq x29, {base}")]
 
     def room_for(self, count):
-        """What asks for room for so many bytes below the stack pointer. A single mask gives no base, so code for any place adds it."""
-        limit, masks = f"{END}+{count}", self.masks("x29", "x29")
-        base = ["add x29, x29, x26", *masks] if self.is_movable and self.format == SINGLE else []
-        return [f"lui x29, %hi({limit})", *masks, *base, f"addi x29, x29, %lo({limit})", *masks, *stopped_unless("bgeu sp, x29")]
+        """What asks for room for so many bytes below the stack pointer."""
+        parts = self.parts_of_address("x29", f"{END}+{count}", self.is_movable)
+        return [it for part in parts for it in (part, *self.masks("x29", "x29"))] + stopped_unless("bgeu sp, x29")
 
     def look(self):
         """What compares the stack pointer with the heap's end."""

@@ -85,14 +85,18 @@ class InWords(Writer):
         """Gets an address into a register: from the data base, where it is that of a small object of this file. Masks of two steps
         make that of a data register relative to the data base; elf/moving.py does it for others."""
         register, text = op.operands
-        parts = [f"lui {register}, %hi({text})", f"addi {register}, {register}, %lo({text})"]
-        if op.address == RELATIVE and register in DATA and self.format == SINGLE:
-            parts.insert(1, f"add {register}, {register}, x26")
+        parts = self.parts_of_address(register, text, register in DATA and op.address == RELATIVE)
         for part in [f"addi {register}, x26, %lo({text})"] if self.small.is_near(text) else parts:
             self.wide(part)
             self.mask(register)
         if op.address == RELATIVE and register not in DATA:
             self.itself(Op("add", (register, register, "x26"), None))
+
+    def parts_of_address(self, register, text, is_relative):
+        """What makes an address, but for masks, to each of which a data register's go. A single mask gives no base, so one that is relative
+        to the data base has it added."""
+        base = [f"add {register}, {register}, x26"] if is_relative and self.format == SINGLE else []
+        return [f"lui {register}, %hi({text})", *base, f"addi {register}, {register}, %lo({text})"]
 
     def masks(self, target, source):
         return [text.format(target, source) for text in MASKS[self.format]]
