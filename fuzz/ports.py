@@ -6,7 +6,7 @@
 Each case is the life of a world of fuzz/calls.py, of whose images the names are read and the console is run, and of one of fuzz/beside.py.
 Their calls go to libsfi_run, and to a trace, which fuzz/player.c makes anew: once with libsfi_run, and with the file as each compiler
 makes it, for other processors under qemu, for Windows by wine. Each call has to answer and write the same. Compilers have to make it without a
-warning: gcc and, by turns, two of the others; with --all, and where `./test --all` says so, all. --file is what
+warning: gcc and, by turns, one of the others; with --all, and where `./test --all` says so, all. --file is what
 tools/runtime_file.py makes. It wants gcc.
 """
 import dataclasses
@@ -50,12 +50,12 @@ class Port:
 
 HERE = "{program} {trace} {digests}"
 WINE = shutil.which("wine") or "/usr/lib/wine/wine64"  # where Debian's package wine64 has it, which has no command
-BARE = ["riscv64-unknown-elf-gcc", "-O2", "-march=rv32imac", "-mabi=ilp32", "--specs=picolibc.specs", "--oslib=semihost", "--crt0=semihost",
+BARE = ["riscv64-unknown-elf-gcc", "-O1", "-march=rv32imac", "-mabi=ilp32", "--specs=picolibc.specs", "--oslib=semihost", "--crt0=semihost",
         *(f"-Wl,--defsym=__{it}" for it in ("flash=0x80000000", "flash_size=0x400000", "ram=0x80400000", "ram_size=0xf000000", "stack_size=0x40000"))]
 ON_BARE = ("qemu-system-riscv32 -M virt -m 256M -bios none -nographic -monitor none -serial none "
            "-semihosting-config enable=on,target=native,arg={trace},arg={digests} -kernel {program}")
 PORTS = [
-    Port("gcc, own heap", ["gcc", "-O2", "-DSUYGAPID_RUN_OWN_HEAP"], HERE),
+    Port("gcc, own heap", ["gcc", "-O1", "-DSUYGAPID_RUN_OWN_HEAP"], HERE),
     Port("clang", ["clang", "-O2"], HERE),
     Port("gcc, no threads", ["gcc", "-O1", "-DSUYGAPID_RUN_NO_THREADS", "-fsanitize=undefined", "-fno-sanitize-recover=all"], HERE),
     Port("aarch64", ["aarch64-linux-gnu-gcc", "-O2", "-static"], f"qemu-aarch64 {HERE}"),
@@ -67,8 +67,8 @@ PORTS = [
 
 
 def due(is_all):
-    """The ports that are tried: all, or the first and by turns two of the others."""
-    return PORTS if is_all else [PORTS[0], *testing.by_turns(PORTS[1:], 2)]
+    """The ports that are tried: all, or the first and by turns one of the others."""
+    return PORTS if is_all else [PORTS[0], *testing.by_turns(PORTS[1:], 1)]
 
 
 # ---- traces

@@ -14,7 +14,7 @@ are checked as they are: they have to be proved.
 
 Due are
 
-- of what changed at most 40: edits that differ, or of which a file differs, import lines aside; then those of which a file
+- of what changed at most 20: edits that differ, or of which a file differs, import lines aside; then those of which a file
   names definitions, of its own crate or a lower one, in a file that differs. It differs from $GATE_BASE, a name of git's;
   without that from where HEAD left origin/main; and where there is none or HEAD is in it, from what stood here three hours
   before the last commit;
@@ -35,7 +35,7 @@ import toolchain
 from build_library import is_marked
 
 PARTS = 6
-MOST = 40  # of what changed: some 45 seconds of a processor each, as a mean: 10 where a function is refused by itself
+MOST = 20  # of what changed: some 38 seconds of a processor each, as a mean: 10 where a function is refused by itself
 AT_ONCE = 6
 HOURS = 3  # longer than it takes to make and to hand in what is merged at once
 LANES = max(1, len(os.sched_getaffinity(0)) // 2)  # beside the other scripts of ./test

@@ -197,7 +197,7 @@ class Edits(unittest.TestCase):
         self.change("crates/low/src/lib.rt")
         found = self.due()
         self.assertEqual(len(set(found)), len(found))
-        self.assertEqual(len([it for it in found[:40] if it.startswith("low/")]), 40)
+        self.assertEqual(len([it for it in found[:20] if it.startswith("low/")]), 20)
         self.assertLess(len(found), 56)
         said = self.run_with()[1]
         self.assertEqual(said[:2], [f"edits.py: {len(found)} of 76 must-fail edits are tried, since 2 commits stand here; `rt must-fail` tries all",

@@ -44,8 +44,10 @@ fn not_run(rt: &HostRuntime, fault: ExecFault) -> u8 {
     NOT_RUN
 }
 
-/// Says why the file can't be read. The path stands there as a Rust string, in one line.
-fn no_file<D: Display>(rt: &HostRuntime, path: &str, reason: &D) -> u8 {
+/// Says on standard error why the image's file can't be read, and gives `NOT_RUN`. The line is that of the
+/// help (`sfi_command` src/commands/exec.rt), with the path as a Rust string, so that it stays one line;
+/// examples/test.sh tries it.
+fn say_unreadable<D: Display>(rt: &HostRuntime, path: &str, reason: &D) -> u8 {
     let fault = ExecFault::Image;
     let _ = eprintln!(rt; "exec fault {} {fault} {path:?}: {reason}", fault.number());
     NOT_RUN
@@ -82,16 +84,18 @@ fn exec_image(
     Ok(ended.status)
 }
 
-/// Runs the sandboxes of the image in that file. The file takes the place of a standard stream that is
-/// closed, so it is read and closed before these are used, which then fail as closed ones do.
+/// Runs the sandboxes of the image in that file, and gives the program's status: theirs, or 125 where
+/// there is no run, which standard error explains. The file takes the number of a standard stream that is
+/// closed, so it is read and closed before the streams are used; a closed one then fails as closed.
+/// No contract says this: examples/test.sh tries it.
 fn exec_file(rt: &HostRuntime, alloc: Global, path: &str, budget: u64) -> u8 {
     let file = match open_file(rt, path) {
         Ok(file) => file,
-        Err(error) => return no_file(rt, path, &error),
+        Err(error) => return say_unreadable(rt, path, &error),
     };
     let image = match read_image(alloc, file) {
         Ok(image) => image,
-        Err(ExecFault::Image) => return no_file(rt, path, &"it can't be read"),
+        Err(ExecFault::Image) => return say_unreadable(rt, path, &"it can't be read"),
         Err(fault) => return not_run(rt, fault),
     };
     match exec_image(rt, alloc, &image, budget) {

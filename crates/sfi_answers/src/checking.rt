@@ -82,8 +82,12 @@ pub fn check_answer(alloc: Global, report: bool, bytes: &[u8]) -> Result<Answer,
 }
 
 /// The verdict on an image's bytes as `check_answer` gives it, or the line of the fault if they are
-/// no image.
-pub fn bytes_answer(alloc: Global, report: bool, bytes: &[u8]) -> Result<Answer, AllocError>
+/// no image. `sfi_tool_c` answers `check --raw` by it; `raw_answer` is for a reader.
+pub fn check_or_fault_answer(
+    alloc: Global,
+    report: bool,
+    bytes: &[u8],
+) -> Result<Answer, AllocError>
     ensures statuses { IfOk result (λ a. a.status ≤ 2) }
     ensures says { IfOk result
         (λ a. a.status < 2 → (check report).says bytes.now a.status a.output.items) }

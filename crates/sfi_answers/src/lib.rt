@@ -21,7 +21,7 @@ mod verdict;
 mod whole_program;
 
 pub use building::build_answer;
-pub use checking::{bytes_answer, check_answer, refusal_answer};
+pub use checking::{check_answer, check_or_fault_answer, refusal_answer};
 pub use compiling::native_answer;
 pub use converting::conversion_answer;
 pub use fault::{InputFault, Stop, TOO_LARGE_LINE, stop_answer};

@@ -22,7 +22,8 @@ pub(crate) struct OwnBytes<'a, R: Read> {
 }
 
 impl<'a, R: Read> OwnBytes<'a, R> {
-    /// The bytes of this reader.
+    /// What comes of this reader from here on, as an image's own bytes, not digits that spell them; none
+    /// counts against the limit yet.
     pub(crate) fn new(reader: &'a mut R) -> Self
         ensures { own_to_come result.read (R.remaining result.reader.now)
             ≡ own_to_come 0 (R.remaining reader.old) }

@@ -52,7 +52,8 @@ pub(crate) fn format_number(format: Format) -> u32
     }
 }
 
-/// A format by its number; each number but 1, 2 and 3 is that of the fourth.
+/// The format of a number that `format_number` gives. C passes no other, as the header asks; 0 and all
+/// above 4 are taken for the fourth, so that each number has a format.
 pub(crate) fn format_numbered(number: u32) -> Format
     ensures { result ≡ format_of number }
 {

@@ -7,7 +7,7 @@ ghost use Rattle.sfi_command.specs.Command.{Asks, IsFaultOf, number_of, sfi};
 
 use crate::commands::{COMMANDS, PROGRAM, VERSION, job_named};
 use crate::escaped::escaped;
-use crate::job::{Job, JobFault, no_job};
+use crate::job::{Job, JobFault, no_job_fault};
 use crate::rows::program_of;
 use clap::error::ErrorKind;
 use clap::{Command, Error};
@@ -56,6 +56,6 @@ pub fn job_of(alloc: Global, words: &[String]) -> Result<Job, JobFault>
     };
     match matches.subcommand() {
         Some((name, found)) => job_named(alloc, name, found),
-        None => Err(no_job(alloc)),
+        None => Err(no_job_fault(alloc)),
     }
 }

@@ -14,7 +14,7 @@ mod native;
 mod run;
 mod translate;
 
-use crate::job::{Job, JobFault, no_job};
+use crate::job::{Job, JobFault, no_job_fault};
 use crate::rows::{CommandRow, OptionRow, Takes};
 use clap::ArgMatches;
 use std::alloc::Global;
@@ -89,6 +89,6 @@ pub(crate) fn job_named(alloc: Global, name: &str, found: &ArgMatches<'_>) -> Re
         "translate" => Ok(translate::asked_translate(found)),
         "native" => Ok(Job::Native),
         "exec" => exec::asked_exec(alloc, found),
-        _ => Err(no_job(alloc)),
+        _ => Err(no_job_fault(alloc)),
     }
 }

@@ -141,8 +141,10 @@ pub(crate) fn usage_fault(alloc: Global, text: &str) -> JobFault
     }
 }
 
-/// The fault of a subcommand or of a number that there isn't.
-pub(crate) fn no_job(alloc: Global) -> JobFault
+/// The fault where no job comes of words that parse: there is no such subcommand, or an option or word is
+/// missing or out of its range. By the rows of `COMMANDS` clap refuses all of these before, with a text of
+/// its own, so this text isn't met.
+pub(crate) fn no_job_fault(alloc: Global) -> JobFault
     ensures { number_of result ≢ 2 }
 {
     usage_fault(alloc, "error: no such command\n")

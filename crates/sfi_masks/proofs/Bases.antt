@@ -10,8 +10,8 @@ use Rattle.rv_word.specs.declared.access.Access.{Access}
 use Rattle.rv_word.specs.declared.instr.Instr.{Instr}
 use Rattle.rv_word.specs.declared.instr.Instr.TheVariants.{Load, Store}
 use Rattle.sfi_masks.specs.Masks.{is_in, may_be_on_in_words, is_free_by, IsFreeWordBy, IsFreeAccessBy}
-use Rattle.sfi_masks.specs.declared.tables.TheConstants.{ON_EVEN, ON_ODD}
-use Rattle.sfi_masks.specs.private.{free_in_words}
+use Rattle.sfi_masks.specs.declared.tables.TheConstants.{ON_EVEN}
+use Rattle.sfi_masks.specs.private.{on_odd, free_in_words}
 use Rattle.sfi_masks.proofs.Fields.{accesses}
 
 -- ---- a bit of a number that isn't 0
@@ -80,29 +80,30 @@ split a f k some =
 
 -- ---- the base
 
-free_at : ℕ → ℕ → ℕ
-free_at high n = if bit_and high 128 == 128 then slice_index ON_ODD n else slice_index ON_EVEN n
+free_at : Bool → ℕ → ℕ → ℕ
+free_at single high n = if bit_and high 128 == 128 then slice_index (on_odd single) n else slice_index ON_EVEN n
 
-base_cell : ℕ → ℕ → Bool
-base_cell high n = (free_at high n == 63) || ((free_at high n == 255) && may_be_on_in_words (high / 128 + 2 * n))
+base_cell : Bool → ℕ → ℕ → Bool
+base_cell single high n = (free_at single high n == 63) || ((free_at single high n == 255) && may_be_on_in_words single (high / 128 + 2 * n))
 
-all_bases : agree_below (λ high. agree_below (λ n. base_cell high n) (λ n. true) 16) (λ high. true) 256 ≡ true
+all_bases : (single : Bool) → agree_below (λ high. agree_below (λ n. base_cell single high n) (λ n. true) 16) (λ high. true) 256 ≡ true
 unfolding base_cell free_at
-all_bases = refl
+all_bases true = refl
+all_bases false = refl
 
 first_or_second : (p q : Bool) → (p || q) ≡ true → (p ≡ true) ⊎ (q ≡ true)
 first_or_second true q h = inl refl
 first_or_second false q h = inr h
 
 -- no access is free, or each that is on the base
-pub base_told : (high low2 : ℕ) → high < 256 → (free_in_words high low2 ≡ 63) ⊎ ((free_in_words high low2 ≡ 255) × (may_be_on_in_words (high / 128 + 2 * (low2 % 16)) ≡ true))
+pub base_told : (single : Bool) (high low2 : ℕ) → high < 256 → (free_in_words single high low2 ≡ 63) ⊎ ((free_in_words single high low2 ≡ 255) × (may_be_on_in_words single (high / 128 + 2 * (low2 % 16)) ≡ true))
 unfolding free_in_words base_cell free_at
-base_told high low2 h =
-    let same : free_at high (bit_and low2 15) ≡ free_at high (low2 % 16) = ap (free_at high) (and_mask low2 4) in
-    let cell = agree_below_at (λ n. base_cell high n) (λ n. true) 16 (low2 % 16) (agree_below_at (λ m. agree_below (λ n. base_cell m n) (λ n. true) 16) (λ m. true) 256 high all_bases h) (omega arith) in
-    elim (first_or_second (free_at high (low2 % 16) == 63) ((free_at high (low2 % 16) == 255) && may_be_on_in_words (high / 128 + 2 * (low2 % 16))) cell) [
+base_told single high low2 h =
+    let same : free_at single high (bit_and low2 15) ≡ free_at single high (low2 % 16) = ap (free_at single high) (and_mask low2 4) in
+    let cell = agree_below_at (λ n. base_cell single high n) (λ n. true) 16 (low2 % 16) (agree_below_at (λ m. agree_below (λ n. base_cell single m n) (λ n. true) 16) (λ m. true) 256 high (all_bases single) h) (omega arith) in
+    elim (first_or_second (free_at single high (low2 % 16) == 63) ((free_at single high (low2 % 16) == 255) && may_be_on_in_words single (high / 128 + 2 * (low2 % 16))) cell) [
       | inl few ↦ inl (same ∙ eqb-true _ _ few)
-      | inr all ↦ (let both = and_parts (free_at high (low2 % 16) == 255) (may_be_on_in_words (high / 128 + 2 * (low2 % 16))) all in inr (same ∙ eqb-true _ _ both.0, both.1))
+      | inr all ↦ (let both = and_parts (free_at single high (low2 % 16) == 255) (may_be_on_in_words single (high / 128 + 2 * (low2 % 16))) all in inr (same ∙ eqb-true _ _ both.0, both.1))
     ]
 
 -- ---- an access on such a base

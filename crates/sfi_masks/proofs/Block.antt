@@ -23,7 +23,7 @@ moved code f g m same p = record {
       ∙ ap (λ n. not (access_classes code (g (2 * i)) (g (2 * i + 1)) n == 0)) (same (2 * ((i + 1) % 16) + 1) (omega arith));
 }
 
-not_false : (b : Bool) → not b ≡ true → b ≡ false
+pub not_false : (b : Bool) → not b ≡ true → b ≡ false
 not_false true e = cc
 not_false false e = refl
 

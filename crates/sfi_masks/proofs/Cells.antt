@@ -77,10 +77,14 @@ told_in code low high alone others following = elim (following == 0) [
   | false ↦ told_before_each code low high alone others following (mask code) (kept_of code low high)
 ]
 
--- in bundles, where x2 is a stack pointer or not, and in words
+abbrev told_in_either : (Bool → Code) → ℕ → ℕ → ℕ → ℕ → ℕ → Bool
+told_in_either code low high alone others following =
+    told_in (code false) low high alone others following && told_in (code true) low high alone others following
+
+-- in bundles, where x2 is a stack pointer or not, and in words, where masks are single or not
 abbrev in_each_code : ℕ → ℕ → ℕ → ℕ → ℕ → Bool
 in_each_code low high alone others following =
-    told_in (bundles false) low high alone others following && (told_in (bundles true) low high alone others following && told_in words low high alone others following)
+    told_in_either bundles low high alone others following && told_in_either words low high alone others following
 
 unfoldable cell : ℕ → ℕ → ℕ → ℕ → ℕ → Bool
 cell low high alone others following =
@@ -161,9 +165,10 @@ module _ (code : Code) (low high : ℕ) (low_fits : low < 256) (high_fits : high
   each_told = told_in code low high alone others following
 
   of_code : (k : Code) → in_each_code low high alone others following ≡ true → told_in k low high alone others following ≡ true
-  of_code (bundles false) h = (and_parts _ _ h).0
-  of_code (bundles true) h = (and_parts _ _ (and_parts _ _ h).1).0
-  of_code words h = (and_parts _ _ (and_parts _ _ h).1).1
+  of_code (bundles false) h = (and_parts _ _ (and_parts _ _ h).0).0
+  of_code (bundles true) h = (and_parts _ _ (and_parts _ _ h).0).1
+  of_code (words false) h = (and_parts _ _ (and_parts _ _ h).1).0
+  of_code (words true) h = (and_parts _ _ (and_parts _ _ h).1).1
 
   zero_free : (next m keep : ℕ) → free_of 0 0 0 next m keep ≡ 0
   zero_free next m keep = rw (and_zero_l m, and_zero_l next, and_zero_l keep) refl

@@ -4,3 +4,4 @@ pub mod Cells
 pub mod Told
 pub mod Bases
 pub mod Block
+pub mod Singles

@@ -57,10 +57,10 @@ half_with code low high next l h n short some =
 
 -- ---- words
 
-abbrev word_of : ℕ → ℕ → ℕ → ℕ → ℕ
+abbrev pub word_of : ℕ → ℕ → ℕ → ℕ → ℕ
 word_of low high low2 high2 = low + 256 * high + 65536 * low2 + 16777216 * high2
 
-abbrev rs1 : ℕ → ℕ → ℕ
+abbrev pub rs1 : ℕ → ℕ → ℕ
 rs1 high low2 = high / 128 + 2 * (low2 % 16)
 
 abbrev rs2 : ℕ → ℕ → ℕ
@@ -103,32 +103,32 @@ free_access code low high low2 high2 p q r s some =
 
 -- ---- what is free, in words with the accesses whose base is told
 
-split_words : (low high next : ℕ) → (classes_with words low high next 255 == 0) ≡ false → ((classes_with words low high next 63 == 0) ≡ false) ⊎ ((access_classes words low high next == 0) ≡ false)
-split_words low high next some = split (bit_or (half_classes ALONE low high) (rest true low high)) (followed low high next) (kept_of words low high) some
+split_words : (single : Bool) (low high next : ℕ) → (classes_with (words single) low high next 255 == 0) ≡ false → ((classes_with (words single) low high next 63 == 0) ≡ false) ⊎ ((access_classes (words single) low high next == 0) ≡ false)
+split_words single low high next some = split (bit_or (half_classes ALONE low high) (rest true low high)) (followed low high next) (kept_of (words single) low high) some
 
 pub free_word : (code : Code) (low high low2 high2 : ℕ) → low < 256 → high < 256 → low2 < 256 → high2 < 256 → (low % 4 == 3) ≡ true
     → (free_classes code low high low2 high2 == 0) ≡ false → IsFreeWordBy (may_of code) (on_of code) (word_of low high low2 high2)
 free_word (bundles stack) low high low2 high2 p q r s long some = word_with (bundles stack) low high low2 high2 p q r s long some
-free_word words low high low2 high2 p q r s long some = elim (base_told high low2 q) [
-  | inl few ↦ word_with words low high low2 high2 p q r s long (ap (λ n. classes_with words low high high2 n == 0) (sym few) ∙ some)
-  | inr told ↦ elim (split_words low high high2 (ap (λ n. classes_with words low high high2 n == 0) (sym told.0) ∙ some)) [
-    | inl few ↦ word_with words low high low2 high2 p q r s long few
-    | inr access ↦ (let f = free_access words low high low2 high2 p q r s access in access_free (may_of words) (on_of words) (word_of low high low2 high2) f (base_is f told.1))
+free_word (words single) low high low2 high2 p q r s long some = elim (base_told single high low2 q) [
+  | inl few ↦ word_with (words single) low high low2 high2 p q r s long (ap (λ n. classes_with (words single) low high high2 n == 0) (sym few) ∙ some)
+  | inr told ↦ elim (split_words single low high high2 (ap (λ n. classes_with (words single) low high high2 n == 0) (sym told.0) ∙ some)) [
+    | inl few ↦ word_with (words single) low high low2 high2 p q r s long few
+    | inr access ↦ (let f = free_access (words single) low high low2 high2 p q r s access in access_free (may_of (words single)) (on_of (words single)) (word_of low high low2 high2) f (base_is f told.1))
   ]
 ]
   where
-    base_is : (f : IsFreeAccessBy (may_of words) (word_of low high low2 high2)) → on_of words (rs1 high low2) ≡ true → on_of words f.access.base ≡ true
-    base_is f h = ap (on_of words) (let b = f.base in let e : f.access.base ≡ rs1 high low2 = omega (arith, b, p, q, r, s) in e) ∙ h
+    base_is : (f : IsFreeAccessBy (may_of (words single)) (word_of low high low2 high2)) → on_of (words single) (rs1 high low2) ≡ true → on_of (words single) f.access.base ≡ true
+    base_is f h = ap (on_of (words single)) (let b = f.base in let e : f.access.base ≡ rs1 high low2 = omega (arith, b, p, q, r, s) in e) ∙ h
 
 pub free_half : (code : Code) (low high low2 next : ℕ) → low < 256 → high < 256 → next < 256 → (low % 4 == 3) ≡ false
     → (free_classes code low high low2 next == 0) ≡ false → IsFreeHalfBy (may_of code) (on_of code) (low + 256 * high)
 unfolding begins_access
 free_half (bundles stack) low high low2 next l h n short some = half_with (bundles stack) low high next l h n short some
-free_half words low high low2 next l h n short some = elim (base_told high low2 h) [
-  | inl few ↦ half_with words low high next l h n short (ap (λ m. classes_with words low high next m == 0) (sym few) ∙ some)
-  | inr told ↦ elim (split_words low high next (ap (λ m. classes_with words low high next m == 0) (sym told.0) ∙ some)) [
-    | inl few ↦ half_with words low high next l h n short few
-    | inr access ↦ (let begins = and_parts (accesses (opcode low) (funct3 high)) _ (access_begins words low high l h next n access) in
+free_half (words single) low high low2 next l h n short some = elim (base_told single high low2 h) [
+  | inl few ↦ half_with (words single) low high next l h n short (ap (λ m. classes_with (words single) low high next m == 0) (sym few) ∙ some)
+  | inr told ↦ elim (split_words single low high next (ap (λ m. classes_with (words single) low high next m == 0) (sym told.0) ∙ some)) [
+    | inl few ↦ half_with (words single) low high next l h n short few
+    | inr access ↦ (let begins = and_parts (accesses (opcode low) (funct3 high)) _ (access_begins (words single) low high l h next n access) in
         absurd (let no = sym (ap (λ m. m == 3) (access_long low (funct3 high) begins.0)) ∙ short in cc))
   ]
 ]

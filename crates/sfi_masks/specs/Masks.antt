@@ -1,4 +1,5 @@
--- What the masks of a block say of the instructions that its halfwords begin.
+-- What the masks of a block say of the instructions that its halfwords begin. A mask here is a set of
+-- halfwords, a bit for each; but a single mask is an instruction, `and d, a, x27`.
 use Rattle.std.specs.Int.{w16, w32, from_le_bytes, bit_at}
 use Rattle.std.specs.Prelude.{◌≡◌, ◌<◌, ◌*◌, ◌%◌, ◌&&◌, ◌||◌, ◌==◌, not, ℕ, List, Bool, true, false, take, drop}
 use Rattle.rv_word.specs.Outlines.{IsAccessOf, outline}
@@ -6,9 +7,12 @@ use Rattle.rv_word.specs.Spelling.{bits, IsWordOf}
 use Rattle.rv_word.specs.declared.access.Access.{Access}
 use Rattle.rv_word.specs.declared.instr.Instr.{Instr}
 use Rattle.rv_word.specs.declared.outline.Outline.{Outline}
+use Rattle.rv_word.specs.declared.instr.Instr.TheVariants.{Op}
+use Rattle.rv_word.specs.declared.instr.RegOp.TheVariants.{And}
 use Rattle.rv_word.specs.declared.outline.Outline.TheVariants.{Computes, Loads, Stores, Orders, Stops}
 use Rattle.rv_comp.specs.Fronts.{IsShortSpelling}
-use Rattle.sfi_formats.specs.Formats.{is_reserved, is_data_register, code_register, data_base_register, offset_register, stack_pointer}
+use Rattle.sfi_formats.specs.Formats.{is_reserved, is_data_register, is_data_register_in, code_register, data_base_register, data_mask_register, offset_register, stack_pointer}
+use Rattle.sfi_formats.specs.declared.format.Format.TheVariants.{Sfis}
 use Rattle.sfi_masks.specs.declared.masks.Masks.{Masks}
 
 -- halfword i of the bytes, and the word that begins there
@@ -28,7 +32,8 @@ is_in mask i = bit_at mask i == 1
 abbrev pub may_write : Bool → ℕ → Bool
 may_write stack r = not (is_reserved r) && not (stack && (r == stack_pointer))
 
--- the register is neither reserved nor typed
+-- the register is neither reserved nor typed, in each format of words: x26 is reserved in one, and typed
+-- in the other
 abbrev pub may_write_in_words : ℕ → Bool
 may_write_in_words r = not (is_reserved r)
     && not (is_data_register r || (r == code_register) || (r == offset_register))
@@ -37,10 +42,11 @@ may_write_in_words r = not (is_reserved r)
 abbrev pub may_be_on : Bool → ℕ → Bool
 may_be_on stack r = stack && (r == stack_pointer)
 
--- in words an access on the register needs nothing beside it: a data register, or the base of the
--- data
-abbrev pub may_be_on_in_words : ℕ → Bool
-may_be_on_in_words r = is_data_register r || (r == data_base_register)
+-- In words a load or a store may be on the register: a data register, or x26. Where masks are single x26
+-- and x31 are data registers; else x26 holds the base of the data.
+abbrev pub may_be_on_in_words : Bool → ℕ → Bool
+may_be_on_in_words single r =
+    is_data_register r || (r == data_base_register) || (single && (r == offset_register))
 
 -- ---- what is free
 
@@ -75,8 +81,9 @@ pub record IsFreeAccessBy (may : ℕ → Bool) (word : ℕ) : Type 0 where
   pub free : may access.written ≡ true
 
 -- What the masks tell of the block's 64 halfwords. `long` has exactly those whose two lowest bits
--- are 11; these begin no instruction of 16 bits. What `free` or `access` tells is so wherever an
--- instruction begins there, but of one of 32 bits at a bundle's last halfword they tell nothing.
+-- are 11; these begin no instruction of 16 bits. A bit of `free` or `access` tells what the bytes from
+-- that halfword on spell, whether or not an instruction begins there, but nothing of one of 32 bits at a
+-- bundle's last halfword. A bit that isn't set tells nothing.
 pub record AreMasksBy (may on : ℕ → Bool) (bytes : List ℕ) (m : Masks) : Type 0 where
   pub long : (i : ℕ) → i < 64 → is_in m.long i ≡ (half_at bytes i % 4 == 3)
   pub short :
@@ -113,9 +120,23 @@ IsFreeAccess stack word = IsFreeAccessBy (may_write stack) word
 abbrev pub AreMasks : Bool → List ℕ → Masks → Type 0
 AreMasks stack bytes m = AreMasksBy (may_write stack) (may_be_on stack) bytes m
 
--- ---- in words
+-- ---- in words, where masks of data are single or not
 
 -- What the masks tell of a block of code in words: a free instruction breaks none of V3 to V7 and
--- V10 to V12 where nothing is owed before it, and leaves nothing owed.
-abbrev pub AreMasksInWords : List ℕ → Masks → Type 0
-AreMasksInWords bytes m = AreMasksBy may_write_in_words may_be_on_in_words bytes m
+-- V10 to V12 unless the instruction before it demands another (owes a mask or a use of its register),
+-- and demands nothing itself.
+abbrev pub AreMasksInWords : Bool → List ℕ → Masks → Type 0
+AreMasksInWords single bytes m = AreMasksBy may_write_in_words (may_be_on_in_words single) bytes m
+
+-- the word is a single mask, `and d, a, x27`: d is a data register where masks are single, a any register
+pub record IsSingleMask (word : ℕ) : Type 0 where
+  pub register : ℕ
+  pub operand : ℕ
+  pub is_data : is_data_register_in Sfis register ≡ true
+  pub spelled : IsWordOf word (Op And register operand data_mask_register)
+
+-- Where a bit of `told` is set, the word from that halfword on is a single mask, but at a bundle's last
+-- halfword the bit tells nothing. A bit that isn't set tells nothing.
+abbrev pub AreSingleMasks : List ℕ → ℕ → Type 0
+AreSingleMasks bytes told =
+    (i : ℕ) → i % 8 < 7 → i < 64 → is_in told i ≡ true → IsSingleMask (word_at bytes i)

@@ -4,7 +4,7 @@ use Rattle.sfi_masks.specs.Masks.{is_in, may_write, may_write_in_words, may_be_o
 use Rattle.sfi_masks.specs.declared.masks.Masks.{Masks}
 use Rattle.sfi_masks.specs.declared.tables.ByteTable.{ByteTable}
 use Rattle.sfi_masks.specs.declared.tables.HalfTable.{HalfTable}
-use Rattle.sfi_masks.specs.declared.tables.TheConstants.{ALONE, FOLLOWED, NEXT, REST, FREE, ACCESSES, ALL, PLAIN, NO_RD, WORDS_EVEN, WORDS_ODD, ON_EVEN, ON_ODD}
+use Rattle.sfi_masks.specs.declared.tables.TheConstants.{ALONE, FOLLOWED, NEXT, REST, FREE, ACCESSES, ALL, PLAIN, NO_RD, WORDS_EVEN, WORDS_ODD, ON_EVEN, ON_ODD, ON_ODD_SINGLE, MASK, MASK_NEXT}
 
 -- ==== What the tables tell of a halfword, by its bytes.
 
@@ -25,23 +25,23 @@ half_classes t low high = bit_and (byte_classes t.low low) (byte_classes t.high 
 unfoldable pub followed : ℕ → ℕ → ℕ → ℕ
 followed low high next = bit_and (half_classes FOLLOWED low high) (byte_classes NEXT next)
 
--- code in bundles, where x2 is a stack pointer or not, or in words
+-- code in bundles, where x2 is a stack pointer or not, or in words, where masks are single or not
 pub data Code : Type 0 where
   bundles : Bool → Code
-  words : Code
+  words : Bool → Code
 
 abbrev pub may_of : Code → ℕ → Bool
 may_of (bundles stack) r = may_write stack r
-may_of words r = may_write_in_words r
+may_of (words single) r = may_write_in_words r
 
 -- a 16-bit access on x2 needs nothing beside it
 abbrev pub is_on_x2 : Code → Bool
 is_on_x2 (bundles stack) = stack
-is_on_x2 words = true
+is_on_x2 (words single) = true
 
 abbrev pub on_of : Code → ℕ → Bool
 on_of (bundles stack) r = may_be_on stack r
-on_of words r = may_be_on_in_words r
+on_of (words single) r = may_be_on_in_words single r
 
 -- bits 11:7 of the halfword are 2
 abbrev pub names_x2 : ℕ → ℕ → Bool
@@ -62,21 +62,24 @@ kept_in_words low high =
 
 abbrev pub kept_of : Code → ℕ → ℕ → ℕ
 kept_of (bundles stack) low high = kept stack low high
-kept_of words low high = kept_in_words low high
+kept_of (words single) low high = kept_in_words low high
 
 unfoldable pub rest : Bool → ℕ → ℕ → ℕ
 rest stack low high = bit_and (half_classes REST low high) (if stack then ALL else PLAIN)
 
 -- the classes of FOLLOWED that are free in words: those that compute, and the accesses where bits 19:15
 -- name a base that needs nothing beside it; a table each for odd and even numbers
-unfoldable pub free_in_words : ℕ → ℕ → ℕ
-free_in_words high low2 =
-    if bit_and high 128 == 128 then slice_index ON_ODD (bit_and low2 15)
+abbrev pub on_odd : Bool → List ℕ
+on_odd single = if single then ON_ODD_SINGLE else ON_ODD
+
+unfoldable pub free_in_words : Bool → ℕ → ℕ → ℕ
+free_in_words single high low2 =
+    if bit_and high 128 == 128 then slice_index (on_odd single) (bit_and low2 15)
     else slice_index ON_EVEN (bit_and low2 15)
 
 abbrev pub free_followed : Code → ℕ → ℕ → ℕ
 free_followed (bundles stack) high low2 = FREE
-free_followed words high low2 = free_in_words high low2
+free_followed (words single) high low2 = free_in_words single high low2
 
 -- the classes by which a halfword is seen to be free, where these of FOLLOWED are
 abbrev pub classes_with : Code → ℕ → ℕ → ℕ → ℕ → ℕ
@@ -105,6 +108,16 @@ pub record AreSeen (code : Code) (byte : ℕ → ℕ) (m : Masks) : Type 0 where
   pub access :
       (i : ℕ) → i < 16 → is_in m.access i
       ≡ not (access_classes code (byte (2 * i)) (byte (2 * i + 1)) (byte (2 * ((i + 1) % 16) + 1)) == 0)
+
+-- the classes by which a halfword begins a single mask, by its two bytes and the two after them
+unfoldable pub mask_classes : ℕ → ℕ → ℕ → ℕ → ℕ
+mask_classes low high low2 high2 = bit_and (half_classes MASK low high) (half_classes MASK_NEXT low2 high2)
+
+-- of 32 bytes: where single masks begin, as in AreSeen
+abbrev pub AreMasksSeen : (ℕ → ℕ) → ℕ → Type 0
+AreMasksSeen byte told =
+    (i : ℕ) → i < 16 → is_in told i
+    ≡ not (mask_classes (byte (2 * i)) (byte (2 * i + 1)) (byte (2 * ((i + 1) % 16))) (byte (2 * ((i + 1) % 16) + 1)) == 0)
 
 -- of four numbers the one with this index
 abbrev pub of_four : ℕ → ℕ → ℕ → ℕ → ℕ → ℕ

@@ -1,11 +1,11 @@
 //! Steps on vectors of sixteen bytes, by their lanes.
 ghost use Rattle.std.specs.Prelude.{◌≡◌, ℕ, ◌+◌, ◌*◌, ◌%◌, ◌^◌, ◌<◌, ◌==◌, not, length, slice_index, bit_and};
 ghost use Rattle.sfi_masks.specs.Masks.{is_in};
-ghost use Rattle.sfi_masks.specs.private.{HasLanes, byte_classes, half_classes, followed, free_in_words, kept, kept_in_words, rest};
+ghost use Rattle.sfi_masks.specs.private.{HasLanes, byte_classes, half_classes, followed, free_in_words, kept, kept_in_words, mask_classes, rest};
 
 use crate::tables::{
-    ALL, ByteTable, FOLLOWED, HalfTable, NEXT, NO_RD, ON_EVEN, ON_ODD, PLAIN, REST, WORDS_EVEN,
-    WORDS_ODD,
+    ALL, ByteTable, FOLLOWED, HalfTable, MASK, MASK_NEXT, NEXT, NO_RD, ON_EVEN, ON_ODD,
+    ON_ODD_SINGLE, PLAIN, REST, WORDS_EVEN, WORDS_ODD,
 };
 use std::simd::prelude::*;
 
@@ -59,17 +59,30 @@ pub(crate) fn followed_classes(low: u8x16, high: u8x16) -> u8x16
 }
 
 /// Which classes of [`FOLLOWED`] are free in code in words: the accesses too where their base is
-/// one of a few registers.
+/// one of a few registers, of which x31 is one where masks are `single`.
 #[inline(always)]
-pub(crate) fn free_in_words(low: u8x16, high: u8x16) -> u8x16
+pub(crate) fn free_in_words(single: bool, low: u8x16, high: u8x16) -> u8x16
     ensures { HasLanes result
-        (λ i. free_in_words (slice_index high i) (slice_index low ((i + 1) % 16))) }
+        (λ i. free_in_words single (slice_index high i) (slice_index low ((i + 1) % 16))) }
 {
-    let odd = look_up_lanes(ON_ODD, low & u8x16::splat(15)).rotate_elements_left::<1>();
+    let on_odd = if single { ON_ODD_SINGLE } else { ON_ODD };
+    let odd = look_up_lanes(on_odd, low & u8x16::splat(15)).rotate_elements_left::<1>();
     let even = look_up_lanes(ON_EVEN, low & u8x16::splat(15)).rotate_elements_left::<1>();
     (high & u8x16::splat(0x80))
         .simd_eq(u8x16::splat(0x80))
         .select(odd, even)
+}
+
+/// The classes of each halfword by which it begins a single mask, by the next halfword too; the first
+/// counts as the next of the last.
+#[inline(always)]
+pub(crate) fn mask_classes(low: u8x16, high: u8x16) -> u8x16
+    ensures { HasLanes result
+        (λ i. mask_classes (slice_index low i) (slice_index high i)
+        (slice_index low ((i + 1) % 16)) (slice_index high ((i + 1) % 16))) }
+{
+    let next = classes_of_halfwords(MASK_NEXT, low, high).rotate_elements_left::<1>();
+    classes_of_halfwords(MASK, low, high) & next
 }
 
 /// The classes of each halfword that are free in this format only, or not by their first bits.

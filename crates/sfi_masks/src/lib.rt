@@ -10,4 +10,4 @@ mod lanes;
 mod masks;
 mod tables;
 
-pub use masks::{BLOCK_BYTES, Masks, masks_of, word_masks_of};
+pub use masks::{BLOCK_BYTES, Masks, masks_of, single_masks_of, word_masks_of};

@@ -1,11 +1,11 @@
 //! The masks of a block of eight bundles.
 ghost use Rattle.std.specs.Prelude.{◌≡◌, ℕ, ◌/◌, ◌%◌, ◌^◌, ◌<◌, length, slice_index};
-ghost use Rattle.sfi_masks.specs.Masks.{AreMasks, AreMasksInWords, is_in};
-ghost use Rattle.sfi_masks.specs.private.{AreSeen, bundles, words, of_four};
+ghost use Rattle.sfi_masks.specs.Masks.{AreMasks, AreMasksInWords, AreSingleMasks, is_in};
+ghost use Rattle.sfi_masks.specs.private.{AreMasksSeen, AreSeen, bundles, words, of_four};
 
 use crate::lanes::{
     bits_of, classes_of_halfwords, followed_classes, free_in_words, kept_classes, kept_in_words,
-    long_bits, low_and_high, rest_classes,
+    long_bits, low_and_high, mask_classes, rest_classes,
 };
 use crate::tables::{ACCESSES, ALONE, FREE};
 use std::simd::prelude::*;
@@ -18,8 +18,8 @@ pub const BLOCK_BYTES: usize = 128;
 pub struct Masks {
     /// Its two lowest bits are 11: it begins no instruction of 16 bits.
     pub long: u64,
-    /// It begins an instruction that breaks no rule: in a plain bundle whatever stands beside it,
-    /// in words where nothing is owed before it, and then it leaves nothing owed.
+    /// It begins an instruction that breaks no rule by itself: in a plain bundle whatever stands beside
+    /// it, in words where nothing is owed before it, and then it leaves nothing owed.
     pub free: u64,
     /// It begins a load or a store of 32 bits that writes no register that it may not.
     pub access: u64,
@@ -45,22 +45,34 @@ fn masks_of_quarter(stack: bool, bytes: &[u8]) -> Masks
 }
 
 /// The masks of a quarter of a block of code in words: 16 halfwords, in the low bits of each mask.
+/// `single` says whether masks of data are single.
 #[inline(always)]
-fn word_masks_of_quarter(bytes: &[u8]) -> Masks
+fn word_masks_of_quarter(single: bool, bytes: &[u8]) -> Masks
     requires { length bytes.now ≡ 32 }
-    ensures { AreSeen words (λ k. slice_index bytes.now k) result }
+    ensures { AreSeen (words single) (λ k. slice_index bytes.now k) result }
 {
     let (low, high) = low_and_high(bytes);
     let alone = classes_of_halfwords(ALONE, low, high);
     let followed = followed_classes(low, high);
     let rest = rest_classes(true, low, high);
-    let free = free_in_words(low, high);
+    let free = free_in_words(single, low, high);
     let kept = kept_in_words(low, high);
     Masks {
         long: long_bits(low),
         free: bits_of((alone | rest | followed & free) & kept),
         access: bits_of(followed & u8x16::splat(ACCESSES) & kept),
     }
+}
+
+/// Where single masks begin in a quarter of a block: 16 halfwords, in the low bits.
+#[inline(always)]
+fn single_masks_of_quarter(bytes: &[u8]) -> u64
+    requires { length bytes.now ≡ 32 }
+    ensures small { result < 2 ^ 16 }
+    ensures seen { AreMasksSeen (λ k. slice_index bytes.now k) result }
+{
+    let (low, high) = low_and_high(bytes);
+    bits_of(mask_classes(low, high))
 }
 
 /// Four numbers of 16 bits side by side, the first lowest.
@@ -92,18 +104,33 @@ pub fn masks_of(stack: bool, block: &[u8; BLOCK_BYTES]) -> Masks
     }
 }
 
-/// The masks of the block's halfwords in code in words, where accesses on data registers are free.
+/// The masks of the block's halfwords in code in words, where accesses on data registers and on x26 are
+/// free; `SINGLE` says whether masks of data are single. It is compiled for each apart, so that it is part
+/// of a caller that has one alone.
 #[inline(always)]
-pub fn word_masks_of(block: &[u8; BLOCK_BYTES]) -> Masks
-    ensures { AreMasksInWords block.now result }
+pub fn word_masks_of<const SINGLE: bool>(block: &[u8; BLOCK_BYTES]) -> Masks
+    ensures { AreMasksInWords SINGLE block.now result }
 {
-    let first = word_masks_of_quarter(&block[..32]);
-    let second = word_masks_of_quarter(&block[32..64]);
-    let third = word_masks_of_quarter(&block[64..96]);
-    let fourth = word_masks_of_quarter(&block[96..]);
+    let first = word_masks_of_quarter(SINGLE, &block[..32]);
+    let second = word_masks_of_quarter(SINGLE, &block[32..64]);
+    let third = word_masks_of_quarter(SINGLE, &block[64..96]);
+    let fourth = word_masks_of_quarter(SINGLE, &block[96..]);
     Masks {
         long: four_quarters(first.long, second.long, third.long, fourth.long),
         free: four_quarters(first.free, second.free, third.free, fourth.free),
         access: four_quarters(first.access, second.access, third.access, fourth.access),
     }
+}
+
+/// Where single masks of data registers begin, `and d, a, x27`: of each of the block's 64 halfwords a
+/// bit, the lowest for the first. That of a bundle's last halfword tells nothing.
+#[inline(always)]
+pub fn single_masks_of(block: &[u8; BLOCK_BYTES]) -> u64
+    ensures { AreSingleMasks block.now result }
+{
+    let first = single_masks_of_quarter(&block[..32]);
+    let second = single_masks_of_quarter(&block[32..64]);
+    let third = single_masks_of_quarter(&block[64..96]);
+    let fourth = single_masks_of_quarter(&block[96..]);
+    four_quarters(first, second, third, fourth)
 }

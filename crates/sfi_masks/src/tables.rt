@@ -179,7 +179,36 @@ pub(crate) const ON_ODD: [u8; 16] = [
     FREE, ALL, FREE, FREE, FREE, FREE, FREE, FREE, FREE, FREE, FREE, FREE, FREE, FREE, ALL, FREE,
 ];
 
+/// `ON_ODD` where masks are single: accesses on x31 too.
+pub(crate) const ON_ODD_SINGLE: [u8; 16] = [
+    FREE, ALL, FREE, FREE, FREE, FREE, FREE, FREE, FREE, FREE, FREE, FREE, FREE, FREE, ALL, ALL,
+];
+
 /// `ON_ODD` where bits 19:15 name an even register: accesses on x2, x4 and x26.
 pub(crate) const ON_EVEN: [u8; 16] = [
     FREE, ALL, ALL, FREE, FREE, FREE, FREE, FREE, FREE, FREE, FREE, FREE, FREE, ALL, FREE, FREE,
+];
+
+/// The first halfwords of single masks, `and d, a, x27`: d is x2, x4 or x26, or x3, x29 or x31.
+pub(crate) const MASK: HalfTable = half_table![
+    [1 << 3, 0x0008, 0b0010_0000_0000_0110, 0x8080],
+    [1 << 3, 0x0800, 0b1100_0000_0000_0010, 0x8080],
+    [NONE, NONE, NONE, NONE],
+    [NONE, NONE, NONE, NONE],
+    [NONE, NONE, NONE, NONE],
+    [NONE, NONE, NONE, NONE],
+    [NONE, NONE, NONE, NONE],
+    [NONE, NONE, NONE, NONE]
+];
+
+/// Their second halfwords, by the same classes: bits 24:20 name x27, and funct7 is 0.
+pub(crate) const MASK_NEXT: HalfTable = half_table![
+    [ANY, 1 << 11, 1 << 1, 1 << 0],
+    [ANY, 1 << 11, 1 << 1, 1 << 0],
+    [NONE, NONE, NONE, NONE],
+    [NONE, NONE, NONE, NONE],
+    [NONE, NONE, NONE, NONE],
+    [NONE, NONE, NONE, NONE],
+    [NONE, NONE, NONE, NONE],
+    [NONE, NONE, NONE, NONE]
 ];

@@ -2,12 +2,12 @@
 use Rattle.sfi_scan.proofs.Prelude.{◌≡◌, ℕ, ◌+◌, ◌*◌, ◌/◌, ◌%◌, ◌<◌, Bool, true, false, not, ◌&&◌, ◌||◌, ◌==◌, ◌⊎◌, List, length, take, drop, refl, sym, ap, ◌∙◌, subst, inl, inr, arith, w16, w32, from_le_bytes, and_parts, length-take, length-drop, take-take, drop-drop, drop-take, Instr, Op, And, outline, IsWordOf, is_reserved, BundlePlace, bundle_at, IsWithinBlock, OnTrue, half_at, word_at as word_from, and_from, Outline, Computes, Loads, IsShortSpelling, is_data_register, Owed, Nothing, MaskOrUse, Code, IsCleanWord, IsSteppedWord, IsPairAt, is_reserved_or_typed, is_clean_alone, IsBeforeEnd, IsQuiet, IsQuietThere}
 use Rattle.rv_word.specs.declared.outline.Outline.TheVariants.{Stores, Orders, Stops}
 use Rattle.rv_word.proofs.Facts.{one_spelling}
-use Rattle.sfi_masks.specs.Masks.{half_at as block_half, word_at, may_write_in_words, may_be_on_in_words, is_free_by, IsFreeHalfBy, IsFreeWordBy}
+use Rattle.sfi_masks.specs.Masks.{half_at as block_half, word_at, may_write_in_words, may_be_on_in_words, is_free_by, IsFreeHalfBy, IsFreeWordBy, IsSingleMask}
 use Rattle.sfi_rules.specs.words.Rules.{may_access}
 use Rattle.sfi_scan.specs.private.Words.{bytes_at, IsQuietWord, IsMasking, IsPlacing, IsPair, IsStepOf, IsUseOf, IsUsedStep, IsCleanHalfAlone}
 use Rattle.sfi_formats.specs.declared.format.Format.{Format}
 use Rattle.sfi_formats.specs.Formats.{has_single_mask, is_data_register_in}
-use Rattle.sfi_scan.proofs.WordLook.{quiet_word, found_wide, found_halves, masking, placing, placing_code, masked, placed, stepping, code_owed, owing, plain, used}
+use Rattle.sfi_scan.proofs.WordLook.{quiet_word, found_wide, found_halves, masking, placing, placing_code, masked, placed, single, single_alone, stepping, code_owed, owing, plain, used}
 
 -- ---- what the masks tell to be free is plain
 
@@ -18,26 +18,32 @@ unkept r may = sym (none_of (is_reserved r) (is_data_register r) (r == 30) (r ==
     none_of true q r s = refl
     none_of false q r s = refl
 
-on_base : (f : Format) (base : ℕ) → may_be_on_in_words base ≡ true → may_access f base ≡ true
-on_base f base h = by (is_data_register base) (base == 26) (((base == 26) || (base == 31)) && has_single_mask f) h
-  where
-    by : (p q x : Bool) → (p || q) ≡ true → (p || x || q) ≡ true
-    by true q x h = refl
-    by false true true h = refl
-    by false true false h = refl
-    by false false x h = absurd cc
+-- an access on the register needs nothing beside it, in code in words of this format
+abbrev on : Format → ℕ → Bool
+on f r = may_be_on_in_words (has_single_mask f) r
 
-free_plain : (b : BundlePlace) (at : ℕ) (o : Outline) → is_free_by may_write_in_words may_be_on_in_words o ≡ true → is_clean_alone b at o ≡ true
+on_base : (f : Format) (base : ℕ) → on f base ≡ true → may_access f base ≡ true
+on_base f base h = by (is_data_register base) (base == 26) (base == 31) (has_single_mask f) h
+  where
+    by : (p q r s : Bool) → (p || q || (s && r)) ≡ true → (p || ((q || r) && s) || q) ≡ true
+    by true q r s h = refl
+    by false true r true h = refl
+    by false true r false h = refl
+    by false false true true h = refl
+    by false false false true h = absurd cc
+    by false false r false h = absurd cc
+
+free_plain : (b : BundlePlace) (at : ℕ) (o : Outline) → is_free_by may_write_in_words (on b.format) o ≡ true → is_clean_alone b at o ≡ true
 free_plain b at (Computes rd) h = unkept rd h
 free_plain b at (Loads rd base) h =
-    let both = and_parts (may_write_in_words rd) (may_be_on_in_words base) h in
+    let both = and_parts (may_write_in_words rd) (on b.format base) h in
     and_from (not (is_reserved_or_typed rd)) (may_access b.format base) (unkept rd both.0) (on_base b.format base both.1)
 free_plain b at (Stores base) h = on_base b.format base h
 free_plain b at Orders h = refl
 free_plain b at Stops h = refl
 free_plain b at o h = absurd cc
 
-half_plain : (b : BundlePlace) (at half there : ℕ) → half ≡ there → IsFreeHalfBy may_write_in_words may_be_on_in_words half → IsCleanHalfAlone b at there
+half_plain : (b : BundlePlace) (at half there : ℕ) → half ≡ there → IsFreeHalfBy may_write_in_words (on b.format) half → IsCleanHalfAlone b at there
 half_plain b at half there e x = record { instr = x.instr; spelled = subst (λ (h : ℕ). IsShortSpelling h x.instr) e x.spelled; plain = free_plain b at (outline x.instr) x.free }
 
 -- ---- the words of a block
@@ -69,7 +75,7 @@ module _ (b : BundlePlace) (within : IsWithinBlock b) (block : List ℕ) (long :
   pub step_clean : (d : ℕ) → is_data_register_in b.format d ≡ true → IsStepOf d (word_at block i) → IsCleanWord b block i Nothing (MaskOrUse d)
   step_clean d h s = word_leads Nothing (MaskOrUse d) s.0 s.1 (stepping word_bundle word_address 4 before d s.0 h s.2)
 
-  pub use_clean : (d : ℕ) → IsUseOf d (word_at block i) → IsFreeWordBy may_write_in_words may_be_on_in_words (word_at block i) → IsCleanWord b block i (MaskOrUse d) Nothing
+  pub use_clean : (d : ℕ) → IsUseOf d (word_at block i) → IsFreeWordBy may_write_in_words (on b.format) (word_at block i) → IsCleanWord b block i (MaskOrUse d) Nothing
   use_clean d u f =
       let same : u.0 ≡ f.instr = one_spelling (word_at block i) u.0 f.instr u.1 f.spelled in
       word_leads (MaskOrUse d) Nothing u.0 u.1 (used word_bundle word_address 4 d u.0 before u.2 (ap (λ (x : Instr). is_clean_alone word_bundle word_address (outline x)) same ∙ free_plain word_bundle word_address (outline f.instr) f.free))
@@ -83,8 +89,14 @@ module _ (b : BundlePlace) (within : IsWithinBlock b) (block : List ℕ) (long :
   pub code_placing_quiet : IsWordOf (word_at block i) placing_code → IsQuietWord b block i
   code_placing_quiet is = word_leads Nothing Nothing placing_code is (owing word_bundle word_address 4 before 30 placing_code Nothing refl refl refl)
 
-  pub free_word_quiet : IsFreeWordBy may_write_in_words may_be_on_in_words (word_at block i) → IsQuietWord b block i
+  pub free_word_quiet : IsFreeWordBy may_write_in_words (on b.format) (word_at block i) → IsQuietWord b block i
   free_word_quiet f = word_leads Nothing Nothing f.instr f.spelled (plain word_bundle word_address 4 f.instr before (free_plain word_bundle word_address (outline f.instr) f.free))
+
+  pub single_mask_quiet : has_single_mask b.format ≡ true → IsSingleMask (word_at block i) → IsQuietWord b block i
+  single_mask_quiet one m =
+      let d = m.register in
+      let has : is_data_register_in b.format d ≡ true = ap (λ s. is_data_register d || (((d == 26) || (d == 31)) && s)) one ∙ m.is_data in
+      word_leads Nothing Nothing (single d m.operand) m.spelled (single_alone word_bundle word_address 4 before d m.operand one has)
 
   pub masking_quiet : IsMasking (word_at block i) → IsQuietWord b block i
   masking_quiet m = word_leads Nothing Nothing (masking m.0) m.1 (masked word_bundle word_address 4 before m.0)
@@ -100,7 +112,7 @@ module _ (b : BundlePlace) (within : IsWithinBlock b) (block : List ℕ) (long :
       ap (from_le_bytes w16) (sym (ap (take 2) (drop-take 2 2 (drop (2 * i) block)) ∙ take-take 2 2 (drop 2 (drop (2 * i) block)) (omega arith)
       ∙ ap (take 2) (drop-drop 2 (2 * i) block ∙ ap (λ (k : ℕ). drop k block) (let e : 2 * i + 2 ≡ 2 * (i + 1) = omega arith in e))))
 
-  pub free_halves_quiet : IsFreeHalfBy may_write_in_words may_be_on_in_words (block_half block i) → IsFreeHalfBy may_write_in_words may_be_on_in_words (block_half block (i + 1)) → IsQuietWord b block i
+  pub free_halves_quiet : IsFreeHalfBy may_write_in_words (on b.format) (block_half block i) → IsFreeHalfBy may_write_in_words (on b.format) (block_half block (i + 1)) → IsQuietWord b block i
   free_halves_quiet x y = found_halves word_bundle word_address (bytes_at block i) whole before (half_plain word_bundle word_address _ _ first_half x) (half_plain word_bundle (word_address + 2) _ _ second_half y)
 
 -- ---- pairs
@@ -131,7 +143,7 @@ module _ (b : BundlePlace) (within : IsWithinBlock b) (block : List ℕ) (i : �
   ]
 
 -- a step and its use
-pub stepped : (b : BundlePlace) → IsWithinBlock b → (block : List ℕ) (i word next : ℕ) → length block ≡ 128 → i % 2 ≡ 0 → i + 2 < 64 → word ≡ word_at block i → next ≡ word_at block (i + 2) → IsFreeWordBy may_write_in_words may_be_on_in_words (word_at block (i + 2)) → IsUsedStep b.format word next → IsSteppedWord b block i
+pub stepped : (b : BundlePlace) → IsWithinBlock b → (block : List ℕ) (i word next : ℕ) → length block ≡ 128 → i % 2 ≡ 0 → i + 2 < 64 → word ≡ word_at block i → next ≡ word_at block (i + 2) → IsFreeWordBy may_write_in_words (on b.format) (word_at block (i + 2)) → IsUsedStep b.format word next → IsSteppedWord b block i
 stepped b within block i word next long even below first second f h = record {
   below = below;
   between = MaskOrUse h.register;

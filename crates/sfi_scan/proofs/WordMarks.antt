@@ -6,11 +6,12 @@ use Rattle.sfi_scan.specs.private.Words.{IsSeen, IsQuietWord, IsToldFree}
 use Rattle.sfi_scan.proofs.Marks.{in_shr, in_zero, in_or, in_rest, in_rest_other, in_shl, in_shl_low, shl}
 use Rattle.std.specs.Int.RustNames.{bit_or}
 use Rattle.std.proofs.lemmas.Bool.{cases_Bool, or_cases, or_right}
-use Rattle.sfi_masks.specs.Masks.{AreMasksInWords}
+use Rattle.sfi_formats.specs.Formats.{has_single_mask}
+use Rattle.sfi_masks.specs.Masks.{AreMasksInWords, IsSingleMask, word_at}
 use Rattle.sfi_masks.specs.declared.masks.Masks.{Masks}
 use Rattle.sfi_scan.specs.declared.block.TheConstants.{EVEN}
 use Rattle.sfi_scan.proofs.Starts.{stays, taken}
-use Rattle.sfi_scan.proofs.WordBlock.{free_word_quiet, free_halves_quiet, first_of_pair, second_of_pair}
+use Rattle.sfi_scan.proofs.WordBlock.{free_word_quiet, free_halves_quiet, single_mask_quiet, first_of_pair, second_of_pair}
 
 -- ==== From one word of a block that has to be looked at to the next.
 
@@ -142,13 +143,21 @@ pub told_free : (m : Masks) (short left : ℕ) → IsWithout m.free m.long short
     → (n : ℕ) → n < 32 → is_in left (2 * n) ≡ false → IsToldFree m (2 * n)
 told_free m short left first second n lt none = told m short (2 * n) first (omega (arith, lt)) (taken EVEN (bit_and m.free (bit_or m.long (short / 2))) left (2 * n) second (omega (arith, lt)) (in_even n lt) none)
 
-pub told_quiet : (b : BundlePlace) → IsWithinBlock b → (block : List ℕ) (m : Masks) (n : ℕ) → length block ≡ 128 → AreMasksInWords block m → n < 32 → IsToldFree m (2 * n) → IsQuietWord b block (2 * n)
+pub told_quiet : (b : BundlePlace) → IsWithinBlock b → (block : List ℕ) (m : Masks) (n : ℕ) → length block ≡ 128 → AreMasksInWords (has_single_mask b.format) block m → n < 32 → IsToldFree m (2 * n) → IsQuietWord b block (2 * n)
 told_quiet b within block m n long are lt h = elim (cases_Bool (is_in m.long (2 * n))) [
   | inl wide ↦ free_word_quiet b within block long (2 * n) (omega arith) (omega (arith, lt)) (are.word (2 * n) (omega (arith, lt)) (omega (arith, lt)) h.0 wide)
   | inr short ↦ elim h.1 [
     | inl wide ↦ absurd (both_ways (is_in m.long (2 * n)) short wide)
     | inr second ↦ free_halves_quiet b within block long (2 * n) (omega arith) (omega (arith, lt)) (are.short (2 * n) (omega (arith, lt)) h.0 short) (are.short (2 * n + 1) (omega (arith, lt)) second.1 second.0)
   ]
+]
+
+-- where masks are single, these are quiet too
+pub told_or_mask : (b : BundlePlace) → IsWithinBlock b → (block : List ℕ) (m : Masks) (words left n : ℕ) → length block ≡ 128 → AreMasksInWords (has_single_mask b.format) block m
+    → ((i : ℕ) → i % 8 < 7 → i < 64 → is_in words i ≡ true → is_in left i ≡ false → (has_single_mask b.format ≡ true) × IsSingleMask (word_at block i)) → ((k : ℕ) → k < 32 → is_in words (2 * k) ≡ false → IsToldFree m (2 * k)) → n < 32 → is_in left (2 * n) ≡ false → IsQuietWord b block (2 * n)
+told_or_mask b within block m words left n long are masks free lt none = elim (cases_Bool (is_in words (2 * n))) [
+  | inl there ↦ (let mask = masks (2 * n) (omega (arith, lt)) (omega (arith, lt)) there none in single_mask_quiet b within block long (2 * n) (omega arith) (omega (arith, lt)) mask.0 mask.1)
+  | inr gone ↦ told_quiet b within block m n long are lt (free n lt gone)
 ]
 
 -- what was not in it, or was taken out, is not left

@@ -87,6 +87,10 @@ words_in_part sandbox p b xs k (suc n) front found between next places bytes bef
     subst (λ (m : ℕ). AreFoundOfFirst sandbox p m (front ++ found) next) (let e : suc (k + n) ≡ k + suc n = omega arith in e) (front ++ are.0, are.1, are.2, more, one, found_is)
 
 -- the findings of a part's first `k` bundles, followed by those of a stretch that lies after them,
+pub same_format : (b : BundlePlace) (n : ℕ) → (stretch_place b n).format ≡ b.format
+same_format b zero = refl
+same_format b (suc n) = refl
+
 -- in any format
 pub found_in_part : (sandbox : ℕ) (p : Part) (b : BundlePlace) (xs : List ℕ) (k n : ℕ) (front found : List Finding) (between next : Owed) → b.format ≡ p.format
     → ((i : ℕ) → i < n → stretch_place b i ≡ bundle_place sandbox p (k + i)) → ((i : ℕ) → i < n → block_bundle xs i ≡ bundle_bytes p (k + i))

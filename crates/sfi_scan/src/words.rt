@@ -1,5 +1,6 @@
 //! The scan of code in words, 16 bytes at a time.
 ghost use Rattle.std.specs.Prelude.{◌≡◌, ◌*◌, ◌≤◌, ◌<◌, ℕ, IfSome, length};
+ghost use Rattle.sfi_formats.specs.Formats.{has_single_mask};
 ghost use Rattle.sfi_formats.specs.Limits.{bundle_size};
 ghost use Rattle.sfi_rules.specs.Readings.{IsWithin};
 ghost use Rattle.sfi_rules.specs.words.Findings.{AreFoundInBundle};
@@ -69,41 +70,44 @@ fn scan_bundle_of_words<F: FindingSink>(
 /// Looks at the next block of the stretch from byte `at` on, or at its last one where fewer than
 /// eight bundles are left. If it is clean: the offset after it, and what is owed there.
 #[inline(always)]
-fn look_at_next_block(
+fn look_at_next_block<const SINGLE: bool>(
     place: &BundlePlace,
     code: &[u8],
     at: usize,
     owed: Owed,
     findings: &mut BundleFindings,
 ) -> Option<(usize, Owed)>
-    requires { (n : ℕ) × (k : ℕ) × IsStretch place.now code.now n × (at ≡ bundle_size * k) × (k < n) }
+    requires single { SINGLE ≡ has_single_mask place.now.format }
+    requires stretch { (n : ℕ) × (k : ℕ) × IsStretch place.now code.now n × (at ≡ bundle_size * k) × (k < n) }
     ensures { (k : ℕ) → at ≡ bundle_size * k → IfSome result (λ seen.
         IsFrontClean place.now owed code.now k seen.0 seen.1) }
 {
     let start = block_start::<IN_BLOCKS>(place, code, at)?;
     let first = place_after(place, start);
     let block = bytes_from::<BLOCK_BYTES>(code, start);
-    let next = look_at_block(&first, block, (at - start) / 4, owed, findings)?;
+    let next = look_at_block::<SINGLE>(&first, block, (at - start) / 4, owed, findings)?;
     Some((start + BLOCK_BYTES, next))
 }
 
 /// Looks at blocks of the stretch from byte `at` on, until one isn't seen to be clean: the offset
-/// of that, and what is owed there. It is compiled once for all sinks.
+/// of that, and what is owed there. It is compiled once for all sinks, and for single masks and others
+/// apart, so that each loop holds its own tables.
 #[inline(never)]
-fn skip_clean_blocks(
+fn skip_clean_blocks<const SINGLE: bool>(
     place: &BundlePlace,
     code: &[u8],
     at: usize,
     owed: Owed,
     findings: &mut BundleFindings,
 ) -> (usize, Owed)
-    requires { (n : ℕ) × (k : ℕ) × IsStretch place.now code.now n × (at ≡ bundle_size * k) × (k < n) }
+    requires single { SINGLE ≡ has_single_mask place.now.format }
+    requires stretch { (n : ℕ) × (k : ℕ) × IsStretch place.now code.now n × (at ≡ bundle_size * k) × (k < n) }
     ensures { (k : ℕ) → at ≡ bundle_size * k → IsRunClean place.now owed code.now k result.0 result.1 }
 {
     let mut end = at;
     let mut left = owed;
     while end < code.len() {
-        let Some((to, next)) = look_at_next_block(place, code, end, left, findings) else {
+        let Some((to, next)) = look_at_next_block::<SINGLE>(place, code, end, left, findings) else {
             return (end, left);
         };
         end = to;
@@ -125,10 +129,12 @@ fn skip_clean_code<const BLOCKS: bool>(
     requires { (n : ℕ) × (k : ℕ) × IsStretch place.now code.now n × (at ≡ bundle_size * k) × (k < n) }
     ensures { (k : ℕ) → at ≡ bundle_size * k → IsRunClean place.now owed code.now k result.0 result.1 }
 {
-    if BLOCKS {
-        skip_clean_blocks(place, code, at, owed, findings)
-    } else {
+    if !BLOCKS {
         (at, owed)
+    } else if place.format.has_single_mask() {
+        skip_clean_blocks::<true>(place, code, at, owed, findings)
+    } else {
+        skip_clean_blocks::<false>(place, code, at, owed, findings)
     }
 }
 

@@ -20,14 +20,14 @@ abbrev pub code_of : SfiBounds → Span
 code_of b = record { base = b.code_base; size = b.code_size }
 
 -- the format of that number; each but 1, 2 and 3 counts as that of the fourth, which asks most of others
-abbrev pub format_of : ℕ → Format
-format_of number =
+abbrev pub format_numbered : ℕ → Format
+format_numbered number =
     if number == 1 then Sfi1 else if number == 2 then Sfi2 else if number == 3 then Sfiw else Sfis
 
 -- where it lies, and its image's format
 abbrev pub bounds_of : SfiBounds → Bounds
 bounds_of b = record {
-  format = format_of b.format;
+  format = format_numbered b.format;
   code_base = b.code_base;
   code_size = b.code_size;
   data_base = b.data_base;
@@ -42,7 +42,7 @@ LieApart one other = AreBoundsApart (bounds_of one) (bounds_of other)
 -- its multiples a unit begins in each format
 abbrev pub unit_of : ℕ → ℕ
 unit_of number =
-    if (number == 3) || (number == 4) then unit (format_of number) else bundle_size
+    if (number == 3) || (number == 4) then unit (format_numbered number) else bundle_size
 
 -- ==== States of a version.
 

@@ -1,6 +1,6 @@
 //! Where the code and data of a version lie, and that those of two lie apart.
 ghost use Rattle.std.specs.Prelude.{◌≡◌, ◌↔◌, IsTrue};
-ghost use Rattle.sfi_slots.specs.Slots.{format_of, bounds_of, LieApart};
+ghost use Rattle.sfi_slots.specs.Slots.{format_numbered, bounds_of, LieApart};
 
 use sfi_formats::Format;
 use sfi_image::{Bounds, are_bounds_apart};
@@ -22,8 +22,8 @@ pub struct SfiBounds {
 }
 
 /// The format of that number.
-pub(crate) fn format_of(number: u32) -> Format
-    ensures { result ≡ format_of number }
+pub(crate) fn format_numbered(number: u32) -> Format
+    ensures { result ≡ format_numbered number }
 {
     match number {
         1 => Format::Sfi1,
@@ -38,7 +38,7 @@ fn bounds_of(bounds: &SfiBounds) -> Bounds
     ensures { result ≡ bounds_of bounds.now }
 {
     Bounds {
-        format: format_of(bounds.format),
+        format: format_numbered(bounds.format),
         code_base: bounds.code_base,
         code_size: bounds.code_size,
         data_base: bounds.data_base,

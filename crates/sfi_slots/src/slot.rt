@@ -3,7 +3,7 @@ ghost use Rattle.std.specs.Prelude.{◌≡◌, ◌≢◌, ◌<◌, ◌↔◌, �
 ghost use Rattle.sfi_slots.specs.declared.slot.SfiSlot.{SfiSlot};
 ghost use Rattle.sfi_slots.specs.Slots.{IsKept, IsApartFrom, IsApartFromSlot, IsApartFromOthers, MayEnter, new_version, unit_of};
 
-use crate::bounds::{SfiBounds, format_of, lie_apart};
+use crate::bounds::{SfiBounds, format_numbered, lie_apart};
 use sfi_formats::BUNDLE_SIZE;
 
 /// A version's state where there is none.
@@ -148,7 +148,7 @@ fn unit_of(number: u32) -> u32
     ensures positive { 0 < result }
 {
     if number == 3 || number == 4 {
-        format_of(number).unit()
+        format_numbered(number).unit()
     } else {
         BUNDLE_SIZE
     }

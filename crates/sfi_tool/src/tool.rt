@@ -24,7 +24,9 @@ fn status_after_writing<W: Write>(writer: &mut W, status: u8, output: &[u8]) -> 
     if write_out(writer, output) { status } else { 5 }
 }
 
-/// Writes what is printed for words that ask for no job.
+/// Writes what is printed for words that ask for no job, and gives the status: 3 after a text for usage, help
+/// or version, 2 after the line on `--input`, 5 where that write failed; 4 where memory ran out, and then
+/// nothing is written.
 fn status_of_fault<W: Write>(writer: &mut W, fault: &JobFault) -> u8
     ensures statuses { (2 ≤ result) × (result ≤ 5) }
     ensures hex { result ≡ 2 → number_of fault.now ≡ 2 }

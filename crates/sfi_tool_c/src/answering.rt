@@ -7,7 +7,7 @@ ghost use Rattle.sfi_tool_c.specs.CommandAnswers.{IsAnswer, IsAnswerWritten, IsF
 
 use crate::output::write_front;
 use crate::words::{WordsFault, words_of};
-use sfi_answers::{Answer, bytes_answer};
+use sfi_answers::{Answer, check_or_fault_answer};
 use sfi_command::{HEX_LINE, Job, JobFault, job_of};
 use sfi_tool::answer_job;
 use std::alloc::{AllocError, Global};
@@ -23,7 +23,7 @@ fn answer_to(alloc: Global, job: &Job, input: &[u8]) -> Result<Answer, AllocErro
         (λ a. a.status ≡ 2 → IsFaultLine (meaning_of job.now) input.now a.output.items) }
 {
     match job {
-        Job::Check { raw: true, report } => bytes_answer(alloc, *report, input),
+        Job::Check { raw: true, report } => check_or_fault_answer(alloc, *report, input),
         _ => answer_job(alloc, job, input),
     }
 }

@@ -80,7 +80,7 @@ impl Draft {
         self.lead(address, 1u32 << scale, place);
         if !self.random.once_in(4) {
             let number = self.random.number();
-            self.fill(place, number);
+            self.store_number(place, number);
         }
         address
     }
@@ -99,8 +99,9 @@ impl Draft {
         self.core.registers[base as usize] = (missing / count).cast_unsigned();
     }
 
-    /// Stores a number, where there is memory.
-    fn fill(&mut self, place: u64, number: u64) {
+    /// Stores the 8 bytes of a number at the place; if one of them would lie outside the case's memory,
+    /// nothing changes.
+    fn store_number(&mut self, place: u64, number: u64) {
         let _ = self.core.store(8, place, number);
     }
 
@@ -120,7 +121,7 @@ impl Draft {
             Operand::Reg(register) => self.core.registers[register.number() as usize] = target,
             Operand::Mem(address) => {
                 let place = self.core.address(address);
-                self.fill(place, target);
+                self.store_number(place, target);
             }
         }
         operand

@@ -6,7 +6,7 @@ ghost use Rattle.clap.specs.Walk.{first_of, rows_of};
 ghost use Rattle.sfi_command.specs.Command.{IsBudget};
 ghost use Rattle.sfi_command.specs.private.{IsAsked};
 
-use crate::job::{Job, JobFault, no_job};
+use crate::job::{Job, JobFault, no_job_fault};
 use crate::rows::{CommandRow, OptionRow, Takes};
 use clap::ArgMatches;
 use std::alloc::Global;
@@ -86,10 +86,10 @@ pub(super) fn asked_exec(alloc: Global, found: &ArgMatches<'_>) -> Result<Job, J
     ensures { IsAsked (codes "exec") found.now result }
 {
     let Some(path) = found.get_str("image") else {
-        return Err(no_job(alloc));
+        return Err(no_job_fault(alloc));
     };
     let Some(budget) = budget_of(found) else {
-        return Err(no_job(alloc));
+        return Err(no_job_fault(alloc));
     };
     let image = String::from_str(alloc, path)?;
     Ok(Job::Exec { image, budget })

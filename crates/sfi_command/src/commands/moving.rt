@@ -7,7 +7,7 @@ ghost use Rattle.sfi_command.specs.Command.{IsPlaceOf};
 ghost use Rattle.sfi_command.specs.private.{IsAsked, IsPlaceFault};
 
 use crate::commands::RAW_OUTPUT;
-use crate::job::{Job, JobFault, no_job};
+use crate::job::{Job, JobFault, no_job_fault};
 use crate::options::{count_of, is_given};
 use crate::places::place_that;
 use crate::rows::{CommandRow, OptionRow, Takes};
@@ -61,7 +61,7 @@ fn place_of(alloc: Global, found: &ArgMatches<'_>) -> Result<Place, JobFault>
 {
     match found.get_str("at") {
         Some(text) => place_that(alloc, text),
-        None => Err(no_job(alloc)),
+        None => Err(no_job_fault(alloc)),
     }
 }
 
@@ -71,7 +71,7 @@ pub(super) fn asked_move(alloc: Global, found: &ArgMatches<'_>) -> Result<Job, J
 {
     let place = place_of(alloc, found)?;
     let Some(sandbox) = count_of(found, "sandbox", 0, SANDBOX_MOST) else {
-        return Err(no_job(alloc));
+        return Err(no_job_fault(alloc));
     };
     let raw = is_given(found, "raw");
     Ok(Job::Move {

@@ -6,7 +6,7 @@ ghost use Rattle.clap.specs.Walk.{first_of, rows_of};
 ghost use Rattle.sfi_command.specs.Command.{IsInputOf, number_of};
 ghost use Rattle.sfi_command.specs.private.{IsAsked, IsInputFault};
 
-use crate::job::{Job, JobFault, RunOptions, no_job};
+use crate::job::{Job, JobFault, RunOptions, no_job_fault};
 use crate::options::{count_of, is_given};
 use crate::rows::{CommandRow, OptionRow, Takes};
 use clap::ArgMatches;
@@ -98,10 +98,10 @@ pub(super) fn asked_run(alloc: Global, found: &ArgMatches<'_>) -> Result<Job, Jo
 {
     let input = input_of(alloc, found)?;
     let Some(rounds) = count_of(found, "rounds", 1, ROUNDS_MOST) else {
-        return Err(no_job(alloc));
+        return Err(no_job_fault(alloc));
     };
     let Some(quantum) = count_of(found, "quantum", 1, QUANTUM_MOST) else {
-        return Err(no_job(alloc));
+        return Err(no_job_fault(alloc));
     };
     let report = is_given(found, "report");
     Ok(Job::Run(RunOptions {

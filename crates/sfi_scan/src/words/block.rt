@@ -4,7 +4,8 @@ ghost use Rattle.std.specs.Prelude.{◌≡◌, ℕ, ◌+◌, ◌-◌, ◌*◌, �
 ghost use Rattle.std.specs.Bool.{OnTrue};
 ghost use Rattle.rv_word.specs.Spelling.{IsWordOf};
 ghost use Rattle.rv_word.specs.declared.instr.Instr.{Instr};
-ghost use Rattle.sfi_masks.specs.Masks.{is_in, IsFreeWordBy, may_write_in_words, may_be_on_in_words, word_at as block_word};
+ghost use Rattle.sfi_formats.specs.Formats.{has_single_mask};
+ghost use Rattle.sfi_masks.specs.Masks.{is_in, IsFreeWordBy, IsSingleMask, may_write_in_words, may_be_on_in_words, word_at as block_word};
 ghost use Rattle.sfi_rules.specs.Readings.{IsWithinBlock};
 ghost use Rattle.sfi_rules.specs.declared.owed.Owed.TheVariants.{Nothing};
 ghost use Rattle.sfi_scan.specs.private.Words.{IsToldFree, IsQuietWord, IsSteppedWord, IsSeen, IsCleanWord, AreCleanWords, IsMasking, IsPlacing, IsPair, IsPairAt, IsStepOf, IsOffset, is_dropped, IsUseOf, IsUsedStep};
@@ -16,7 +17,7 @@ use crate::words::look::is_clean_other_word;
 use crate::words::word::scan_word;
 use rv_word::{Reg, access32};
 use sfi_formats::Format;
-use sfi_masks::{BLOCK_BYTES, Masks, word_masks_of};
+use sfi_masks::{BLOCK_BYTES, Masks, single_masks_of, word_masks_of};
 use sfi_pairs::{is_data_register, is_data_register_in};
 use sfi_rules::{BundlePlace, Owed};
 
@@ -181,7 +182,7 @@ fn used_steps(place: &BundlePlace, block: &[u8; BLOCK_BYTES], free: u64, words: 
     requires within { IsWithinBlock place.now }
     requires words { (i : ℕ) → i < 64 → is_in words i ≡ true → i % 2 ≡ 0 }
     requires free { (i : ℕ) → i < 64 → i % 2 ≡ 0 → is_in free i ≡ true →
-        IsFreeWordBy may_write_in_words may_be_on_in_words (block_word block.now i) }
+        IsFreeWordBy may_write_in_words (may_be_on_in_words (has_single_mask place.now.format)) (block_word block.now i) }
     ensures stepped { (i : ℕ) → is_in result i ≡ true → IsSteppedWord place.now block.now i }
     ensures apart { (i : ℕ) → is_in result i ≡ true → is_in words (i + 2) ≡ false }
 {
@@ -199,8 +200,7 @@ fn used_steps(place: &BundlePlace, block: &[u8; BLOCK_BYTES], free: u64, words: 
     steps
 }
 
-/// Whether the word at halfword `i` jumps or branches, or where masks are single is a mask or an access,
-/// and breaks no rule.
+/// Whether the word at halfword `i` jumps or branches, and breaks no rule.
 #[inline(always)]
 fn is_clean_other_at(place: &BundlePlace, block: &[u8; BLOCK_BYTES], i: usize) -> bool
     requires within { IsWithinBlock place.now }
@@ -213,8 +213,7 @@ fn is_clean_other_at(place: &BundlePlace, block: &[u8; BLOCK_BYTES], i: usize) -
     is_clean_other_word(&bundle, address, word_at(block, 2 * i))
 }
 
-/// The bits of `words` that break no rule and jump or branch, or where masks are single are masks or
-/// accesses.
+/// The bits of `words` that jump or branch, and break no rule.
 #[inline(always)]
 fn clean_others(place: &BundlePlace, block: &[u8; BLOCK_BYTES], words: u64) -> u64
     requires within { IsWithinBlock place.now }
@@ -241,7 +240,7 @@ fn doubtful_words(place: &BundlePlace, block: &[u8; BLOCK_BYTES], words: u64, fr
     requires words { (i : ℕ) → i < 64 → is_in words i ≡ true → i % 2 ≡ 0 }
     requires quiet { (n : ℕ) → n < 32 → is_in words (2 * n) ≡ false → IsQuietWord place.now block.now (2 * n) }
     requires free { (i : ℕ) → i < 64 → i % 2 ≡ 0 → is_in free i ≡ true →
-        IsFreeWordBy may_write_in_words may_be_on_in_words (block_word block.now i) }
+        IsFreeWordBy may_write_in_words (may_be_on_in_words (has_single_mask place.now.format)) (block_word block.now i) }
     ensures words { (i : ℕ) → i < 64 → is_in result i ≡ true → i % 2 ≡ 0 }
     ensures others { (n : ℕ) → n < 32 → is_in result (2 * n) ≡ false →
         IsSeen place.now block.now result (2 * n) }
@@ -342,6 +341,39 @@ fn after_words(
     Some(left)
 }
 
+/// `words` without the single masks among them, where masks are `single`. If `words` is empty, none are
+/// looked for.
+#[inline(always)]
+fn without_single_masks(single: bool, block: &[u8; BLOCK_BYTES], words: u64) -> u64
+    ensures words { (i : ℕ) → i < 64 → is_in result i ≡ true → is_in words i ≡ true }
+    ensures masks { (i : ℕ) → i % 8 < 7 → i < 64 → is_in words i ≡ true → is_in result i ≡ false →
+        (single ≡ true) × IsSingleMask (block_word block.now i) }
+{
+    if !single {
+        return words;
+    }
+    if words == 0 {
+        return words;
+    }
+    bits_without(words, single_masks_of(block))
+}
+
+/// The words that are still to be looked at: each other breaks no rule if nothing is owed before it, and
+/// leaves nothing owed. And where free instructions of 32 bits begin. `SINGLE` as in `word_masks_of`.
+#[inline(always)]
+fn told_by_masks<const SINGLE: bool>(place: &BundlePlace, block: &[u8; BLOCK_BYTES]) -> (u64, u64)
+    requires within { IsWithinBlock place.now }
+    requires single { SINGLE ≡ has_single_mask place.now.format }
+    ensures words { (i : ℕ) → i < 64 → is_in result.0 i ≡ true → i % 2 ≡ 0 }
+    ensures quiet { (n : ℕ) → n < 32 → is_in result.0 (2 * n) ≡ false → IsQuietWord place.now block.now (2 * n) }
+    ensures free { (i : ℕ) → i < 64 → i % 2 ≡ 0 → is_in result.1 i ≡ true →
+        IsFreeWordBy may_write_in_words (may_be_on_in_words (has_single_mask place.now.format)) (block_word block.now i) }
+{
+    let masks = word_masks_of::<SINGLE>(block);
+    let words = without_single_masks(SINGLE, block, not_free(masks));
+    (words, masks.free & masks.long)
+}
+
 /// Whether nothing is owed.
 #[inline(always)]
 fn is_nothing(owed: Owed) -> bool
@@ -351,9 +383,10 @@ fn is_nothing(owed: Owed) -> bool
 }
 
 /// What is owed after the block, if its words from word `from` on, with `owed` before them, are
-/// seen to break no rule. None of its bundles is the region's last, nor a gate's.
+/// seen to break no rule. None of its bundles is the region's last, nor a gate's. `SINGLE` as in
+/// `word_masks_of`.
 #[inline(always)]
-pub(crate) fn look_at_block(
+pub(crate) fn look_at_block<const SINGLE: bool>(
     place: &BundlePlace,
     block: &[u8; BLOCK_BYTES],
     from: usize,
@@ -361,11 +394,11 @@ pub(crate) fn look_at_block(
     findings: &mut BundleFindings,
 ) -> Option<Owed>
     requires within { IsWithinBlock place.now }
+    requires single { SINGLE ≡ has_single_mask place.now.format }
     requires inside { from < 32 }
     ensures { IfSome result (AreCleanWords place.now owed block.now from (32 - from)) }
 {
-    let masks = word_masks_of(block);
-    let words = not_free(masks);
+    let (words, free) = told_by_masks::<SINGLE>(place, block);
     if words == 0 {
         if is_nothing(owed) {
             return Some(Owed::Nothing);
@@ -373,7 +406,6 @@ pub(crate) fn look_at_block(
     }
     // A copy, so that the place isn't put together in memory where it isn't needed.
     let there = *place;
-    let free = masks.free & masks.long;
     let left = doubtful_words(&there, block, words, free);
     after_words(&there, block, left, from, owed, findings)
 }

@@ -190,23 +190,8 @@ fn is_known_clean_alone(place: &BundlePlace, address: u32, outline: Option<Outli
     }
 }
 
-/// Whether the word, a load or a store, breaks no rule, and leaves nothing owed, where nothing is owed
-/// before it, in a format whose masks are single. In others the masks of a block tell of it.
-#[inline(always)]
-fn is_clean_one_step_access(place: &BundlePlace, address: u32, word: u32) -> bool
-    requires within { IsWithin place.now }
-    requires before_end { IsBeforeEnd place.now address 4 }
-    ensures { OnTrue result (IsQuietThere place.now address Nothing word Nothing) }
-{
-    if !place.format.has_single_mask() {
-        return false;
-    }
-    is_known_clean_alone(place, address, outline32(word))
-}
-
-/// Whether the word jumps or branches, or where masks are single is a mask or an access, and breaks no
-/// rule, and leaves nothing owed, where nothing is owed before it. A call for each opcode, so that the
-/// compiler drops outlines that it cannot have.
+/// Whether the word jumps or branches, and breaks no rule, and leaves nothing owed, where nothing is owed
+/// before it. A call for each opcode, so that the compiler drops outlines that it cannot have.
 #[inline(always)]
 pub(crate) fn is_clean_other_word(place: &BundlePlace, address: u32, word: u32) -> bool
     requires within { IsWithin place.now }
@@ -217,8 +202,6 @@ pub(crate) fn is_clean_other_word(place: &BundlePlace, address: u32, word: u32) 
         0b110_0011 => is_known_clean_alone(place, address, outline32(word)),
         0b110_0111 => is_known_clean_alone(place, address, outline32(word)),
         0b110_1111 => is_known_clean_alone(place, address, outline32(word)),
-        0b011_0011 => is_single_mask_word(place.format, rd_of(word), rs1_of(word), word),
-        0b000_0011 | 0b010_0011 => is_clean_one_step_access(place, address, word),
         _ => false,
     }
 }

@@ -14,8 +14,8 @@ returns-in-Some-clause-fault c =
 
 pub returns-clause-fault : goal.returns-clause-fault
 returns-clause-fault c =
-    fault_of_words (map string_bytes c.args.words.now) None c.no_job.result (no_parse_fault _ _ c.in_ok-program.ensures c.in-Ok.ensures.kinds)
-    (no_subcommand _ _ c.in-Ok.matches c.in_ok-program.ensures c.in-Ok.ensures.matches c.in-None.ensures.name) (fault_of_none c.no_job.result c.no_job.ensures)
+    fault_of_words (map string_bytes c.args.words.now) None c.no_job_fault.result (no_parse_fault _ _ c.in_ok-program.ensures c.in-Ok.ensures.kinds)
+    (no_subcommand _ _ c.in-Ok.matches c.in_ok-program.ensures c.in-Ok.ensures.matches c.in-None.ensures.name) (fault_of_none c.no_job_fault.result c.no_job_fault.ensures)
 
 pub returns-in-Err-clause-fault : goal.returns-in-Err-clause-fault
 returns-in-Err-clause-fault c =

@@ -1,14 +1,20 @@
 use Rattle.sfi_scan.proofs.Prelude.{◌≡◌, ◌∙◌, ◌-◌, ◌*◌, ◌/◌, ℕ, List, take, drop, sym, ap, subst, arith, BundlePlace, IsWithinBlock, AreCleanWords, stretch_place}
-use Rattle.sfi_scan.proofs.WordStretches.{block_seen}
+use Rattle.sfi_formats.specs.Formats.{has_single_mask}
+use Rattle.sfi_scan.proofs.WordStretches.{block_seen, same_format}
 use Rattle.sfi_scan.proofs.words.look_at_next_block.Goals as goal
 
 pub look_at_block-requires-clause-within : goal.look_at_block-requires-clause-within
-look_at_block-requires-clause-within c =
-    let s = c.in_ok-start.ensures.block c.requires.1 c.requires.3 in
+look_at_block-requires-clause-within g c =
+    let s = c.in_ok-start.ensures.block c.requires.stretch.1 c.requires.stretch.3 in
     subst IsWithinBlock (sym (c.place_after-first.ensures s.first s.start_is)) s.within
 
+pub look_at_block-requires-clause-single : goal.look_at_block-requires-clause-single
+look_at_block-requires-clause-single g c =
+    let s = c.in_ok-start.ensures.block c.requires.stretch.1 c.requires.stretch.3 in
+    c.requires.single ∙ ap has_single_mask (sym (same_format c.args.place.now s.first)) ∙ ap (λ (x : BundlePlace). has_single_mask x.format) (sym (c.place_after-first.ensures s.first s.start_is))
+
 pub returns : goal.returns
-returns c = λ k at.
+returns g c = λ k at.
     let b = c.args.place.now in
     let code = c.args.code.now in
     let owed = c.args.owed in

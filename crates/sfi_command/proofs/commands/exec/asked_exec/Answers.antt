@@ -6,11 +6,11 @@ use Rattle.sfi_command.proofs.commands.exec.asked_exec.Goals as goal
 
 pub returns-in_default : goal.returns-in_default
 returns-in_default c =
-    usage_of_named (Some (codes "exec", rows_of (found_of c.args.found.now))) c.no_job.result c.no_job.ensures (no_image (found_of c.args.found.now) c.in_default.ensures)
+    usage_of_named (Some (codes "exec", rows_of (found_of c.args.found.now))) c.no_job_fault.result c.no_job_fault.ensures (no_image (found_of c.args.found.now) c.in_default.ensures)
 
 pub returns-in_default-budget_of : goal.returns-in_default-budget_of
 returns-in_default-budget_of c =
-    usage_of_named (Some (codes "exec", rows_of (found_of c.args.found.now))) c.no_job-in_default-budget_of.result c.no_job-in_default-budget_of.ensures
+    usage_of_named (Some (codes "exec", rows_of (found_of c.args.found.now))) c.no_job_fault-in_default-budget_of.result c.no_job_fault-in_default-budget_of.ensures
     (no_budget (rows_of (found_of c.args.found.now)) (c.budget_of.ensures.none c.in_default-budget_of.is))
 
 pub returns : goal.returns

@@ -9,4 +9,4 @@ pub returns-in-Some-clause-fault : goal.returns-in-Some-clause-fault
 returns-in-Some-clause-fault c = place_fault (found_of c.args.found.now) c.in-Some.text.now c.place_that.result c.in-Some.ensures c.place_that.ensures.fault
 
 pub returns-in-None-clause-fault : goal.returns-in-None-clause-fault
-returns-in-None-clause-fault c = no_place_fault (found_of c.args.found.now) c.no_job.result c.in-None.ensures c.no_job.ensures
+returns-in-None-clause-fault c = no_place_fault (found_of c.args.found.now) c.no_job_fault.result c.in-None.ensures c.no_job_fault.ensures

@@ -18,11 +18,11 @@ no_quantum rows none _ e has = other _ _ refl e
 pub returns-in_default : goal.returns-in_default
 returns-in_default c =
     let rows = rows_of (found_of c.args.found.now) in
-    usage_of_named (Some (codes "run", rows)) c.no_job.result c.no_job.ensures
+    usage_of_named (Some (codes "run", rows)) c.no_job_fault.result c.no_job_fault.ensures
     (no_run rows c.in_ok-input.input.items c.in_ok-input.ensures.bytes (no_rounds rows (c.count_of.ensures.none c.in_default.is)))
 
 pub returns-in_default-count_of : goal.returns-in_default-count_of
 returns-in_default-count_of c =
     let rows = rows_of (found_of c.args.found.now) in
-    usage_of_named (Some (codes "run", rows)) c.no_job-in_default-count_of.result c.no_job-in_default-count_of.ensures
+    usage_of_named (Some (codes "run", rows)) c.no_job_fault-in_default-count_of.result c.no_job_fault-in_default-count_of.ensures
     (no_run rows c.in_ok-input.input.items c.in_ok-input.ensures.bytes (no_quantum rows (c.count_of-2.ensures.none c.in_default-count_of.is)))

@@ -1,6 +1,6 @@
 use Rattle.sfi_answers.specs.Answers.{check}
 use Rattle.sfi_answers.proofs.Images.{line_of_stop}
-use Rattle.sfi_answers.proofs.checking.bytes_answer.Goals as goal
+use Rattle.sfi_answers.proofs.checking.check_or_fault_answer.Goals as goal
 
 pub returns-in-Err-clause-line : goal.returns-in-Err-clause-line
 returns-in-Err-clause-line c =
