@@ -1,20 +1,22 @@
-//! The cells of pages: writes to several of them, and copies.
+//! The cells in which [`Pages`](crate::pages::Pages) keeps bytes and marks. A cell is one entry of
+//! that list: the byte of an address, or its mark, 1 where that byte is there and 0 where it isn't.
+//! A frame is 1024 cells in a row, 512 bytes of a page and then their 512 marks.
 ghost use Rattle.std.specs.Prelude.{◌≡◌, ◌+◌, ◌*◌, ◌^◌, ◌<◌, ◌≤◌, length, slice_index, vec_capacity, vec_len, ℕ};
 ghost use Rattle.std.specs.Bool.{OnTrue};
 ghost use Rattle.std.specs.Int.{bytes_low_first};
 ghost use Rattle.rv_mem.specs.private.Frames.{with_two, with_four, Puts, MarksRun, GainsFrame};
 
-/// How many bytes a page has.
+/// How many bytes a page has, and how many cells lie between a byte and its mark.
 const PAGE: usize = 512;
 
-/// A page's bytes, and after them their marks.
+/// How many cells a frame has: a page's bytes, and after them their marks.
 const FRAME: usize = 1024;
 
-/// How many bytes the pages of a chunk have.
+/// How many bytes the 128 pages of a chunk have, which the page table can treat as one.
 const CHUNK: usize = 65536;
 
-/// Writes the four bytes of a number from a place on: over a slice,
-/// so that it is one store of the processor.
+/// Writes the four bytes of `value`, low byte first, to the cells from index `place` on: over a
+/// slice, so that it is one store of the processor.
 #[inline(always)]
 pub(crate) fn write_word(cells: &mut [u8], place: usize, value: u32)
     requires { place + 4 ≤ length cells.old }
@@ -27,7 +29,7 @@ pub(crate) fn write_word(cells: &mut [u8], place: usize, value: u32)
     cells[place + 3] = byte3;
 }
 
-/// Writes the two low bytes of a number from a place on, likewise.
+/// Writes the two low bytes of `value` to the cells from index `place` on, likewise.
 #[inline(always)]
 pub(crate) fn write_halfword(cells: &mut [u8], place: usize, value: u32)
     requires { place + 2 ≤ length cells.old }
@@ -38,7 +40,7 @@ pub(crate) fn write_halfword(cells: &mut [u8], place: usize, value: u32)
     cells[place + 1] = byte1;
 }
 
-/// Writes bytes from a place on.
+/// Writes `bytes` to the cells from index `place` on. Their marks stay.
 pub(crate) fn write_cells(cells: &mut [u8], place: usize, bytes: &[u8])
     requires { place + length bytes.now ≤ length cells.old }
     ensures put { Puts cells.old cells.new place (length bytes.now) (slice_index bytes.now) }
@@ -47,7 +49,7 @@ pub(crate) fn write_cells(cells: &mut [u8], place: usize, bytes: &[u8])
     cells[place..place + bytes.len()].copy_from_slice(bytes);
 }
 
-/// Copies `count` cells from `place` on to `room`, from place `to` on.
+/// Copies the `count` cells from index `place` on to `room`, from its index `to` on.
 pub(crate) fn copy_cells(cells: &[u8], place: usize, count: usize, room: &mut [u8], to: usize)
     requires cells { place + count ≤ length cells.now }
     requires room { to + count ≤ length room.old }
@@ -56,7 +58,7 @@ pub(crate) fn copy_cells(cells: &[u8], place: usize, count: usize, room: &mut [u
     room[to..to + count].copy_from_slice(&cells[place..place + count]);
 }
 
-/// Writes `value` to the `count` cells from `place` on.
+/// Writes `value` to the `count` cells from index `place` on.
 pub(crate) fn put_same(cells: &mut [u8], place: usize, count: usize, value: u8)
     requires { place + count ≤ length cells.old }
     ensures { Puts cells.old cells.new place count (λ j. value) }
@@ -64,8 +66,8 @@ pub(crate) fn put_same(cells: &mut [u8], place: usize, count: usize, value: u8)
     cells[place..place + count].fill(value);
 }
 
-/// Writes `count` bytes from `place` on, those of `front` from place `from` on and zeros past its end,
-/// and marks them as there.
+/// Writes `count` bytes, at most 512, to the cells from index `place` on, and sets their marks. The
+/// bytes are those of `front` from index `from` on, and zeros past its end.
 pub(crate) fn mark_cells(cells: &mut [u8], place: usize, count: usize, front: &[u8], from: usize)
     requires room { place + count + 512 ≤ length cells.old }
     requires page { count ≤ 512 }
@@ -78,7 +80,8 @@ pub(crate) fn mark_cells(cells: &mut [u8], place: usize, count: usize, front: &[
     put_same(cells, place + PAGE, count, 1);
 }
 
-/// Whether the `count` bytes of `front` from place `from` on are zeros, as those past its end are.
+/// Whether the `count` bytes of `front` from index `from` on are zeros; those past its end count as
+/// zeros.
 pub(crate) fn are_zeros(front: &[u8], from: usize, count: usize) -> bool
     ensures { OnTrue result ((j : ℕ) → j < count → slice_index front.now (from + j) ≡ 0) }
 {
@@ -92,8 +95,9 @@ pub(crate) fn are_zeros(front: &[u8], from: usize, count: usize) -> bool
     true
 }
 
-/// How many chunks of zeros the bytes of `front` from place `from` on begin with, those past its end
-/// being zeros, of `most` bytes: up to the end of `front` one at most.
+/// How many whole chunks of zeros the next `most` bytes begin with: those of `front` from index
+/// `from` on, and zeros past its end. While `from` lies in `front` one chunk alone is looked at, so
+/// that the answer is 0 or 1, and the caller asks again for the next.
 pub(crate) fn zero_chunks(front: &[u8], from: usize, most: u64) -> u32
     requires { most ≤ 2 ^ 32 }
     ensures most { result * 65536 ≤ most }
@@ -112,7 +116,7 @@ pub(crate) fn zero_chunks(front: &[u8], from: usize, most: u64) -> u32
     0
 }
 
-/// Lengthens by zeros, in room that is there.
+/// Lengthens `cells` to `n`, the new ones 0. The capacity suffices, so that this doesn't fail.
 fn lengthen_cells(cells: &mut Vec<u8>, n: usize)
     requires more { length cells.old.items ≤ n }
     requires room { n ≤ vec_capacity cells.old }
@@ -123,7 +127,8 @@ fn lengthen_cells(cells: &mut Vec<u8>, n: usize)
     cells.resize(n, 0).unwrap();
 }
 
-/// Appends a frame of zeros with marks of one value, in room that is there.
+/// Appends a frame whose 512 bytes are 0 and whose marks are all `mark`. The capacity suffices, so
+/// that this doesn't fail.
 pub(crate) fn append_frame(cells: &mut Vec<u8>, mark: u8)
     requires room { vec_len cells.old + 1024 ≤ vec_capacity cells.old }
     ensures gained { GainsFrame cells.old.items cells.new.items mark }

@@ -18,7 +18,7 @@ pub fn find_byte(segments: &[Segment], at: u32) -> Option<u8>
     None
 }
 
-/// Writes the byte of an address; false where no segment has it.
+/// Writes `byte` at the address; false where no segment has that address, and then nothing changed.
 pub fn put_byte(segments: &mut [Segment], at: u32, byte: u8) -> bool
     ensures there { IsTrue result ↔ IsSome (byte_among segments.old at) }
     ensures done { OnTrue result

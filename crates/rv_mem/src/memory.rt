@@ -14,9 +14,10 @@ pub enum Width {
     Four,
 }
 
-/// A memory: at each of the 2^32 addresses a byte, or none. Numbers stand low byte first (RISC-V
-/// Unprivileged ISA, chapter RV32I, "Load and Store Instructions"). An access may begin at any
-/// address, and the address after the last one is the first.
+/// A memory: at each of the 2^32 addresses a byte, or none; an address with a byte is *there*.
+/// Numbers stand low byte first (RISC-V Unprivileged ISA, chapter RV32I, "Load and Store
+/// Instructions"). An access may begin at any address, and the address after the last one is the
+/// first.
 pub trait Memory: Drop {
     ghost bytes: { Self → Bytes };
 
@@ -39,7 +40,8 @@ pub trait Memory: Drop {
             (bytes self.new ≡ stored (bytes self.old) at (count_of width) value) }
         ensures refused { OnFalse result (bytes self.new ≡ bytes self.old) };
 
-    /// Fills `room` with the bytes from `at` on.
+    /// Fills `room` with the bytes from `at` on, at addresses that are there. Unlike a load, it
+    /// doesn't go on at 0 after the last address, and neither do `copy_in` and `clear`.
     fn copy_out(&self, at: u32, room: &mut [u8])
         requires { IsSome (bytes_at (bytes self.now) (range_with_len at (length room.old))) }
         ensures { bytes_at (bytes self.now) (range_with_len at (length room.old))
@@ -57,7 +59,7 @@ pub trait Memory: Drop {
         ensures { bytes self.new
             ≡ with_bytes (bytes self.old) (range_with_len at count) (replicate count 0) };
 
-    /// Adds `size` bytes from `base` on: those of `front`, and then zeros.
+    /// Adds the `size` addresses from `base` on, with the bytes of `front` and then zeros.
     fn add(&mut self, base: u32, size: u32, front: &[u8]) -> Result<(), AddFault>
         requires { length front.now ≤ size }
         ensures ok { OnOk result (bytes self.new ≡ added (bytes self.old) base size front.now) }

@@ -1,4 +1,12 @@
-//! A page table in two levels.
+//! A page table in two levels: a number for each page of 512 addresses, which leads to the page's
+//! frame in [`Pages`](crate::pages::Pages). It is 0 where the page has no byte; 1 where it has
+//! none, but room is kept for a frame of its own; 2 where its bytes are all there and zeros, and
+//! room is kept likewise; else the index of a frame of its own. A page *has a number* if that isn't
+//! 0.
+//!
+//! The first level has an entry for each chunk, 128 pages in a row: the index of a leaf. A leaf of
+//! the second level is the numbers of such 128 pages. Leaves 0, 1 and 2 are shared by chunks whose
+//! pages all have that number; each other leaf is that of one chunk.
 ghost use Rattle.std.specs.Prelude.{◌≡◌, ◌≢◌, ◌+◌, ◌*◌, ◌/◌, ◌^◌, ◌<◌, ◌≤◌, [], ℕ, IfOk, IfSome, IsOk, IsSome, None, OnOk, OnErr, length, slice_index, slice_set, vec_capacity, vec_len};
 ghost use Rattle.rv_mem.specs.private.Frames.{number_at, kept_for, IsTable, HasLeafRoom, Puts};
 
@@ -11,18 +19,22 @@ const CHUNK: u32 = 128;
 /// How many numbers a leaf has.
 const LEAF: usize = 128;
 
-/// The number of pages for which room is kept.
+/// The number that says that room is kept for a page without bytes, and the leaf with that number
+/// alone.
 const KEPT: u32 = 1;
 
-/// The number of pages of zeros, and of the last leaf that chunks share.
+/// The number of each page of zeros, and the leaf with that number alone, the last that chunks
+/// share.
 const ZEROS: u32 = 2;
 
-/// How many numbers all leaves may have, so that those of leaves have 32 bits.
+/// The most numbers of all leaves together: so few that the index of a leaf has 32 bits.
 const MOST: usize = 1 << 39;
 
-/// A number for each page, up to some page. A chunk whose pages all have the number 0, 1 or 2 can
-/// share the leaf of that number; room is kept for `kept` leaves, so that a page of such a chunk gets
-/// another number without more memory if it has one. Contracts see the list of all numbers.
+/// A number for each page, up to some page: `chunks` has the index of each chunk's leaf, and
+/// `leaves` the leaves one after another. A chunk whose pages all have the number 0, 1 or 2 can
+/// share the leaf of that number. `leaves` has capacity for `kept` more, one for each chunk that
+/// shares leaf 1 or 2, so that a page of such a chunk gets another number without more memory.
+/// Contracts see the list of all numbers.
 #[derive(Drop)]
 pub struct PageTable {
     chunks: Vec<u32>,
@@ -42,7 +54,8 @@ impl Model for PageTable {
         × HasLeafRoom t.chunks.items (vec_len t.leaves) (vec_capacity t.leaves) t.kept };
 }
 
-/// Lengthens by zeros, to no more room than they take.
+/// Lengthens `numbers` to `n`, the new ones 0, with no more capacity than that takes. The one error
+/// is that memory ran out; the length stays then.
 fn lengthen_by_zeros(numbers: &mut Vec<u32>, n: usize) -> Result<(), AllocError>
     requires { length numbers.old.items ≤ n }
     ensures same { (k : ℕ) → slice_index numbers.new.items k ≡ slice_index numbers.old.items k }
@@ -53,7 +66,8 @@ fn lengthen_by_zeros(numbers: &mut Vec<u32>, n: usize) -> Result<(), AllocError>
     numbers.resize(n, 0)
 }
 
-/// Appends a leaf with one number for all pages, in room that is there.
+/// Appends a leaf with `number` for each of its 128 pages. The capacity suffices, so that this
+/// doesn't fail.
 fn append_leaf(leaves: &mut Vec<u32>, number: u32)
     requires room { vec_len leaves.old + 128 ≤ vec_capacity leaves.old }
     ensures size { length leaves.new.items ≡ length leaves.old.items + 128 }
@@ -66,7 +80,7 @@ fn append_leaf(leaves: &mut Vec<u32>, number: u32)
     leaves.resize(leaves.len() + LEAF, number).unwrap();
 }
 
-/// Appends the leaves that chunks share.
+/// Appends leaves 0, 1 and 2, which chunks share: leaf n has the number n for each page.
 fn append_shared_leaves(leaves: &mut Vec<u32>) -> Result<(), AllocError>
     requires { length leaves.old.items ≡ 0 }
     ensures size { OnOk result (length leaves.new.items ≡ 384) }
@@ -81,7 +95,7 @@ fn append_shared_leaves(leaves: &mut Vec<u32>) -> Result<(), AllocError>
     Ok(())
 }
 
-/// Makes the leaves that chunks share, if there are none.
+/// Appends the leaves that chunks share, unless they are there already.
 fn make_shared_leaves(chunks: &Vec<u32>, leaves: &mut Vec<u32>) -> Result<(), AllocError>
     requires { IsTable chunks.now.items leaves.old.items }
     ensures is { IsTable chunks.now.items leaves.new.items }
@@ -99,7 +113,8 @@ fn make_shared_leaves(chunks: &Vec<u32>, leaves: &mut Vec<u32>) -> Result<(), Al
     Ok(())
 }
 
-/// Room for a chunk, and the leaves that are shared.
+/// Makes sure that there is an entry for `chunk`, and that the shared leaves are there. New chunks
+/// share leaf 0: their pages have no number.
 fn make_chunk(chunks: &mut Vec<u32>, leaves: &mut Vec<u32>, chunk: usize) -> Result<(), AllocError>
     requires is { IsTable chunks.old.items leaves.old.items }
     requires chunk { chunk < 2 ^ 16 }
@@ -118,7 +133,8 @@ fn make_chunk(chunks: &mut Vec<u32>, leaves: &mut Vec<u32>, chunk: usize) -> Res
     Ok(())
 }
 
-/// Makes room for `count` leaves beside those for which room is kept.
+/// Reserves capacity for `count` leaves more than the `kept` for which room is kept. It fails where
+/// memory ran out, or where the index of a leaf could have more than 32 bits.
 fn reserve_leaves(leaves: &mut Vec<u32>, kept: usize, count: usize) -> Result<(), AllocError>
     requires old { vec_len leaves.old + 128 * kept ≤ 2 ^ 39 }
     requires count { count ≤ 2 ^ 16 }
@@ -135,8 +151,9 @@ fn reserve_leaves(leaves: &mut Vec<u32>, kept: usize, count: usize) -> Result<()
     leaves.reserve_exact(wanted)
 }
 
-/// Makes sure of the room for the leaf of a chunk that shares one, if that is leaf 0: how many leaves
-/// room is kept for beside it.
+/// Makes sure of room for a leaf of its own for a chunk that shares leaf `shared`: one of the
+/// `kept` that was kept for the chunk if that is leaf 1 or 2, and new capacity if it is leaf 0.
+/// Answers how many leaves room is kept for beside that one.
 fn take_room(leaves: &mut Vec<u32>, kept: usize, shared: u32) -> Result<usize, AllocError>
     requires room { vec_len leaves.old + 128 * kept ≤ vec_capacity leaves.old }
     requires most { vec_len leaves.old + 128 * kept ≤ 2 ^ 39 }
@@ -157,7 +174,9 @@ fn take_room(leaves: &mut Vec<u32>, kept: usize, shared: u32) -> Result<usize, A
     Ok(kept)
 }
 
-/// Gives a chunk a leaf of its own, if it has none: how many leaves room is kept for then.
+/// Gives `chunk` a leaf of its own with the same numbers, if it shares one. `kept` is how many
+/// leaves room is kept for, and the result how many it is kept for then. Only a chunk that shares
+/// leaf 0 can fail, where memory ran out.
 fn make_leaf(
     chunks: &mut Vec<u32>,
     leaves: &mut Vec<u32>,
@@ -205,7 +224,7 @@ fn write_number(chunks: &Vec<u32>, leaves: &mut Vec<u32>, page: u32, number: u32
     leaves[leaf * LEAF + (page % CHUNK) as usize] = number;
 }
 
-/// How many chunks from `first` on, `most` at most, share a leaf.
+/// How many chunks in a row from `first` on, `most` at most, share leaf `leaf`.
 fn shared_run(chunks: &Vec<u32>, first: usize, most: usize, leaf: u32) -> usize
     requires { first < length chunks.now.items }
     ensures most { result ≤ most }
@@ -221,7 +240,7 @@ fn shared_run(chunks: &Vec<u32>, first: usize, most: usize, leaf: u32) -> usize
     count
 }
 
-/// Writes `number` to the `count` places from `first` on.
+/// Writes `number` to the `count` entries from index `first` on.
 fn put_number(numbers: &mut [u32], first: usize, count: usize, number: u32)
     requires { first + count ≤ length numbers.old }
     ensures { Puts numbers.old numbers.new first count (λ j. number) }
@@ -229,7 +248,7 @@ fn put_number(numbers: &mut [u32], first: usize, count: usize, number: u32)
     numbers[first..first + count].fill(number);
 }
 
-/// Gives `count` chunks from `first` on a shared leaf.
+/// Lets the `count` chunks from `first` on share leaf `leaf`.
 fn write_chunks(chunks: &mut Vec<u32>, first: usize, count: usize, leaf: u32)
     requires { first + count ≤ length chunks.old.items }
     ensures { Puts chunks.old.items chunks.new.items first count (λ j. leaf) }
@@ -237,8 +256,8 @@ fn write_chunks(chunks: &mut Vec<u32>, first: usize, count: usize, leaf: u32)
     put_number(chunks, first, count, leaf);
 }
 
-/// Keeps room for pages of the chunks from `first` on, `most` at most, that share leaf 0: how many
-/// chunks that are.
+/// Lets the chunks in a row from `first` on, `most` at most, that share leaf 0 share leaf 1, and
+/// reserves capacity for a leaf of each, beside `kept`. Answers how many chunks that are.
 fn keep_run(
     chunks: &mut Vec<u32>,
     leaves: &mut Vec<u32>,
@@ -267,8 +286,9 @@ fn keep_run(
     Ok(count)
 }
 
-/// Makes zeros of the pages of the chunks from `first` on, `most` at most, that share leaf 1, or 2:
-/// how many chunks that are.
+/// Makes pages of zeros of the chunks in a row from `first` on, `most` at most, that all share leaf
+/// 2, which then stay as they are, or that all share leaf 1, which then share leaf 2. Answers how
+/// many chunks that are: 0 where the first shares neither.
 fn clear_run(chunks: &mut Vec<u32>, first: usize, most: usize) -> usize
     requires { first < length chunks.old.items }
     ensures most { result ≤ most }
@@ -287,7 +307,7 @@ fn clear_run(chunks: &mut Vec<u32>, first: usize, most: usize) -> usize
 }
 
 impl PageTable {
-    /// No page.
+    /// A table without a page.
     pub(crate) fn new(alloc: Global) -> PageTable
         ensures { result ≡ [] }
     {
@@ -316,7 +336,8 @@ impl PageTable {
         self.get(page).unwrap_or(0)
     }
 
-    /// Lengthens by zeros, so that it has a page.
+    /// Makes sure that the table has `page`; new pages get the number 0. The one error is that
+    /// memory ran out.
     pub(crate) fn lengthen(&mut self, page: u32) -> Result<(), AllocError>
         requires { page < 2 ^ 23 }
         ensures same { (k : ℕ) → slice_index self.new k ≡ slice_index self.old k }
@@ -327,8 +348,8 @@ impl PageTable {
         Ok(())
     }
 
-    /// Sets the number of the frame that a page has. The one error is that memory ran out; nothing
-    /// is changed then. Where the page had a number it doesn't fail.
+    /// Sets the number of a page that the table has. The one error is that memory ran out; nothing
+    /// is changed then. Where the page had a number, other than 0, it doesn't fail.
     pub(crate) fn set(&mut self, page: u32, number: u32) -> Result<(), AllocError>
         requires { page < length self.old }
         ensures ok { OnOk result (self.new ≡ slice_set self.old page number) }
@@ -341,7 +362,9 @@ impl PageTable {
         Ok(())
     }
 
-    /// How many chunks from `first` on, `most` at most, are known to have no number.
+    /// How many chunks in a row from `first` on, `most` at most, are seen to have no page with a
+    /// number: they share leaf 0, or lie past the end. A chunk with a leaf of its own isn't looked
+    /// into, so that the answer may be too small.
     pub(crate) fn free_chunks(&self, first: u32, most: u32) -> u32
         ensures most { result ≤ most }
         ensures none { (k : ℕ) → k < result * 128
@@ -353,9 +376,9 @@ impl PageTable {
         shared_run(&self.chunks, first as usize, most as usize, 0) as u32
     }
 
-    /// Gives number 1 to the pages of the chunks from `first` on, `most` at most, of which none has
-    /// a number, as far as they are known: how many chunks that are. The one error is that memory
-    /// ran out; nothing is changed then.
+    /// Gives number 1 to all pages of the chunks in a row from `first` on, `most` at most, that
+    /// share leaf 0: how many chunks that are. A chunk with a leaf of its own ends the row, even if
+    /// no page of it has a number. The one error is that memory ran out; nothing is changed then.
     pub(crate) fn keep_chunks(&mut self, first: u32, most: u32) -> Result<u32, AllocError>
         requires { first * 128 < length self.old }
         ensures most { IfOk result (λ n. n ≤ most) }
@@ -376,8 +399,9 @@ impl PageTable {
         Ok(count as u32)
     }
 
-    /// Gives number 2 to the pages of the chunks from `first` on, `most` at most, of which all have
-    /// number 1, or all number 2, as far as they are known: how many chunks that are.
+    /// Gives number 2 to all pages of the chunks in a row from `first` on, `most` at most, that all
+    /// share leaf 1, or all leaf 2: how many chunks that are, 0 where the first has a leaf of its
+    /// own or no number.
     pub(crate) fn clear_chunks(&mut self, first: u32, most: u32) -> u32
         requires { first * 128 < length self.old }
         ensures most { result ≤ most }

@@ -20,19 +20,19 @@ const ADDRESSES: u64 = 1 << 32;
 /// How many bytes a page has.
 const PAGE: u32 = 512;
 
-/// A page's bytes, and after them their marks.
+/// How many cells a frame has: a page's bytes, and after them their marks.
 const FRAME: usize = 1024;
 
-/// How many bytes the pages of a chunk have.
+/// How many bytes the 128 pages of a chunk of the page table have.
 const CHUNK_BYTES: u32 = 65536;
 
-/// The number of a page of zeros, for which room is kept a frame of its own.
+/// The number of a page of zeros that shares frame 2; room is kept for a frame of its own.
 const ZEROS: u32 = 2;
 
-/// Where the last word begins that lies in one page.
+/// The offset in a page of the last word that lies in it whole.
 const LAST_WORD: u32 = 508;
 
-/// Where the last halfword begins that lies in one page.
+/// The offset in a page of the last halfword that lies in it whole.
 const LAST_HALFWORD: u32 = 510;
 
 /// All marks of a word's bytes.
@@ -42,9 +42,10 @@ const FOUR_MARKS: u32 = 0x0101_0101;
 const TWO_MARKS: u16 = 0x0101;
 
 /// A memory as pages of 512 bytes. As in a machine's page table, each page's number leads to a
-/// frame, in which its bytes stand; after them is a mark for each byte that is there. Pages without
-/// a byte share frame 0, which has no mark. Pages of zeros share frame 2 up to the first store of
-/// another byte; room is kept for `kept` frames, so that a store finds it.
+/// frame: 1024 of the `cells`, the page's bytes and after them a mark for each, 1 where the byte is
+/// there. Pages without a byte share frame 0, or frame 1 where room is kept for one of their own;
+/// neither has a mark. Pages of zeros can share frame 2 up to the first store. `cells` has capacity
+/// for `kept` frames more, one for each page of number 1 or 2, so that a store needs no memory.
 #[derive(Drop)]
 pub struct Pages {
     table: PageTable,
@@ -71,7 +72,8 @@ impl Pages {
         }
     }
 
-    /// Where the frame of an address's page begins, if the table has that page.
+    /// The index in `cells` of the frame of an address's page; `None` if the table ends before the
+    /// page.
     #[inline(always)]
     fn frame(&self, at: u32) -> Option<usize>
         ensures value { IfSome result (λ f. f ≡ frame_of self.now.table at) }
@@ -95,7 +97,8 @@ impl Pages {
         }
     }
 
-    /// The four bytes from an address on, in one page.
+    /// The word at an address, whole in one page, low byte first; `None` if one of its bytes is
+    /// missing.
     #[inline(always)]
     fn word_at(&self, at: u32) -> Option<u32>
         requires { at % 512 ≤ 508 }
@@ -120,7 +123,7 @@ impl Pages {
         ]))
     }
 
-    /// The two bytes from an address on, in one page.
+    /// The halfword at an address, whole in one page; `None` if one of its bytes is missing.
     #[inline(always)]
     fn halfword_at(&self, at: u32) -> Option<u16>
         requires { at % 512 ≤ 510 }
@@ -146,7 +149,7 @@ impl Pages {
         self.cells[place] = byte;
     }
 
-    /// Writes the byte of an address that is there.
+    /// Writes the byte of an address that is there, and first gives its page a frame of its own.
     fn put_own_byte(&mut self, at: u32, byte: u8)
         requires { IsSome (byte_at (bytes_of self.old) at) }
         ensures { bytes_of self.new ≡ insert (bytes_of self.old) at byte }
@@ -174,7 +177,7 @@ impl Pages {
         false
     }
 
-    /// The number of the frame of an address's page, or 0.
+    /// The number of an address's page, that of its frame; 0 where the table ends before the page.
     #[inline(always)]
     fn frame_number(&self, at: u32) -> u32
         ensures { result ≡ slice_index self.now.table (at / 512) }
@@ -182,8 +185,9 @@ impl Pages {
         self.table.number(at / PAGE)
     }
 
-    /// How many of the `most` addresses from the first of a chunk on, up to the last one, are known
-    /// not to be there, as their chunks have no page.
+    /// How many of the `most` addresses from `at` on, the first of a chunk, are seen not to be
+    /// there, as no page of their chunks has a number: whole chunks before the last address, so it
+    /// may be too small.
     fn free_chunks(&self, at: u32, most: u32) -> u32
         requires { at % 65536 ≡ 0 }
         ensures most { result ≤ most }
@@ -195,8 +199,8 @@ impl Pages {
         chunks * CHUNK_BYTES
     }
 
-    /// How many of the `most` addresses from `at` on are known not to be there, up to the end of a
-    /// page or of some chunks; 0 if one of the page of `at` is there.
+    /// How many of the `most` addresses from `at` on are seen not to be there: those of whole
+    /// chunks, or else those up to the end of the page of `at`. 0 if one of the latter is there.
     fn free_run(&self, at: u32, most: u32) -> u32
         requires { 0 < most }
         ensures most { result ≤ most }
@@ -218,7 +222,8 @@ impl Pages {
         count
     }
 
-    /// Whether one of the size addresses from base on is there.
+    /// Whether one of the `size` addresses from `base` on is there; after the last one comes
+    /// address 0.
     fn overlaps(&self, base: u32, size: u32) -> bool
         ensures found { OnTrue result (Overlaps (bytes_of self.now) base size) }
         ensures free { OnFalse result (IsFree (bytes_of self.now) base size) }
@@ -235,7 +240,7 @@ impl Pages {
         false
     }
 
-    /// Writes `count` bytes, those of `front` from place `from` on and zeros past its end, to the
+    /// Writes `count` bytes, those of `front` from index `from` on and zeros past its end, to the
     /// addresses from `at` on, all in one page that has its own frame, and marks them as there.
     fn mark_run(&mut self, at: u32, count: u32, front: &[u8], from: u32)
         requires page { at % 512 + count ≤ 512 }
@@ -248,7 +253,8 @@ impl Pages {
         mark_cells(&mut self.cells, place, count as usize, front, from as usize);
     }
 
-    /// Writes such bytes to addresses in one page that has a number.
+    /// Does what `mark_run` does in a page that has a number, and gives it a frame of its own if
+    /// needed.
     fn put_run(&mut self, at: u32, count: u32, front: &[u8], from: u32)
         requires page { at % 512 + count ≤ 512 }
         requires made { slice_index self.old.table (at / 512) ≢ 0 }
@@ -265,8 +271,8 @@ impl Pages {
         self.mark_run(at, count, front, from);
     }
 
-    /// Writes the four bytes from an address on, in one page; false where one of them is missing,
-    /// and then nothing changed.
+    /// Writes `value` as the word at an address, whole in one page; false where a byte of it is
+    /// missing, and then nothing changed.
     #[inline(always)]
     fn put_word(&mut self, at: u32, value: u32) -> bool
         requires { at % 512 ≤ 508 }
@@ -285,8 +291,8 @@ impl Pages {
         true
     }
 
-    /// Writes the two bytes from an address on, in one page; false where one of them is missing,
-    /// and then nothing changed.
+    /// Writes the low halfword of `value` at an address, in one page; false where a byte is
+    /// missing, and then nothing changed.
     #[inline(always)]
     fn put_halfword(&mut self, at: u32, value: u32) -> bool
         requires { at % 512 ≤ 510 }
@@ -305,7 +311,8 @@ impl Pages {
         true
     }
 
-    /// Writes the byte of an address; false where it is missing, and then nothing changed.
+    /// Writes the low byte of `value` at an address; false where it is missing, and then nothing
+    /// changed.
     #[inline(always)]
     fn store_byte(&mut self, at: u32, value: u32) -> bool
         ensures there { IsTrue result ↔ IsThere (bytes_of self.old) at 1 }
@@ -323,7 +330,7 @@ impl Pages {
         true
     }
 
-    /// A load, byte by byte.
+    /// A load byte by byte, as its bytes may lie in two pages.
     fn load_bytes(&self, at: u32, width: Width) -> Option<u32>
         ensures value { result ≡ loaded (bytes_of self.now) at (count_of width) }
         ensures fits { IfSome result (λ n. n < 256 ^ count_of width) }
@@ -341,7 +348,8 @@ impl Pages {
         Some(byte0 + byte1 * 0x100 + byte2 * 0x1_0000 + byte3 * 0x100_0000)
     }
 
-    /// A store, byte by byte.
+    /// A store byte by byte, as its bytes may lie in two pages, or in one without a frame of its
+    /// own.
     #[tactic(auto, using(crate::proofs::Lookups::stays))]
     fn store_bytes(&mut self, at: u32, width: Width, value: u32) -> bool
         ensures there { IsTrue result ↔ IsThere (bytes_of self.old) at (count_of width) }
@@ -366,9 +374,10 @@ impl Pages {
         true
     }
 
-    /// Writes the first of `most` bytes, those of `front` from place `from` on and zeros past its end,
-    /// to the addresses from `at` on, the first in a page that has a number, up to the end of a page
-    /// or of some chunks: how many.
+    /// Writes the next bytes of a fill to the addresses from `at` on, the first in a page that has
+    /// a number: those of `front` from index `from` on, and zeros past its end. Writes `most` bytes
+    /// at most: whole chunks of zeros, or else up to the end of the page. Answers how many it
+    /// wrote, at least 1.
     fn fill_run(&mut self, at: u32, most: u64, front: &[u8], from: u32) -> u64
         requires some { 0 < most }
         requires most { most ≤ 2 ^ 32 }
@@ -388,7 +397,8 @@ impl Pages {
         count
     }
 
-    /// Writes the bytes of front and then zeros, in pages that have numbers.
+    /// Writes `size` bytes to the addresses from `base` on, those of `front` and then zeros, and
+    /// marks them as there. All their pages have numbers.
     fn fill(&mut self, base: u32, size: u64, front: &[u8])
         requires end { base + size ≤ 2 ^ 32 }
         requires room { length front.now ≤ size }

@@ -17,7 +17,8 @@ impl Segment {
     ghost use Rattle.rv_mem.specs.private.Segment.{byte_in, Puts};
     ghost use Rattle.rv_mem.specs.private.Segment.{HasIn, HasNone};
 
-    /// The bytes of front and then zeros.
+    /// `size` bytes from address `base` on: those of `front`, and then zeros. The one error is that
+    /// memory ran out.
     pub fn new(alloc: Global, base: u32, size: u32, front: &[u8]) -> Result<Segment, AllocError>
         requires end { base + size ≤ 2 ^ 32 }
         requires room { length front.now ≤ size }

@@ -60,7 +60,8 @@ impl Segments {
         lookup::has_in(&self.parts, from, to)
     }
 
-    /// Whether one of the size addresses from base on is there.
+    /// Whether one of the `size` addresses from `base` on is there; after the last one comes
+    /// address 0.
     fn overlaps(&self, base: u32, size: u32) -> bool
         ensures found { OnTrue result (Overlaps (bytes_of self.now) base size) }
         ensures free { OnFalse result (IsFree (bytes_of self.now) base size) }

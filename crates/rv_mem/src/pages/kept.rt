@@ -1,4 +1,6 @@
-//! The frames that pages share, and the room that is kept for frames of their own.
+//! The frames that pages share, and the room that is kept for frames of their own. To keep room for
+//! a page is to reserve capacity for a frame and to count it in `kept`, so that a later store to
+//! the page can't run out of memory. The page table says what the numbers 0, 1 and 2 of pages mean.
 ghost use Rattle.std.specs.Prelude.{◌≡◌, ◌≢◌, ◌+◌, ◌*◌, ◌/◌, ◌%◌, ◌^◌, ◌<◌, ◌≤◌, [], IfOk, OnOk, length, slice_index, ℕ};
 ghost use Rattle.std.specs.Bool.{OnTrue, OnFalse};
 ghost use Rattle.rv_mem.specs.Bytes.{byte_at};
@@ -22,7 +24,8 @@ const CHUNK: u32 = 128;
 const MOST: usize = 1 << 41;
 
 impl Pages {
-    /// Makes the frames that pages share, if there are none.
+    /// Appends the frames that pages share, unless they are there already: 0 and 1 without a mark,
+    /// and 2 of zeros that are all marked.
     fn make_shared_frames(&mut self) -> Result<(), AllocError>
         ensures same { bytes_of self.new ≡ bytes_of self.old }
         ensures table { self.new.table ≡ self.old.table }
@@ -38,7 +41,7 @@ impl Pages {
         Ok(())
     }
 
-    /// Lengthens the table, so that it has a page.
+    /// Lengthens the table, so that it has `page`. The one error is that memory ran out.
     fn lengthen_table(&mut self, page: u32) -> Result<(), AllocError>
         requires page { page < 2 ^ 23 }
         requires cells { 0 < length self.old.cells.items }
@@ -50,7 +53,8 @@ impl Pages {
         self.table.lengthen(page)
     }
 
-    /// Keeps room for a frame of a page that has no number.
+    /// Keeps room for a frame of `page`, which has no number, and gives it number 1. It fails
+    /// where memory ran out, or where a frame's index could have more than 32 bits.
     fn number_page(&mut self, page: u32) -> Result<(), AllocError>
         requires page { page < length self.old.table }
         requires none { slice_index self.old.table page ≡ 0 }
@@ -69,7 +73,8 @@ impl Pages {
         Ok(())
     }
 
-    /// Keeps room for a frame of the page of number `page`, if it has no number.
+    /// Keeps room for a frame of `page`, the addresses from `page * 512` on, if it has no number.
+    /// The one error is that memory ran out.
     fn make_page(&mut self, page: u32) -> Result<(), AllocError>
         requires { page < 2 ^ 23 }
         ensures same { bytes_of self.new ≡ bytes_of self.old }
@@ -84,8 +89,9 @@ impl Pages {
         self.number_page(page)
     }
 
-    /// Keeps room for frames of the pages from the first of a chunk on, `most` chunks at most, as far
-    /// as they are known to have no number: how many pages that are.
+    /// Keeps room for frames of the pages from `page` on, the first of a chunk, and gives them
+    /// number 1: of `most` chunks, or up to the first chunk that isn't seen to have no number (see
+    /// `free_chunks` of the table). Answers how many pages that are.
     fn number_chunks(&mut self, page: u32, most: u32) -> Result<u32, AllocError>
         requires page { page < length self.old.table }
         requires first { page % 128 ≡ 0 }
@@ -107,8 +113,8 @@ impl Pages {
         Ok(chunks * CHUNK)
     }
 
-    /// Keeps such room for whole chunks of pages from one on, before page `end`: how many pages they
-    /// have.
+    /// Keeps such room for whole chunks of pages from `page` on that end at page `end` or before.
+    /// Answers how many pages they have: 0 where `page` isn't the first of such a chunk.
     fn keep_chunks(&mut self, page: u32, end: u32) -> Result<u32, AllocError>
         requires page { page < end }
         requires end { end ≤ 2 ^ 23 }
@@ -127,8 +133,8 @@ impl Pages {
         Ok(count)
     }
 
-    /// Keeps room for frames of one page, or of some chunks of pages, before page `end`: how many
-    /// pages that are.
+    /// Keeps room for frames of the next pages from `page` on, before page `end`: of whole chunks
+    /// where it can, and else of one page. Answers how many pages that are, at least 1.
     fn make_run(&mut self, page: u32, end: u32) -> Result<u32, AllocError>
         requires page { page < end }
         requires end { end ≤ 2 ^ 23 }
@@ -147,7 +153,9 @@ impl Pages {
         Ok(1)
     }
 
-    /// Gives a page that has a number a frame of its own, with what it has.
+    /// Gives `page`, which has a number, a frame of its own with the bytes that it has, in the room
+    /// that is kept for it; nothing changes if it has one. Not inlined, as no page takes more than
+    /// one frame.
     #[inline(never)]
     pub(super) fn own_frame(&mut self, page: u32)
         requires { slice_index self.old.table page ≢ 0 }
@@ -165,7 +173,7 @@ impl Pages {
         self.kept -= 1;
     }
 
-    /// Makes zeros of a page for which room is kept.
+    /// Makes a page of zeros, all there, of `page`, which has number 1: it shares frame 2 then.
     fn share_zeros(&mut self, page: u32)
         requires { slice_index self.old.table page ≡ 1 }
         ensures written { (q : ℕ) → byte_at (bytes_of self.new) q ≡
@@ -175,8 +183,9 @@ impl Pages {
         self.table.set(page, ZEROS).unwrap();
     }
 
-    /// Writes `count` zeros to the addresses from `at` on, all in one page that has a number, where
-    /// that takes no frame of its own; false where it takes one, and then nothing changed.
+    /// Writes `count` zeros to the addresses from `at` on, all in one page, where the page can
+    /// share frame 2 then: it does already, or it has number 1 and the zeros fill it. Else false,
+    /// and nothing changed.
     pub(super) fn put_zeros(&mut self, at: u32, count: u32) -> bool
         requires { at % 512 + count ≤ 512 }
         ensures done { OnTrue result ((q : ℕ) → byte_at (bytes_of self.new) q ≡
@@ -195,8 +204,9 @@ impl Pages {
         true
     }
 
-    /// Makes zeros of the pages of chunks from an address on, `most` chunks at most, as far as they
-    /// are known to have no frame of their own: how many bytes they have.
+    /// Makes pages of zeros of whole chunks from `at` on, the start of a chunk, `most` chunks at
+    /// most, by the table alone (`clear_chunks`). Answers how many bytes they have, 0 if that can't
+    /// be done.
     fn share_zero_chunks(&mut self, at: u32, most: u32) -> u64
         requires at { at % 65536 ≡ 0 }
         requires made { slice_index self.old.table (at / 512) ≢ 0 }
@@ -209,9 +219,9 @@ impl Pages {
         chunks as u64 * CHUNK_BYTES as u64
     }
 
-    /// Writes the first of `most` bytes, those of `front` from place `from` on and zeros past its end,
-    /// to the addresses from `at` on, as far as they are zeros in whole chunks that take no frames of
-    /// their own: how many bytes that are.
+    /// Writes the first of `most` bytes, those of `front` from index `from` on and zeros past its
+    /// end, to the addresses from `at` on: only whole chunks of zeros whose pages have no frames of
+    /// their own. Answers how many bytes that are, perhaps 0; the caller writes the rest.
     pub(super) fn put_zero_chunks(&mut self, at: u32, most: u64, front: &[u8], from: u32) -> u64
         requires most { most ≤ 2 ^ 32 }
         requires made { slice_index self.old.table (at / 512) ≢ 0 }
@@ -227,8 +237,8 @@ impl Pages {
         self.share_zero_chunks(at, zeros)
     }
 
-    /// Makes room for the cells of some frames more, and for no others, so that they are made
-    /// without moving the cells again.
+    /// Reserves capacity for `count` frames more at once, beside those that are shared or kept, and
+    /// for no others, so that they are made without moving the cells again.
     fn reserve_frames(&mut self, count: u32) -> Result<(), AllocError>
         ensures same { bytes_of self.new ≡ bytes_of self.old }
     {
@@ -240,7 +250,9 @@ impl Pages {
         self.cells.reserve_exact((first + count as usize) * FRAME)
     }
 
-    /// Keeps room for the pages of the size addresses from base on.
+    /// Keeps room for frames of all pages of the `size` addresses from `base` on that have no
+    /// number, so that each has one then. The one error is that memory ran out; no byte changed
+    /// then either.
     pub(super) fn make_pages(&mut self, base: u32, size: u32) -> Result<(), AllocError>
         requires { base + size ≤ 2 ^ 32 }
         ensures same { bytes_of self.new ≡ bytes_of self.old }
