@@ -10,7 +10,7 @@ use Rattle.sfi_formats.specs.Formats.{is_data_register_in}
 use Rattle.sfi_formats.specs.declared.format.Format.TheVariants.{Sfis}
 use Rattle.sfi_masks.specs.Masks.{is_in, word_at, IsSingleMask, AreSingleMasks}
 use Rattle.sfi_masks.specs.declared.tables.TheConstants.{MASK, MASK_NEXT}
-use Rattle.sfi_masks.specs.private.{half_classes, mask_classes, of_four, AreMasksSeen}
+use Rattle.sfi_masks.specs.private.{half_classes, mask_classes, of_four, AreSingleMasksSeen}
 use Rattle.sfi_masks.proofs.Cells.{opcode, rd, funct3}
 use Rattle.sfi_masks.proofs.Told.{word_of, rs1, word_is}
 use Rattle.sfi_masks.proofs.Block.{not_false}
@@ -95,7 +95,7 @@ module _ (block : List ℕ) (fits : (k : ℕ) → slice_index block k < 256) whe
   byte k = slice_index block k
 
   abbrev IsQuarter : ℕ → ℕ → Type 0
-  IsQuarter q m = AreMasksSeen (λ k. slice_index (take 32 (drop (32 * q) block)) k) m
+  IsQuarter q m = AreSingleMasksSeen (λ k. slice_index (take 32 (drop (32 * q) block)) k) m
 
   taken : (q k place : ℕ) → k < 32 → 32 * q + k ≡ place → byte place ≡ slice_index (take 32 (drop (32 * q) block)) k
   taken q k place h e = ap byte (sym e) ∙ sym (get_or-take 32 (drop (32 * q) block) k 0 h ∙ get_or-drop (32 * q) block k 0)

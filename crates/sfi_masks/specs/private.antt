@@ -114,8 +114,8 @@ unfoldable pub mask_classes : ℕ → ℕ → ℕ → ℕ → ℕ
 mask_classes low high low2 high2 = bit_and (half_classes MASK low high) (half_classes MASK_NEXT low2 high2)
 
 -- of 32 bytes: where single masks begin, as in AreSeen
-abbrev pub AreMasksSeen : (ℕ → ℕ) → ℕ → Type 0
-AreMasksSeen byte told =
+abbrev pub AreSingleMasksSeen : (ℕ → ℕ) → ℕ → Type 0
+AreSingleMasksSeen byte told =
     (i : ℕ) → i < 16 → is_in told i
     ≡ not (mask_classes (byte (2 * i)) (byte (2 * i + 1)) (byte (2 * ((i + 1) % 16))) (byte (2 * ((i + 1) % 16) + 1)) == 0)
 

@@ -1,4 +1,7 @@
-//! Steps on vectors of sixteen bytes, by their lanes.
+//! Steps on vectors of sixteen bytes. Lane i is for halfword i of a quarter of a block, 32 bytes;
+//! `low` and `high` are the halfwords' low and high bytes. Classes are eight bits, one for each
+//! class of a table of [`tables`](crate::tables). What the contracts cite of specs/private says the
+//! same of one halfword.
 ghost use Rattle.std.specs.Prelude.{◌≡◌, ℕ, ◌+◌, ◌*◌, ◌%◌, ◌^◌, ◌<◌, ◌==◌, not, length, slice_index, bit_and};
 ghost use Rattle.sfi_masks.specs.Masks.{is_in};
 ghost use Rattle.sfi_masks.specs.private.{HasLanes, byte_classes, half_classes, followed, free_in_words, kept, kept_in_words, mask_classes, rest};
@@ -9,7 +12,7 @@ use crate::tables::{
 };
 use std::simd::prelude::*;
 
-/// The low bytes of 16 halfwords, and their high bytes.
+/// The low bytes of the 16 halfwords of `bytes`, and their high bytes.
 #[inline(always)]
 pub(crate) fn low_and_high(bytes: &[u8]) -> (u8x16, u8x16)
     requires { length bytes.now ≡ 32 }
@@ -30,7 +33,7 @@ fn look_up_lanes(table: [u8; 16], lanes: u8x16) -> u8x16
     u8x16::from_array(table).swizzle_dyn(lanes)
 }
 
-/// The classes of each byte, by the table.
+/// The classes of each byte: the bits that the table's entries for its two nibbles share.
 #[inline(always)]
 fn classes_of_bytes(table: ByteTable, bytes: u8x16) -> u8x16
     ensures { HasLanes result (λ i. byte_classes table (slice_index bytes i)) }
@@ -39,7 +42,7 @@ fn classes_of_bytes(table: ByteTable, bytes: u8x16) -> u8x16
         & look_up_lanes(table.high, bytes >> u8x16::splat(4))
 }
 
-/// The classes of each halfword, by the table.
+/// The classes of each halfword: the bits that the table's entries for its four nibbles share.
 #[inline(always)]
 pub(crate) fn classes_of_halfwords(table: HalfTable, low: u8x16, high: u8x16) -> u8x16
     ensures { HasLanes result (λ i. half_classes table (slice_index low i) (slice_index high i)) }
@@ -47,8 +50,9 @@ pub(crate) fn classes_of_halfwords(table: HalfTable, low: u8x16, high: u8x16) ->
     classes_of_bytes(table.low, low) & classes_of_bytes(table.high, high)
 }
 
-/// The classes of each halfword, by the next halfword too; the first counts as the next of the
-/// last.
+/// The classes of [`FOLLOWED`] that each halfword is in, by the next halfword too, of which
+/// [`NEXT`] asks. Of the last halfword the first counts as the next: so its 32-bit classes tell
+/// nothing.
 #[inline(always)]
 pub(crate) fn followed_classes(low: u8x16, high: u8x16) -> u8x16
     ensures { HasLanes result
@@ -58,8 +62,10 @@ pub(crate) fn followed_classes(low: u8x16, high: u8x16) -> u8x16
     classes_of_halfwords(FOLLOWED, low, high) & next
 }
 
-/// Which classes of [`FOLLOWED`] are free in code in words: the accesses too where their base is
-/// one of a few registers, of which x31 is one where masks are `single`.
+/// The classes of [`FOLLOWED`] that are free in code in words, for each halfword as the first of a
+/// word: those that compute, and the accesses too where the word's bits 19:15, its base, are those
+/// of a register of which `may_be_on_in_words` of specs/Masks holds: x31 only where masks are
+/// `single`.
 #[inline(always)]
 pub(crate) fn free_in_words(single: bool, low: u8x16, high: u8x16) -> u8x16
     ensures { HasLanes result
@@ -73,8 +79,9 @@ pub(crate) fn free_in_words(single: bool, low: u8x16, high: u8x16) -> u8x16
         .select(odd, even)
 }
 
-/// The classes of each halfword by which it begins a single mask, by the next halfword too; the first
-/// counts as the next of the last.
+/// The classes of [`MASK`] that each halfword is in, by the next halfword too, of which
+/// [`MASK_NEXT`] asks: not 0 where it begins a single mask, `and d, a, x27`. Of the last halfword
+/// the first counts as the next.
 #[inline(always)]
 pub(crate) fn mask_classes(low: u8x16, high: u8x16) -> u8x16
     ensures { HasLanes result
@@ -85,7 +92,8 @@ pub(crate) fn mask_classes(low: u8x16, high: u8x16) -> u8x16
     classes_of_halfwords(MASK, low, high) & next
 }
 
-/// The classes of each halfword that are free in this format only, or not by their first bits.
+/// The classes of [`REST`] that each halfword is in and that are free: all of them where an access
+/// on x2 needs nothing beside it (`stack`), and else those that are no access on x2.
 #[inline(always)]
 pub(crate) fn rest_classes(stack: bool, low: u8x16, high: u8x16) -> u8x16
     ensures { HasLanes result (λ i. rest stack (slice_index low i) (slice_index high i)) }
@@ -93,7 +101,8 @@ pub(crate) fn rest_classes(stack: bool, low: u8x16, high: u8x16) -> u8x16
     classes_of_halfwords(REST, low, high) & u8x16::splat(if stack { ALL } else { PLAIN })
 }
 
-/// The classes that each halfword may be in, by the register that its bits 11:7 name.
+/// The classes that count for each halfword: where x2 is a `stack` pointer and bits 11:7 name it,
+/// only those that don't write that register, and else all.
 #[inline(always)]
 pub(crate) fn kept_classes(stack: bool, low: u8x16, high: u8x16) -> u8x16
     ensures { HasLanes result (λ i. kept stack (slice_index low i) (slice_index high i)) }
@@ -106,8 +115,8 @@ pub(crate) fn kept_classes(stack: bool, low: u8x16, high: u8x16) -> u8x16
         .select(u8x16::splat(NO_RD), u8x16::splat(ALL))
 }
 
-/// The classes that each halfword of code in words may be in, by the register that its bits 11:7
-/// name.
+/// The classes that count for each halfword of code in words: where bits 11:7 name a typed
+/// register, x2 to x4 or x29 to x31, only those that don't write that register, and else all.
 #[inline(always)]
 pub(crate) fn kept_in_words(low: u8x16, high: u8x16) -> u8x16
     ensures { HasLanes result (λ i. kept_in_words (slice_index low i) (slice_index high i)) }
@@ -121,7 +130,7 @@ pub(crate) fn kept_in_words(low: u8x16, high: u8x16) -> u8x16
         )
 }
 
-/// A bit for each halfword whose two lowest bits are 11.
+/// A bit for each halfword, the lowest for the first: set where its two lowest bits are 11.
 #[inline(always)]
 pub(crate) fn long_bits(low: u8x16) -> u64
     ensures small { result < 2 ^ 16 }
@@ -131,7 +140,7 @@ pub(crate) fn long_bits(low: u8x16) -> u64
     (low & three).simd_eq(three).to_bitmask()
 }
 
-/// A bit for each lane that isn't 0.
+/// A bit for each lane, the lowest for the first: set where it isn't 0.
 #[inline(always)]
 pub(crate) fn bits_of(lanes: u8x16) -> u64
     ensures small { result < 2 ^ 16 }

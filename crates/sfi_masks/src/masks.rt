@@ -1,7 +1,7 @@
 //! The masks of a block of eight bundles.
 ghost use Rattle.std.specs.Prelude.{◌≡◌, ℕ, ◌/◌, ◌%◌, ◌^◌, ◌<◌, length, slice_index};
 ghost use Rattle.sfi_masks.specs.Masks.{AreMasks, AreMasksInWords, AreSingleMasks, is_in};
-ghost use Rattle.sfi_masks.specs.private.{AreMasksSeen, AreSeen, bundles, words, of_four};
+ghost use Rattle.sfi_masks.specs.private.{AreSingleMasksSeen, AreSeen, bundles, words, of_four};
 
 use crate::lanes::{
     bits_of, classes_of_halfwords, followed_classes, free_in_words, kept_classes, kept_in_words,
@@ -18,10 +18,13 @@ pub const BLOCK_BYTES: usize = 128;
 pub struct Masks {
     /// Its two lowest bits are 11: it begins no instruction of 16 bits.
     pub long: u64,
-    /// It begins an instruction that breaks no rule by itself: in a plain bundle whatever stands beside
-    /// it, in words where nothing is owed before it, and then it leaves nothing owed.
+    /// It begins an instruction that breaks no rule by itself: in a plain bundle (neither a gate's
+    /// nor its region's last) whatever stands beside it; in words unless the instruction before it
+    /// owes a mask or a use of its register, and it owes none itself. A bit that isn't set tells
+    /// nothing.
     pub free: u64,
-    /// It begins a load or a store of 32 bits that writes no register that it may not.
+    /// It begins a load or a store of 32 bits that writes no register that it may not. A bit that
+    /// isn't set tells nothing.
     pub access: u64,
 }
 
@@ -64,12 +67,14 @@ fn word_masks_of_quarter(single: bool, bytes: &[u8]) -> Masks
     }
 }
 
-/// Where single masks begin in a quarter of a block: 16 halfwords, in the low bits.
+/// Where single masks, `and d, a, x27` with a data register d, begin in a quarter of a block: bit i
+/// of the result is for halfword i of 16, and the higher bits are 0. Bit 15 tells nothing, as the
+/// first halfword stands for the one after the last.
 #[inline(always)]
 fn single_masks_of_quarter(bytes: &[u8]) -> u64
     requires { length bytes.now ≡ 32 }
     ensures small { result < 2 ^ 16 }
-    ensures seen { AreMasksSeen (λ k. slice_index bytes.now k) result }
+    ensures seen { AreSingleMasksSeen (λ k. slice_index bytes.now k) result }
 {
     let (low, high) = low_and_high(bytes);
     bits_of(mask_classes(low, high))
@@ -104,9 +109,9 @@ pub fn masks_of(stack: bool, block: &[u8; BLOCK_BYTES]) -> Masks
     }
 }
 
-/// The masks of the block's halfwords in code in words, where accesses on data registers and on x26 are
-/// free; `SINGLE` says whether masks of data are single. It is compiled for each apart, so that it is part
-/// of a caller that has one alone.
+/// The masks of the block's halfwords in code in words, where accesses on data registers and on x26
+/// are free; `SINGLE` says whether masks of data are single. It is a const parameter, so that each
+/// case is compiled by itself, inside the caller that has that case alone.
 #[inline(always)]
 pub fn word_masks_of<const SINGLE: bool>(block: &[u8; BLOCK_BYTES]) -> Masks
     ensures { AreMasksInWords SINGLE block.now result }
@@ -122,8 +127,9 @@ pub fn word_masks_of<const SINGLE: bool>(block: &[u8; BLOCK_BYTES]) -> Masks
     }
 }
 
-/// Where single masks of data registers begin, `and d, a, x27`: of each of the block's 64 halfwords a
-/// bit, the lowest for the first. That of a bundle's last halfword tells nothing.
+/// Where single masks of data registers begin, `and d, a, x27`: of each of the block's 64 halfwords
+/// a bit, the lowest for the first. That of a bundle's last halfword tells nothing, nor does a bit
+/// that isn't set.
 #[inline(always)]
 pub fn single_masks_of(block: &[u8; BLOCK_BYTES]) -> u64
     ensures { AreSingleMasks block.now result }

@@ -28,6 +28,7 @@ macro_rules! entry {
     };
 }
 
+// The entries for the sixteen values of a nibble, of eight numbers as `entry` has them.
 macro_rules! nibble_table {
     ($($values:expr),*) => {
         [
@@ -78,6 +79,7 @@ macro_rules! byte_table {
     };
 }
 
+// No value of a nibble, for a class that isn't used; and every value.
 const NONE: u16 = 0;
 
 const ANY: u16 = 0xffff;
@@ -189,7 +191,9 @@ pub(crate) const ON_EVEN: [u8; 16] = [
     FREE, ALL, ALL, FREE, FREE, FREE, FREE, FREE, FREE, FREE, FREE, FREE, FREE, ALL, FREE, FREE,
 ];
 
-/// The first halfwords of single masks, `and d, a, x27`: d is x2, x4 or x26, or x3, x29 or x31.
+/// The first halfwords of single masks, `and d, a, x27` with a data register d: `and` by opcode and
+/// funct3, of any a. The first class is for an even d, x2, x4 or x26, the second for an odd one,
+/// x3, x29 or x31; the other six of the eight are empty.
 pub(crate) const MASK: HalfTable = half_table![
     [1 << 3, 0x0008, 0b0010_0000_0000_0110, 0x8080],
     [1 << 3, 0x0800, 0b1100_0000_0000_0010, 0x8080],
@@ -201,7 +205,8 @@ pub(crate) const MASK: HalfTable = half_table![
     [NONE, NONE, NONE, NONE]
 ];
 
-/// Their second halfwords, by the same classes: bits 24:20 name x27, and funct7 is 0.
+/// Their second halfwords, the same for both classes: bits 24:20 name x27, and funct7 is 0. The
+/// other six classes are empty here, too.
 pub(crate) const MASK_NEXT: HalfTable = half_table![
     [ANY, 1 << 11, 1 << 1, 1 << 0],
     [ANY, 1 << 11, 1 << 1, 1 << 0],
