@@ -31,7 +31,10 @@ stack_pointer = 2
 
 -- ---- the typed registers of code in words
 
--- a data register of each format in words, x2, x3, x4 or x29: it holds an address in the data region or near it
+-- A data register of each format in words, x2, x3, x4 or x29: it holds an address in the data region or at
+-- most 1020 bytes (`slack`) beside it; where masks are single (`has_single_mask`), or in the first addresses,
+-- as many as the data have, or at most 1020 bytes beside these. There x26 and x31 are data registers, too
+-- (`is_data_register_in`).
 abbrev pub is_data_register : ℕ → Bool
 is_data_register r = (r == 2) || (r == 3) || (r == 4) || (r == 29)
 
@@ -39,7 +42,8 @@ is_data_register r = (r == 2) || (r == 3) || (r == 4) || (r == 29)
 abbrev pub code_register : ℕ
 code_register = 30
 
--- the one that holds an offset in the data region, where a mask has two steps
+-- the one that holds an offset in the data region, where a mask has two steps; a data register where masks
+-- are single
 abbrev pub offset_register : ℕ
 offset_register = 31
 

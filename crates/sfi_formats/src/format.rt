@@ -56,7 +56,8 @@ impl Format {
         }
     }
 
-    /// The largest size of a code region that is made of a source, in bytes.
+    /// The largest size in bytes of a code region that the assembler makes of a source; it may be
+    /// below `code_most`, which images are held to.
     pub fn built_code_most(self) -> u32
         ensures { result ≡ built_code_most self }
     {
@@ -97,7 +98,8 @@ impl Format {
         }
     }
 
-    /// Whether the mask of a data register, in code in words, is a single `and`.
+    /// Whether the mask of a data register, in code in words, is a single `and`. False for bundles,
+    /// too.
     pub fn has_single_mask(self) -> bool
         ensures { result ≡ has_single_mask self }
     {

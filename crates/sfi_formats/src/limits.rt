@@ -30,7 +30,7 @@ pub const ITEMS_MOST: u32 = 65536;
 /// The most bytes of a name of a source.
 pub const NAME_MOST: u32 = 64;
 
-/// How far below its data region's end a sandbox's stack pointer lies at first.
+/// How many bytes below its data region's end a sandbox's stack pointer lies at first.
 pub const FIRST_FRAME: u32 = 16;
 
 /// How many bytes outside its data region the address in a data register of code in words may lie;

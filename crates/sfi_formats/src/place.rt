@@ -8,7 +8,8 @@ use crate::format::Format;
 // The first code base, and how far the code of one sandbox lies from that of the next.
 const SANDBOX_STRIDE: u32 = 0x0100_0000;
 
-// How far the data lies from the code; where masks of data are single, the code lies so far up itself.
+// How far above its code the data of a sandbox lies. Where masks of data are single, the code lies
+// so far above where it would else, and the data at a bit of its own.
 const DATA_OFFSET: u32 = 0x0080_0000;
 
 /// Where the two regions of a sandbox begin.
