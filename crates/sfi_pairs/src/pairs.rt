@@ -5,7 +5,8 @@ ghost use Rattle.sfi_pairs.specs.Pairs.{pair, data_pair, code_pair};
 use rv_word::{Instr, Reg, RegOp};
 use sfi_formats::{CODE_BASE_REGISTER, CODE_MASK_REGISTER, DATA_BASE_REGISTER, DATA_MASK_REGISTER};
 
-/// `and target, a, mask`, `or target, target, base`.
+/// The pair `and target, a, mask`, `or target, target, base`, which puts `target` into the region
+/// of the two registers `mask` and `base`, at the offset of `a`.
 #[inline]
 fn masked_pair(mask: Reg, base: Reg, target: Reg, a: Reg) -> [Instr; 2]
     ensures { result ≡ pair mask base target a }

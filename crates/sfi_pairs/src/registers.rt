@@ -8,7 +8,9 @@ use sfi_formats::{
     OFFSET_REGISTER, SCRATCH,
 };
 
-/// Whether the register holds a bound of the regions, so that nothing in a sandbox may write it.
+/// Whether the register is one of the four that hold bounds of the regions, x24 to x27. Nothing in
+/// a sandbox may write it, unless it is a data register, as x26 where masks are single: see
+/// [`is_reserved_in`].
 #[inline]
 pub fn is_reserved(register: Reg) -> bool
     ensures { result ≡ is_reserved register }
@@ -28,8 +30,9 @@ pub fn is_withheld(register: Reg) -> bool
     is_reserved(register) || register.number() == SCRATCH
 }
 
-/// Whether it is a data register of code in words, whose value lies in the data region or near it,
-/// in each format.
+/// Whether it is a data register in each format of code in words: its value lies in the data region
+/// or at most 1020 bytes beside it, or, where masks are single, in the first addresses, as many as
+/// the data have, or as near to these.
 #[inline]
 pub fn is_data_register(register: Reg) -> bool
     ensures { result ≡ is_data_register register }
@@ -37,7 +40,8 @@ pub fn is_data_register(register: Reg) -> bool
     matches!(register.number(), 2 | 3 | 4 | 29)
 }
 
-/// Whether it is a data register of code in words of this format.
+/// Whether it is a data register of code in words of this format: where masks are single x26 and
+/// x31, too.
 #[inline]
 pub fn is_data_register_in(format: Format, register: Reg) -> bool
     ensures { result ≡ is_data_register_in format register }
@@ -48,7 +52,8 @@ pub fn is_data_register_in(format: Format, register: Reg) -> bool
     }
 }
 
-/// Whether nothing in a sandbox of code in words of this format may write the register.
+/// Whether nothing in a sandbox of code in words of this format may write the register: x24, x25
+/// and x27, and x26 where masks have two steps.
 #[inline]
 pub fn is_reserved_in(format: Format, register: Reg) -> bool
     ensures { result ≡ is_reserved_in format register }
