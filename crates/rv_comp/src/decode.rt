@@ -1,4 +1,6 @@
-//! Reading a halfword: by its low two bits, the quadrant, and its top three.
+//! Reading a halfword `h`: by its low two bits, the quadrant, and its top three. Functions for part
+//! of the halfwords don't look at the bits again by which they were chosen. `None` says that no row
+//! of the table of forms gives the halfword. specs/mirror has each of them over again, on numbers.
 ghost use Rattle.std.specs.Prelude.{◌≡◌, IfSome};
 ghost use Rattle.rv_comp.specs.Fronts.{IsHalfwordOf};
 ghost use Rattle.rv_comp.specs.mirror.{decoded, quadrant0, quadrant1, quadrant2, arithmetic, upper, jump_or_move};
@@ -14,7 +16,7 @@ use fields::{
     stack_address, stack_step, store_offset, upper_imm, word_offset,
 };
 
-/// Low bits 00: forms on x8 to x15.
+/// The form of a halfword with low bits 00: one on x8 to x15.
 #[tactic(auto, unfolding(crate::specs::mirror::quadrant0))]
 fn decode_quadrant0(h: u16) -> Option<Form16>
     ensures { result ≡ quadrant0 h }
@@ -45,7 +47,8 @@ fn decode_quadrant0(h: u16) -> Option<Form16>
     }
 }
 
-/// Low bits 01: immediates, arithmetic on x8 to x15, jumps and branches.
+/// The form of a halfword with low bits 01: immediates, arithmetic on x8 to x15, jumps and
+/// branches.
 #[tactic(auto, unfolding(crate::specs::mirror::quadrant1))]
 fn decode_quadrant1(h: u16) -> Option<Form16>
     ensures { result ≡ quadrant1 h }
@@ -78,7 +81,7 @@ fn decode_quadrant1(h: u16) -> Option<Form16>
     }
 }
 
-/// C.ADDI16SP and C.LUI.
+/// C.ADDI16SP where the register is x2, and else C.LUI; `None` where the immediate is 0.
 #[tactic(auto, unfolding(crate::specs::mirror::upper))]
 fn decode_upper(h: u16) -> Option<Form16>
     ensures { result ≡ upper h }
@@ -103,7 +106,7 @@ fn decode_upper(h: u16) -> Option<Form16>
     }
 }
 
-/// The forms that compute on x8 to x15.
+/// The form that computes on x8 to x15 (low bits 01, top bits 100), from C.SRLI to C.AND.
 #[tactic(auto, unfolding(crate::specs::mirror::arithmetic))]
 fn decode_arithmetic(h: u16) -> Option<Form16>
     ensures { result ≡ arithmetic h }
@@ -135,7 +138,8 @@ fn decode_arithmetic(h: u16) -> Option<Form16>
     }
 }
 
-/// Low bits 10: shifts, loads and stores on the stack, and jumps and moves by registers.
+/// The form of a halfword with low bits 10: C.SLLI, loads and stores on x2, and jumps and moves by
+/// registers.
 #[tactic(auto, unfolding(crate::specs::mirror::quadrant2))]
 fn decode_quadrant2(h: u16) -> Option<Form16>
     ensures { result ≡ quadrant2 h }
@@ -159,7 +163,7 @@ fn decode_quadrant2(h: u16) -> Option<Form16>
     }
 }
 
-/// C.JR, C.MV, C.EBREAK, C.JALR and C.ADD.
+/// C.JR, C.MV, C.EBREAK, C.JALR or C.ADD (low bits 10, top bits 100).
 #[tactic(auto, unfolding(crate::specs::mirror::jump_or_move))]
 fn decode_jump_or_move(h: u16) -> Option<Form16>
     ensures { result ≡ jump_or_move h }

@@ -33,7 +33,7 @@ impl FormFields {
         FormFields { rd, rs1, rs2, imm }
     }
 
-    /// The bit of a row, for these values.
+    /// The value, 0 or 1, of one bit of a row, where the fields have these values.
     #[inline(always)]
     fn bit(&self, bit: Bit) -> u16
         requires { IsTrue (is_low bit) }
@@ -51,7 +51,7 @@ impl FormFields {
         (value >> number & 1) as u16
     }
 
-    /// The halfword of a row, for these values.
+    /// The halfword of a row, where the fields have these values.
     #[inline(always)]
     fn halfword(&self, row: &[Bit; 16]) -> u16
         requires { AreLow row.now }
@@ -65,7 +65,8 @@ impl FormFields {
     }
 }
 
-/// The halfword of the row at that place of the table, for these values, which are those of the form.
+/// The halfword of `ROWS[row]`, where the fields have these values. The contract alone looks at
+/// `_form`: the row and the values have to be its own.
 #[inline(always)]
 fn filled(_form: &Form16, row: usize, rd: Reg, rs1: Reg, rs2: Reg, imm: i32) -> u16
     requires row { row ≡ place _form.now }

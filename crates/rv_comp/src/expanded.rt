@@ -45,7 +45,7 @@ pub(crate) fn store_word_instr(rs1: Reg, rs2: Reg, imm: i32) -> Instr
     }
 }
 
-/// A comparison with x0, and a jump by an offset.
+/// A branch that compares `rs1` with x0; `offset` is in bytes.
 pub(crate) fn branch_on_zero_instr(cond: Cond, rs1: Reg, offset: i32) -> Instr
     ensures { result ≡ Branch cond rs1 0 offset }
 {
@@ -57,14 +57,14 @@ pub(crate) fn branch_on_zero_instr(cond: Cond, rs1: Reg, offset: i32) -> Instr
     }
 }
 
-/// A jump by an offset.
+/// A jump by `offset` bytes that links `rd`.
 pub(crate) fn jump_instr(rd: Reg, offset: i32) -> Instr
     ensures { result ≡ Jal rd offset }
 {
     Instr::Jal { rd, offset }
 }
 
-/// A jump to the address in a register.
+/// A jump to the address in `rs1` that links `rd`.
 pub(crate) fn jump_to_instr(rd: Reg, rs1: Reg) -> Instr
     ensures { result ≡ Jalr rd rs1 (pos 0) }
 {

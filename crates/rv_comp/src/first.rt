@@ -1,4 +1,6 @@
-//! The first form of an instruction: the rows that may expand to it, from the top of the table.
+//! The first form of an instruction. Rows of several forms may expand to the same instruction; its
+//! first form is that of the topmost one in the table of forms (specs/Table). The functions ask the
+//! lower rows first, so that `later` has their form when a row above is asked.
 ghost use Rattle.std.specs.Prelude.{◌≡◌, ◌≢◌, ◌<◌, ◌^◌, ◌==◌, IsTrue, IfSome, IfNone};
 ghost use Rattle.rv_comp.specs.Fronts.{IsFirst};
 ghost use Rattle.rv_comp.specs.Table.{allowed, expansion};
@@ -17,8 +19,8 @@ fn is(reg: Reg, number: u8) -> bool
     reg.number() == number
 }
 
-/// The form, where it would expand to the instruction and its row allows it; else that of a later
-/// row.
+/// `form`, where its row expands to the instruction (`expands`) and allows these fields; else
+/// `later`, the form of a row below, if there is one.
 fn form_or(expands: bool, form: Form16, later: Option<Form16>) -> Option<Form16>
     ensures { result ≡ taken expands form later }
 {
@@ -157,7 +159,7 @@ fn first_of_lui(rd: Reg, imm: u32) -> Option<Form16>
     }
 }
 
-/// The first form of an instruction, if any.
+/// The first form of an instruction; `None` where it has no 16-bit form.
 #[tactic(auto, unfolding(crate::specs::mirror::first_form))]
 fn first_form(instr: Instr) -> Option<Form16>
     ensures { result ≡ first_form instr }

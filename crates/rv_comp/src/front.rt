@@ -39,7 +39,7 @@ fn read_word(word: u32) -> Front
     }
 }
 
-/// The front of fewer than four bytes.
+/// What stands at the front of fewer than four bytes: no instruction of 4 bytes fits.
 fn read_cut_front(bytes: &[u8]) -> Front
     requires { length bytes.now < 4 }
     ensures { IsFront bytes.now result }

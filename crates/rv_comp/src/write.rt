@@ -10,7 +10,8 @@ use crate::encode::encode16;
 use crate::form::Form16;
 use rv_word::{Instr, encode32};
 
-/// Writes the instruction's word; false where a field is out of range.
+/// Writes the instruction's word to `out`; false where a field is out of range, and then nothing
+/// changed.
 pub fn write_wide(instr: Instr, out: &mut [u8; 4]) -> bool
     ensures in_range { IsTrue result ↔ InRange instr }
     ensures written { OnTrue result (out.new ≡ to_le_bytes w32 (spelling instr)) }
@@ -24,7 +25,8 @@ pub fn write_wide(instr: Instr, out: &mut [u8; 4]) -> bool
     }
 }
 
-/// Writes the form's halfword; false where its row doesn't allow a field.
+/// Writes the form's halfword to `out`; false where its row doesn't allow a field, and then nothing
+/// changed.
 pub fn write_short(form: Form16, out: &mut [u8; 2]) -> bool
     ensures allowed { IsTrue result ↔ IsTrue (allowed form) }
     ensures written { OnTrue result (out.new ≡ to_le_bytes w16 (halfword_of form)) }

@@ -50,7 +50,8 @@ fn high_word(product: i64) -> u32
     ((product >> 32) as i32).cast_unsigned()
 }
 
-/// The operation on registers that computes what this one does.
+/// The operation on two registers that computes what this one does with its immediate as the second
+/// value.
 #[inline(always)]
 pub fn register_op_of(op: ImmOp) -> RegOp
     ensures { result ≡ register_op op }
@@ -68,7 +69,8 @@ pub fn register_op_of(op: ImmOp) -> RegOp
     }
 }
 
-/// The register's value for the number that a load read.
+/// What a load of this kind writes to its register, where `read` is the number of the bytes that it
+/// read: sign-extended by `lb` and `lh`.
 #[inline(always)]
 pub fn load_result(kind: LoadKind, read: u32) -> u32
     requires { read < 256 ^ load_size kind }
@@ -96,7 +98,7 @@ pub fn is_branch_taken(cond: Cond, a: u32, b: u32) -> bool
     }
 }
 
-/// The address that lies an offset away.
+/// The address `offset` bytes after `a`, modulo 2^32.
 #[tactic(auto, using(crate::proofs::States::offset_even))]
 #[inline(always)]
 pub fn offset_from(a: u32, offset: i32) -> u32

@@ -80,7 +80,7 @@ impl Cpu {
     }
 }
 
-/// Goes on after an ecall.
+/// Goes on after the ecall at pc, once the caller has done what it calls for: an ecall has 4 bytes.
 pub fn after_call(cpu: &mut Cpu)
     ensures gone { cpu.new ≡ past cpu.old 4 }
     ensures hart { IsHart cpu.new }

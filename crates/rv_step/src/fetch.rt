@@ -6,7 +6,8 @@ use crate::cpu::Cpu;
 use rv_comp::{Front, read_front};
 use rv_mem::Memory;
 
-/// What is at pc. The second parcel is read where the first one asks for it alone.
+/// The instruction at pc; `Short` where a byte of it is missing, and `Bad` where the bytes spell
+/// none. The second two bytes are read only where the first two begin an instruction of 4 bytes.
 pub fn fetch<M: Memory>(cpu: &Cpu, memory: &M) -> Front
     ensures { IsAtPc (record { hart = cpu.now; memory = M.bytes memory.now }) result }
 {

@@ -3,7 +3,7 @@
 /// Why a step trapped.
 #[derive(Clone, Copy, Debug, PartialEq, Eq)]
 pub enum Cause {
-    /// A parcel of the instruction at pc has a byte missing.
+    /// A byte of the instruction at pc is missing.
     Fetch,
     /// The bytes at pc are no instruction.
     Illegal,

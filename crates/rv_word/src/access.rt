@@ -19,7 +19,8 @@ pub struct Access {
 }
 
 impl WordFields {
-    /// Whether opcode and funct3 are those of a load or a store.
+    /// Whether opcode and funct3 are those of a load or a store: the values of funct3 that
+    /// `from_funct3` of `LoadKind` and of `StoreWidth` know.
     fn is_access(self) -> bool
         ensures { result ≡ is_access self.opcode self.funct3 }
     {

@@ -1,5 +1,5 @@
-//! Which words compute, by two tables: what one test tells of most words,
-//! without making an outline.
+//! Which words compute, as `Computes` of [`Outline`](crate::outline::Outline) says, by two tables:
+//! what one test tells of most words, without making an outline.
 ghost use Rattle.std.specs.Prelude.{◌≡◌, ℕ, true};
 ghost use Rattle.std.specs.Bool.{OnTrue};
 ghost use Rattle.rv_word.specs.Spelling.{bits};
@@ -45,7 +45,7 @@ const COMPUTING: [u8; 256] = [
     0, 0, 0, 0, 0, 0, 0, 0, // 11111
 ];
 
-/// By funct7: the classes that it is in.
+/// By funct7: the classes that it is in, as the sum of the same numbers.
 const CLASSES: [u8; 128] = [
     3, 5, 1, 1, 1, 1, 1, 1, 1, 1, 1, 1, 1, 1, 1, 1, // 0000000
     1, 1, 1, 1, 1, 1, 1, 1, 1, 1, 1, 1, 1, 1, 1, 1, // 0010000

@@ -41,7 +41,8 @@ pub fn encode32(instr: Instr) -> Option<u32>
     }
 }
 
-/// The word of a computation on two registers, which has one always.
+/// The word of a computation on two registers. There always is one, as no field can be out of
+/// range.
 #[tactic(auto, unfolding(crate::specs::Spelling::spelling, crate::specs::Spelling::InRange))]
 pub fn op_word(op: RegOp, rd: Reg, rs1: Reg, rs2: Reg) -> u32
     ensures { IsWordOf result (Instr.Op op rd rs1 rs2) }
@@ -57,7 +58,8 @@ pub fn op_word(op: RegOp, rd: Reg, rs1: Reg, rs2: Reg) -> u32
     fields.word()
 }
 
-/// The word of a computation on an immediate, or on a shift amount.
+/// The word of a computation on an immediate, or on a shift amount; `None` where that is out of
+/// range.
 #[tactic(auto, unfolding(crate::specs::Spelling::spelling, crate::specs::Spelling::InRange))]
 fn op_imm_word(op: ImmOp, rd: Reg, rs1: Reg, imm: i32) -> Option<u32>
     ensures { SomeIff result

@@ -1,4 +1,5 @@
-//! Words of the formats I, S, B, U and J. An immediate that its bits don't hold has none.
+//! Words of the formats I, S, B, U and J; `None` where the immediate is one that its bits can't
+//! hold: too large or too small, or an odd offset.
 ghost use Rattle.std.specs.Prelude.{◌≡◌, ℕ, ◌^◌, ◌<◌};
 ghost use Rattle.std.specs.Option.{SomeIff};
 ghost use Rattle.rv_word.specs.Spelling.{modulo};
@@ -10,7 +11,7 @@ use crate::immediate::{branch_offset_bits, imm12_bits, jump_offset_bits};
 use crate::reg::Reg;
 use crate::word_fields::WordFields;
 
-/// The word of the I format.
+/// The word of the I format, with an `imm` of -2048 to 2047.
 pub(crate) fn i_word(imm: i32, rs1: Reg, funct3: u32, rd: Reg, opcode: u32) -> Option<u32>
     requires funct3_fits { funct3 < 8 }
     requires opcode_fits { opcode < 128 }
@@ -19,7 +20,7 @@ pub(crate) fn i_word(imm: i32, rs1: Reg, funct3: u32, rd: Reg, opcode: u32) -> O
     unsigned_i_word(imm12_bits(imm)?, rs1, funct3, rd, opcode)
 }
 
-/// The word of the I format, with an `imm` that has no sign.
+/// The word of the I format, with an `imm` that has no sign, below 2^12.
 #[tactic(auto, using(crate::proofs::Words::masks))]
 pub(crate) fn unsigned_i_word(imm: u32, rs1: Reg, funct3: u32, rd: Reg, opcode: u32) -> Option<u32>
     requires funct3_fits { funct3 < 8 }
@@ -40,7 +41,7 @@ pub(crate) fn unsigned_i_word(imm: u32, rs1: Reg, funct3: u32, rd: Reg, opcode: 
     Some(fields.word())
 }
 
-/// The word of the S format.
+/// The word of the S format, with an `imm` of -2048 to 2047.
 #[tactic(auto, using(crate::proofs::Words::masks))]
 pub(crate) fn s_word(imm: i32, rs2: Reg, rs1: Reg, funct3: u32, opcode: u32) -> Option<u32>
     requires funct3_fits { funct3 < 8 }
@@ -59,7 +60,7 @@ pub(crate) fn s_word(imm: i32, rs2: Reg, rs1: Reg, funct3: u32, opcode: u32) -> 
     Some(fields.word())
 }
 
-/// The word of the B format.
+/// The word of the B format; `offset` is in bytes and even.
 #[tactic(auto, using(crate::proofs::Words::masks))]
 pub(crate) fn b_word(offset: i32, rs2: Reg, rs1: Reg, funct3: u32, opcode: u32) -> Option<u32>
     requires funct3_fits { funct3 < 8 }
@@ -79,7 +80,7 @@ pub(crate) fn b_word(offset: i32, rs2: Reg, rs1: Reg, funct3: u32, opcode: u32) 
     Some(fields.word())
 }
 
-/// The word of the U format, where `imm` is the number of bits 31:12.
+/// The word of the U format, where `imm` is the number in bits 31:12, below 2^20.
 #[tactic(auto, using(crate::proofs::Words::u_or))]
 pub(crate) fn u_word(imm: u32, rd: Reg, opcode: u32) -> Option<u32>
     requires { opcode < 128 }
@@ -92,7 +93,7 @@ pub(crate) fn u_word(imm: u32, rd: Reg, opcode: u32) -> Option<u32>
     }
 }
 
-/// The word of the J format.
+/// The word of the J format; `offset` is in bytes and even.
 #[tactic(auto, using(crate::proofs::Words::masks))]
 pub(crate) fn j_word(offset: i32, rd: Reg, opcode: u32) -> Option<u32>
     requires { opcode < 128 }

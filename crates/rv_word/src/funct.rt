@@ -46,7 +46,7 @@ impl RegOp {
         }
     }
 
-    /// The computation with these functs.
+    /// The computation with these functs; `None` where none has both.
     pub(crate) fn from_functs(funct7: u32, funct3: u32) -> Option<Self>
         ensures found { IfSome result (λ op. (op_funct7 op ≡ funct7) × (op_funct3 op ≡ funct3)) }
         ensures none { IfNone result ((op : RegOp) →
@@ -108,7 +108,7 @@ impl ImmOp {
         }
     }
 
-    /// The operation with this funct3 that isn't a shift.
+    /// The operation with this funct3 that isn't a shift; `None` where only shifts have it.
     pub(crate) fn from_funct3(funct3: u32) -> Option<Self>
         ensures found { IfSome result (λ op. (is_shift op ≡ false) × (imm_funct3 op ≡ funct3)) }
         ensures none { IfNone result ((op : ImmOp) → is_shift op ≡ false → imm_funct3 op ≢ funct3) }
@@ -124,7 +124,7 @@ impl ImmOp {
         }
     }
 
-    /// The shift with these functs.
+    /// The shift by an immediate with these functs; `None` where none has both.
     pub(crate) fn shift_of(funct7: u32, funct3: u32) -> Option<Self>
         ensures found { IfSome result (λ op.
             (is_shift op ≡ true) × (shift_funct7 op ≡ funct7) × (imm_funct3 op ≡ funct3)) }

@@ -43,7 +43,7 @@ pub(crate) fn signed21(bits: u32) -> i32
     }
 }
 
-/// The 12 bits of an immediate.
+/// The 12 bits of an immediate; `None` unless it is one of -2048 to 2047.
 pub(crate) fn imm12_bits(imm: i32) -> Option<u32>
     ensures value { SomeIff result (IsImm12 imm) (modulo 12 imm) }
     ensures small { IfSome result (λ bits. bits < 2 ^ 12) }
@@ -57,7 +57,7 @@ pub(crate) fn imm12_bits(imm: i32) -> Option<u32>
     }
 }
 
-/// The five bits of a shift amount.
+/// The five bits of a shift amount; `None` unless it is one of 0 to 31.
 pub(crate) fn shift_bits(amount: i32) -> Option<u32>
     ensures value { SomeIff result (IsBetween (pos 0) (pos 31) amount) (modulo 5 amount) }
     ensures small { IfSome result (λ bits. bits < 32) }
@@ -69,7 +69,7 @@ pub(crate) fn shift_bits(amount: i32) -> Option<u32>
     }
 }
 
-/// The 13 bits of a branch's offset.
+/// The 13 bits of a branch's offset in bytes; `None` unless it is even and one of -4096 to 4094.
 pub(crate) fn branch_offset_bits(offset: i32) -> Option<u32>
     ensures value { SomeIff result (IsBranchOffset offset) (modulo 13 offset) }
     ensures small { IfSome result (λ bits. bits < 2 ^ 13) }
@@ -85,7 +85,8 @@ pub(crate) fn branch_offset_bits(offset: i32) -> Option<u32>
     if bits % 2 == 0 { Some(bits) } else { None }
 }
 
-/// The 21 bits of a jump's offset.
+/// The 21 bits of a jump's offset in bytes; `None` unless it is even and one of -1048576 to
+/// 1048574.
 pub(crate) fn jump_offset_bits(offset: i32) -> Option<u32>
     ensures value { SomeIff result (IsJumpOffset offset) (modulo 21 offset) }
     ensures small { IfSome result (λ bits. bits < 2 ^ 21) }

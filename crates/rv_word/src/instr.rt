@@ -170,7 +170,8 @@ pub enum Instr {
 }
 
 impl Instr {
-    /// `rd` of each instruction that has one, except a fence.
+    /// `rd` of each instruction that has one, also where that is x0; `None` for a fence, which
+    /// writes none.
     fn destination(&self) -> Option<Reg>
         ensures { result ≡ destination self.now }
     {
@@ -200,6 +201,7 @@ impl Instr {
     }
 
     /// Whether the instruction has `rd`, is no fence, and names the register of this number there.
+    /// Unlike in `writes`, x0 counts as others do.
     pub fn writes_register(&self, number: u8) -> bool
         ensures { result ≡ writes_register number self.now }
     {

@@ -1,4 +1,4 @@
-//! What an instruction does, without the values that it does it with.
+//! Outlines: what an instruction does, without the values that it does it with.
 ghost use Rattle.std.specs.Prelude.{◌≡◌, IfSome, IfNone, Some};
 ghost use Rattle.rv_word.specs.declared.instr.Instr.{Instr};
 ghost use Rattle.std.specs.Option.{option_map};
@@ -11,7 +11,9 @@ use crate::opcode;
 use crate::reg::Reg;
 use crate::word_fields::WordFields;
 
-/// What an instruction does, without the values that it does it with.
+/// What an instruction does, without the values that it does it with: whether it computes, accesses
+/// memory or jumps, the register that it writes, the base of an access, and where a jump goes. It
+/// leaves out which computation it is, the other operands, and the offset and width of an access.
 #[derive(Clone, Copy, PartialEq, Eq)]
 pub enum Outline {
     /// Computes into `rd`: no memory, no jump.
@@ -34,7 +36,7 @@ pub enum Outline {
     Stops,
 }
 
-/// What the instruction does.
+/// The outline of the instruction.
 pub fn outline_of(instr: Instr) -> Outline
     ensures { result ≡ outline instr }
 {
@@ -54,7 +56,7 @@ pub fn outline_of(instr: Instr) -> Outline
     }
 }
 
-/// The outline of the instruction, if there is one.
+/// The outline of the instruction, if there is an instruction.
 fn outline_of_some(instr: Option<Instr>) -> Option<Outline>
     ensures { result ≡ option_map outline instr }
 {
@@ -66,7 +68,9 @@ fn outline_of_some(instr: Option<Instr>) -> Option<Outline>
 
 #[tactic(auto, using(crate::proofs::Outlines::outline_found, crate::proofs::Outlines::outline_none), unfolding(crate::specs::Spelling::spelling, crate::specs::Spelling::InRange))]
 impl WordFields {
-    /// One reading for each opcode, so that what an outline doesn't tell is never made.
+    /// The outline of the instruction that the fields spell; `None` where they spell none. It has a
+    /// case for each opcode, as `to_instr` has, so that what an outline leaves out is never made
+    /// once all is inlined.
     #[inline(always)]
     fn outline(self) -> Option<Outline>
         requires { Fits self }
@@ -90,7 +94,7 @@ impl WordFields {
     }
 }
 
-/// What the instruction does that the word spells; `None` where it spells none.
+/// The outline of the instruction that the word spells; `None` where it spells none.
 #[inline(always)]
 pub fn outline32(word: u32) -> Option<Outline>
     ensures found { IfSome result (IsWordThat word) }

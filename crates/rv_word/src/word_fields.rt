@@ -65,7 +65,7 @@ impl WordFields {
         side_by_side(side_by_side(high, 5, self.rs1), 3, self.funct3)
     }
 
-    /// imm of the I format.
+    /// imm of the I format, signed.
     pub(crate) fn i_imm(self) -> i32
         requires { Fits self }
         ensures range { IsImm12 result }
@@ -75,7 +75,7 @@ impl WordFields {
         signed12(self.i_bits())
     }
 
-    /// imm of the S format.
+    /// imm of the S format, signed.
     pub(crate) fn s_imm(self) -> i32
         requires { Fits self }
         ensures range { IsImm12 result }
@@ -85,7 +85,7 @@ impl WordFields {
         signed12(side_by_side(self.funct7, 5, self.rd))
     }
 
-    /// imm of the B format.
+    /// imm of the B format: an even offset in bytes.
     #[tactic(auto, using(crate::proofs::Words::masks))]
     pub(crate) fn b_offset(self) -> i32
         requires { Fits self }
@@ -99,7 +99,7 @@ impl WordFields {
         signed13(bits_12_1 << 1)
     }
 
-    /// imm of the J format.
+    /// imm of the J format: an even offset in bytes.
     #[tactic(auto, using(crate::proofs::Words::masks))]
     pub(crate) fn j_offset(self) -> i32
         requires { Fits self }

@@ -21,7 +21,7 @@ pub(super) fn long_reg(h: u16, low: u32) -> Reg
     Reg::numbered(bits(h, low + 4, low) as u8)
 }
 
-/// A number of `width` bits as a signed one.
+/// A number of `width` bits, read as a signed one (two's complement).
 #[tactic(auto, unfolding(crate::specs::mirror::extended))]
 pub(super) fn sign_extended(number: u16, width: u32) -> i32
     requires some { 0 < width }
@@ -43,7 +43,8 @@ pub(super) fn word_offset(h: u16) -> i32
     i32::from(bits(h, 12, 10) << 3 | bits(h, 6, 6) << 2 | bits(h, 5, 5) << 6)
 }
 
-/// The six bits of an immediate beside a register.
+/// The six bits of an immediate in bits 12 and 6:2, beside a register; whether they are signed the
+/// form says.
 #[tactic(auto, unfolding(crate::specs::mirror::six))]
 pub(super) fn six_bits(h: u16) -> u16
     ensures { result ≡ six h }
@@ -51,7 +52,7 @@ pub(super) fn six_bits(h: u16) -> u16
     bits(h, 12, 12) << 5 | bits(h, 6, 2)
 }
 
-/// The offset of C.JAL and C.J.
+/// The offset of C.JAL and C.J, in bytes.
 #[tactic(auto, unfolding(crate::specs::mirror::jump_offset))]
 pub(super) fn jump_offset(h: u16) -> i32
     ensures { result ≡ extended 12 (jump_offset h) }
@@ -67,7 +68,7 @@ pub(super) fn jump_offset(h: u16) -> i32
     sign_extended(offset, 12)
 }
 
-/// The offset of C.BEQZ and C.BNEZ.
+/// The offset of C.BEQZ and C.BNEZ, in bytes.
 #[tactic(auto, unfolding(crate::specs::mirror::branch_offset))]
 pub(super) fn branch_offset(h: u16) -> i32
     ensures { result ≡ extended 9 (branch_offset h) }
@@ -80,7 +81,7 @@ pub(super) fn branch_offset(h: u16) -> i32
     sign_extended(offset, 9)
 }
 
-/// The bits of the immediate of C.ADDI4SPN.
+/// The immediate of C.ADDI4SPN: a multiple of 4, without a sign.
 #[tactic(auto, unfolding(crate::specs::mirror::stack_address))]
 pub(super) fn stack_address(h: u16) -> u16
     ensures { result ≡ stack_address h }
@@ -88,7 +89,7 @@ pub(super) fn stack_address(h: u16) -> u16
     bits(h, 12, 11) << 4 | bits(h, 10, 7) << 6 | bits(h, 6, 6) << 2 | bits(h, 5, 5) << 3
 }
 
-/// The bits of the immediate of C.ADDI16SP.
+/// The ten bits of the immediate of C.ADDI16SP, which the caller reads as a signed number.
 #[tactic(auto, unfolding(crate::specs::mirror::stack_step))]
 pub(super) fn stack_step(h: u16) -> u16
     ensures { result ≡ stack_step h }
@@ -100,7 +101,7 @@ pub(super) fn stack_step(h: u16) -> u16
         | bits(h, 2, 2) << 5
 }
 
-/// The immediate of C.LUI.
+/// The immediate of C.LUI: the number that it writes, a multiple of 4096.
 #[tactic(auto, unfolding(crate::specs::mirror::extended))]
 pub(super) fn upper_imm(h: u16) -> i32
     ensures { result ≡ extended 6 (six h) *ℤ pos 4096 }

@@ -1,4 +1,5 @@
-//! What the form of a halfword does, without making the form.
+//! What the form of a halfword does (an `Outline`), without making the form. The cases are those of
+//! `decode16`, with which it is proved to agree.
 ghost use Rattle.std.specs.Prelude.{◌≡◌, ◌<◌, IfSome, Some};
 ghost use Rattle.rv_word.specs.declared.instr.Instr.{Instr};
 ghost use Rattle.rv_word.specs.Outlines.{outline};
@@ -9,7 +10,8 @@ use super::fields::{branch_offset, jump_offset, long_reg, short_reg};
 use crate::bits::bits;
 use rv_word::{Outline, Reg};
 
-/// Bits 15:13, and after them bits 1:0.
+/// The number of five bits by which `outline_halfword` finds its case: bits 15:13 of `h`, and below
+/// them bits 1:0.
 #[tactic(auto, unfolding(crate::specs::mirror::row_of))]
 fn row_of(h: u16) -> u16
     ensures { result ≡ row_of h }
@@ -17,7 +19,7 @@ fn row_of(h: u16) -> u16
     4 * bits(h, 15, 13) + bits(h, 1, 0)
 }
 
-/// C.JR, C.JALR, C.MV and C.ADD.
+/// The outline of C.JR, C.JALR, C.MV or C.ADD, which the caller knows `h` to be.
 #[tactic(auto, unfolding(crate::specs::mirror::jump))]
 #[inline(always)]
 fn jump(h: u16) -> Outline
@@ -35,7 +37,8 @@ fn jump(h: u16) -> Outline
     }
 }
 
-/// C.JR, C.JALR, C.MV, C.ADD and C.EBREAK.
+/// The outline of C.JR, C.JALR, C.MV, C.ADD or C.EBREAK, where the row is theirs; `None` where bits
+/// 12:2 are 0.
 #[tactic(auto, unfolding(crate::specs::mirror::jump_or_stop))]
 #[inline(always)]
 fn jump_or_stop(h: u16) -> Option<Outline>

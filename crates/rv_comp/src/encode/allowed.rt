@@ -1,25 +1,26 @@
-//! What the rows ask of their fields.
+//! Which values of its fields each form's row allows, as `allowed` of specs/Table says.
 ghost use Rattle.std.specs.Prelude.{◌≡◌, ◌<◌, ◌≤◌};
 ghost use Rattle.rv_comp.specs.Table.{allowed, is_reg, is_short_reg, is_unsigned, is_signed};
 
 use crate::form::Form16;
 use rv_word::Reg;
 
-/// Whether it is one of x0 to x31, as each register is.
+/// Whether it is one of x0 to x31. As each register is, this is always true: it is here to say what
+/// `allowed` of specs/Table says.
 fn is_reg(reg: Reg) -> bool
     ensures { result ≡ is_reg reg }
 {
     reg.number() < 32
 }
 
-/// Whether it is one of x8 to x15.
+/// Whether it is one of x8 to x15, which three bits can name.
 fn is_short(reg: Reg) -> bool
     ensures { result ≡ is_short_reg reg }
 {
     8 <= reg.number() && reg.number() < 16
 }
 
-/// Whether `width` bits hold the number, a multiple of `step`.
+/// Whether `imm` is a multiple of `step` that `width` bits hold without a sign.
 fn is_unsigned(imm: i32, width: u32, step: u32) -> bool
     requires few { width ≤ 16 }
     requires some { 0 < step }
@@ -28,7 +29,7 @@ fn is_unsigned(imm: i32, width: u32, step: u32) -> bool
     0 <= imm && imm < 1 << width && imm.cast_unsigned() % step == 0
 }
 
-/// Whether `width` bits hold the number as a signed one, a multiple of `step`.
+/// Whether `imm` is a multiple of `step` that `width` bits hold as a signed number.
 fn is_signed(imm: i32, width: u32, step: u32) -> bool
     requires wide { 0 < width }
     requires few { width ≤ 18 }

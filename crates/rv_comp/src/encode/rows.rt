@@ -82,7 +82,8 @@ const I16: Bit = Bit::Imm(16);
 
 const I17: Bit = Bit::Imm(17);
 
-/// The rows in the order of the table, each from bit 15 down.
+/// The rows in the order of the table, each from bit 15 down. `halfword_of` and `place` of
+/// specs/Table have their indices.
 pub(super) const ROWS: [[Bit; 16]; 26] = [
     [O, O, O, I5, I4, I9, I8, I7, I6, I2, I3, D2, D1, D0, O, O], // C.ADDI4SPN
     [O, L, O, I5, I4, I3, S2, S1, S0, I2, I6, D2, D1, D0, O, O], // C.LW
