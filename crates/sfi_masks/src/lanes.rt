@@ -1,7 +1,7 @@
 //! Steps on vectors of sixteen bytes. Lane i is for halfword i of a quarter of a block, 32 bytes;
 //! `low` and `high` are the halfwords' low and high bytes. Classes are eight bits, one for each
-//! class of a table of [`tables`](crate::tables). What the contracts cite of specs/private says the
-//! same of one halfword.
+//! class of a table of `tables.rt`. What the contracts cite of specs/private says the same of one
+//! halfword.
 ghost use Rattle.std.specs.Prelude.{◌≡◌, ℕ, ◌+◌, ◌*◌, ◌%◌, ◌^◌, ◌<◌, ◌==◌, not, length, slice_index, bit_and};
 ghost use Rattle.sfi_masks.specs.Masks.{is_in};
 ghost use Rattle.sfi_masks.specs.private.{HasLanes, byte_classes, half_classes, followed, free_in_words, kept, kept_in_words, mask_classes, rest};
