@@ -1,4 +1,5 @@
-//! The formats of images.
+//! The formats of images. For Python, `tools/suygapid/image/layout.py` and
+//! `tools/second_checker.py` have their magics and largest regions, too.
 ghost use Rattle.std.specs.Prelude.{◌≡◌, ◌↔◌, IsTrue, take};
 ghost use Rattle.sfi_formats.specs.Formats.{magic, code_most, data_most, built_code_most, unit, has_stack, has_words, is_stack, has_single_mask};
 

@@ -1,4 +1,6 @@
-//! The limits of a source, of a sandbox and of an image.
+//! The limits of a source, of a sandbox and of an image. `GUARD`, `GATES_MOST` and `SANDBOXES_MOST`
+//! are also in `tools/suygapid/image/layout.py`, and these and `SLACK` in the C of
+//! `sfi_native/include`.
 
 /// How many bytes a bundle has.
 pub const BUNDLE_SIZE: u32 = 16;
@@ -21,7 +23,8 @@ pub const SANDBOXES_MOST: u32 = 16;
 /// The most gates that a sandbox may have.
 pub const GATES_MOST: u32 = 64;
 
-/// The highest number of a service that a gate may ask for; the lowest is 0.
+/// The highest number of a service that a gate may ask for; the lowest is 0. CONTRIBUTING.md says
+/// what has to follow where a service is added.
 pub const SERVICE_MOST: u32 = 5;
 
 /// The most instructions of a sandbox of a source.

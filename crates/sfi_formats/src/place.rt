@@ -5,7 +5,8 @@ ghost use Rattle.sfi_formats.specs.Limits.{sandboxes_most};
 
 use crate::format::Format;
 
-// The first code base, and how far the code of one sandbox lies from that of the next.
+// The first code base, and how far the code of one sandbox lies from that of the next. For Python,
+// `tools/suygapid/elf/linking.py` has this number and the next, too (`CODE`, `DATA`).
 const SANDBOX_STRIDE: u32 = 0x0100_0000;
 
 // How far above its code the data of a sandbox lies. Where masks of data are single, the code lies
