@@ -35,7 +35,8 @@ fn low_byte(number: i64) -> u8
     number.rem_euclid(1 << 8) as u8
 }
 
-/// The low 32 bits of the number + 2048.
+/// The low 32 bits of the number + 2048. So the lui takes their bits 31:12, and -2048 to 2047 is
+/// left for the addi.
 fn rounded(number: i64) -> u32
     requires { IsNumberOf NumberKind.Word number }
     ensures { result ≡ rounded number }
@@ -95,7 +96,7 @@ pub(crate) fn constant<'a>(rd: Reg, number: i64) -> SandboxStatement<'a>
     }
 }
 
-/// Appends the bytes of a number, the lowest first.
+/// Appends the low 4, 2 or 1 bytes of a number, by `width`, the lowest first.
 pub(crate) fn push_number_bytes(
     bytes: &mut Vec<u8>,
     width: DataWidth,

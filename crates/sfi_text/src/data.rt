@@ -1,4 +1,5 @@
-//! Reading a list of numbers of data.
+//! Reading the list of numbers that stands after `.word`, `.half` or `.byte`. A text is what is
+//! left of the line.
 ghost use Rattle.std.specs.Prelude.{◌≡◌, IfOk, IfErr, OnOk, ◌⊎◌};
 ghost use Rattle.std.specs.Option.{option_map};
 ghost use Rattle.sfi_text.specs.declared.cause.TextCause.TheVariants as cause;
@@ -14,7 +15,7 @@ use crate::lexer::{NextToken, next_token};
 use crate::read::{read_mark, read_number};
 use std::alloc::Global;
 
-/// The number at the front of the text, and what follows it.
+/// The number of this kind at the front of the text, and what follows it.
 fn read_first(kind: NumberKind, text: &str) -> Result<(i64, &str), TextCause>
     ensures ok { IfOk result (λ first. ReadsNumber kind text.now first.0 first.1.now) }
     ensures cause { IfErr result (λ e. NumberDeparts kind text.now e) }
@@ -71,7 +72,7 @@ fn read_another<'a>(
     }
 }
 
-/// Reads the numbers of the text, each after a comma, and appends their bytes.
+/// Reads the numbers of all of the text, each after a comma, and appends their bytes.
 fn read_more(bytes: &mut Vec<u8>, width: DataWidth, text: &str) -> Result<(), TextCause>
     ensures ok { OnOk result (ReadsMore width bytes.old.items bytes.new.items text.now) }
     ensures cause { IfErr result (λ e.

@@ -1,4 +1,4 @@
-//! The sandbox begun last, as far as the lines have come.
+//! The sandbox begun last, by a `.sandbox` line, as far as the lines after it were read.
 ghost use Rattle.std.specs.Prelude.{◌≡◌, ◌≤◌, ◌+◌, ◌<◌, ◌⊎◌, ◌∷◌, [], length, replicate, IfOk, IfErr, OnOk, IsTrue, ◌↔◌, true};
 ghost use Rattle.sfi_formats.specs.Limits.{gates_most, items_most};
 ghost use Rattle.sfi_text.specs.declared.cause.TextCause.TheVariants as cause;
@@ -18,7 +18,7 @@ use sfi_source::{Body, Item, Named, Names, SourceGate, SourcePart};
 use std::alloc::Global;
 use std::marker::Model;
 
-/// The sandbox begun last.
+/// The sandbox begun last, and what the lines so far mean for those to come.
 #[derive(Drop)]
 pub struct Draft {
     format: Format,
@@ -30,9 +30,13 @@ pub struct Draft {
     bytes: Vec<u8>,
     exports: Vec<Listed>,
     imports: Vec<Listed>,
+    /// Whether its `.data` line was read.
     in_data: bool,
+    /// Whether the instructions to come may get 16-bit forms.
     rvc: bool,
+    /// Whether a label stands before the next instruction.
     labelled: bool,
+    /// Whether it has a label or an instruction.
     opened: bool,
 }
 
@@ -78,14 +82,14 @@ impl Draft {
         }
     }
 
-    /// Whether its code part has ended.
+    /// Whether its code part has ended: its `.data` line was read.
     pub(crate) fn is_in_data(&self) -> bool
         ensures { result ≡ self.now.in_data }
     {
         self.in_data
     }
 
-    /// Whether it has a label or an instruction.
+    /// Whether it has a label or an instruction, after which no gate may come.
     pub(crate) fn is_opened(&self) -> bool
         ensures { result ≡ self.now.opened }
     {
@@ -102,7 +106,8 @@ impl Draft {
         }
     }
 
-    /// What a label names here.
+    /// What a label at this point of the text names: the next byte of the data, or the next
+    /// instruction.
     fn here(&self) -> Named
         ensures { result ≡ here self.now }
     {
@@ -125,7 +130,8 @@ impl Draft {
         Ok(())
     }
 
-    /// Adds a gate of this service.
+    /// Adds a gate of this name and service; `Limit` if there are as many gates as a sandbox may
+    /// have.
     fn gate(&mut self, alloc: Global, name: &str, service: u32) -> Result<(), TextCause>
         ensures { AddsUpTo gates_most (length self.old.sandbox.gates + 1) result self.new
             (with_gate name.now service self.old) }
@@ -143,7 +149,7 @@ impl Draft {
         Ok(())
     }
 
-    /// Lists the name as an export of the line of this number.
+    /// Lists the name as an export that the line of number `line` asks for.
     fn export(&mut self, alloc: Global, line: u32, name: &str) -> Result<(), TextCause>
         ensures exported { OnOk result (self.new ≡ with_export line name.now self.old) }
         ensures memory { IfErr result (λ e. e ≡ cause.Memory) }
@@ -153,7 +159,8 @@ impl Draft {
         Ok(())
     }
 
-    /// Adds a gate of this service, and lists its name as an import of the line of this number.
+    /// Adds a gate as `gate` does, and lists its name as an import that the line of number `line`
+    /// asks for.
     fn import(
         &mut self,
         alloc: Global,
@@ -170,7 +177,7 @@ impl Draft {
         Ok(())
     }
 
-    /// Adds bytes of data.
+    /// Adds bytes of data; `Limit` if the data region has no room for them.
     fn push_bytes(&mut self, bytes: &[u8]) -> Result<(), TextCause>
         ensures { AddsUpTo self.old.sandbox.data_size
             (length self.old.sandbox.bytes + length bytes.now) result self.new
@@ -183,7 +190,7 @@ impl Draft {
         Ok(())
     }
 
-    /// Adds `count` bytes of data that are 0.
+    /// Adds `count` bytes of data that are 0; `Limit` if the data region has no room for them.
     fn push_zeros(&mut self, count: u32) -> Result<(), TextCause>
         ensures { AddsUpTo self.old.sandbox.data_size
             (length self.old.sandbox.bytes + count) result self.new
@@ -197,7 +204,8 @@ impl Draft {
         Ok(())
     }
 
-    /// Adds an instruction of the line of this number.
+    /// Adds an instruction of the line of number `line`; `Limit` if there are as many as a sandbox
+    /// may have.
     fn push(&mut self, line: u32, body: Body) -> Result<(), TextCause>
         ensures { AddsUpTo items_most (length self.old.sandbox.items + 1) result self.new
             (with_bodies line (body ∷ []) self.old) }
@@ -216,7 +224,8 @@ impl Draft {
         Ok(())
     }
 
-    /// Enters a name that an instruction goes to in the table of names, and returns its place there.
+    /// The place of a name that an instruction or an export uses among the sandbox's names. A name
+    /// that isn't there goes last, and names nothing yet.
     fn meet(&mut self, alloc: Global, name: &str) -> Result<usize, TextCause>
         ensures met { OnOk result
             (self.new ≡ with_names (met self.old.sandbox.names name.now) self.old) }
@@ -226,7 +235,7 @@ impl Draft {
         Ok(self.names.meet(alloc, name)?)
     }
 
-    /// Adds two instructions of the line of this number.
+    /// Adds two instructions of the line of number `line`.
     fn push_two(&mut self, line: u32, first: Body, second: Body) -> Result<(), TextCause>
         ensures { AddsUpTo items_most (length self.old.sandbox.items + 2) result self.new
             (with_bodies line (first ∷ second ∷ []) self.old) }
@@ -235,8 +244,8 @@ impl Draft {
         self.push(line, second)
     }
 
-    /// Adds the instructions of the line of this number that put the address of the name at that place
-    /// into the register.
+    /// Adds the instructions of a `la` on the line of number `line`: they put into `rd` the address
+    /// of what the name at this place of the names names. A movable sandbox takes a third one.
     fn push_address(&mut self, line: u32, rd: Reg, place: usize) -> Result<(), TextCause>
         ensures { AddsUpTo items_most
             (length self.old.sandbox.items + address_count self.old.sandbox.movable) result self.new
@@ -249,7 +258,7 @@ impl Draft {
         Ok(())
     }
 
-    /// Adds what the line of this number states.
+    /// Adds what the line of number `line` states; `Limit` if the sandbox has no room for it.
     pub(crate) fn apply_statement(
         &mut self,
         alloc: Global,

@@ -49,7 +49,7 @@ pub enum OperandPart {
     Name,
     /// `rvc` or `norvc`.
     Mode,
-    /// 1, 2 or `words`.
+    /// 1, 2, `words` or `single`: a format of images.
     ImageFormat,
     Comma,
     Open,
@@ -57,7 +57,9 @@ pub enum OperandPart {
 }
 
 impl Mnemonic {
-    /// The operands that stand after the name, and the marks between them.
+    /// The operands that stand after the name, and the marks between them, in the text of one
+    /// instruction. In a source a branch and `jal` have a name in the number's place: `branch_form`
+    /// and `jal_form` of `line.rt`.
     pub(crate) fn form(self) -> &'static [OperandPart]
         ensures { result.now ≡ operand_parts self }
     {
@@ -156,7 +158,7 @@ fn is_signed_data_size(number: i64) -> bool
 }
 
 impl NumberKind {
-    /// Whether the number is of this kind.
+    /// Whether the number is in the range of this kind, which its variant's comment says.
     pub(crate) fn holds(self, number: i64) -> bool
         ensures { IsTrue result ↔ IsNumberOf self number }
     {

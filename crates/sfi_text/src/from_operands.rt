@@ -15,7 +15,7 @@ use crate::statement::{SandboxStatement, Statement};
 use rv_word::{Cond, ImmOp, Instr, Reg};
 
 impl Directive {
-    /// What the directive states with these operands.
+    /// What the directive states with these operands, of which it looks at those that its form has.
     pub(crate) fn statement<'a>(self, o: &Operands<'a>) -> Statement<'a>
         requires { AllSuit (values_of o.now) (directive_form self) }
         ensures { stated result ≡ directive_states self (values_of o.now) }
@@ -54,7 +54,7 @@ fn add_zero(rd: Reg, rs1: Reg) -> Instr
     }
 }
 
-/// A jump to the address in a register.
+/// A jump to the address in a register, which writes no return address.
 fn jump_to_address(rs1: Reg) -> Instr
     ensures { result ≡ instr.Jalr 0 rs1 (pos 0) }
 {
@@ -65,7 +65,7 @@ fn jump_to_address(rs1: Reg) -> Instr
     }
 }
 
-/// A jal to a name.
+/// A jal to a name. Its offset stays 0 until the code is placed.
 pub(crate) fn jal_to<'a>(rd: Reg, name: &'a str) -> Statement<'a>
     ensures { stated result ≡ within (jump (instr.Jal rd (pos 0)) name.now) }
 {
@@ -73,7 +73,7 @@ pub(crate) fn jal_to<'a>(rd: Reg, name: &'a str) -> Statement<'a>
     Statement::Within(SandboxStatement::Jump { instr, name })
 }
 
-/// A branch to a name.
+/// A branch to a name. Its offset stays 0 until the code is placed.
 pub(crate) fn branch_to<'a>(cond: Cond, rs1: Reg, rs2: Reg, name: &'a str) -> Statement<'a>
     ensures { stated result ≡ within (jump (instr.Branch cond rs1 rs2 (pos 0)) name.now) }
 {
@@ -94,7 +94,8 @@ fn ra() -> Reg
 }
 
 impl Pseudo {
-    /// What the pseudo-instruction states with these operands.
+    /// What the pseudo-instruction states with these operands, of which it looks at those that its
+    /// form has.
     pub(crate) fn statement<'a>(self, o: &Operands<'a>) -> Statement<'a>
         requires { AllSuit (values_of o.now) (pseudo_form self) }
         ensures { stated result ≡ pseudo_states self (values_of o.now) }

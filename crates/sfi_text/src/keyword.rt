@@ -158,7 +158,7 @@ impl DataWidth {
     }
 }
 
-/// Every keyword.
+/// Every keyword. A place in it is an element of `PLACES`.
 const ALL: &[Keyword; 70] = &[
     Keyword::Instr(Mnemonic::Op(RegOp::Add)),
     Keyword::Instr(Mnemonic::Op(RegOp::Sub)),
@@ -232,7 +232,8 @@ const ALL: &[Keyword; 70] = &[
     Keyword::Directive(Directive::Movable),
 ];
 
-/// By the hash of a name, the place in [`ALL`] of the keyword that alone can have the name.
+/// By the hash of a name, the place in [`ALL`] of the keyword that alone can have the name; 0 for a
+/// hash that no keyword has.
 const PLACES: &[u8; 256] = &[
     0, 0, 0, 0, 0, 28, 50, 0, 0, 69, 0, 0, 0, 0, 30, 64, 0, 0, 0, 0, 29, 63, 42, 24, 0, 0, 0, 10,
     58, 0, 0, 0, 0, 0, 2, 0, 0, 0, 48, 21, 0, 0, 3, 0, 0, 55, 0, 12, 0, 0, 59, 0, 0, 0, 40, 0, 13,
@@ -245,8 +246,8 @@ const PLACES: &[u8; 256] = &[
     0, 0, 0, 0, 0, 0, 0, 0, 0, 0, 0, 9, 0, 0, 18, 0, 0, 17, 0, 57, 27,
 ];
 
-/// The hash of a name: the seed, and then for each byte the factor times what was there before and
-/// the byte, modulo 256.
+/// The hash of a name, by which a table gives the only keyword or register that can have it. It
+/// begins as `seed`, and each byte makes it `factor` times itself plus the byte, modulo 256.
 #[tactic(auto, using(std::proofs::lemmas::List::Sums::fold_more), unfolding(crate::specs::private::Reading::hash))]
 pub(crate) fn hash(seed: usize, factor: usize, name: &str) -> usize
     requires seed { seed < 256 }
@@ -262,7 +263,8 @@ pub(crate) fn hash(seed: usize, factor: usize, name: &str) -> usize
 }
 
 /// The keyword that alone can have this name. The two numbers were found by trial: by them no two
-/// keywords have one hash.
+/// keywords have one hash. For a new keyword `PLACES` has to be made anew, perhaps with other
+/// numbers, which are in specs/private/Reading, too.
 fn candidate(name: &str) -> Keyword
     ensures { result ≡ candidate name.now }
 {
@@ -295,7 +297,7 @@ impl Keyword {
         }
     }
 
-    /// The mnemonic, where it is one.
+    /// The mnemonic, where the keyword is an instruction's; `None` for any other.
     fn mnemonic(self) -> Option<Mnemonic>
         ensures { result ≡ mnemonic_in self }
     {
@@ -324,7 +326,7 @@ impl Keyword {
 }
 
 impl Keyword {
-    /// Whether the language of the first format lacks it.
+    /// Whether sources of the first format lack it: to them it is no keyword.
     pub(crate) fn is_added(self) -> bool
         ensures { result ≡ is_added self }
     {

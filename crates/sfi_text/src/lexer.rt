@@ -1,4 +1,4 @@
-//! The tokens of source: each is the longest that stands there.
+//! The tokens of source: each is the longest that stands there. Lengths are in bytes.
 ghost use Rattle.std.specs.Prelude.{◌≡◌, ◌≤◌, length, IsTrue};
 ghost use Rattle.std.specs.List.{prefix_len};
 ghost use Rattle.std.specs.Char.{is_ascii_digit, is_ascii_hexdigit};
@@ -18,28 +18,28 @@ pub enum NextToken<'a> {
     Stuck,
 }
 
-/// Space, tab and carriage return stand between tokens.
+/// Whether the byte is a space: a blank, a tab or a carriage return. Spaces stand between tokens.
 fn is_space(byte: u8) -> bool
     ensures { result ≡ is_space byte }
 {
     byte == b' ' || byte == b'\t' || byte == b'\r'
 }
 
-/// A letter, `_` or `.` begins a name.
+/// Whether the byte begins a name: a letter, `_` or `.`.
 pub(crate) fn begins_name(byte: u8) -> bool
     ensures { result ≡ begins_name byte }
 {
     byte.is_ascii_alphabetic() || byte == b'_' || byte == b'.'
 }
 
-/// Letters, digits, `_` and `.` continue one.
+/// Whether the byte continues a name: a letter, a decimal digit, `_` or `.`.
 fn continues_name(byte: u8) -> bool
     ensures { result ≡ continues_name byte }
 {
     begins_name(byte) || byte.is_ascii_digit()
 }
 
-/// `,`, `:`, `(` and `)` are tokens of their own.
+/// Whether the byte is a token of its own: `,`, `:`, `(` or `)`.
 fn is_mark(byte: u8) -> bool
     ensures { result ≡ is_mark byte }
 {
@@ -53,7 +53,7 @@ fn gap_len(text: &[u8]) -> usize
     text.iter().take_while(|b| is_space(**b)).count()
 }
 
-/// How many bytes that continue a name stand at the front.
+/// How many bytes at the front continue a name, up to the first that doesn't.
 fn name_len(text: &[u8]) -> usize
     ensures value { result ≡ prefix_len continues_name text.now }
     ensures within { result ≤ length text.now }

@@ -22,8 +22,8 @@ use crate::statement::{SandboxStatement, Statement};
 use rv_word::Cond;
 use std::alloc::Global;
 
-/// The keyword with which a statement begins: `Word` for any other name, `Operands` for what is no
-/// name.
+/// The keyword that the token is, with which a statement begins. The error is `Word` for any other
+/// name, and `Operands` for a number or a mark.
 pub(crate) fn read_keyword(token: &str) -> Result<Keyword, TextCause>
     requires { IsToken token.now }
     ensures ok { IfOk result (λ k. keyword_name k ≡ token.now) }
@@ -35,7 +35,7 @@ pub(crate) fn read_keyword(token: &str) -> Result<Keyword, TextCause>
     }
 }
 
-/// What stands after a branch's name in a source.
+/// What stands after a branch's name in a source, where its target is a name.
 fn branch_form() -> &'static [OperandPart]
     ensures { result.now ≡ branch_form }
 {
@@ -48,14 +48,14 @@ fn branch_form() -> &'static [OperandPart]
     ]
 }
 
-/// What stands after `jal` in a source.
+/// What stands after `jal` in a source, where its target is a name.
 fn jal_form() -> &'static [OperandPart]
     ensures { result.now ≡ jal_form }
 {
     &[OperandPart::Rd, OperandPart::Comma, OperandPart::Name]
 }
 
-/// The branch that the rest of a line states after its name.
+/// The branch on this condition with the operands in `rest`, the line after the branch's name.
 fn read_branch<'a>(cond: Cond, rest: &'a str) -> Result<Statement<'a>, TextCause>
     ensures ok { IfOk result (λ s. ReadsRow branch_form (branch_states cond) rest.now (stated s)) }
     ensures cause { IfErr result (λ e. Departs branch_form rest.now e) }
@@ -66,7 +66,7 @@ fn read_branch<'a>(cond: Cond, rest: &'a str) -> Result<Statement<'a>, TextCause
     }
 }
 
-/// The `jal` that the rest of a line states after its name.
+/// The `jal` with the operands in `rest`, the line after its name.
 fn read_jal<'a>(rest: &'a str) -> Result<Statement<'a>, TextCause>
     ensures ok { IfOk result (λ s. ReadsRow jal_form jal_states rest.now (stated s)) }
     ensures cause { IfErr result (λ e. Departs jal_form rest.now e) }
@@ -77,7 +77,7 @@ fn read_jal<'a>(rest: &'a str) -> Result<Statement<'a>, TextCause>
     }
 }
 
-/// The pseudo-instruction that the rest of a line states after its name.
+/// What the pseudo-instruction states with the operands in `rest`, the line after its name.
 fn read_pseudo<'a>(name: Pseudo, rest: &'a str) -> Result<Statement<'a>, TextCause>
     ensures ok { IfOk result (λ s.
         ReadsRow (pseudo_form name) (pseudo_states name) rest.now (stated s)) }
@@ -89,7 +89,7 @@ fn read_pseudo<'a>(name: Pseudo, rest: &'a str) -> Result<Statement<'a>, TextCau
     }
 }
 
-/// The directive that the rest of a line states after its name.
+/// What the directive states with the operands in `rest`, the line after its name.
 fn read_directive<'a>(name: Directive, rest: &'a str) -> Result<Statement<'a>, TextCause>
     ensures ok { IfOk result (λ s.
         ReadsRow (directive_form name) (directive_states name) rest.now (stated s)) }
@@ -101,7 +101,7 @@ fn read_directive<'a>(name: Directive, rest: &'a str) -> Result<Statement<'a>, T
     }
 }
 
-/// The instruction that the rest of a line states after its name.
+/// The instruction with the operands in `rest`, the line after its name.
 fn read_instr<'a>(name: Mnemonic, rest: &'a str) -> Result<Statement<'a>, TextCause>
     ensures ok { IfOk result (λ s. ReadsInstr name rest.now (stated s)) }
     ensures cause { IfErr result (λ e. InstrDeparts name rest.now e) }
@@ -116,7 +116,7 @@ fn read_instr<'a>(name: Mnemonic, rest: &'a str) -> Result<Statement<'a>, TextCa
     }
 }
 
-/// What the text after a keyword states with it, read part by part.
+/// What the text after a keyword states with it, and its error, as `read_statement` returns them.
 fn read_after<'a>(
     alloc: Global,
     keyword: Keyword,

@@ -54,7 +54,8 @@ fn is_bare_fence(name: Mnemonic, rest: &str) -> bool
     }
 }
 
-/// The instruction of this name whose operands are the rest of the text.
+/// The instruction of this name whose operands are the rest of the text. A bare `fence` orders all
+/// accesses: it is `fence 255, x0, x0`.
 pub(crate) fn after_name(name: Mnemonic, rest: &str) -> Result<Instr, TextCause>
     ensures ok { IfOk result (λ i. FollowsName rest.now name i) }
     ensures cause { IfErr result (λ e. OperandsDepart name rest.now e) }
@@ -72,7 +73,7 @@ pub(crate) fn after_name(name: Mnemonic, rest: &str) -> Result<Instr, TextCause>
     }
 }
 
-/// The instruction of the text with this first token and this rest.
+/// The instruction of the text whose first token is `token`, with `rest` after it.
 fn after_token(token: &str, rest: &str) -> Result<Instr, TextCause>
     requires { IsToken token.now }
     ensures ok { IfOk result (λ i. FollowsToken token.now rest.now i) }

@@ -58,7 +58,7 @@ fn push_number_text(out: &mut String, kind: NumberKind, number: i64) -> Result<(
     }
 }
 
-/// What stands after `.format` for the format.
+/// What stands after `.format` for the format. `read_format` of `read.rt` reads it.
 fn format_name(format: Format) -> &'static str
     ensures { result.now ≡ format_name format }
 {
@@ -89,7 +89,7 @@ fn push_operand_part(out: &mut String, o: &Operands, part: OperandPart) -> Resul
     }
 }
 
-/// Appends the operands of this form to the text.
+/// Appends the operands that this form has, and its marks, to the text.
 fn push_operands(out: &mut String, o: &Operands, form: &[OperandPart]) -> Result<(), AllocError>
     ensures { OnOk result (string_bytes out.new
         ≡ string_bytes out.old ++ flat_map (part_text (values_of o.now)) form.now) }

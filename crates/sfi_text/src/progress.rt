@@ -32,6 +32,7 @@ use std::marker::Model;
 pub struct Progress {
     format: Option<Format>,
     finished: Vec<SourcePart>,
+    /// Of each finished sandbox what its table of names is to have.
     shared: Vec<SharedNames>,
     begun: Option<Draft>,
 }
@@ -50,7 +51,8 @@ impl Model for Progress {
         } };
 }
 
-/// Whether the language of the format has statements of which tables of names are made.
+/// Whether sources of the format may say what only later formats have: `.export`, `.import` and
+/// `.movable`.
 fn has_tables(format: Format) -> bool
     ensures { result ≡ has_tables format }
 {
@@ -60,7 +62,7 @@ fn has_tables(format: Format) -> bool
     }
 }
 
-/// What follows a colon that is the first token of a text.
+/// What follows the colon with which a text begins, spaces aside; `None` where it begins otherwise.
 fn after_colon(text: &str) -> Option<&str>
     ensures { MatchOption result ((rest : List ℕ) → Takes text.now (codes ":") rest → ⊥)
         (λ rest. Takes text.now (codes ":") rest.now) }
@@ -68,7 +70,8 @@ fn after_colon(text: &str) -> Option<&str>
     after_prefix(body(text), ":")
 }
 
-/// The name at the front of a text that a label may have, and what follows it.
+/// The first token of a text, and what follows it, where the token is a name that a label may have;
+/// else `None`.
 fn label_name(text: &str) -> Option<(&str, &str)>
     ensures { MatchOption result ((name rest : List ℕ) → BeginsWithName text.now name rest → ⊥)
         (λ x. BeginsWithName text.now x.0.now x.1.now) }
@@ -86,8 +89,8 @@ fn label_name(text: &str) -> Option<(&str, &str)>
     }
 }
 
-/// What follows the colon of a label, where `token` is a label's name and `after` begins with a
-/// colon.
+/// What follows the colon of a label, where `token` is a name that a label may have and `after`
+/// begins with a colon; else `None`.
 fn after_label<'a>(token: &str, after: &'a str) -> Option<&'a str>
     requires { IsToken token.now }
     ensures { MatchOption result
@@ -110,7 +113,7 @@ enum LineStart<'a> {
     Other(NextToken<'a>),
 }
 
-/// What stands at the front of a text.
+/// Whether a text, a line or the rest of it, begins with a label.
 fn line_start(text: &str) -> LineStart<'_>
     ensures { IsLineStart text.now result }
 {
@@ -148,7 +151,7 @@ impl Progress {
         }
     }
 
-    /// Whether a statement of this kind may come here.
+    /// Whether a statement that has to stand at such a position may come next.
     fn may_come(&self, position: Position) -> bool
         ensures { IsTrue result ↔ MayCome position self.now }
     {
@@ -227,7 +230,8 @@ impl Progress {
         !keyword.is_added() || has_tables(self.format())
     }
 
-    /// Begins a sandbox with `data_size` bytes of data.
+    /// Finishes the sandbox begun last, if there is one, and begins one with `data_size` bytes of
+    /// data.
     fn begin(&mut self, alloc: Global, data_size: u32) -> Result<(), TextCause>
         ensures begins { OnOk result (self.new ≡ with_sandbox data_size self.old) }
         ensures memory { IfErr result (λ e. e ≡ cause.Memory) }
@@ -241,7 +245,8 @@ impl Progress {
         Ok(())
     }
 
-    /// Does what the line of this number states, which may come here.
+    /// Does what the line of number `line` states, which may come here; `Limit` if there is no room
+    /// for it.
     fn apply_statement(
         &mut self,
         alloc: Global,
@@ -266,7 +271,7 @@ impl Progress {
         }
     }
 
-    /// Does what a keyword states with the text after it.
+    /// Does what a keyword states with the text after it, on the line of number `line`.
     fn after_keyword(
         &mut self,
         alloc: Global,
@@ -291,7 +296,7 @@ impl Progress {
         self.apply_statement(alloc, line, &statement)
     }
 
-    /// Does what the statement of `token` and the rest after it states.
+    /// Does what the statement states that has `token` first, and `rest` after it.
     fn statement(
         &mut self,
         alloc: Global,
@@ -308,7 +313,8 @@ impl Progress {
         self.after_keyword(alloc, line, keyword, rest)
     }
 
-    /// Reads a line, which has no comment.
+    /// Reads a line, `text`, which has no comment: its labels, and then its statement, if any.
+    /// `line` is its number, from 1.
     pub(crate) fn line(&mut self, alloc: Global, line: u32, text: &str) -> Result<(), TextCause>
         ensures leads { OnOk result (Leads line self.old text.now self.new) }
         ensures cause { IfErr result (λ e. (e ≡ cause.Memory) ⊎ LineRefused self.old text.now e) }
@@ -320,7 +326,7 @@ impl Progress {
         }
     }
 
-    /// What a text means whose lines were all read.
+    /// What a text means whose lines were all read; `Directive` on line 1 if it begins no sandbox.
     pub(crate) fn finish(self, text: &str) -> Result<SourceText, TextFault>
         requires { LeadsFromNothing text.now self }
         ensures meaning { IfOk result (λ l. MeansText text.now l.source l.shared.items) }

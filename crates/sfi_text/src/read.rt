@@ -21,7 +21,7 @@ use crate::register::register;
 use rv_word::Reg;
 use sfi_formats::{Format, NAME_MOST_BYTES};
 
-/// The register that the token names.
+/// The register that the token names; else the error is `Register`.
 fn read_register(token: &str) -> Result<Reg, TextCause>
     ensures ok { IfOk result (λ r. IsRegister token.now r) }
     ensures err { OnErr result ((r : ℕ) → IsRegister token.now r → ⊥) }
@@ -33,7 +33,7 @@ fn read_register(token: &str) -> Result<Reg, TextCause>
     }
 }
 
-/// Whether the token is this mark.
+/// Tests that the token is this mark; else the error is `Operands`.
 pub(crate) fn read_mark(token: &str, mark: &str) -> Result<(), TextCause>
     ensures ok { IfOk result (λ _. token.now ≡ mark.now) }
     ensures err { OnErr result (token.now ≡ mark.now → ⊥) }
@@ -46,7 +46,7 @@ pub(crate) fn read_mark(token: &str, mark: &str) -> Result<(), TextCause>
     }
 }
 
-/// The number of this kind that the token writes.
+/// The number of this kind that the token writes; else the error is `Number`.
 #[tactic(auto, using(crate::proofs::Numbers::kind_in_reach))]
 pub(crate) fn read_number(token: &str, kind: NumberKind) -> Result<i64, TextCause>
     ensures ok { IfOk result (λ z. IsNumber token.now z × IsNumberOf kind z) }
@@ -90,7 +90,8 @@ fn is_too_long(token: &str) -> bool
     begins_label(token) && token.len() > NAME_MOST_BYTES
 }
 
-/// The name that the token is: one that a label, a gate or a target may have.
+/// The name that the token is: one that a label, a gate or a target may have. The error is `Limit`
+/// for one that is too long, and `Operands` for other tokens.
 fn read_label(token: &str) -> Result<&str, TextCause>
     requires { IsToken token.now }
     ensures ok { IfOk result (λ name.
@@ -107,7 +108,7 @@ fn read_label(token: &str) -> Result<&str, TextCause>
     }
 }
 
-/// Whether the token is `rvc`, and not `norvc`.
+/// True for `rvc`, false for `norvc`; the error for other tokens is `Operands`.
 fn read_mode(token: &str) -> Result<bool, TextCause>
     ensures ok { IfOk result (λ rvc. token.now ≡ mode_name rvc) }
     ensures err { OnErr result ((rvc : Bool) → token.now ≡ mode_name rvc → ⊥) }
@@ -122,7 +123,8 @@ fn read_mode(token: &str) -> Result<bool, TextCause>
     }
 }
 
-/// The format that the token says.
+/// The format that the token says: `words`, `single` or the number 1 or 2; else the error is
+/// `Number`. `format_name` of `print.rt` writes these.
 fn read_format(token: &str) -> Result<Format, TextCause>
     ensures ok { IfOk result (SaysFormat token.now) }
     ensures err { OnErr result ((f : Format) → SaysFormat token.now f → ⊥) }
@@ -143,7 +145,7 @@ fn read_format(token: &str) -> Result<Format, TextCause>
 }
 
 impl<'a> Operands<'a> {
-    /// Sets the operand that the token gives at this part.
+    /// Takes the token for this part of the form: sets the operand, or tests that it is the mark.
     fn put(&mut self, part: OperandPart, token: &'a str) -> Result<(), TextCause>
         requires { IsToken token.now }
         ensures stands { OnOk result (Stands (values_of self.new) part token.now) }
@@ -167,7 +169,8 @@ impl<'a> Operands<'a> {
     }
 }
 
-/// Sets the operands of this form, which are all of the text; the range of each is tested.
+/// Sets the operands of this form, which are all of the text; the range of each is tested. On an
+/// error those before it may be set.
 fn set_operands<'a>(
     form: &[OperandPart],
     text: &'a str,
@@ -196,7 +199,8 @@ fn set_operands<'a>(
     }
 }
 
-/// Reads the operands of this form, which are all of the text.
+/// Reads the operands of this form, which are all of the text. The error is that of the first token
+/// that departs from the form.
 pub(crate) fn read_operands<'a>(
     form: &[OperandPart],
     text: &'a str,

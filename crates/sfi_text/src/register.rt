@@ -36,7 +36,7 @@ const PLACES: &[u8; 256] = &[
 ];
 
 /// The place in `register_names` that alone can have this name. The two numbers were found by trial: by
-/// them no two names have one hash.
+/// them no two names have one hash. `name_place` of specs/private/Reading has them, too.
 #[tactic(auto, using(crate::proofs::NameTables::register_at_hash))]
 fn name_place(name: &str) -> usize
     ensures value { result ≡ name_place name.now }
@@ -54,7 +54,8 @@ fn name_at(place: usize) -> &'static str
     register_names()[place]
 }
 
-/// The register whose name stands at this place of `register_names`.
+/// The register whose name stands at this place of `register_names`: x0 to x31 twice, and then x8
+/// as fp.
 fn register_at(place: usize) -> Reg
     ensures { result ≡ register_at place }
 {
@@ -65,7 +66,7 @@ fn register_at(place: usize) -> Reg
     }
 }
 
-/// The register of this name.
+/// The register of this name; `None` where no register has it.
 pub(crate) fn register(name: &str) -> Option<Reg>
     ensures some { IfSome result (λ r. IsRegister name.now r) }
     ensures none { IfNone result ((r : ℕ) → IsRegister name.now r → ⊥) }

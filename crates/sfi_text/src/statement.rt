@@ -6,7 +6,7 @@ use sfi_formats::Format;
 /// What a line of source states.
 #[derive(Drop)]
 pub enum Statement<'a> {
-    /// `.format N`, or `.format words`: the format of the source is this one.
+    /// `.format F`, where F is 1, 2, `words` or `single`: the format of the source is this one.
     Format(Format),
     /// `.sandbox N`: a sandbox with N bytes of data begins.
     Sandbox { data_size: u32 },

@@ -16,7 +16,7 @@ use crate::source_text::SourceText;
 use sfi_source::Source;
 use std::alloc::Global;
 
-/// The most bytes of a text.
+/// The most bytes of a text: `most_bytes` of specs/Texts.
 const MOST_BYTES: usize = 1048576;
 
 /// The line without its comment.
@@ -54,7 +54,7 @@ fn fault_at(line: u32, cause: TextCause) -> TextFault
     }
 }
 
-/// Reads the line of this number.
+/// Reads a line, of number `number`, from 1, with its comment left out.
 fn read_line(
     progress: &mut Progress,
     alloc: Global,
@@ -70,7 +70,7 @@ fn read_line(
     }
 }
 
-/// Reads the lines of a text.
+/// Reads the lines of a text, up to the first that is refused.
 fn read_lines(progress: &mut Progress, alloc: Global, text: &str) -> Result<(), TextFault>
     requires { length text.now ≤ most_bytes }
     ensures lead { OnOk result (LinesLead 1 progress.old (lines text.now) progress.new) }
