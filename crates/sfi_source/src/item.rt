@@ -20,12 +20,12 @@ pub enum Named {
 pub enum Body {
     /// The instruction, which is no jal and no branch.
     Plain(Instr),
-    /// The jal or branch to the name at that place of the names. Its offset is still 0.
+    /// The jal or branch to what the name at that place names. Its offset is still 0.
     To(Instr, usize),
     /// The lui of the upper half of the address of the name at that place; in a movable sandbox, of
     /// how far the address is from its region's base.
     High(Reg, usize),
-    /// The addi of the address's lower 12 bits, after its lui.
+    /// The addi after that lui, of the low 12 bits, which are signed.
     Low(Reg, usize),
     /// In a movable sandbox, the add of the base of the region in which the address lies.
     Base(Reg, usize),

@@ -1,4 +1,5 @@
-//! The names of a sandbox, in the order in which they are first seen.
+//! The names of a sandbox, in the order in which they are first seen. A name's place is its number
+//! in this order, counted from 0.
 ghost use Rattle.std.specs.Prelude.{◌≡◌, ◌<◌, ◌^◌, [], length, map, slice_get, IfOk, OnOk, OnErr};
 ghost use Rattle.std.specs.List.{IsDistinct};
 ghost use Rattle.std.specs.Option.{option_copied};
@@ -85,8 +86,8 @@ impl Names {
         }
     }
 
-    /// Lets the name stand for `what` from here on. A name that is there keeps its place;
-    /// a new one goes last.
+    /// Lets the name stand for `what` from here on, whatever it stood for. A name that is there
+    /// keeps its place; a new one goes last. Where memory is refused nothing changes.
     pub fn place(&mut self, alloc: Global, name: &str, what: Named) -> Result<(), AllocError>
         ensures placed { OnOk result (self.new ≡ placed self.old name.now what) }
         ensures unchanged { OnErr result (self.new ≡ self.old) }
@@ -95,7 +96,8 @@ impl Names {
         Ok(())
     }
 
-    /// The place of this name. A new name goes last, and stands for nothing yet.
+    /// The place of this name, which is entered if it isn't there: last, and as `Unknown`. Where
+    /// memory is refused nothing changes.
     pub fn meet(&mut self, alloc: Global, name: &str) -> Result<usize, AllocError>
         ensures met { OnOk result (self.new ≡ met self.old name.now) }
         ensures place { IfOk result (λ place. place ≡ place_of self.old name.now) }

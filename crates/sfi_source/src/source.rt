@@ -29,7 +29,8 @@ impl Model for SourcePart {
 }
 
 impl SourcePart {
-    /// A sandbox of these parts. [`Source::new`] asks that they fit each other.
+    /// A sandbox of these parts, which the methods below describe. [`Source::new`] asks that they
+    /// fit each other.
     pub fn new(
         format: Format,
         movable: bool,
@@ -77,7 +78,7 @@ impl SourcePart {
         self.data_size
     }
 
-    /// The gates, at most `GATES_MOST`, in the order of the text.
+    /// The gates, at most `GATES_MOST` of `sfi_formats`, in the order of the text.
     pub fn gates(&self) -> &[SourceGate]
         ensures { result.now ≡ self.now.gates }
     {
@@ -91,14 +92,14 @@ impl SourcePart {
         &self.names
     }
 
-    /// The instructions, at most `ITEMS_MOST`, in the order of the text.
+    /// The instructions, at most `ITEMS_MOST` of `sfi_formats`, in the order of the text.
     pub fn items(&self) -> &[Item]
         ensures { result.now ≡ self.now.items }
     {
         &self.items
     }
 
-    /// The first bytes of the data region, at most `data_size`.
+    /// The first bytes of the data region, at most `data_size`. The others are 0.
     pub fn bytes(&self) -> &[u8]
         ensures { result.now ≡ self.now.bytes }
     {
@@ -124,7 +125,8 @@ impl Model for Source {
 }
 
 impl Source {
-    /// The source of these sandboxes. Each name in them is one that a label may have.
+    /// The source of these sandboxes, which have to be right, each by itself, and all of one
+    /// format: `IsSource` of specs/Source says what that takes.
     pub fn new(parts: Vec<SourcePart>) -> Source
         requires { IsSource parts.items }
         ensures { result ≡ parts.items }
@@ -132,7 +134,7 @@ impl Source {
         Source { parts }
     }
 
-    /// The format of the image to be made.
+    /// The format of the image to be made, which is that of each sandbox.
     pub fn format(&self) -> Format
         ensures { result ≡ format_of self.now }
     {
