@@ -1,4 +1,5 @@
-//! Lists of bounded length, in arrays.
+//! Lists of bounded length, in arrays, so that a reader of a layout takes no memory. Callers in C
+//! keep the arrays and their lengths: `from_array` and `array` are for these.
 ghost use Rattle.std.specs.Prelude.{◌≡◌, ◌<◌, ◌≤◌, ◌++◌, ◌∷◌, ◌*◌, [], List, ℕ, length, take};
 ghost use Rattle.sfi_formats.specs.Limits.{gates_most, sandboxes_most};
 ghost use Rattle.sfi_image.specs.declared.span.Span.{Span};
@@ -47,7 +48,7 @@ impl SpanArray {
         }
     }
 
-    /// An array with the spans at its front.
+    /// An array with the spans at its front; what follows them means nothing.
     pub fn array(&self) -> [Span; SPANS_MOST]
         ensures { take (length self.now) result ≡ self.now }
     {
@@ -114,7 +115,7 @@ impl GateArray {
         }
     }
 
-    /// An array with the gates' addresses at its front.
+    /// An array with the gates' addresses at its front; what follows them means nothing.
     pub fn array(&self) -> [u32; GATE_COUNT_MOST]
         ensures { take (length self.now) result ≡ self.now }
     {

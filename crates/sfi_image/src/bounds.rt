@@ -1,4 +1,5 @@
-//! Where a sandbox lies, and whether two lie apart, of one image or of two.
+//! Where a sandbox lies, and whether two lie apart, of one image or of two. A sandbox whose format
+//! has single masks keeps a zone at zero free, too: `zones.rt` says which addresses it has.
 ghost use Rattle.std.specs.Prelude.{◌≡◌, ◌+◌, ◌<◌, ◌^◌, ◌↔◌, IsTrue};
 ghost use Rattle.sfi_image.specs.Spelling.{AreApart};
 ghost use Rattle.sfi_image.specs.Bounds.{code_of, guarded_data_of, AreRegionsApart, IsClearOfZone, IsClearOf, AreBoundsApart};
@@ -45,7 +46,8 @@ fn guarded_data_of(bounds: &Bounds) -> Span
     }
 }
 
-/// Whether the two spans have no address in common. Either may be empty.
+/// Whether the two spans have no address in common. Either may be empty, unlike those of
+/// `are_apart` of `span.rt`.
 fn do_not_meet(one: Span, other: Span) -> bool
     requires one { one.base + one.size < 2 ^ 64 }
     requires other { other.base + other.size < 2 ^ 64 }
@@ -55,7 +57,7 @@ fn do_not_meet(one: Span, other: Span) -> bool
     end <= one.base.max(other.base)
 }
 
-/// Whether no region or guard zone of one meets one of the other.
+/// Whether no region or guard zone of one has an address in common with one of the other.
 fn are_regions_apart(one: &Bounds, other: &Bounds) -> bool
     ensures { IsTrue result ↔ AreRegionsApart one.now other.now }
 {
@@ -75,7 +77,7 @@ fn are_regions_apart(one: &Bounds, other: &Bounds) -> bool
     do_not_meet(guarded, other_guarded)
 }
 
-/// Whether the span lies clear of the sandbox's zone at zero, if its format has one.
+/// Whether the span lies clear of the sandbox's zone at zero; true where its format has none.
 fn is_clear_of_zone(bounds: &Bounds, span: Span) -> bool
     requires end { span.base + span.size < 2 ^ 64 }
     ensures { IsTrue result ↔ IsClearOfZone bounds.now span }
@@ -86,7 +88,7 @@ fn is_clear_of_zone(bounds: &Bounds, span: Span) -> bool
     is_clear(zone_end(bounds.data_size), span)
 }
 
-/// Whether no region or guard zone of `other` meets a zone at zero of `one`.
+/// Whether no region or guard zone of `other` has an address of a zone at zero of `one`.
 fn is_clear_of(one: &Bounds, other: &Bounds) -> bool
     ensures { IsTrue result ↔ IsClearOf one.now other.now }
 {

@@ -1,8 +1,8 @@
-//! A bundle's place.
+//! Where a bundle of an image stands, and what its check needs to know of its sandbox.
 
 use sfi_formats::Format;
 
-/// Where a bundle stands.
+/// Where a bundle stands, and what its check needs to know of its sandbox.
 #[derive(Clone, Copy, PartialEq, Eq, Debug)]
 pub struct BundlePlace {
     /// The sandbox's place in the image, counted from 0.

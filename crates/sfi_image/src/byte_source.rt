@@ -28,7 +28,7 @@ pub trait ByteSource {
             reads self.old (length buf.old) (Some (take n buf.new)) self.new) }
         ensures fault { OnErr result (reads self.old (length buf.old) None self.new) };
 
-    /// Whether a read has failed.
+    /// Whether a read has failed so far.
     fn failed(&self) -> bool
         ensures { result ≡ has_failed self.now };
 

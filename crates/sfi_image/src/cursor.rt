@@ -34,7 +34,7 @@ pub struct PartView<'a> {
 }
 
 impl<'a> PartView<'a> {
-    /// Gate `index`, counted from 0.
+    /// Gate `index`, counted from 0; `None` where there are no more than `index` gates.
     pub fn gate(&self, index: u32) -> Option<Gate>
         requires { (p : Part) × IsViewOf self.now p }
         ensures { (p : Part) → IsViewOf self.now p → result ≡ slice_get p.gates index }
@@ -55,7 +55,7 @@ pub struct ImageCursor<'a> {
 }
 
 impl<'a> ImageCursor<'a> {
-    /// A cursor before the first sandbox.
+    /// A cursor before the first sandbox, with the magic and the count read, or their fault.
     pub fn new(bytes: &'a [u8]) -> Result<ImageCursor<'a>, LayoutFault>
         ensures begun { IfOk result (λ c. (format : Format) × (n : ℕ)
             × HasPassed bytes.entry.now format n [] c) }
@@ -85,7 +85,8 @@ impl<'a> ImageCursor<'a> {
         self.rest
     }
 
-    /// The next sandbox, or none at the image's end.
+    /// The next sandbox, or none at the image's end. The error is the first fault of the bytes,
+    /// also of those after the last sandbox; then the cursor isn't to be used any more.
     pub fn next_part(&mut self) -> Result<Option<PartView<'a>>, LayoutFault>
         requires { (bytes : List ℕ) × (format : Format) × (n : ℕ) × (ps : List Part)
             × HasPassed bytes format n ps self.old }
@@ -135,7 +136,7 @@ impl<'a> ImageCursor<'a> {
         })
     }
 
-    /// Hands the next `len` bytes to the reader, and returns them.
+    /// Hands the next `len` bytes to the reader, and returns them; `Short` if there are fewer.
     fn take(&mut self, len: usize) -> Result<&'a [u8], LayoutFault>
         requires { MayTake self.old.reader len }
         ensures { (bytes : List ℕ) (x : ImagePrefix) → HasRead bytes x self.old
@@ -197,7 +198,8 @@ impl<'a> ImageCursor<'a> {
         self.take(fields.code_size as usize)
     }
 
-    /// Reads the sandbox's first data bytes.
+    /// Reads the sandbox's first data bytes. If there are none, the reader is past them already,
+    /// and is handed nothing.
     fn take_init(&mut self, fields: &Fields) -> Result<&'a [u8], LayoutFault>
         requires { (bytes : List ℕ) × (n : ℕ) × (ps : List Part) × (gs : List Gate)
             × (code : List ℕ) × HasRead bytes (after_init n ps fields.now gs code []) self.old }

@@ -21,9 +21,10 @@ pub enum LayoutFault {
     /// 16777216, or the code base no multiple of it.
     Code,
     /// The data size is no power of two from 256 to the format's largest, 1048576 or 1073741824, or
-    /// the data base no multiple of it.
+    /// the data base no multiple of it; or, where masks are single (SFIS), no single bit.
     Data,
-    /// The 4096 addresses below the data, or those above it, reach past the first or last address.
+    /// The 4096 addresses below the data, or those above it, reach past the first or last address;
+    /// or, where masks are single (SFIS), the sandbox's own zone at zero reaches its code or data.
     GuardRoom,
     /// The start is no bundle start of the code region.
     Start,
@@ -32,8 +33,9 @@ pub enum LayoutFault {
     Gates,
     /// There are more first data bytes than the data region holds.
     Init,
-    /// Two of the spans so far have an address in common: a code region,
-    /// or a data region with its guard zones.
+    /// Two of the spans so far have an address in common: a code region, or a data region with its
+    /// guard zones; or, where masks are single (SFIS), one has an address in another sandbox's zone
+    /// at zero.
     Overlap,
     /// A byte follows the last sandbox.
     Trailing,

@@ -1,4 +1,5 @@
-//! The seven fields of a sandbox and their tests.
+//! The seven fields of a sandbox and their tests. A format with single masks has a test more of the
+//! data base, and two of the zone at zero, which is described in `zones.rt`.
 ghost use Rattle.std.specs.Prelude.{◌≡◌, ◌≤◌, ◌↔◌, List, IsTrue, IfOk, IfErr, Some, None};
 ghost use Rattle.std.specs.List.{All, AllPairs};
 ghost use Rattle.sfi_formats.specs.Limits.{guard};
@@ -42,11 +43,13 @@ pub(crate) struct OwnSpans {
     pub(crate) guarded: Span,
 }
 
+/// How many addresses a guard zone has.
 pub(crate) const GUARD: u64 = sfi_formats::GUARD as u64;
 
+/// How many addresses there are.
 pub(crate) const TOP: u64 = 1 << 32;
 
-/// Tells whether the size is a power of two within the bounds, and the base a multiple of it.
+/// Tells whether the size is a power of two from `least` to `most`, and the base a multiple of it.
 pub fn is_region(base: u32, size: u32, least: u32, most: u32) -> bool
     ensures { IsTrue result ↔ IsRegion base size least most }
 {
@@ -67,15 +70,16 @@ pub fn has_guard_room(base: u32, size: u32) -> bool
     base + u64::from(size) + GUARD <= TOP
 }
 
-/// Tells whether the base is a single bit, and no lower than the size.
+/// Tells whether the base is a single bit, and no lower than the size. So the single mask, base +
+/// size - 1, leads each address into the data or below the size.
 pub fn is_one_bit(base: u32, size: u32) -> bool
     ensures { IsTrue result ↔ IsOneBit base size }
 {
     base.is_power_of_two() && size <= base
 }
 
-/// Tells whether the zone at zero of the data ends below the code and below the data, and its last
-/// addresses begin above the code.
+/// Tells whether the zone at zero of a sandbox lies clear of its own regions: its lower part ends
+/// below the code and below the data, and its upper one begins above the code.
 pub fn is_clear_of_zero(code_base: u32, code_size: u32, data_base: u32, data_size: u32) -> bool
     ensures { IsTrue result ↔ IsClearOfZero (record { base = code_base; size = code_size })
         (record { base = data_base; size = data_size }) }
@@ -87,7 +91,7 @@ pub fn is_clear_of_zero(code_base: u32, code_size: u32, data_base: u32, data_siz
     u64::from(code_base) + u64::from(code_size) + GUARD <= TOP
 }
 
-/// Whether the data region may lie where it does.
+/// Whether the data region has a size and a base that the format allows.
 fn is_data_region(fields: &Fields) -> bool
     ensures { IsTrue result ↔
         (IsDataRegion fields.now.format fields.now.data_base fields.now.data_size
@@ -100,7 +104,8 @@ fn is_data_region(fields: &Fields) -> bool
     !fields.format.has_single_mask() || is_one_bit(fields.data_base, fields.data_size)
 }
 
-/// Whether there is room for the guard zones, and for a zone at zero where there is one.
+/// Whether there is room for the guard zones, and for the sandbox's own zone at zero, where the
+/// format has one.
 fn has_room(fields: &Fields) -> bool
     ensures { IsTrue result ↔ (HasGuardRoom fields.now.data_base fields.now.data_size
         × HasZoneRoom fields.now.format (code_span fields.now) (data_span fields.now)) }
@@ -119,7 +124,8 @@ fn has_room(fields: &Fields) -> bool
     )
 }
 
-/// Whether the address is a bundle start of the code region.
+/// Whether the address is a bundle start of the code region. It is asked of starts and gates, of
+/// code in words, too.
 pub(crate) fn is_bundle_start(fields: &Fields, at: u32) -> bool
     ensures { IsTrue result ↔ IsBundleStart (code_span fields.now) at }
 {
@@ -151,7 +157,7 @@ pub fn with_guards(base: u32, size: u32) -> Span
 }
 
 /// Whether a sandbox with these fields and these spans may lie beside the sandboxes before it, whose
-/// spans are `before`.
+/// spans are `before`, two for each: no two spans meet, nor any a zone at zero.
 fn are_apart_with(before: &[Span], fields: &Fields, own: &OwnSpans) -> bool
     requires bounded { All IsBounded before.now }
     requires apart { AllPairs AreApart before.now }
@@ -169,7 +175,8 @@ fn are_apart_with(before: &[Span], fields: &Fields, own: &OwnSpans) -> bool
 }
 
 /// The spans of a sandbox with these fields, or the first test that they fail. `before` are the
-/// spans of the sandboxes before it.
+/// spans of the sandboxes before it, two for each. `field_tests` of specs/FieldTests has the order
+/// of the tests.
 pub(crate) fn spans_after(before: &[Span], fields: &Fields) -> Result<OwnSpans, LayoutFault>
     requires bounded { All IsBounded before.now }
     requires apart { AllPairs AreApart before.now }

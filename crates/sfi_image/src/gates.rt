@@ -9,7 +9,9 @@ use crate::fields::{Fields, is_bundle_start};
 use crate::part::Gate;
 use sfi_formats::SERVICE_MOST;
 
-/// Whether the gate may follow gates whose last one, if there is one, has address `last`.
+/// Whether the gate may follow gates whose last one has address `last`, `None` if it is the first:
+/// it is at a bundle start of the sandbox with these fields, asks for a service that there is, and
+/// lies above `last`.
 pub(crate) fn is_next_gate(fields: &Fields, last: Option<u32>, gate: Gate) -> bool
     ensures next { (gs : List Gate) → last ≡ slice_get (map (λ g. g.address) gs) (length gs - 1)
         → AreGates (code_span fields.now) gs

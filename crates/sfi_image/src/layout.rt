@@ -58,7 +58,7 @@ fn fields_of_part(format: Format, part: &SandboxPart<'_>) -> Fields
     }
 }
 
-/// Whether each gate may follow those before it.
+/// Whether each gate may follow those before it: `is_next_gate`.
 fn are_gates(fields: &Fields, gates: &[Gate]) -> bool
     ensures right { OnTrue result (AreGates (code_span fields.now) gates.now) }
     ensures words { OnTrue result (All AreGateWords gates.now) }
@@ -95,7 +95,8 @@ fn part_spans(
     Ok(own)
 }
 
-/// Tests that the sandboxes have a right layout. The error is the fault of the first that is wrong.
+/// Tests that the sandboxes have a right layout. The error is the fault of the first that is wrong,
+/// `Count` for none or too many of them, or that memory is refused.
 pub(crate) fn check_layout(
     alloc: Global,
     format: Format,

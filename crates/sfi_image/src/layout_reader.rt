@@ -43,7 +43,7 @@ pub struct LayoutReader {
     pub init_read: u32,
 }
 
-/// What comes after `begun` sandboxes of `count`.
+/// What comes next after `begun` whole sandboxes of `count`.
 fn stage_after_part(begun: u32, count: u32) -> Stage
     ensures { result ≡ stage_after_part begun count }
 {
@@ -54,8 +54,8 @@ fn stage_after_part(begun: u32, count: u32) -> Stage
     }
 }
 
-/// What comes after `read` first data bytes of `len`. It is out of line, since few bundles are the
-/// last of their code region.
+/// What comes next after `read` first data bytes of `len`, in sandbox `begun` of `count`, counted
+/// from 1. It is out of line, since few bundles are the last of their code region.
 #[inline(never)]
 fn stage_after_init(read: u32, len: u32, begun: u32, count: u32) -> Stage
     ensures { result ≡ stage_after_init read len begun count }
@@ -67,7 +67,8 @@ fn stage_after_init(read: u32, len: u32, begun: u32, count: u32) -> Stage
     }
 }
 
-/// What comes after `read` bytes of a code region of `size`.
+/// What comes next after `read` bytes of a code region of `size`, in sandbox `begun` of `count`,
+/// which has `len` first data bytes.
 #[inline]
 fn stage_after_code(read: u32, size: u32, len: u32, begun: u32, count: u32) -> Stage
     ensures { result ≡ stage_after_code read size len begun count }
@@ -79,7 +80,7 @@ fn stage_after_code(read: u32, size: u32, len: u32, begun: u32, count: u32) -> S
     }
 }
 
-/// What comes after `read` gates of `gate_count`.
+/// What comes next after `read` gates of `gate_count`.
 fn stage_after_gates(read: u32, gate_count: u32) -> Stage
     ensures { result ≡ stage_after_gates read gate_count }
 {
@@ -166,7 +167,7 @@ impl LayoutReader {
         self.fields.format
     }
 
-    /// What comes next.
+    /// What comes next, which `take` takes: the caller is to read that many bytes, or to stop.
     #[inline]
     pub fn wants(&self) -> Want
         ensures want { (x : ImagePrefix) → StandsFor self.now x → result ≡ want_of x }
@@ -214,7 +215,8 @@ impl LayoutReader {
     }
 
     /// How many bytes of code come next up to the first gate after their first bundle, or else to
-    /// the code region's end: none where no code comes next.
+    /// the code region's end: 0 where no code comes next. So many can be checked at once: of their
+    /// bundles only the first may be a gate's.
     #[inline(never)]
     pub fn stretch_length(&self) -> usize
         ensures length { (x : ImagePrefix) → StandsFor self.now x → IsStretchLength x result }
@@ -267,7 +269,8 @@ impl LayoutReader {
         }
     }
 
-    /// Takes bytes as `advance` does, where no bundle comes next. It is out of line.
+    /// Takes bytes as `advance` does, where no bundle comes next. It is out of line, since most
+    /// that is read is bundles.
     #[inline(never)]
     fn advance_by_no_bundle(&mut self, bytes: &[u8]) -> Option<LayoutFault>
         requires next { self.old.next ≢ Stage.Code }
@@ -288,7 +291,7 @@ impl LayoutReader {
         }
     }
 
-    /// Takes the magic: its fault, if it is that of no format.
+    /// Takes the magic, the four bytes of the format. The answer is its fault, if no format has it.
     #[inline(never)]
     fn take_magic(&mut self, bytes: &[u8]) -> Option<LayoutFault>
         requires reader { IsReader self.old }
@@ -306,7 +309,7 @@ impl LayoutReader {
         None
     }
 
-    /// Takes the number of sandboxes: its fault, if that is 0 or too large.
+    /// Takes the number of sandboxes. The answer is its fault, if that is 0 or too large.
     #[inline(never)]
     fn take_count(&mut self, bytes: &[u8]) -> Option<LayoutFault>
         requires reader { IsReader self.old }
@@ -326,7 +329,7 @@ impl LayoutReader {
         None
     }
 
-    /// Takes a sandbox's seven fields: the first fault that their tests find, if any.
+    /// Takes a sandbox's seven fields. The answer is the first fault that their tests find, if any.
     #[inline(never)]
     fn take_fields(&mut self, bytes: &[u8]) -> Option<LayoutFault>
         requires reader { IsReader self.old }
@@ -355,7 +358,7 @@ impl LayoutReader {
         None
     }
 
-    /// Takes a gate: its fault, if it may not follow the gates before it.
+    /// Takes a gate. The answer is its fault, if it may not follow the gates before it.
     #[inline(never)]
     fn take_gate(&mut self, bytes: &[u8]) -> Option<LayoutFault>
         requires reader { IsReader self.old }

@@ -88,7 +88,7 @@ fn is_magic(format: Format, front: &[u8]) -> bool
     front == format.magic().as_slice()
 }
 
-/// The format of an image that begins with these bytes.
+/// The format of an image that begins with these four bytes; `None` where no format has them.
 pub(crate) fn format_at(front: &[u8]) -> Option<Format>
     ensures found { IfSome result (λ format. front.now ≡ magic format) }
     ensures none { IfNone result ((format : Format) → front.now ≢ magic format) }
@@ -106,7 +106,7 @@ pub(crate) fn format_at(front: &[u8]) -> Option<Format>
     }
 }
 
-/// The sandbox of a view, with a list of its gates.
+/// The sandbox of a view, with a list of its gates. The only error is that memory is refused.
 fn part_of_view<'a>(alloc: Global, found: PartView<'a>) -> Result<SandboxPart<'a>, ImageFault>
     requires { (p : Part) × IsViewOf found p }
     ensures part { IfOk result (λ q. (p : Part) → IsViewOf found.entry p → view p.format q ≡ p) }

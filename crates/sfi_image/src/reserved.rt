@@ -15,7 +15,8 @@ use sfi_formats::Format;
 pub struct Reserved {
     /// x24: the first address of the code region.
     pub code_base: u32,
-    /// x25: the code size less the size of a unit of code, so that a masked offset is that of a unit.
+    /// x25: the code size less the size of a unit of code, a bundle or a word, so that a masked
+    /// offset is that of a unit.
     pub code_mask: u32,
     /// x26: the first address of the data region. Where the format's masks of data are single, x26 holds
     /// it at first, and is a data register.

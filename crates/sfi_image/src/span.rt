@@ -37,7 +37,8 @@ fn is_apart_from_all(one: Span, others: &[Span]) -> bool
     true
 }
 
-/// Whether the spans `code` and `guarded` lie apart from those before and from each other.
+/// Whether the spans `code` and `guarded`, of one sandbox, lie apart from the spans `before`, of
+/// others, and from each other. Those before are known to lie apart.
 pub fn are_all_apart(before: &[Span], code: Span, guarded: Span) -> bool
     requires bounded { All IsBounded before.now }
     requires code { IsBounded code }

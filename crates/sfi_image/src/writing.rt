@@ -32,7 +32,7 @@ fn push_number(bytes: &mut Vec<u8>, n: u32) -> Result<(), AllocError>
 }
 
 #[tactic(auto, using(std::proofs::Common::append_assoc), unfolding(crate::specs::Spelling::gate))]
-/// Appends the gate.
+/// Appends the eight bytes of the gate.
 fn push_gate(bytes: &mut Vec<u8>, one: Gate) -> Result<(), AllocError>
     ensures { OnOk result (bytes.new.items ≡ bytes.old.items ++ gate one) }
 {
@@ -52,7 +52,8 @@ fn push_gates(bytes: &mut Vec<u8>, gates: &[Gate]) -> Result<(), AllocError>
 }
 
 #[tactic(auto, using(std::proofs::Common::append_assoc), unfolding(crate::specs::Spelling::fields))]
-/// Appends the seven fields of a sandbox.
+/// Appends the seven fields of a sandbox, in the order in which `fields_at` of `reading.rt` reads
+/// them.
 fn push_fields(bytes: &mut Vec<u8>, one: &SandboxPart<'_>) -> Result<(), AllocError>
     requires { (format : Format) × IsRightPart (view format one.now) }
     ensures { (format : Format) → OnOk result
@@ -69,7 +70,7 @@ fn push_fields(bytes: &mut Vec<u8>, one: &SandboxPart<'_>) -> Result<(), AllocEr
 }
 
 #[tactic(auto, using(std::proofs::Common::append_assoc), unfolding(crate::specs::Spelling::part))]
-/// Appends the sandbox.
+/// Appends the sandbox: its fields, its gates, its code and its first data bytes.
 fn push_part(bytes: &mut Vec<u8>, one: &SandboxPart<'_>) -> Result<(), AllocError>
     requires { (format : Format) × IsRightPart (view format one.now) }
     ensures { (format : Format) → OnOk result
@@ -100,7 +101,7 @@ fn write_valid_parts(
     Ok(bytes)
 }
 
-/// The image of these sandboxes, or their fault.
+/// The image of these sandboxes, or their fault, or that memory is refused.
 fn image_of(alloc: Global, format: Format, parts: &[SandboxPart<'_>]) -> Result<Vec<u8>, ImageFault>
     ensures { Reads (λ bytes. IsImage bytes.items (views format parts.now))
         (HaveFault (views format parts.now)) result }
