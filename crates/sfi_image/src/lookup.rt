@@ -8,9 +8,9 @@ ghost use Rattle.sfi_image.specs.Keeping.{sandbox_offset, IsSandboxOf, IsBeyond}
 use crate::cursor::{ImageCursor, PartView};
 use crate::fault::LayoutFault;
 
-/// The image's sandbox `number`, counted from 0, and where its bytes end, counted from the
-/// image's first; none, where the image has fewer sandboxes. It looks at the layout alone, of the
-/// whole image, and takes no memory.
+/// The image's sandbox `number`, counted from 0, and where its bytes end, counted from the image's
+/// first; none, where the image has fewer sandboxes. The error is the image's fault. It looks at
+/// the layout alone, of the whole image, and takes no memory.
 pub fn sandbox_of<'a>(
     image: &'a [u8],
     number: u32,
