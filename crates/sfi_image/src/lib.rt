@@ -8,9 +8,9 @@
 //! others, "Native Client", 2009).
 //!
 //! [`parse_image`] reads an image from all of its bytes, by an [`ImageCursor`], which steps from
-//! sandbox to sandbox and takes no memory; [`sandbox_of`] goes to the sandbox of a number. [`LayoutReader`] reads its layout from pieces, in order,
-//! as a [`ByteSource`] hands them out, and takes none either; [`ReaderSource`] makes a source of any
-//! reader.
+//! sandbox to sandbox and takes no memory; [`sandbox_of`] goes to the sandbox of a number.
+//! [`LayoutReader`] reads its layout from pieces, in order, as a [`ByteSource`] hands them out, and
+//! takes none either; [`ReaderSource`] makes a source of any reader.
 #![tactic(auto)]
 
 mod arrays;
