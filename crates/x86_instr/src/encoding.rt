@@ -15,7 +15,8 @@ use crate::nop::put_nop;
 use crate::operand::Operand;
 use std::alloc::AllocError;
 
-/// Writes the instruction's bytes behind those that are there.
+/// Appends the instruction's bytes to `out`: what `spelling` of specs/Spelling.antt says, clause by
+/// clause. The one error is that an allocation was refused.
 #[tactic(auto, unfolding(crate::specs::Spelling::spelling))]
 pub fn encode(out: &mut Vec<u8>, instr: Instr) -> Result<(), AllocError>
     ensures { OnOk result (out.new.items ≡ out.old.items ++ spelling instr) }
@@ -102,7 +103,8 @@ pub fn encode(out: &mut Vec<u8>, instr: Instr) -> Result<(), AllocError>
     }
 }
 
-/// A number that a byte holds is written as one.
+/// Appends `op` of `dst` and the number `imm`: in one byte (opcode 83) where its sign-extended low byte
+/// is the number again, or else in four (opcode 81).
 #[tactic(auto, unfolding(crate::specs::Spelling::spelling))]
 fn put_alu_imm(
     out: &mut Vec<u8>,

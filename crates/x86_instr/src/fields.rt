@@ -1,10 +1,11 @@
-//! The numbers that fields of instructions have for operations and conditions.
+//! The numbers that fields of instructions have for operations and conditions. Each function mirrors a
+//! definition of specs/Spelling.antt.
 ghost use Rattle.std.specs.Prelude.{◌≡◌, ◌<◌};
 ghost use Rattle.x86_instr.specs.Spelling.{alu_number, condition_number, divide_number, extension_opcode, is_short, byte_extended, rex_w, shift_number, unary_number};
 
 use crate::instr::{AluOp, Condition, DivideOp, Extension, Narrow, ShiftOp, UnaryOp, Width};
 
-/// The bit W of REX.
+/// The bit W of REX: 1 for operands of 64 bits.
 pub(crate) fn width_bit(width: Width) -> u8
     ensures value { result ≡ rex_w width }
     ensures in_range { result < 2 }
@@ -15,7 +16,7 @@ pub(crate) fn width_bit(width: Width) -> u8
     }
 }
 
-/// In opcodes 00 to 3F, and in ModRM.reg.
+/// The operation's number: bits 3 to 5 of opcodes 00 to 3F, and ModRM.reg of opcodes 81 and 83.
 pub(crate) fn alu_digit(op: AluOp) -> u8
     ensures value { result ≡ alu_number op }
     ensures in_range { result < 8 }
@@ -30,7 +31,7 @@ pub(crate) fn alu_digit(op: AluOp) -> u8
     }
 }
 
-/// In ModRM.reg.
+/// The operation's number in ModRM.reg of opcode F7.
 pub(crate) fn unary_digit(op: UnaryOp) -> u8
     ensures value { result ≡ unary_number op }
     ensures in_range { result < 8 }
@@ -40,7 +41,7 @@ pub(crate) fn unary_digit(op: UnaryOp) -> u8
     }
 }
 
-/// In ModRM.reg.
+/// The division's number in ModRM.reg of opcode F7.
 pub(crate) fn divide_digit(op: DivideOp) -> u8
     ensures value { result ≡ divide_number op }
     ensures in_range { result < 8 }
@@ -51,7 +52,7 @@ pub(crate) fn divide_digit(op: DivideOp) -> u8
     }
 }
 
-/// In ModRM.reg.
+/// The shift's number in ModRM.reg of opcodes C1 (by a number) and D3 (by cl).
 pub(crate) fn shift_digit(op: ShiftOp) -> u8
     ensures value { result ≡ shift_number op }
     ensures in_range { result < 8 }
@@ -63,7 +64,7 @@ pub(crate) fn shift_digit(op: ShiftOp) -> u8
     }
 }
 
-/// In the low four bits of opcodes.
+/// The condition's number: the low four bits of the opcodes of jcc (0F 8x) and setcc (0F 9x).
 pub(crate) fn condition_digit(condition: Condition) -> u8
     ensures value { result ≡ condition_number condition }
     ensures in_range { result < 16 }
@@ -82,7 +83,7 @@ pub(crate) fn condition_digit(condition: Condition) -> u8
     }
 }
 
-/// The second byte of movzx and movsx.
+/// The opcode's byte after 0F, of movzx (`Extension::Zero`) or movsx from 8 or 16 bits.
 pub(crate) fn extended_opcode(extension: Extension, from: Narrow) -> u8
     ensures { result ≡ extension_opcode extension from }
 {
@@ -94,7 +95,8 @@ pub(crate) fn extended_opcode(extension: Extension, from: Narrow) -> u8
     }
 }
 
-/// Whether the low byte with its sign is the number.
+/// Whether the low byte of `n`, sign-extended to 32 bits, is `n` again: then one byte is enough for
+/// it as an immediate or a displacement.
 pub(crate) fn is_byte(n: u32) -> bool
     ensures { result ≡ is_short n }
 {

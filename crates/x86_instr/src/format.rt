@@ -1,4 +1,5 @@
-//! Prefixes, opcode, ModRM, SIB, displacement, and the numbers behind them.
+//! Prefixes, opcode, ModRM, SIB, displacement, and the numbers behind them. Each `put_` function appends
+//! to `out`; its one error is that an allocation was refused.
 ghost use Rattle.std.specs.Prelude.{◌≡◌, ◌<◌, ◌+◌, ◌%◌, ◌++◌, ◌∷◌, [], OnOk};
 ghost use Rattle.x86_instr.specs.declared.operand.Operand.TheVariants.{Mem};
 ghost use Rattle.x86_instr.specs.Spelling.{coded, coded_0f, coded_byte, coded_byte_0f, coded_register, dword_bytes, memory, modrm, number, operands, rex, rex_bits, rex_xb, sib};
@@ -22,6 +23,7 @@ pub(crate) fn put_pair(out: &mut Vec<u8>, first: u8, second: u8) -> Result<(), A
     put_byte(out, second)
 }
 
+/// Appends the four bytes of a number, the lowest first.
 pub(crate) fn put_dword(out: &mut Vec<u8>, n: u32) -> Result<(), AllocError>
     ensures { OnOk result (out.new.items ≡ out.old.items ++ dword_bytes n) }
 {
@@ -29,7 +31,7 @@ pub(crate) fn put_dword(out: &mut Vec<u8>, n: u32) -> Result<(), AllocError>
     put_pair(out, (n / 65536 % 256) as u8, (n / 16_777_216) as u8)
 }
 
-/// ModRM: mod, reg and r/m.
+/// The byte ModRM: mod (`mode`), and of reg and r/m (`rm`) the low three bits; REX has their fourth.
 fn modrm_of(mode: u8, reg: u8, rm: u8) -> u8
     requires { mode < 4 }
     ensures { result ≡ modrm mode reg rm }
@@ -37,13 +39,16 @@ fn modrm_of(mode: u8, reg: u8, rm: u8) -> u8
     mode * 64 + reg % 8 * 8 + rm % 8
 }
 
+/// The byte SIB of an address: its scale, and of index and base the low three bits; REX has their
+/// fourth.
 fn sib_of(address: Address) -> u8
     ensures { result ≡ sib address }
 {
     address.scale.number() * 64 + address.index.number() % 8 * 8 + address.base.number() % 8
 }
 
-/// ModRM, SIB and displacement of memory.
+/// Appends ModRM, with r/m 4 (SIB follows), SIB, and the displacement in as few bytes as hold it: none
+/// where it is 0 (unless the base is rbp or r13, which need one), one, or four.
 #[tactic(auto, unfolding(crate::specs::Spelling::memory))]
 fn put_memory(out: &mut Vec<u8>, reg: u8, address: Address) -> Result<(), AllocError>
     ensures { OnOk result (out.new.items ≡ out.old.items ++ memory reg address) }
@@ -61,6 +66,7 @@ fn put_memory(out: &mut Vec<u8>, reg: u8, address: Address) -> Result<(), AllocE
     }
 }
 
+/// Appends ModRM, with `reg` in its field reg and `operand` in r/m, and what follows it for memory.
 fn put_operands(out: &mut Vec<u8>, reg: u8, operand: Operand) -> Result<(), AllocError>
     ensures { OnOk result (out.new.items ≡ out.old.items ++ operands reg operand) }
 {
@@ -70,7 +76,8 @@ fn put_operands(out: &mut Vec<u8>, reg: u8, operand: Operand) -> Result<(), Allo
     }
 }
 
-/// Bits X and B of REX.
+/// Bits X and B of REX, as a number below 4: the fourth bits of the index and the base, or in B that
+/// of a register.
 fn xb_of(operand: Operand) -> u8
     ensures value { result ≡ rex_xb operand }
     ensures in_range { result < 4 }
@@ -81,7 +88,7 @@ fn xb_of(operand: Operand) -> u8
     }
 }
 
-/// Bits W, R, X and B of REX.
+/// Bits W, R, X and B of REX, as a number below 16; R is the fourth bit of `reg`.
 fn bits_of(width: Width, reg: u8, operand: Operand) -> u8
     requires { reg < 16 }
     ensures value { result ≡ rex_bits width reg operand }
@@ -90,7 +97,7 @@ fn bits_of(width: Width, reg: u8, operand: Operand) -> u8
     width_bit(width) * 8 + reg / 8 * 4 + xb_of(operand)
 }
 
-/// REX, where a bit is 1.
+/// Appends REX with these low four bits; nothing where all are 0, since it isn't needed then.
 #[tactic(auto, unfolding(crate::specs::Spelling::rex))]
 fn put_rex(out: &mut Vec<u8>, bits: u8) -> Result<(), AllocError>
     requires { bits < 16 }
@@ -102,7 +109,8 @@ fn put_rex(out: &mut Vec<u8>, bits: u8) -> Result<(), AllocError>
     put_byte(out, 64 + bits)
 }
 
-/// An opcode of one byte with its operands.
+/// Appends REX, if it is needed, an opcode of one byte, and the operands. `reg` is a register's
+/// number or the digit that belongs to the opcode.
 pub(crate) fn put_form(
     out: &mut Vec<u8>,
     width: Width,
@@ -118,7 +126,7 @@ pub(crate) fn put_form(
     put_operands(out, reg, operand)
 }
 
-/// The same, after 0F.
+/// As `put_form`, with 0F before the opcode.
 pub(crate) fn put_0f_form(
     out: &mut Vec<u8>,
     width: Width,
@@ -134,7 +142,8 @@ pub(crate) fn put_0f_form(
     put_operands(out, reg, operand)
 }
 
-/// An opcode of one byte with a register of 8 bits.
+/// As `put_form`, with a register of 8 bits. REX is always there, so that numbers 4 to 7 mean spl, bpl,
+/// sil and dil, the low bytes, and not ah, ch, dh and bh.
 pub(crate) fn put_byte_form(
     out: &mut Vec<u8>,
     opcode: u8,
@@ -148,7 +157,7 @@ pub(crate) fn put_byte_form(
     put_operands(out, reg, operand)
 }
 
-/// The same, after 0F.
+/// As `put_byte_form`, with 0F before the opcode.
 pub(crate) fn put_byte_0f_form(
     out: &mut Vec<u8>,
     opcode: u8,
@@ -163,7 +172,8 @@ pub(crate) fn put_byte_0f_form(
     put_operands(out, reg, operand)
 }
 
-/// An opcode whose low three bits are a register's.
+/// Appends an opcode to which the low three bits of the register's number are added, after REX if the
+/// number has a fourth.
 pub(crate) fn put_register_form(
     out: &mut Vec<u8>,
     opcode: u8,

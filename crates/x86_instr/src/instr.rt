@@ -67,7 +67,8 @@ pub enum DivideOp {
     Idiv,
 }
 
-/// What flags say of the last comparison.
+/// What flags say of the last comparison: Below and Above of unsigned numbers, Less and Greater of
+/// signed ones.
 #[derive(Clone, Copy)]
 pub enum Condition {
     Below,
@@ -97,7 +98,8 @@ pub enum NopSize {
 }
 
 /// An instruction, one variant a form. Numbers are in two's complement; operands have 32 bits where
-/// no width is said.
+/// no width is said. A new form also needs clauses in specs/Spelling.antt and specs/Decoding.antt,
+/// and in specs/Step.antt of x86_step.
 #[derive(Clone, Copy)]
 pub enum Instr {
     Mov {
@@ -147,7 +149,7 @@ pub enum Instr {
         dst: Operand,
         imm: u32,
     },
-    /// Flags of the conjunction.
+    /// Sets flags by the bitwise and of the two, and writes no register.
     Test {
         first: Register,
         second: Register,
@@ -179,7 +181,7 @@ pub enum Instr {
     },
     /// eax with its sign, to edx:eax.
     Cdq,
-    /// Into the low byte.
+    /// 1 where the condition holds, or else 0, into the low byte; the other bytes stay.
     Setcc {
         condition: Condition,
         dst: Register,

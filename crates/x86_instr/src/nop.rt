@@ -5,7 +5,7 @@ ghost use Rattle.x86_instr.specs.Spelling.{nop_bytes};
 use crate::instr::NopSize;
 use std::alloc::AllocError;
 
-/// Writes a nop.
+/// Appends one instruction that does nothing, of that size: the bytes that Intel's manual recommends.
 pub(crate) fn put_nop(out: &mut Vec<u8>, size: NopSize) -> Result<(), AllocError>
     ensures { OnOk result (out.new.items ≡ out.old.items ++ nop_bytes size) }
 {
@@ -24,7 +24,7 @@ pub(crate) fn put_nop(out: &mut Vec<u8>, size: NopSize) -> Result<(), AllocError
 }
 
 impl NopSize {
-    /// How many bytes it has.
+    /// How many bytes the nop has, 1 to 9.
     pub fn bytes(self) -> u32
         ensures is { result ≡ length (nop_bytes self) }
         ensures few { result ≤ 9 }

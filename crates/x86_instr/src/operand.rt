@@ -51,7 +51,7 @@ impl Register {
     }
 }
 
-/// What an index counts.
+/// By what an index is multiplied.
 #[derive(Clone, Copy)]
 pub enum Scale {
     One,
@@ -61,7 +61,7 @@ pub enum Scale {
 }
 
 impl Scale {
-    /// The two bits that say it.
+    /// The two bits that say it in SIB: the power of two that it is.
     pub(crate) fn number(self) -> u8
         ensures value { result ≡ scale_number self }
         ensures in_range { result < 4 }
