@@ -1,4 +1,5 @@
-//! Sums, differences, logical operations and products, with their flags.
+//! Sums, differences, logical operations and products, with their flags. Operands and results are
+//! numbers of the width: below 2^32 for `Dword`. Each function mirrors a definition of specs/Step.antt.
 ghost use Rattle.std.specs.Prelude.{◌≡◌, ◌<◌, ◌^◌, ◌+ℤ◌, ◌-ℤ◌, ◌*ℤ◌, not};
 ghost use Rattle.x86_step.specs.Step.{alu as alu_of, difference as difference_of, fits, flagged as flagged_by, is_negative as is_below_zero, logical as logical_of, low, product as product_of, signed, sum as sum_of, unary as unary_of};
 
@@ -6,6 +7,7 @@ use crate::machine::{Computed, Flags};
 use crate::operand::low;
 use x86_instr::{AluOp, UnaryOp, Width};
 
+/// Each flag is undefined, as after a division.
 pub(crate) const UNKNOWN: Flags = Flags {
     carry: None,
     zero: None,
@@ -13,6 +15,7 @@ pub(crate) const UNKNOWN: Flags = Flags {
     overflow: None,
 };
 
+/// The sign bit of a number of that width.
 pub(crate) fn is_negative(width: Width, n: u64) -> bool
     ensures { result ≡ is_below_zero width n }
 {
@@ -22,6 +25,8 @@ pub(crate) fn is_negative(width: Width, n: u64) -> bool
     }
 }
 
+/// A result with its flags: zero and sign are what `value` says, carry and overflow as given, `None`
+/// where the manual leaves them undefined.
 pub(crate) fn flagged(
     width: Width,
     carry: Option<bool>,
@@ -41,7 +46,7 @@ pub(crate) fn flagged(
     }
 }
 
-/// Whether the signed sum doesn't fit.
+/// Whether the signed sum doesn't fit the width: the overflow flag of an addition.
 fn sum_overflows(width: Width, a: u64, b: u64) -> bool
     requires a { a ≡ low width a }
     requires b { b ≡ low width b }
@@ -56,6 +61,7 @@ fn sum_overflows(width: Width, a: u64, b: u64) -> bool
     }
 }
 
+/// `a` + `b`, modulo the width. The carry says that the unsigned sum doesn't fit.
 fn sum(width: Width, a: u64, b: u64) -> Computed
     requires a { a ≡ low width a }
     requires b { b ≡ low width b }
@@ -65,7 +71,7 @@ fn sum(width: Width, a: u64, b: u64) -> Computed
     flagged(width, Some(r < a), Some(sum_overflows(width, a, b)), r)
 }
 
-/// Whether the signed difference doesn't fit.
+/// Whether the signed difference doesn't fit the width: the overflow flag of a subtraction.
 fn difference_overflows(width: Width, a: u64, b: u64) -> bool
     requires a { a ≡ low width a }
     requires b { b ≡ low width b }
@@ -80,6 +86,7 @@ fn difference_overflows(width: Width, a: u64, b: u64) -> bool
     }
 }
 
+/// `a` - `b`, modulo the width. The carry is the borrow: unsigned, `a` is below `b`.
 fn difference(width: Width, a: u64, b: u64) -> Computed
     requires a { a ≡ low width a }
     requires b { b ≡ low width b }
@@ -90,12 +97,18 @@ fn difference(width: Width, a: u64, b: u64) -> Computed
     flagged(width, Some(a < b), Some(overflow), r)
 }
 
+/// The result `r` of and, or, xor or test, with its flags: these clear carry and overflow.
 pub(crate) fn logical(width: Width, r: u64) -> Computed
     ensures { result ≡ logical_of width r }
 {
     flagged(width, Some(false), Some(false), r)
 }
 
+/// `a` op `b`, with all four flags: `a` is the first operand, in which the result goes, `b` the second.
+/// Sub and cmp both are `a` - `b` with the flags of the difference; that cmp drops the result is the
+/// caller's business (`operate`). Or, and and xor clear carry and overflow. Zero and sign are the
+/// result's. As the instructions' pages of Intel's manual, volume 2, say; `alu` of specs/Step.antt
+/// says the same.
 pub(crate) fn alu(op: AluOp, width: Width, a: u64, b: u64) -> Computed
     requires a { a ≡ low width a }
     requires b { b ≡ low width b }
@@ -110,6 +123,7 @@ pub(crate) fn alu(op: AluOp, width: Width, a: u64, b: u64) -> Computed
     }
 }
 
+/// Neg: 0 - `a`, of 32 bits, with the flags of that difference.
 pub(crate) fn unary(op: UnaryOp, a: u64) -> Computed
     requires { a < 2 ^ 32 }
     ensures { result ≡ unary_of op a }
@@ -119,7 +133,7 @@ pub(crate) fn unary(op: UnaryOp, a: u64) -> Computed
     }
 }
 
-/// Whether the signed product doesn't fit.
+/// Whether the signed product doesn't fit the width: the carry and the overflow flag of imul.
 fn is_lost(width: Width, a: u64, b: u64) -> bool
     requires a { a ≡ low width a }
     requires b { b ≡ low width b }
@@ -134,6 +148,7 @@ fn is_lost(width: Width, a: u64, b: u64) -> bool
     }
 }
 
+/// Imul: the low half of the product, of as many bits as the width has. Zero and sign are undefined.
 pub(crate) fn product(width: Width, a: u64, b: u64) -> Computed
     requires a { a ≡ low width a }
     requires b { b ≡ low width b }

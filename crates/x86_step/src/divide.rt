@@ -9,7 +9,7 @@ use crate::alu::UNKNOWN;
 use crate::machine::{Core, Flags, Stop};
 use x86_instr::{Condition, DivideOp, Register};
 
-/// A number of 32 bits in two's complement.
+/// The 32 bits of a signed number that they hold, in two's complement.
 fn low_half(z: i64) -> u64
     requires { fits Dword z ≡ true }
     ensures { result ≡ cast_unsigned w32 z }
@@ -17,13 +17,15 @@ fn low_half(z: i64) -> u64
     u64::from((z as i32).cast_unsigned())
 }
 
+/// Whether 32 bits hold the number in two's complement.
 fn has_32_bits(z: i64) -> bool
     ensures { result ≡ fits Dword z }
 {
     z >= -0x8000_0000 && z <= 0x7FFF_FFFF
 }
 
-/// Quotient and remainder of signed numbers, where the quotient has 32 bits.
+/// Quotient, towards 0, and remainder of signed numbers, each in 32 bits of two's complement. None where
+/// 32 bits don't hold the quotient.
 fn signed_parts(a: i64, b: i64) -> Option<(u64, u64)>
     requires some { IsNonZero w64 b }
     requires fits { fits Dword b ≡ true }
@@ -37,7 +39,8 @@ fn signed_parts(a: i64, b: i64) -> Option<(u64, u64)>
     Some((low_half(quotient), low_half(remainder)))
 }
 
-/// Quotient and remainder, where the quotient has 32 bits.
+/// Quotient and remainder of 64 bits by 32. None where `b` is 0 or 32 bits don't hold the quotient:
+/// then a processor raises an exception.
 fn parts_of(op: DivideOp, a: u64, b: u64) -> Option<(u64, u64)>
     requires { b < 2 ^ 32 }
     ensures { result ≡ parts op a b }
@@ -53,6 +56,8 @@ fn parts_of(op: DivideOp, a: u64, b: u64) -> Option<(u64, u64)>
 }
 
 impl Core {
+    /// Divides `a`, the value of edx:eax, by `b`: the quotient goes to eax, the remainder to edx, and
+    /// each flag becomes unknown. `DivideError`, where `parts_of` has nothing, leaves all as it was.
     pub(crate) fn divide(&mut self, op: DivideOp, a: u64, b: u64) -> Result<(), Stop>
         requires { b < 2 ^ 32 }
         ensures value { Leaves result self.new (divided (core_of self.old) (parts op a b)) }
@@ -68,7 +73,7 @@ impl Core {
     }
 }
 
-/// Whether the condition holds, where its flags are known.
+/// Whether the condition holds; None where a flag that it reads is unknown.
 pub(crate) fn is_met(condition: Condition, flags: Flags) -> Option<bool>
     ensures { result ≡ is_met_by condition flags }
 {

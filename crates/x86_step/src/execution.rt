@@ -1,4 +1,5 @@
-//! What an instruction does.
+//! What an instruction does, as `effect` of specs/Step.antt says. A method that stops (`Err`) leaves
+//! all as it was.
 ghost use Rattle.std.specs.Prelude.{◌≡◌, IfErr, Ok};
 ghost use Rattle.x86_instr.specs.declared.instr.Instr.TheVariants.{Test, ShiftCl, Setcc};
 ghost use Rattle.x86_step.specs.Held.{Comes, Leaves, core_of};
@@ -12,7 +13,8 @@ use crate::shift::shift;
 use x86_instr::{AluOp, Condition, Instr, Operand, Register, ShiftOp, Width};
 
 impl Core {
-    /// `dst` op `b` into `dst`; cmp writes flags alone.
+    /// Does `op` on `a`, which is the value of `dst`, and `b`: the result goes into `dst`, but cmp
+    /// writes flags alone.
     fn operate(&mut self, op: AluOp, width: Width, dst: Operand, a: u64, b: u64) -> Result<(), Stop>
         requires a { a ≡ low_bits width a }
         requires b { b ≡ low_bits width b }
@@ -27,7 +29,8 @@ impl Core {
         self.finish(width, dst, computed.result, computed.flags)
     }
 
-    /// What an instruction does with registers, flags and memory.
+    /// What an instruction does with registers, flags and memory. A jump does nothing to these: `target`
+    /// says where it goes. A new form needs a clause of `computes` in specs/Step.antt.
     #[tactic(auto, unfolding(crate::specs::Step::computes))]
     fn compute(&mut self, instr: Instr) -> Result<(), Stop>
         ensures value { Leaves result self.new (computes instr (core_of self.old)) }
@@ -133,7 +136,7 @@ impl Core {
         }
     }
 
-    /// The flags of a conjunction.
+    /// Test: sets flags by the bitwise and of the low 32 bits of two registers.
     #[tactic(auto, unfolding(crate::specs::Step::computes))]
     fn test(&mut self, first: Register, second: Register)
         ensures { computes (Test first second) (core_of self.old) ≡ Ok (core_of self.new) }
@@ -143,6 +146,7 @@ impl Core {
         self.flags = logical(Width::Dword, both).flags;
     }
 
+    /// Shifts the low 32 bits of `dst` by cl, the low byte of rcx, which counts modulo 32.
     #[tactic(auto, unfolding(crate::specs::Step::computes))]
     fn shift_cl(&mut self, op: ShiftOp, dst: Register) -> Result<(), Stop>
         ensures value { Leaves result self.new (computes (ShiftCl op dst) (core_of self.old)) }
@@ -159,7 +163,8 @@ impl Core {
         )
     }
 
-    /// Into the low byte.
+    /// Setcc: writes 1 into the low byte of `dst` where the condition holds, or else 0; the other
+    /// seven bytes stay.
     #[tactic(auto, unfolding(crate::specs::Step::computes))]
     fn set_byte(&mut self, condition: Condition, dst: Register) -> Result<(), Stop>
         ensures value { Leaves result self.new (computes (Setcc condition dst) (core_of self.old)) }
@@ -173,7 +178,8 @@ impl Core {
         Ok(())
     }
 
-    /// Where an instruction goes, that ends at `after`.
+    /// The address of the instruction that comes next, where this one ends at `after`: there, or the
+    /// target of a jump.
     fn target(&self, instr: Instr, after: u64) -> Result<u64, Stop>
         ensures { result ≡ goes_to instr after (core_of self.now) }
     {
@@ -193,14 +199,14 @@ impl Core {
     }
 }
 
-/// The address at a distance from another.
+/// The address that lies `distance`, 32 bits in two's complement, from `after`, modulo 2^64.
 fn jumped(after: u64, distance: u32) -> u64
     ensures { result ≡ jump_target after distance }
 {
     after.wrapping_add(sign_extended(distance))
 }
 
-/// A jump's target, where it is canonical.
+/// A jump's target, if it is canonical (its bits 63 to 47 are equal), or else a fault.
 fn landed(to: u64) -> Result<u64, Stop>
     ensures { result ≡ landed_at to }
 {
@@ -211,8 +217,8 @@ fn landed(to: u64) -> Result<u64, Stop>
     }
 }
 
-/// Executes an instruction whose end is at `after`, and says where the next one is. What stops leaves
-/// all as it was.
+/// Executes an instruction whose end is at address `after`, and says where the next one is. What stops
+/// leaves all as it was.
 pub fn execute(core: &mut Core, instr: Instr, after: u64) -> Result<u64, Stop>
     ensures value { Comes result core.new (effect instr after (core_of core.old)) }
     ensures kept { IfErr result (λ e. core.new ≡ core.old) }

@@ -8,7 +8,7 @@ ghost use Rattle.x86_step.specs.Step.{address as address_of, bytes_of as byte_co
 use crate::machine::{Core, Flags, Stop};
 use x86_instr::{Address, Extension, Narrow, Operand, Register, Scale, Width};
 
-/// What the width holds of a number.
+/// The low 32 or 64 bits of a number, as the width says.
 pub(crate) fn low(width: Width, n: u64) -> u64
     ensures { result ≡ low_bits width n }
 {
@@ -18,6 +18,7 @@ pub(crate) fn low(width: Width, n: u64) -> u64
     }
 }
 
+/// How many bytes of memory an operand of that width has.
 pub(crate) fn bytes_of(width: Width) -> usize
     ensures value { result ≡ byte_count width }
     ensures some { 0 < result }
@@ -29,7 +30,7 @@ pub(crate) fn bytes_of(width: Width) -> usize
     }
 }
 
-/// 32 bits with their sign, in 64.
+/// 32 bits, sign-extended to 64.
 pub(crate) fn sign_extended(n: u32) -> u64
     ensures { result ≡ extended_dword n }
 {
@@ -40,6 +41,7 @@ pub(crate) fn sign_extended(n: u32) -> u64
     }
 }
 
+/// What an immediate of 32 bits is as an operand of that width: sign-extended where that is 64.
 pub(crate) fn immediate(width: Width, n: u32) -> u64
     ensures { result ≡ immediate_of width n }
 {
@@ -49,7 +51,7 @@ pub(crate) fn immediate(width: Width, n: u32) -> u64
     }
 }
 
-/// 8 or 16 bits in 32.
+/// `n`, a number of 8 or 16 bits as `from` says, extended to 32 bits.
 pub(crate) fn extended(extension: Extension, from: Narrow, n: u64) -> u64
     requires { n < 2 ^ 16 }
     ensures { result ≡ extended_narrow extension from n }
@@ -61,6 +63,7 @@ pub(crate) fn extended(extension: Extension, from: Narrow, n: u64) -> u64
     }
 }
 
+/// By what an index of that scale is multiplied.
 fn factor_of(scale: Scale) -> u64
     ensures value { result ≡ 2 ^ scale_number scale }
 {
@@ -73,18 +76,21 @@ fn factor_of(scale: Scale) -> u64
 }
 
 impl Core {
+    /// All 64 bits of a register.
     pub(crate) fn register(&self, register: Register) -> u64
         ensures { result ≡ register_of (core_of self.now) register }
     {
         self.registers[register.number() as usize]
     }
 
+    /// Sets all 64 bits of a register, so that a result of 32 clears the upper half.
     pub(crate) fn set(&mut self, register: Register, value: u64)
         ensures set { core_of self.new ≡ with_register (core_of self.old) (number register) value }
     {
         self.registers[register.number() as usize] = value;
     }
 
+    /// The index times its scale, modulo 2^64; 0 for rsp (4), which means that there is no index.
     fn indexed(&self, address: Address) -> u64
         ensures { result ≡ indexed_by (core_of self.now) address % 2 ^ 64 }
     {
@@ -96,7 +102,8 @@ impl Core {
         }
     }
 
-    /// The address that an operand says.
+    /// The address of an operand in memory: base, index times scale and displacement, summed modulo
+    /// 2^64.
     pub fn address(&self, address: Address) -> u64
         ensures { result ≡ address_of (core_of self.now) address }
     {
@@ -105,6 +112,7 @@ impl Core {
             .wrapping_add(sign_extended(address.displacement))
     }
 
+    /// The low bits of a register, or what memory has at the address; `Fault` where a byte isn't there.
     #[tactic(auto, using(crate::proofs::Bytes::fits_width))]
     pub(crate) fn value(&self, width: Width, operand: Operand) -> Result<u64, Stop>
         ensures value { result ≡ value_of (core_of self.now) width operand }
@@ -116,6 +124,7 @@ impl Core {
         }
     }
 
+    /// The same of 8 or 16 bits.
     pub(crate) fn narrow_value(&self, from: Narrow, operand: Operand) -> Result<u64, Stop>
         ensures value { result ≡ narrow_of (core_of self.now) from operand }
         ensures in_range { IfOk result (λ n. n < 2 ^ 16) }
@@ -128,6 +137,8 @@ impl Core {
         }
     }
 
+    /// Writes a value into an operand: into all 64 bits of a register, or into as many bytes of
+    /// memory as the width has. `Fault` where one of these isn't there.
     pub(crate) fn put(&mut self, width: Width, operand: Operand, value: u64) -> Result<(), Stop>
         ensures value { Leaves result self.new (put_into (core_of self.old) width operand value) }
         ensures kept { IfErr result (λ e. self.new ≡ self.old) }
@@ -141,7 +152,7 @@ impl Core {
         }
     }
 
-    /// A result into an operand, and its flags.
+    /// Writes an operation's result into its operand, and then the flags; neither where that faults.
     pub(crate) fn finish(
         &mut self,
         width: Width,

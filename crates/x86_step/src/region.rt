@@ -1,4 +1,4 @@
-//! Loads and stores.
+//! Loads and stores. Numbers have their lowest byte first.
 ghost use Rattle.std.specs.Prelude.{ℕ, ◌≡◌, ◌<◌, ◌≤◌, ◌^◌, ◌+◌, ◌⊎◌, length, Some, IfSome, IfNone, IfOk, IfErr};
 ghost use Rattle.x86_step.specs.Held.{Leaves, bytes_from, core_of};
 ghost use Rattle.x86_step.specs.State.{number_at, written};
@@ -7,7 +7,8 @@ ghost use Rattle.x86_step.specs.Step.{loaded, stored};
 use crate::machine::{Core, Region, Stop};
 
 impl Region {
-    /// The place of `count` bytes at an address, where all are there.
+    /// The index in `bytes` of the byte at address `at`, if all `count` bytes from there on are in
+    /// the region and none lies beyond the last address.
     fn place_of(&self, count: usize, at: u64) -> Option<usize>
         requires { 0 < count }
         ensures found { IfSome result (λ place. (at ≡ self.now.base + place) × (place + count ≤ length self.now.bytes.items) × (at + count ≤ 2 ^ 64)) }
@@ -22,7 +23,7 @@ impl Region {
         }
     }
 
-    /// The number that `count` bytes from a place on make.
+    /// The number that `count` bytes from the index `place` on make.
     fn number(&self, place: usize, count: usize) -> u64
         requires few { count ≤ 8 }
         requires there { place + count ≤ length self.now.bytes.items }
@@ -35,7 +36,7 @@ impl Region {
         u64::from(self.bytes[place]) + 256 * self.number(place + 1, count - 1)
     }
 
-    /// Writes the low `count` bytes of a number from a place on, the lowest first.
+    /// Writes the low `count` bytes of a number from the index `place` on, the lowest first.
     fn put_number(&mut self, place: usize, count: usize, n: u64)
         requires { place + count ≤ length self.old.bytes.items }
         ensures base { self.new.base ≡ self.old.base }
@@ -52,7 +53,8 @@ impl Region {
 }
 
 impl Core {
-    /// The number of `count` bytes at an address.
+    /// The number that `count` bytes from address `at` on make; `Fault` where one of them isn't in
+    /// memory.
     pub fn load(&self, count: usize, at: u64) -> Result<u64, Stop>
         requires { (0 < count) × (count ≤ 8) }
         ensures value { result ≡ loaded (core_of self.now) count at }
@@ -64,7 +66,8 @@ impl Core {
         }
     }
 
-    /// Stores the low `count` bytes of a number.
+    /// Stores the low `count` bytes of `n` from address `at` on; `Fault` where a byte there isn't in
+    /// memory.
     pub fn store(&mut self, count: usize, at: u64, n: u64) -> Result<(), Stop>
         requires { (0 < count) × (count ≤ 8) }
         ensures value { Leaves result self.new (stored (core_of self.old) count at n) }

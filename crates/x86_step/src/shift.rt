@@ -7,6 +7,7 @@ use crate::machine::{Computed, Flags};
 use crate::operand::low;
 use x86_instr::{ShiftOp, Width};
 
+/// How many bits a number of that width has.
 fn bits_of(width: Width) -> u32
     ensures { result ≡ bit_count width }
 {
@@ -16,6 +17,7 @@ fn bits_of(width: Width) -> u32
     }
 }
 
+/// `a`, of that width, shifted by `n` bits.
 fn shifted(op: ShiftOp, width: Width, a: u64, n: u32) -> u64
     requires a { a ≡ low_bits width a }
     requires n { n < bit_count width }
@@ -29,7 +31,7 @@ fn shifted(op: ShiftOp, width: Width, a: u64, n: u32) -> u64
     }
 }
 
-/// The last bit that was shifted out.
+/// The last bit that is shifted out, which is the carry flag.
 fn shifted_out(op: ShiftOp, width: Width, a: u64, n: u32) -> bool
     requires a { a ≡ low_bits width a }
     requires some { 0 < n }
@@ -42,6 +44,8 @@ fn shifted_out(op: ShiftOp, width: Width, a: u64, n: u32) -> bool
     }
 }
 
+/// The overflow flag after a shift by 1 (after others it is undefined): shl changed the sign; shr had a
+/// negative number.
 fn shift_overflow(op: ShiftOp, width: Width, a: u64) -> bool
     requires a { a ≡ low_bits width a }
     ensures { result ≡ overflow_of op width a }
@@ -53,6 +57,7 @@ fn shift_overflow(op: ShiftOp, width: Width, a: u64) -> bool
     }
 }
 
+/// Shifts `a` by `amount`, taken modulo the bits of the width. By 0, `flags` stay.
 pub(crate) fn shift(op: ShiftOp, width: Width, a: u64, amount: u8, flags: Flags) -> Computed
     requires a { a ≡ low_bits width a }
     ensures { result ≡ shift_of op width a amount flags }
