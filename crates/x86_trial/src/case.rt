@@ -7,13 +7,13 @@ use std::alloc::{AllocError, Global};
 use x86_instr::encode;
 use x86_step::{Core, Flags, Region, Stop, execute};
 
-/// What C sees of a flag that isn't known.
+/// What C sees of a flag that isn't known. `UNKNOWN` of fuzz/processor.c is the same.
 const UNKNOWN: u8 = 2;
 /// What C sees in the place of a stop where the instruction is done.
 const DONE: u8 = 0;
 
 /// An instruction, the registers and flags before it, and what is expected of it. Flags are carry, zero,
-/// sign and overflow: 0, 1, or 2 where one is unknown.
+/// sign and overflow: 0, 1, or 2 where one is unknown. fuzz/processor.c declares the same struct.
 #[repr(C)]
 #[derive(Clone, Copy)]
 pub struct X86TrialCase {
@@ -36,10 +36,12 @@ pub struct X86TrialCase {
     pub stop: u8,
 }
 
+/// A flag as C sees it.
 fn flag_number(flag: Option<bool>) -> u8 {
     flag.map_or(UNKNOWN, u8::from)
 }
 
+/// The flags as C sees them: carry, zero, sign, overflow.
 fn flag_numbers(flags: Flags) -> [u8; 4] {
     [
         flag_number(flags.carry),
@@ -49,6 +51,8 @@ fn flag_numbers(flags: Flags) -> [u8; 4] {
     ]
 }
 
+/// A stop as C sees it, by the numbers of `enum stop` in fuzz/processor.c. `NoInstruction` has none
+/// there: `execute` never stops so.
 fn stop_number(stop: Stop) -> u8 {
     match stop {
         Stop::Fault => 1,
@@ -67,6 +71,7 @@ fn random_flag(random: &mut Random) -> Option<bool> {
     }
 }
 
+/// The state before an instruction: random registers and flags, and these bytes of memory at `base`.
 fn random_core(
     alloc: Global,
     random: &mut Random,
@@ -91,12 +96,14 @@ fn random_core(
     })
 }
 
-/// Copies as many bytes as both have.
+/// Copies as many bytes as both have, from the first on.
 fn copy_bytes(from: &[u8], to: &mut [u8]) {
     let count = from.len().min(to.len());
     to[..count].copy_from_slice(&from[..count]);
 }
 
+/// Writes the case, as `x86_trial_case` says. Random choices are made in a fixed order: another order
+/// makes other cases of the same seeds.
 fn make_case(
     alloc: Global,
     seed: u64,
@@ -132,9 +139,10 @@ fn make_case(
     Ok(())
 }
 
-/// Writes the case of a seed: an instruction at `code`, with `memory` at `data`, in which it changes some
-/// bytes. `expected_memory`, as long as that, is what the instruction makes of it. Returns false where there
-/// is no memory.
+/// Writes the case of a seed into `case`: an instruction at address `code`, with `memory` at address
+/// `data`. Some bytes of `memory` are set to random numbers for the instruction to read.
+/// `expected_memory`, which is as long, becomes what the instruction makes of it. Returns false if an
+/// allocation was refused.
 #[unsafe(no_mangle)]
 pub extern "C" fn x86_trial_case(
     alloc: Global,

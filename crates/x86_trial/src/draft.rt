@@ -1,4 +1,5 @@
-//! An instruction's operands, with a state in which they are reached.
+//! An instruction's operands, chosen at random, and the state before it, in which addresses of operands
+//! mostly lie in the memory.
 
 use crate::random::Random;
 use x86_instr::{Address, Operand, Register, Scale, Width};
@@ -40,11 +41,12 @@ pub(crate) struct Draft {
 }
 
 impl Draft {
+    /// A random register.
     pub(crate) fn register(&mut self) -> Register {
         self.random.one_of(&REGISTERS)
     }
 
-    /// An address in the memory, at its ends, or anywhere.
+    /// A random address: mostly in the memory, now and then across one of its ends, or anywhere.
     fn place(&mut self) -> u64 {
         let base = self.core.memory.base;
         match self.random.below(16) {
@@ -67,7 +69,8 @@ impl Draft {
         }
     }
 
-    /// A memory operand, whose base leads to a place, mostly with a number there.
+    /// An operand in memory. The base register is set so that the operand's address is a random `place`,
+    /// and mostly a random number is stored there.
     pub(crate) fn address(&mut self) -> Address {
         let scale = self.random.below(4);
         let address = Address {
@@ -85,8 +88,9 @@ impl Draft {
         address
     }
 
-    /// Gives the base the value by which the address is `place`, or one near it where the base is also the
-    /// index, of which there are `factor`.
+    /// Sets the base register so that the operand's address is `place`. `factor` is its scale, by
+    /// which the index is multiplied: where the base is also the index, the address is one near
+    /// `place`.
     fn lead(&mut self, address: Address, factor: u32, place: u64) {
         let (base, index) = (address.base.number(), address.index.number());
         let count = if base == index && index != NO_INDEX {
@@ -105,6 +109,7 @@ impl Draft {
         let _ = self.core.store(8, place, number);
     }
 
+    /// A random register, or an operand in memory.
     pub(crate) fn operand(&mut self) -> Operand {
         if self.random.once_in(2) {
             Operand::Reg(self.register())
@@ -113,7 +118,7 @@ impl Draft {
         }
     }
 
-    /// An operand with a jump's target.
+    /// The operand of an indirect jump: a register or memory, in which a random target is put.
     pub(crate) fn jump_operand(&mut self) -> Operand {
         let operand = self.operand();
         let target = self.target();
@@ -127,7 +132,7 @@ impl Draft {
         operand
     }
 
-    /// A distance within a page, or any.
+    /// A distance of a jump, in two's complement: -2048 to 2047, or any.
     pub(crate) fn distance(&mut self) -> u32 {
         if self.random.once_in(2) {
             self.random.dword()
@@ -136,7 +141,8 @@ impl Draft {
         }
     }
 
-    /// Lets rdx and rax hold a product with a remainder, often at the edge of what a division can do.
+    /// Sets edx:eax to the divisor, with or without its sign, times a random quotient, plus less than
+    /// 16: so that the quotient of the division often just fits in 32 bits, or just doesn't.
     pub(crate) fn lead_division(&mut self, divisor: Register) {
         let by = (self.core.registers[divisor.number() as usize] % 0x1_0000_0000) as u32;
         let by = if self.random.once_in(2) {

@@ -5,9 +5,9 @@ use x86_instr::{
     AluOp, Condition, DivideOp, Extension, Instr, Narrow, NopSize, ShiftOp, UnaryOp, Width,
 };
 
-/// How many forms there are.
+/// How many variants `Instr` has. fuzz/processor.c has this number and the next, too.
 pub(crate) const FORMS: u64 = 21;
-/// A multiple of the number of operations of each form.
+/// A multiple of the number of operations of each form, each in each width.
 pub(crate) const OPERATIONS: u64 = 180;
 
 const WIDTHS: [Width; 2] = [Width::Dword, Width::Qword];
@@ -67,6 +67,7 @@ impl Draft {
         }
     }
 
+    /// Forms 0 to 6: moves, loads and stores.
     fn moving(&mut self, form: u64, operation: usize) -> Instr {
         let width = WIDTHS[operation % 2];
         match form {
@@ -105,6 +106,7 @@ impl Draft {
         }
     }
 
+    /// Forms 7 to 15: instructions that compute.
     fn computing(&mut self, form: u64, operation: usize) -> Instr {
         let width = WIDTHS[operation % 2];
         match form {
@@ -155,6 +157,7 @@ impl Draft {
         }
     }
 
+    /// Forms 16 to 20: those that read a condition, jump, or do nothing.
     fn leading(&mut self, form: u64, operation: usize) -> Instr {
         match form {
             16 => Instr::Setcc {

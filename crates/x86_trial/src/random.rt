@@ -11,12 +11,14 @@ pub(crate) struct Random {
 }
 
 impl Random {
+    /// The same seed makes the same choices.
     pub(crate) fn from_seed(seed: u64) -> Random {
         Random {
             generator: Xoshiro256PlusPlus::seed_from_u64(seed),
         }
     }
 
+    /// 64 random bits.
     pub(crate) fn word(&mut self) -> u64 {
         self.generator.next_u64()
     }
@@ -36,6 +38,7 @@ impl Random {
         self.below(count) == 0
     }
 
+    /// One of these, each as often.
     pub(crate) fn one_of<T: Copy>(&mut self, choices: &[T]) -> T
         requires { 0 < length choices.now }
     {
@@ -48,7 +51,8 @@ impl Random {
         power.wrapping_add(self.below(3)).wrapping_sub(1)
     }
 
-    /// A number at an edge of some operation, a small one, or any.
+    /// A number of 64 bits: at or beside a power of two or the negative of one, where operations have
+    /// their edges; below 16; of 32 bits; or any.
     pub(crate) fn number(&mut self) -> u64 {
         match self.below(6) {
             0 => self.edge(),
@@ -59,7 +63,7 @@ impl Random {
         }
     }
 
-    /// The low half of such a number.
+    /// The low 32 bits of such a number.
     pub(crate) fn dword(&mut self) -> u32 {
         (self.number() % 0x1_0000_0000) as u32
     }
