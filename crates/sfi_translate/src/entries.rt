@@ -1,5 +1,6 @@
-//! Which units of code a turn and an indirect jump enter at once. Any choice is right: with too few
-//! the text is slow, with too many the C compiler is.
+//! Which units of code a turn and an indirect jump enter at once. A unit is what an indirect jump may
+//! go to: a bundle of 16 bytes, or in the formats that have them a word. Any choice is right: with too
+//! few the text is slow, with too many the C compiler is.
 
 use crate::lines::FUNCTION_MOST;
 use rv_comp::{Front, read_front};
@@ -18,9 +19,9 @@ pub(crate) struct ChosenUnits {
 }
 
 impl ChosenUnits {
-    /// The start, where a function of the text begins, each target of a call, of a jump backwards
-    /// or of one into another function, what follows a call, and what the code or the first data
-    /// name.
+    /// Chooses the start, where a function of the text begins, each target of a call, of a jump
+    /// backwards or of one into another function, what follows a call, and what the code or the first
+    /// data name.
     pub(crate) fn of_sandbox(
         alloc: Global,
         format: Format,
@@ -39,7 +40,8 @@ impl ChosenUnits {
         Ok(entries)
     }
 
-    /// The number of the unit that begins at the address, if one does.
+    /// The number of the unit that begins at the address, counted from the code's start; None where an
+    /// address isn't a unit's start. The number may lie beyond the code.
     fn unit_number(&self, address: u32) -> Option<usize> {
         let offset = address.wrapping_sub(self.base);
         let (place, rest) = if self.has_words {
@@ -71,7 +73,7 @@ impl ChosenUnits {
         }
     }
 
-    /// Adds the addresses that words of the first data hold.
+    /// Adds the addresses of code that words of the first data hold, as tables of functions do.
     fn add_of_data(&mut self, bytes: &[u8]) {
         for place in 0..bytes.len() / 4 {
             let at = 4 * place;
@@ -79,7 +81,9 @@ impl ChosenUnits {
         }
     }
 
-    /// Adds what the instructions of the code name.
+    /// Adds where functions of the text begin, and what the instructions of the code name. It looks
+    /// at each halfword in turn: `next` is the offset of the next instruction, `before` what
+    /// `upper_of` says of the last one.
     fn add_of_code(&mut self, part: &SandboxPart<'_>) {
         let mut next = 0;
         let mut before = None;
@@ -146,7 +150,7 @@ impl ChosenUnits {
     }
 }
 
-/// The register that a lui writes, and the number.
+/// The register that a lui writes, and the number that it gets; None for another instruction.
 fn upper_of(instr: &Instr) -> Option<(u8, u32)> {
     match *instr {
         Instr::Lui { rd, imm } => {

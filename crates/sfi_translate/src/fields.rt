@@ -1,4 +1,5 @@
-//! The parts of a line.
+//! The parts of a line of the text, `FORM(FIELD,FIELD..)`. Each function appends one to `out`; its one
+//! error is that an allocation was refused.
 ghost use Rattle.std.specs.Prelude.{◌≡◌, ◌++◌, OnOk, string_bytes};
 ghost use Rattle.sfi_translate.specs.Translation.{opening, name_field, number_field, signed_field, address_field, closing, address_line};
 
@@ -6,7 +7,8 @@ use rv_word::Reg;
 use sfi_report::push_eight_digits;
 use std::alloc::AllocError;
 
-/// Appends the form, the address and the size.
+/// Appends what an instruction's line begins with, `FORM(ADDRESS,SIZE`: the address in eight hexadecimal
+/// digits, the size in bytes. Further fields and `push_closing` follow.
 #[tactic(auto, unfolding(crate::specs::Translation::opening))]
 pub(crate) fn push_opening(
     out: &mut String,
@@ -23,7 +25,7 @@ pub(crate) fn push_opening(
     write!(out, ",{size}")
 }
 
-/// Appends a name.
+/// Appends a comma and a name.
 #[tactic(auto, unfolding(crate::specs::Translation::name_field))]
 pub(crate) fn push_name_field(out: &mut String, name: &str) -> Result<(), AllocError>
     ensures { OnOk result (string_bytes out.new ≡ string_bytes out.old ++ name_field name.now) }
@@ -32,7 +34,7 @@ pub(crate) fn push_name_field(out: &mut String, name: &str) -> Result<(), AllocE
     out.push_str(name)
 }
 
-/// Appends a number that is never negative.
+/// Appends a comma and a number that is never negative, in decimal.
 #[tactic(auto, unfolding(crate::specs::Translation::number_field))]
 pub(crate) fn push_number_field(out: &mut String, number: usize) -> Result<(), AllocError>
     ensures { OnOk result (string_bytes out.new ≡ string_bytes out.old ++ number_field number) }
@@ -40,7 +42,7 @@ pub(crate) fn push_number_field(out: &mut String, number: usize) -> Result<(), A
     write!(out, ",{number}")
 }
 
-/// Appends a register's number.
+/// Appends a comma and a register's number, in decimal.
 #[tactic(auto, unfolding(crate::specs::Translation::number_field))]
 pub(crate) fn push_register_field(out: &mut String, register: Reg) -> Result<(), AllocError>
     ensures { OnOk result (string_bytes out.new ≡ string_bytes out.old ++ number_field register) }
@@ -49,7 +51,7 @@ pub(crate) fn push_register_field(out: &mut String, register: Reg) -> Result<(),
     write!(out, ",{number}")
 }
 
-/// Appends a number that may be negative.
+/// Appends a comma and a number that may be negative, in decimal.
 #[tactic(auto, unfolding(crate::specs::Translation::signed_field))]
 pub(crate) fn push_signed(out: &mut String, number: i32) -> Result<(), AllocError>
     ensures { OnOk result (string_bytes out.new ≡ string_bytes out.old ++ signed_field number) }
@@ -57,7 +59,7 @@ pub(crate) fn push_signed(out: &mut String, number: i32) -> Result<(), AllocErro
     write!(out, ",{number}")
 }
 
-/// Appends an address.
+/// Appends a comma and an address, in eight hexadecimal digits.
 #[tactic(auto, unfolding(crate::specs::Translation::address_field))]
 pub(crate) fn push_address_field(out: &mut String, at: u32) -> Result<(), AllocError>
     ensures { OnOk result (string_bytes out.new ≡ string_bytes out.old ++ address_field at) }
@@ -66,7 +68,7 @@ pub(crate) fn push_address_field(out: &mut String, at: u32) -> Result<(), AllocE
     push_eight_digits(out, at)
 }
 
-/// Appends the end of a line.
+/// Appends the end of a line: a bracket and a line feed.
 #[tactic(auto, unfolding(crate::specs::Translation::closing))]
 pub(crate) fn push_closing(out: &mut String) -> Result<(), AllocError>
     ensures { OnOk result (string_bytes out.new ≡ string_bytes out.old ++ closing) }
@@ -74,7 +76,7 @@ pub(crate) fn push_closing(out: &mut String) -> Result<(), AllocError>
     out.push_str(")\n")
 }
 
-/// Appends a line of a form and an address.
+/// Appends the line `FORM(ADDRESS)`, with the address in eight hexadecimal digits.
 #[tactic(auto, unfolding(crate::specs::Translation::address_line))]
 pub(crate) fn push_address_line(out: &mut String, form: &str, at: u32) -> Result<(), AllocError>
     ensures { OnOk result

@@ -1,4 +1,4 @@
-//! The line of an instruction.
+//! The line of an instruction, as `line_text` of specs/Translation.antt says.
 ghost use Rattle.std.specs.Prelude.{◌≡◌, ◌++◌, OnOk, codes, string_bytes};
 ghost use Rattle.rv_word.specs.Spelling.{offset_by};
 ghost use Rattle.rv_word.specs.declared.instr.Instr.TheVariants as instr;
@@ -12,10 +12,11 @@ use rv_word::{Instr, Reg};
 use sfi_text::{branch_name, immediate_name, load_name, op_name, store_name};
 use std::alloc::AllocError;
 
-/// The most bytes of code that one function of the text holds.
+/// The most bytes of code that one function of the text (in C) holds. `function_most` of
+/// specs/Lines.antt, listing.rt of sfi_native and examples/translate/lines.py have this number, too.
 pub(crate) const FUNCTION_MOST: u32 = 16384;
 
-/// Appends two registers.
+/// Appends the fields of two registers.
 fn push_two_registers(out: &mut String, first: Reg, second: Reg) -> Result<(), AllocError>
     ensures { OnOk result (string_bytes out.new
         ≡ string_bytes out.old ++ number_field first ++ number_field second) }
@@ -24,7 +25,7 @@ fn push_two_registers(out: &mut String, first: Reg, second: Reg) -> Result<(), A
     push_register_field(out, second)
 }
 
-/// Appends the line of a form with a name, two registers and a number.
+/// Appends the rest of a line behind its opening: a name, two registers and a number.
 fn push_immediate_line(
     out: &mut String,
     name: &str,
@@ -41,7 +42,8 @@ fn push_immediate_line(
     push_closing(out)
 }
 
-/// What stands after the form of a jump.
+/// What a jump at `at` has behind its form: `_FAR` where the address `to` lies in another function of
+/// the text, to which C has no goto; or else nothing.
 #[tactic(auto, unfolding(crate::specs::Translation::far))]
 fn jump_suffix(at: u32, to: u32) -> &'static str
     ensures { result.now ≡ far at to }
@@ -53,7 +55,9 @@ fn jump_suffix(at: u32, to: u32) -> &'static str
     }
 }
 
-/// Appends the opening of a jump's line.
+/// Appends what the line of a branch or a jal at `at` begins with: `form`, `_FAR` if its target `to`
+/// lies in another function of the text, the address and the size, as in `BRANCH_FAR(01003ff0,4`. The
+/// caller appends the other fields.
 #[tactic(auto, unfolding(crate::specs::Translation::opening))]
 fn push_jump_opening(
     out: &mut String,
@@ -69,7 +73,7 @@ fn push_jump_opening(
     push_opening(out, jump_suffix(at, to), at, size)
 }
 
-/// Appends the line of a lui or an auipc.
+/// Appends the line of a lui or an auipc; `number` is the immediate of 20 bits.
 fn push_upper_line(
     out: &mut String,
     form: &str,
@@ -87,7 +91,7 @@ fn push_upper_line(
     push_closing(out)
 }
 
-/// Appends the line of an instruction without fields.
+/// Appends the line of an instruction that has only an address and a size.
 fn push_line_without_fields(
     out: &mut String,
     form: &str,

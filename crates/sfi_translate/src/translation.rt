@@ -1,4 +1,5 @@
-//! The translation of an image.
+//! The translation of an image. Each `push_` function appends to `out`; its one error is that an
+//! allocation was refused.
 ghost use Rattle.std.specs.Prelude.{◌≡◌, ◌+◌, ◌^◌, ◌<◌, ◌≤◌, ◌++◌, OnOk, IfOk, Bool, length, string_bytes, codes};
 ghost use Rattle.sfi_image.specs.Spelling.{view};
 ghost use Rattle.sfi_image.specs.Parts.{IsRightPart};
@@ -16,10 +17,12 @@ use sfi_image::{Gate, Image, SandboxPart};
 use sfi_report::push_eight_digits;
 use std::alloc::{AllocError, Global};
 
-/// The steps that are left are looked at before the unit at each multiple of that many bytes.
+/// At each address that is a multiple of this stands a `HEAD` line, where code tests the steps that a
+/// turn has left. `head_bytes` of specs/Lines.antt, listing.rt of sfi_native and
+/// examples/translate/lines.py have this number, too.
 const HEAD_BYTES: u32 = 128;
 
-/// Appends the line with which a function begins.
+/// Appends the line with which a function of the text begins, `FUNCTION(SANDBOX,ADDRESS)`.
 #[tactic(auto, unfolding(crate::specs::Translation::function_line))]
 fn push_function_line(out: &mut String, sandbox: u32, at: u32) -> Result<(), AllocError>
     ensures { OnOk result
@@ -30,7 +33,9 @@ fn push_function_line(out: &mut String, sandbox: u32, at: u32) -> Result<(), All
     push_closing(out)
 }
 
-/// Appends how a function begins before the unit of that offset, if one does.
+/// Appends the lines with which one function of the text ends, if there is one, and another begins,
+/// if that is before the unit at `offset`, in bytes from the code's start; or else nothing. `at` is
+/// its address.
 fn push_function(out: &mut String, sandbox: u32, offset: usize, at: u32) -> Result<(), AllocError>
     ensures { OnOk result
         (string_bytes out.new ≡ string_bytes out.old ++ spelled (function_lines sandbox offset at)) }
@@ -45,7 +50,7 @@ fn push_function(out: &mut String, sandbox: u32, offset: usize, at: u32) -> Resu
     Ok(())
 }
 
-/// Appends the line of an entry, if the unit is one.
+/// Appends an `ENTRY` line if the unit at the address was chosen as an entry.
 fn push_entry_line(out: &mut String, chosen: bool, at: u32) -> Result<(), AllocError>
     ensures { OnOk result
         (string_bytes out.new ≡ string_bytes out.old ++ spelled (entry_lines chosen at)) }
@@ -56,7 +61,7 @@ fn push_entry_line(out: &mut String, chosen: bool, at: u32) -> Result<(), AllocE
     Ok(())
 }
 
-/// Appends the line at which the steps that are left are looked at, if one stands at the address.
+/// Appends a `HEAD` line, where code tests the steps that are left, if one stands at the address.
 fn push_head(out: &mut String, at: u32) -> Result<(), AllocError>
     ensures { OnOk result
         (string_bytes out.new ≡ string_bytes out.old ++ spelled (head_lines at)) }
@@ -67,7 +72,8 @@ fn push_head(out: &mut String, at: u32) -> Result<(), AllocError>
     Ok(())
 }
 
-/// Appends the lines of the longest reading of the bytes.
+/// Appends a line for each instruction of a unit, whose bytes are at the address, up to the first place
+/// where they make none.
 fn push_reading(out: &mut String, address: u32, bytes: &[u8]) -> Result<(), AllocError>
     requires { address + length bytes.now ≤ 2 ^ 32 }
     ensures { OnOk result (Adds (string_bytes out.old) (string_bytes out.new)
@@ -87,7 +93,8 @@ fn push_reading(out: &mut String, address: u32, bytes: &[u8]) -> Result<(), Allo
     Ok(())
 }
 
-/// Appends the lines of the unit of that offset, at the address.
+/// Appends the lines of the unit `bytes`, which is at address `at` and `offset` bytes behind the code's
+/// start; `chosen` says whether it is an entry.
 fn push_unit_lines(
     out: &mut String,
     sandbox: u32,
@@ -130,7 +137,8 @@ fn push_code_lines(
     Ok(())
 }
 
-/// What stands after the form of a sandbox's line.
+/// What a sandbox's line has behind `SANDBOX`: whether accesses have single masks, so that x26 isn't
+/// reserved.
 #[tactic(auto, unfolding(crate::specs::Translation::masks))]
 fn masks_suffix(format: Format) -> &'static str
     ensures { result.now ≡ masks format }
@@ -176,7 +184,8 @@ fn push_gate_line(out: &mut String, gate: &Gate) -> Result<(), AllocError>
     push_closing(out)
 }
 
-/// Appends the line of a sandbox's first data.
+/// Appends the line of a sandbox's first data, `DATA(SANDBOX,BYTE,..,0)`: each byte in decimal, and a
+/// zero behind them, so that the array in C is never empty.
 fn push_data_line(out: &mut String, sandbox: u32, bytes: &[u8]) -> Result<(), AllocError>
     ensures { OnOk result
         (string_bytes out.new ≡ string_bytes out.old ++ data_line sandbox bytes.now) }
@@ -189,7 +198,7 @@ fn push_data_line(out: &mut String, sandbox: u32, bytes: &[u8]) -> Result<(), Al
     push_closing(out)
 }
 
-/// Appends the line after a sandbox's code.
+/// Appends the line that ends a sandbox and the last function of its code.
 fn push_last_line(out: &mut String) -> Result<(), AllocError>
     ensures { OnOk result (string_bytes out.new ≡ string_bytes out.old ++ last_line) }
 {
