@@ -1,4 +1,6 @@
-//! The bytes of a load or a store.
+//! The bytes of a load or a store. Nothing is tested: an access beside the data faults, and the host
+//! finds it in the table of accesses (`faults.rt`). Registers of the sandbox are read where they lie,
+//! or else from eax (`rs1`) and ecx (`rs2`).
 ghost use Rattle.std.specs.Prelude.{◌≡◌, ◌<◌, ◌++◌, OnOk};
 ghost use Rattle.sfi_native.specs.Code.{data_address as data_address_at, load_code, load_from as load_of, load_line, store_code, store_line, store_to as store_of};
 ghost use Rattle.x86_instr.specs.declared.instr.Instr.TheVariants.{MovExtended};
@@ -12,7 +14,8 @@ use rv_word::{LoadKind, Reg, StoreWidth};
 use std::alloc::AllocError;
 use x86_instr::{Address, Extension, Instr, Narrow, Operand, Register, Scale, Width};
 
-/// The place in the data that a register and a displacement say.
+/// The address of the data at the sandbox's address `index` + `displacement`: r15 has the host's
+/// address of the sandbox's address 0.
 fn data_address(index: Register, displacement: u32) -> Address
     ensures { result ≡ data_address_at index displacement }
 {
@@ -24,7 +27,7 @@ fn data_address(index: Register, displacement: u32) -> Address
     }
 }
 
-/// A load of a byte or a halfword into a register.
+/// The instruction that loads a byte or a halfword into a register, extended to 32 bits.
 fn narrow_load(extension: Extension, from: Narrow, dst: Register, place: Address) -> Instr
     ensures { result ≡ MovExtended extension from dst (Mem place) }
 {
@@ -36,7 +39,7 @@ fn narrow_load(extension: Extension, from: Narrow, dst: Register, place: Address
     }
 }
 
-/// A load into a register.
+/// The instruction that does a load of that kind into a register of the processor.
 fn load_from(kind: LoadKind, dst: Register, place: Address) -> Instr
     ensures { result ≡ load_of kind dst place }
 {
@@ -53,7 +56,7 @@ fn load_from(kind: LoadKind, dst: Register, place: Address) -> Instr
     }
 }
 
-/// Writes a load.
+/// Writes a load of `rd`, without what counts its step.
 #[tactic(auto, using(crate::proofs::Lists::load_parts))]
 fn put_load(
     out: &mut Vec<u8>,
@@ -73,8 +76,8 @@ fn put_load(
     put_settle(out, plan, place, rd)
 }
 
-/// Writes the line of a load behind what is there; so many steps are owed before and behind it, fewer than 63. The displacement is the
-/// immediate, in two's complement.
+/// Appends the line of a load; `owed` steps, fewer than 63, are owed before it, `next` behind it.
+/// `displacement` is the immediate, in two's complement.
 #[tactic(auto, using(crate::proofs::Lists::two_parts))]
 pub fn push_load_line(
     out: &mut Vec<u8>,
@@ -93,7 +96,7 @@ pub fn push_load_line(
     put_count(out, owed + 1, next)
 }
 
-/// A store of a register.
+/// The instruction that stores the low byte, halfword or word of a register of the processor.
 fn store_to(width: StoreWidth, place: Address, src: Register) -> Instr
     ensures { result ≡ store_of width place src }
 {
@@ -108,7 +111,7 @@ fn store_to(width: StoreWidth, place: Address, src: Register) -> Instr
     }
 }
 
-/// Writes a store of `rs2`.
+/// Writes a store of `rs2`, without what counts its step.
 #[tactic(auto, using(crate::proofs::Lists::store_parts))]
 fn put_store(
     out: &mut Vec<u8>,
@@ -128,8 +131,8 @@ fn put_store(
     put(out, store_to(width, to, register_or(stored, Register::Rcx)))
 }
 
-/// Writes the line of a store of `rs2` behind what is there; so many steps are owed before and behind it, fewer than 63. The displacement is the
-/// immediate, in two's complement.
+/// Appends the line of a store of `rs2`; `owed` steps, fewer than 63, are owed before it, `next`
+/// behind it. `displacement` is the immediate, in two's complement.
 #[tactic(auto, using(crate::proofs::Lists::two_parts))]
 pub fn push_store_line(
     out: &mut Vec<u8>,

@@ -2,7 +2,7 @@
 ghost use Rattle.std.specs.Prelude.{◌≡◌};
 ghost use Rattle.sfi_native.specs.Checksum.{after_byte as after_byte_of, crc32 as crc32_of, next_remainder as next_of};
 
-/// The remainder's next value.
+/// The CRC's remainder one bit further, where the lowest bit comes first.
 #[tactic(auto, unfolding(crate::specs::Checksum::next_remainder))]
 fn next_remainder(c: u32) -> u32
     ensures { result ≡ next_of c }
@@ -25,7 +25,8 @@ fn after_byte(c: u32, byte: u8) -> u32
     remainder
 }
 
-/// The CRC-32 of bytes.
+/// The CRC-32 of bytes, as zip and gzip have it. `crc32` of specs/Checksum.antt and `sfi_crc32` of
+/// include/sfi_native_code.h compute the same.
 pub(crate) fn crc32(bytes: &[u8]) -> u32
     ensures { result ≡ crc32_of bytes.now }
 {

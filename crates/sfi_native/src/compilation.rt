@@ -1,4 +1,7 @@
-//! The bytes of all lines of a code, in two passes: how many they have, and then with their distances.
+//! The bytes of all lines of a sandbox's code, in two passes: how many they have, and then with the
+//! distances of jumps. Labels tell for the address of each instruction how many bytes are from its
+//! line's start to the end of the last line. A draft is bytes of lines with all distances 0, which
+//! are as many.
 ghost use Rattle.std.specs.Prelude.{◌≡◌, ℕ, ◌++◌, [], ◌∷◌, List, length, map, true, false, Some, IfOk, IfSome, IfNone, OnOk, ◌+◌, ◌^◌, ◌<◌, ◌≤◌};
 ghost use Rattle.sfi_translate.specs.Lines.{Line as CodeLine};
 ghost use Rattle.sfi_image.specs.Spelling.{view};
@@ -20,7 +23,7 @@ use sfi_image::SandboxPart;
 use std::alloc::{AllocError, Global};
 use std::collections::BTreeMap;
 
-/// Where a line jumps to over a distance, if it does.
+/// The sandbox's address that a line jumps to, if it is a branch's or a jal's.
 pub(crate) fn target(line: &Line) -> Option<u32>
     ensures { result ≡ target_of (line_of line.now) }
 {
@@ -34,7 +37,8 @@ pub(crate) fn target(line: &Line) -> Option<u32>
     }
 }
 
-/// Measures a line in front of those that are, unless all have 2^31 bytes or more.
+/// Measures a line in front of those measured already: its bytes join the draft, whose length is then
+/// the line's label. False where that is 2^31 or more.
 fn measure_line(
     draft: &mut Vec<u8>,
     plan: &Plan,
@@ -57,7 +61,8 @@ fn measure_line(
     Ok(true)
 }
 
-/// Measures all lines, the last first, unless they have 2^31 bytes or more.
+/// Measures all lines, the last first, so that the draft has all their bytes (in another order) and
+/// `labels` all labels. False where they have 2^31 bytes or more.
 fn measure(
     draft: &mut Vec<u8>,
     plan: &Plan,
@@ -78,14 +83,16 @@ fn measure(
     Ok(true)
 }
 
-/// How far one place is from another, in two's complement.
+/// How far the offset `to` is behind the offset `from`, in two's complement.
 fn distance(from: u32, to: u32) -> u32
     ensures { result ≡ distance_of from to }
 {
     to.wrapping_sub(from)
 }
 
-/// How far the label of a line that ends at `end` is, where all lines have `all` bytes; where no line has it, the end.
+/// How far it is from the end of a line, which is at offset `end`, to the line that it jumps to, or
+/// to the end of all lines, which have `all` bytes, where no line has that address. 0 for a line that
+/// doesn't jump.
 fn label_distance(labels: &BTreeMap<u32, u32>, all: u32, end: u32, line: &Line) -> u32
     ensures { (plan : Plan) (code rest : List CodeLine) (bytes : List ℕ) (to : ℕ) → AreMeasured plan code bytes labels.now
         → all ≡ size_of_all plan code → end ≡ start plan code rest → target_of (line_of line.now) ≡ Some to
@@ -100,7 +107,8 @@ fn label_distance(labels: &BTreeMap<u32, u32>, all: u32, end: u32, line: &Line) 
     distance(end, all.wrapping_sub(*left))
 }
 
-/// Writes a line behind those before it, where all lines have `all` bytes.
+/// Appends a line to those before it, where all lines have `all` bytes. The way out is 68 bytes
+/// behind them: `put_end` writes these.
 fn place_line(
     out: &mut Vec<u8>,
     plan: &Plan,
@@ -123,7 +131,7 @@ fn place_line(
     Ok(())
 }
 
-/// Writes all lines, which have `all` bytes, and their accesses.
+/// Writes all lines, which have `all` bytes, into `out`, and where they access the data into `accesses`.
 fn place(
     out: &mut Vec<u8>,
     plan: &Plan,
@@ -163,14 +171,17 @@ fn end_of(part: &SandboxPart<'_>) -> u32
 pub struct CompiledCode {
     /// Its bytes, which may stand anywhere.
     pub bytes: Vec<u8>,
-    /// For each unit of the sandbox's code, in order, the offset of its code, and then how many steps are owed there.
+    /// For each unit of the sandbox's code, in order, the offset in `bytes` of its code, and then how
+    /// many steps are owed there. Of a unit that no line has, the offset is that of the way out, the
+    /// bytes' end.
     pub entries: Vec<u32>,
-    /// Where the bytes may fault, the first one first.
+    /// Where the bytes access the data and may fault, in the order of their offsets.
     pub accesses: Vec<Access>,
 }
 
-/// The code of a sandbox with these lines, by that plan. It goes on at its end, with the pc in edx, where a slow step comes, or behind
-/// the last line, where a jump to no line goes, too. None where it has 2^31 bytes or more.
+/// The code of a sandbox with these lines, by that plan. It goes on right behind its last byte, the
+/// way out, with the pc in edx, for a slow step, and also behind the last line, where a jump to an
+/// address without a line goes, too. None where it has 2^31 bytes or more.
 pub fn compile(
     alloc: Global,
     format: Format,

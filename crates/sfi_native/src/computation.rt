@@ -1,4 +1,5 @@
-//! The bytes of a line that computes.
+//! The bytes of a line that computes. A result is computed in the processor's register that `rd` lies
+//! in, or else in eax, and then moved to `rd`.
 ghost use Rattle.std.specs.Prelude.{◌≡◌, ◌++◌, ◌*◌, ◌%◌, ◌^◌, ◌+◌, ◌<◌, ◌≤◌, IfOk, OnOk, true, if◌then◌else◌};
 ghost use Rattle.sfi_native.specs.Code.{are_exchanged as are_exchanged_of, beside_code, combine, computation, computing_line, count, count_size as count_size_of, does_compute, ecx_code, imm_code, is_number as is_number_of, number_code, op_code, op_imm_code, place_beside as place_beside_of, place_code};
 ghost use Rattle.x86_step.specs.Running.{spellings};
@@ -12,7 +13,7 @@ use rv_word::{ImmOp, Instr, Reg, RegOp};
 use std::alloc::AllocError;
 use x86_instr::{AluOp, Instr as Native, Operand, Register, Width};
 
-/// Writes a number into a register.
+/// Writes what sets register `rd` to `number`.
 #[tactic(auto, using(crate::proofs::Lists::two_parts))]
 pub(crate) fn put_number(
     out: &mut Vec<u8>,
@@ -33,7 +34,7 @@ pub(crate) fn put_number(
     put_settle(out, plan, place, rd)
 }
 
-/// Writes an operation on eax and ecx.
+/// Writes an operation for which `needs_ecx` holds: `rs1` is fetched into eax, and `rs2` into ecx.
 #[tactic(auto, using(crate::proofs::Lists::ecx_parts))]
 fn put_by_ecx(
     out: &mut Vec<u8>,
@@ -51,7 +52,8 @@ fn put_by_ecx(
     put_write(out, plan, rd)
 }
 
-/// Where `rd` lies, if it may be written there before `rs2` is read.
+/// The processor's register that `rd` lies in, if that may be written before `rs2` is read: unless
+/// the two are one register. None: the result is computed in eax.
 fn place_beside(plan: &Plan, rd: Reg, rs2: Reg) -> Option<Register>
     ensures { result ≡ place_beside_of plan.now rd rs2 }
 {
@@ -62,7 +64,7 @@ fn place_beside(plan: &Plan, rd: Reg, rs2: Reg) -> Option<Register>
     }
 }
 
-/// Writes the operation of a register and of `rs2`, unless that is x0 and leaves the register as it is.
+/// Writes the operation of `dst` and of `rs2`, into `dst`, unless `rs2` is x0 and leaves `dst` as it is.
 #[tactic(auto, using(crate::proofs::Lists::no_part))]
 fn put_combine(
     out: &mut Vec<u8>,
@@ -79,7 +81,8 @@ fn put_combine(
     put_compute(out, op, dst, operand(plan, rs2))
 }
 
-/// Writes an operation where its result lies.
+/// Writes an operation that is computed in `place`, or in eax where that is None and the result is
+/// moved to `rd` afterwards.
 #[tactic(auto, using(crate::proofs::Lists::place_parts))]
 fn put_in_place(
     out: &mut Vec<u8>,
@@ -119,7 +122,8 @@ fn are_exchanged(op: RegOp, rd: Reg, rs1: Reg, rs2: Reg) -> bool
     is_commutative(op) && (rd.number() == rs2.number() || rs1.number() == 0)
 }
 
-/// Writes an operation, whose operands may be exchanged.
+/// Writes what an instruction of three registers does. Operands are exchanged where that is right and
+/// saves a move.
 fn put_op(
     out: &mut Vec<u8>,
     plan: &Plan,
@@ -139,7 +143,7 @@ fn put_op(
     put_beside(out, plan, op, rd, rs1, rs2)
 }
 
-/// Writes an operation on a number where its result lies.
+/// Writes an operation of `rs1` and a number, computed where `rd` lies, or else in eax.
 #[tactic(auto, using(crate::proofs::Lists::imm_parts))]
 fn put_imm_in_place(
     out: &mut Vec<u8>,
@@ -157,7 +161,7 @@ fn put_imm_in_place(
     put_settle(out, plan, place, rd)
 }
 
-/// Whether the result is the number itself, added to x0.
+/// Whether the result is the number itself, since it is added to x0.
 fn is_number(op: ImmOp, rs1: Reg) -> bool
     ensures { result ≡ is_number_of op rs1 }
 {
@@ -167,7 +171,7 @@ fn is_number(op: ImmOp, rs1: Reg) -> bool
     }
 }
 
-/// Writes an operation on a number.
+/// Writes what an instruction with an immediate does; `imm` is that in two's complement.
 fn put_op_imm(
     out: &mut Vec<u8>,
     plan: &Plan,
@@ -184,7 +188,8 @@ fn put_op_imm(
     put_imm_in_place(out, plan, op, rd, rs1, imm)
 }
 
-/// Writes what an instruction at that address computes.
+/// Writes what an instruction at address `at` computes; nothing of a fence. `computes` lists the
+/// instructions for which it is right.
 #[tactic(auto, unfolding(crate::specs::Code::computation))]
 fn put_computation(out: &mut Vec<u8>, plan: &Plan, at: u32, instr: &Instr) -> Result<(), AllocError>
     requires { does_compute instr.now ≡ true }
@@ -211,7 +216,8 @@ fn put_computation(out: &mut Vec<u8>, plan: &Plan, at: u32, instr: &Instr) -> Re
     }
 }
 
-/// Writes what counts steps, where `owed` are owed before it and `next` behind it.
+/// Writes the subtraction from r14 after which `next` steps are owed, where `owed` are before it;
+/// nothing where these are equal.
 #[tactic(auto, using(crate::proofs::Lists::nothing_counted, crate::proofs::Lists::steps_counted))]
 pub(crate) fn put_count(out: &mut Vec<u8>, owed: u32, next: u32) -> Result<(), AllocError>
     ensures { OnOk result (out.new.items ≡ out.old.items ++ spellings (count owed next)) }
@@ -230,7 +236,7 @@ pub(crate) fn put_count(out: &mut Vec<u8>, owed: u32, next: u32) -> Result<(), A
     )
 }
 
-/// How many bytes that has, where fewer than 128 steps are owed.
+/// How many bytes `put_count` writes, where fewer than 128 steps are owed.
 pub(crate) fn count_size(owed: u32, next: u32) -> u32
     ensures is { result ≡ count_size_of owed next }
     ensures few { result ≤ 4 }
@@ -238,7 +244,8 @@ pub(crate) fn count_size(owed: u32, next: u32) -> u32
     if owed == next { 0 } else { 4 }
 }
 
-/// Whether the line of an instruction is one that computes.
+/// Whether the line of an instruction is one that computes: it sets `rd` alone, or nothing, and
+/// control goes on at the next line.
 fn computes(instr: &Instr) -> bool
     ensures { result ≡ does_compute instr.now }
 {
@@ -265,8 +272,8 @@ fn computes(instr: &Instr) -> bool
     }
 }
 
-/// Writes the line of an instruction at that address behind what is there, if it computes; tells whether. So many steps are owed
-/// before it, fewer than 63, and behind it.
+/// Appends the line of an instruction at address `at`, if it computes; false, and nothing is
+/// appended, if it doesn't. `owed` steps, fewer than 63, are owed before it, `next` behind it.
 #[tactic(auto, using(crate::proofs::Lists::two_parts))]
 pub fn push_computing_line(
     out: &mut Vec<u8>,

@@ -1,4 +1,5 @@
-//! Where the units of a sandbox's code are entered.
+//! Where the units of a sandbox's code are entered, by indirect jumps and by a host: the table that
+//! specs/Entries.antt says. A unit is a bundle, or, in formats of words, a word.
 ghost use Rattle.std.specs.Prelude.{◌≡◌, ℕ, ◌*◌, ◌/◌, IfOk, List, length};
 ghost use Rattle.sfi_image.specs.Spelling.{Part};
 ghost use Rattle.sfi_image.specs.Spelling.{view};
@@ -18,13 +19,15 @@ use std::collections::BTreeMap;
 /// A row of the table.
 #[derive(Clone, Copy)]
 struct Row {
-    /// Where a unit is entered.
+    /// Where a unit is entered: an offset in the code of x86-64.
     entry: u32,
     /// How many steps are owed there.
     owed: u32,
 }
 
-/// The row of the unit at that address, where all lines have `all` bytes.
+/// The row of the unit at address `at`, where all lines have `all` bytes. Labels are as in
+/// compilation.rt. Where no line has the address, the unit is entered at the way out, behind the 68
+/// bytes of `put_end`.
 fn row_at(plan: &Plan, labels: &BTreeMap<u32, u32>, all: u32, at: u32) -> Row
     ensures entry { (code : List CodeLine) (bytes : List ℕ) → AreMeasured plan.now code bytes labels.now → all ≡ size_of_all plan.now code
         → result.entry ≡ entry_of plan.now code (label at code) }
@@ -43,7 +46,8 @@ fn row_at(plan: &Plan, labels: &BTreeMap<u32, u32>, all: u32, at: u32) -> Row
     }
 }
 
-/// Where each unit of a sandbox's code is entered, and how many steps are owed there, by turns.
+/// The table: for each unit of a sandbox's code, in order, its entry and then how many steps are owed
+/// there.
 #[tactic(auto, using(crate::proofs::Entered::no_entries))]
 pub(crate) fn entries(
     alloc: Global,

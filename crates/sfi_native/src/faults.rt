@@ -1,4 +1,5 @@
-//! Where code accesses the data.
+//! Where code accesses the data. The table of these places tells the host, when one of them faults,
+//! which line it was.
 ghost use Rattle.std.specs.Prelude.{◌≡◌, ◌≤◌, ◌<◌, ◌^◌, ◌++◌, [], length, IfSome, OnOk};
 ghost use Rattle.sfi_native.specs.Code.{read};
 ghost use Rattle.sfi_native.specs.Registers.{assigned, nop};
@@ -17,7 +18,7 @@ use std::alloc::AllocError;
 /// from r14d.
 #[derive(Clone, Copy)]
 pub struct Access {
-    /// How many bytes of code are before it.
+    /// How many bytes of code are before the instruction of x86-64 that accesses.
     pub offset: u32,
     /// The address of its line in the sandbox.
     pub pc: u32,
@@ -25,7 +26,8 @@ pub struct Access {
     pub owed: u32,
 }
 
-/// How many bytes fetch a register into eax or ecx, if it lies in the frame.
+/// How many bytes `put_read` writes for a register of the sandbox: x0 is at the frame's start, so
+/// that its move needs no displacement.
 #[tactic(auto, using(crate::proofs::Fixups::eax_zero, crate::proofs::Fixups::eax_some, crate::proofs::Fixups::ecx_zero, crate::proofs::Fixups::ecx_some, crate::proofs::Fixups::eax_lies, crate::proofs::Fixups::ecx_lies))]
 fn read_size(plan: &Plan, r: Reg) -> u32
     ensures eax { result ≡ length (spellings (read (assigned plan.now r) Rax r)) }
@@ -50,7 +52,8 @@ fn nop_size(plan: &Plan, at: u32) -> u32
     }
 }
 
-/// The access of a line, if it has one, as far behind the line's start.
+/// The access of a load's or a store's line, with its offset from the line's start: behind the nop
+/// and what fetches registers, as `push_line` writes them. None for other lines.
 #[tactic(auto, using(crate::proofs::Fixups::front_below))]
 fn access_of(plan: &Plan, line: &Line) -> Option<Access>
     ensures is { result ≡ access_in plan.now (line_of line.now) }
@@ -74,7 +77,8 @@ fn access_of(plan: &Plan, line: &Line) -> Option<Access>
     }
 }
 
-/// Writes down the access of a line, if it has one, where so much code is before the line.
+/// Appends the access of a line to `accesses`, if it has one; `before` is how many bytes of code are
+/// before the line.
 pub(crate) fn push_access(
     accesses: &mut Vec<Access>,
     plan: &Plan,

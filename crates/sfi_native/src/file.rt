@@ -1,4 +1,5 @@
-//! The file of an image's native code.
+//! The file of an image's native code, as specs/File.antt says it and include/sfi_native_code.h reads
+//! it. Each `push_` function appends to `out`.
 ghost use Rattle.std.specs.Prelude.{◌≡◌, ℕ, ◌++◌, ◌<◌, List, OnOk, IfOk, IfNone, IfSome, length, map, true, false, ◌+◌, ◌*◌};
 ghost use Rattle.std.specs.List.{flat_map};
 ghost use Rattle.sfi_image.specs.Spelling.{fields, fields_of, number, view};
@@ -24,7 +25,7 @@ use sfi_image::{Image, SandboxPart};
 use std::alloc::{AllocError, Global};
 use x86_instr::Register;
 
-/// Appends the number in four bytes.
+/// Appends the number in four bytes, the lowest first.
 #[tactic(auto, unfolding(sfi_image::specs::Spelling::number))]
 fn push_number(out: &mut Vec<u8>, n: u32) -> Result<(), AllocError>
     ensures { OnOk result (out.new.items ≡ out.old.items ++ number n) }
@@ -50,7 +51,7 @@ fn push_numbers(out: &mut Vec<u8>, numbers: &[u32]) -> Result<(), AllocError>
     Ok(())
 }
 
-/// Appends one place where code accesses the data.
+/// Appends one place where code accesses the data: its offset, pc and owed steps, 12 bytes.
 #[tactic(auto, using(std::proofs::Common::append_assoc))]
 fn push_access(out: &mut Vec<u8>, one: Access) -> Result<(), AllocError>
     ensures { OnOk result (out.new.items ≡ out.old.items ++ access_bytes one) }
@@ -60,7 +61,7 @@ fn push_access(out: &mut Vec<u8>, one: Access) -> Result<(), AllocError>
     push_number(out, one.owed)
 }
 
-/// Appends all of them.
+/// Appends all places where code accesses the data.
 fn push_accesses(out: &mut Vec<u8>, accesses: &[Access]) -> Result<(), AllocError>
     ensures { OnOk result (out.new.items ≡ out.old.items ++ flat_map access_bytes accesses.now) }
 {
@@ -70,7 +71,7 @@ fn push_accesses(out: &mut Vec<u8>, accesses: &[Access]) -> Result<(), AllocErro
     Ok(())
 }
 
-/// Appends the seven fields of a sandbox.
+/// Appends the seven fields of a sandbox, as the image has them.
 #[tactic(auto, using(std::proofs::Common::append_assoc), unfolding(sfi_image::specs::Spelling::fields))]
 fn push_fields(out: &mut Vec<u8>, one: &SandboxPart<'_>) -> Result<(), AllocError>
     requires { (format : Format) × IsRightPart (view format one.now) }
@@ -85,7 +86,8 @@ fn push_fields(out: &mut Vec<u8>, one: &SandboxPart<'_>) -> Result<(), AllocErro
     push_number(out, one.init.len() as u32)
 }
 
-/// Appends where one of a sandbox's registers lies.
+/// Appends where one of a sandbox's registers lies, in a byte: the number of the processor's
+/// register, or 255 for the frame.
 fn push_place(out: &mut Vec<u8>, place: Option<Register>) -> Result<(), AllocError>
     ensures { OnOk result (out.new.items ≡ out.old.items ++ place_bytes place) }
 {
@@ -96,7 +98,7 @@ fn push_place(out: &mut Vec<u8>, place: Option<Register>) -> Result<(), AllocErr
     Ok(())
 }
 
-/// Appends where each of them lies.
+/// Appends where each of a sandbox's registers lies.
 fn push_places(out: &mut Vec<u8>, places: &[Option<Register>]) -> Result<(), AllocError>
     ensures { OnOk result (out.new.items ≡ out.old.items ++ flat_map place_bytes places.now) }
 {
@@ -106,7 +108,7 @@ fn push_places(out: &mut Vec<u8>, places: &[Option<Register>]) -> Result<(), All
     Ok(())
 }
 
-/// Appends a sandbox that has this code, by that plan.
+/// Appends the sandbox `part` with its code, which was compiled by that plan.
 #[tactic(auto, using(std::proofs::Common::append_assoc))]
 fn push_code(
     out: &mut Vec<u8>,
@@ -128,8 +130,9 @@ fn push_code(
     Ok(())
 }
 
-/// Appends the sandbox of that number, by that plan. False where that makes more than 24 bytes for one of the sandbox's, the end's code
-/// aside: then nothing is appended.
+/// Compiles the sandbox of that number by that plan, and appends it. False where its code would have
+/// more than 24 bytes (`bytes_most` of specs/Sizes.antt) for each of the sandbox's and the 68 at its
+/// end: then nothing is appended.
 #[tactic(auto, using(crate::proofs::CodeSizes::code_few))]
 fn push_by(
     out: &mut Vec<u8>,
@@ -159,7 +162,8 @@ fn push_by(
     Ok(true)
 }
 
-/// Appends the sandbox of that number, without nops if code with them is too large. False where that is, too, which never is.
+/// Appends the sandbox of that number, without nops if code with them is too large. False if it is
+/// too large without them, too, which is proved never to be.
 fn push_sandbox(
     out: &mut Vec<u8>,
     alloc: Global,
@@ -182,7 +186,7 @@ fn push_sandbox(
     Ok(small)
 }
 
-/// Appends the sandboxes of an image. False where one has no code, which never is.
+/// Appends the sandboxes of an image. False if code of one is too large, which is proved never to be.
 fn push_sandboxes(out: &mut Vec<u8>, alloc: Global, image: &Image<'_>) -> Result<bool, AllocError>
     ensures always { IfOk result (λ ok. ok ≡ true) }
     ensures adds { IfOk result (λ ok. ok ≡ true → Adds out.old.items out.new.items (AreSandboxFiles 0 image.now)) }
@@ -196,7 +200,9 @@ fn push_sandboxes(out: &mut Vec<u8>, alloc: Global, image: &Image<'_>) -> Result
     Ok(true)
 }
 
-/// Appends what the file of an image with these bytes begins with.
+/// Appends the file's first 24 bytes: what it is and its version, 5; length and checksum of `bytes`,
+/// which are the image's; its format and how many sandboxes it has. `front` of specs/File.antt and
+/// SFI_FRONT of include/sfi_native_code.h say so, too.
 fn push_front(out: &mut Vec<u8>, image: &Image<'_>, bytes: &[u8]) -> Result<(), AllocError>
     ensures { OnOk result (out.new.items ≡ out.old.items ++ front bytes.now image.now) }
 {
@@ -208,7 +214,7 @@ fn push_front(out: &mut Vec<u8>, image: &Image<'_>, bytes: &[u8]) -> Result<(), 
     push_count(out, image.parts().len())
 }
 
-/// Appends how many bytes there are, and then the checksum of all.
+/// Appends the file's last 8 bytes: how many come before them, and the checksum of all before it.
 fn seal(out: &mut Vec<u8>) -> Result<(), AllocError>
     ensures { OnOk result (out.new.items ≡ sealed out.old.items) }
 {
@@ -216,7 +222,8 @@ fn seal(out: &mut Vec<u8>) -> Result<(), AllocError>
     push_number(out, crc32(out))
 }
 
-/// The file of the native code of an image with these bytes. None where a sandbox has no code, as [`compile`] says, which never is.
+/// The file of the native code of an image, whose bytes are `bytes`. None if a sandbox's code is too
+/// large, which is proved never to be.
 pub fn native_file(
     alloc: Global,
     image: &Image<'_>,

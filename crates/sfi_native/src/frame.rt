@@ -16,8 +16,8 @@ fn byte_of(number: u32, k: usize) -> u8
     }
 }
 
-/// The bytes of a frame that has these values of x0 to x31. Lines need the fixed ones there too (`value` in
-/// `specs/Layout.antt`), which the caller sees to.
+/// The first 128 bytes of a frame, which have these values of x0 to x31, four bytes each. Lines need
+/// the fixed ones there too (`value` in `specs/Layout.antt`), which the caller sees to.
 pub fn frame_of(registers: &[u32; 32]) -> [u8; 128]
     ensures { (base r : ℕ) → r < 32
         → number_at (bytes_from base result) 4 (base + 4 * r) ≡ Some (slice_index registers.now r) }

@@ -1,4 +1,6 @@
-//! The bytes of lines that lead to a slow step, and of tests of the steps left.
+//! The bytes of lines that lead to a slow step, and of tests of the steps left. Owed steps are done,
+//! but not yet subtracted from r14; fewer than 63 are owed before a line. Distances are in bytes, in two's
+//! complement.
 ghost use Rattle.std.specs.Prelude.{◌≡◌, ◌<◌, ◌++◌, OnOk};
 ghost use Rattle.sfi_native.specs.Code.{end_code, head_line, leave_code, leave_line, leave_line_size as leave_line_size_of, test_code, tested};
 ghost use Rattle.x86_step.specs.Running.{spellings};
@@ -9,7 +11,7 @@ use crate::register_jump::put_indirect_jump;
 use std::alloc::AllocError;
 use x86_instr::{AluOp, Condition, Instr, Operand, Register, Width};
 
-/// Writes a jump out over the distance, with that address in edx.
+/// Writes a jump out over `distance`, with the sandbox's address `at`, where the host goes on, in edx.
 #[tactic(auto, using(crate::proofs::Lists::two_parts))]
 fn put_leave(out: &mut Vec<u8>, at: u32, distance: u32) -> Result<(), AllocError>
     ensures { OnOk result (out.new.items ≡ out.old.items ++ spellings (leave_code at distance)) }
@@ -24,8 +26,8 @@ fn put_leave(out: &mut Vec<u8>, at: u32, distance: u32) -> Result<(), AllocError
     put(out, Instr::Jmp { distance })
 }
 
-/// Writes the line of an ecall or ebreak at that address behind what is there, where so many steps are owed, fewer than 63. The
-/// distance is in bytes, from the line's end, in two's complement.
+/// Appends the line of an ecall or ebreak at address `at`: it subtracts the `owed` steps, fewer than
+/// 63, and goes out. `distance` is from the line's end to the way out, in bytes, in two's complement.
 #[tactic(auto, using(crate::proofs::Lists::two_parts))]
 pub fn push_leave_line(
     out: &mut Vec<u8>,
@@ -39,7 +41,7 @@ pub fn push_leave_line(
     put_leave(out, at, distance)
 }
 
-/// How many bytes that has.
+/// How many bytes `push_leave_line` appends.
 pub(crate) fn leave_line_size(owed: u32) -> u32
     ensures is { result ≡ leave_line_size_of owed }
     ensures few { result < 15 }
@@ -47,7 +49,9 @@ pub(crate) fn leave_line_size(owed: u32) -> u32
     count_size(owed, 0) + 10
 }
 
-/// Writes a test that leads over the way out and the distance, where enough steps are left and so many are owed.
+/// Writes a test that jumps over a leave line and `label` bytes behind it, where `owed` steps are
+/// owed and at least 65 are left: `most` of specs/Machine.antt in sfi_translate. `put_tested` puts
+/// that line behind it.
 #[tactic(auto, using(crate::proofs::Lists::two_parts))]
 fn put_test(out: &mut Vec<u8>, owed: u32, label: u32) -> Result<(), AllocError>
     requires { owed < 63 }
@@ -71,8 +75,9 @@ fn put_test(out: &mut Vec<u8>, owed: u32, label: u32) -> Result<(), AllocError>
     )
 }
 
-/// Writes a test that leads to a label, where enough steps are left, or else out, with that address in edx. So many steps are owed,
-/// fewer than 63, there and at the label.
+/// Writes a test that leads to a label, where enough steps are left, or else out, with the address
+/// `at` in edx. The distances `label` and `exit`, to the way out, are from the end of what is
+/// written. `owed` steps, fewer than 63, are owed before it and at the label.
 #[tactic(auto, using(crate::proofs::Lists::two_parts))]
 pub(crate) fn put_tested(
     out: &mut Vec<u8>,
@@ -88,8 +93,9 @@ pub(crate) fn put_tested(
     push_leave_line(out, at, owed, exit)
 }
 
-/// Writes the line of a head at that address behind what is there, where so many steps are owed, fewer than 63. The distance is in
-/// bytes, from the line's end, in two's complement.
+/// Appends the line of a head at address `at`, before and behind which `owed` steps are owed, fewer
+/// than 63: where too few are left it goes out. `distance` is from the line's end to the way out, in
+/// bytes, in two's complement.
 pub fn push_head_line(
     out: &mut Vec<u8>,
     at: u32,
@@ -102,7 +108,9 @@ pub fn push_head_line(
     put_tested(out, at, owed, 0, distance)
 }
 
-/// Writes what comes behind the last line, where the sandbox's code ends at that address and so many steps are owed.
+/// Writes the 68 bytes between the last line and the way out: what goes out with the address `at`,
+/// where the sandbox's code ends and `owed` steps are owed, in edx; and the indirect jump of 54 bytes
+/// that the lines of jalr share. `end_size` of specs/Code.antt is that 68.
 #[tactic(auto, using(crate::proofs::Lists::end_parts))]
 pub(crate) fn put_end(out: &mut Vec<u8>, at: u32, owed: u32) -> Result<(), AllocError>
     ensures { OnOk result (out.new.items ≡ out.old.items ++ spellings (end_code at owed)) }

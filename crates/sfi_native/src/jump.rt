@@ -11,7 +11,8 @@ use rv_word::{Cond, Reg};
 use std::alloc::AllocError;
 use x86_instr::{AluOp, Condition, Instr, Register};
 
-/// A jump between two addresses of the sandbox. Distances are in bytes, from the line's end, in two's complement.
+/// A jump between two addresses of the sandbox. Distances are in bytes, from the line's end in the
+/// code of x86-64, in two's complement.
 #[derive(Clone, Copy)]
 pub struct Jump {
     /// The address of the line.
@@ -20,28 +21,31 @@ pub struct Jump {
     pub to: u32,
     /// The distance to that address's line.
     pub label: u32,
-    /// The distance out, where too few steps are left.
+    /// The distance to the way out, where the jump goes if too few steps are left.
     pub exit: u32,
-    /// How many steps are owed at that line, fewer than 63.
+    /// How many steps are owed at the line of `to`, fewer than 63.
     pub label_owed: u32,
 }
 
 impl Jump {
-    /// Whether it goes backwards, or past a head, so that it has a head's test.
+    /// Whether it goes backwards, or past a head, of which there is one at each multiple of 128
+    /// bytes, so that it needs a head's test of the steps left itself. `may_be_bare` of owed.rt says
+    /// the opposite.
     fn has_test(&self) -> bool
         ensures { result ≡ has_head_test self.now }
     {
         self.to <= self.from || self.from / 128 != self.to / 128
     }
 
-    /// Whether one instruction is enough for it, where so many steps are owed before it: it has no test, and nothing is to count.
+    /// Whether one instruction is enough for it: it has no test, and as many steps are owed before it
+    /// as at its label, so that none are to count.
     fn is_bare(&self, owed: u32) -> bool
         ensures { result ≡ is_bare_jump owed self.now }
     {
         !self.has_test() && owed == self.label_owed
     }
 
-    /// How many bytes it has, with its test, where so many steps are owed before it.
+    /// How many bytes `put_jump` writes for it, where `owed` steps are owed before it.
     fn size(&self, owed: u32) -> u32
         requires few { owed < 128 }
         requires few_at_label { self.now.label_owed < 63 }
@@ -56,7 +60,8 @@ impl Jump {
     }
 }
 
-/// Writes a jump to its label, where as many steps are owed.
+/// Writes a jump to its label, with its test if it has one, where as many steps are owed already as
+/// at the label.
 #[tactic(auto, using(crate::proofs::Lists::with_test, crate::proofs::Lists::without_test))]
 fn put_leap(out: &mut Vec<u8>, jump: &Jump) -> Result<(), AllocError>
     requires { jump.now.label_owed < 63 }
@@ -69,7 +74,7 @@ fn put_leap(out: &mut Vec<u8>, jump: &Jump) -> Result<(), AllocError>
     put_tested(out, jump.to, jump.label_owed, jump.label, jump.exit)
 }
 
-/// Writes a jump, with its test, where so many steps are owed.
+/// Writes a jump, with its test if it has one, where `owed` steps are owed, its own among them.
 #[tactic(auto, using(crate::proofs::Lists::two_parts))]
 fn put_jump(out: &mut Vec<u8>, owed: u32, jump: &Jump) -> Result<(), AllocError>
     requires { jump.now.label_owed < 63 }
@@ -107,7 +112,8 @@ fn met_by(cond: Cond) -> Condition
     }
 }
 
-/// Writes the comparison of two registers; so many steps are owed before it, and behind the branch.
+/// Writes the comparison of two registers; `owed` steps are owed before it, `next` behind it. Steps
+/// are counted before the comparison, since that changes the flags.
 #[tactic(auto, using(crate::proofs::Lists::compare_parts))]
 fn put_compare(
     out: &mut Vec<u8>,
@@ -133,8 +139,8 @@ fn put_compare(
     )
 }
 
-/// Writes the line of a branch behind what is there. So many steps are owed before it, and behind it where it isn't taken, fewer
-/// than 63.
+/// Appends the line of a branch. `owed` steps are owed before it, and `next` behind it where it isn't
+/// taken, each fewer than 63.
 #[tactic(auto, using(crate::proofs::Lists::bare_parts, crate::proofs::Lists::branch_parts))]
 pub fn push_branch_line(
     out: &mut Vec<u8>,
@@ -173,8 +179,8 @@ pub fn push_branch_line(
     put_jump(out, next, &jump)
 }
 
-/// Writes the line of a jal behind what is there; `behind` is the address of what follows it in the sandbox. So many steps are
-/// owed before it, fewer than 63.
+/// Appends the line of a jal; `behind` is the sandbox's address behind it, which `rd` gets. `owed`
+/// steps, fewer than 63, are owed before it.
 #[tactic(auto, using(crate::proofs::Lists::jal_parts))]
 pub fn push_jal_line(
     out: &mut Vec<u8>,

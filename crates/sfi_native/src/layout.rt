@@ -25,7 +25,7 @@ pub struct Layout {
     pub data_start: u64,
 }
 
-/// How many bytes are closed below the data.
+/// How many bytes below the data are closed: the host maps nothing there, so that accesses fault.
 #[tactic(auto, unfolding(crate::specs::Layout::closed_below))]
 fn closed_below(format: Format, part: &SandboxPart<'_>) -> u64
     ensures is { result ≡ is_closed_below (view format part.now) }
@@ -37,7 +37,7 @@ fn closed_below(format: Format, part: &SandboxPart<'_>) -> u64
     PAGE
 }
 
-/// How many bytes are closed above the data.
+/// How many bytes above the data are closed.
 #[tactic(auto, unfolding(crate::specs::Layout::closed_above))]
 fn closed_above(format: Format, part: &SandboxPart<'_>) -> u64
     ensures is { result ≡ is_closed_above (view format part.now) }
@@ -54,9 +54,11 @@ fn closed_above(format: Format, part: &SandboxPart<'_>) -> u64
 }
 
 impl Layout {
-    /// The layout of that plan and frame and of the data of that sandbox, of an image of the plan's format, with what is closed on each side: 4096 bytes, or, where masks
-    /// are single, up to 4096 bytes beyond the sandbox's 2^32 addresses. None where the plan isn't right, the data aren't whole
-    /// pages, the frame meets these, or one goes on below address 0 or beyond 2^47.
+    /// The layout of the sandbox `part`, of an image of the plan's format, with its frame and its
+    /// data at these addresses of the host. Bytes on each side of the data are closed, that is, not
+    /// mapped: 4096, or, where masks are single, all up to 4096 beyond the sandbox's 2^32 addresses.
+    /// None where the plan isn't right, the data aren't whole pages, the frame overlaps data or
+    /// closed bytes, or one of these goes on below address 0 or beyond 2^47.
     pub fn new(plan: Plan, frame: u64, data_start: u64, part: &SandboxPart<'_>) -> Option<Layout>
         ensures some { IfSome result (λ l.
             (l ≡ record { plan = plan; frame = frame; data_start = data_start }) × IsLayout (view plan.format part.now) l) }

@@ -1,4 +1,8 @@
-//! Machine code of x86-64 for the lines of an accepted sandbox.
+//! Machine code of x86-64 for the lines of an accepted sandbox. A line is as in the translation of
+//! sfi_translate: an instruction, or a mark where a function, an entry or a head is. At a head code
+//! tests the steps that the turn has left. The way out is right behind the last byte of a sandbox's
+//! code, where the host has put a jump to itself: code goes there, with the sandbox's pc in edx and
+//! nothing owed, for a step that the host has to do, a slow step.
 //!
 //! Each of the sandbox's 32 registers lies in a register of the processor, as a plan says (`specs/Registers.antt`), or has
 //! four bytes in a frame, behind which the host's addresses of the code and of a table of entries are (`specs/Table.antt`); r14 has

@@ -1,4 +1,4 @@
-//! The bytes of a line.
+//! The bytes of a line, as `line_code` of specs/Places.antt says.
 ghost use Rattle.std.specs.Prelude.{◌≡◌, ◌<◌, ◌++◌, OnOk};
 ghost use Rattle.rv_word.specs.Spelling.{offset_by};
 ghost use Rattle.sfi_native.specs.Lines.{line_of};
@@ -25,13 +25,14 @@ pub enum Line {
     End { at: u32 },
     /// A unit that may be entered from outside and by indirect jumps.
     Entry { at: u32 },
-    /// The steps that are left are looked at.
+    /// Code tests the steps that are left.
     Head { at: u32 },
     /// An instruction of `size` bytes.
     Does { at: u32, size: u32, instr: Instr },
 }
 
-/// The jump of a line to an address at an offset.
+/// The jump of the line at address `at` to the address at `offset` from it; `label` and `exit` are as in
+/// `push_line`.
 fn jump(plan: &Plan, at: u32, offset: i32, label: u32, exit: u32) -> Jump
     ensures is { result ≡ jump_of plan.now (λ to. label) exit at (offset_by at offset) }
     ensures few { result.label_owed < 63 }
@@ -46,7 +47,8 @@ fn jump(plan: &Plan, at: u32, offset: i32, label: u32, exit: u32) -> Jump
     }
 }
 
-/// Writes a line of an instruction.
+/// Appends the line of an instruction, without its nop. The indirect jump that the lines of jalr
+/// share stands right before the way out and has 54 bytes.
 #[tactic(auto, using(crate::proofs::Lists::no_part))]
 fn put_instruction(
     out: &mut Vec<u8>,
@@ -107,7 +109,7 @@ fn put_instruction(
     }
 }
 
-/// Writes a nop, if there is one.
+/// Appends a nop, if there is one.
 #[tactic(auto, using(crate::proofs::Lists::no_part))]
 fn put_nop(out: &mut Vec<u8>, nop: Option<NopSize>) -> Result<(), AllocError>
     ensures { OnOk result (out.new.items ≡ out.old.items ++ spellings (nop_code nop)) }
@@ -118,8 +120,9 @@ fn put_nop(out: &mut Vec<u8>, nop: Option<NopSize>) -> Result<(), AllocError>
     }
 }
 
-/// Writes a line behind what is there. Distances are in bytes, from the line's end, in two's complement: `label` to where
-/// it jumps, `exit` to the way out.
+/// Appends a line. Distances are in bytes, from the line's end, in two's complement: `label` to the
+/// line that it jumps to, `exit` to the way out. A line has as many bytes whatever these are, so that
+/// one with zeros can be measured. Functions, ends and entries have no bytes.
 #[tactic(auto, using(crate::proofs::Lists::no_part, crate::proofs::Lists::two_parts))]
 pub fn push_line(
     out: &mut Vec<u8>,

@@ -1,4 +1,5 @@
-//! The lines of a sandbox's code.
+//! The lines of a sandbox's code: those that sfi_translate spells (`AreLines` there), but for
+//! entries, which native code doesn't need. A unit is a bundle, or, in formats of words, a word.
 ghost use Rattle.std.specs.Prelude.{◌≡◌, ◌+◌, ◌^◌, ◌≤◌, ◌++◌, ◌∷◌, [], OnOk, IfOk, length, map};
 ghost use Rattle.sfi_image.specs.Spelling.{view};
 ghost use Rattle.sfi_image.specs.Parts.{IsRightPart};
@@ -12,10 +13,11 @@ use sfi_formats::Format;
 use sfi_image::SandboxPart;
 use std::alloc::{AllocError, Global};
 
-/// A function of the code begins at each multiple of so many bytes.
+/// A function of the code begins at each multiple of so many bytes, as in lines.rt of sfi_translate.
 const FUNCTION_MOST: usize = 16384;
 
-/// The steps that are left are looked at before the unit at each multiple of so many bytes.
+/// Code tests the steps that are left before the unit at each multiple of so many bytes, as in
+/// translation.rt of sfi_translate.
 const HEAD_BYTES: u32 = 128;
 
 /// Adds a line.
@@ -26,7 +28,8 @@ fn add(out: &mut Vec<Line>, line: Line) -> Result<(), AllocError>
     Ok(())
 }
 
-/// Adds how a function begins before the unit of that offset, if one does.
+/// Adds the lines with which a function ends and another begins, if that is before the unit at
+/// `offset`, in bytes from the code's start, whose address is `at`; or else nothing.
 fn push_function(
     out: &mut Vec<Line>,
     sandbox: u32,
@@ -44,7 +47,7 @@ fn push_function(
     Ok(())
 }
 
-/// Adds the line at which the steps that are left are looked at, if one stands at the address.
+/// Adds the line of a head, where code tests the steps that are left, if one stands at the address.
 fn push_head(out: &mut Vec<Line>, at: u32) -> Result<(), AllocError>
     ensures { OnOk result (map line_of out.new.items ≡ map line_of out.old.items ++ head_lines at) }
 {
@@ -54,7 +57,8 @@ fn push_head(out: &mut Vec<Line>, at: u32) -> Result<(), AllocError>
     Ok(())
 }
 
-/// Adds the lines of the longest reading of the bytes.
+/// Adds a line for each instruction of a unit, whose bytes are at the address, up to the first place
+/// where they make none.
 fn push_reading(out: &mut Vec<Line>, address: u32, bytes: &[u8]) -> Result<(), AllocError>
     requires { address + length bytes.now ≤ 2 ^ 32 }
     ensures { OnOk result (AddsLines out.old.items out.new.items (AreReadingLines address bytes.now)) }
@@ -73,7 +77,8 @@ fn push_reading(out: &mut Vec<Line>, address: u32, bytes: &[u8]) -> Result<(), A
     Ok(())
 }
 
-/// Adds the lines of the unit of that offset, at the address.
+/// Adds the lines of the unit `bytes`, which is at address `at` and `offset` bytes behind the code's
+/// start.
 fn push_unit(
     out: &mut Vec<Line>,
     sandbox: u32,

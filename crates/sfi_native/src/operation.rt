@@ -1,4 +1,8 @@
-//! The instructions of one operation, and those that fetch and write the sandbox's registers.
+//! The instructions of one operation, and those that fetch and write the sandbox's registers. `r`,
+//! `rd`, `rs1` and `rs2` are registers of the sandbox; a `place` is the processor's register that one
+//! of them lies in, None for the frame; eax, ecx and edx are free. Each `put_` function appends what
+//! the definition of that name in specs/Code.antt lists; its one error is that an allocation was
+//! refused.
 ghost use Rattle.std.specs.Prelude.{◌≡◌, ◌++◌, ◌∷◌, [], ◌%◌, OnOk};
 ghost use Rattle.sfi_native.specs.Code.{bring, compute, compute_imm, fetch, high_product, is_commutative as is_commutative_of, keeps_beside_zero as keeps_beside_zero_of, lies_in as lies_in_of, needs_ecx as needs_ecx_of, operand_of, read, register_or as register_or_of, result_in as result_in_of, set_if, settle, slot as slot_of, store_eax as store_eax_of, write};
 ghost use Rattle.sfi_native.specs.Registers.{assigned};
@@ -21,7 +25,7 @@ use x86_instr::{
     encode,
 };
 
-/// Writes one instruction.
+/// Appends one instruction.
 #[tactic(auto, using(crate::proofs::Lists::one_part))]
 pub(crate) fn put(out: &mut Vec<u8>, instr: Instr) -> Result<(), AllocError>
     ensures { OnOk result (out.new.items ≡ out.old.items ++ spellings (instr ∷ [])) }
@@ -29,7 +33,7 @@ pub(crate) fn put(out: &mut Vec<u8>, instr: Instr) -> Result<(), AllocError>
     encode(out, instr)
 }
 
-/// A register's place in the frame.
+/// The address of register `r` in the frame: `4 * r` behind rsp.
 pub(crate) fn slot(r: Reg) -> Address
     ensures { result ≡ slot_of r }
 {
@@ -41,7 +45,7 @@ pub(crate) fn slot(r: Reg) -> Address
     }
 }
 
-/// The place of a register.
+/// Where register `r` lies, as an operand: in a register of the processor, or in the frame.
 pub(crate) fn operand(plan: &Plan, r: Reg) -> Operand
     ensures { result ≡ operand_of (assigned plan.now r) r }
 {
@@ -51,7 +55,7 @@ pub(crate) fn operand(plan: &Plan, r: Reg) -> Operand
     }
 }
 
-/// Fetches a register into a free one.
+/// Fetches register `r` into `dst`, wherever it lies.
 pub(crate) fn put_fetch(
     out: &mut Vec<u8>,
     plan: &Plan,
@@ -70,7 +74,7 @@ pub(crate) fn put_fetch(
     )
 }
 
-/// Eax into the place of a register.
+/// The move of eax to where register `r` lies.
 fn store_eax(plan: &Plan, r: Reg) -> Instr
     ensures { result ≡ store_eax_of (assigned plan.now r) r }
 {
@@ -88,7 +92,7 @@ fn store_eax(plan: &Plan, r: Reg) -> Instr
     }
 }
 
-/// Writes eax into a register.
+/// Writes eax into register `r`, unless that is fixed: then nothing is written.
 pub(crate) fn put_write(out: &mut Vec<u8>, plan: &Plan, r: Reg) -> Result<(), AllocError>
     ensures { OnOk result (out.new.items ≡ out.old.items ++ spellings (write plan.now r)) }
 {
@@ -98,7 +102,7 @@ pub(crate) fn put_write(out: &mut Vec<u8>, plan: &Plan, r: Reg) -> Result<(), Al
     put(out, store_eax(plan, r))
 }
 
-/// The register that one of the sandbox's lies in, or else that free one.
+/// The register that one of the sandbox's lies in, or else `free`.
 pub(crate) fn register_or(place: Option<Register>, free: Register) -> Register
     ensures { result ≡ register_or_of place free }
 {
@@ -108,7 +112,8 @@ pub(crate) fn register_or(place: Option<Register>, free: Register) -> Register
     }
 }
 
-/// Fetches a register into that free one, unless it lies in a register.
+/// Fetches register `r` into `free` if it lies in the frame, as `place` says. `register_or` says
+/// where it is read then.
 #[tactic(auto, using(crate::proofs::Lists::no_part))]
 pub(crate) fn put_read(
     out: &mut Vec<u8>,
@@ -131,14 +136,15 @@ pub(crate) fn put_read(
     }
 }
 
-/// The register that a result is computed in: where it lies, or else eax.
+/// The register that a result is computed in: where the sandbox's register lies that gets it, or else
+/// eax.
 pub(crate) fn result_in(place: Option<Register>) -> Register
     ensures { result ≡ result_in_of place }
 {
     register_or(place, Register::Rax)
 }
 
-/// Writes what puts a result into a register, if it was computed in eax.
+/// Moves a result to register `rd` if it was computed in eax, as `result_in(place)` says.
 #[tactic(auto, using(crate::proofs::Lists::no_part))]
 pub(crate) fn put_settle(
     out: &mut Vec<u8>,
@@ -154,7 +160,7 @@ pub(crate) fn put_settle(
     }
 }
 
-/// Whether a register of the sandbox lies in that one.
+/// Whether a register of the sandbox lies in `dst`, by its place.
 fn lies_in(place: Option<Register>, dst: Register) -> bool
     ensures { result ≡ lies_in_of place dst }
 {
@@ -164,7 +170,7 @@ fn lies_in(place: Option<Register>, dst: Register) -> bool
     }
 }
 
-/// Fetches a register into that one, unless it lies there.
+/// Fetches register `r` into `dst`, unless it lies there.
 #[tactic(auto, using(crate::proofs::Lists::no_part))]
 pub(crate) fn put_bring(
     out: &mut Vec<u8>,
@@ -180,7 +186,7 @@ pub(crate) fn put_bring(
     put_fetch(out, plan, dst, r)
 }
 
-/// Writes a comparison, and its outcome into a register.
+/// Writes `compare`, and what sets `dst` to 1 where the condition holds then, or else to 0.
 #[tactic(auto, using(crate::proofs::Lists::three_parts))]
 fn put_set_if(
     out: &mut Vec<u8>,
@@ -203,7 +209,7 @@ fn put_set_if(
     )
 }
 
-/// An operation of a register and an operand.
+/// The instruction that does `op` on a register and an operand, of 32 bits, into the register.
 pub(crate) fn with_operand(op: AluOp, dst: Register, src: Operand) -> Instr
     ensures { result ≡ Alu op Dword dst src }
 {
@@ -215,7 +221,8 @@ pub(crate) fn with_operand(op: AluOp, dst: Register, src: Operand) -> Instr
     }
 }
 
-/// Writes the high half of the product of rax and rcx.
+/// Writes what puts bits 32 to 63 of the product of rax and rcx into eax. Callers have sign-extended the
+/// factors that have a sign; the upper half of another is 0.
 #[tactic(auto, using(crate::proofs::Lists::two_parts))]
 fn put_high_product(out: &mut Vec<u8>) -> Result<(), AllocError>
     ensures { OnOk result (out.new.items ≡ out.old.items ++ spellings high_product) }
@@ -239,7 +246,7 @@ fn put_high_product(out: &mut Vec<u8>) -> Result<(), AllocError>
     )
 }
 
-/// The sign of a register's 32 bits, copied to its upper half.
+/// The instruction that copies the sign of a register's low 32 bits to its upper half.
 fn with_sign(register: Register) -> Instr
     ensures { result ≡ Movsxd register (InRegister register) }
 {
@@ -249,7 +256,7 @@ fn with_sign(register: Register) -> Instr
     }
 }
 
-/// Writes the high half of a product with signs.
+/// Writes mulh of eax and ecx, into eax: both factors have a sign.
 #[tactic(auto, unfolding(crate::specs::Code::compute), using(crate::proofs::Lists::three_parts))]
 fn put_signed_product(out: &mut Vec<u8>) -> Result<(), AllocError>
     ensures { OnOk result (out.new.items ≡ out.old.items ++ spellings (compute Mulh Rax (InRegister Rcx))) }
@@ -259,7 +266,7 @@ fn put_signed_product(out: &mut Vec<u8>) -> Result<(), AllocError>
     put_high_product(out)
 }
 
-/// Writes the high half of a product of which the first factor has a sign.
+/// Writes mulhsu of eax and ecx, into eax: the first factor, eax, has a sign.
 #[tactic(auto, unfolding(crate::specs::Code::compute), using(crate::proofs::Lists::two_parts))]
 fn put_mixed_product(out: &mut Vec<u8>) -> Result<(), AllocError>
     ensures { OnOk result (out.new.items ≡ out.old.items ++ spellings (compute Mulhsu Rax (InRegister Rcx))) }
@@ -268,7 +275,7 @@ fn put_mixed_product(out: &mut Vec<u8>) -> Result<(), AllocError>
     put_high_product(out)
 }
 
-/// A shift of eax by cl.
+/// The instruction that shifts eax by cl, of which the processor takes five bits, as RISC-V does.
 fn shift_by_cl(op: ShiftOp) -> Instr
     ensures { result ≡ ShiftCl op Rax }
 {
@@ -278,7 +285,7 @@ fn shift_by_cl(op: ShiftOp) -> Instr
     }
 }
 
-/// Whether an operation takes no operands but eax and ecx.
+/// Whether an operation takes no operands but eax and ecx: shifts by cl, high products and divisions.
 pub(crate) fn needs_ecx(op: RegOp) -> bool
     ensures { result ≡ needs_ecx_of op }
 {
@@ -305,7 +312,8 @@ pub(crate) fn is_commutative(op: RegOp) -> bool
     }
 }
 
-/// Whether 0 as the second operand leaves the first as it is.
+/// Whether 0 as the second operand leaves the first as it is, so that the operation with x0 is a
+/// move. Sub isn't among these: false only costs an instruction.
 pub(crate) fn keeps_beside_zero(op: RegOp) -> bool
     ensures { result ≡ keeps_beside_zero_of op }
 {
@@ -315,7 +323,8 @@ pub(crate) fn keeps_beside_zero(op: RegOp) -> bool
     }
 }
 
-/// Writes an operation of a register and an operand, into the register.
+/// Writes an operation of a register and an operand, into the register. Where `needs_ecx` says so
+/// these must be eax and ecx: `dst` and `src` aren't looked at then.
 #[tactic(auto, unfolding(crate::specs::Code::compute))]
 pub(crate) fn put_compute(
     out: &mut Vec<u8>,
@@ -364,7 +373,7 @@ pub(crate) fn put_compute(
     }
 }
 
-/// The operation of a register and a number.
+/// The instruction that does `op` on a register and a number, of 32 bits, into the register.
 fn with_number(op: AluOp, dst: Register, imm: u32) -> Instr
     ensures { result ≡ AluImm op Dword (InRegister dst) imm }
 {
@@ -388,7 +397,7 @@ fn shift_by(op: ShiftOp, dst: Register, imm: u32) -> Instr
     }
 }
 
-/// Writes the sum of a register and a number.
+/// Writes the addition of a number to a register; nothing where it is 0.
 #[tactic(auto, unfolding(crate::specs::Code::compute_imm), using(crate::proofs::Lists::no_part))]
 fn put_sum(out: &mut Vec<u8>, dst: Register, imm: u32) -> Result<(), AllocError>
     ensures { OnOk result (out.new.items ≡ out.old.items ++ spellings (compute_imm Addi dst imm)) }
@@ -399,7 +408,7 @@ fn put_sum(out: &mut Vec<u8>, dst: Register, imm: u32) -> Result<(), AllocError>
     put(out, with_number(AluOp::Add, dst, imm))
 }
 
-/// Writes an operation of a register and a number, into the register.
+/// Writes an operation of a register and a number, in two's complement, into the register.
 #[tactic(auto, unfolding(crate::specs::Code::compute_imm))]
 pub(crate) fn put_compute_imm(
     out: &mut Vec<u8>,

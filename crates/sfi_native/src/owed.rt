@@ -1,17 +1,18 @@
-//! How many steps code owes where. Code is right by any numbers; these make it count seldom.
+//! How many steps code owes where: steps that are done, but not yet subtracted from r14. Code is
+//! right by any numbers; these make it subtract seldom.
 use crate::compilation::target;
 use crate::line::Line;
 use rv_word::Instr;
 use sfi_image::SandboxPart;
 use std::alloc::{AllocError, Global};
 
-/// Fewer steps are owed.
+/// Fewer steps than this are owed anywhere.
 const OWED_END: u8 = 63;
 
-/// No number yet.
+/// Instead of a number: none is known yet.
 const NONE: u8 = 255;
 
-/// A number for each two bytes of a sandbox's code.
+/// A number for each two bytes of a sandbox's code, at which an instruction may begin.
 #[derive(Drop)]
 struct HalfWords {
     code_base: u32,
@@ -19,7 +20,7 @@ struct HalfWords {
 }
 
 impl HalfWords {
-    /// All of them are that number.
+    /// Each of them is `number`.
     fn new(alloc: Global, part: &SandboxPart<'_>, number: u8) -> Result<HalfWords, AllocError> {
         Ok(HalfWords {
             code_base: part.code_base,
@@ -27,12 +28,12 @@ impl HalfWords {
         })
     }
 
-    /// Where the number of an address is.
+    /// The index of an address's number; it may lie beyond the last.
     fn place(&self, at: u32) -> usize {
         (at.wrapping_sub(self.code_base) / 2) as usize
     }
 
-    /// The number of an address, or else that one, if it has none yet.
+    /// The number of an address, or else `other`, if it has none yet or lies outside.
     fn number_or(&self, at: u32, other: u8) -> u8 {
         match self.numbers.get(self.place(at)) {
             Some(number) if *number != NONE => *number,
@@ -40,7 +41,7 @@ impl HalfWords {
         }
     }
 
-    /// Changes the number of an address, if there is a place for it.
+    /// Changes the number of an address; nothing if that lies outside.
     fn set(&mut self, at: u32, number: u8) {
         let place = self.place(at);
         if let Some(old) = self.numbers.get_mut(place) {
@@ -49,13 +50,16 @@ impl HalfWords {
     }
 }
 
-/// Whether one instruction of the processor is enough for a branch that counts nothing, as [`crate::Jump`] says.
+/// Whether one instruction of the processor is enough for a branch from `at` to `to` that counts
+/// nothing: it needs no test of the steps left, as `has_test` of [`crate::Jump`] says.
 fn may_be_bare(at: u32, to: u32) -> bool {
     to > at && to / 128 == at / 128
 }
 
-/// How many steps are owed behind a line, where so many are before it and one more behind it. Where a line jumps ahead as many are
-/// owed as the first jump there owes.
+/// How many steps are to be owed behind the line at address `at`, where `more` are if it counts
+/// nothing. Where it jumps ahead, the number at its label is set in `labels`, unless an earlier jump
+/// did. Behind a branch that may be bare as many are owed as at its label, and none behind what never
+/// goes on at the next line.
 fn owed_behind(labels: &mut HalfWords, at: u32, line: &Line, more: u8) -> u8 {
     let Line::Does { instr, .. } = line else {
         return more;

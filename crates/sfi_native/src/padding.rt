@@ -1,6 +1,7 @@
-//! Where nops stand. Code is right by any; these keep jumps of instructions off borders of 32 bytes, at which some processors decode
-//! again and again (Intel, "Mitigations for Jump Conditional Code Erratum"). Those of heads and of the indirect jump that lines share
-//! stand where they come.
+//! Where nops stand. A line's draft is its bytes with all distances 0, which are as many. Code is
+//! right by any nops; these keep jumps of instructions off borders of 32 bytes, at which some
+//! processors decode again and again (Intel, "Mitigations for Jump Conditional Code Erratum"). Those
+//! of heads and of the indirect jump that lines share stand where they come.
 use crate::line::{Line, push_line};
 use crate::plan::Plan;
 use sfi_image::SandboxPart;
@@ -31,12 +32,13 @@ const NOPS: [NopSize; 9] = [
     NopSize::Nine,
 ];
 
-/// Whether the bytes of a jump, which ends there, meet a border.
+/// Whether the bytes of a jump from offset `start` to `end`, which is behind them, lie across a
+/// border or end right before one.
 fn meets_border(start: usize, end: usize) -> bool {
     start / BORDER != end / BORDER
 }
 
-/// Whether an instruction of a line's draft that starts there is a jcc.
+/// Whether the bytes of a line's draft at index `at` look like a jcc.
 fn is_jcc(draft: &[u8], at: usize) -> bool {
     match (draft.get(at), draft.get(at.saturating_add(1))) {
         (Some(first), Some(second)) => *first == 0x0F && *second / 16 == 8,
@@ -44,8 +46,9 @@ fn is_jcc(draft: &[u8], at: usize) -> bool {
     }
 }
 
-/// How many jumps of a line's draft meet a border, where the draft stands at that offset: each jcc, and a jmp at its end that isn't a
-/// way out. What looks like a jcc counts as one.
+/// How many jumps of a line's draft lie at a border, as `meets_border` says, where the draft starts
+/// at `offset` in the code: each jcc, and a jmp at its end that doesn't go out. What looks like a jcc
+/// counts as one.
 fn met_by(draft: &[u8], offset: usize) -> u32 {
     let mut met = 0_u32;
     for at in 0..draft.len() {
@@ -63,14 +66,16 @@ fn met_by(draft: &[u8], offset: usize) -> u32 {
     met
 }
 
-/// Whether a draft ends in a jmp, or what looks like one, that isn't a way out: before that the address is moved into edx.
+/// Whether a draft ends in a jmp, or what looks like one, that doesn't go out: before one that does,
+/// an address is moved into edx (opcode BA).
 fn ends_in_jmp(draft: &[u8]) -> bool {
     let end = draft.len();
     let is_way_out = end >= 2 * JMP && draft[end - 2 * JMP] == 0xBA;
     end >= JMP && draft[end - JMP] == 0xE9 && !is_way_out
 }
 
-/// The smallest nop by which fewest jumps of a draft meet a border that stands at that offset; none, if as many do without one.
+/// The nop before a draft at `offset` in the code by which fewest of its jumps lie at a border, the
+/// smallest of these; None, if as few do without a nop.
 fn nop_before(draft: &[u8], offset: usize) -> Option<NopSize> {
     let mut least = met_by(draft, offset);
     let mut found = None;
@@ -87,7 +92,8 @@ fn nop_before(draft: &[u8], offset: usize) -> Option<NopSize> {
     found
 }
 
-/// For each two bytes of a sandbox's code the nop that stands before the instruction there, for a plan without nops.
+/// For each two bytes of a sandbox's code the nop that is to stand before the instruction there, if
+/// one is. `plan` is the plan so far, without nops.
 pub(crate) fn padding_of(
     alloc: Global,
     part: &SandboxPart<'_>,

@@ -27,14 +27,16 @@ pub struct Plan {
     pub padding: Vec<Option<NopSize>>,
 }
 
-/// A register that has one value for lines of that format, so that none writes it.
+/// Whether register `r` has one value for all lines of that format, so that none writes it: x0 and the
+/// reserved registers. They lie in the frame.
 pub(crate) fn is_fixed(format: Format, r: Reg) -> bool
     ensures { result ≡ is_fixed_register format r }
 {
     r.number() == 0 || is_reserved_in(format, r)
 }
 
-/// A register of the processor that code has no other use for.
+/// Whether code has no other use for a register of the processor, so that one of the sandbox's may
+/// lie in it. `ASSIGNABLE` of uses.rt has the same ten.
 fn is_assignable(q: Register) -> bool
     ensures { result ≡ is_assignable_register q }
 {
@@ -54,7 +56,8 @@ fn is_assignable(q: Register) -> bool
 }
 
 impl Plan {
-    /// All registers lie in the frame, and each step is counted at once.
+    /// The simplest plan: all registers lie in the frame, each step is counted at once, and no nops
+    /// stand anywhere.
     pub fn in_frame(alloc: Global, format: Format) -> Plan
         ensures right { IsRightPlan result }
         ensures format { result.format ≡ format }
@@ -71,7 +74,8 @@ impl Plan {
         }
     }
 
-    /// How many steps code owes before the instruction at that address.
+    /// How many steps code owes before the instruction at that address: done, but not yet subtracted
+    /// from r14. 0 where the plan has no number for the address.
     pub(crate) fn owed(&self, at: u32) -> u32
         ensures is { result ≡ owed_at self.now at }
         ensures few { result < 63 }
@@ -94,14 +98,14 @@ impl Plan {
         }
     }
 
-    /// The processor's register that a register lies in, if it lies in one.
+    /// The processor's register that a register lies in; None if it lies in the frame.
     pub(crate) fn of(&self, r: Reg) -> Option<Register>
         ensures { result ≡ assigned self.now r }
     {
         self.assigned[usize::from(r.number())]
     }
 
-    /// Whether register `r` lies in that one.
+    /// Whether the sandbox's register `r` lies in the processor's `q`.
     fn lies_in(&self, r: usize, q: Register) -> bool
         requires { r < 32 }
         ensures { IsTrue result ↔ (assigned self.now r ≡ Some q) }
@@ -112,7 +116,7 @@ impl Plan {
         }
     }
 
-    /// Whether one of the first `n` registers lies in that one.
+    /// Whether one of the sandbox's registers below `n` lies in the processor's `q`.
     fn has_before(&self, n: usize, q: Register) -> bool
         requires { n < 32 }
         ensures { IsTrue result ↔ ((r : ℕ) × (r < n) × (assigned self.now r ≡ Some q)) }
@@ -125,7 +129,8 @@ impl Plan {
         false
     }
 
-    /// Whether register `n` lies in the frame, or in one that code has no other use for and none before it lies in.
+    /// Whether register `n` lies in the frame, or isn't fixed and lies in a register that code has no
+    /// other use for and no register below `n` lies in.
     fn is_right_at(&self, n: usize) -> bool
         requires { n < 32 }
         ensures { IsTrue result ↔ IsRightAt self.now n }

@@ -1,4 +1,6 @@
-//! The bytes of a jalr, and of the indirect jump that all of them share.
+//! The bytes of a jalr, and of the indirect jump that all of them share: it takes the sandbox's
+//! address in edx, and goes to the code of the unit there by a table in memory (`HasTable` of
+//! specs/Table.antt), or out.
 ghost use Rattle.std.specs.Prelude.{◌≡◌, ◌++◌, ◌<◌, OnOk};
 ghost use Rattle.sfi_native.specs.Code.{enter_code, indirect_jump, jalr_line, start_code, steps_code, target_code};
 ghost use Rattle.x86_instr.specs.declared.instr.Instr.TheVariants.{Alu, AluImm, Mov};
@@ -16,7 +18,7 @@ use rv_word::Reg;
 use std::alloc::AllocError;
 use x86_instr::{Address, AluOp, Condition, Instr, Operand, Register, Scale, Width};
 
-/// An operation of edx and a number.
+/// The instruction that does `op` on edx and a number.
 fn with_edx(op: AluOp, imm: u32) -> Instr
     ensures { result ≡ AluImm op Dword (InRegister Rdx) imm }
 {
@@ -28,7 +30,7 @@ fn with_edx(op: AluOp, imm: u32) -> Instr
     }
 }
 
-/// Writes the target of a jalr into edx.
+/// Writes what puts the target of a jalr into edx: `rs1` and the displacement, with bit 0 cleared.
 #[tactic(auto, using(crate::proofs::Lists::target_parts))]
 fn put_target(out: &mut Vec<u8>, plan: &Plan, rs1: Reg, displacement: u32) -> Result<(), AllocError>
     ensures { OnOk result (out.new.items ≡ out.old.items ++ spellings (target_code plan.now rs1 displacement)) }
@@ -38,7 +40,7 @@ fn put_target(out: &mut Vec<u8>, plan: &Plan, rs1: Reg, displacement: u32) -> Re
     put(out, with_edx(AluOp::And, 0xffff_fffe))
 }
 
-/// An operation of eax and an operand.
+/// The instruction that does `op` on eax and an operand.
 fn with_eax(op: AluOp, src: Operand) -> Instr
     ensures { result ≡ Alu op Dword Rax src }
 {
@@ -50,7 +52,9 @@ fn with_eax(op: AluOp, src: Operand) -> Instr
     }
 }
 
-/// Writes a jump out where too few steps are left.
+/// Writes a jump out where fewer than 65 steps are left (`most` of specs/Machine.antt in
+/// sfi_translate), and none are owed. `distance` is from the indirect jump's end to the way out; 44
+/// is how many bytes are up to there.
 #[tactic(auto, using(crate::proofs::Lists::two_parts))]
 fn put_steps(out: &mut Vec<u8>, distance: u32) -> Result<(), AllocError>
     ensures { OnOk result (out.new.items ≡ out.old.items ++ spellings (steps_code distance)) }
@@ -73,7 +77,9 @@ fn put_steps(out: &mut Vec<u8>, distance: u32) -> Result<(), AllocError>
     )
 }
 
-/// Writes a jump out where no unit of the sandbox's code starts at the address in edx.
+/// Writes a jump out where no unit of the sandbox's code starts at the address in edx: the mask of
+/// x25 and the base of x24 make another address of it. `distance` is from the indirect jump's end to
+/// the way out; 26 is how many bytes are up to there.
 #[tactic(auto, using(crate::proofs::Lists::start_parts))]
 fn put_start(out: &mut Vec<u8>, distance: u32) -> Result<(), AllocError>
     ensures { OnOk result (out.new.items ≡ out.old.items ++ spellings (start_code distance)) }
@@ -116,7 +122,9 @@ fn in_frame(displacement: u32) -> Address
     }
 }
 
-/// So many bytes behind where the table, whose origin is in rax, has the entry of the unit at the address in edx.
+/// The address `displacement` bytes behind the table's entry of the unit at the address in edx. rax
+/// has where the entry of address 0 would be; there are two bytes of the table for each of the
+/// sandbox's code.
 fn in_table(displacement: u32) -> Address
     ensures { result ≡ record { base = Rax; index = Rdx; scale = Two; displacement = displacement } }
 {
@@ -128,7 +136,7 @@ fn in_table(displacement: u32) -> Address
     }
 }
 
-/// An addition to a register.
+/// The instruction that adds what is at `src` to a register.
 fn add(width: Width, dst: Register, src: Address) -> Instr
     ensures { result ≡ Alu Add width dst (Mem src) }
 {
@@ -140,7 +148,7 @@ fn add(width: Width, dst: Register, src: Address) -> Instr
     }
 }
 
-/// A load into rax.
+/// The instruction that loads what is at `src` into rax.
 fn load(width: Width, src: Address) -> Instr
     ensures { result ≡ Mov width Rax (Mem src) }
 {
@@ -151,7 +159,9 @@ fn load(width: Width, src: Address) -> Instr
     }
 }
 
-/// Writes a jump to that entry. Code owes there as many steps as the table has behind the entry.
+/// Writes the jump to the entry of the unit at the address in edx. r14 gets the steps that are owed
+/// there, which the table has 4 bytes behind the entry. The frame has the table's origin at 128 and
+/// the code's address at 136.
 #[tactic(auto, using(crate::proofs::Lists::enter_parts))]
 fn put_enter(out: &mut Vec<u8>) -> Result<(), AllocError>
     ensures { OnOk result (out.new.items ≡ out.old.items ++ spellings enter_code) }
@@ -168,7 +178,8 @@ fn put_enter(out: &mut Vec<u8>) -> Result<(), AllocError>
     )
 }
 
-/// Writes a jump to the address in edx, or out.
+/// Writes the indirect jump, 54 bytes: to the unit at the address in edx, or out. `distance` is from
+/// its end to the way out.
 #[tactic(auto, using(crate::proofs::Lists::indirect_parts))]
 pub(crate) fn put_indirect_jump(out: &mut Vec<u8>, distance: u32) -> Result<(), AllocError>
     ensures { OnOk result (out.new.items ≡ out.old.items ++ spellings (indirect_jump distance)) }
@@ -178,9 +189,9 @@ pub(crate) fn put_indirect_jump(out: &mut Vec<u8>, distance: u32) -> Result<(), 
     put_enter(out)
 }
 
-/// Writes the line of a jalr behind what is there; `behind` is the address of what follows it in the sandbox. So many steps are
-/// owed before it, fewer than 63. The displacement and the distance are in two's complement, the distance in bytes, from the
-/// line's end to the indirect jump.
+/// Appends the line of a jalr; `behind` is the sandbox's address behind it, which `rd` gets. `owed`
+/// steps, fewer than 63, are owed before it. `displacement`, the immediate, and `distance` are in
+/// two's complement, the distance in bytes, from the line's end to the indirect jump.
 #[tactic(auto, using(crate::proofs::Lists::jalr_parts))]
 pub fn push_jalr_line(
     out: &mut Vec<u8>,

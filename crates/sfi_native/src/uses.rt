@@ -1,4 +1,5 @@
-//! How often lines use registers, and a plan by that.
+//! How often lines use registers, and a plan by that. Code is right by any numbers; the guess makes
+//! it fast.
 ghost use Rattle.std.specs.Prelude.{◌≡◌, ◌<◌, IfOk, IfSome};
 ghost use Rattle.sfi_native.specs.Registers.{IsRightPlan};
 
@@ -13,7 +14,7 @@ use sfi_image::SandboxPart;
 use std::alloc::{AllocError, Global};
 use x86_instr::Register;
 
-/// The registers of the processor that may be assigned.
+/// The registers of the processor in which the sandbox's may lie: those of `is_assignable` in plan.rt.
 const ASSIGNABLE: [Register; 10] = [
     Register::Rbx,
     Register::Rbp,
@@ -34,12 +35,13 @@ struct Uses {
 }
 
 impl Uses {
+    /// Counts a use of a register by a line that runs `weight` times.
     fn add(&mut self, r: Reg, weight: u64) {
         let n = usize::from(r.number());
         self.counts[n] = self.counts[n].saturating_add(weight);
     }
 
-    /// Counts the uses of an instruction.
+    /// Counts the registers that an instruction reads and writes; it runs `weight` times.
     fn add_of(&mut self, instr: &Instr, weight: u64) {
         match *instr {
             Instr::Op { rd, rs1, rs2, .. } => {
@@ -64,7 +66,8 @@ impl Uses {
         }
     }
 
-    /// Of the registers that lie in the frame so far and aren't fixed the one that is used most, if one is used.
+    /// The register that is used most, of those that lie in the frame in `places` and aren't fixed;
+    /// None, if none of these is used.
     fn busiest(&self, format: Format, places: &[Option<Register>; 32]) -> Option<usize>
         ensures { IfSome result (λ r. r < 32) }
     {
@@ -81,7 +84,7 @@ impl Uses {
     }
 }
 
-/// How often lines use each register.
+/// How often lines use each register, weighted by how often each line runs.
 fn uses_of(alloc: Global, lines: &[Line]) -> Result<Uses, AllocError> {
     let mut uses = Uses { counts: [0; 32] };
     let weights = weights_of(alloc, lines)?;

@@ -11,7 +11,8 @@ const DEPTH_MOST: u32 = 6;
 /// A function runs at most so often.
 const OFTEN_MOST: u64 = 0x1_0000_0000;
 
-/// Callers are looked at so many times, so that what they make of a function reaches others as far as this from them.
+/// How many times `called_often` passes numbers from callers to the functions that they call: so a
+/// caller counts for functions up to so many calls away.
 const ROUNDS: u32 = 8;
 
 /// Functions by number, in the order of their addresses. The lines before the first that is called are a function, too.
@@ -25,7 +26,8 @@ struct Functions {
     of_lines: Vec<usize>,
 }
 
-/// Where a call goes to. It keeps the address behind it.
+/// The address that a line calls: it is a jal that writes its return address to a register. None for
+/// others.
 fn called(line: &Line) -> Option<u32> {
     match line {
         Line::Does {
@@ -47,6 +49,7 @@ fn called_addresses(alloc: Global, lines: &[Line]) -> Result<BTreeMap<u32, ()>, 
     Ok(found)
 }
 
+/// The functions: one begins at each address that is called.
 fn functions_of(alloc: Global, lines: &[Line]) -> Result<Functions, AllocError> {
     let called = called_addresses(alloc, lines)?;
     let mut functions = Functions {
@@ -81,7 +84,8 @@ impl Functions {
         }
     }
 
-    /// Where a line jumps back to within its function, if it does.
+    /// The address that the line of number `n` jumps back to within its function, where a loop
+    /// begins; None if it doesn't jump so.
     fn loop_start(&self, n: usize, line: &Line) -> Option<u32> {
         let Line::Does { at, .. } = line else {
             return None;
@@ -129,6 +133,8 @@ struct Call {
     times: u64,
 }
 
+/// The calls and jumps from one function to another's start. `depths` is how many loops are around
+/// each line.
 fn calls_of(
     alloc: Global,
     lines: &[Line],
@@ -153,7 +159,8 @@ fn calls_of(
     Ok(calls)
 }
 
-/// What calls add to how often functions run: each runs once, and as often as its callers call it.
+/// How often each function runs, by how often its callers do in `often`: once, and as often as they
+/// call it.
 fn called_often(alloc: Global, often: &[u64], calls: &[Call]) -> Result<Vec<u64>, AllocError> {
     let mut next: Vec<u64> = vec![in alloc; 1; often.len()]?;
     for call in calls {
@@ -166,7 +173,7 @@ fn called_often(alloc: Global, often: &[u64], calls: &[Call]) -> Result<Vec<u64>
     Ok(next)
 }
 
-/// How often each line runs.
+/// A guess how often each line runs, in the order of lines; at least 1.
 pub(crate) fn weights_of(alloc: Global, lines: &[Line]) -> Result<Vec<u64>, AllocError> {
     let functions = functions_of(alloc, lines)?;
     let depths = depths_of(alloc, lines, &functions)?;
