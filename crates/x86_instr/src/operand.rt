@@ -61,7 +61,7 @@ pub enum Scale {
 }
 
 impl Scale {
-    /// The two bits that say it in SIB: the power of two that it is.
+    /// The two bits that say it in SIB: its binary logarithm.
     pub(crate) fn number(self) -> u8
         ensures value { result ≡ scale_number self }
         ensures in_range { result < 4 }
