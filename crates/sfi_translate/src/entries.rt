@@ -1,6 +1,6 @@
 //! Which units of code a turn and an indirect jump enter at once. A unit is what an indirect jump may
-//! go to: a bundle of 16 bytes, or in the formats that have them a word. Any choice is right: with too
-//! few the text is slow, with too many the C compiler is.
+//! go to: a bundle of 16 bytes, or a word in the formats of words. Any choice is right: with too few the
+//! text is slow, with too many the C compiler is.
 
 use crate::lines::FUNCTION_MOST;
 use rv_comp::{Front, read_front};
