@@ -115,7 +115,8 @@ fn put_beside(
     put_in_place(out, plan, place, op, rd, rs1, rs2)
 }
 
-/// Whether the second operand comes first: where it lies in the result's place, or the first is x0.
+/// Whether the operands are exchanged, so that `rs2` comes first: where it is `rd`, and no move is needed,
+/// or `rs1` is x0.
 fn are_exchanged(op: RegOp, rd: Reg, rs1: Reg, rs2: Reg) -> bool
     ensures { result ≡ are_exchanged_of op rd rs1 rs2 }
 {

@@ -10,7 +10,7 @@ use std::alloc::Global;
 use std::test::Fail;
 use x86_instr::Register;
 
-/// x2 in rsi, x5 in r8, x6 in rbx, x7 in r11.
+/// A plan with x2 in rsi, x5 in r8, x6 in rbx, x7 in r11, and the others in the frame.
 fn some_registers(alloc: Global) -> Plan {
     let mut plan = Plan::in_frame(alloc, Format::Sfiw);
     plan.assigned[2] = Some(Register::Rsi);

@@ -7,6 +7,7 @@ use sfi_formats::Format;
 use std::alloc::Global;
 use std::test::Fail;
 
+/// x26 gets the sum of x5 and 8.
 fn addition() -> Instr {
     Instr::OpImm {
         op: ImmOp::Addi,
@@ -16,6 +17,7 @@ fn addition() -> Instr {
     }
 }
 
+/// x26 gets the bitwise and of x5 and x27.
 fn mask() -> Instr {
     Instr::Op {
         op: RegOp::And,
@@ -64,6 +66,7 @@ fn x26_lies_in_a_register(rt: HostRuntime) -> Result<(), Fail> {
     Ok(())
 }
 
+/// Whether a sandbox of that format has a layout with its frame and its data at these addresses.
 fn has_layout(alloc: Global, format: Format, frame: u64, data_start: u64) -> bool {
     let plan = Plan::in_frame(alloc, format);
     Layout::new(plan, frame, data_start, &part_of(alloc, &[])).is_some()

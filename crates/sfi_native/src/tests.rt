@@ -225,6 +225,7 @@ fn divisions_are_spelled(rt: HostRuntime) -> Result<(), Fail> {
     Ok(())
 }
 
+/// A jump to 4 bytes behind where x5 leads, with the return address in x1.
 fn jump_register() -> Instr {
     Instr::Jalr {
         rd: Reg::numbered(1),
