@@ -27,7 +27,7 @@ pub struct Plan {
     pub padding: Vec<Option<NopSize>>,
 }
 
-/// Whether register `r` has one value for all lines of that format, so that none writes it: x0 and the
+/// Whether register `r` keeps one value in code of that format, so that no line writes it: x0 and the
 /// reserved registers. They lie in the frame.
 pub(crate) fn is_fixed(format: Format, r: Reg) -> bool
     ensures { result ≡ is_fixed_register format r }

@@ -96,8 +96,8 @@ fn uses_of(alloc: Global, lines: &[Line]) -> Result<Uses, AllocError> {
     Ok(uses)
 }
 
-/// Where registers lie: the ten that are used most, or as many as are used, in the processor's, the others
-/// in the frame.
+/// Where registers lie: the ten that are used most, or as many as are used, in the processor's, the
+/// others in the frame.
 fn places_by(format: Format, uses: &Uses) -> [Option<Register>; 32] {
     let mut places = [None; 32];
     for k in 0..10 {
