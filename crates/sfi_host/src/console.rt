@@ -64,7 +64,9 @@ impl Console {
         Some(session.output())
     }
 
-    /// Appends the caller's word to the mailbox of the sandbox that a0 names.
+    /// The service post: appends the word in the caller's a1, with its number, to the mailbox of the
+    /// sandbox whose number is in a0. a0 becomes `POSTED` or `FULL`; without such a sandbox the call is
+    /// refused. The caller goes on in each case. `post` of specs/Consoles says the same.
     fn post<M: Memory>(&mut self, guest: &mut Guest<'_, M>) -> GateAnswer
         requires has_data { HasData M.bytes guest.old }
         requires known { (asked M.bytes guest.old).caller < length self.old.sessions }

@@ -1,4 +1,5 @@
-//! Sandboxes' bytes, copied to another memory.
+//! Sandboxes' bytes, copied to another memory, which becomes the world's when sandboxes are added or
+//! removed (`world/adding.rt`, `world/removing.rt`).
 ghost use Rattle.std.specs.Prelude.{◌≡◌, ◌+◌, ◌^◌, ◌≤◌, IfOk, OnOk, Some};
 ghost use Rattle.std.specs.FinMap.{empty};
 ghost use Rattle.std.specs.List.{range_with_len, remove};
@@ -17,7 +18,8 @@ use std::alloc::{AllocError, Global};
 /// How many bytes of a region are copied at once, at most.
 const PIECE: u32 = 65536;
 
-/// The bytes that a memory has in a region; it has one at each of its addresses.
+/// A copy of the bytes that `from` has in the region; it has one at each of the region's addresses. An
+/// error means that memory ran out.
 fn region_bytes<M: Memory>(alloc: Global, region: Region, from: &M) -> Result<Vec<u8>, AllocError>
     requires { IsWhole (span_of region) (bytes_in (span_of region) (M.bytes from.now)) }
     ensures { IfOk result (λ bytes. bytes_at (bytes_in (span_of region) (M.bytes from.now))
@@ -31,7 +33,8 @@ fn region_bytes<M: Memory>(alloc: Global, region: Region, from: &M) -> Result<Ve
     Ok(bytes)
 }
 
-/// Adds a region's bytes, all at once, as another memory has them.
+/// Adds the region to the memory `to`, with the bytes that `from` has there. It takes memory for a copy
+/// of all of them at once. An error means that memory ran out, or that `to` has one of the addresses.
 fn copy_piece<M: Memory>(
     alloc: Global,
     region: Region,
@@ -50,7 +53,8 @@ fn copy_piece<M: Memory>(
     }
 }
 
-/// Adds a region's bytes, a piece at a time, as another memory has them.
+/// Adds the region to the memory `to`, with the bytes that `from` has there, by pieces of at most
+/// `PIECE` bytes: so little memory is taken beside the two. After an error `to` may have some of them.
 fn copy_region<M: Memory>(
     alloc: Global,
     region: Region,
@@ -74,7 +78,8 @@ fn copy_region<M: Memory>(
     Ok(())
 }
 
-/// Adds a sandbox's code and data, as another memory has them.
+/// Adds the sandbox's code and data regions to the memory `to`, with the bytes that `from` has there.
+/// After an error `to` may have some of them.
 fn copy_sandbox<M: Memory>(
     alloc: Global,
     sandbox: &Sandbox,
@@ -89,8 +94,9 @@ fn copy_sandbox<M: Memory>(
     copy_region(alloc, sandbox.data, from, to)
 }
 
-/// Copies the code and data of all sandboxes of a world but that of one number to an empty memory, which
-/// has these bytes and no others then.
+/// Copies the code and data of all sandboxes of a world but that of number `but` to an empty memory,
+/// which has these bytes and no others then; of all where there is no sandbox of that number. After an
+/// error `to` may have some of them.
 pub(crate) fn copy_other_sandboxes<M: Memory>(
     alloc: Global,
     sandboxes: &[Sandbox],

@@ -15,7 +15,7 @@ pub enum GateAnswer {
     Yield,
     /// It has stopped, with this number.
     Exit(u32),
-    /// It doesn't: the host has no memory for the reply, and nothing changed.
+    /// It doesn't go on: the host has no memory for the reply, and nothing changed.
     Memory,
 }
 
@@ -30,7 +30,8 @@ pub trait Gates {
 
     ghost may_refuse: { Self → Call → Bool };
 
-    /// Answers the call of a guest.
+    /// Answers a call: `guest` shows what is asked, and by it the host reads and writes the caller's
+    /// a0, a1 and data. The result says how the caller goes on.
     fn call<M: Memory>(&mut self, guest: &mut Guest<'_, M>) -> GateAnswer
         requires has_data { HasData M.bytes guest.old }
         ensures same_reference { SameMemory guest.old guest.new }

@@ -55,8 +55,8 @@ impl<'a, M: Memory> Guest<'a, M> {
         }
     }
 
-    /// Whether each of the `count` addresses from `at` on is one of its data region. No address is
-    /// asked for where `count` is 0.
+    /// Whether each of the `count` addresses from `at` on is in its data region; `true` where `count`
+    /// is 0, whatever `at` is.
     pub(crate) fn covers(&self, at: u32, count: u64) -> bool
         requires has_data { HasData M.bytes self.now }
         ensures there { IsTrue result ↔ IsSome (data_from (asked M.bytes self.now) at count) }
@@ -127,7 +127,8 @@ impl<'a, M: Memory> Guest<'a, M> {
         self.memory.store(at, Width::One, u32::from(byte))
     }
 
-    /// Writes bytes from `at` on, at addresses of its data region.
+    /// Writes all of `bytes` from `at` on. Each of these addresses has to be in its data region: the
+    /// caller tests that by `covers` or `may_hand`, as nothing does here.
     pub(crate) fn put_bytes(&mut self, at: u32, bytes: &[u8])
         requires there { IsSome (data_from (asked M.bytes self.old) at (length bytes.now)) }
         requires end { at + length bytes.now ≤ 2 ^ 32 }
@@ -175,7 +176,7 @@ impl<'a, M: Memory> Guest<'a, M> {
         true
     }
 
-    /// Sets the caller's a0.
+    /// Sets the a0 that the caller has after the call; `arg0` gives it from now on.
     pub fn set0(&mut self, value: u32)
         ensures same_reference { SameMemory self.old self.new }
         ensures asked { asked M.bytes self.new ≡ with_a0 (asked M.bytes self.old) value }
@@ -186,7 +187,7 @@ impl<'a, M: Memory> Guest<'a, M> {
         self.request.a0 = value;
     }
 
-    /// Sets the caller's a1.
+    /// Sets the a1 that the caller has after the call; `arg1` gives it from now on.
     pub fn set1(&mut self, value: u32)
         ensures same_reference { SameMemory self.old self.new }
         ensures asked { asked M.bytes self.new ≡ with_a1 (asked M.bytes self.old) value }

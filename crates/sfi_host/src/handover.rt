@@ -1,4 +1,5 @@
-//! Bytes from a caller and to it, and calls that are refused.
+//! What the services of a console have in common: bytes that a call hands over, and refused calls. The
+//! numbers here are `failed` and `most_handed` of specs/Consoles, and stand in docs/GATES.md.
 ghost use Rattle.std.specs.Prelude.{◌≡◌, ◌+◌, ◌^◌, ◌≤◌, ◌++◌, ◌↔◌, IsTrue, IsSome, IsOk, Some, OnOk, OnErr, length};
 ghost use Rattle.std.specs.Bool.{OnTrue};
 ghost use Rattle.std.specs.Option.{option_map};
@@ -29,7 +30,8 @@ pub(crate) fn may_hand<M: Memory>(guest: &Guest<'_, M>) -> bool
     guest.arg1() <= MOST_HANDED && guest.covers(guest.arg0(), u64::from(guest.arg1()))
 }
 
-/// Appends the `count` data bytes from `at` on. Where `count` is 0 it takes no memory.
+/// Appends the guest's `count` data bytes from the address `at` on to `output`. An error means that
+/// memory ran out, and then `output` is as before. Where `count` is 0 it takes no memory.
 pub(crate) fn append<M: Memory>(
     output: &mut Vec<u8>,
     guest: &Guest<'_, M>,
@@ -51,7 +53,8 @@ pub(crate) fn append<M: Memory>(
     Ok(())
 }
 
-/// Refuses a call.
+/// Refuses a call: its a0 becomes `FAILED`, nothing else changes, and the caller goes on after it. The
+/// result is `Replied` each time, for a service to return.
 pub(crate) fn refuse<M: Memory>(guest: &mut Guest<'_, M>) -> GateAnswer
     ensures replied { result ≡ GateAnswer.Replied }
     ensures same_reference { SameMemory guest.old guest.new }

@@ -14,8 +14,9 @@ use sfi_formats::Format;
 use std::alloc::{AllocError, Global};
 use std::sync::ArcSlice;
 
-/// Adds a sandbox's code and data. All regions lie apart and end within the addresses,
-/// so only memory may run out.
+/// Adds the part's code to the memory, and its data region: the first data bytes of the image, and
+/// zeros after them. All regions of an image lie apart and end within the addresses, so an error means
+/// that memory ran out.
 fn add_part<M: Memory>(memory: &mut M, part: &ModulePart) -> Result<(), AllocError>
     requires { (format : Format) × IsRightPart (part_of format part.now) }
     ensures { (format : Format)
@@ -36,7 +37,8 @@ fn add_part<M: Memory>(memory: &mut M, part: &ModulePart) -> Result<(), AllocErr
     Ok(())
 }
 
-/// A sandbox that has done nothing yet.
+/// The sandbox of a part before any turn: ready at its start, with no step done. Its bytes are no part
+/// of it: `add_part` adds them to a memory.
 fn first_sandbox(alloc: Global, format: Format, part: &ModulePart) -> Result<Sandbox, AllocError>
     requires { IsRightPart (part_of format part.now) }
     ensures { IfOk result (λ s. seat_of s ≡ first_seat (part_of format part.now)) }
@@ -65,7 +67,8 @@ fn first_sandbox(alloc: Global, format: Format, part: &ModulePart) -> Result<San
     })
 }
 
-/// The sandboxes of a module, with their code and data added to the memory.
+/// The sandboxes of a module's parts, in order, with their code and data added to the memory. After an
+/// error, which means that memory ran out, that may have some of them.
 pub(crate) fn load_parts<M: Memory>(
     alloc: Global,
     format: Format,

@@ -1,4 +1,9 @@
-//! Whether sandboxes of a world and of an image meet.
+//! Whether sandboxes of a world and of an image meet, and so can't be in one world.
+//!
+//! A sandbox takes up the addresses of its code, its data and the guard zones on both sides of these.
+//! In the fourth format it also has a *zone at zero*, where nobody else may be: the addresses below its
+//! data's size + 4096, and the last 4096. Two sandboxes *meet* if both take up an address, or one takes
+//! up an address in the other's zone at zero. `Meet` of specs/Adding says the same.
 ghost use Rattle.std.specs.Prelude.{◌≡◌, ◌⊎◌, ◌+◌, ◌^◌, ◌<◌, ◌≤◌, ◌↔◌, ℕ, IsTrue, Some, slice_get};
 ghost use Rattle.std.specs.Bool.{OnTrue, OnFalse};
 ghost use Rattle.rv_mem.specs.Bytes.{Bytes};
@@ -43,7 +48,7 @@ fn code_of(part: &ModulePart) -> Span
     code_span(part.code_base, part.code.len() as u32)
 }
 
-/// Whether an address of the span lies in the zone at zero of data of this size.
+/// Whether an address of the span lies in the zone at zero of a sandbox whose data have `size` bytes.
 fn lies_in_zone(size: u32, span: Span) -> bool
     requires end { span.base + span.size < 2 ^ 64 }
     ensures { IsTrue result ↔ ((a : ℕ) × Holds span a × InZoneAtZero size a) }
@@ -63,7 +68,8 @@ fn lies_in_zone(size: u32, span: Span) -> bool
     have_common_address(span, last)
 }
 
-/// Whether an address of one of the spans lies in the zone at zero of data of this size.
+/// Whether a sandbox takes up an address in the zone at zero of another, whose data have `size` bytes.
+/// `code` is its code, and `guarded` its data with their guard zones.
 fn reach_zone(code: Span, guarded: Span, size: u32) -> bool
     requires code { code.base + code.size < 2 ^ 64 }
     requires guarded { guarded.base + guarded.size < 2 ^ 64 }
@@ -76,7 +82,8 @@ fn reach_zone(code: Span, guarded: Span, size: u32) -> bool
     lies_in_zone(size, guarded)
 }
 
-/// Whether the sandbox takes up an address in the part's zone at zero.
+/// Whether the sandbox takes up an address in the part's zone at zero; `false` where the part's
+/// `format` has none.
 fn sandbox_reaches_zone(sandbox: &Sandbox, format: Format, part: &ModulePart) -> bool
     requires room { 4096 ≤ sandbox.now.data.base }
     ensures { IsTrue result
@@ -90,7 +97,8 @@ fn sandbox_reaches_zone(sandbox: &Sandbox, format: Format, part: &ModulePart) ->
     reach_zone(code, guarded, part.data_size)
 }
 
-/// Whether the part takes up an address in the sandbox's zone at zero.
+/// Whether the part takes up an address in the sandbox's zone at zero; `false` where the sandbox's
+/// format has none. `format` is the part's, which the contract alone names.
 fn part_reaches_zone(sandbox: &Sandbox, format: Format, part: &ModulePart) -> bool
     requires right { IsRightPart (part_of format part.now) }
     ensures { IsTrue result
@@ -104,7 +112,8 @@ fn part_reaches_zone(sandbox: &Sandbox, format: Format, part: &ModulePart) -> bo
     reach_zone(code, guarded, sandbox.data.size)
 }
 
-/// Whether the sandbox and the part take up an address both.
+/// Whether there is an address that both the sandbox and the part take up. `format` is the part's,
+/// which the contract alone names.
 fn shares_address(sandbox: &Sandbox, format: Format, part: &ModulePart) -> bool
     requires room { 4096 ≤ sandbox.now.data.base }
     requires right { IsRightPart (part_of format part.now) }

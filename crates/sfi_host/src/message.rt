@@ -17,7 +17,7 @@ impl Model for Message {
 
     ghost view = { λ m. record { sender = m.sender; word = m.word } };
 
-    // This keeps the sender plus 1 within a word.
+    // So the sender plus 1, which the service take answers (`session.rt`), is within a word.
     ghost invariant = { λ m. m.sender < 2 ^ 32 - 1 };
 
     ghost inverse = { λ m. record { sender = m.sender; word = m.word } };

@@ -44,7 +44,8 @@ pub struct ModulePart {
 }
 
 impl ModulePart {
-    /// A copy of a part of an image, and its program.
+    /// A copy of a part of an image, with its code decoded into its program. An error means that memory
+    /// ran out.
     fn from_part(alloc: Global, part: &SandboxPart<'_>) -> Result<ModulePart, AllocError>
         requires { (format : Format) × IsRightPart (view format part.now) }
         ensures part { (format : Format)
@@ -67,7 +68,7 @@ impl ModulePart {
     }
 }
 
-/// Copies of all parts of an image, and their programs.
+/// Copies of all parts of an image, in order, each with its code decoded into its program.
 fn copy_parts(alloc: Global, parts: &[SandboxPart<'_>]) -> Result<Vec<ModulePart>, AllocError>
     requires { (format : Format) × IsRightLayout (views format parts.now) }
     ensures parts { (format : Format)
@@ -81,7 +82,7 @@ fn copy_parts(alloc: Global, parts: &[SandboxPart<'_>]) -> Result<Vec<ModulePart
     Ok(all)
 }
 
-/// One more owner of each program.
+/// The program of each part, in order: each gets one more owner, and none is copied.
 fn share_programs(alloc: Global, parts: &[ModulePart]) -> Result<Vec<Arc<Program>>, AllocError>
     ensures { IfOk result (λ all. programs_of all.items ≡ map program_in parts.now) }
 {
@@ -161,15 +162,15 @@ impl Module {
         load_parts(alloc, self.format, &self.parts, memory)
     }
 
-    /// The program of each part, shared.
+    /// The program, which is the decoded code, of each part in order. Worlds share it.
     pub(crate) fn programs(&self, alloc: Global) -> Result<Vec<Arc<Program>>, AllocError>
         ensures { IfOk result (λ all. AreProgramsOf self.now (programs_of all.items)) }
     {
         share_programs(alloc, &self.parts)
     }
 
-    /// Whether a sandbox of these meets one of the image. The bytes of their memory make no
-    /// difference.
+    /// Whether a sandbox of these meets one of the image, so that they can't be in one world
+    /// (`meeting.rt`). The bytes of their memory make no difference.
     pub(crate) fn meets(&self, sandboxes: &[Sandbox]) -> bool
         requires { (m : Bytes) × IsSafeWorld (world_of m sandboxes.now) }
         ensures { (m : Bytes) → IsTrue result ↔ MeetsSome (world_of m sandboxes.now) self.now }

@@ -8,7 +8,7 @@ ghost use Rattle.sfi_host.specs.Slots.{span_of, is_in, bytes_in, bytes_outside, 
 
 use rv_mem::{Memory, Width};
 
-/// So many addresses from a first one on.
+/// The `size` addresses from `base` on, as of a sandbox's code or data.
 #[derive(Clone, Copy, Debug, PartialEq, Eq)]
 pub struct Region {
     pub base: u32,
@@ -16,14 +16,15 @@ pub struct Region {
 }
 
 impl Region {
-    /// Whether the address is one of these.
+    /// Whether the address `at` is in the region.
     pub(crate) fn holds(self, at: u32) -> bool
         ensures { result ≡ is_in (span_of self) at }
     {
         at >= self.base && at - self.base < self.size
     }
 
-    /// The byte at an address; `None` where that is none of these.
+    /// The byte of the memory at the address `at`; `None` where that isn't in the region, or the memory
+    /// has no byte there.
     pub(crate) fn byte<M: Memory>(self, memory: &M, at: u32) -> Option<u8>
         ensures value { result ≡ byte_at (bytes_in (span_of self) (M.bytes memory.now)) at }
         ensures there { IsWhole (span_of self) (bytes_in (span_of self) (M.bytes memory.now))
@@ -36,8 +37,9 @@ impl Region {
         Some(byte as u8)
     }
 
-    /// Whether each of the `count` addresses from `at` on is one of these. No address is asked for
-    /// where `count` is 0. It is said of each memory in which the region is whole.
+    /// Whether each of the `count` addresses from `at` on is in the region; `true` where `count` is 0,
+    /// whatever `at` is. The contract speaks of each memory that has a byte at all of the region's
+    /// addresses.
     pub(crate) fn covers(self, at: u32, count: u64) -> bool
         ensures there { (m : Bytes) → IsWhole (span_of self) (bytes_in (span_of self) m)
             → (IsTrue result
@@ -69,7 +71,8 @@ impl Region {
         true
     }
 
-    /// Writes bytes from `at` on.
+    /// Writes all of `bytes` to the memory from the address `at` on. Each of these addresses has to be
+    /// in the region, which the caller sees to: nothing tests it here.
     pub(crate) fn write<M: Memory>(self, memory: &mut M, at: u32, bytes: &[u8])
         requires there { IsSome (bytes_at (bytes_in (span_of self) (M.bytes memory.old))
             (range_with_len at (length bytes.now))) }

@@ -14,7 +14,7 @@ use crate::status::Status;
 use rv_mem::Memory;
 
 impl Region {
-    /// Fills it with bytes, and with zeros after them.
+    /// Fills the region with `front`, which fits into it, and with zeros after that.
     pub(crate) fn fill<M: Memory>(self, memory: &mut M, front: &[u8])
         requires whole { IsWhole (span_of self) (bytes_in (span_of self) (M.bytes memory.old)) }
         requires room { length front.now ≤ self.size }
@@ -30,7 +30,7 @@ impl Region {
         self.clear_from(memory, front.len() as u32);
     }
 
-    /// Fills it with zeros from one of its places on.
+    /// Fills the region with zeros from byte `from` of it, counted from its base, to its end.
     fn clear_from<M: Memory>(self, memory: &mut M, from: u32)
         requires whole { IsWhole (span_of self) (bytes_in (span_of self) (M.bytes memory.old)) }
         requires room { from ≤ self.size }

@@ -47,7 +47,9 @@ pub const A1_REGISTER: u8 = 11;
 // x1: the return address (as above).
 const RETURN_REGISTER: u8 = 1;
 
-/// Gives the typed registers, where code is in words, what they hold at an entry there.
+/// Gives the typed registers what they hold at an entry at `pc`: where code is in words, the data base
+/// to x3, x4 and x29, and `pc` to x30. Where it is in bundles nothing changes. x26, which is typed in
+/// the fourth format, is set by `fresh_cpu`. `typed_for` of specs/Loading says the same.
 fn set_typed(format: Format, data_at: Region, pc: u32, cpu: &mut Cpu)
     requires pc { cpu.old.pc ≡ pc }
     requires hart { IsHart cpu.old }
@@ -63,7 +65,9 @@ fn set_typed(format: Format, data_at: Region, pc: u32, cpu: &mut Cpu)
     cpu.set_reg(Reg::numbered(CODE_REGISTER), pc);
 }
 
-/// The pc and registers at an entry without arguments.
+/// The pc and registers at an entry at `pc` without arguments: x2 is 16 bytes below the data's end, x24
+/// to x27 hold the bases and masks of the code and the data, the typed registers what `set_typed`
+/// gives, and all others 0. `fresh_hart` of specs/Loading says the same, and docs/GATES.md tells users.
 pub(crate) fn fresh_cpu(format: Format, code_at: Region, data_at: Region, pc: u32) -> Cpu
     requires even { pc % 2 ≡ 0 }
     requires code_size { 16 ≤ code_at.size }
@@ -91,7 +95,7 @@ pub(crate) fn fresh_cpu(format: Format, code_at: Region, data_at: Region, pc: u3
     cpu
 }
 
-/// Puts the arguments into the registers from a0 on.
+/// Puts the arguments into the registers a0 to a7.
 fn set_arguments(cpu: &mut Cpu, arguments: &[u32; 8])
     requires hart { IsHart cpu.old }
     ensures put { cpu.new ≡ with_registers cpu.old a0_register arguments.now }
@@ -135,15 +139,15 @@ impl Sandbox {
         matches!(self.status, Status::Ready)
     }
 
-    /// Stops it where it stands.
+    /// Stops it where it stands, for its host: only its status changes.
     pub(crate) fn stop(&mut self)
         ensures { seat_of self.new ≡ stopped_seat (seat_of self.old) }
     {
         self.status = Status::Stopped;
     }
 
-    /// Gives the registers of a call to a function: the return address, which is the gate of exit's,
-    /// and the arguments.
+    /// Sets the registers of `cpu` for a call of a function by the host: x1, the return address, to the
+    /// gate of exit, so that a function that returns calls exit; and a0 to a7 to the arguments.
     pub(crate) fn set_call(&self, cpu: &mut Cpu, arguments: &[u32; 8])
         requires hart { IsHart cpu.old }
         ensures put { cpu.new ≡ with_registers
@@ -155,7 +159,9 @@ impl Sandbox {
         set_arguments(cpu, arguments);
     }
 
-    /// Where the stack of a function begins that the host calls.
+    /// The stack pointer of a function that the host calls: 16 bytes below the data's end, and lower by
+    /// the room that the image's table of names asks for (`.room`), if the data are large enough.
+    /// `entry_stack` of specs/Loading says the same.
     fn entry_stack(&self) -> u32
         requires data_size { 16 ≤ self.now.data.size }
         requires data_end { self.now.data.base + self.now.data.size < 2 ^ 32 }
@@ -169,7 +175,8 @@ impl Sandbox {
         self.data.base + (frames - room)
     }
 
-    /// Makes it ready at the address, as a function that returns to the gate of exit.
+    /// Makes it ready at `pc`, as a function that returns to the gate of exit. Its data stay, and its
+    /// steps are counted on. `may_enter` is tested before.
     pub(crate) fn enter(&mut self, pc: u32, arguments: &[u32; 8])
         requires even { pc % 2 ≡ 0 }
         requires code_size { 16 ≤ self.old.code.size }

@@ -14,7 +14,8 @@ use rv_mem::Memory;
 use std::alloc::Global;
 use std::marker::Model;
 
-// The services, by the numbers that a gate asks with.
+// The services, by the numbers that a gate asks with. docs/GATES.md says what each does, and
+// specs/Consoles has the same numbers and limits.
 pub const EXIT: u32 = 0;
 
 /// The service that writes.
@@ -80,7 +81,9 @@ impl Session {
         self.output.as_slice()
     }
 
-    /// The bytes that the caller hands over are appended to its output.
+    /// The service put: appends the caller's a1 data bytes from a0 on to its output, and a0 becomes
+    /// a1. It is refused where these may not be handed over, or the output would be too long. `Memory`
+    /// where memory ran out, and then nothing changed.
     fn put<M: Memory>(&mut self, guest: &mut Guest<'_, M>) -> GateAnswer
         requires has_data { HasData M.bytes guest.old }
         ensures same_reference { SameMemory guest.old guest.new }
@@ -100,7 +103,9 @@ impl Session {
         GateAnswer::Replied
     }
 
-    /// The next bytes of the input are written where the caller says.
+    /// The service get: writes the next bytes of the input, at most a1, to the caller's data from a0
+    /// on, and a0 becomes their count, which is 0 at the input's end. It is refused where a1 bytes from
+    /// a0 on may not be handed over.
     fn get<M: Memory>(&mut self, input: &[u8], guest: &mut Guest<'_, M>) -> GateAnswer
         requires has_data { HasData M.bytes guest.old }
         ensures same_reference { SameMemory guest.old guest.new }
@@ -119,7 +124,8 @@ impl Session {
         GateAnswer::Replied
     }
 
-    /// The oldest message leaves the mailbox.
+    /// The service take: removes the oldest message from the mailbox. a0 becomes its word, and a1 its
+    /// sender's number plus 1; both become 0 where the mailbox is empty.
     fn take<M: Memory>(&mut self, guest: &mut Guest<'_, M>) -> GateAnswer
         requires has_data { HasData M.bytes guest.old }
         ensures same_reference { SameMemory guest.old guest.new }
@@ -146,7 +152,8 @@ impl Session {
         self.mailbox.try_push(message).is_ok()
     }
 
-    /// Serves put, get and take, and refuses all other services.
+    /// Serves put, get and take, and refuses all other services: exit, yield and post are served by the
+    /// console. `input` is all of the console's input; a session keeps how much of it was read.
     pub(crate) fn serve<M: Memory>(&mut self, input: &[u8], guest: &mut Guest<'_, M>) -> GateAnswer
         requires has_data { HasData M.bytes guest.old }
         ensures same_reference { SameMemory guest.old guest.new }

@@ -1,4 +1,7 @@
-//! Registers that are set from outside.
+//! Registers that are set from outside, and whether a sandbox may be entered with them. The *typed*
+//! registers of code in words are those on whose values the checker relies: the data registers hold an
+//! address in or near the data, x30 the start of a word of the code, and x31, where masks have two
+//! steps, an offset in the data. `AreWordsTyped` of `sfi_safe_runs` says the same.
 ghost use Rattle.std.specs.Prelude.{◌≡◌, ◌≢◌, ◌%◌, ◌+◌, ◌<◌, ◌≤◌, ◌^◌, ◌↔◌, IfSome, IsTrue, None, true, false};
 ghost use Rattle.rv_step.specs.State.{IsHart, register};
 ghost use Rattle.sfi_formats.specs.Formats.{has_stack, has_words, has_single_mask, code_register, data_base_register, offset_register, stack_pointer, unit};
@@ -83,7 +86,8 @@ fn may_be_data(format: Format, region: Region, at: u32) -> bool
     is_near(region, at) || (format.has_single_mask() && is_near_zero(region.size, at))
 }
 
-/// Whether the data registers that each format in words has hold what their type says.
+/// Whether each data register of code in words holds an address in or near the data `region`: x2, x3,
+/// x4 and x29, and in the fourth format x26 and x31, too.
 fn lie_near(format: Format, region: Region, cpu: &Cpu) -> bool
     ensures { IsTrue result ↔ LieNear format (span_of region) cpu.now.registers }
 {
@@ -104,7 +108,8 @@ impl Sandbox {
         self.code.holds(pc) && pc % self.format.unit() == 0
     }
 
-    /// Whether the reserved registers hold the values of the sandbox.
+    /// Whether the reserved registers x24 to x27 hold the bases and masks of the sandbox's regions; x26
+    /// may hold anything here where it is a data register.
     fn holds_reserved(&self, cpu: &Cpu) -> bool
         requires code_size { 16 ≤ self.now.code.size }
         requires data_size { 16 ≤ self.now.data.size }
@@ -120,7 +125,8 @@ impl Sandbox {
             && cpu.reg(Reg::numbered(DATA_MASK_REGISTER)) == mask
     }
 
-    /// Whether x26 holds the data base, where it isn't a data register.
+    /// Whether x26 holds the data base. In the fourth format it is a data register, and this is `true`
+    /// whatever it holds: `lie_near` tests it.
     fn holds_data_base(&self, cpu: &Cpu) -> bool
         ensures { IsTrue result ↔ (has_single_mask self.now.format ≡ false
             → register cpu.now data_base_register ≡ self.now.data.base) }
@@ -131,7 +137,8 @@ impl Sandbox {
         cpu.reg(Reg::numbered(DATA_BASE_REGISTER)) == self.data.base
     }
 
-    /// Whether x31 is below the data size, where it holds an offset.
+    /// Whether x31 is an offset in the data, below their size. In the fourth format it is a data
+    /// register, and this is `true` whatever it holds: `lie_near` tests it.
     fn holds_offset(&self, cpu: &Cpu) -> bool
         ensures { IsTrue result ↔ (has_single_mask self.now.format ≡ false
             → register cpu.now offset_register < self.now.data.size) }
@@ -166,7 +173,7 @@ impl Sandbox {
         self.holds_offset(cpu)
     }
 
-    /// Whether the stack pointer lies in the data, where the format has one.
+    /// Whether the stack pointer lies in the data; `true` in a format that has none.
     fn holds_stack(&self, cpu: &Cpu) -> bool
         ensures { IsTrue result ↔ (has_stack self.now.format ≡ true
             → Holds (span_of self.now.data) (register cpu.now stack_pointer)) }
@@ -177,7 +184,7 @@ impl Sandbox {
         self.data.holds(cpu.reg(Reg::numbered(STACK_POINTER)))
     }
 
-    /// Whether the typed registers hold what their types say, where code is in words.
+    /// Whether the typed registers hold what their types say; `true` where code is in bundles.
     fn holds_words(&self, cpu: &Cpu) -> bool
         ensures { IsTrue result ↔ (has_words self.now.format ≡ true
             → AreWordsTyped self.now.format (span_of self.now.code) (span_of self.now.data) cpu.now.registers) }
@@ -214,7 +221,7 @@ impl Sandbox {
         Some(cpu)
     }
 
-    /// Makes the sandbox ready with this pc and these registers.
+    /// Makes the sandbox ready with this pc and these registers, which `may_hold` has allowed.
     pub(crate) fn resume(&mut self, cpu: Cpu)
         ensures { seat_of self.new ≡ set_seat (seat_of self.old) cpu }
     {

@@ -20,7 +20,8 @@ fn is_stop(stops: &[u32], pc: u32) -> bool
     stops.contains(&pc)
 }
 
-/// Whether further steps of the sandbox do anything.
+/// Whether the sandbox can go on after a step that ended in `pause`: it is at no call, and has not
+/// stopped.
 fn may_step_on(pause: Pause, sandbox: &Sandbox) -> bool
     ensures { OnFalse result
         (((left : ℕ) × (pause ≡ Pause.Call left)) ⊎ (sandbox.now.status ≢ Status.Ready)) }

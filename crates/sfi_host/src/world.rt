@@ -212,7 +212,7 @@ impl<M: Memory> World<M> {
         self.waiting(turn.sandbox)
     }
 
-    /// A turn up to the next call. Each sandbox lies where it lay.
+    /// Takes a turn up to the next call; without such a sandbox nothing changes.
     fn take_quiet_turn(&mut self, turn: Turn)
         ensures ran { (machine : Machine) → IsMachine machine
             → slots_of self.new ≡ (to_call machine (turn ∷ []) (slots_of self.old)).slots }
@@ -232,7 +232,7 @@ impl<M: Memory> World<M> {
         );
     }
 
-    /// What sandbox `i` asks, if it waits at a call.
+    /// What sandbox `i` asks, if it waits at a call; else `None`, as where there is none.
     pub fn waiting(&self, i: u32) -> Option<Request>
         ensures waits { IfSome result (λ r. Waits (slots_of self.now) i r) }
         ensures there { IsSome result ↔ IsAtCall (slots_of self.now) i }
@@ -287,7 +287,7 @@ impl<M: Memory> World<M> {
         true
     }
 
-    /// One turn: what the plan of that turn alone comes to. Each sandbox lies where it lay.
+    /// Takes one turn: what a plan of it alone comes to. Without such a sandbox nothing changes.
     fn take_turn<G: Gates>(&mut self, turn: Turn, gates: &mut G) -> StepResult
         ensures safe { IsSafeWorld self.new }
         ensures bounds { bounds_in self.new ≡ bounds_in self.old }
@@ -321,7 +321,7 @@ impl<M: Memory> World<M> {
         let _ = &self.memory;
     }
 
-    /// Sandbox `i`.
+    /// Sandbox `i`; `None` where there is none.
     fn find(&self, i: u32) -> Option<&Sandbox>
         ensures { option_map (λ s. slot_in self.now.bytes s.now) result
             ≡ slice_get (slots_of self.now) i }

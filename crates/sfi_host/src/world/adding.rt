@@ -29,8 +29,8 @@ pub enum AddError {
     Memory,
 }
 
-/// The number of the first of some sandboxes more; `None` where their numbers would need more than
-/// 32 bits.
+/// The number of the first of `more` sandboxes that come after those that are `there`; `None` where a
+/// number of one of them would need more than 32 bits.
 fn first_number(there: usize, more: usize) -> Option<u32>
     requires { 0 < more }
     ensures number { IfSome result (λ first. first ≡ there) }
@@ -107,7 +107,8 @@ impl<M: Memory> World<M> {
         }
     }
 
-    /// Adds sandboxes that meet none of the world's.
+    /// Adds the module's sandboxes, which meet none of the world's, as `add` says. An error means that
+    /// memory ran out, and then the world is what it was.
     fn extend(&mut self, alloc: Global, module: &Module, memory: M) -> Result<(), AllocError>
         requires apart { MeetsSome self.old module.now → ⊥ }
         requires empty { M.bytes memory ≡ empty }

@@ -42,7 +42,7 @@ impl<M: Memory> World<M> {
         self.waiting(turn.sandbox)
     }
 
-    /// A turn up to the next call or stop. Each sandbox lies where it lay.
+    /// Takes a turn up to the next call or stop; without such a sandbox nothing changes.
     fn take_turn_until(&mut self, turn: Turn, stops: &[u32])
         ensures until { (count : ℕ) × IsUpToStop stops.now turn self.old self.new count }
         ensures safe { IsSafeWorld self.new }

@@ -57,7 +57,8 @@ impl<M: Memory> World<M> {
         }
     }
 
-    /// Goes on without one of the sandboxes.
+    /// Removes sandbox `place`, as `remove` says. An error means that memory ran out, and then the
+    /// world is what it was.
     fn leave_out(&mut self, alloc: Global, place: usize, memory: M) -> Result<(), AllocError>
         requires there { place < length self.old.seats }
         requires empty { M.bytes memory ≡ empty }

@@ -44,8 +44,8 @@ impl<M: Memory> World<M> {
         self.set_cpu(i, cpu)
     }
 
-    /// Makes sandbox `i` ready with this pc and these registers, if it may be entered
-    /// with them.
+    /// Makes sandbox `i` ready with this pc and these registers; `false` where there is none or it may
+    /// not be entered with them, and then nothing changed.
     pub(super) fn set_cpu(&mut self, i: u32, cpu: Cpu) -> bool
         requires hart { IsHart cpu }
         ensures may { IsTrue result ↔ MaySetAt (slots_of self.old) i cpu }
