@@ -1,4 +1,4 @@
-//! What C does between turns.
+//! What C does between turns: reads and writes data and registers, enters and stops sandboxes.
 ghost use Rattle.std.specs.Prelude.{◌≡◌, ◌↔◌, ◌≤◌, ℕ, length, take, drop, Some, None, IsSome, IsTrue, false, slice_get};
 ghost use Rattle.std.specs.Bool.{OnTrue, OnFalse};
 ghost use Rattle.rv_step.specs.State.{Hart};
@@ -16,7 +16,8 @@ use rv_mem::Pages;
 use sfi_host::{Status, World};
 use std::alloc::Global;
 
-/// Copies data bytes of a sandbox to the first `count` of `room`.
+/// Copies `count` data bytes of a sandbox from the address `at` on to the first of `room`; `false`,
+/// and nothing is written, where `sfi_run_read` says so.
 fn read_data(world: &World<Pages>, sandbox: u32, at: u32, count: usize, room: &mut [u8]) -> bool
     ensures there { IsTrue result ↔ ((count ≤ length room.old)
         × IsSome (data_bytes_of (slice_get (slots_of world.now) sandbox) at count)) }
@@ -31,9 +32,9 @@ fn read_data(world: &World<Pages>, sandbox: u32, at: u32, count: usize, room: &m
     world.read(sandbox, at, &mut room[..count])
 }
 
-/// Copies `count` data bytes of a sandbox from an address on to the first of `room`: all of them, or
-/// none, if there is no such sandbox, `room` is shorter, or one of these addresses isn't in its
-/// data. No bytes are copied from any address.
+/// Copies `count` data bytes of a sandbox from the address `at` on to the first of `room`. `false`,
+/// and nothing is written, if there is no world or no such sandbox, `room` is shorter, or one of
+/// these addresses isn't in its data; where `count` is 0 any address will do.
 #[unsafe(no_mangle)]
 pub extern "C" fn sfi_run_read(
     alloc: Global,
@@ -61,7 +62,8 @@ pub extern "C" fn sfi_run_read(
     done
 }
 
-/// Writes data bytes of a sandbox.
+/// Writes all of `bytes` to the data of a sandbox from the address `at` on; `false`, and nothing
+/// changed, if there is no such sandbox, or one of these addresses isn't in its data.
 fn write_data(world: &mut World<Pages>, sandbox: u32, at: u32, bytes: &[u8]) -> bool
     ensures call { IsCall result world.old world.new sandbox (Write at bytes.now)
         (HasWritten world.old world.new sandbox at bytes.now) }
@@ -69,7 +71,8 @@ fn write_data(world: &mut World<Pages>, sandbox: u32, at: u32, bytes: &[u8]) -> 
     world.write(sandbox, at, bytes)
 }
 
-/// Writes data bytes of a sandbox from an address on: all of them, or none.
+/// Writes all of `bytes` to the data of a sandbox from the address `at` on. `false`, and nothing
+/// changed, if there is no world or no such sandbox, or one of these addresses isn't in its data.
 #[unsafe(no_mangle)]
 pub extern "C" fn sfi_run_write(
     alloc: Global,
@@ -89,7 +92,8 @@ pub extern "C" fn sfi_run_write(
     done
 }
 
-/// Enters a sandbox.
+/// Enters a sandbox at `pc` with the arguments in a0 to a7; `false`, and nothing changed, where
+/// `World::enter` refuses.
 fn enter_sandbox(world: &mut World<Pages>, sandbox: u32, pc: u32, arguments: &[u32; 8]) -> bool
     ensures call { IsCall result world.old world.new sandbox (Enter pc arguments.now)
         (HasEntered world.old world.new sandbox pc arguments.now) }
@@ -97,7 +101,9 @@ fn enter_sandbox(world: &mut World<Pages>, sandbox: u32, pc: u32, arguments: &[u
     world.enter(sandbox, pc, arguments)
 }
 
-/// Enters a sandbox that has stopped, at a bundle or word of its code and with these in a0 to a7.
+/// Makes a sandbox that has stopped ready at `pc`, as a function that the host calls, with the
+/// arguments in a0 to a7; nothing runs yet. `false`, and nothing changed, if there is no world or no
+/// such sandbox, it hasn't stopped, or no bundle or word of its code begins at `pc`.
 #[unsafe(no_mangle)]
 pub extern "C" fn sfi_run_enter(
     alloc: Global,
@@ -117,7 +123,7 @@ pub extern "C" fn sfi_run_enter(
     done
 }
 
-/// Stops a sandbox.
+/// Stops a sandbox; `false`, and nothing changed, if there is none or it has stopped already.
 fn stop_sandbox(world: &mut World<Pages>, sandbox: u32) -> bool
     ensures call { IsCall result world.old world.new sandbox Stop
         (HasBeenStopped world.old world.new sandbox) }
@@ -126,7 +132,8 @@ fn stop_sandbox(world: &mut World<Pages>, sandbox: u32) -> bool
 }
 
 /// Stops a sandbox that is ready, also where it waits at a call: no turn runs it then, it takes no
-/// reply, and it may be entered again. Its data, registers and count of steps stay.
+/// reply, and it may be entered again. Its data, registers and count of steps stay. `false`, and
+/// nothing changed, if there is no world or no such sandbox, or it has stopped already.
 #[unsafe(no_mangle)]
 pub extern "C" fn sfi_run_stop(alloc: Global, world: &mut SfiRunWorld, sandbox: u32) -> bool
     ensures call { IsHeldCall result world.old.inner.world world.new.inner.world sandbox
@@ -140,7 +147,7 @@ pub extern "C" fn sfi_run_stop(alloc: Global, world: &mut SfiRunWorld, sandbox: 
     done
 }
 
-/// How many steps a sandbox has done; 0 where there is none.
+/// How many steps a sandbox has done, at most 2^64 - 1; 0 where there is no such sandbox or no world.
 #[unsafe(no_mangle)]
 pub extern "C" fn sfi_run_steps(alloc: Global, world: &mut SfiRunWorld, sandbox: u32) -> u64
     ensures same { world.new.inner.world ≡ world.old.inner.world }
@@ -161,7 +168,8 @@ pub extern "C" fn sfi_run_steps(alloc: Global, world: &mut SfiRunWorld, sandbox:
     steps
 }
 
-/// Tells the pc and the registers of a sandbox, if there is one.
+/// Writes the pc and the registers of a sandbox to `registers`; `false`, and nothing is written, if
+/// there is none.
 fn tell_registers(world: &World<Pages>, sandbox: u32, registers: &mut SfiRunRegisters) -> bool
     ensures there { IsTrue result ↔ IsSome (hart_at (slots_of world.now) sandbox) }
     ensures done { OnTrue result ((h : Hart) → hart_at (slots_of world.now) sandbox ≡ Some h
@@ -175,7 +183,8 @@ fn tell_registers(world: &World<Pages>, sandbox: u32, registers: &mut SfiRunRegi
     true
 }
 
-/// Writes the pc and the registers of a sandbox, if there is one.
+/// Writes the pc and the registers of a sandbox to `registers`. `false`, and nothing is written, if
+/// there is no world or no such sandbox.
 #[unsafe(no_mangle)]
 pub extern "C" fn sfi_run_registers(
     alloc: Global,
@@ -199,7 +208,8 @@ pub extern "C" fn sfi_run_registers(
     done
 }
 
-/// Sets the pc and the registers of a sandbox.
+/// Makes a sandbox ready with this pc and these registers; `false`, and nothing changed, where
+/// `World::set_registers` refuses.
 fn set_sandbox_registers(
     world: &mut World<Pages>,
     sandbox: u32,
@@ -211,7 +221,8 @@ fn set_sandbox_registers(
     world.set_registers(sandbox, registers.pc, &registers.x)
 }
 
-/// Makes a sandbox ready with this pc and these registers, if it may be entered so.
+/// Makes a sandbox ready with this pc and these registers, whatever it did. `false`, and nothing
+/// changed, if there is no world or no such sandbox, or it may not be entered with them.
 #[unsafe(no_mangle)]
 pub extern "C" fn sfi_run_set_registers(
     alloc: Global,
@@ -230,7 +241,8 @@ pub extern "C" fn sfi_run_set_registers(
     done
 }
 
-/// Tells where the data of a sandbox lie, if there is one.
+/// Writes where the data of a sandbox lie to `region`; `false`, and nothing is written, if there is
+/// none.
 fn tell_data(world: &World<Pages>, sandbox: u32, region: &mut SfiRunRegion) -> bool
     ensures there { IsTrue result ↔ IsSome (data_region_at (slots_of world.now) sandbox) }
     ensures done { OnTrue result (data_region_at (slots_of world.now) sandbox
@@ -244,7 +256,8 @@ fn tell_data(world: &World<Pages>, sandbox: u32, region: &mut SfiRunRegion) -> b
     true
 }
 
-/// Writes where the data of a sandbox lie, if there is one.
+/// Writes where the data of a sandbox lie to `region`. `false`, and nothing is written, if there is
+/// no world or no such sandbox.
 #[unsafe(no_mangle)]
 pub extern "C" fn sfi_run_data(
     alloc: Global,

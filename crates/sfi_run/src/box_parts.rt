@@ -1,4 +1,4 @@
-//! A box as its pointer.
+//! A box as its pointer: what the structs that C holds (`held_world.rt` and others) keep of one.
 ghost use Rattle.std.specs.Prelude.{◌≡◌};
 ghost use Rattle.std.specs.Box.Ownership.{box_owns};
 
@@ -17,7 +17,7 @@ impl<T, A: Allocator> Model for BoxParts<T, A> {
 }
 
 impl<T, A: Allocator> BoxParts<T, A> {
-    /// Takes a box apart.
+    /// Takes a box apart. Nothing is freed: `into_box` has to put it together again.
     pub(crate) fn from_box(b: Box<T, A>) -> BoxParts<T, A>
     where
         T: Drop,
@@ -27,7 +27,7 @@ impl<T, A: Allocator> BoxParts<T, A> {
         BoxParts { ptr, alloc }
     }
 
-    /// Puts the box together again.
+    /// Puts the box together again, which frees its memory when it is dropped.
     pub(crate) fn into_box(self) -> Box<T, A>
         ensures { result.value ≡ self.value }
     {

@@ -14,7 +14,8 @@ use rv_mem::Pages;
 use sfi_host::World;
 use std::alloc::Global;
 
-/// Calls a sandbox back, and writes the pc and the registers of its call.
+/// Calls a sandbox back at `pc`, and writes to `kept` the pc and the registers of the call at which
+/// it waited; `false`, and nothing changed or is written, where `World::call_back` refuses.
 fn call_sandbox_back(
     world: &mut World<Pages>,
     sandbox: u32,
@@ -41,9 +42,11 @@ fn call_sandbox_back(
     true
 }
 
-/// Calls back a sandbox that waits at a call: it is ready then at a bundle or word of its code,
-/// with these in a0 to a7, and with its other registers but x1 as they were. Writes to `kept` the
-/// pc and the registers of the call that waits.
+/// Calls back a sandbox that waits at a call: it is ready then at `pc`, where a bundle or word of
+/// its code begins, with the arguments in a0 to a7, and with its other registers but x1 as they
+/// were. Writes to `kept` the pc and the registers of the call that waits, for
+/// `sfi_run_set_registers` afterwards. `false`, and nothing changed or is written, if there is no
+/// world, or `World::call_back` refuses.
 #[unsafe(no_mangle)]
 pub extern "C" fn sfi_run_call_back(
     alloc: Global,

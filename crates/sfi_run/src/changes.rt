@@ -13,12 +13,13 @@ use sfi_host::{AddError, Module, RemoveError, World};
 use std::alloc::Global;
 
 // The numbers by which C knows that there is no world, or no module. Those of the errors below are
-// others.
+// others. All are those of `enum sfi_run_change` in include/sfi_run.h and of specs/Held, and 0 is
+// none.
 const NO_WORLD: u32 = 1;
 
 const NO_MODULE: u32 = 2;
 
-/// The number by which C knows the error.
+/// The number of `enum sfi_run_change` by which C knows the error.
 fn number_of_add(error: AddError) -> u32
     ensures { result ≡ add_number error }
 {
@@ -29,7 +30,7 @@ fn number_of_add(error: AddError) -> u32
     }
 }
 
-/// The number by which C knows the error.
+/// The number of `enum sfi_run_change` by which C knows the error.
 fn number_of_remove(error: RemoveError) -> u32
     ensures { result ≡ remove_number error }
 {
@@ -39,7 +40,8 @@ fn number_of_remove(error: RemoveError) -> u32
     }
 }
 
-/// The status of an add, which writes the number of the first sandbox that was added.
+/// What `sfi_run_add` returns: 0, and then the number of the first sandbox that was added is written
+/// to `first`; or the error's number, and nothing is written.
 fn status_of_add(added: Result<u32, AddError>, first: &mut u32) -> u32
     ensures meets { (result ≡ add_number AddError.Meets) ↔ (added ≡ Err AddError.Meets) }
     ensures full { (result ≡ add_number AddError.Full) ↔ (added ≡ Err AddError.Full) }
@@ -58,7 +60,7 @@ fn status_of_add(added: Result<u32, AddError>, first: &mut u32) -> u32
     }
 }
 
-/// The status of a remove.
+/// What `sfi_run_remove` returns: 0, or the error's number.
 fn status_of_remove(removed: Result<(), RemoveError>) -> u32
     ensures missing { (result ≡ remove_number RemoveError.Missing)
         ↔ (removed ≡ Err RemoveError.Missing) }
@@ -73,7 +75,7 @@ fn status_of_remove(removed: Result<(), RemoveError>) -> u32
     }
 }
 
-/// Adds the sandboxes of a module, and says the number of the first.
+/// Adds the sandboxes of a module to the world. The answer is the number of the first.
 fn add_module(alloc: Global, world: &mut World<Pages>, from: &Module) -> Result<u32, AddError>
     ensures meets { (result ≡ Err AddError.Meets) ↔ MeetsSome world.old from.now }
     ensures full { (result ≡ Err AddError.Full)
@@ -86,7 +88,7 @@ fn add_module(alloc: Global, world: &mut World<Pages>, from: &Module) -> Result<
     world.add(alloc, from, Pages::new(alloc))
 }
 
-/// Removes a sandbox.
+/// Removes a sandbox from the world. On an error the world is what it was.
 fn remove_sandbox(alloc: Global, world: &mut World<Pages>, sandbox: u32) -> Result<(), RemoveError>
     ensures missing { (result ≡ Err RemoveError.Missing)
         ↔ (slice_get (slots_of world.old) sandbox ≡ None) }
@@ -98,8 +100,9 @@ fn remove_sandbox(alloc: Global, world: &mut World<Pages>, sandbox: u32) -> Resu
 }
 
 /// Adds the sandboxes of a module to a world, each as at its start, after those that are there, and
-/// writes the number of the first to `first`. The world's bytes are copied first: if memory runs
-/// out there, the world stays as it was.
+/// writes the number of the first to `first`. The world's bytes are copied first: if memory runs out
+/// there, the world stays as it was. Returns 0, or another number of `enum sfi_run_change`, and then
+/// nothing changed.
 #[unsafe(no_mangle)]
 pub extern "C" fn sfi_run_add(
     alloc: Global,
@@ -148,7 +151,8 @@ pub extern "C" fn sfi_run_add(
 
 /// Removes a sandbox from a world, whatever it did. Each one of a higher number has a number less
 /// by one then. What is left of the world's bytes is copied first: if memory runs out there, the
-/// world stays as it was.
+/// world stays as it was. Returns 0, or another number of `enum sfi_run_change`, and then nothing
+/// changed.
 #[unsafe(no_mangle)]
 pub extern "C" fn sfi_run_remove(alloc: Global, world: &mut SfiRunWorld, sandbox: u32) -> u32
     // When each status comes.

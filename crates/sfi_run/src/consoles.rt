@@ -25,7 +25,7 @@ pub struct SfiRunConsole {
 }
 
 impl SfiRunConsole {
-    /// Takes the console out, if there is one.
+    /// Takes the console out, for a call or to free it; `None` if there is none.
     pub(crate) fn take(&mut self, alloc: Global) -> Option<Box<Console>>
         ensures taken { option_map (λ b. b.value) result ≡ self.old.inner.console }
         ensures none { self.new.inner.console ≡ None }
@@ -42,7 +42,7 @@ impl SfiRunConsole {
         }
     }
 
-    /// Puts a console in, where there is none: one that was there would be left behind.
+    /// Puts a console in, where there is none: one that was there would never be freed.
     pub(crate) fn put(&mut self, console: Box<Console>)
         requires { self.old.inner.console ≡ None }
         ensures { self.new.inner.console ≡ Some console.value }
@@ -86,7 +86,8 @@ pub extern "C" fn sfi_run_console_new(
     true
 }
 
-/// A turn of a sandbox, each call of which the console answers.
+/// A turn of a sandbox, for at most `steps` steps, each call of which the console answers. `false` if
+/// there was no memory for what a put appends, which ended the turn at that call.
 fn turn(world: &mut World<Pages>, console: &mut Console, sandbox: u32, steps: u32) -> bool
     ensures served { OnTrue result
         (HasServed world.old world.new console.old console.new sandbox steps) }
@@ -165,7 +166,8 @@ pub extern "C" fn sfi_run_console_written(
     written
 }
 
-/// Fills `room` with what a sandbox has written, from a place on.
+/// Fills all of `room` with what a sandbox has written, from byte `from` of it on; `false`, and
+/// nothing is written, where there is no such sandbox, or it has written less.
 fn read_output(console: &Console, sandbox: u32, from: usize, room: &mut [u8]) -> bool
     ensures there { (bytes : List ℕ) → output_of console.now sandbox ≡ Some bytes
         → (IsTrue result ↔ (from + length room.old ≤ length bytes)) }
@@ -184,8 +186,9 @@ fn read_output(console: &Console, sandbox: u32, from: usize, room: &mut [u8]) ->
     true
 }
 
-/// Fills `room` with what a sandbox has written to the console, from a place on: all of it, or
-/// nothing where there is no such sandbox, or it has written less.
+/// Fills all of `room` with what a sandbox has written to the console, from byte `from` of it on.
+/// `false`, and nothing is written, if there is no console or no such sandbox, or it has written
+/// less.
 #[unsafe(no_mangle)]
 pub extern "C" fn sfi_run_console_read(
     alloc: Global,

@@ -8,8 +8,8 @@ use sfi_host::Console;
 use std::alloc::Global;
 use std::marker::Model;
 
-/// A console behind a pointer, or none. C sees an address of which it reads nothing. One that is
-/// dropped leaves its console behind. It may go from one thread to another.
+/// A console behind a pointer, or none: the pointer to its box, which C keeps and doesn't follow. To
+/// drop it frees nothing; `into_box` gives the box back. It may go from one thread to another.
 #[repr(C)]
 #[derive(Drop)]
 pub struct HeldConsole {
@@ -26,7 +26,7 @@ impl Model for HeldConsole {
 unsafe impl Send for HeldConsole {}
 
 impl HeldConsole {
-    /// No console.
+    /// No console: a null pointer, as where C begins with zeros.
     pub(crate) fn none(alloc: Global) -> HeldConsole
         ensures { result.console ≡ None }
     {
@@ -36,7 +36,7 @@ impl HeldConsole {
         }
     }
 
-    /// Holds the console of these parts.
+    /// Holds the console whose box was taken apart into these parts.
     fn from_parts(parts: BoxParts<Console, Global>) -> HeldConsole
         ensures { result.console ≡ Some parts.value }
     {
@@ -47,7 +47,7 @@ impl HeldConsole {
         }
     }
 
-    /// Takes out the parts of the console.
+    /// The parts of the console's box. There has to be one.
     fn into_parts(self) -> BoxParts<Console, Global>
         requires { (c : ConsoleState) × (self.console ≡ Some c) }
         ensures { Some result.value ≡ self.console }

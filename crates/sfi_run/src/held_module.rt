@@ -8,8 +8,8 @@ use sfi_host::Module;
 use std::alloc::Global;
 use std::marker::Model;
 
-/// A module behind a pointer, or none. C sees an address of which it reads nothing. One that is
-/// dropped leaves its module behind. It may go from one thread to another.
+/// A module behind a pointer, or none: the pointer to its box, which C keeps and doesn't follow. To
+/// drop it frees nothing; `into_box` gives the box back. It may go from one thread to another.
 #[repr(C)]
 #[derive(Drop)]
 pub struct HeldModule {
@@ -27,7 +27,7 @@ impl Model for HeldModule {
 unsafe impl Send for HeldModule {}
 
 impl HeldModule {
-    /// No module.
+    /// No module: a null pointer, as where C begins with zeros.
     pub(crate) fn none(alloc: Global) -> HeldModule
         ensures { result.parts ≡ None }
     {
@@ -37,7 +37,7 @@ impl HeldModule {
         }
     }
 
-    /// The module of these parts.
+    /// Holds the module whose box was taken apart into these parts.
     fn from_parts(parts: BoxParts<Module, Global>) -> HeldModule
         ensures { result.parts ≡ Some parts.value }
     {
@@ -48,7 +48,7 @@ impl HeldModule {
         }
     }
 
-    /// The parts of the module in it.
+    /// The parts of the module's box. There has to be one.
     fn into_parts(self) -> BoxParts<Module, Global>
         requires { (ps : List Part) × (self.parts ≡ Some ps) }
         ensures { Some result.value ≡ self.parts }

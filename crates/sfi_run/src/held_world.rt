@@ -9,8 +9,8 @@ use sfi_host::World;
 use std::alloc::Global;
 use std::marker::Model;
 
-/// A world behind a pointer, or none. C sees an address of which it reads nothing. One that is
-/// dropped leaves its world behind. It may go from one thread to another.
+/// A world behind a pointer, or none: the pointer to its box, which C keeps and doesn't follow. To
+/// drop it frees nothing; `into_box` gives the box back. It may go from one thread to another.
 #[repr(C)]
 #[derive(Drop)]
 pub struct HeldWorld {
@@ -28,7 +28,7 @@ impl Model for HeldWorld {
 unsafe impl Send for HeldWorld {}
 
 impl HeldWorld {
-    /// No world.
+    /// No world: a null pointer, as where C begins with zeros.
     pub(crate) fn none(alloc: Global) -> HeldWorld
         ensures { result.world ≡ None }
     {
@@ -38,7 +38,7 @@ impl HeldWorld {
         }
     }
 
-    /// The world of these parts.
+    /// Holds the world whose box was taken apart into these parts.
     fn from_parts(parts: BoxParts<World<Pages>, Global>) -> HeldWorld
         ensures { result.world ≡ Some parts.value }
     {
@@ -49,7 +49,7 @@ impl HeldWorld {
         }
     }
 
-    /// The parts of the world in it.
+    /// The parts of the world's box. There has to be one.
     fn into_parts(self) -> BoxParts<World<Pages>, Global>
         requires { (w : Sandboxes) × (self.world ≡ Some w) }
         ensures { Some result.value ≡ self.world }

@@ -22,7 +22,7 @@ pub struct SfiRunWorld {
 }
 
 impl SfiRunWorld {
-    /// Takes the world out, if there is one.
+    /// Takes the world out, for a call or to free it; `None` if there is none.
     pub(crate) fn take(&mut self, alloc: Global) -> Option<Box<World<Pages>>>
         ensures taken { option_map (λ b. b.value) result ≡ self.old.inner.world }
         ensures none { self.new.inner.world ≡ None }
@@ -39,7 +39,7 @@ impl SfiRunWorld {
         }
     }
 
-    /// Puts a world in, where there is none: one that was there would be left behind.
+    /// Puts a world in, where there is none: one that was there would never be freed.
     pub(crate) fn put(&mut self, world: Box<World<Pages>>)
         requires { self.old.inner.world ≡ None }
         ensures { self.new.inner.world ≡ Some world.value }

@@ -33,7 +33,7 @@ pub struct SfiRunModule {
 }
 
 impl SfiRunModule {
-    /// Takes the module out, if there is one.
+    /// Takes the module out, for a call or to free it; `None` if there is none.
     pub(crate) fn take(&mut self, alloc: Global) -> Option<Box<Module>>
         ensures taken { option_map (λ b. b.value) result ≡ self.old.inner.parts }
         ensures none { self.new.inner.parts ≡ None }
@@ -50,7 +50,7 @@ impl SfiRunModule {
         }
     }
 
-    /// Puts a module in, where there is none: one that was there would be left behind.
+    /// Puts a module in, where there is none: one that was there would never be freed.
     pub(crate) fn put(&mut self, boxed: Box<Module>)
         requires { self.old.inner.parts ≡ None }
         ensures { self.new.inner.parts ≡ Some boxed.value }
@@ -71,7 +71,8 @@ pub extern "C" fn sfi_run_module_free(alloc: Global, from: &mut SfiRunModule)
 }
 
 /// Frees the module that was there, writes the verdict on the image to `verdict`, as `sfi_run_load`
-/// does, and makes the image's module, if it is accepted. Only that takes memory.
+/// does, and makes the image's module, if it is accepted. Only that takes memory. Returns 0, or the
+/// number of a [`LoadFault`], and then there is no module.
 #[unsafe(no_mangle)]
 pub extern "C" fn sfi_run_module_new(
     alloc: Global,

@@ -1,4 +1,5 @@
-//! The calls by which C reads the table of names of an image.
+//! The calls by which C reads the table of names of an image. They return a number of `sfi_run_names`
+//! in include/sfi_run.h: 0, or that of a `Missing` of `sfi_names`.
 ghost use Rattle.std.specs.Prelude.{◌≡◌, ◌≢◌, ℕ, ◌≤◌, Ok, Err};
 ghost use Rattle.sfi_names.specs.declared.image.Missing.{Missing};
 ghost use Rattle.sfi_names.specs.Tables.{Named, Table};
@@ -7,7 +8,8 @@ ghost use Rattle.sfi_run.specs.Names.{IsToldEntry};
 
 use sfi_names::{Kind, address_in, entry_in, names_in};
 
-/// Writes to `address` what a name of that kind stands for.
+/// Writes to `address` what `name` stands for among the exports or the imports, as `kind` says, of
+/// the image's sandbox `sandbox`. Returns 0, or the number of a [`Missing`], and nothing is written.
 fn tell_address(image: &[u8], sandbox: u32, kind: Kind, name: &[u8], address: &mut u32) -> u32
     ensures known { result ≤ 5 }
 
@@ -74,10 +76,11 @@ pub extern "C" fn sfi_run_import(image: &[u8], sandbox: u32, name: &[u8], addres
     tell_address(image, sandbox, Kind::Imports, name, address)
 }
 
-/// How many bytes a name has at most.
+/// How many bytes a name has at most: `SFI_RUN_NAME_MOST` of the header.
 const NAME_MOST: usize = 255;
 
-/// Writes the entry at an index among those of that kind.
+/// Writes the entry at `index` among the exports or the imports, as `kind` says: its name to the
+/// first bytes of `name`, how many these are, and its address. Returns as `tell_address` does.
 fn tell_entry(
     image: &[u8],
     sandbox: u32,
@@ -193,8 +196,8 @@ pub extern "C" fn sfi_run_import_at(
     )
 }
 
-/// Writes the version of the host's interface that the table has. Returns as [`sfi_run_export`]
-/// does, and never `NoName`.
+/// Writes to `version` the version of the host's interface that the table of the image's sandbox
+/// `sandbox` states. Returns as [`sfi_run_export`] does, and never `NoName`.
 #[unsafe(no_mangle)]
 pub extern "C" fn sfi_run_api(image: &[u8], sandbox: u32, version: &mut u32) -> u32
     ensures known { result ≤ 4 }

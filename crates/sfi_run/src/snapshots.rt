@@ -12,8 +12,9 @@ use sfi_host::{Region, Request, Status, World, registers_of};
 #[repr(C)]
 #[derive(Clone, Copy, PartialEq, Eq, Debug)]
 pub struct SfiRunEvent {
-    /// 0: there is no such sandbox; 1: it is ready; 2: it waits at a call; 3: it has exited; 4: it
-    /// has trapped; 5: its host stopped it.
+    /// 0: there is no such sandbox, or no world; 1: it is ready; 2: it waits at a call; 3: it has
+    /// exited; 4: it has trapped; 5: its host stopped it. `enum sfi_run_kind` of include/sfi_run.h
+    /// and specs/Snapshots have the same numbers.
     pub kind: u32,
     /// The gate's service, the number with which it exited, or that of the trap's cause.
     pub number: u32,
@@ -36,7 +37,8 @@ pub struct SfiRunEvent {
 impl SfiRunEvent {
     ghost use Rattle.sfi_run.specs.Snapshots.{cause_number, plain_event, call_event, status_event, none_event, IsEventOf};
 
-    /// An event that is no call: its gate and a1 to a7 are 0.
+    /// An event that is no call: its gate and a1 to a7 are 0. `kind` and `number` are those of the
+    /// fields; `a0` is the address of a trap, and else 0.
     fn plain(kind: u32, number: u32, pc: u32, a0: u32) -> SfiRunEvent
         ensures { result ≡ plain_event kind number pc a0 }
     {
@@ -76,7 +78,7 @@ impl SfiRunEvent {
         }
     }
 
-    /// The number by which C knows the cause of a trap, 1 to 5.
+    /// The number by which C knows the cause of a trap, 1 to 5: that of `enum sfi_run_cause`.
     fn cause_number(cause: Cause) -> u32
         ensures { result ≡ cause_number cause }
     {
@@ -89,7 +91,7 @@ impl SfiRunEvent {
         }
     }
 
-    /// The event of a sandbox that waits at no call.
+    /// The event of a sandbox of this status and pc that waits at no call.
     fn of_status(status: Status, pc: u32) -> SfiRunEvent
         ensures { result ≡ status_event status pc }
     {
@@ -103,7 +105,7 @@ impl SfiRunEvent {
         }
     }
 
-    /// The event where there is no such sandbox.
+    /// The event where there is no such sandbox, or no world: all fields are 0.
     pub(crate) fn none() -> SfiRunEvent
         ensures { result ≡ none_event }
     {

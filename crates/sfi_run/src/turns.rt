@@ -13,7 +13,7 @@ use rv_mem::Pages;
 use sfi_host::{Later, Turn, World};
 use std::alloc::Global;
 
-/// Runs a sandbox up to its next call.
+/// Runs a sandbox up to its next call, for at most `steps` steps. The answer is how it stands then.
 fn event_after_run(world: &mut World<Pages>, sandbox: u32, steps: u32) -> SfiRunEvent
     ensures ran { HasRunToCall world.old world.new sandbox steps }
     ensures event { IsEventOf (slots_of world.new) sandbox result }
@@ -22,7 +22,8 @@ fn event_after_run(world: &mut World<Pages>, sandbox: u32, steps: u32) -> SfiRun
     SfiRunEvent::from_world(world, sandbox, waiting)
 }
 
-/// Runs a sandbox up to its next call or stop.
+/// Runs a sandbox up to its next call or one of the addresses `stops`, for at most `steps` steps, as
+/// `sfi_run_until` says. The answer is how it stands then.
 fn event_after_run_to_stop(
     world: &mut World<Pages>,
     sandbox: u32,
@@ -44,7 +45,8 @@ fn event_of(world: &World<Pages>, sandbox: u32) -> SfiRunEvent
     SfiRunEvent::from_world(world, sandbox, waiting)
 }
 
-/// Gives a sandbox that waits its reply.
+/// Gives a sandbox that waits at a call this reply; `false`, and nothing changed, if it waits at
+/// none.
 fn reply_to_call(world: &mut World<Pages>, sandbox: u32, later: Later) -> bool
     ensures call { IsCall result world.old world.new sandbox (GiveReply later)
         (HasReplied world.old world.new sandbox later) }
@@ -52,7 +54,8 @@ fn reply_to_call(world: &mut World<Pages>, sandbox: u32, later: Later) -> bool
     world.reply(sandbox, later)
 }
 
-/// Enters a sandbox and runs it up to its next call. Tells how it stands then.
+/// Enters a sandbox and runs it up to its next call, for at most `steps` steps. `false` where it may
+/// not be entered, and then it is as before. In both cases writes to `event` how it stands then.
 fn call_sandbox(
     world: &mut World<Pages>,
     sandbox: u32,
@@ -77,7 +80,8 @@ fn call_sandbox(
     true
 }
 
-/// Runs a sandbox up to its next call, for at most `steps` steps, and writes how it stands then.
+/// Runs a sandbox up to its next call, for at most `steps` steps. Writes to `event` how it stands
+/// then, and returns the event's kind. One that waits at a call or has stopped does no step.
 #[unsafe(no_mangle)]
 pub extern "C" fn sfi_run_turn(
     alloc: Global,
@@ -103,8 +107,10 @@ pub extern "C" fn sfi_run_turn(
     event.kind
 }
 
-/// Runs a sandbox up to its next call, for at most `steps` steps, and no further than to one of the
-/// addresses `stops`, to which at least one step leads. Tells how it stands then.
+/// Runs a sandbox as `sfi_run_turn` does, but no further than to one of the addresses `stops`: the
+/// turn ends before the instruction there. The first step is done also where it stands at a stop
+/// already, so that a debugger goes on from one. Writes to `event` how it stands then, and returns
+/// the event's kind.
 #[unsafe(no_mangle)]
 pub extern "C" fn sfi_run_until(
     alloc: Global,
@@ -131,9 +137,10 @@ pub extern "C" fn sfi_run_until(
     event.kind
 }
 
-/// Calls a function of a sandbox that has stopped: enters it at a bundle or word of its code, with
-/// these in a0 to a7, and runs it up to its next call, for at most `steps` steps. Tells how it
-/// stands then.
+/// Calls a function of a sandbox that has stopped: enters it as `sfi_run_enter` does at `pc`, with
+/// the arguments in a0 to a7, and runs it up to its next call, for at most `steps` steps. `false`
+/// where it isn't entered, and then nothing changed. In both cases writes to `event` how it stands
+/// then.
 #[unsafe(no_mangle)]
 pub extern "C" fn sfi_run_call(
     alloc: Global,
@@ -165,7 +172,7 @@ pub extern "C" fn sfi_run_call(
     done
 }
 
-/// Tells how a sandbox stands.
+/// Writes to `event` how a sandbox stands, and returns the event's kind. Nothing runs.
 #[unsafe(no_mangle)]
 pub extern "C" fn sfi_run_event(
     alloc: Global,
@@ -189,7 +196,7 @@ pub extern "C" fn sfi_run_event(
 }
 
 /// Gives a sandbox that waits at a call its reply: a0 and a1. It goes on after the call, in its
-/// next turn.
+/// next turn. `false`, and nothing changed, if there is no world, or it waits at no call.
 #[unsafe(no_mangle)]
 pub extern "C" fn sfi_run_reply(
     alloc: Global,
@@ -210,7 +217,7 @@ pub extern "C" fn sfi_run_reply(
 }
 
 /// The other reply: stops a sandbox that waits at a call, with a number. Its a0 becomes the number,
-/// a1 becomes 0, and pc stays at the call.
+/// a1 becomes 0, and pc stays at the call. `false` as of `sfi_run_reply`.
 #[unsafe(no_mangle)]
 pub extern "C" fn sfi_run_exit(
     alloc: Global,

@@ -5,6 +5,7 @@ ghost use Rattle.std.specs.Prelude.{◌≡◌};
 const VERSION_NUMBER: u32 = 0x000100;
 
 /// The version of this library, as a number: `SFI_RUN_VERSION_NUMBER` of the header that it came with.
+/// tools/version.py has the list of all places of the version.
 #[unsafe(no_mangle)]
 pub extern "C" fn sfi_run_version() -> u32
     ensures { result ≡ VERSION_NUMBER }

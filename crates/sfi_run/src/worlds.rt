@@ -29,7 +29,8 @@ pub enum LoadFault {
 }
 
 impl LoadFault {
-    /// The number by which C knows it.
+    /// The number by which C knows it: that of `enum sfi_run_status` in include/sfi_run.h and of
+    /// `fault_number` in specs/Held. 0 means there is no fault.
     pub(crate) fn number(self) -> u32
         ensures { result ≡ fault_number self }
     {
@@ -54,7 +55,8 @@ fn boxed(alloc: Global, image: &[u8]) -> Result<Box<Module>, AllocError>
     Ok(boxed)
 }
 
-/// The module of the image, if that is its verdict.
+/// The module of the image, whose verdict is `answer`, if that accepts it; else why there is none.
+/// The answer `ReadFault` never comes: the image is in memory.
 pub(crate) fn module_of(
     alloc: Global,
     image: &[u8],
@@ -90,7 +92,8 @@ pub(crate) fn new_instance(alloc: Global, from: &Module) -> Result<Box<World<Pag
     Ok(boxed)
 }
 
-/// The world of the image, if that is its verdict.
+/// The world of the image, before any turn, if its verdict `answer` accepts it; else why there is
+/// none. It can't be `ReadFault`, as of `module_of`.
 pub(crate) fn load_world(
     alloc: Global,
     image: &[u8],
@@ -113,7 +116,8 @@ pub(crate) fn load_world(
 }
 
 /// Frees the world that was there, writes the verdict on the image to `verdict`, as `sfi_c_check` of
-/// `sfi_c` does, and loads the image's world, if it is accepted. Only that takes memory.
+/// `sfi_c` does, and loads the image's world, if it is accepted. Only that takes memory. Returns 0,
+/// or the number of a [`LoadFault`], and then there is no world.
 #[unsafe(no_mangle)]
 pub extern "C" fn sfi_run_load(
     alloc: Global,
@@ -153,7 +157,7 @@ pub extern "C" fn sfi_run_load(
     }
 }
 
-/// Frees the world.
+/// Frees the world; where there is none, nothing happens.
 #[unsafe(no_mangle)]
 pub extern "C" fn sfi_run_free(alloc: Global, world: &mut SfiRunWorld)
     ensures { world.new.inner.world ≡ None }
@@ -161,7 +165,7 @@ pub extern "C" fn sfi_run_free(alloc: Global, world: &mut SfiRunWorld)
     drop(world.take(alloc));
 }
 
-/// How many sandboxes there are.
+/// How many sandboxes there are; 0 where there is no world.
 #[unsafe(no_mangle)]
 pub extern "C" fn sfi_run_count(alloc: Global, world: &mut SfiRunWorld) -> usize
     ensures same { world.new.inner.world ≡ world.old.inner.world }
