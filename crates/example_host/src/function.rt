@@ -98,7 +98,8 @@ impl Function {
         }
     }
 
-    /// Writes the text into its place, and enters the sandbox at the function.
+    /// Writes the text into its place, and enters the sandbox at the function, with the text's
+    /// address and length as arguments. Nothing runs yet. The errors are `NoRoom` and `NotEntered`.
     fn enter<M: Memory>(self, world: &mut World<M>, text: &[u8]) -> Result<(), CallError>
         ensures no_room { IsErrOf result CallError.NoRoom
             ↔ IsNone (text_in self (length text.now) world.old) }
@@ -126,7 +127,7 @@ impl Function {
         Ok(())
     }
 
-    /// Lets the sandbox run for one turn.
+    /// Lets the sandbox run for one turn, in which the host `gates` answers its calls.
     fn run<M: Memory, G: Gates>(self, world: &mut World<M>, gates: &mut G) -> RunAnswer
         ensures done { result ≡ RunAnswer.Done → (machine : Machine) → IsMachine machine
             → IsJoint machine G.answer (plan_of self)

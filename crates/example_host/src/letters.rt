@@ -31,7 +31,7 @@ const FAILED: u32 = u32::MAX;
 pub struct Letters;
 
 impl Letters {
-    /// The caller's text gets upper case.
+    /// The service upper, as the table of [`Letters`] says. The caller goes on each time.
     fn serve_upper<M: Memory>(&mut self, guest: &mut Guest<'_, M>) -> GateAnswer
         requires has_data { HasData M.bytes guest.old }
         ensures same_reference { SameMemory guest.old guest.new }

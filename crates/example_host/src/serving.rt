@@ -30,7 +30,8 @@ const FULL: u32 = 1;
 const FAILED: u32 = u32::MAX;
 
 impl Store {
-    /// The key a0 gets the value a1.
+    /// The service put: the key in a0 gets the value in a1, and a0 becomes `DONE` or `FULL`. `Memory`
+    /// where memory ran out, and then nothing changed.
     fn serve_put<M: Memory>(&mut self, guest: &mut Guest<'_, M>) -> GateAnswer
         requires has_data { HasData M.bytes guest.old }
         ensures same_reference { SameMemory guest.old guest.new }
@@ -47,7 +48,8 @@ impl Store {
         GateAnswer::Replied
     }
 
-    /// The caller gets the value of the key a0.
+    /// The service get: a0 becomes the value of the key in a0, and a1 becomes 1; or both become 0
+    /// where the key has no value.
     fn serve_get<M: Memory>(&mut self, guest: &mut Guest<'_, M>) -> GateAnswer
         requires has_data { HasData M.bytes guest.old }
         ensures same_reference { SameMemory guest.old guest.new }

@@ -33,7 +33,7 @@ impl Store {
         }
     }
 
-    /// The value of a key, if it has one.
+    /// The value of a key; `None` where it has none.
     pub fn value(&self, key: u32) -> Option<u32>
         ensures { result ≡ value_at self.now key }
     {
@@ -41,7 +41,7 @@ impl Store {
     }
 
     /// Gives a key a value; `false` where the key is new and the store is full,
-    /// and then nothing changed.
+    /// and then nothing changed. An error means that memory ran out: nothing changed then, either.
     pub fn put(&mut self, key: u32, value: u32) -> Result<bool, AllocError>
         ensures done { result ≡ Ok true → self.new ≡ with_value self.old key value }
         ensures full { result ≡ Ok false → self.new ≡ self.old }

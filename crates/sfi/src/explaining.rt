@@ -1,4 +1,5 @@
 //! Says on standard error what a fault is, and where: the line on standard output names it.
+//! page/faults.js finds the same words for the page, so a change here has to be made there, too.
 
 use crate::sentences::sentence_of;
 use std::alloc::{AllocError, Global};
@@ -10,7 +11,7 @@ struct Part<'a> {
     text: &'a str,
 }
 
-/// The line's statement, behind its labels.
+/// The line's statement, behind its labels, from its first character to the line's end.
 fn statement(line: &str) -> Part<'_> {
     let text = match line.rsplit_once(':') {
         Some((_, behind)) => behind.trim_start(),
@@ -20,7 +21,7 @@ fn statement(line: &str) -> Part<'_> {
     Part { from, text }
 }
 
-/// The name at the line's end.
+/// The name at the line's end: what follows the last blank, and in that the last comma.
 fn last_name(line: &str) -> Part<'_> {
     let word = line.split_whitespace().last().unwrap_or("");
     let text = match word.rsplit_once(',') {
@@ -31,7 +32,7 @@ fn last_name(line: &str) -> Part<'_> {
     Part { from, text }
 }
 
-/// The first word of what is left of the line.
+/// The first word of `left`, which is the end of `line` and begins with that word.
 fn first_word<'a>(line: &'a str, left: &'a str) -> Part<'a> {
     let text = left.split_whitespace().next().unwrap_or("");
     let from = line.len().saturating_sub(left.len());
@@ -51,7 +52,7 @@ fn stated_name(line: &str) -> Part<'_> {
     first_word(line, behind.trim_start())
 }
 
-/// The line of that number, counted from 1, without a comment.
+/// The line of that number, counted from 1, without a comment; empty where the text has no such line.
 fn line_of(text: &str, number: usize) -> &str {
     let line = text.lines().nth(number.saturating_sub(1)).unwrap_or("");
     let code = match line.split_once('#') {
@@ -66,7 +67,9 @@ fn is_c(text: &str) -> bool {
     text.contains("#include") || text.contains("int main(")
 }
 
-/// The place in the text of the fault that a line names, and what it is about there.
+/// The line `<stdin>:LINE:COLUMN: SENTENCE 'WORD'` for a fault in line `number`, counted from 1, of
+/// the source `text`. `fault` is the line on standard output, and `says` the sentence on it. The
+/// fault's name decides which word of the line it is about; columns are counted from 1, in bytes.
 fn at_line(
     alloc: Global,
     says: &str,
@@ -90,7 +93,9 @@ fn at_line(
     format!(in alloc; "<stdin>:{number}:{column}: {says}{mark} '{word}'")
 }
 
-/// What a fault is, by the line that names it and the text that has it, as far as it was kept.
+/// The line that says what a fault is. `fault` is the line on standard output that names it, and
+/// `text` the source that has it, as far as it was kept; empty where none was. `None` where the
+/// first line names no fault that is known.
 pub(crate) fn explained(
     alloc: Global,
     fault: &str,

@@ -1,4 +1,5 @@
-//! A reader and a writer that keep the beginning of what goes through them.
+//! A reader and a writer that keep the beginning of what goes through them, from which
+//! `explaining.rt` says what a fault is.
 
 use std::io::{self, Read, Write};
 
@@ -18,7 +19,8 @@ pub(crate) struct KeptOutput<W> {
     pub(crate) bytes: Vec<u8>,
 }
 
-/// Keeps more bytes, as far as there is room. Where memory is refused they are lost.
+/// Appends the front of `more` to `bytes`, which get at most `most` bytes. Where memory is refused
+/// nothing is kept of it, and that is no error.
 fn keep(bytes: &mut Vec<u8>, most: usize, more: &[u8]) {
     let room = most.saturating_sub(bytes.len()).min(more.len());
     let _ = bytes.extend_from_slice(&more[..room]);

@@ -18,9 +18,11 @@ use std::fs::File;
 use std::io::{self, BufWriter, Error, ErrorKind, IsTerminal};
 use std::process::ExitCode;
 
+/// What is written where an argument isn't UTF-8, in the form of the errors about other words.
 const NO_TEXT: &[u8] = b"error: an argument is not UTF-8\n\nFor more information, try '--help'.\n";
 
-/// The status for arguments that can't be had: they aren't UTF-8, or an allocation was refused.
+/// The status for arguments that can't be had: 4 where an allocation was refused; else they aren't
+/// UTF-8, which is written to standard output, and it is 3, or 5 where that can't be written.
 fn without_words(rt: HostRuntime, kind: ErrorKind) -> u8 {
     if kind == ErrorKind::OutOfMemory {
         return 4;
@@ -33,10 +35,11 @@ fn without_words(rt: HostRuntime, kind: ErrorKind) -> u8 {
     }
 }
 
-// The status where `exec` gives none of a sandbox.
+// The status where `exec` gives none of a sandbox. Its help and docs/sfi.1 state it.
 const NOT_RUN: u8 = 125;
 
-/// Says why there is no status of a sandbox. What isn't accepted has its own line.
+/// Says on standard error why there is no status of a sandbox, and gives `NOT_RUN`. Of an image that
+/// isn't accepted nothing is said here: `exec` has written its line.
 fn not_run(rt: &HostRuntime, fault: ExecFault) -> u8 {
     if fault != ExecFault::NotAccepted {
         let _ = eprintln!(rt; "exec fault {} {fault}", fault.number());
@@ -104,8 +107,9 @@ fn exec_file(rt: &HostRuntime, alloc: Global, path: &str, budget: u64) -> u8 {
     }
 }
 
-/// Runs `exec`, if the words name it. What is wrong with them goes to standard error, since standard output
-/// is the sandboxes'. A help text has the usual way.
+/// Runs `exec`, if the words name it, and gives the status. What is wrong with them goes to standard
+/// error, since standard output is the sandboxes'. `None` where they name another command, or ask
+/// for a help text: `run_explained` does that.
 fn run_exec(rt: &HostRuntime, alloc: Global, words: &[String]) -> Option<u8> {
     if words.get(1)?.as_str() != "exec" {
         return None;
@@ -136,7 +140,8 @@ fn reads_source(words: &[String]) -> bool {
     }
 }
 
-/// Says what the fault is that a line names. Nothing is said where memory or standard error is refused.
+/// Says on standard error what the fault is that `line`, of standard output, names; `text` is the
+/// source that was read, or empty. Nothing is said where memory or standard error is refused.
 fn explain(rt: &HostRuntime, alloc: Global, line: &[u8], text: &[u8]) {
     let Ok(fault) = str::from_utf8(line) else {
         return;
@@ -151,7 +156,8 @@ fn explain(rt: &HostRuntime, alloc: Global, line: &[u8], text: &[u8]) {
     }
 }
 
-/// Runs a command but `exec`. Standard error then says what the fault is that standard output names.
+/// Runs a command but `exec`, and gives the status. Standard error then says what the fault is that
+/// standard output names.
 fn run_explained(rt: &HostRuntime, alloc: Global, words: &[String]) -> u8 {
     let mut reader = KeptInput {
         reader: rt.reader(),

@@ -1,4 +1,5 @@
-//! What each fault is, in a sentence. The page has the same.
+//! What each fault is, in a sentence. The page has the same: tools/build_page.py takes them out of
+//! this text, by the fields `kind`, `name` and `says`, in this order and each a plain string.
 
 /// A fault, by the kind and the name that its line has, and what it is.
 #[derive(Drop)]
@@ -206,7 +207,8 @@ const SENTENCES: &[Sentence] = &[
     },
 ];
 
-/// What the fault is that a line names.
+/// What the fault is that a line names: what the first row says whose kind the line begins with and
+/// whose name it contains; `None` where there is no such row. A new fault gets a row.
 pub(crate) fn sentence_of(line: &str) -> Option<&'static str> {
     for it in SENTENCES {
         if line.starts_with(it.kind) && line.contains(it.name) {

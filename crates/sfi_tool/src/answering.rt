@@ -17,7 +17,9 @@ use sfi_command::Job;
 use sfi_io::{INPUT_LIMIT, image_bytes};
 use std::alloc::{AllocError, Global};
 
-/// What the job answers on input that keeps its limit, or why it stops.
+/// What the job answers on `text`, which has at most `INPUT_LIMIT` bytes, or the fault that it has. A
+/// new command gets its line here. `exec` has none of its own: it reads a file, and `exec` of
+/// `execution.rt` runs it.
 fn job_answer(alloc: Global, job: &Job, text: &[u8]) -> Result<Answer, Stop>
     requires reads_text { is_raw job.now ≡ false }
     requires within_limit { length text.now ≤ limit }
@@ -42,11 +44,11 @@ fn job_answer(alloc: Global, job: &Job, text: &[u8]) -> Result<Answer, Stop>
 }
 
 /// What the job answers on what was read: what it was to print, or the line of a fault. A check of
-/// bytes, however they begin, is made as they are read.
+/// raw bytes (`--raw`) isn't asked for here: it is made as they are read (`tool.rt`).
 ///
-/// Input above 134217728 bytes goes first. Of an image's digits an odd number goes next, then the
-/// first byte that is no digit, and then the layout; of a source, that it is no UTF-8, and then its own
-/// faults. The one error is that an allocation was refused.
+/// Of several faults the first of these is told: more than 134217728 bytes; of an image in digits an
+/// odd number of them, then the first byte that is no digit; of an image the layout; of a source
+/// that it is no UTF-8, and then its own faults. The one error is that an allocation was refused.
 #[tactic(auto, using(crate::proofs::Jobs::not_done, crate::proofs::Jobs::not_refused))]
 pub fn answer_job(alloc: Global, job: &Job, text: &[u8]) -> Result<Answer, AllocError>
     requires { is_raw job.now ≡ false }

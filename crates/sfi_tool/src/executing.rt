@@ -1,4 +1,8 @@
-//! Sandboxes that run one after another, each to its end.
+//! Sandboxes that run one after another, each to its end: the inside of the command `exec`.
+//!
+//! `budget` is how many steps each sandbox may do in all. `buffer` has 65536 bytes (`BUFFER`), room
+//! for what one call hands over. `reader` and `writer` are the sandboxes' input and output;
+//! `console` answers all services but put and get.
 
 ghost use Rattle.std.specs.Prelude.{◌≡◌, ◌≢◌, ◌≤◌, ℕ, List, Option, None, IfErr, IfOk, IfSome, length, slice_get};
 ghost use Rattle.sfi_host.specs.Consoles.{ConsoleState};
@@ -10,7 +14,7 @@ use rv_mem::Memory;
 use sfi_host::{Console, Request, Status, Turn, World};
 use std::io::{Read, Write};
 
-/// How many steps a sandbox of that status may still do, which did `steps`.
+/// How many steps a sandbox of that status, which did `steps`, may still do; 0 if it has stopped.
 fn left_by(budget: u64, status: Status, steps: u64) -> u64
     ensures { result ≡ left_by budget status steps }
 {
@@ -20,7 +24,7 @@ fn left_by(budget: u64, status: Status, steps: u64) -> u64
     }
 }
 
-/// How many steps sandbox `sandbox` may still do.
+/// How many steps sandbox `sandbox` may still do; 0 if it has stopped, or there is none.
 fn steps_left<M: Memory>(world: &World<M>, sandbox: u32, budget: u64) -> u64
     ensures { result ≡ left_of budget (slice_get (slots_of world.now) sandbox) }
 {
@@ -44,7 +48,8 @@ fn turn_steps(left: u64) -> u32
     left.min(MOST_STEPS) as u32
 }
 
-/// Runs a sandbox up to its next call, and says what that asks, if there is a step left for it.
+/// Runs a sandbox up to its next call, and says what that asks. `None` where the turn ended in
+/// another way, or no step is left: to answer a call is a step, too.
 fn run_to_request<M: Memory>(world: &mut World<M>, sandbox: u32, budget: u64) -> Option<Request>
     requires { AreWithin budget (slots_of world.old) }
     ensures streamed { (c : ConsoleState) (known told : Option (List ℕ)) → Streamed sandbox
@@ -68,8 +73,9 @@ fn run_to_request<M: Memory>(world: &mut World<M>, sandbox: u32, budget: u64) ->
     Some(request)
 }
 
-/// Runs a sandbox up to its next call, and answers that, if there is a step left for it. Where the turn
-/// ends otherwise, or the call is neither a put nor a get that fails, all that was put is written.
+/// Runs a sandbox up to its next call, and answers that, if there is a step left for it. The writer
+/// is flushed where the turn ends in another way, and before a call is answered, but for a put, or a
+/// get that is refused: a reader of the output then sees all that was put.
 fn run_and_serve_call<M: Memory, R: Read, W: Write>(
     world: &mut World<M>,
     console: &mut Console,
@@ -96,7 +102,8 @@ fn run_and_serve_call<M: Memory, R: Read, W: Write>(
     serve_call(world, request, console, buffer, reader, writer)
 }
 
-/// Runs a sandbox until it has stopped or its steps are used up.
+/// Runs a sandbox until it has stopped or its steps are used up. Each time through the loop at least
+/// one step less is left, so that `budget` times are enough.
 fn execute_sandbox<M: Memory, R: Read, W: Write>(
     world: &mut World<M>,
     console: &mut Console,
@@ -126,7 +133,7 @@ fn execute_sandbox<M: Memory, R: Read, W: Write>(
     Ok(())
 }
 
-/// Runs the sandboxes below `count`, one after another.
+/// Runs the sandboxes of the numbers below `count`, one after another. An error breaks the run off.
 pub(crate) fn execute_sandboxes<M: Memory, R: Read, W: Write>(
     world: &mut World<M>,
     console: &mut Console,

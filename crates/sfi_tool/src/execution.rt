@@ -29,7 +29,8 @@ use std::io::{Read, Write};
 pub struct Ended {
     /// The status to end with.
     pub status: u8,
-    /// Whether all was told that is to be said of the run; else a beginning of it was.
+    /// Whether all that is to be said of the run was written to the writer of errors; if not, a
+    /// beginning of it was.
     pub told: bool,
 }
 
@@ -55,7 +56,8 @@ impl fmt::Display for ExecFault {
 }
 
 impl ExecFault {
-    /// The number by which a fault is known, from 1 to 5.
+    /// The number by which a fault is known, from 1 to 5, as in the line `exec fault 3 Memory`. The
+    /// help of `exec` (`sfi_command` src/commands/exec.rt) and specs/Executing have the same ones.
     pub fn number(self) -> u32
         ensures { result ≡ number_of self }
     {
@@ -87,7 +89,8 @@ impl From<Interruption> for ExecFault {
     }
 }
 
-/// Writes a whole text to where errors are told.
+/// Writes a text, by which an image isn't accepted, to the writer of errors. The result is the fault
+/// to end with: `NotAccepted`, or that the text can't be written.
 fn say<E: Write>(errors: &mut E, text: &[u8]) -> ExecFault
     ensures { Tells ⊥ (λ line. line ≡ text.now) (errors.new ≡ errors.old)
         (E.contents errors.old) (E.contents errors.new) result }
@@ -99,8 +102,8 @@ fn say<E: Write>(errors: &mut E, text: &[u8]) -> ExecFault
     }
 }
 
-/// Runs the sandboxes of an accepted image. What they put before a fault is written, too. How they ended
-/// counts also where it can't be told.
+/// Runs the sandboxes of an accepted image. What they put before a fault is written, too. That what
+/// is said of their end can't be written is no error: `told` is `false` then.
 fn execute_accepted<R: Read, W: Write, E: Write>(
     alloc: Global,
     accepted: &Accepted<'_>,
@@ -137,7 +140,8 @@ fn execute_accepted<R: Read, W: Write, E: Write>(
     Ok(Ended { status, told })
 }
 
-/// Says why there is no run.
+/// Writes the line of the fault for which there is no run, and gives the fault to end with. Where
+/// memory ran out nothing is written.
 fn say_stop<E: Write>(alloc: Global, stop: Stop, errors: &mut E) -> ExecFault
     ensures { Tells ⊥ (λ line. (stop ≢ stops.Memory) × (line ≡ stop_text stop))
         (errors.new ≡ errors.old) (E.contents errors.old) (E.contents errors.new) result }
@@ -148,7 +152,8 @@ fn say_stop<E: Write>(alloc: Global, stop: Stop, errors: &mut E) -> ExecFault
     }
 }
 
-/// Says the verdict on an image that is refused.
+/// Writes the line of the verdict, or of the fault, for which the image with these bytes is refused,
+/// and gives the fault to end with.
 fn say_refusal<E: Write>(alloc: Global, bytes: &[u8], refusal: Refusal, errors: &mut E) -> ExecFault
     requires { Refuses bytes.now refusal }
     ensures { Tells ⊥
@@ -161,7 +166,8 @@ fn say_refusal<E: Write>(alloc: Global, bytes: &[u8], refusal: Refusal, errors: 
     }
 }
 
-/// Says that the text passes the limit.
+/// Writes the line that says that the text is longer than `INPUT_LIMIT` bytes, and gives the fault to
+/// end with.
 fn say_too_large<E: Write>(errors: &mut E) -> ExecFault
     ensures { Tells ⊥ (λ line. line ≡ stop_text (stops.Input TooLarge)) (errors.new ≡ errors.old)
         (E.contents errors.old) (E.contents errors.new) result }
@@ -169,7 +175,7 @@ fn say_too_large<E: Write>(errors: &mut E) -> ExecFault
     say(errors, TOO_LARGE_LINE.as_bytes())
 }
 
-/// Runs the sandboxes of the image with these bytes, if it is accepted.
+/// Runs the sandboxes of the image with these bytes, if it is accepted; else says why not.
 fn execute_image<R: Read, W: Write, E: Write>(
     alloc: Global,
     bytes: &[u8],
@@ -194,7 +200,8 @@ fn execute_image<R: Read, W: Write, E: Write>(
     }
 }
 
-/// Runs the sandboxes of the image that the text is or spells.
+/// Runs the sandboxes of the image that the text is, or spells by hexadecimal digits, if it is
+/// accepted; else says why not.
 fn execute_text<R: Read, W: Write, E: Write>(
     alloc: Global,
     text: &[u8],
@@ -234,7 +241,9 @@ pub fn read_image<I: Read + Drop>(alloc: Global, image: I) -> Result<Input, Exec
     }
 }
 
-/// Runs the sandboxes of the image that was read, one after another. Each clause speaks of the text
+/// Runs the sandboxes of the image that was read, one after another, each for at most `budget`
+/// steps. They get their input from `reader`, and `writer` gets what they put. To `errors` goes what
+/// is said of those that don't exit, or why the image isn't accepted. Each clause speaks of the text
 /// that was read.
 pub fn exec<R: Read, W: Write, E: Write>(
     alloc: Global,

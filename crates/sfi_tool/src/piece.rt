@@ -1,11 +1,12 @@
-//! The host that hands a piece of the input over.
+//! The host that answers a get of `exec`: it hands over a piece of the input, which was read before.
 ghost use Rattle.sfi_host.specs.Hosts.{HasData, SameMemory};
 
 use rv_mem::Memory;
 use sfi_host::{GateAnswer, Gates, Guest};
 
-/// A host that writes these bytes from its caller's a0 on, if they have room in its data, and answers their
-/// number.
+/// A host that writes these bytes from its caller's a0 on, if they have room in its data, and answers
+/// their number in a0, modulo 2^32. `serve_get` has tested the room before, so what `write` says is
+/// dropped.
 #[derive(Clone, Copy)]
 pub struct Piece<'a> {
     pub bytes: &'a [u8],

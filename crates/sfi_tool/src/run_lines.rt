@@ -11,7 +11,8 @@ use sfi_host::{Console, Status, World};
 use sfi_report::push_eight_digits;
 use std::alloc::{AllocError, Global};
 
-/// The word that is printed for the cause of a trap.
+/// The word that is printed for the cause of a trap. `cause_name` of specs/Running has the same
+/// words, and docs/GATES.md explains them.
 fn cause_name(cause: Cause) -> &'static str
     ensures { result.now ≡ cause_name cause }
 {
@@ -24,7 +25,8 @@ fn cause_name(cause: Cause) -> &'static str
     }
 }
 
-/// Writes a sandbox's status, as the line of a run has it.
+/// Appends a sandbox's status, as the line of a run has it: `ready`, `exit=D`, `stopped` or
+/// `trap=Cause at=AAAAAAAA`. An error means here, as below, that memory ran out.
 pub(crate) fn push_status(out: &mut String, status: Status) -> Result<(), AllocError>
     ensures { OnOk result (string_bytes out.new ≡ string_bytes out.old ++ status_text status) }
 {
@@ -40,7 +42,7 @@ pub(crate) fn push_status(out: &mut String, status: Status) -> Result<(), AllocE
     }
 }
 
-/// Writes the line of a sandbox with that output.
+/// Appends the line `sandbox=S STATUS steps=K out=HEX` of a sandbox that has put the bytes `output`.
 fn push_run_line(
     alloc: Global,
     out: &mut String,
@@ -58,7 +60,7 @@ fn push_run_line(
     write!(out, " steps={steps} out={digits}\n")
 }
 
-/// Writes the line of sandbox `sandbox`; none where there is no such sandbox.
+/// Appends the line of sandbox `sandbox`; nothing where there is no such sandbox.
 fn push_line_of<M: Memory>(
     alloc: Global,
     out: &mut String,

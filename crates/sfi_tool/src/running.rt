@@ -28,8 +28,9 @@ fn round_of(alloc: Global, quantum: u32, count: u32) -> Result<Vec<Turn>, AllocE
     Ok(turns)
 }
 
-/// Takes `rounds` rounds of the first `count` sandboxes. Where the console has no memory for a
-/// reply, no further turn is taken.
+/// Takes `rounds` rounds of turns: in each the first `count` sandboxes, in order, have a turn of at
+/// most `quantum` steps. Where the console has no memory for a reply, no further turn is taken, and
+/// this is an error.
 pub(crate) fn take_rounds<M: Memory>(
     alloc: Global,
     rounds: u32,
@@ -51,8 +52,8 @@ pub(crate) fn take_rounds<M: Memory>(
     Ok(())
 }
 
-/// The lines of the sandboxes of an image, and with a report the states of those that have not
-/// exited.
+/// The lines of the sandboxes of an image, `count` of them, and with a report the states (pc and
+/// registers) of those that have not exited.
 fn run_text<M: Memory>(
     alloc: Global,
     accepted: &Accepted<'_>,
@@ -97,8 +98,8 @@ fn run_and_report(
     run_text(alloc, accepted, options.report, count, &world, &console)
 }
 
-/// The verdict on the image with these bytes where it has findings, and else what became of its
-/// sandboxes.
+/// What `run` answers on the image with these bytes: the verdict where it has findings, and else what
+/// became of its sandboxes. It stops at a fault of the layout, or where memory ran out.
 pub(crate) fn run_answer(alloc: Global, options: &RunOptions, bytes: &[u8]) -> Result<Answer, Stop>
     ensures { Answers (run options.now) bytes.now result }
 {

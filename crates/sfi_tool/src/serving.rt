@@ -30,8 +30,9 @@ pub enum Interruption {
     Write,
 }
 
-/// Fills the front of the buffer with the bytes that a call hands over, or would hand over; `false`
-/// where they are too many or not all in the caller's data.
+/// Copies the a1 data bytes of a caller from its a0 on to the front of the buffer: what a put hands
+/// over. `false` where these are more than 65536 or not all in its data, and then the call is to be
+/// refused. A get is tested by it, too, and drops the bytes.
 fn take_handed<M: Memory>(world: &World<M>, request: Request, buffer: &mut [u8]) -> bool
     requires { length buffer.old ≡ 65536 }
     ensures few { OnTrue result (request.a1 ≤ 65536) }
@@ -43,7 +44,8 @@ fn take_handed<M: Memory>(world: &World<M>, request: Request, buffer: &mut [u8])
     count <= BUFFER && world.read(request.sandbox, request.a0, &mut buffer[..count])
 }
 
-/// Has a host answer a call.
+/// Has a host answer the call at which the sandbox of the request waits, by a turn of one step. An
+/// error means that the host had no memory for the reply.
 fn let_host_answer<M: Memory, G: Gates>(
     world: &mut World<M>,
     request: Request,
@@ -63,7 +65,7 @@ fn let_host_answer<M: Memory, G: Gates>(
     }
 }
 
-/// Gives a caller this a0, and lets it go on.
+/// Gives the caller this a0, and has it go on after the call in its next turn; its a1 stays.
 fn reply_with<M: Memory>(
     world: &mut World<M>,
     request: Request,
@@ -81,7 +83,8 @@ fn reply_with<M: Memory>(
     let_host_answer(world, request, &mut later)
 }
 
-/// Writes what a put hands over.
+/// Answers a put: writes what it hands over, of any number of bytes in all, and a0 becomes its a1; or
+/// `FAILED` where it is refused.
 fn serve_put<M: Memory, W: Write>(
     world: &mut World<M>,
     request: Request,
@@ -116,7 +119,9 @@ pub(crate) fn flush_output<W: Write>(writer: &mut W) -> Result<(), Interruption>
     Ok(())
 }
 
-/// Reads once, for a get, after all that was put has been written.
+/// Reads once into `piece`, for a get, after all that was put has been written: who types the input
+/// has seen it then. The answer is how many bytes were read, which is 0 only at the input's end or
+/// where `piece` is empty.
 fn read_piece<R: Read, W: Write>(
     piece: &mut [u8],
     reader: &mut R,
@@ -134,7 +139,8 @@ fn read_piece<R: Read, W: Write>(
     }
 }
 
-/// Gives a get the next piece of the input.
+/// Answers a get: gives it what one read of the input gives, at most a1 bytes, and a0 becomes their
+/// count; or `FAILED` where it is refused.
 fn serve_get<M: Memory, R: Read, W: Write>(
     world: &mut World<M>,
     request: Request,

@@ -1,4 +1,4 @@
-//! The pc and registers of the sandboxes that have not exited.
+//! The states of the sandboxes that have not exited: pc and registers, five lines each.
 
 ghost use Rattle.std.specs.Prelude.{◌<◌, ◌^◌, Some, OnOk, length, slice_get, string_bytes};
 ghost use Rattle.sfi_host.specs.Worlds.{slots_of};

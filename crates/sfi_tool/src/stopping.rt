@@ -1,4 +1,5 @@
-//! What is said of the sandboxes that have not exited, and the status of all.
+//! What `exec` says of the sandboxes that have not exited, and the status with which it ends. The
+//! numbers are those of `end_status` in specs/Executing, of the help of `exec` and of docs/sfi.1.
 
 ghost use Rattle.std.specs.Prelude.{◌≡◌, ◌++◌, ◌<◌, ◌^◌, IfOk, OnOk, length, slice_get, string_bytes};
 ghost use Rattle.sfi_host.specs.Worlds.{slots_of};
@@ -19,7 +20,8 @@ const BUDGET_USED: u8 = 124;
 /// The status of a trap.
 const TRAPPED: u8 = 126;
 
-/// The status with which `exec` ends after a sandbox that has `status`.
+/// The status of `exec` that a sandbox of this status comes to: the low 8 bits of its exit's number,
+/// or 126 for a trap, or 124. None is `Stopped` there.
 fn exit_status(status: Status) -> u8
     ensures { result ≡ end_status status }
 {
@@ -30,7 +32,7 @@ fn exit_status(status: Status) -> u8
     }
 }
 
-/// The status of sandbox `sandbox`; 0 where there is none.
+/// The status of `exec` that sandbox `sandbox` comes to; 0 where there is none.
 fn exit_status_of<M: Memory>(world: &World<M>, sandbox: u32) -> u8
     ensures { result ≡ status_of (slice_get (slots_of world.now) sandbox) }
 {
@@ -53,7 +55,7 @@ pub(crate) fn first_nonzero_status<M: Memory>(world: &World<M>, count: u32) -> u
     first
 }
 
-/// Writes the line that says how sandbox `sandbox` ended.
+/// Appends the line `sandbox=S STATUS steps=K`, which says how sandbox `sandbox` ended.
 fn push_stop_line(
     out: &mut String,
     sandbox: u32,
@@ -68,7 +70,7 @@ fn push_stop_line(
     write!(out, " steps={steps}\n")
 }
 
-/// Writes the line of sandbox `sandbox`; none where it has exited.
+/// Appends the line of sandbox `sandbox`; nothing where it has exited, or there is none.
 fn push_stop_line_of<M: Memory>(
     out: &mut String,
     sandbox: u32,
@@ -91,7 +93,7 @@ fn push_stop_line_of<M: Memory>(
     }
 }
 
-/// The lines of the sandboxes below `count`, in order.
+/// The lines of those sandboxes of the numbers below `count` that have not exited, in order.
 fn stop_lines<M: Memory>(alloc: Global, count: u32, world: &World<M>) -> Result<String, AllocError>
     ensures { IfOk result
         (λ text. string_bytes text ≡ stop_lines count (slots_of world.now)) }

@@ -15,7 +15,7 @@ use sfi_io::{Input, ReadStop, read_input, write_out};
 use std::alloc::Global;
 use std::io::{Read, Write};
 
-/// Writes the output, and gives the status, or 5 where a write failed.
+/// Writes the output, and gives `status`, with which the program is to end; 5 where a write failed.
 fn status_after_writing<W: Write>(writer: &mut W, status: u8, output: &[u8]) -> u8
     ensures status { result ≢ 5 → result ≡ status }
     ensures whole { result ≢ 5 → Appends (W.contents writer.old) (W.contents writer.new) output.now }
@@ -42,7 +42,8 @@ fn status_of_fault<W: Write>(writer: &mut W, fault: &JobFault) -> u8
     }
 }
 
-/// Writes the answer, if there is one, and gives the status.
+/// Writes the answer, if there is one, and gives its status; else 4, where memory ran out, or 5,
+/// where a read failed, and nothing is written. 5, too, where a write failed.
 fn status_of_answer<W: Write>(writer: &mut W, answered: Result<Answer, ReadStop>) -> u8
     requires { IfOk answered (λ a. a.status ≤ 2) }
     ensures runs { (job : Job) (input : Option (List ℕ)) → IsAnswered job input answered
@@ -56,7 +57,7 @@ fn status_of_answer<W: Write>(writer: &mut W, answered: Result<Answer, ReadStop>
     }
 }
 
-/// Runs a job on what was read.
+/// Runs a job on what was read, writes the answer, and gives the status, as of `run_tool`.
 fn run_job_on_text<W: Write>(alloc: Global, job: &Job, text: &[u8], writer: &mut W) -> u8
     requires { is_raw job.now ≡ false }
     ensures runs { Runs job.now (Some text.now) (W.contents writer.old) (W.contents writer.new)

@@ -12,9 +12,12 @@ use sfi_command::{HEX_LINE, Job, JobFault, job_of};
 use sfi_tool::answer_job;
 use std::alloc::{AllocError, Global};
 
+/// What is answered, with status 3, where the bytes spell no words.
 const NO_TEXT: &str = "error: the words are not UTF-8, or the last one is not ended\n";
 
-/// As `answer_job`; but a raw check, which that doesn't take, reads bytes.
+/// What the job answers on `input`. A raw check takes that as the bytes of an image, however it
+/// begins; `answer_job`, which takes no raw check, answers all else. An error means that memory ran
+/// out.
 fn answer_to(alloc: Global, job: &Job, input: &[u8]) -> Result<Answer, AllocError>
     ensures statuses { IfOk result (λ a. a.status ≤ 2) }
     ensures says { IfOk result (λ a. a.status < 2
@@ -28,7 +31,8 @@ fn answer_to(alloc: Global, job: &Job, input: &[u8]) -> Result<Answer, AllocErro
     }
 }
 
-/// What is answered to words that ask for no job.
+/// What is answered to words that ask for no job: a text with status 3, or with status 2 the line on
+/// an `--input` that spells no bytes. An error means that memory ran out.
 fn answer_to_fault(alloc: Global, fault: JobFault) -> Result<Answer, AllocError>
     ensures statuses { IfOk result (λ a. (2 ≤ a.status) × (a.status ≤ 3)) }
     ensures hex { IfOk result (λ a. a.status ≡ 2 → number_of fault ≡ 2) }
@@ -42,7 +46,8 @@ fn answer_to_fault(alloc: Global, fault: JobFault) -> Result<Answer, AllocError>
     }
 }
 
-/// What the program answers to the words, on what was read.
+/// What the program answers to the words, each followed by a zero byte, on the input that it would
+/// read. An error means that memory ran out.
 fn answer_to_words(alloc: Global, words: &[u8], input: &[u8]) -> Result<Answer, AllocError>
     ensures statuses { IfOk result (λ a. a.status ≤ 3) }
     ensures says { IfOk result (λ a. a.status < 2
@@ -65,8 +70,10 @@ fn answer_to_words(alloc: Global, words: &[u8], input: &[u8]) -> Result<Answer, 
     }
 }
 
-/// Answers the command that the words ask for, on what it reads: writes the front of the output to the
-/// array, as much as it holds, and the length of the whole output to `length`, and returns the status.
+/// Answers the command that the words ask for, on what it reads: writes the front of the answer to
+/// the array `output`, as much as it holds, and the length of the whole answer to `length`. Returns
+/// a number of `enum sfi_tool_status` in include/sfi_tool.h; with 4, where memory ran out, `length`
+/// is 0.
 #[unsafe(no_mangle)]
 pub extern "C" fn sfi_tool_answer(
     alloc: Global,

@@ -11,6 +11,7 @@ use std::alloc::{AllocError, Global};
 pub(crate) enum WordsFault {
     /// A word is not UTF-8, or has no zero byte after it.
     NoWords,
+    /// An allocation was refused.
     Memory,
 }
 
@@ -31,7 +32,8 @@ fn push_copy(alloc: Global, words: &mut Vec<String>, word: &str) -> Result<(), A
     Ok(())
 }
 
-/// The words that the bytes are, each with a zero byte after it.
+/// The words that `bytes` spell: each is UTF-8 without a zero byte, and has one after it. `NoWords`
+/// where a word isn't, or bytes follow the last zero byte.
 pub(crate) fn words_of(alloc: Global, bytes: &[u8]) -> Result<Vec<String>, WordsFault>
     ensures words { IfOk result (λ ws. SpellsWords bytes.now (map string_bytes ws.items)) }
     ensures none { IfErr result (λ fault. fault ≡ NoWords
