@@ -98,6 +98,8 @@ impl Gates for Console {
 
     ghost may_refuse = { console_may_refuse };
 
+    /// Serves exit and yield to each caller, and the other services to those that it has a session
+    /// of: a sandbox that was added to the world after the console was made has none.
     fn call<M: Memory>(&mut self, guest: &mut Guest<'_, M>) -> GateAnswer {
         match guest.service() {
             EXIT => return GateAnswer::Exit(guest.arg0()),

@@ -1,9 +1,10 @@
 //! Whether sandboxes of a world and of an image meet, and so can't be in one world.
 //!
-//! A sandbox takes up the addresses of its code, its data and the guard zones on both sides of these.
-//! In the fourth format it also has a *zone at zero*, where nobody else may be: the addresses below its
-//! data's size + 4096, and the last 4096. Two sandboxes *meet* if both take up an address, or one takes
-//! up an address in the other's zone at zero. `Meet` of specs/Adding says the same.
+//! A sandbox *takes up* the addresses of its code, its data, and the guard zones on both sides of
+//! the data. In the fourth format it also has a *zone at zero*, where no sandbox may be: the
+//! addresses below its data's size + 4096, and the last 4096. Two sandboxes *meet* if there is an
+//! address that both take up, or one takes up an address in the other's zone at zero. `Meet` of
+//! specs/Adding says the same.
 ghost use Rattle.std.specs.Prelude.{◌≡◌, ◌⊎◌, ◌+◌, ◌^◌, ◌<◌, ◌≤◌, ◌↔◌, ℕ, IsTrue, Some, slice_get};
 ghost use Rattle.std.specs.Bool.{OnTrue, OnFalse};
 ghost use Rattle.rv_mem.specs.Bytes.{Bytes};

@@ -21,6 +21,7 @@ impl Gates for Later {
 
     ghost may_refuse = { never };
 
+    /// Gives the caller this a0 and a1, whatever it asks, and stops it where `exit` has a number.
     fn call<M: Memory>(&mut self, guest: &mut Guest<'_, M>) -> GateAnswer {
         guest.set0(self.a0);
         guest.set1(self.a1);

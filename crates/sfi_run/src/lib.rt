@@ -4,7 +4,7 @@
 //! `sfi_host` does, and puts it back. The contracts hold for a caller that keeps what the header asks:
 //! nothing checks it. The private function before a call does its work on a world that is there, so
 //! that it has a contract of its own. A change of a call's parameters, numbers or structs has to go
-//! into the header, and into the bindings, which are written by that.
+//! into the header, and into the bindings (`bindings/` of the repository), which go by that.
 #![tactic(auto)]
 
 mod between;
