@@ -1,4 +1,4 @@
-//! Bundles.
+//! Bundles of 16 bytes. Code in words is kept in them, too, four words in each.
 ghost use Rattle.std.specs.Prelude.{◌≡◌, ◌+◌, ◌++◌, ◌≤◌};
 ghost use Rattle.sfi_formats.specs.Limits.{bundle_size};
 ghost use Rattle.sfi_rewrite.specs.Expansion.{size_of};
@@ -39,7 +39,7 @@ impl Bundle {
         bundle
     }
 
-    /// Adds slots, for which there is room.
+    /// Adds slots at the end. The caller has seen to it that the bundle has room for them.
     pub(crate) fn push(&mut self, slots: &[BundleSlot])
         requires { size_of self.old + size_of slots.now ≤ bundle_size }
         ensures { self.new ≡ self.old ++ slots.now }

@@ -1,4 +1,5 @@
-//! What an item of the source becomes in a format.
+//! What an item of the source becomes in a format whose code is in bundles: its expansion. Those of
+//! code in words are in `words/expansion`.
 ghost use Rattle.std.specs.Prelude.{◌≡◌, ◌+◌, ◌++◌, ◌∷◌, ◌≤◌, [], length, map};
 ghost use Rattle.sfi_rewrite.specs.Expansion.{jump_slots, IsAlone, IsMasked, IsPlainExpansion, IsExpansion};
 ghost use Rattle.sfi_rewrite.specs.Expansion.{stack_pair, put_back, is_on_x2};
@@ -41,7 +42,7 @@ impl Expansion {
         }
     }
 
-    /// Adds slots, for which there is room.
+    /// Adds slots at the end. The caller has seen to it that there are at most 5 then.
     pub(crate) fn push(&mut self, slots: &[BundleSlot])
         requires { length self.old + length slots.now ≤ 5 }
         ensures { self.new ≡ self.old ++ slots.now }
@@ -62,7 +63,7 @@ impl Expansion {
         expansion
     }
 
-    /// The expansion of a pair, and `last` after it.
+    /// A masked pair, and after it `last`, which uses the address that the pair makes.
     fn of_pair(pair: [Instr; 2], last: BundleSlot) -> Expansion
         ensures { result ≡ map Wide pair ++ last ∷ [] }
     {
@@ -100,7 +101,8 @@ impl Expansion {
     }
 }
 
-/// The expansion of `jalr rd, imm(a)`.
+/// The expansion of `jalr rd, imm(a)`: the pair that makes x31 a bundle start of the code region,
+/// and a jump to x31. An `imm` other than 0 is added first, by an addi of `a` to x31.
 fn of_jump(rd: Reg, a: Reg, imm: i32) -> Expansion
     ensures { result ≡ jump_slots rd a imm }
 {
@@ -136,7 +138,9 @@ pub(crate) fn alone(rvc: bool, instr: &Instr) -> BundleSlot
     BundleSlot::Wide(*instr)
 }
 
-/// The expansion of an instruction that has nothing to do with a stack pointer.
+/// The expansion of an instruction that has nothing to do with a stack pointer: a load or store is
+/// made on x31, after the pair that makes x31 an address of the data region; a jalr is masked by
+/// `of_jump`; any other instruction stays as it is.
 fn of_masked(rvc: bool, instr: &Instr) -> Expansion
     ensures { IsMasked rvc instr.now result }
 {
@@ -188,7 +192,8 @@ fn is_on_x2(instr: &Instr) -> bool
     }
 }
 
-/// The expansion of an instruction that names no label.
+/// The expansion of an instruction that names no label. In a format with a stack pointer, what
+/// writes x2 stands before the pair that puts it back, and an access on x2 needs no mask.
 fn expand_without_name(format: Format, rvc: bool, instr: &Instr) -> Expansion
     ensures { IsPlainExpansion format rvc instr.now result }
 {
@@ -201,7 +206,8 @@ fn expand_without_name(format: Format, rvc: bool, instr: &Instr) -> Expansion
     }
 }
 
-/// The expansion of an item in a format.
+/// The expansion of an item in a format whose code is in bundles. A branch, a jal or a part of an
+/// address that names a label or gate waits for the linker, which knows addresses.
 pub(crate) fn expand(format: Format, item: &Item) -> Expansion
     ensures { IsExpansion format item.now result }
 {

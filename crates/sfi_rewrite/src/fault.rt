@@ -36,7 +36,8 @@ pub enum RewriteFault {
 }
 
 impl RewriteFault {
-    /// The number by which a refusal is known, from 1 to 6.
+    /// The number that the program prints with the fault, from 1 to 6: docs/SOURCE.md lists them,
+    /// and `number_of` of specs/Rewriting has the same.
     pub fn number(self) -> u32
         ensures { result ≡ number_of self }
     {

@@ -1,4 +1,4 @@
-//! Bundles that are filled one after another.
+//! Bundles that are filled one after another, in code in bundles and in code in words.
 ghost use Rattle.std.specs.Prelude.{◌≡◌, ◌%◌, ◌+◌, ◌*◌, ◌<◌, ◌≤◌, ◌++◌, [], IfOk, length, replicate};
 ghost use Rattle.sfi_formats.specs.Limits.{bundle_size};
 ghost use Rattle.sfi_rewrite.specs.Expansion.{size_of, slots_of, c_nop};
@@ -50,8 +50,8 @@ impl Filling {
         self.end
     }
 
-    /// Adds slots, of `size` bytes in all: to the last bundle if it has room, and else as the first
-    /// of another.
+    /// Adds slots, of `size` bytes in all: to the last bundle, or to a new one where that is full.
+    /// The caller has seen to it that they fit there: they cross no bundle's end.
     pub(crate) fn push(&mut self, slots: &[BundleSlot], size: usize) -> Result<(), AllocError>
         requires size { size ≡ size_of slots.now }
         requires some { 0 < size }
@@ -70,7 +70,7 @@ impl Filling {
         Ok(())
     }
 
-    /// Adds `nops` c.nops.
+    /// Adds `nops` c.nops, of 2 bytes each; they may go on in new bundles.
     pub(crate) fn push_nops(&mut self, nops: usize) -> Result<(), AllocError>
         requires { size_of self.old + 2 * nops ≤ largest }
         ensures { IfOk result (λ _. self.new ≡ self.old ++ replicate nops c_nop) }

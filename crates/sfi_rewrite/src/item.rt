@@ -12,7 +12,8 @@ use sfi_formats::{CODE_REGISTER, Format, OFFSET_REGISTER};
 use sfi_pairs::{is_data_register, is_reserved};
 use sfi_source::{Body, Item};
 
-/// Whether a source of the format may not name the register.
+/// Whether a source of the format may not name the register: it holds the base or mask of a region,
+/// or the format's expansions write it. `is_withheld` of specs/Expansion is the same.
 fn is_withheld_in(format: Format, register: Reg) -> bool
     ensures { result ≡ is_withheld format register }
 {
@@ -27,7 +28,8 @@ fn is_withheld_in(format: Format, register: Reg) -> bool
     }
 }
 
-/// Whether one of the instruction's register operands is withheld from a source of the format.
+/// Whether one of the instruction's register operands is withheld from a source of the format, also
+/// one that the instruction doesn't use, as a fence's.
 fn names_withheld(format: Format, instr: &Instr) -> bool
     ensures { result ≡ names_withheld format instr.now }
 {
@@ -70,7 +72,8 @@ fn is_ecall_item(body: &Body) -> bool
     matches!(body, Body::Plain(Instr::Ecall))
 }
 
-/// Whether the item is a jal or jalr that writes a register other than x0.
+/// Whether the item is a jal or jalr that writes a register other than x0: a return address, so
+/// that in code in bundles it has to end its bundle.
 pub(crate) fn is_call(body: &Body) -> bool
     ensures { result ≡ is_call body.now }
 {
@@ -81,7 +84,8 @@ pub(crate) fn is_call(body: &Body) -> bool
     }
 }
 
-/// Whether the item is a jump that writes the stack pointer, or a load into it on another register.
+/// Whether the item is a jump that writes the stack pointer, or a load into it on another register:
+/// what can't stand before the pair that puts the stack pointer back into the data region.
 fn is_barred_stack_write(format: Format, body: &Body) -> bool
     ensures { result ≡ is_stack_write format body.now }
 {
@@ -113,7 +117,8 @@ fn is_barred_jump(format: Format, body: &Body) -> bool
     }
 }
 
-/// The first of the four faults that an item can have wherever it stands, in their order.
+/// `Ok` where the item may have an expansion; else its fault, the first in this order of the four
+/// that don't depend on its place. `HasItemFault` of specs/Rewriting has the same order.
 pub(crate) fn permit(format: Format, item: &Item) -> Result<(), RewriteFault>
     ensures permitted { IfOk result (λ _. IsPermitted format item.now) }
     ensures refused { IfErr result (HasItemFault format item.now) }

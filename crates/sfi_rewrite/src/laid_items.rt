@@ -1,4 +1,5 @@
-//! The items of a sandbox, laid one after another.
+//! The items of a sandbox of code in bundles, laid one after another. `words/laid_items` does the
+//! same for code in words.
 ghost use Rattle.std.specs.Prelude.{◌≡◌, ◌<◌, ◌≤◌, ◌+◌, ◌*◌, ℕ, false, IfOk, IfErr, length, slice_index};
 ghost use Rattle.sfi_formats.specs.Formats.{built_code_most};
 ghost use Rattle.sfi_source.specs.Source.{IsBody};
@@ -16,7 +17,7 @@ use sfi_formats::Format;
 use sfi_source::Item;
 use std::alloc::Global;
 
-/// A sandbox's items in their places.
+/// The code of a sandbox, and the places that its labels name; of code in words, too.
 #[derive(Drop)]
 pub(crate) struct Laid {
     pub(crate) code: Filling,
@@ -24,7 +25,9 @@ pub(crate) struct Laid {
     pub(crate) labels: Vec<u32>,
 }
 
-/// Adds an item, after its c.nops, to the code of sandbox `sandbox`.
+/// Adds the expansion of an item, after the c.nops that it needs, to the code. `TooLarge` names
+/// sandbox `sandbox`, counted from 0. An expansion crosses no bundle's end, and the format's limit
+/// is one, so it fits where it begins below the limit.
 fn lay_item(
     format: Format,
     sandbox: u32,
@@ -51,7 +54,8 @@ fn lay_item(
     Ok(())
 }
 
-/// Lays the items of sandbox `sandbox`.
+/// Lays the items of sandbox `sandbox`, counted from 0, in bundles; or the first fault of the first
+/// item that has one.
 pub(crate) fn lay_items(
     alloc: Global,
     format: Format,

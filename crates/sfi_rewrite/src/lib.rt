@@ -6,6 +6,10 @@
 //! expansion crosses the end of one, labels are bundle starts, and a call ends its bundle, so that
 //! its return address is one too (Yee and others, 2009, "Native Client"). In words labels are words'
 //! starts. Names stay names: [`Placed`] has no address yet.
+//!
+//! An item is an instruction of the source, and its expansion is what the code has in its place: a
+//! list of slots, each an instruction or a 16-bit form, whose address is still open where it is
+//! that of a name. A place in the code is a number of bytes from the end of the gates' stubs.
 #![tactic(auto)]
 
 mod bundle;

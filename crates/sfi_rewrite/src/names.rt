@@ -10,7 +10,8 @@ use crate::placed::PlacedName;
 use sfi_source::{Named, SourcePart};
 use std::alloc::{AllocError, Global};
 
-/// What the name names, by the places of the labels.
+/// What a name of the source names in the placed code. `labels` has the place of a label before
+/// each item, by the item's number, and last that of a label at the end of the code.
 fn placed_name(named: Named, labels: &[u32]) -> PlacedName
     requires { HasLabel (length labels.now) named }
     ensures { result ≡ placed_of labels.now named }
@@ -23,8 +24,8 @@ fn placed_name(named: Named, labels: &[u32]) -> PlacedName
     }
 }
 
-/// What the names of the sandbox name, by the places of the labels: one for each item, and last
-/// that of the end of the code.
+/// What each name of the sandbox names in the placed code, in the order of the source's names.
+/// `labels` has a place for each item, and last that of the end of the code, as `Laid` has them.
 pub(crate) fn place_names(
     alloc: Global,
     part: &SourcePart,
@@ -46,7 +47,8 @@ pub(crate) fn place_names(
     Ok(names)
 }
 
-/// Whether a label stands at the end of the code.
+/// Whether a label stands at the end of the code, after the last item. In code in bundles c.nops
+/// then go up to the bundle start that it names.
 pub(crate) fn has_end_label(part: &SourcePart) -> bool
     ensures { IsTrue result ↔ HasEndLabel part.now }
 {

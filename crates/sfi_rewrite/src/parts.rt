@@ -24,7 +24,8 @@ use sfi_formats::Format;
 use sfi_source::{Item, Source, SourcePart};
 use std::alloc::{AllocError, Global};
 
-/// Fills code in bundles up to the bundle start of a label at its end.
+/// Where a label stands at the end of code in bundles (`labelled`), adds c.nops up to the bundle
+/// start that it names. Code in words gets none: there the label's place is the end itself.
 fn fill_end(format: Format, labelled: bool, code: &mut Filling) -> Result<(), AllocError>
     requires { size_of code.old ≤ largest }
     ensures { IfOk result (λ _. HasEnd format code.old (IsTrue labelled) code.new) }
@@ -51,7 +52,8 @@ fn lay(alloc: Global, format: Format, sandbox: u32, items: &[Item]) -> Result<La
     }
 }
 
-/// Places sandbox `sandbox`.
+/// Places the code and the names of one sandbox of the source. `sandbox` is its number, counted
+/// from 0, which a fault `TooLarge` names.
 fn place_part(alloc: Global, sandbox: u32, part: &SourcePart) -> Result<PlacedPart, RewriteFault>
     requires { IsSandbox part.now }
     ensures rewritten { IfOk result (IsRewritten part.now) }

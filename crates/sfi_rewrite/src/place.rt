@@ -1,4 +1,4 @@
-//! Where an expansion stands.
+//! Where an expansion stands, in code in bundles: a place is a number of bytes after the stubs.
 ghost use Rattle.std.specs.Prelude.{◌≡◌, ◌%◌, ◌+◌, ◌*◌, ◌<◌, ◌≤◌, IsTrue};
 ghost use Rattle.sfi_formats.specs.Limits.{bundle_size};
 ghost use Rattle.sfi_rewrite.specs.private.{largest};
@@ -6,7 +6,8 @@ ghost use Rattle.sfi_rewrite.specs.Placement.{next_bundle, FillsGap};
 
 use sfi_formats::BUNDLE_BYTES;
 
-/// The first bundle start not before a place of the code.
+/// The first bundle start at or after the place `end`: `end` rounded up to a multiple of a bundle's
+/// 16 bytes. A label before the next item names it.
 pub(crate) fn next_bundle(end: usize) -> u32
     requires { end ≤ largest }
     ensures { result ≡ next_bundle end }
@@ -14,9 +15,11 @@ pub(crate) fn next_bundle(end: usize) -> u32
     (end.div_ceil(BUNDLE_BYTES) * BUNDLE_BYTES) as u32
 }
 
-/// How many c.nops stand between `end`, where what stands before an expansion ends, and its place:
-/// the first from which its `size` bytes lie in one bundle, and, for a call, end it. Where the
-/// expansion has labels, it stands at or after the bundle start that they name.
+/// How many c.nops, of 2 bytes each, go before an expansion of `size` bytes where the code so far
+/// ends at the place `end`. They are as few as let the expansion lie within one bundle and, if it
+/// is a `call`, end with its bundle, so that the return address is a bundle start. If it is
+/// `labelled`, it stands at or after `next_bundle(end)`, which the label names. `FillsGap` of
+/// specs/Placement says the same.
 pub(crate) fn nops_before(end: usize, labelled: bool, call: bool, size: usize) -> usize
     requires end { end ≤ largest }
     requires even { end % 2 ≡ 0 }
@@ -47,7 +50,8 @@ pub(crate) fn nops_before(end: usize, labelled: bool, call: bool, size: usize) -
     (at - used) / 2
 }
 
-/// How many c.nops stand between the end of the last expansion and the bundle start after it.
+/// How many c.nops stand between the end of the last expansion, the place `end`, and the bundle
+/// start after it: 0 where `end` is one.
 pub(crate) fn nops_at_end(end: usize) -> usize
     requires end { end ≤ largest }
     requires even { end % 2 ≡ 0 }

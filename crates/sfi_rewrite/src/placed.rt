@@ -107,7 +107,8 @@ impl PlacedPart {
         &self.gates
     }
 
-    /// What the names name, in the order of their places in the source.
+    /// What the names name, in the order of the source's names: the `name` of a
+    /// [`BundleSlot`](crate::BundleSlot) or of a gate is an index of this list.
     pub fn names(&self) -> &[PlacedName]
         ensures { result.now ≡ self.now.names }
     {
@@ -158,7 +159,7 @@ impl Placed {
         Placed { parts }
     }
 
-    /// The format of the image to be made.
+    /// The format of the image to be made, which all sandboxes have. There is always one.
     pub fn format(&self) -> Format
         ensures { result ≡ format_of self.now }
     {

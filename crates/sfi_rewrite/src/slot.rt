@@ -70,7 +70,7 @@ impl Default for BundleSlot {
     }
 }
 
-/// How many bytes slots take.
+/// How many bytes these slots take together.
 pub(crate) fn size_of(slots: &[BundleSlot]) -> usize
     requires { length slots.now ≤ bundle_size }
     ensures { result ≡ size_of slots.now }

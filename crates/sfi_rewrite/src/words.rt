@@ -1,4 +1,6 @@
-//! Code in words: the expansions on typed registers, and how they stand in words of 4 bytes.
+//! Code in words: the expansions on typed registers, and how they stand in words of 4 bytes. Of the
+//! typed registers the data registers x2, x3, x4 and x29 hold addresses in the data region or near
+//! it, so that a load or store on one needs no mask, and x30 a word's start in the code region.
 
 mod expansion;
 mod filling;

@@ -1,4 +1,6 @@
-//! What an item of the source becomes in code in words.
+//! What an item of the source becomes in code in words. A data register is x2, x3, x4 or x29: it
+//! holds an address in the data region or near it, so a load or store on it needs no mask, but what
+//! writes it does.
 ghost use Rattle.std.specs.Prelude.{◌≡◌, ◌∷◌, ◌++◌, ◌+◌, ◌≤◌, [], Some, length};
 ghost use Rattle.sfi_rewrite.specs.words.Expansion.{is_made_on_x26, base_of, data_mask, makes_base, before, mask_after, IsConfined, IsPlainExpansion, IsExpansion, is_step_to, is_step_before_use, is_zero, is_move, moved, IsAround};
 ghost use Rattle.rv_word.specs.Outlines.{destination};
@@ -17,7 +19,7 @@ use sfi_source::{Body, Item};
 /// The data register in which the expansions make addresses, x29.
 pub(crate) const ADDRESS_REGISTER: u8 = 29;
 
-/// `and target, a, x27`.
+/// `and target, a, x27`, where x27 holds the mask of data addresses.
 fn masking(target: Reg, a: Reg) -> BundleSlot
     ensures { result ≡ Wide (Op And target a data_mask_register) }
 {
@@ -29,8 +31,8 @@ fn masking(target: Reg, a: Reg) -> BundleSlot
     })
 }
 
-/// Adds the mask by which `target` becomes the address that `a` masks to: in one step, or in two, of
-/// which the first leaves the offset of `a` in x31.
+/// Adds the mask by which `target` becomes the address that `a` masks to: one instruction in a
+/// format with single masks, else two, of which the first leaves the offset of `a` in x31.
 fn push_mask(format: Format, slots: &mut Expansion, target: Reg, a: Reg)
     requires { length slots.old + 2 ≤ 5 }
     ensures { slots.new ≡ slots.old ++ data_mask format target a }
@@ -49,7 +51,7 @@ fn push_mask(format: Format, slots: &mut Expansion, target: Reg, a: Reg)
     slots.push(&[masking(offset, a), BundleSlot::Wide(place)]);
 }
 
-/// Adds the mask of the register that is written, if it is a data register.
+/// Adds the mask of the register that was `written` before, if it is a data register.
 fn push_mask_after(format: Format, slots: &mut Expansion, written: Reg)
     requires { length slots.old + 2 ≤ 5 }
     ensures { slots.new ≡ slots.old ++ mask_after format (Some written) }
@@ -59,7 +61,8 @@ fn push_mask_after(format: Format, slots: &mut Expansion, written: Reg)
     }
 }
 
-/// Whether an access on `a` is made on x26: on x0, where a masked 0 is the region's first address.
+/// Whether a load or store with base `a` is made with base x26, the data base, and without a mask:
+/// `a` is x0, and a masked 0 is the data region's first address. With single masks it isn't.
 fn is_made_on_x26(format: Format, a: Reg) -> bool
     ensures { result ≡ is_made_on_x26 format a }
 {
@@ -90,7 +93,8 @@ fn push_base(format: Format, slots: &mut Expansion, a: Reg)
     }
 }
 
-/// Adds what has to stand before the instruction.
+/// Adds what has to stand before the instruction: before a load or store the mask of its base, if
+/// it needs one; before a jalr the pair that makes x30 a word's start in the code region.
 fn push_before(format: Format, slots: &mut Expansion, instr: &Instr)
     requires { slots.old ≡ [] }
     ensures { slots.new ≡ before format instr.now }
@@ -105,7 +109,9 @@ fn push_before(format: Format, slots: &mut Expansion, instr: &Instr)
     }
 }
 
-/// The instruction, with its base or target replaced by the register on which it is confined.
+/// The instruction, with the base of a load or store, or the target of a jalr, replaced by the
+/// register that is sure to hold an address of the sandbox. A jalr has 32 bits, also where `rvc`
+/// asks for 16-bit forms.
 fn confined(format: Format, rvc: bool, instr: &Instr) -> BundleSlot
     ensures { IsConfined format rvc instr.now (result ∷ []) }
 {
@@ -140,7 +146,8 @@ fn confined(format: Format, rvc: bool, instr: &Instr) -> BundleSlot
     }
 }
 
-/// The register `rd` of an instruction, but for a fence.
+/// The register `rd` that the instruction writes, which may be x0; `None` where it writes none, as
+/// a fence, which has an `rd` but doesn't write it.
 fn destination(instr: &Instr) -> Option<Reg>
     ensures { result ≡ destination instr.now }
 {
@@ -160,7 +167,8 @@ fn destination(instr: &Instr) -> Option<Reg>
     }
 }
 
-/// Whether the instruction is `addi d, a, 0` or `add d, x0, a` of a data register `d`.
+/// Whether the instruction is `addi d, a, 0` or `add d, x0, a` of a data register `d`: a move, for
+/// which a mask alone will do.
 fn is_move(instr: &Instr) -> bool
     ensures { result ≡ is_move instr.now }
 {
@@ -181,7 +189,8 @@ fn is_move(instr: &Instr) -> bool
     }
 }
 
-/// The expansion of such a move: the mask of `a` into `d`.
+/// The expansion of a move as `is_move` tells it: the mask of `a` into `d`, in place of the move
+/// and of a mask of `d` after it.
 fn moved(format: Format, instr: &Instr) -> Expansion
     ensures { result ≡ moved format instr.now }
 {
@@ -194,7 +203,9 @@ fn moved(format: Format, instr: &Instr) -> Expansion
     slots
 }
 
-/// The confined instruction, with what has to stand before it and after it.
+/// The confined instruction, with what has to stand before it, and after it the mask of the data
+/// register that it writes. There is no such mask where the instruction is a `step`, as
+/// `is_step_before_use` tells.
 fn around(format: Format, rvc: bool, step: bool, instr: &Instr) -> Expansion
     ensures { IsAround format rvc step instr.now result }
 {
@@ -210,7 +221,7 @@ fn around(format: Format, rvc: bool, step: bool, instr: &Instr) -> Expansion
     slots
 }
 
-/// The expansion of an instruction that names no label.
+/// The expansion of an instruction that names no label. `step` is as for `around`.
 fn expand_without_name_in_words(format: Format, rvc: bool, step: bool, instr: &Instr) -> Expansion
     ensures { IsPlainExpansion format rvc step instr.now result }
 {
@@ -220,7 +231,8 @@ fn expand_without_name_in_words(format: Format, rvc: bool, step: bool, instr: &I
     around(format, rvc, step, instr)
 }
 
-/// The expansion of a part of an address, which it puts into `rd`, with the mask of `rd`.
+/// The expansion of `part`, a slot that puts a part of a name's address into `rd`: after it the
+/// mask of `rd`, if that is a data register.
 fn of_part(format: Format, part: BundleSlot, rd: Reg) -> Expansion
     ensures { result ≡ part ∷ mask_after format (Some rd) }
 {
@@ -229,7 +241,8 @@ fn of_part(format: Format, part: BundleSlot, rd: Reg) -> Expansion
     slots
 }
 
-/// Whether `body` is `addi d, d, k` of a data register, and `next` uses `d` with such an offset.
+/// Whether `body` is `addi d, d, k` of a data register, and `next` is a load or store on `d` as
+/// `is_use` of `sfi_pairs` wants it: with an offset of at most 1020, up or down, and not into x0.
 fn is_step_to(body: &Body, next: &Body) -> bool
     ensures { result ≡ is_step_to body.now next.now }
 {
@@ -249,7 +262,8 @@ fn is_step_to(body: &Body, next: &Body) -> bool
     }
 }
 
-/// Whether the item is a step of a data register that the first item of `later` uses.
+/// Whether the item is a step: an addi to a data register on which the next item, the first of
+/// `later`, loads or stores. No label may stand between the two.
 fn is_step_before_use(item: &Item, later: &[Item]) -> bool
     ensures { result ≡ is_step_before_use item.now later.now }
 {
@@ -259,7 +273,8 @@ fn is_step_before_use(item: &Item, later: &[Item]) -> bool
     }
 }
 
-/// The expansion of an item that stands before `later`.
+/// The expansion, in code in words, of an item after which the items `later` come: by the first of
+/// these it is a step or not.
 pub(crate) fn expand_in_words(format: Format, item: &Item, later: &[Item]) -> Expansion
     ensures { IsExpansion format item.now later.now result }
 {

@@ -1,4 +1,4 @@
-//! Words that are filled one after another.
+//! Words that are filled one after another: two 16-bit forms share one, if no label is between.
 ghost use Rattle.std.specs.Prelude.{◌≡◌, ◌++◌, ◌+◌, ◌%◌, ◌≤◌, [], None, IfOk};
 ghost use Rattle.sfi_rewrite.specs.Expansion.{size_of};
 ghost use Rattle.sfi_rewrite.specs.private.{largest};
@@ -13,8 +13,8 @@ use std::marker::Model;
 /// How many bytes a word has.
 const WORD_SIZE: usize = 4;
 
-/// Words, after which a 16-bit form may wait for a second one. All have 4 bytes; that isn't known
-/// where an allocation was refused.
+/// Words, after which a 16-bit form may wait for a second one to share a word. All have 4 bytes;
+/// that isn't known where an allocation was refused.
 #[derive(Drop)]
 pub(crate) struct WordFilling {
     words: Filling,
@@ -40,7 +40,7 @@ impl WordFilling {
         }
     }
 
-    /// How many bytes the words take, if nothing more comes.
+    /// How many bytes the words take, if nothing more comes: a form that waits takes a word then.
     pub(crate) fn end(&self) -> usize
         requires { bytes_of self.now ≤ largest }
         ensures { result ≡ bytes_of self.now }

@@ -14,7 +14,8 @@ use sfi_formats::Format;
 use sfi_source::Item;
 use std::alloc::{AllocError, Global};
 
-/// Adds slots to the code of sandbox `sandbox`, each where it has room.
+/// Adds slots to the code, up to the first that would pass the format's limit, which is `TooLarge`
+/// of sandbox `sandbox`, counted from 0.
 fn fill_slots(
     format: Format,
     sandbox: u32,
@@ -36,7 +37,8 @@ fn fill_slots(
     Ok(())
 }
 
-/// Where a label comes, ends the word of a 16-bit form that waits.
+/// Where a `label` comes next, ends the word of a 16-bit form that waits, since a label names a
+/// word's start.
 fn end_before(label: bool, code: &mut WordFilling) -> Result<(), AllocError>
     requires aligned { AreWords code.old }
     requires room { bytes_of code.old ≤ largest }
@@ -45,7 +47,8 @@ fn end_before(label: bool, code: &mut WordFilling) -> Result<(), AllocError>
     if label { code.end_word() } else { Ok(()) }
 }
 
-/// Adds an item that stands before `later` to the code of sandbox `sandbox`.
+/// Adds the expansion of an item, after which the items `later` come, to the code. `TooLarge` names
+/// sandbox `sandbox`.
 fn lay_item_in_words(
     format: Format,
     sandbox: u32,
@@ -64,7 +67,7 @@ fn lay_item_in_words(
     fill_slots(format, sandbox, expansion.slots(), code)
 }
 
-/// The items after item `number`.
+/// The items after item `number`, counted from 0.
 fn items_after(items: &[Item], number: usize) -> &[Item]
     requires { number < length items.now }
     ensures { result.now ≡ drop (number + 1) items.now }
@@ -72,7 +75,8 @@ fn items_after(items: &[Item], number: usize) -> &[Item]
     &items[number + 1..]
 }
 
-/// Lays the items of sandbox `sandbox`, in a format whose code is in words.
+/// Lays the items of sandbox `sandbox`, in a format whose code is in words, or answers the first
+/// fault of the first item that has one. `lay_items` does the same in bundles.
 pub(crate) fn lay_in_words(
     alloc: Global,
     format: Format,
