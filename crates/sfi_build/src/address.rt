@@ -8,8 +8,8 @@ use sfi_formats::Place;
 use sfi_link::{address_at, bases_of};
 use sfi_rewrite::Placed;
 
-/// The address of name number `name` of sandbox `sandbox`, in the image of what is placed; none
-/// where there is no such name or it names nothing.
+/// The address of name number `name` of sandbox number `sandbox`, both counted from 0, in the image
+/// of what is placed at these places; `None` where there is no such name or it names nothing.
 pub(crate) fn placed_address(
     placed: &Placed,
     places: &[Place],

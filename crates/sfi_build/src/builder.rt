@@ -19,8 +19,8 @@ use sfi_rewrite::rewrite;
 use sfi_text::{SourceText, parse_text};
 use std::alloc::Global;
 
-/// The build of the text, or its fault: its code, for which all names get their addresses, comes
-/// before its tables of names.
+/// The image of the text, or its fault. The code is linked before the tables of names are made,
+/// since these have the names' addresses, and both before the image, which holds the tables.
 fn build_from_text(alloc: Global, text: &str, places: &[Place]) -> Result<Vec<u8>, BuildFault>
     ensures built { IfOk result (λ bytes. IsTextBuild places.now text.now bytes.items) }
     ensures fault { IfErr result (λ f. IsWantOfMemory f ⊎ IsBuildFault places.now text.now f) }
@@ -90,7 +90,8 @@ pub fn build(alloc: Global, text: &str) -> Result<Vec<u8>, BuildFault>
     build_at(alloc, text, &[])
 }
 
-/// The gates and labels of the text, or its fault.
+/// The gates and labels of the text, or its fault. The tables of names are made for their fault
+/// alone, so that a text has a map just where it has a build.
 fn map_from_text(
     alloc: Global,
     text: &str,

@@ -1,9 +1,9 @@
 //! From a text to an image.
 //!
-//! [`build`] reads a text, places its instructions in bundles or in words and links them; [`build_at`] does the
-//! same at places that the caller gives. Where the text lists names, the first data bytes of its
-//! sandboxes end in tables of names. [`names_at`] answers the addresses of the text's gates and
-//! labels in that image.
+//! [`build`] reads a text, places its instructions in bundles or in words and links them;
+//! [`build_at`] does the same at places that the caller gives. Where the text lists names, by
+//! `.export` or `.import`, the first data bytes of its sandboxes end in tables of names.
+//! [`names_at`] answers the addresses of the text's gates and labels in that image.
 #![tactic(auto)]
 
 mod address;

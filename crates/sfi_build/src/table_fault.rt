@@ -17,7 +17,8 @@ pub enum TableFault {
 }
 
 impl TableFault {
-    /// The number by which a refusal is known, 1 or 2.
+    /// The number that the program prints with the fault, 1 or 2: docs/SOURCE.md lists them, and
+    /// `number_of` of specs/Tables has the same.
     pub fn number(self) -> u32
         ensures { result ≡ number_of self }
     {

@@ -1,4 +1,6 @@
-//! The tables of names for which a text asks.
+//! The tables of names for which a text asks: a sandbox's table has the names and addresses of what
+//! it exports to the host and of the gates that it imports, and stands at the end of its first data
+//! bytes.
 ghost use Rattle.std.specs.Prelude.{◌≡◌, ◌+◌, ◌++◌, ◌≤◌, ◌↔◌, ℕ, List, length, map, slice_get, Ok, Some, IsTrue, IfOk, IfErr, OnOk};
 ghost use Rattle.std.specs.List.{All};
 ghost use Rattle.sfi_formats.specs.Limits.{sandboxes_most};
@@ -19,11 +21,13 @@ use sfi_source::{Names, SourcePart};
 use sfi_text::{Listed, SharedNames};
 use std::alloc::Global;
 
-/// How many bytes of a table are no entry's.
+/// How many bytes a table has after its entries: three numbers of 4 bytes and the magic of 4. The
+/// layout is that of `sfi_names`, which writes the table.
 const FOOTER_BYTES: usize = 16;
 
-/// Appends the entry of what is listed, with the address that it has in the image of what is placed,
-/// in sandbox `sandbox`.
+/// Appends the table's entry of `one`, a name that the text lists for sandbox `sandbox`: its text,
+/// of `names`, and its address in the image of what is placed. A name without an address is
+/// `Unknown`.
 fn push_listed(
     bytes: &mut Vec<u8>,
     placed: &Placed,
@@ -56,8 +60,8 @@ fn push_listed(
     Ok(())
 }
 
-/// The bytes of the entries of what is listed: the names have the addresses that they have in the
-/// image of what is placed, in sandbox `sandbox`.
+/// The bytes of the table's entries of all names that the text lists for sandbox `sandbox`, in
+/// their order; or the fault of the first that has no address.
 fn entries_of(
     alloc: Global,
     placed: &Placed,
@@ -84,22 +88,23 @@ fn entries_of(
     Ok(bytes)
 }
 
-/// Whether nothing is listed.
+/// Whether the text lists no name for a sandbox, which then gets no table.
 fn is_unlisted(shared: &SharedNames) -> bool
     ensures { result ≡ is_unlisted shared.now }
 {
     shared.exports.is_empty() && shared.imports.is_empty()
 }
 
-/// Whether `room` bytes hold a table whose entries take `exports` and `imports` bytes.
+/// Whether `room` bytes hold a table whose entries take `exports` and `imports` bytes. No sum is
+/// made, so that none can overflow.
 fn has_room(room: usize, exports: usize, imports: usize) -> bool
     ensures { IsTrue result ↔ (exports + imports + FOOTER_BYTES ≤ room) }
 {
     exports <= room && imports <= room - exports && FOOTER_BYTES <= room - exports - imports
 }
 
-/// The first data bytes of sandbox `sandbox`, which end in its table where something is
-/// listed.
+/// The first data bytes of sandbox `sandbox`, whose source is `part`: those of the source, and
+/// after them its table, if the text lists names for it (`shared`).
 fn init_with_table(
     alloc: Global,
     placed: &Placed,
@@ -139,7 +144,8 @@ fn init_with_table(
     Ok(init)
 }
 
-/// The first data bytes of each sandbox, with its table.
+/// The first data bytes of each sandbox, with its table, or the fault of the first sandbox that has
+/// one. `shared` has the names that the text lists for each of the sandboxes `parts`.
 pub(crate) fn inits_of(
     alloc: Global,
     placed: &Placed,

@@ -8,7 +8,8 @@ use rv_word::{Instr, Reg};
 use sfi_formats::{BUNDLE_SIZE, CODE_BASE_REGISTER, DATA_BASE_REGISTER};
 use sfi_rewrite::PlacedName;
 
-/// The address of what the name names; none where that is unknown.
+/// The address of what the name names, of a gate that of its stub; `None` where it names nothing.
+/// `at` is where the sandbox lies.
 pub(crate) fn address_of(at: Bases, name: PlacedName) -> Option<u32>
     requires near { IsInReach at name }
     ensures is { result ≡ address_of at name }
@@ -21,7 +22,8 @@ pub(crate) fn address_of(at: Bases, name: PlacedName) -> Option<u32>
     }
 }
 
-/// The address to which a jump to the name goes; none where the name is no place of the code.
+/// The address to which a jump to the name goes; `None` where the name is no gate and no label of
+/// the code.
 fn target_of(at: Bases, name: PlacedName) -> Option<u32>
     requires near { IsInReach at name }
     ensures is { result ≡ target_of at name }
@@ -33,7 +35,8 @@ fn target_of(at: Bases, name: PlacedName) -> Option<u32>
     }
 }
 
-/// How far the name's address is from the base of its region; none where the name is unknown.
+/// How many bytes the name's address is from the base of its region: from the code base, stubs
+/// included, or from the data base. `None` where the name names nothing.
 fn offset_of(at: Bases, name: PlacedName) -> Option<u32>
     requires near { IsInReach at name }
     ensures is { result ≡ offset_of at name }
@@ -46,8 +49,8 @@ fn offset_of(at: Bases, name: PlacedName) -> Option<u32>
     }
 }
 
-/// The register that holds the base of the region of what the name names; none where that is
-/// unknown.
+/// The register that holds the base of the region of what the name names, x24 of code or x26 of
+/// data; `None` where it names nothing.
 fn base_register_of(name: PlacedName) -> Option<Reg>
     ensures is { result ≡ base_of name }
 {
@@ -59,7 +62,7 @@ fn base_register_of(name: PlacedName) -> Option<Reg>
 }
 
 /// The address of what name number `place` of a sandbox names, if `at` is where the sandbox lies;
-/// none where that is unknown.
+/// `None` where there is no such name or it names nothing.
 pub fn address_at(at: Bases, names: &[PlacedName], place: usize) -> Option<u32>
     requires { AreInReach at names.now }
     ensures is { result ≡ address_at at names.now place }
@@ -70,7 +73,8 @@ pub fn address_at(at: Bases, names: &[PlacedName], place: usize) -> Option<u32>
     }
 }
 
-/// How far that is from the base of its region.
+/// How many bytes the address of name number `place` is from the base of its region; `None` where
+/// there is no such name or it names nothing.
 fn offset_at(at: Bases, names: &[PlacedName], place: usize) -> Option<u32>
     requires { AreInReach at names.now }
     ensures is { result ≡ of_name (offset_of at) (slice_get names.now place) }
@@ -81,7 +85,9 @@ fn offset_at(at: Bases, names: &[PlacedName], place: usize) -> Option<u32>
     }
 }
 
-/// The number that the lui and the addi of `la` hold of name `place`.
+/// The number that the lui and the addi of an `la` of name number `place` make: its address, or in
+/// a movable sandbox its offset from the base of its region, which an add of the base follows.
+/// `None` where there is no such name or it names nothing.
 pub(crate) fn value_at(at: Bases, names: &[PlacedName], place: usize) -> Option<u32>
     requires { AreInReach at names.now }
     ensures is { result ≡ value_at at names.now place }
@@ -93,7 +99,8 @@ pub(crate) fn value_at(at: Bases, names: &[PlacedName], place: usize) -> Option<
     }
 }
 
-/// The register that holds the base of the region of what name `place` names.
+/// The register that holds the base of the region of what name number `place` names; `None` where
+/// there is no such name or it names nothing.
 pub(crate) fn base_at(names: &[PlacedName], place: usize) -> Option<Reg>
     ensures is { result ≡ base_at names.now place }
 {
@@ -103,7 +110,8 @@ pub(crate) fn base_at(names: &[PlacedName], place: usize) -> Option<Reg>
     }
 }
 
-/// The address to which a jump to name `place` goes.
+/// The address to which a jump to name number `place` goes; `None` where that is no gate and no
+/// label of the code.
 pub(crate) fn target_at(at: Bases, names: &[PlacedName], place: usize) -> Option<u32>
     requires { AreInReach at names.now }
     ensures is { result ≡ target_at at names.now place }
@@ -130,7 +138,7 @@ pub(crate) fn lower_immediate(value: u32) -> i32
     (value.wrapping_add(2048) % 4096) as i32 - 2048
 }
 
-/// The offset from address `here` to address `there`.
+/// The offset in bytes from address `here` to address `there`, which are at most 2^20 apart.
 pub(crate) fn distance(here: u32, there: u32) -> i32
     requires back { here ≤ there + 2 ^ 20 }
     requires ahead { there ≤ here + 2 ^ 20 }
@@ -139,7 +147,7 @@ pub(crate) fn distance(here: u32, there: u32) -> i32
     (i64::from(there) - i64::from(here)) as i32
 }
 
-/// The jal or branch with this offset.
+/// The jal or branch with this offset, in bytes; any other instruction as it is.
 pub(crate) fn with_offset(instr: Instr, offset: i32) -> Instr
     ensures { result ≡ with_offset offset instr }
 {

@@ -16,11 +16,13 @@ pub struct Bases {
     pub start: u32,
     /// The first address of the data.
     pub data: u32,
-    /// Whether the sandbox can be moved.
+    /// Whether the sandbox can be moved: then what its code makes of a name is an offset, to which
+    /// it adds the base that a register holds.
     pub movable: bool,
 }
 
-/// Where the regions of sandbox `number` begin.
+/// Where the regions of sandbox `number`, counted from 0, begin. `given` has the places of the
+/// first sandboxes; one without a place there lies at its usual one.
 pub fn bases_of(given: &[Place], number: u32, part: &PlacedPart) -> Bases
     requires few { number < sandboxes_most }
     requires right { IsPlacedPart part.now }

@@ -1,4 +1,5 @@
-//! The bytes of what is placed, written one slot after another.
+//! The bytes of what is placed, written one slot after another. `code` is what a code region has so
+//! far, its stubs first, so that the next byte has the address `at.code` plus its length.
 ghost use Rattle.std.specs.Prelude.{◌≡◌, ◌+◌, ◌^◌, ◌<◌, ◌++◌, IsTrue, pos, length, Some, IfOk, IfErr, OnOk};
 ghost use Rattle.std.specs.List.{All};
 ghost use Rattle.std.specs.Int.{w16, w32, to_le_bytes};
@@ -27,7 +28,7 @@ use rv_word::{ImmOp, Instr, Reg, RegOp};
 use sfi_rewrite::{Bundle, BundleSlot, PlacedName};
 use std::alloc::AllocError;
 
-/// Appends a 32-bit instruction.
+/// Appends the 4 bytes of an instruction.
 fn push_wide(code: &mut Vec<u8>, instr: Instr) -> Result<(), AllocError>
     requires { InRange instr }
     ensures { OnOk result (code.new.items ≡ code.old.items ++ to_le_bytes w32 (spelling instr)) }
@@ -38,7 +39,7 @@ fn push_wide(code: &mut Vec<u8>, instr: Instr) -> Result<(), AllocError>
     Ok(())
 }
 
-/// Appends a 16-bit form.
+/// Appends the 2 bytes of a 16-bit form.
 fn push_short(code: &mut Vec<u8>, form: Form16) -> Result<(), AllocError>
     requires { IsTrue (allowed form) }
     ensures { OnOk result (code.new.items ≡ code.old.items ++ to_le_bytes w16 (halfword_of form)) }
@@ -49,7 +50,9 @@ fn push_short(code: &mut Vec<u8>, form: Form16) -> Result<(), AllocError>
     Ok(())
 }
 
-/// Appends the jal or branch to name `place`. `line` is that of the source, for a fault.
+/// Appends the jal or branch `instr`, with the offset from here to name number `place`. A name that
+/// is no code is `UnknownName`, and an offset that the instruction can't hold `BranchReach`, of
+/// this line of the source.
 fn push_named_jump(
     code: &mut Vec<u8>,
     at: Bases,
@@ -77,7 +80,8 @@ fn push_named_jump(
     Ok(())
 }
 
-/// The number for which name `place` stands, or the fault that `line` uses a name without one.
+/// The number that an `la` makes of name number `place`, as `value_at` gives it, or `UnknownName`
+/// of this line of the source.
 fn known_value(at: Bases, names: &[PlacedName], place: usize, line: u32) -> Result<u32, LinkFault>
     requires near { AreInReach at names.now }
     ensures ok { IfOk result (λ value. value_at at names.now place ≡ Some value) }
@@ -89,7 +93,8 @@ fn known_value(at: Bases, names: &[PlacedName], place: usize, line: u32) -> Resu
     }
 }
 
-/// The register with the base of the region of what name `place` names, or that fault.
+/// The register with the base of the region of what name number `place` names, or `UnknownName` of
+/// this line of the source.
 fn known_base(names: &[PlacedName], place: usize, line: u32) -> Result<Reg, LinkFault>
     ensures ok { IfOk result (λ base. base_at names.now place ≡ Some base) }
     ensures err { IfErr result (IsUnknown (base_at names.now place) line) }
@@ -100,7 +105,7 @@ fn known_base(names: &[PlacedName], place: usize, line: u32) -> Result<Reg, Link
     }
 }
 
-/// `addi rd, rd, imm`, which adds what a lui leaves of the number.
+/// `addi rd, rd, imm`, which adds the lower 12 bits of the number, as signed, to what its lui made.
 fn add_lower(rd: Reg, value: u32) -> Instr
     ensures { result ≡ OpImm Addi rd rd (lower (pos value)) }
 {
@@ -124,7 +129,7 @@ fn add_base_instr(rd: Reg, base: Reg) -> Instr
     }
 }
 
-/// Appends a slot.
+/// Appends a slot, in which a name stands for its address by now.
 fn push_slot(
     code: &mut Vec<u8>,
     at: Bases,

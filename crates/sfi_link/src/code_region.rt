@@ -23,6 +23,8 @@ use sfi_image::Span;
 use sfi_rewrite::{Bundle, PlacedPart};
 use std::alloc::{AllocError, Global};
 
+// The bytes of c.ebreak, with which the region is filled after the code: a run that gets there
+// traps.
 const C_EBREAK: [u8; 2] = [0x02, 0x90];
 
 /// How many bytes the slots of bundles take, no more than any format's code may have. Each bundle
@@ -41,7 +43,8 @@ fn size_of_bundles(bundles: &[Bundle]) -> usize
     }
 }
 
-/// How many bytes the stubs, the code and one c.ebreak take.
+/// How many bytes the stubs, the code and one c.ebreak take, so that a run beyond the code's end
+/// traps.
 fn needed(part: &PlacedPart) -> usize
     requires { IsPlacedPart part.now }
     ensures { result ≡ needed part.now }
@@ -49,7 +52,8 @@ fn needed(part: &PlacedPart) -> usize
     BUNDLE_BYTES * part.gates().len() + size_of_bundles(part.bundles()) + C_EBREAK.len()
 }
 
-/// The least size of a code region of the format in which `needed` bytes have room, if there is one.
+/// The least size in bytes, a power of two, of a code region of the format in which `needed` bytes
+/// have room; `None` where they pass what a source may make in the format.
 fn code_size(format: Format, needed: usize) -> Option<usize>
     ensures least { IfSome result (IsCodeSize format needed) }
     ensures none { IfNone result ((size : ℕ) → HasRoom format needed size → ⊥) }
@@ -73,8 +77,9 @@ fn push_copies(code: &mut Vec<u8>, copied: &[u8], count: usize) -> Result<(), Al
     Ok(())
 }
 
-/// The bytes of the code region of sandbox `number`, whose spans are added to those of the
-/// sandboxes before it in the list, all of its format.
+/// The bytes of the whole code region of sandbox `number`, counted from 0, at its place of `given`
+/// or its usual one. `spans` has the address ranges of the sandboxes before it, all of its format:
+/// of each the code region, and the data region with its guard zones. Those of this one are added.
 pub(crate) fn linked_code(
     alloc: Global,
     given: &[Place],

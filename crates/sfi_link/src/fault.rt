@@ -30,16 +30,19 @@ pub enum LinkFault {
     #[error("Memory")]
     Memory,
     /// The sandbox, counted from 0, can't lie at its place: a base is no multiple of its region's
-    /// size, the guard zones have no room, or its regions or guard zones meet each other or those
-    /// of a sandbox before it. Where masks of data are single, also if the data base isn't a single bit,
-    /// or if a region or guard zone of one of these sandboxes meets the zone at zero of one. Or more
-    /// places are given than there are sandboxes, and this place is the first without one.
+    /// size, the guard zones have no room, or its regions or guard zones overlap each other or
+    /// those of a sandbox before it. Where masks of data are single, also if the data base isn't a
+    /// single bit, or if a region or guard zone of one of these sandboxes overlaps the zone at zero
+    /// of one: the first and last addresses, which its accesses may reach and where they have to
+    /// trap. Or more places are given than there are sandboxes, and this place is the first without
+    /// one.
     #[error("Place sandbox {sandbox}")]
     Place { sandbox: u32 },
 }
 
 impl LinkFault {
-    /// The number by which a refusal is known, from 1 to 6.
+    /// The number that the program prints with the fault, from 1 to 6: docs/SOURCE.md lists them,
+    /// and `number_of` of specs/Faults has the same.
     pub fn number(self) -> u32
         ensures { result ≡ number_of self }
     {

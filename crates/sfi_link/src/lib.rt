@@ -5,6 +5,9 @@
 //! and [`image_of`] in two steps, for a caller that knows the first data bytes only after the first.
 //! The image has a right layout and breaks no rule, so the checker accepts it: this is proved of the
 //! bytes, and no scan is run. [`names_of`] answers the addresses of a source's gates and labels.
+//!
+//! A name is given by its number among the names of its sandbox, counted from 0. `Place` is where a
+//! sandbox lies; a place in the code is a number of bytes from the end of the gates' stubs.
 #![tactic(auto)]
 
 mod address;

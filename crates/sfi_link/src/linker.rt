@@ -27,7 +27,8 @@ use sfi_rewrite::{Placed, PlacedPart};
 use sfi_source::SourceGate;
 use std::alloc::{AllocError, Global};
 
-/// The gates, whose stubs lie one after another from `address` on.
+/// The gates as an image has them: the stubs, of 16 bytes each, lie one after another from
+/// `address` on.
 fn gates_from(alloc: Global, address: u32, gates: &[SourceGate]) -> Result<Vec<Gate>, AllocError>
     requires few { length gates.now ≤ gates_most }
     requires room { address + bundle_size * length gates.now < 2 ^ 32 }
@@ -43,7 +44,8 @@ fn gates_from(alloc: Global, address: u32, gates: &[SourceGate]) -> Result<Vec<G
     Ok(listed)
 }
 
-/// Sandbox `number`, with this code and these first data bytes, as a part of an image.
+/// Sandbox `number`, with `code` as its whole code region and `init` as its first data bytes, as a
+/// part of an image.
 fn linked_part<'a>(
     alloc: Global,
     given: &[Place],
@@ -72,7 +74,7 @@ fn linked_part<'a>(
     })
 }
 
-/// The code of each sandbox, or the first fault.
+/// The code region's bytes of each sandbox, linked, or the fault of the first sandbox that has one.
 fn codes_of(
     alloc: Global,
     given: &[Place],
@@ -92,7 +94,8 @@ fn codes_of(
     Ok(codes)
 }
 
-/// The first data bytes of sandbox `number`: those of the list, or its own where that ends.
+/// The first data bytes of sandbox `number`, counted from 0: entry `number` of `inits`, or those of
+/// its source where `inits` has no such entry.
 fn init_of<'a>(inits: &'a [Vec<u8>], number: usize, placed: &'a PlacedPart) -> &'a [u8]
     ensures listed { number < length inits.entry.now
         → result.now ≡ get_or (contents inits.entry.now) number result.now }
@@ -130,8 +133,9 @@ fn linked_parts<'a>(
     Ok(parts)
 }
 
-/// The code of each sandbox of what is placed, in its image at these places, or the fault that
-/// there is in the place of an image: the names have their addresses.
+/// The code region's bytes of each sandbox, with all names replaced by the addresses that they have
+/// in the image at these places; or the fault that [`link_at`] answers there. [`image_of`] makes
+/// the image of them.
 pub fn codes_at(alloc: Global, placed: &Placed, places: &[Place]) -> Result<Vec<Vec<u8>>, LinkFault>
     ensures codes { IfOk result
         (λ codes. AreLinkedCodes places.now placed.now (contents codes.items)) }
@@ -152,9 +156,9 @@ pub fn codes_at(alloc: Global, placed: &Placed, places: &[Place]) -> Result<Vec<
     codes_of(alloc, places, placed)
 }
 
-/// Writes the image of what is placed, whose sandboxes have this code, with the first data bytes of
-/// the list; where that ends, a sandbox has its own. The image has a right layout and breaks no
-/// rule.
+/// Writes the image of what is placed. `codes` is what [`codes_at`] made of it at the same places,
+/// and `inits` has the first data bytes of the first sandboxes; one without an entry there has
+/// those of its source. The image has a right layout and breaks no rule.
 pub fn image_of(
     alloc: Global,
     placed: &Placed,

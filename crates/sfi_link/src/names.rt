@@ -87,7 +87,7 @@ impl NameAddress {
     }
 }
 
-/// What the name names; none where that is unknown.
+/// What the name names; `None` where it names nothing.
 fn kind_of(named: PlacedName) -> Option<NameKind>
     ensures { result ≡ kind_of named }
 {
@@ -99,7 +99,8 @@ fn kind_of(named: PlacedName) -> Option<NameKind>
     }
 }
 
-/// Appends the name of sandbox `number`, if the text says what it names.
+/// Appends the name of sandbox `number` with the address of what it names, or nothing where it
+/// names nothing.
 fn list_name(
     alloc: Global,
     listed: &mut Vec<NameAddress>,
@@ -124,7 +125,8 @@ fn list_name(
     Ok(())
 }
 
-/// Appends the gates and labels of sandbox `number`.
+/// Appends the gates and labels of sandbox `number`, which lies at `at`. `names` has their texts,
+/// and `placed` what they name, in the same order.
 fn list_names(
     alloc: Global,
     listed: &mut Vec<NameAddress>,
@@ -146,7 +148,9 @@ fn list_names(
     Ok(())
 }
 
-/// The gates and labels of the sandboxes at these places, by what was placed of each.
+/// The gates and labels of the sandboxes, with their addresses where the sandboxes lie at the
+/// places `given` or their usual ones. A sandbox of `source` and one of `placed` with the same
+/// number are taken for the same.
 fn listed_names(
     alloc: Global,
     given: &[Place],

@@ -17,7 +17,8 @@ use sfi_rewrite::PlacedPart;
 use std::alloc::AllocError;
 
 /// Whether the masks of the format fit data of `data_size` bytes at `place`, and code of `size` bytes
-/// lies clear of their zone at zero, if there is one.
+/// lies clear of their zone at zero, if there is one: the first and last addresses, which an access
+/// after a single mask may reach as well as the data. With other masks there is nothing to ask.
 fn suits_masks(format: Format, size: u32, place: Place, data_size: u32) -> bool
     ensures { IsTrue result ↔ (IsMaskedBase format place.data_base data_size
         × HasZoneRoom format (record { base = place.code_base; size = size })
@@ -32,7 +33,8 @@ fn suits_masks(format: Format, size: u32, place: Place, data_size: u32) -> bool
     is_clear_of_zero(place.code_base, size, place.data_base, data_size)
 }
 
-/// Whether the sandbox may lie at `place` by itself, with a code region of `size` bytes.
+/// Whether the sandbox may lie at `place`, with a code region of `size` bytes, if no other sandbox
+/// and no overlap of its own regions is looked at.
 fn is_right_place(part: &PlacedPart, size: u32, place: Place) -> bool
     ensures { IsTrue result ↔ IsRightPlace part.now size place }
 {
@@ -59,8 +61,9 @@ fn is_right_place(part: &PlacedPart, size: u32, place: Place) -> bool
     suits_masks(part.format(), size, place, data_size)
 }
 
-/// Whether the spans `code` and `guarded` of a sandbox of this format lie apart from those `before` and
-/// from each other, and all of these clear of their zones at zero, if there are any.
+/// Whether the code region `code` of a sandbox of this format and its data region with guard zones,
+/// `guarded`, overlap neither each other nor the spans `before` of other sandboxes, and none of
+/// these a zone at zero of one, if the format has such zones.
 fn lie_apart(format: Format, before: &[Span], code: Span, guarded: Span) -> bool
     requires bounded { All IsBounded before.now }
     requires apart { AllPairs AreApart before.now }
