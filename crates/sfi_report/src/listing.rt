@@ -14,7 +14,8 @@ use sfi_image::{Gate, Image, SandboxPart};
 use sfi_text::push_instr;
 use std::alloc::{AllocError, Global};
 
-/// Writes the line of an instruction with these bytes.
+/// Writes the line of an instruction, `ADDRESS HEX INSTRUCTION`: `bytes` are its two or four bytes,
+/// and `instr` is what they mean.
 pub(crate) fn push_instruction(
     out: &mut String,
     address: u32,
@@ -33,7 +34,8 @@ pub(crate) fn push_instruction(
     out.push_str("\n")
 }
 
-/// Writes the line of the bytes that a reading leaves.
+/// Writes the line `ADDRESS .bytes HEX` of the last bytes of a unit, from which no instruction can
+/// be read. Each byte has its two digits, in the order of the code.
 fn push_rest(out: &mut String, address: u32, bytes: &[u8]) -> Result<(), AllocError>
     requires { 0 < length bytes.now }
     ensures { OnOk result
@@ -47,7 +49,8 @@ fn push_rest(out: &mut String, address: u32, bytes: &[u8]) -> Result<(), AllocEr
     out.push_str("\n")
 }
 
-/// Writes the lines of the unit of code at the address.
+/// Writes the lines of one unit of code, the bundle or word at the address with these bytes. An
+/// instruction that would go on beyond the unit's end is none.
 fn list_unit(out: &mut String, address: u32, bytes: &[u8]) -> Result<(), AllocError>
     requires { address + length bytes.now ≤ 2 ^ 32 }
     ensures { OnOk result (Adds (string_bytes out.old) (string_bytes out.new)
@@ -69,7 +72,7 @@ fn list_unit(out: &mut String, address: u32, bytes: &[u8]) -> Result<(), AllocEr
     Ok(())
 }
 
-/// Writes the region's base and its size.
+/// Writes the region's base, in eight digits, and its size in bytes, as a decimal number.
 #[tactic(auto, unfolding(crate::specs::Listing::region_text))]
 fn push_region(out: &mut String, base: u32, size: usize) -> Result<(), AllocError>
     ensures { OnOk result (string_bytes out.new ≡ string_bytes out.old ++ region_text base size) }
@@ -78,7 +81,8 @@ fn push_region(out: &mut String, base: u32, size: usize) -> Result<(), AllocErro
     write!(out, " {size}")
 }
 
-/// Writes the listing's line of the sandbox's fields.
+/// Writes the listing's line of the sandbox's fields: its number, regions, start, and how many
+/// gates and first data bytes it has.
 fn list_fields(out: &mut String, sandbox: u32, part: &SandboxPart) -> Result<(), AllocError>
     ensures { (format : Format) → OnOk result (string_bytes out.new
         ≡ string_bytes out.old ++ sandbox_line sandbox (view format part.now)) }
@@ -104,7 +108,7 @@ fn list_gate(out: &mut String, gate: &Gate) -> Result<(), AllocError>
     write!(out, " {service}\n")
 }
 
-/// Writes the lines of a sandbox.
+/// Writes the lines of a sandbox, whose number, counted from 0, is `sandbox`.
 fn list_sandbox(
     out: &mut String,
     format: Format,
@@ -139,7 +143,7 @@ fn list_code(out: &mut String, format: Format, part: &SandboxPart) -> Result<(),
     Ok(())
 }
 
-/// Writes the line of the image's format, if it has one.
+/// Writes the line of the image's format; an image of the first format has none.
 #[tactic(auto, unfolding(crate::specs::Listing::format_line))]
 fn push_format(out: &mut String, format: Format) -> Result<(), AllocError>
     ensures { OnOk result (string_bytes out.new ≡ string_bytes out.old ++ format_line format) }

@@ -1,4 +1,5 @@
-//! The names of a sandbox, in the listing and the map.
+//! The names of a sandbox, in the listing and the map: what the table at the end of its first data
+//! bytes says that it exports and imports, with addresses.
 ghost use Rattle.std.specs.Prelude.{◌≡◌, ◌≤◌, ◌++◌, ℕ, List, OnOk, IfOk, string_bytes};
 ghost use Rattle.std.specs.List.{All, flat_map};
 ghost use Rattle.sfi_names.specs.Tables.{Named, entries, IsNamed, IsName};
@@ -10,7 +11,7 @@ use crate::digits::push_eight_digits;
 use sfi_names::{Kind, NameEntry, Names, first_name_entry};
 use std::alloc::{AllocError, Global};
 
-/// Writes the word for a name of this kind.
+/// Writes the word for a name of this kind, and a space after it.
 #[tactic(auto, unfolding(crate::specs::Listing::kind_word))]
 fn push_kind(out: &mut String, kind: Kind) -> Result<(), AllocError>
     ensures { OnOk result (string_bytes out.new ≡ string_bytes out.old ++ kind_word kind) }
@@ -32,7 +33,7 @@ fn push_name_bytes(out: &mut String, name: &[u8]) -> Result<(), AllocError>
     Ok(())
 }
 
-/// Writes the line of a name.
+/// Writes the line of a name, `KIND ADDRESS NAME`.
 fn push_name_line(out: &mut String, kind: Kind, entry: &NameEntry<'_>) -> Result<(), AllocError>
     requires { IsNamed (named entry.now) }
     ensures { OnOk result (string_bytes out.new
@@ -45,7 +46,7 @@ fn push_name_line(out: &mut String, kind: Kind, entry: &NameEntry<'_>) -> Result
     out.push_str("\n")
 }
 
-/// Writes the lines of the names whose entries are these bytes.
+/// Writes the lines of the names whose entries in the table are these bytes, one after another.
 fn push_entries(out: &mut String, kind: Kind, bytes: &[u8]) -> Result<(), AllocError>
     ensures { (es : List Named) → All IsNamed es → bytes.now ≡ entries es
         → OnOk result (string_bytes out.new

@@ -13,7 +13,7 @@ use sfi_rules::{Finding, Rule};
 use sfi_text::push_instr;
 use std::alloc::{AllocError, Global};
 
-/// Writes the halfword that the code begins with.
+/// Writes the halfword that the code begins with, as `.half 0xHHHH`.
 fn push_first_halfword(out: &mut String, code: &[u8]) -> Result<(), AllocError>
     requires { 2 ≤ length code.now }
     ensures { OnOk result (string_bytes out.new ≡ string_bytes out.old ++ half_text code.now) }
@@ -22,7 +22,8 @@ fn push_first_halfword(out: &mut String, code: &[u8]) -> Result<(), AllocError>
     push_halfword(out, &code[..2])
 }
 
-/// Writes the instruction that the code begins with.
+/// Writes the instruction that the code begins with. There is one where a rule other than V1 and V2
+/// is broken.
 fn push_first_instruction(out: &mut String, code: &[u8]) -> Result<(), AllocError>
     requires { SpellsFirst code.now }
     ensures { OnOk result
@@ -34,7 +35,9 @@ fn push_first_instruction(out: &mut String, code: &[u8]) -> Result<(), AllocErro
     }
 }
 
-/// Writes what stands where the rule is broken; the code begins there.
+/// Writes the last part of a finding's line. `code` is the code from the finding's address on: of
+/// that the instruction is written; for V1 and V2, by which there may be none, the halfword; for V9
+/// that a gate's stub is expected.
 fn push_place_text(out: &mut String, rule: Rule, code: &[u8]) -> Result<(), AllocError>
     requires { IsPlace rule code.now }
     ensures { OnOk result
@@ -47,7 +50,7 @@ fn push_place_text(out: &mut String, rule: Rule, code: &[u8]) -> Result<(), Allo
     }
 }
 
-/// Writes the line up to what stands at the finding's address.
+/// Writes the line of a finding up to the instruction: `S AAAAAAAA Vk NAME `.
 fn push_finding_front(out: &mut String, format: Format, finding: &Finding) -> Result<(), AllocError>
     ensures { OnOk result
         (string_bytes out.new ≡ string_bytes out.old ++ line_front format finding.now) }
@@ -60,7 +63,7 @@ fn push_finding_front(out: &mut String, format: Format, finding: &Finding) -> Re
     write!(out, " V{number} {name} ")
 }
 
-/// Writes the line of a finding in one of the parts.
+/// Writes the line of a finding in one of an image's sandboxes, `parts`.
 fn push_finding(
     out: &mut String,
     format: Format,

@@ -13,7 +13,7 @@ use rv_word::Reg;
 use sfi_image::SandboxPart;
 use std::alloc::{AllocError, Global};
 
-/// The code from an address on; none where the address lies outside the code.
+/// The code's bytes from an address on; no bytes where the address lies outside the code.
 fn code_from<'a>(part: &SandboxPart<'a>, at: u32) -> &'a [u8]
     ensures { (format : Format) → result.now ≡ code_from (view format part.now) at }
 {
@@ -27,7 +27,8 @@ fn code_from<'a>(part: &SandboxPart<'a>, at: u32) -> &'a [u8]
     &part.code[offset..]
 }
 
-/// Writes the line of an address, by what the code has there.
+/// Writes the line of an address, where `code` is the code from there on: the instruction as the
+/// listing has it, or two hyphens where there is none.
 fn push_place_line(out: &mut String, at: u32, code: &[u8]) -> Result<(), AllocError>
     ensures { OnOk result
         (Adds (string_bytes out.old) (string_bytes out.new) (IsPlaceLine at code.now)) }
@@ -41,7 +42,7 @@ fn push_place_line(out: &mut String, at: u32, code: &[u8]) -> Result<(), AllocEr
     }
 }
 
-/// Writes a register with its value.
+/// Writes a register with its value, `xN=AAAAAAAA`. A line ends after x7, x15, x23 and x31.
 fn push_register_value(out: &mut String, register: Reg, value: u32) -> Result<(), AllocError>
     ensures { OnOk result
         (string_bytes out.new ≡ string_bytes out.old ++ register_text register value) }
@@ -68,7 +69,7 @@ fn push_registers(out: &mut String, cpu: &Cpu) -> Result<(), AllocError>
     Ok(())
 }
 
-/// Writes how the text of sandbox `sandbox` begins.
+/// Writes how the text of sandbox `sandbox` begins, `sandbox=S pc=`; the pc follows.
 fn push_state_front(out: &mut String, sandbox: u32) -> Result<(), AllocError>
     ensures { OnOk result (string_bytes out.new ≡ string_bytes out.old ++ state_front sandbox) }
 {
