@@ -1,4 +1,5 @@
-//! Decodes the part of a text that is in memory.
+//! Decodes the part of a hexadecimal text that is in memory: block by block of 64 digits where the
+//! text has as many together, and else byte by byte.
 
 ghost use Rattle.std.specs.Prelude.{◌≡◌, ◌⊎◌, ◌*◌, ◌+◌, ◌%◌, ◌<◌, ◌≤◌, ℕ, drop, filter, length, slice_index, take, true};
 ghost use Rattle.sfi_io.specs.Hexadecimal.{is_kept};
@@ -9,8 +10,9 @@ ghost use Rattle.sfi_io.specs.declared.hexadecimal.HexFault.TheVariants.{Odd, Di
 
 use crate::hexadecimal::{BLOCK, HexFault, byte_of, decode_block, digit_value, is_white};
 
-/// How far a text was decoded: how many of its bytes were read, how many bytes they make, and a
-/// first digit whose second didn't come yet.
+/// How far a text was decoded: how many of its bytes were read (`taken`), how many bytes they make
+/// (`made`), and a byte that was read as a pair's first digit, whose second didn't come yet
+/// (`high`). Whether that is a digit is told with the second.
 #[derive(Drop)]
 pub(crate) struct DecodeProgress {
     pub(crate) taken: usize,
@@ -19,14 +21,15 @@ pub(crate) struct DecodeProgress {
 }
 
 /// How much of a text was decoded, by pairs of digits that stand together: how many of its bytes were
-/// read, and how many bytes they make.
+/// read (`taken`), and how many bytes they make (`made`).
 #[derive(Drop)]
 struct Blocks {
     taken: usize,
     made: usize,
 }
 
-/// Where a text goes on after `pairs` pairs of digits and a byte of white space that may follow.
+/// How many bytes of a text its first `pairs` pairs of digits take, with the byte after them if
+/// that is white space, as a line's end.
 #[inline(always)]
 fn after_pairs(text: &[u8], pairs: usize) -> usize
     requires { 2 * pairs < length text.now }
@@ -39,8 +42,8 @@ fn after_pairs(text: &[u8], pairs: usize) -> usize
     if is_white(text[at]) { at + 1 } else { at }
 }
 
-/// Takes the pairs of digits that a text's first block begins with, and a byte of white space after
-/// them.
+/// Decodes the pairs of digits with which a text's first 64 bytes begin, and takes a byte of white
+/// space after them. `made` is 0 where they don't begin with a pair.
 #[inline(always)]
 fn decode_line(text: &[u8], out: &mut [u8]) -> Blocks
     requires text { 64 < length text.now }
@@ -96,8 +99,9 @@ fn decode_lines(text: &[u8], out: &mut [u8]) -> Blocks
     Blocks { taken, made }
 }
 
-/// Takes blocks from the front of a text, if they may be tried, or else one byte. The text doesn't
-/// begin with white space, and no digit waits.
+/// Decodes blocks at the front of a text, if `quick` says to try them and they take a byte; or else
+/// takes one byte as the first digit of a pair. The text doesn't begin with white space, and no
+/// digit waits.
 #[inline(always)]
 fn decode_first(text: &[u8], out: &mut [u8], quick: bool) -> DecodeProgress
     requires some { 0 < length text.now }
@@ -128,7 +132,9 @@ fn decode_first(text: &[u8], out: &mut [u8], quick: bool) -> DecodeProgress
     }
 }
 
-/// Takes what a text begins with; nothing, where the digit that waits and the next byte are no pair.
+/// Decodes a little at the front of a text: a byte of white space, the second digit of the pair
+/// whose first, `high`, waits, or what `decode_first` takes. Nothing is taken where that pair isn't
+/// two digits.
 #[inline(always)]
 fn decode_next(high: Option<u8>, text: &[u8], out: &mut [u8], quick: bool) -> DecodeProgress
     requires text { 0 < length text.now }
@@ -168,9 +174,10 @@ fn decode_next(high: Option<u8>, text: &[u8], out: &mut [u8], quick: bool) -> De
     }
 }
 
-/// Decodes a text, of whose digits `high` may wait from before, until it ends, `out` is full, or a
-/// pair comes that isn't two digits. A block of 64 digits is tried only where the tries so far gave
-/// 8 bytes each in the mean.
+/// Decodes a text into `out` until the text ends, `out` is full, or a pair comes that isn't two
+/// digits. `high` is a first digit that waits from the text before. Blocks of 64 digits are tried
+/// only where the tries so far gave 8 bytes each in the mean, since a try costs much where digits
+/// stand apart.
 pub(crate) fn decode_front(high: Option<u8>, text: &[u8], out: &mut [u8]) -> DecodeProgress
     ensures taken { result.taken ≤ length text.now }
     ensures made { result.made ≤ result.taken }
@@ -203,8 +210,9 @@ pub(crate) fn decode_front(high: Option<u8>, text: &[u8], out: &mut [u8]) -> Dec
 }
 
 /// The fault at a pair that isn't two digits. `high` is its first byte, `made` the number of pairs
-/// before it, `left` the number of digits from it on. An odd `left` goes first; else the first bad
-/// digit's place.
+/// before it, and `left` the number of bytes other than white space from `high`, which counts, to the
+/// text's end. An odd `left` goes first; else the place of the first byte that is no digit, as
+/// `HexFault` counts it. `cold`, since most texts have none.
 #[cold]
 pub(crate) fn pair_fault(high: Option<u8>, made: usize, left: usize) -> HexFault
     requires { made ≤ limit }

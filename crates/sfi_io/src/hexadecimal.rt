@@ -71,7 +71,8 @@ fn class_of(byte: u8) -> u8
     CLASSES[byte as usize]
 }
 
-/// Whether the byte is white space.
+/// Whether the byte is white space: a space, a tab, a CR or an LF. `is_kept` of specs/Hexadecimal
+/// says the same of the others.
 #[inline(always)]
 #[tactic(auto, using(crate::proofs::Digits::class_white))]
 pub(crate) fn is_white(byte: u8) -> bool
@@ -80,7 +81,7 @@ pub(crate) fn is_white(byte: u8) -> bool
     class_of(byte) == WHITE
 }
 
-/// The number of a digit of either case.
+/// The number, 0 to 15, of a hexadecimal digit of either case; `None` for any other byte.
 #[tactic(auto, using(crate::proofs::Digits::class_digit_some, crate::proofs::Digits::class_digit_none))]
 pub(crate) fn digit_value(digit: u8) -> Option<u8>
     ensures { result ≡ hex_digit_value digit }
@@ -89,7 +90,7 @@ pub(crate) fn digit_value(digit: u8) -> Option<u8>
     if value < WHITE { Some(value) } else { None }
 }
 
-/// How many bytes aren't white space.
+/// How many bytes of the text aren't white space, be they digits or not.
 pub(crate) fn digits_in(text: &[u8]) -> usize
     ensures count { result ≡ length (filter is_kept text.now) }
     ensures most { result ≤ length text.now }
@@ -103,7 +104,8 @@ pub(crate) fn digits_in(text: &[u8]) -> usize
     count
 }
 
-/// The byte of two digits. No branch tells figures from letters.
+/// The byte that two hexadecimal digits spell; `None` where one of the two is no digit. No branch
+/// tells figures from letters, since the processor couldn't predict it.
 #[inline(always)]
 pub(crate) fn byte_of(high: u8, low: u8) -> Option<u8>
     ensures none { IsNone result → hex_digit_value high ≡ None ⊎ hex_digit_value low ≡ None }
@@ -119,7 +121,7 @@ pub(crate) fn byte_of(high: u8, low: u8) -> Option<u8>
     }
 }
 
-/// How many digits are read at a time, where the text has as many.
+/// How many digits are read at a time, where the text has as many: as wide as the vectors below.
 pub(crate) const BLOCK: usize = 64;
 
 /// Each digit's value and 240, found by arithmetic on all side by side; less for any other byte.
@@ -161,13 +163,14 @@ fn joined_digits(values: u8x64) -> [u8; BLOCK / 2]
         → 240 ≤ slice_index values (2 * k + 1) → slice_index result k
         ≡ (slice_index values (2 * k) - 240) * 16 + (slice_index values (2 * k + 1) - 240) }
 {
-    // The product's upper byte is the first value, 16 times, and the second, and 240.
+    // The product's upper byte, modulo 256, is 16 times the first digit and the second one and 240;
+    // with 16 more the 240 is gone.
     let products = u16x32::from_le_bytes(values) * u16x32::splat(4097);
     ((products >> 8).cast::<u8>() + u8x32::splat(16)).to_array()
 }
 
-/// Writes the bytes of the pairs of digits that a block begins with, and says how many they are.
-/// What is written after them is no part of the text.
+/// Writes to `out` the bytes of the pairs of digits that a block begins with, and says how many
+/// bytes they are, from 0 to 32. What `out` has after these has no meaning.
 #[inline(always)]
 pub(crate) fn decode_block(block: &[u8], out: &mut [u8]) -> usize
     requires block { length block.now ≡ 64 }
@@ -182,7 +185,7 @@ pub(crate) fn decode_block(block: &[u8], out: &mut [u8]) -> usize
     pairs_before(values)
 }
 
-/// The bytes that the text's digits spell.
+/// The bytes that the text's digits spell, or why there are none. It decodes the text in one go.
 fn decoded(alloc: Global, text: &[u8]) -> Result<Vec<u8>, HexStop>
     requires { length text.now ≤ limit }
     ensures bytes { IfOk result (λ v. decode_of (filter is_kept text.now) ≡ Ok v.items) }

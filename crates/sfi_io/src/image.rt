@@ -12,10 +12,11 @@ use sfi_formats::Format;
 use std::alloc::Global;
 use std::io::Read;
 
-/// How many bytes a magic has.
+/// How many bytes a magic has, the mark of its format with which an image begins.
 const MAGIC_BYTES: usize = 4;
 
-/// Whether the input begins with the magic of a format.
+/// Whether the input begins with the magic of a format: then it is taken for an image's own bytes,
+/// and else for hexadecimal text. A new format is to be added here.
 pub fn begins_as_image(input: &[u8]) -> bool
     ensures { IsTrue result ↔ BeginsAsImage input.now }
 {
@@ -25,8 +26,8 @@ pub fn begins_as_image(input: &[u8]) -> bool
         || Format::Sfis.begins(input)
 }
 
-/// The bytes of the image that the input is, or those that it spells. Of digits an odd number goes
-/// before a byte that is no digit.
+/// The bytes of the image that the input is, or those that it spells as hexadecimal text. Where
+/// that has two faults, an odd number of digits goes before a byte that is no digit.
 pub fn image_bytes(alloc: Global, input: &[u8]) -> Result<Vec<u8>, HexStop>
     requires { length input.now ≤ limit }
     ensures bytes { IfOk result (λ v. GivesImage input.now v.items) }

@@ -1,5 +1,6 @@
 //! What the program reads and writes: its input to the end, the bytes of an image or those that
-//! hexadecimal text spells, and a text that is written whole.
+//! hexadecimal text spells, and a text that is written whole. A text's digits make bytes by pairs,
+//! with white space anywhere between digits.
 #![tactic(auto)]
 
 mod front;

@@ -14,7 +14,7 @@ pub const INPUT_LIMIT: usize = 134217728;
 /// How many bytes are read at a time, at most. They lie on the stack.
 const PIECE: usize = 16384;
 
-// Each turn but the last takes a byte or more.
+// The most reads of an input that keeps the limit: each but the last takes a byte or more.
 const TURNS: usize = INPUT_LIMIT + 1;
 
 /// All of the input, or the sign that it passes the limit.
@@ -39,8 +39,8 @@ impl From<AllocError> for ReadStop {
     }
 }
 
-/// Reads to the end, or past the limit. Every error of the reader is a failure:
-/// none is tried again.
+/// Reads to the end, or past the limit, where `TooLarge` is the answer and what was read is
+/// dropped. Every error of the reader is a failure: none is tried again.
 pub fn read_input<R: Read>(alloc: Global, reader: &mut R) -> Result<Input, ReadStop>
     ensures { IfOk result (IsInput (R.remaining reader.old)) }
 {
@@ -62,7 +62,7 @@ pub fn read_input<R: Read>(alloc: Global, reader: &mut R) -> Result<Input, ReadS
 }
 
 /// Writes the text, and says whether all of it was taken. A write that fails, or that takes nothing
-/// of what is left, ends it.
+/// of what is left, ends it: then the answer is `false`, and a part may have been written.
 pub fn write_out<W: Write>(writer: &mut W, text: &[u8]) -> bool
     ensures whole { OnTrue result
         (Appends (W.contents writer.old) (W.contents writer.new) text.now) }

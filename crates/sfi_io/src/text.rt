@@ -31,7 +31,7 @@ struct HeldText {
     // How many bytes of text were read, and how many bytes they made.
     read: usize,
     made: usize,
-    // A first digit that waits for its second.
+    // A byte that was read as a pair's first digit, and waits for the second.
     high: Option<u8>,
     ghost inside: { (at ≤ end) × (end ≤ 16380) },
     ghost fewer: { (made + (end - at) ≤ read) × (read ≤ limit) },
@@ -68,7 +68,8 @@ impl<'a, R: Read> HexReader<'a, R> {
         }
     }
 
-    /// Reads more of the text, of which none is left in memory, and says how much: none at its end.
+    /// Reads the next piece of the text, where all that is held was decoded, and says how many
+    /// bytes it has: 0 at the text's end.
     fn fill(&mut self) -> Result<usize, TextStop>
         requires { self.old.held.at ≡ self.old.held.end }
         ensures same { IfOk result (λ n. GoesOn (ahead R.remaining self.old)
@@ -94,8 +95,9 @@ impl<'a, R: Read> HexReader<'a, R> {
         Ok(count)
     }
 
-    /// How many bytes that are no white space are left up to the text's end, counting a digit that
-    /// waits.
+    /// Reads the text to its end, and says how many bytes that are no white space were left,
+    /// counting a digit that waits. It is for a fault, which wants to know whether the number is
+    /// odd.
     fn digits_left(&mut self) -> Result<usize, TextStop>
         ensures left { IfOk result (λ count. AreLeft (ahead R.remaining self.old) count) }
         ensures stop { IfErr result (λ stop. IfSome (ahead R.remaining self.old) (IsReadStop stop)) }
@@ -128,7 +130,7 @@ impl<'a, R: Read> HexReader<'a, R> {
         }
     }
 
-    /// At the text's end: no bytes, or the fault that a digit waits for its second.
+    /// The answer at the text's end: `Ok(0)`, or the fault that a digit waits for its second.
     fn end(&self) -> Result<usize, TextStop>
         requires { IsOver (ahead R.remaining self.now) self.now.held.high }
         ensures none { IfOk result (λ n. n ≡ 0) }
@@ -197,7 +199,7 @@ impl<'a, R: Read> HexReader<'a, R> {
         }
     }
 
-    /// Reads the text to its end, and says its fault.
+    /// Reads the text to its end, drops what it spells, and says its fault, if it has one.
     pub fn read_rest(&mut self) -> Result<(), TextStop>
         ensures spelled { IfOk result (λ _. IfSome (to_come R.remaining self.old) (λ r. IsOk r)) }
         ensures stop { IfErr result

@@ -51,8 +51,8 @@ fn push_short(code: &mut Vec<u8>, form: Form16) -> Result<(), AllocError>
 }
 
 /// Appends the jal or branch `instr`, with the offset from here to name number `place`. A name that
-/// is no code is `UnknownName`, and an offset that the instruction can't hold `BranchReach`, of
-/// this line of the source.
+/// is no gate and no label of the code is `UnknownName`, and an offset that the instruction can't
+/// hold `BranchReach`, of this line of the source.
 fn push_named_jump(
     code: &mut Vec<u8>,
     at: Bases,
