@@ -13,13 +13,14 @@ use clap::error::ErrorKind;
 use clap::{Command, Error};
 use std::alloc::{AllocError, Global};
 
-/// The error's text, which may cite a word as it was given.
+/// The error's text, with control characters escaped: it may cite a word as it was given.
 fn shown(alloc: Global, error: &Error) -> Result<String, AllocError> {
     let text = error.to_string(alloc)?;
     escaped(alloc, text.as_str())
 }
 
-/// What is printed for words that don't parse, or ask for help or the version.
+/// The fault for an error of the parser: `Usage` with what is printed for words that don't parse,
+/// or ask for help or the version; or `Memory`.
 fn usage(alloc: Global, error: Error) -> JobFault
     ensures refused { number_of result ≡ 1 → kind_of error ≢ ErrorKind.OutOfMemory }
     ensures other { number_of result ≢ 2 }
@@ -42,9 +43,9 @@ fn sfi_program<'a>(alloc: Global) -> Result<Command<'a>, AllocError>
 
 /// The job that the words ask for. The first word is the program's name, as `env::args` gives it.
 ///
-/// Words that don't parse, have an `--at` that is no place, or ask for both `--raw` and `--report`, for help
-/// or for the version, are a `Usage`, with the text to print. `Hex` comes of words that parse, where the text of `--input` has an odd number of
-/// digits or something that is no digit.
+/// Words that don't parse, have an `--at` that is no place, or ask for both `--raw` and `--report`,
+/// for help or for the version, are a `Usage`, with the text to print. `Hex` comes of words that
+/// parse, where the text of `--input` has an odd number of digits or something that is no digit.
 pub fn job_of(alloc: Global, words: &[String]) -> Result<Job, JobFault>
     ensures job { IfOk result (Asks (map string_bytes words.now)) }
     ensures fault { IfErr result (IsFaultOf (map string_bytes words.now)) }

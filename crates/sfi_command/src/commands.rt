@@ -1,5 +1,5 @@
-//! The commands, each in a file of its own: its row, of which the command line, its help and the documents are
-//! made, and the job that its options ask for.
+//! The commands, each in a file of its own: its row, of which the command line, its help and the
+//! documents are made, and the job that its options ask for.
 
 ghost use Rattle.sfi_command.specs.private.{IsAsked};
 
@@ -74,7 +74,8 @@ pub(crate) const COMMANDS: &[CommandRow] = &[
     exec::EXEC,
 ];
 
-/// The job that the subcommand of this name asks for, with what was found for its options.
+/// The job that the subcommand of this name asks for, with what was found for its options. Each row
+/// of `COMMANDS` has a case here, by the same name.
 pub(crate) fn job_named(alloc: Global, name: &str, found: &ArgMatches<'_>) -> Result<Job, JobFault>
     ensures { IsAsked name.now found.now result }
 {

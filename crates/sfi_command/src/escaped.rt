@@ -2,7 +2,8 @@
 
 use std::alloc::{AllocError, Global};
 
-/// A control character would move a terminal's cursor, or change its colours.
+/// Appends `\u{DIGITS}`, with the character's number in hexadecimal, in place of a control
+/// character, which would move a terminal's cursor or change its colours.
 fn push_escape(out: &mut String, c: char) -> Result<(), AllocError> {
     out.push_str("\\u{")?;
     write!(out, "{:x}", c as u32)?;

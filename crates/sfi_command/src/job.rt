@@ -48,8 +48,8 @@ pub enum Job {
     },
     /// A run of the image's sandboxes.
     Run(RunOptions),
-    /// A run of the sandboxes of an image in a file, one after another, whose put and get are those of
-    /// the process.
+    /// A run of the sandboxes of an image in a file, one after another, whose services put and get
+    /// write and read the process's standard output and input.
     Exec {
         /// The file's path.
         image: String,
@@ -81,7 +81,8 @@ pub enum Job {
 }
 
 impl Job {
-    /// Whether what the job reads is an image's bytes, however it begins.
+    /// Whether what the job reads is an image's bytes, however it begins: a `check --raw`. The
+    /// `--raw` of other jobs is about what they write.
     pub fn is_raw(&self) -> bool
         ensures { result ≡ is_raw self.now }
     {
@@ -98,8 +99,8 @@ pub const HEX_LINE: &str = "option fault hex\n";
 /// Why the words ask for no job.
 #[derive(Debug, Drop, Error)]
 pub enum JobFault {
-    /// The words don't parse, have an `--at` that is no place, or ask for both `--raw` and `--report`, for
-    /// help or for the version: the text to print.
+    /// The words don't parse, have an `--at` that is no place, or ask for both `--raw` and
+    /// `--report`, for help or for the version: the text to print.
     #[error("{0}")]
     Usage(String),
     /// The words parse, and the text of `--input` spells no bytes.
@@ -111,7 +112,7 @@ pub enum JobFault {
 }
 
 impl JobFault {
-    /// The number of the fault, from 1 to 3.
+    /// The number of the fault, from 1 to 3. `number_of` of specs/Command has the same.
     pub fn number(&self) -> u32
         ensures { result ≡ number_of self.now }
     {
@@ -131,7 +132,8 @@ impl From<AllocError> for JobFault {
     }
 }
 
-/// The fault of words that parse and name no job, with the text to print.
+/// The fault of words that parse and still ask for no job, a `Usage` with the text to print;
+/// `Memory` where the text can't be copied.
 pub(crate) fn usage_fault(alloc: Global, text: &str) -> JobFault
     ensures { number_of result ≢ 2 }
 {
@@ -141,9 +143,9 @@ pub(crate) fn usage_fault(alloc: Global, text: &str) -> JobFault
     }
 }
 
-/// The fault where no job comes of words that parse: there is no such subcommand, or an option or word is
-/// missing or out of its range. By the rows of `COMMANDS` clap refuses all of these before, with a text of
-/// its own, so this text isn't met.
+/// The fault where no job comes of words that parse: there is no such subcommand, or an option or
+/// word is missing or out of its range. By the rows of `COMMANDS` clap refuses all of these before,
+/// with a text of its own, so this text is never printed.
 pub(crate) fn no_job_fault(alloc: Global) -> JobFault
     ensures { number_of result ≢ 2 }
 {

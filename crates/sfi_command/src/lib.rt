@@ -1,4 +1,8 @@
 //! The command line: the job that its words ask for.
+//!
+//! A new command is a file in `commands`, a row of `COMMANDS` and a case of `job_named` there, a
+//! variant of [`Job`], and in specs/Command its shape in `sfi` and its job in `name_of` and
+//! `HasOptions`.
 #![tactic(auto)]
 
 mod command_line;

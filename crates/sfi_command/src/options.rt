@@ -1,4 +1,5 @@
-//! What was found for options.
+//! What the parser found for options. An option is given by its name in the command's row, without
+//! the two hyphens.
 
 ghost use Rattle.std.specs.Prelude.{◌≡◌, ℕ, IfErr, IfOk, IfSome, None, codes};
 ghost use Rattle.clap.specs.Matches.{found_of};
@@ -12,7 +13,7 @@ use clap::ArgMatches;
 use sfi_formats::Place;
 use std::alloc::Global;
 
-/// Whether the option was given, which takes no value.
+/// Whether the option, which takes no value, was given.
 pub(crate) fn is_given(found: &ArgMatches<'_>, option: &str) -> bool
     ensures { IsGiven option.now (rows_of (found_of found.now)) result }
 {
@@ -22,7 +23,9 @@ pub(crate) fn is_given(found: &ArgMatches<'_>, option: &str) -> bool
     }
 }
 
-/// The number that the option's text is, from the least to the most.
+/// The decimal number that the option's text is, from `least` to `most`, which are those of the
+/// option's row; `None` where there is no text or it is no such number. (The parser refuses such
+/// words before.)
 pub(crate) fn count_of(found: &ArgMatches<'_>, option: &str, least: u32, most: u32) -> Option<u32>
     ensures some { IfSome result (IsCount option.now least most (rows_of (found_of found.now))) }
     ensures none { result ≡ None → (n : ℕ)
@@ -35,7 +38,8 @@ pub(crate) fn count_of(found: &ArgMatches<'_>, option: &str, least: u32, most: u
     }
 }
 
-/// The places that the uses of `--at` spell, in their order.
+/// The places that the uses of `--at` spell, in their order: no places where it wasn't given. A
+/// text that spells no place is a `Usage`.
 pub(crate) fn places_of(alloc: Global, found: &ArgMatches<'_>) -> Result<Vec<Place>, JobFault>
     ensures places { IfOk result (λ places.
         SpellPlaces (texts_of (codes "at") (rows_of (found_of found.now))) places.items) }

@@ -18,7 +18,8 @@ error: '--at' wants CODE:DATA, two hexadecimal addresses
 For more information, try '--help'.
 ";
 
-/// The address that the text spells.
+/// The address that the text spells, in 1 to 8 hexadecimal digits of either case and nothing else;
+/// `None` for any other text.
 fn parse_address(text: &str) -> Option<u32>
     ensures some { IfSome result (SpellsAddress text.now) }
     ensures none { result ≡ None → (address : ℕ) → ¬ SpellsAddress text.now address }
@@ -32,7 +33,7 @@ fn parse_address(text: &str) -> Option<u32>
     }
 }
 
-/// The place that the text spells.
+/// The place that the text spells, `CODE:DATA`, two addresses; `None` for any other text.
 fn parse_place(text: &str) -> Option<Place>
     ensures some { IfSome result (SpellsPlace text.now) }
     ensures none { result ≡ None → (place : Place) → ¬ SpellsPlace text.now place }
@@ -46,7 +47,7 @@ fn parse_place(text: &str) -> Option<Place>
     })
 }
 
-/// The place that the text spells, or the fault of one that spells none.
+/// The place that the text of an `--at` spells, or a `Usage` where it spells none.
 pub(crate) fn place_that(alloc: Global, text: &str) -> Result<Place, JobFault>
     ensures place { IfOk result (SpellsPlace text.now) }
     ensures fault { IfErr result (IsTextFault text.now) }
@@ -57,7 +58,7 @@ pub(crate) fn place_that(alloc: Global, text: &str) -> Result<Place, JobFault>
     }
 }
 
-/// The places that the texts spell, in their order.
+/// The places that the texts of `--at` spell, in their order, or a `Usage` where one spells none.
 pub(crate) fn parse_places(alloc: Global, texts: &[&str]) -> Result<Vec<Place>, JobFault>
     ensures places { IfOk result
         (λ places. SpellPlaces (map (λ t. t.now) texts.now) places.items) }

@@ -11,7 +11,7 @@ use clap::builder::ValueParser;
 use clap::{Arg, ArgAction, Command, value_parser};
 use std::alloc::{AllocError, Global};
 
-/// What an option takes. Help calls a value by the word.
+/// What an option takes. The first text of each is the word by which help calls the value.
 #[derive(Clone, Copy)]
 pub(crate) enum Takes<'a> {
     Nothing,
@@ -20,7 +20,8 @@ pub(crate) enum Takes<'a> {
     Texts(&'a str),
     /// A text, and the option has to be given.
     Needed(&'a str),
-    /// A number, after the word what it is where the option isn't given, the least and the most.
+    /// A number. After the word come what it is where the option isn't given, the least and the
+    /// most.
     Count(&'a str, &'a str, u32, u32),
     /// A number from 1 to 18446744073709551615.
     Number(&'a str),
@@ -28,7 +29,7 @@ pub(crate) enum Takes<'a> {
     Word(&'a str),
 }
 
-/// An option, with the line that help has for it.
+/// An option by its name without hyphens, with what it takes and the line that help has for it.
 pub(crate) struct OptionRow<'a> {
     pub(crate) name: &'a str,
     pub(crate) takes: Takes<'a>,
@@ -43,7 +44,8 @@ pub(crate) struct CommandRow<'a> {
     pub(crate) notes: &'a str,
 }
 
-/// An argument of this name, with the line that help has for it.
+/// An argument, which has to be given, without an option's name before it. `name` is for finding
+/// it, and `about` is the line that help has for it.
 fn word_named<'a>(alloc: Global, name: &'a str, about: &'a str) -> Arg<'a>
     ensures rule { rule_of result ≡ required_argument_rule name.now }
     ensures local { result.global ≡ false }
@@ -51,7 +53,7 @@ fn word_named<'a>(alloc: Global, name: &'a str, about: &'a str) -> Arg<'a>
     Arg::new(alloc, name).help(about).required(true)
 }
 
-/// An option of this name, with the line that help has for it.
+/// An option `--NAME`, with the line that help has for it. What it takes is still to be added.
 fn option_named<'a>(alloc: Global, name: &'a str, about: &'a str) -> Arg<'a>
     ensures rule { rule_of result ≡ named_rule name.now }
     ensures local { result.global ≡ false }
@@ -59,7 +61,8 @@ fn option_named<'a>(alloc: Global, name: &'a str, about: &'a str) -> Arg<'a>
     Arg::new(alloc, name).long(name).help(about)
 }
 
-/// The option of this row.
+/// The option or argument of this row, as clap has it. `rule_of_row` of specs/private says the same
+/// of what the parser makes of it.
 fn option_of<'a>(alloc: Global, row: &OptionRow<'a>) -> Arg<'a>
     ensures rule { rule_of result ≡ rule_of_row row.now }
     ensures local { result.global ≡ false }
@@ -104,7 +107,7 @@ fn command_of<'a>(alloc: Global, row: &CommandRow<'a>) -> Result<Command<'a>, Al
     Ok(command)
 }
 
-/// The program of this row, with its version and a subcommand for each of the others.
+/// The program of the row `row`, with its version and a subcommand for each of the rows `commands`.
 pub(crate) fn program_of<'a>(
     alloc: Global,
     row: &CommandRow<'a>,

@@ -210,8 +210,8 @@ pub(crate) fn decode_front(high: Option<u8>, text: &[u8], out: &mut [u8]) -> Dec
 }
 
 /// The fault at a pair that isn't two digits. `high` is its first byte, `made` the number of pairs
-/// before it, and `left` the number of bytes other than white space from `high`, which counts, to the
-/// text's end. An odd `left` goes first; else the place of the first byte that is no digit, as
+/// before it, and `left` the number of bytes other than white space from `high`, which counts, to
+/// the text's end. An odd `left` goes first; else the place of the first byte that is no digit, as
 /// `HexFault` counts it. `cold`, since most texts have none.
 #[cold]
 pub(crate) fn pair_fault(high: Option<u8>, made: usize, left: usize) -> HexFault

@@ -51,8 +51,8 @@ error: '--raw' and '--report' cannot be used together
 For more information, try '--help'.
 ";
 
-/// The check that these options ask for. A report wants the whole image,
-/// which a check of its own bytes doesn't keep.
+/// The check that these options ask for; a `Usage` where they are both `--raw` and `--report`: a
+/// report wants the whole image, which a check with `--raw` doesn't keep.
 pub(super) fn asked_check(alloc: Global, found: &ArgMatches<'_>) -> Result<Job, JobFault>
     ensures { IsAsked (codes "check") found.now result }
 {

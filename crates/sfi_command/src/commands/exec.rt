@@ -66,7 +66,8 @@ Example:
   sfi exec hi.image",
 };
 
-/// The steps that the option's text allows, or as many as there may be where it wasn't given.
+/// The steps that the text of `--budget` allows, or 2^64 - 1 where it wasn't given; `None` where
+/// the text is no number from 1 on, which the parser refuses before.
 fn budget_of(found: &ArgMatches<'_>) -> Option<u64>
     ensures some { IfSome result (IsBudget (first_of (codes "budget") (rows_of (found_of found.now)))) }
     ensures none { result ≡ None → (n : ℕ)

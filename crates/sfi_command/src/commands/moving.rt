@@ -53,7 +53,8 @@ Example:
   sfi move --at 02000000:02800000 < hi.hex > moved.hex",
 };
 
-/// The place that the option `--at` spells.
+/// The place that the option `--at` spells, or a `Usage` where it spells none or wasn't given;
+/// without it the parser refuses the words before.
 fn place_of(alloc: Global, found: &ArgMatches<'_>) -> Result<Place, JobFault>
     ensures place { IfOk result (IsPlaceOf (first_of (codes "at") (rows_of (found_of found.now)))) }
     ensures fault { IfErr result

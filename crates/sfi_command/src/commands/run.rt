@@ -13,6 +13,8 @@ use clap::ArgMatches;
 use hex::FromHexError;
 use std::alloc::Global;
 
+// These two are `rounds_most` and `quantum_most` of specs/Command, and in the texts of the rows
+// below.
 const ROUNDS_MOST: u32 = 10000;
 
 const QUANTUM_MOST: u32 = 1000000;
@@ -63,7 +65,7 @@ Example:
   sfi run --rounds 10 --quantum 5000 --input 4869 < hi.hex",
 };
 
-/// The fault of a text that didn't decode.
+/// The fault of a text of `--input` that didn't decode: `Hex`, or `Memory` where that ran out.
 fn hex_fault(error: FromHexError) -> JobFault
     ensures refused { number_of result ≡ 2 → error ≢ FromHexError.OutOfMemory }
     ensures other { number_of result ≢ 1 }
@@ -76,7 +78,7 @@ fn hex_fault(error: FromHexError) -> JobFault
     }
 }
 
-/// The bytes that the text of `--input` spells, or none where it wasn't given.
+/// The bytes that the text of `--input` spells, or no bytes where it wasn't given.
 fn input_of(alloc: Global, found: &ArgMatches<'_>) -> Result<Vec<u8>, JobFault>
     ensures bytes { IfOk result
         (λ bytes. IsInputOf (first_of (codes "input") (rows_of (found_of found.now))) bytes.items) }
