@@ -12,7 +12,7 @@ use sfi_build::build_at;
 use sfi_formats::Place;
 use std::alloc::Global;
 
-/// The source text that was read.
+/// The source text that was read, or the fault `Utf8` where the bytes are no UTF-8.
 pub(crate) fn source_text(text: &[u8]) -> Result<&str, Stop>
     requires { length text.now ≤ limit }
     ensures text { IfOk result (λ source. (source.now ≡ text.now) × IsSourceText source.now) }
@@ -24,8 +24,8 @@ pub(crate) fn source_text(text: &[u8]) -> Result<&str, Stop>
     }
 }
 
-/// The image that the source text makes with its sandboxes at these places: its bytes, or in
-/// hexadecimal digits.
+/// The image that the source text makes with its sandboxes at these places, as bytes where `raw`
+/// says so, and else in hexadecimal digits on one line; or why it makes none.
 pub fn build_answer(alloc: Global, raw: bool, places: &[Place], text: &[u8]) -> Result<Answer, Stop>
     requires { length text.now ≤ limit }
     ensures { Answers (build raw places.now) text.now result }

@@ -27,8 +27,8 @@ fn report_of(alloc: Global, bytes: &[u8], findings: &[Finding]) -> Result<String
     }
 }
 
-/// The line of the first of an image's findings.
-/// With the report a line for each finding goes before it.
+/// The verdict's line on these findings of the image with these bytes: how many they are, and the
+/// first. With `report` a line for each finding goes before it.
 fn refusal_text(
     alloc: Global,
     report: bool,
@@ -48,7 +48,9 @@ fn refusal_text(
     Ok(text)
 }
 
-/// What a command answers on an image that is refused, with a report on its findings or without.
+/// What a command answers on bytes that `check` refuses: for findings the verdict, with status 1
+/// and, if `report` says so, a line for each finding; else a `Stop`. Other commands that want an
+/// accepted image answer by it, too, without a report.
 pub fn refusal_answer(
     alloc: Global,
     report: bool,
@@ -68,7 +70,8 @@ pub fn refusal_answer(
     }
 }
 
-/// The verdict on the image with these bytes, with a report on its findings or without.
+/// The verdict on the image with these bytes; if `report` says so, a line for each finding goes
+/// before it.
 pub fn check_answer(alloc: Global, report: bool, bytes: &[u8]) -> Result<Answer, Stop>
     ensures { Answers (check report) bytes.now result }
 {

@@ -13,8 +13,8 @@ use sfi_image::Image;
 use sfi_native::native_file;
 use std::alloc::Global;
 
-/// The file of an image with these bytes. No image's code is so long that there is none (law `EachCodeFits`); if it were,
-/// that would be want of memory.
+/// The file of native code of an accepted image, whose bytes these are. No image's code is so long
+/// that there is none (law `EachCodeFits`); if it were, that would be want of memory.
 fn file_of(alloc: Global, image: &Image<'_>, bytes: &[u8]) -> Result<Vec<u8>, Stop>
     ensures file { IfOk result (λ it. IsNativeFile bytes.now image.now it.items) }
     ensures memory { IfErr result (λ stop. stop ≡ Memory) }

@@ -13,7 +13,7 @@ use sfi_check::{ConvertFault, Refusal, convert};
 use sfi_rules::Finding;
 use std::alloc::{AllocError, Global};
 
-/// The line of the first of these findings.
+/// The verdict's line on these findings: how many they are, and the first.
 fn findings_line(alloc: Global, findings: &[Finding]) -> Result<String, AllocError>
     requires { findings.now ≢ [] }
     ensures { IfOk result (λ line. string_bytes line ≡ refused_line findings.now) }
@@ -21,7 +21,8 @@ fn findings_line(alloc: Global, findings: &[Finding]) -> Result<String, AllocErr
     refused_line(alloc, findings.len(), findings[0])
 }
 
-/// What the command answers on an image that is refused.
+/// What the command answers where `check` doesn't accept the image: a verdict for findings, and a
+/// `Stop` where the bytes are no image or memory ran out.
 fn refused_answer(alloc: Global, refusal: Refusal) -> Result<Answer, Stop>
     requires { HoldsSome (Refused refusal) }
     ensures { AnswersConvertFault (Refused refusal) result }
@@ -33,7 +34,8 @@ fn refused_answer(alloc: Global, refusal: Refusal) -> Result<Answer, Stop>
     }
 }
 
-/// What the command answers on bytes that are not converted.
+/// What the command answers on bytes that are not converted: a verdict where the code breaks a rule
+/// of the first format or of the second (`Stack`), else a `Stop`.
 fn fault_answer(alloc: Global, fault: ConvertFault) -> Result<Answer, Stop>
     requires { HoldsSome fault }
     ensures { AnswersConvertFault fault result }
@@ -47,8 +49,8 @@ fn fault_answer(alloc: Global, fault: ConvertFault) -> Result<Answer, Stop>
     }
 }
 
-/// The image with these bytes in the second format, as bytes or in hexadecimal digits; or the verdict
-/// where it breaks a rule of either format.
+/// The image with these bytes in the second format, as bytes where `raw` says so, and else in
+/// hexadecimal digits on one line; or the verdict where it breaks a rule of either format.
 pub fn conversion_answer(alloc: Global, raw: bool, bytes: &[u8]) -> Result<Answer, Stop>
     ensures { Answers (convert raw) bytes.now result }
 {

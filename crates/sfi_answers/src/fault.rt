@@ -1,4 +1,4 @@
-//! Faults of the input.
+//! Faults of the input. Their lines are in `fault_lines`.
 
 ghost use Rattle.std.specs.Prelude.{◌≡◌, ◌≢◌, IfOk};
 ghost use Rattle.sfi_answers.specs.Answers.{StopsBuild, stop_of};
@@ -88,7 +88,8 @@ impl From<BuildFault> for Stop {
     }
 }
 
-/// What is answered where a command gives no verdict.
+/// What is answered where a command gives no verdict: status 2, and the line that names the fault.
+/// Want of memory has no line; it is `Err`, as is memory that runs out here.
 pub fn stop_answer(alloc: Global, stop: Stop) -> Result<Answer, AllocError>
     ensures status { IfOk result (λ a. a.status ≡ 2) }
     ensures memory { IfOk result (λ a. stop ≢ Memory) }

@@ -1,4 +1,6 @@
-//! The lines that name faults.
+//! The lines that name faults. `specs/FaultTexts` has the same texts, and docs/SOURCE.md and
+//! docs/IMAGE.md list them. The faults' types of `sfi_rewrite`, `sfi_link` and `sfi_build` have
+//! names and places in their `#[error]`, too.
 
 ghost use Rattle.std.specs.Prelude.{◌≡◌, ◌≢◌, IfOk, string_bytes};
 ghost use Rattle.sfi_answers.specs.FaultTexts.{build_text, cause_name, fault_text, input_text, layout_name, layout_text, link_name, rewrite_name, source_name, stop_text, table_name};
@@ -14,7 +16,7 @@ use sfi_rewrite::RewriteFault;
 use sfi_text::{TextCause, TextFault};
 use std::alloc::{AllocError, Global};
 
-/// The line of a fault of this kind, with its number, and what it is: its name and where it is.
+/// The line `KIND fault NUMBER WHAT` of a fault, where `what` is its name and where it is.
 fn fault_line(alloc: Global, kind: &str, number: u32, what: &str) -> Result<String, AllocError>
     ensures { IfOk result
         (λ line. string_bytes line ≡ fault_text kind.now number what.now) }
@@ -67,7 +69,7 @@ fn input_line(alloc: Global, fault: InputFault) -> Result<String, AllocError>
     }
 }
 
-/// The name of why a line of a source means nothing.
+/// The name of the cause for which a line of a source can't be read.
 fn cause_name(cause: TextCause) -> &'static str
     ensures { result.now ≡ cause_name cause }
 {
@@ -156,7 +158,7 @@ fn build_line(alloc: Global, fault: BuildFault) -> Result<String, AllocError>
     }
 }
 
-/// The line that says why a command gives no verdict.
+/// The line that says why a command gives no verdict; want of memory has none, and is `Err`.
 pub(crate) fn stop_line(alloc: Global, stop: Stop) -> Result<String, AllocError>
     ensures memory { IfOk result (λ line. stop ≢ Memory) }
     ensures text { IfOk result (λ line. string_bytes line ≡ stop_text stop) }

@@ -12,9 +12,10 @@ use sfi_io::{HexReader, ReadStop, begins_as_image, read_first_bytes};
 use std::alloc::Global;
 use std::io::Read;
 
-/// The verdict on the image that the reader gives, as an image's bytes or as hexadecimal text. One
-/// piece is held at a time. Input is read to its end or past its limit, since its fault goes before the
-/// verdict.
+/// The verdict on the image that the reader gives, as an image's bytes or as hexadecimal text, or
+/// the line of a fault of the input. One piece is held at a time. Input is read to its end or past
+/// its limit, since its fault goes before the verdict. `Err` is for a read that failed, or for
+/// memory.
 pub fn image_answer<R: Read>(alloc: Global, reader: &mut R) -> Result<Answer, ReadStop>
     ensures statuses { IfOk result (λ a. a.status ≤ 2) }
     ensures says { IfOk result (λ a. a.status < 2 → IfSome (R.remaining reader.old)

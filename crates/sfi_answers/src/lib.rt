@@ -1,6 +1,10 @@
 //! The answers of the commands that run no sandbox, `check`, `build`, `map`, `dis`, `convert`, `move`,
 //! `translate` and `native`: what each prints on the bytes or the text that it gets, and the status
 //! with which the program ends.
+//!
+//! `specs/Answers`, `specs/Building` and `specs/Moving` say what each command answers. A verdict is
+//! the line of `check` on an image, `accepted ..` or `refused ..`. [`Stop`] is why there is none:
+//! then one line names the fault, by [`stop_answer`].
 #![tactic(auto)]
 
 mod building;

@@ -53,7 +53,8 @@ fn push_map_lines(out: &mut String, sandbox: u32, entries: &[NameAddress]) -> Re
     Ok(())
 }
 
-/// What the map says of a sandbox's first data bytes.
+/// The lines of the table of names at the end of a sandbox's first data bytes, `init`. There are
+/// none without a table, nor in the first format, which has no such tables.
 fn names_text_of_format(alloc: Global, format: Format, init: &[u8]) -> Result<String, AllocError>
     ensures { IfOk result (λ text. IsTableText format init.now (string_bytes text)) }
 {
@@ -63,7 +64,8 @@ fn names_text_of_format(alloc: Global, format: Format, init: &[u8]) -> Result<St
     }
 }
 
-/// Appends what the map says of sandbox `sandbox`, which has these first data bytes.
+/// Appends what the map says of sandbox number `sandbox`: the lines of its gates and labels among
+/// `entries`, and those of the table in which its first data bytes `init` end.
 fn push_sandbox_map(
     alloc: Global,
     out: &mut String,
@@ -80,7 +82,7 @@ fn push_sandbox_map(
     out.push_str(&table)
 }
 
-/// The map of the image whose gates and labels these are.
+/// The map of an image. `entries` are the gates and labels of all its sandboxes.
 fn map_text(alloc: Global, entries: &[NameAddress], image: &Image<'_>) -> Result<String, AllocError>
     ensures { IfOk result (λ text. IsMapFrom 0 entries.now image.now (string_bytes text)) }
 {
@@ -92,7 +94,7 @@ fn map_text(alloc: Global, entries: &[NameAddress], image: &Image<'_>) -> Result
     Ok(text)
 }
 
-/// The map of the image with these bytes, whose gates and labels these are.
+/// The map of the image with these bytes. `entries` are the gates and labels of all its sandboxes.
 pub(crate) fn map_lines(
     alloc: Global,
     entries: &[NameAddress],

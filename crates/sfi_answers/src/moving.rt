@@ -15,7 +15,8 @@ use sfi_formats::Place;
 use sfi_places::{MoveFault, move_sandbox};
 use std::alloc::Global;
 
-/// A copy of the image's bytes with sandbox `number` at the place.
+/// A copy of the image's bytes with sandbox `number`, counted from 0, at the place `to`; or why it
+/// can't lie there.
 fn moved_copy(alloc: Global, bytes: &[u8], number: u32, to: Place) -> Result<Vec<u8>, Stop>
     ensures moved { IfOk result (λ now. IsMovedCopy bytes.now number to now.items) }
     ensures stop { IfErr result (IsMoveStop bytes.now number to) }
@@ -33,8 +34,8 @@ fn moved_copy(alloc: Global, bytes: &[u8], number: u32, to: Place) -> Result<Vec
     }
 }
 
-/// The image with these bytes and sandbox `number` at the place, as bytes or in hexadecimal
-/// digits; or the verdict where it has findings.
+/// The image with these bytes and sandbox `number` at the place `to`, as bytes where `raw` says so,
+/// and else in hexadecimal digits on one line; or the verdict where it has findings.
 pub fn move_answer(
     alloc: Global,
     raw: bool,

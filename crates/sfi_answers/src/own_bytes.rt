@@ -8,7 +8,7 @@ use crate::pieces::PieceReader;
 use sfi_io::{INPUT_LIMIT, TextStop};
 use std::io::Read;
 
-/// How many bytes are read at a time where they aren't kept. They lie on the stack.
+/// How many bytes `to_end` reads at a time, which it doesn't keep. They lie on the stack.
 const PIECE: usize = 8192;
 
 /// A reader's bytes, as far as they keep the limit. Every error of the reader is a failure: none is

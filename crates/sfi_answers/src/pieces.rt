@@ -33,7 +33,7 @@ pub(crate) trait PieceReader: Drop {
         ensures stop { IfErr result (λ stop. Leads (comes self.old) (Some (Err stop)) []) }
         ensures fewer { IfOk result (λ n. most self.new + n ≤ most self.old) };
 
-    /// Reads to the end, and says why it can't.
+    /// Reads to the end, drops what comes, and says why the end can't be reached, if it can't.
     fn to_end(&mut self) -> Result<(), TextStop>
         ensures spelled { IfOk result (λ _. IfSome (comes self.old) (λ r. IsOk r)) }
         ensures stop { IfErr result (λ stop. Leads (comes self.old) (Some (Err stop)) []) };
@@ -57,12 +57,13 @@ impl<'a, R: Read> PieceReader for HexReader<'a, R> {
 #[derive(Clone, Copy)]
 enum PieceState {
     Reading,
-    /// To their end, which isn't read again.
+    /// Bytes were read up to their end, and nothing more is to be read.
     Ended,
     Stopped(TextStop),
 }
 
-/// Bytes that come in pieces, as a source. After a stop it gives no more.
+/// Bytes that come in pieces, as the checker reads a stream. After a stop it gives no more, and
+/// keeps the stop, since the checker is told only that a read failed.
 #[derive(Drop)]
 struct PieceSource<P: PieceReader> {
     pieces: P,
@@ -110,7 +111,8 @@ impl<P: PieceReader> PieceSource<P> {
     ghost use Rattle.sfi_io.specs.Pieces.{Leads};
     ghost use Rattle.sfi_answers.specs.private.{known};
 
-    /// Reads to the end, and says why that can't be reached.
+    /// Reads what the checker left, up to the end, and says why that can't be reached, if it can't:
+    /// also where a read stopped before.
     fn end(&mut self) -> Result<(), TextStop>
         ensures spelled { IfOk result
             (λ _. IfSome (known self.old.state (P.comes self.old.pieces)) (λ r. IsOk r)) }

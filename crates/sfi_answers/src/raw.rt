@@ -14,7 +14,8 @@ use sfi_io::ReadStop;
 use std::alloc::Global;
 use std::io::Read;
 
-/// What is printed for the verdict on a stream.
+/// The answer for the verdict on a stream, an image that was read in pieces; `Err` where a read
+/// failed or memory ran out.
 pub(crate) fn stream_answer(alloc: Global, verdict: StreamAnswer) -> Result<Answer, ReadStop>
     requires { (bytes : List ℕ) × (ends : Bool) × IsVerdictOn bytes ends verdict }
     ensures statuses { IfOk result (λ a. a.status ≤ 2) }
@@ -37,8 +38,8 @@ pub(crate) fn stream_answer(alloc: Global, verdict: StreamAnswer) -> Result<Answ
     }
 }
 
-/// The verdict on the image whose own bytes the reader gives. Memory is taken for its line alone,
-/// however long the image is.
+/// The verdict on the image whose own bytes the reader gives, of which nothing is taken for digits
+/// and no limit is kept. Memory is taken for its line alone, however long the image is.
 pub fn raw_answer<R: Read>(alloc: Global, reader: &mut R) -> Result<Answer, ReadStop>
     ensures statuses { IfOk result (λ a. a.status ≤ 2) }
     ensures says { IfOk result (λ a. a.status < 2

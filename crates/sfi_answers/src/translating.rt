@@ -13,7 +13,8 @@ use sfi_image::Image;
 use sfi_translate::translation_text;
 use std::alloc::{AllocError, Global};
 
-/// What stands before the lines.
+/// What stands before the lines of the translation: for a `whole` program the text of its headers
+/// and console, which ends in `#else`, and for a host the include of `sfi_native.h`.
 #[tactic(auto, unfolding(crate::specs::Answers::front_text))]
 fn front_text(whole: bool) -> &'static str
     ensures { result.now ≡ front_text whole }
@@ -25,7 +26,7 @@ fn front_text(whole: bool) -> &'static str
     }
 }
 
-/// What stands after them.
+/// What stands after the lines: for a `whole` program the end of the `#if` that its front opens.
 #[tactic(auto, unfolding(crate::specs::Answers::back_text))]
 fn back_text(whole: bool) -> &'static str
     ensures { result.now ≡ back_text whole }
@@ -33,7 +34,7 @@ fn back_text(whole: bool) -> &'static str
     if whole { "#endif\n" } else { "" }
 }
 
-/// The translation of an image, for a host or as a whole program.
+/// The translation of an image to C, as a `whole` program or for a host.
 fn translated_text(alloc: Global, whole: bool, image: &Image<'_>) -> Result<String, AllocError>
     ensures { IfOk result (λ text. IsTranslationText whole image.now (string_bytes text)) }
 {
@@ -43,7 +44,7 @@ fn translated_text(alloc: Global, whole: bool, image: &Image<'_>) -> Result<Stri
     Ok(text)
 }
 
-/// The image with these bytes as C, for a host or as a whole program; or the verdict where it has
+/// The image with these bytes as C, as a `whole` program or for a host; or the verdict where it has
 /// findings.
 pub fn translation_answer(alloc: Global, whole: bool, bytes: &[u8]) -> Result<Answer, Stop>
     ensures { Answers (translate whole) bytes.now result }

@@ -32,7 +32,8 @@ impl Answer {
     }
 }
 
-/// The verdict on an image without findings, with its counts of sandboxes and bundles.
+/// The verdict's line on an image without findings, with its counts of sandboxes and of bundles,
+/// the 16 bytes of code that it counts by also in code in words.
 pub(crate) fn accepted_line(
     alloc: Global,
     sandboxes: usize,
@@ -43,7 +44,7 @@ pub(crate) fn accepted_line(
     format!(in alloc; "accepted sandboxes={sandboxes} bundles={bundles}\n")
 }
 
-/// The verdict on an image with `count` findings, of which `first` is the first.
+/// The verdict's line on an image with `count` findings, of which `first` is the first.
 pub(crate) fn refused_line(
     alloc: Global,
     count: usize,
@@ -74,7 +75,8 @@ fn digits_line(alloc: Global, bytes: &[u8]) -> Result<String, AllocError>
     Ok(line)
 }
 
-/// The image's bytes as they are, or in lower-case hexadecimal digits on one line.
+/// What is printed of an image: its bytes as they are, where `raw` says so, or else lower-case
+/// hexadecimal digits on one line.
 pub(crate) fn image_output(alloc: Global, raw: bool, bytes: Vec<u8>) -> Result<Vec<u8>, AllocError>
     ensures { IfOk result (λ output. output.items ≡ image_output raw bytes.items) }
 {
