@@ -54,7 +54,7 @@ fn push_map_lines(out: &mut String, sandbox: u32, entries: &[NameAddress]) -> Re
 }
 
 /// The lines of the table of names at the end of a sandbox's first data bytes, `init`. There are
-/// none without a table, nor in the first format, which has no such tables.
+/// none without a table, nor in the first format, in which a source can't ask for one.
 fn names_text_of_format(alloc: Global, format: Format, init: &[u8]) -> Result<String, AllocError>
     ensures { IfOk result (λ text. IsTableText format init.now (string_bytes text)) }
 {

@@ -32,8 +32,8 @@ impl Answer {
     }
 }
 
-/// The verdict's line on an image without findings, with its counts of sandboxes and of bundles,
-/// the 16 bytes of code that it counts by also in code in words.
+/// The verdict's line on an image without findings, with its counts of sandboxes and of bundles: of
+/// 16 bytes of code each, also in code in words.
 pub(crate) fn accepted_line(
     alloc: Global,
     sandboxes: usize,

@@ -1,5 +1,6 @@
 //! Decodes the part of a hexadecimal text that is in memory: block by block of 64 digits where the
-//! text has as many together, and else byte by byte.
+//! text has as many together, and else byte by byte. `#[inline(always)]`, here and in
+//! `hexadecimal`, makes one loop of this, without a call for each byte.
 
 ghost use Rattle.std.specs.Prelude.{◌≡◌, ◌⊎◌, ◌*◌, ◌+◌, ◌%◌, ◌<◌, ◌≤◌, ℕ, drop, filter, length, slice_index, take, true};
 ghost use Rattle.sfi_io.specs.Hexadecimal.{is_kept};
@@ -80,7 +81,8 @@ fn decode_lines(text: &[u8], out: &mut [u8]) -> Blocks
     ensures spells { SpellsFront (filter is_kept text.now)
         (filter is_kept (drop result.taken text.now)) (take result.made out.new) }
 {
-    // A line, with a byte after it, and the room for its bytes are there before these places.
+    // Below `last` the text has a block left and a byte after it, and below `full` there is room in
+    // `out` for a block's bytes.
     let last = text.len().saturating_sub(BLOCK);
     let full = out.len().saturating_sub(BLOCK / 2 - 1);
     let mut taken: usize = 0;

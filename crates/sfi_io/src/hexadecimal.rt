@@ -43,7 +43,8 @@ impl From<AllocError> for HexStop {
 // The class of white space. The class of a digit is its value.
 const WHITE: u8 = 16;
 
-/// The class of each byte: a digit's value, [`WHITE`], or 32 for what is neither.
+/// The class of each byte: a digit's value, [`WHITE`], or 32 for what is neither. The `or` of two
+/// classes is below 16 just where both are digits.
 const CLASSES: [u8; 256] = [
     32, 32, 32, 32, 32, 32, 32, 32, 32, 16, 16, 32, 32, 16, 32, 32, // 0x00
     32, 32, 32, 32, 32, 32, 32, 32, 32, 32, 32, 32, 32, 32, 32, 32, // 0x10
@@ -124,7 +125,8 @@ pub(crate) fn byte_of(high: u8, low: u8) -> Option<u8>
 /// How many digits are read at a time, where the text has as many: as wide as the vectors below.
 pub(crate) const BLOCK: usize = 64;
 
-/// Each digit's value and 240, found by arithmetic on all side by side; less for any other byte.
+/// For each byte 240 and the digit's value, or less than 240 where it is no digit: by arithmetic on
+/// all 64 side by side.
 #[inline(always)]
 fn values_of(bytes: u8x64) -> u8x64
     ensures size { length result ≡ 64 }

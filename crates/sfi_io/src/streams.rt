@@ -8,7 +8,9 @@ ghost use Rattle.std.specs.Io.KnownBytes.{Appends};
 use std::alloc::{AllocError, Global};
 use std::io::{Read, Write};
 
-/// The most bytes of input text.
+/// The most bytes of an input, a text or an image's own bytes, but for `check --raw`: 128 MiB.
+/// `limit` of specs/Hexadecimal, the sentences of the crate `sfi`, tools/second_checker.py,
+/// docs/IMAGE.md and tools/suygapid/native/exec.c have the number, too.
 pub const INPUT_LIMIT: usize = 134217728;
 
 /// How many bytes are read at a time, at most. They lie on the stack.

@@ -38,7 +38,7 @@ fn fill_end(format: Format, labelled: bool, code: &mut Filling) -> Result<(), Al
     Ok(())
 }
 
-/// Lays the items of sandbox `sandbox` as its format lays them.
+/// Lays the items of sandbox `sandbox` as its format has it: in words or in bundles.
 fn lay(alloc: Global, format: Format, sandbox: u32, items: &[Item]) -> Result<Laid, RewriteFault>
     requires { HaveBodies items.now }
     ensures faultless { IfOk result (λ l. AreFaultless (has_words format) format (length items.now) items.now l.code) }

@@ -7,8 +7,8 @@ use rv_comp::Form16;
 use rv_word::{Instr, Reg};
 
 /// What stands in a bundle: an instruction that is known whole, or one that waits for the address
-/// of a name. A name is given by its place among the names of its sandbox,
-/// and a line is that of the source, from 1.
+/// of a name. `name` is the number of a name among those of its sandbox, counted from 0, and `line`
+/// is that of the source, from 1.
 #[derive(Clone, Copy)]
 pub enum BundleSlot {
     /// A 32-bit instruction.

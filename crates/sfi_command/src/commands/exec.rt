@@ -82,7 +82,9 @@ fn budget_of(found: &ArgMatches<'_>) -> Option<u64>
     }
 }
 
-/// The run in a process that these options ask for.
+/// The run in a process that these options ask for. `--interpret` makes no difference here: it is
+/// for tools/suygapid/native/exec.c, which runs images by native code and leaves words with it to
+/// this program.
 pub(super) fn asked_exec(alloc: Global, found: &ArgMatches<'_>) -> Result<Job, JobFault>
     ensures { IsAsked (codes "exec") found.now result }
 {
