@@ -8,7 +8,7 @@ ghost use Rattle.std.specs.Prelude.{◌<◌};
 
 use rv_word::Reg;
 
-/// The register of a number below 32.
+/// The register of a number below 32, so that tests can write `x(10)`.
 fn x(number: u8) -> Reg
     requires { number < 32 }
 {

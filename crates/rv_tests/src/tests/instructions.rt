@@ -1,5 +1,9 @@
-//! Instructions by their operands: their words as an assembler and a disassembler have them; halfwords whose meaning is known
-//! from outside, first forms, and all halfwords there and back.
+//! Instructions by their operands: their words as an assembler and a disassembler have them;
+//! halfwords whose meaning is known from the RISC-V manual, first forms, and all halfwords there
+//! and back. A word or halfword *spells* the instruction that it encodes. A *form* is a row of the
+//! manual's table of 16-bit instructions, which expands to an instruction of 32 bits. An *outline*
+//! is an instruction without its values: the register that it writes, the base of its access, how
+//! far it jumps.
 ghost use Rattle.std.specs.Prelude.{◌<◌};
 
 use super::x;
@@ -46,7 +50,7 @@ fn store(rs1: Reg, rs2: Reg, imm: i32) -> Instr {
     }
 }
 
-/// The branch that compares `rs1` with x0.
+/// The branch that compares `rs1` with x0, to `offset` bytes from its own address.
 fn branch_on_zero(cond: Cond, rs1: Reg, offset: i32) -> Instr {
     Instr::Branch {
         cond,
@@ -56,7 +60,7 @@ fn branch_on_zero(cond: Cond, rs1: Reg, offset: i32) -> Instr {
     }
 }
 
-/// `jal rd, offset`.
+/// `jal rd, offset`, the offset in bytes from its own address.
 fn jump(rd: Reg, offset: i32) -> Instr {
     Instr::Jal { rd, offset }
 }
@@ -66,25 +70,27 @@ fn jump_to(rd: Reg, rs1: Reg, imm: i32) -> Instr {
     Instr::Jalr { rd, rs1, imm }
 }
 
-/// `lui` with these operands.
+/// `lui rd, imm`: `imm` are the upper 20 bits, in the range 0 to 0xfffff.
 fn lui(rd: Reg, imm: u32) -> Instr {
     Instr::Lui { rd, imm }
 }
 
-/// `fence` with these fields.
+/// `fence` with these fields; `imm` are the word's upper 12 bits.
 fn fence(imm: u32, rd: Reg, rs1: Reg) -> Instr {
     Instr::Fence { imm, rd, rs1 }
 }
 
 // ---- words
 
-/// Tries that `word` spells `instr`, and that both have one outline.
+/// Tries that `word` decodes to `instr`, that this is encoded as `word`, and that both have the
+/// same outline.
 fn spells(rt: &impl Abort, word: u32, instr: &Instr) {
     let is_spelled = decode32(word) == Some(*instr) && encode32(*instr) == Some(word);
     let is_outlined = outline32(word) == Some(outline_of(*instr));
     assert!(rt; is_spelled && is_outlined, "{word:08x}");
 }
 
+/// Words with several kinds of operands, as an assembler encodes them.
 #[test]
 fn words_and_instructions(rt: HostRuntime) {
     let (kind, branch) = (LoadKind::Lbu, Cond::Beq);
@@ -110,6 +116,8 @@ fn words_and_instructions(rt: HostRuntime) {
     }
 }
 
+/// Words that RV32IM doesn't have: a SYSTEM word other than ecall and ebreak, fence.i, jalr with
+/// funct3 1, and slli by 32.
 #[test]
 fn words_of_no_instruction(rt: HostRuntime) {
     for word in [0x0020_0073, 0x0000_100f, 0x0000_1067, 0x0205_1513] {
@@ -117,7 +125,8 @@ fn words_of_no_instruction(rt: HostRuntime) {
     }
 }
 
-// Each number is the first outside its range, or odd where that is even.
+/// Operands that no word can hold: each number is the first outside its field's range, or odd where
+/// that is even.
 #[test]
 fn instructions_of_no_word(rt: HostRuntime) {
     let outside = [
@@ -144,6 +153,8 @@ fn instructions_of_no_word(rt: HostRuntime) {
     }
 }
 
+/// 31 is the last register's number. `writes` gives the register that an instruction changes: none
+/// where that is x0, which stays 0.
 #[test]
 fn registers(rt: HostRuntime) {
     assert!(rt; x(31).number() == 31);
@@ -152,6 +163,7 @@ fn registers(rt: HostRuntime) {
     assert!(rt; jump(x(0), 16).writes() == None);
 }
 
+/// The length by the first halfword: 16 bits, 32 bits, or more, as the manual's lowest bits say.
 #[test]
 fn lengths(rt: HostRuntime) {
     let halves = [
@@ -164,6 +176,8 @@ fn lengths(rt: HostRuntime) {
     }
 }
 
+/// Outlines of an assembler's words: `and x31, x1, x25`, `lw x10, 4(x2)`, `sw x10, 4(x2)`, `ecall`,
+/// and of a word that is no instruction.
 #[test]
 fn outlines(rt: HostRuntime) {
     let (rd, base) = (x(10), x(2));
@@ -177,7 +191,7 @@ fn outlines(rt: HostRuntime) {
 
 // ---- halfwords
 
-/// The halfword is read as a form that expands to the instruction.
+/// Tries that `halfword` is read as a form that expands to `want`, and has the outline of that.
 fn expands(rt: &impl Abort, halfword: u16, want: Instr) {
     let is_expanded = match decode16(halfword) {
         Some(form) => form.expand() == want,
@@ -187,6 +201,7 @@ fn expands(rt: &impl Abort, halfword: u16, want: Instr) {
     assert!(rt; is_expanded && is_outlined, "{halfword:04x}");
 }
 
+/// Halfwords and the instructions to which the manual expands them.
 #[test]
 fn known_halfwords(rt: HostRuntime) {
     let rt = &rt;
@@ -210,6 +225,8 @@ fn known_halfwords(rt: HostRuntime) {
     expands(rt, 0x0001, addi(0, 0, 0));
 }
 
+/// Halfwords that are no instruction of RV32C: zero, c.slli by 32, c.lwsp into x0, c.addi16sp by 0,
+/// c.jr on x0, and c.subw of RV64.
 #[test]
 fn halfwords_of_no_form(rt: HostRuntime) {
     for halfword in [0x0000, 0x1002, 0x4002, 0x6101, 0x8002, 0x9c05] {
@@ -218,6 +235,7 @@ fn halfwords_of_no_form(rt: HostRuntime) {
     }
 }
 
+/// All 65536 halfwords: the form that is read of one is written as the same halfword again.
 #[test]
 fn each_halfword_that_decodes_encodes_again(rt: HostRuntime) {
     for halfword in 0..=u16::MAX {
@@ -227,6 +245,8 @@ fn each_halfword_that_decodes_encodes_again(rt: HostRuntime) {
     }
 }
 
+/// `form_of` gives the form of the first row of the manual's table that expands to an instruction,
+/// or `None` where no row does, as for an addi from another register.
 #[test]
 fn first_forms(rt: HostRuntime) {
     let rows = [
@@ -243,7 +263,8 @@ fn first_forms(rt: HostRuntime) {
     assert!(rt; form_of(addi(5, 6, 1)).is_none());
 }
 
-/// 717d is C.ADDI16SP, but C.ADDI stands first in the table.
+/// The halfword 717d is a c.addi16sp, but c.addi, which can say the same, is an earlier row of the
+/// table: so `form_of` of what 717d expands to gives that, 1141.
 #[test]
 fn the_first_form_of_a_later_one(rt: HostRuntime) {
     let first = decode16(0x717d)
@@ -252,6 +273,8 @@ fn the_first_form_of_a_later_one(rt: HostRuntime) {
     assert!(rt; first == Some(0x1141));
 }
 
+/// What bytes begin with: an instruction and its size, `Short` where they end inside it, `Bad`
+/// where it is none already by what is there. c.nop is 0001, ecall 00000073.
 #[test]
 fn fronts(rt: HostRuntime) {
     assert!(rt; read_front(&[]) == Front::Short);
@@ -264,6 +287,8 @@ fn fronts(rt: HostRuntime) {
     assert!(rt; read_front(&[0x1f, 0x00]) == Front::Bad);
 }
 
+/// Bytes are written in little-endian order. What can't be encoded, an addi of 2048 or a c.jr on
+/// x0, gives `false` and leaves the bytes as they were.
 #[test]
 fn bytes_of_instructions(rt: HostRuntime) {
     let mut wide = [0xaa; 4];

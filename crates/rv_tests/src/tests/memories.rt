@@ -1,8 +1,9 @@
-//! Memories as their callers use them, each form alike.
+//! Memories as their callers use them. Both implementations of `Memory`, `Segments` and `Pages`,
+//! have to give the same answers, which follow from the documentation of that trait.
 use rv_mem::{AddFault, Memory, Pages, Segments, Width};
 use std::process::Abort;
 
-/// From the address on these bytes stand.
+/// Whether the memory holds these bytes from address `base` on.
 pub(super) fn holds<M: Memory>(memory: &M, base: u32, bytes: &[u8]) -> bool {
     let mut at = base;
     for byte in bytes {
@@ -14,23 +15,30 @@ pub(super) fn holds<M: Memory>(memory: &M, base: u32, bytes: &[u8]) -> bool {
     true
 }
 
-/// Whether all `size` bytes from address `base` on are missing.
+/// Whether none of the `size` addresses from `base` on has a byte.
 fn lacks<M: Memory>(memory: &M, base: u32, size: u32) -> bool {
     (0..size).all(|k| memory.load(base.wrapping_add(k), Width::One).is_none())
 }
 
-/// A call of a memory, and what it answers.
+/// A call of a memory's method: its arguments, and last what it has to answer.
 pub(super) enum Call {
+    /// The first address and size of a region to add, its first bytes (the others are 0), the
+    /// answer.
     Add(u32, u32, &'static [u8], Result<(), AddFault>),
+    /// Address, width, value, and whether it is stored: not where a byte is missing.
     Store(u32, Width, u32, bool),
+    /// Address, width, and the value, `None` where a byte is missing.
     Load(u32, Width, Option<u32>),
+    /// Address, and the halfword there, `None` where a byte is missing.
     Fetch(u32, Option<u16>),
-    /// From the address on, this number of bytes is missing.
+    /// An address, and how many addresses from it on have no byte.
     Lacks(u32, u32),
 }
 
 use Call::{Add, Fetch, Lacks, Load, Store};
 
+/// A region up to the last address, and one at 0. A byte more doesn't fit, and an access at the
+/// last address goes on at address 0.
 const UP_TO_THE_LAST_ADDRESS: [Call; 12] = [
     Add(0xffff_ff00, 257, &[], Err(AddFault::End)),
     Lacks(0xffff_ff00, 257),
@@ -46,6 +54,7 @@ const UP_TO_THE_LAST_ADDRESS: [Call; 12] = [
     Add(0x8000_0000, 0x8000_0001, &[], Err(AddFault::Overlap)),
 ];
 
+/// A store with a missing byte changes none, and a fetch with one gives `None`.
 const ALL_BYTES_OR_NONE: [Call; 8] = [
     Add(0x0180_0000, 256, &[], Ok(())),
     Store(0x0180_00fc, Width::Four, 0x1234_5678, true),
@@ -57,6 +66,7 @@ const ALL_BYTES_OR_NONE: [Call; 8] = [
     Fetch(0x0180_00ff, None),
 ];
 
+/// Two regions of which the second begins where the first ends: accesses cross that border.
 const REGIONS_MEET: [Call; 8] = [
     Add(0x0180_0000, 256, &[1, 2, 3], Ok(())),
     Add(0x0180_0100, 256, &[4], Ok(())),
@@ -68,18 +78,18 @@ const REGIONS_MEET: [Call; 8] = [
     Load(0x0180_01fe, Width::Two, Some(0)),
 ];
 
-/// Bytes in several pages.
+/// A region of several pages of `Pages`, and a store across the border of two.
 const SEVERAL_PAGES: [Call; 3] = [
     Add(0x0180_0000, 8192, &[], Ok(())),
     Store(0x0180_0ffe, Width::Four, 0x4433_2211, true),
     Load(0x0180_1000, Width::Two, Some(0x4433)),
 ];
 
-/// The calls, each list of a memory that is empty before.
+/// Lists of calls; each list is for a memory that is empty before it.
 const CALLS: [&[Call]; 3] = [&UP_TO_THE_LAST_ADDRESS, &ALL_BYTES_OR_NONE, &REGIONS_MEET];
 
 impl Call {
-    /// The memory answers this call as it is said.
+    /// Makes the call: whether the memory's answer is the one that the call says.
     fn is_answered<M: Memory>(&self, memory: &mut M) -> bool {
         match *self {
             Add(base, size, bytes, answer) => {
@@ -95,7 +105,7 @@ impl Call {
     }
 }
 
-/// Tries the calls one after another: each is answered as it says.
+/// Makes the calls one after another, and tries that each has the answer that it says.
 pub(super) fn are_answered<M: Memory>(rt: &impl Abort, memory: &mut M, calls: &[Call]) {
     let mut number = 0usize;
     for call in calls {
@@ -104,7 +114,8 @@ pub(super) fn are_answered<M: Memory>(rt: &impl Abort, memory: &mut M, calls: &[
     }
 }
 
-// What overlaps these bytes changes none, and adds none on either side.
+/// Adds 256 bytes at `base`, which overlap the region of 8192 bytes at 01800000. Whether that is
+/// refused, the region still holds `bytes`, and nothing was added on either side.
 fn is_overlap<M: Memory>(memory: &mut M, base: u32, bytes: &[u8]) -> bool {
     memory.add(base, 256, &[9; 256]) == Err(AddFault::Overlap)
         && holds(memory, 0x0180_0000, bytes)
@@ -112,7 +123,7 @@ fn is_overlap<M: Memory>(memory: &mut M, base: u32, bytes: &[u8]) -> bool {
         && lacks(memory, 0x0180_2000, 256)
 }
 
-/// Tries that a region that overlaps another isn't added.
+/// Tries that a region isn't added that overlaps another at its front, inside it, or at its end.
 fn overlaps_change_nothing<M: Memory>(rt: &impl Abort, memory: &mut M) {
     are_answered(rt, memory, &SEVERAL_PAGES);
     let mut bytes = [0u8; 8192];
@@ -122,6 +133,7 @@ fn overlaps_change_nothing<M: Memory>(rt: &impl Abort, memory: &mut M) {
     }
 }
 
+/// The calls over `Segments`.
 #[test]
 fn segments(rt: HostRuntime) {
     for calls in CALLS {
@@ -130,6 +142,7 @@ fn segments(rt: HostRuntime) {
     overlaps_change_nothing(&rt, &mut Segments::new(rt.alloc()));
 }
 
+/// The same calls over `Pages`.
 #[test]
 fn pages(rt: HostRuntime) {
     for calls in CALLS {

@@ -1,4 +1,7 @@
-//! What texts of the assembler mean, where and why they are refused, and their limits.
+//! What texts of the assembler mean, where and why they are refused, and their limits, all by
+//! docs/SOURCE.md. What `parse_source` makes of a text is printed in one line for each sandbox, and
+//! compared with the line in a table. An *item* is an instruction of the code; names are counted
+//! from 0 in the order in which a sandbox's text first has them.
 use rv_word::Instr;
 use sfi_source::{Body, Item, Names, Source, SourcePart};
 use sfi_text::{TextCause, TextFault, parse_source, print_instr};
@@ -6,7 +9,8 @@ use std::alloc::{AllocError, Global};
 use std::process::Abort;
 use std::test::Fail;
 
-// Appends a body: an instruction, and the places of names.
+/// Appends what an item has the machine do: an instruction, or the part of an address that it adds,
+/// each with the number of the name that it refers to.
 fn push_body(out: &mut String, alloc: Global, body: &Body) -> Result<(), AllocError> {
     match body {
         Body::Plain(instr) => push_instr(out, alloc, instr),
@@ -29,14 +33,14 @@ fn push_body(out: &mut String, alloc: Global, body: &Body) -> Result<(), AllocEr
     }
 }
 
-// Appends the instruction's text.
+/// Appends the instruction's text.
 fn push_instr(out: &mut String, alloc: Global, instr: &Instr) -> Result<(), AllocError> {
     let text = print_instr(alloc, instr)?;
     out.push_str(text.as_str())
 }
 
-// Appends an item: its line, L where it is labelled, c where a 16-bit form may stand for it,
-// its body.
+/// Appends an item and a `;`: its line from 1, `L` where a label stands before it, `c` where a
+/// 16-bit form may stand for it, and its body.
 fn push_item(out: &mut String, alloc: Global, item: &Item) -> Result<(), AllocError> {
     let label = if item.labelled { "L" } else { "" };
     let short = if item.rvc { "c" } else { "" };
@@ -46,7 +50,7 @@ fn push_item(out: &mut String, alloc: Global, item: &Item) -> Result<(), AllocEr
     out.push_str("; ")
 }
 
-// Appends each gate as ` NAME=SERVICE`.
+/// Appends each gate as ` NAME=SERVICE`, both as numbers: the name's, and the service's.
 fn push_gates(out: &mut String, part: &SourcePart) -> Result<(), AllocError> {
     for gate in part.gates() {
         let name = gate.name;
@@ -56,7 +60,8 @@ fn push_gates(out: &mut String, part: &SourcePart) -> Result<(), AllocError> {
     Ok(())
 }
 
-// Appends each name and what it names.
+/// Appends each name and what it names: a gate, an item of the code or a byte of the data, each by
+/// its number, or `Unknown`.
 fn push_names(out: &mut String, names: &Names) -> Result<(), AllocError> {
     for place in 0..names.len() {
         if let (Some(name), Some(named)) = (names.text(place), names.named(place)) {
@@ -74,7 +79,7 @@ fn push_items(out: &mut String, alloc: Global, part: &SourcePart) -> Result<(), 
     Ok(())
 }
 
-// Appends the data's first bytes, each in decimal.
+/// Appends the bytes that the text gives the data, each in decimal.
 fn push_bytes(out: &mut String, part: &SourcePart) -> Result<(), AllocError> {
     for byte in part.bytes() {
         write!(out, " {byte}")?;
@@ -82,7 +87,8 @@ fn push_bytes(out: &mut String, part: &SourcePart) -> Result<(), AllocError> {
     Ok(())
 }
 
-// Appends a sandbox: its size, whether it can be moved, gates, names, items and bytes.
+/// Appends a sandbox's line: its data's size, `movable` if it is, and after a `|` each its gates,
+/// names, items and bytes. The tables are written in this form.
 fn push_part(out: &mut String, alloc: Global, part: &SourcePart) -> Result<(), AllocError> {
     let size = part.data_size();
     write!(out, "{size} ")?;
@@ -108,7 +114,7 @@ fn push_parts(out: &mut String, alloc: Global, source: &Source) -> Result<(), Al
     Ok(())
 }
 
-// Appends the sandboxes that a text means, or its fault.
+/// Appends the sandboxes that a text means, or its fault's line as `sfi build` prints it.
 fn push_meaning(out: &mut String, alloc: Global, text: &str) -> Result<(), AllocError> {
     match parse_source(alloc, text) {
         Ok(source) => push_parts(out, alloc, &source),
@@ -116,7 +122,7 @@ fn push_meaning(out: &mut String, alloc: Global, text: &str) -> Result<(), Alloc
     }
 }
 
-// The sandboxes that a text means, or its fault, as text.
+/// What `push_meaning` appends, as a text of its own.
 fn meaning(alloc: Global, text: &str) -> Result<String, AllocError> {
     let mut out = String::new(alloc);
     push_meaning(&mut out, alloc, text)?;
@@ -126,9 +132,9 @@ fn meaning(alloc: Global, text: &str) -> Result<String, AllocError> {
 // A line that begins a sandbox of 256 bytes.
 const SANDBOX: &str = ".sandbox 256\n";
 
-// Each statement once, after `.sandbox 256`. A row is `TEXT => MEANING`: the text's lines, with `;
-// ` between them, and of each sandbox, with ` & ` between them, `data's size | gates | names |
-// items | bytes`, as `push_part` prints it.
+/// Each statement once, after `.sandbox 256`. A row is `TEXT => MEANING`. TEXT is the text's lines,
+/// with a semicolon and a space between them. MEANING is what `push_part` prints of each sandbox,
+/// `data's size | gates | names | items | bytes`, with ` & ` between them.
 const STATEMENTS: &str = "
  => 256 | | | |
   # no more than a comment é\r; ;  => 256 | | | |
@@ -183,8 +189,9 @@ const MOVABLE: &str = "
 .movable; .sandbox 256; la a0, x => 256 movable | | | | & 256 | | x=Unknown | 5 high x10 of 0; 5 low x10 of 0; |
 ";
 
-// Faults: each line has one, and the texts that have it, with ` | ` between them. These come after
-// `.sandbox 256`; the names of 7 have 65 letters.
+/// Faults: each line has one, as its number, name and line, and the texts that have it, with ` | `
+/// between them. These come after `.sandbox 256`; the names in texts of fault 7 have 65 letters,
+/// one too many.
 const FAULTS: &str = "
 1 Word line 2: frob a0 | NOP | .foo: nop | é | nop 'x | add a0, -x, a0 | x: --5 | nop : x
 1 Word line 3: x: add a0, a0, a0 # y; $ | .option rvc; frob
@@ -224,7 +231,8 @@ const WHOLE_FAULTS: &str = "
 6 Directive line 1:  | # nothing; ;  | nop | x: | .gate g 1 | .option rvc | .data | .byte 300 | nop 5
 ";
 
-// A row's text after the first line, which begins a sandbox, or isn't there.
+/// A row's text as lines: `first`, which is empty or whole lines before it, and then `text`, in
+/// which `; ` stands for a line feed.
 fn lines_of(alloc: Global, first: &str, text: &str) -> Result<String, AllocError> {
     let mut lines = String::from_str(alloc, first)?;
     for (number, line) in text.split("; ").enumerate() {
@@ -236,7 +244,7 @@ fn lines_of(alloc: Global, first: &str, text: &str) -> Result<String, AllocError
     Ok(lines)
 }
 
-// The row's text means, after the first lines, what the row says.
+/// Tries a row `TEXT => MEANING`: the text, after the lines `first`, means what the row says.
 fn is_meant(rt: &impl Abort, alloc: Global, first: &str, row: &str) -> Result<(), AllocError> {
     let (text, wanted) = row.split_once(" => ").unwrap_or((row, ""));
     let meant = meaning(alloc, lines_of(alloc, first, text)?.as_str())?;
@@ -244,6 +252,7 @@ fn is_meant(rt: &impl Abort, alloc: Global, first: &str, row: &str) -> Result<()
     Ok(())
 }
 
+/// Each statement, and each pseudo-instruction, means what docs/SOURCE.md says.
 #[test]
 fn sources(rt: HostRuntime) -> Result<(), Fail> {
     for row in STATEMENTS.lines().skip(1) {
@@ -255,7 +264,7 @@ fn sources(rt: HostRuntime) -> Result<(), Fail> {
     Ok(())
 }
 
-// Each of the row's texts, after the first line, has the row's fault.
+/// Tries a row `FAULT: TEXTS`: each of its texts, after the lines `first`, has this fault.
 fn are_refused(rt: &impl Abort, alloc: Global, first: &str, row: &str) -> Result<(), AllocError> {
     let (fault, texts) = row.split_once(": ").unwrap_or((row, ""));
     let wanted = format!(in alloc; "source fault {fault}\n")?;
@@ -266,6 +275,7 @@ fn are_refused(rt: &impl Abort, alloc: Global, first: &str, row: &str) -> Result
     Ok(())
 }
 
+/// Each fault but `Memory` (memory that ran out) is found, and its line.
 #[test]
 fn source_faults(rt: HostRuntime) -> Result<(), Fail> {
     for row in FAULTS.lines().skip(1) {
@@ -279,7 +289,7 @@ fn source_faults(rt: HostRuntime) -> Result<(), Fail> {
 
 // ---- texts at the limits of the assembler, and one step beyond
 
-// The text after `times` doublings.
+/// The text 2 to the power `times` times.
 fn doubled(alloc: Global, text: &str, times: u32) -> Result<String, AllocError> {
     let mut whole = String::from_str(alloc, text)?;
     for _ in 0..times {
@@ -289,7 +299,7 @@ fn doubled(alloc: Global, text: &str, times: u32) -> Result<String, AllocError> 
     Ok(whole)
 }
 
-// The text has no fault, and the same with something at its end has its limit passed on that line.
+/// Tries that `text` has no fault, and that with `end` appended it passes a limit, on line `line`.
 fn is_full(rt: &impl Abort, alloc: Global, text: &str, end: &str, line: u32) -> Result<(), Fail> {
     assert!(rt; parse_source(alloc, text).is_ok(), "line {line}");
     let more = format!(in alloc; "{text}{end}")?;
@@ -301,6 +311,7 @@ fn is_full(rt: &impl Abort, alloc: Global, text: &str, end: &str, line: u32) -> 
     Ok(())
 }
 
+/// A sandbox has at most 64 gates.
 #[test]
 fn gates(rt: HostRuntime) -> Result<(), Fail> {
     let alloc = rt.alloc();
@@ -311,7 +322,8 @@ fn gates(rt: HostRuntime) -> Result<(), Fail> {
     is_full(&rt, alloc, text.as_str(), ".gate h 1", 66)
 }
 
-// 65536 instructions, the last line once more as one or as a pseudo-instruction of two.
+/// A sandbox has at most 65536 instructions, and each counts of a pseudo-instruction: `la` is two,
+/// in a movable sandbox three.
 #[test]
 fn instructions(rt: HostRuntime) -> Result<(), Fail> {
     let alloc = rt.alloc();
@@ -329,6 +341,7 @@ fn instructions(rt: HostRuntime) -> Result<(), Fail> {
     is_full(&rt, alloc, full.as_str(), "nop", 32772)
 }
 
+/// Data bytes at most fill the data region, here of the least and the greatest size.
 #[test]
 fn data(rt: HostRuntime) -> Result<(), Fail> {
     let alloc = rt.alloc();
@@ -338,7 +351,7 @@ fn data(rt: HostRuntime) -> Result<(), Fail> {
     is_full(&rt, alloc, most, ".byte 0", 4)
 }
 
-// 1048576 bytes, and one more.
+/// A text has at most 1048576 bytes. A longer one is refused as a whole, so on line 1.
 #[test]
 fn bytes(rt: HostRuntime) -> Result<(), Fail> {
     let alloc = rt.alloc();

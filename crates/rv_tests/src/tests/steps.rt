@@ -1,4 +1,5 @@
-//! Steps by the manual's words, over each form of memory.
+//! Single steps of the machine, over both implementations of `Memory`. What each does is what the
+//! RISC-V manual says; words are an assembler's.
 use super::memories::{Call, are_answered, holds};
 use Cause::{Break, Fetch, Illegal, Load, Store};
 use rv_mem::{Memory, Pages, Segments, Width};
@@ -13,8 +14,8 @@ const LAST: u32 = 0x0100_00fe;
 /// Where the data lies, 256 bytes.
 const DATA: u32 = 0x0180_0000;
 
-/// One step: the instruction, the pc, the spelling there, registers with their values before it,
-/// what it does, and the pc and a register after it.
+/// One step: the instruction as text, the pc, the width and value of its encoding there, registers
+/// by number with their values before it, its outcome, and the pc and a register's value after it.
 #[derive(Drop)]
 struct Row {
     name: &'static str,
@@ -27,7 +28,8 @@ struct Row {
     after: (u8, u32),
 }
 
-/// A step at the front of the code that goes on there, with one register before and one after it.
+/// A step of `word`, at the code's first address, that is done: the pc is `next` then. `before` is
+/// a register's number and value before it, `after` one's after it.
 fn goes_on(name: &'static str, word: u32, before: (u8, u32), next: u32, after: (u8, u32)) -> Row {
     Row {
         name,
@@ -41,7 +43,8 @@ fn goes_on(name: &'static str, word: u32, before: (u8, u32), next: u32, after: (
     }
 }
 
-/// A quotient, a remainder or a product of x11 and x12.
+/// A step of `word` that computes x10 of x11 and x12. The five rows with it are also `VECTORS` of
+/// examples/translate/forms.py, for code that is translated to C.
 fn computes(name: &'static str, word: u32, x11: u32, x12: u32, x10: u32) -> Row {
     Row {
         before: [(11, x11), (12, x12)],
@@ -49,7 +52,8 @@ fn computes(name: &'static str, word: u32, x11: u32, x12: u32, x10: u32) -> Row 
     }
 }
 
-/// A step at the front of the code with this x31 that traps, and changes neither pc nor x10.
+/// A step of `word`, at the code's first address, that traps with this cause and address, and
+/// changes neither pc nor x10. Before it x31 is `x31`, and x11 has all bits set, for stores.
 fn traps(name: &'static str, word: u32, x31: u32, cause: Cause, address: u32) -> Row {
     Row {
         before: [(31, x31), (11, 0xffff_ffff)],
@@ -58,7 +62,7 @@ fn traps(name: &'static str, word: u32, x31: u32, cause: Cause, address: u32) ->
     }
 }
 
-/// A trap at the last two bytes of the code.
+/// A trap of an instruction of which the code's last two bytes have only `halfword`.
 fn traps_at_the_end(name: &'static str, halfword: u32, cause: Cause) -> Row {
     Row {
         pc: LAST,
@@ -68,7 +72,8 @@ fn traps_at_the_end(name: &'static str, halfword: u32, cause: Cause) -> Row {
     }
 }
 
-/// The words are an assembler's. The data are the bytes 1, 2, 3 and 4, and zeros.
+/// The steps. The data begin with the bytes 1, 2, 3 and 4, and zeros follow. Quotients and
+/// remainders by 0, and of the least number by -1, are those of the manual's table.
 fn rows() -> [Row; 16] {
     let least = 0x8000_0000;
     let (x1, x31, x10) = ((1, CODE + 16), (31, DATA), (10, 0x0403_0201));
@@ -95,7 +100,8 @@ fn rows() -> [Row; 16] {
     ]
 }
 
-/// The machine before a row's step.
+/// The pc and registers before a row's step; `None` where the pc is odd or a register's number
+/// isn't below 32, which no row has.
 fn before(row: &Row) -> Option<Cpu> {
     let mut cpu = Cpu::at(row.pc)?;
     for (number, value) in row.before {
@@ -104,7 +110,7 @@ fn before(row: &Row) -> Option<Cpu> {
     Some(cpu)
 }
 
-/// The machine stands where a row says, with that value in the register.
+/// Whether pc and register of `cpu` are those that the row says for after its step.
 fn is_after(row: &Row, cpu: &Cpu) -> bool {
     let (number, value) = row.after;
     match Reg::new(number) {
@@ -113,7 +119,8 @@ fn is_after(row: &Row, cpu: &Cpu) -> bool {
     }
 }
 
-/// The row's step does what it says, and changes no data.
+/// Writes the row's instruction into the code and takes its step: whether that does what the row
+/// says and changes no byte of the data.
 fn is_taken<M: Memory>(memory: &mut M, row: &Row) -> bool {
     let Some(mut cpu) = before(row) else {
         return false;
@@ -140,6 +147,7 @@ fn take_all<M: Memory>(rt: &impl Abort, memory: &mut M) {
     }
 }
 
+/// Each row's step; and no machine has an odd pc.
 #[test]
 fn steps_are_the_manuals(rt: HostRuntime) {
     take_all(&rt, &mut Segments::new(rt.alloc()));
@@ -147,8 +155,10 @@ fn steps_are_the_manuals(rt: HostRuntime) {
     assert!(rt; Cpu::at(0x0100_0001).is_none());
 }
 
+/// Code of a single `ecall`.
 const ECALL: [Call; 1] = [Call::Add(CODE, 4, &[0x73, 0x00, 0x00, 0x00], Ok(()))];
 
+/// A step at an ecall changes nothing and gives `Call`; `after_call` then moves the pc past it.
 #[test]
 fn an_ecall_is_passed(rt: HostRuntime) {
     let mut memory = Segments::new(rt.alloc());
@@ -162,6 +172,7 @@ fn an_ecall_is_passed(rt: HostRuntime) {
 
 // ---- without a checker
 
+/// Where the second sandbox's data lies.
 const NEIGHBOUR: u32 = 0x0280_0000;
 
 // Two sandboxes' data lies at 01800000 and 02800000. The first one's code is sw x11, 0(x10),
@@ -173,8 +184,11 @@ const SANDBOXES: [Call; 4] = [
     Call::Load(NEIGHBOUR, Width::One, Some(0x48)),
 ];
 
+/// The second sandbox's first byte once the first one has stored 0 there: it was `H`.
 const AFTER: [Call; 1] = [Call::Load(NEIGHBOUR, Width::One, Some(0))];
 
+/// Why there is a checker: the machine itself lets unchecked code of one sandbox overwrite
+/// another's data.
 #[test]
 fn a_bare_store_reaches_the_neighbour(rt: HostRuntime) {
     let mut memory = Segments::new(rt.alloc());

@@ -1,4 +1,5 @@
-//! Texts of instructions, as the RISC-V manual and other assemblers have them.
+//! Texts of instructions, as the RISC-V manual and other assemblers have them: what `parse_instr`
+//! reads and refuses, and what `print_instr` prints.
 
 use rv_word::{Instr, Reg, decode32, encode32};
 use sfi_text::{TextCause, parse_instr, print_instr};
@@ -6,7 +7,7 @@ use std::alloc::Global;
 use std::process::Abort;
 use std::test::Fail;
 
-/// The instruction of a text that means one.
+/// The instruction that the text means; the test fails where `parse_instr` refuses it.
 fn instr(rt: &impl Abort, text: &str) -> Instr {
     match parse_instr(text) {
         Ok(instr) => instr,
@@ -14,7 +15,7 @@ fn instr(rt: &impl Abort, text: &str) -> Instr {
     }
 }
 
-/// The word and the text are those of one instruction.
+/// Tries that `text` is read as the instruction of `word`, which is printed as `text` again.
 fn reads_and_prints(rt: &impl Abort, alloc: Global, word: u32, text: &str) -> Result<(), Fail> {
     let read = instr(rt, text);
     let is_spelled = decode32(word) == Some(read) && encode32(read) == Some(word);
@@ -24,6 +25,7 @@ fn reads_and_prints(rt: &impl Abort, alloc: Global, word: u32, text: &str) -> Re
     Ok(())
 }
 
+/// Words as an assembler encodes the texts beside them.
 const WORDS: &[(u32, &str)] = &[
     (0x02c5_8533, "mul x10, x11, x12"),
     (0x4045_5513, "srai x10, x10, 4"),
@@ -54,6 +56,7 @@ const WORDS: &[(u32, &str)] = &[
     (0x8000_00ef, "jal x1, -1048576"),
 ];
 
+/// Each row of `WORDS`, from text to word and back.
 #[test]
 fn words_and_texts(rt: HostRuntime) -> Result<(), Fail> {
     for (word, text) in WORDS {
@@ -62,6 +65,7 @@ fn words_and_texts(rt: HostRuntime) -> Result<(), Fail> {
     Ok(())
 }
 
+/// A text, and another that means the same instruction.
 const WAYS: &[(&str, &str)] = &[
     ("fence", "fence 255, x0, x0"),
     ("\taddi\tsp,sp,-0x10 \r", "addi x2, x2, -16"),
@@ -71,6 +75,7 @@ const WAYS: &[(&str, &str)] = &[
     ("lw fp , 4 ( s0 )", "lw x8, 4(x8)"),
 ];
 
+/// White space, hexadecimal numbers and the registers' other names are read.
 #[test]
 fn ways_to_write_an_instruction(rt: HostRuntime) {
     for (text, other) in WAYS {
@@ -78,10 +83,11 @@ fn ways_to_write_an_instruction(rt: HostRuntime) {
     }
 }
 
-// The names of the registers, from x0 on.
+/// The manual's names of the registers by their use, from x0 to x31.
 const NAMES: &str =
     "zero ra sp gp tp t0 t1 t2 s0 s1 a0 a1 a2 a3 a4 a5 a6 a7 s2 s3 s4 s5 s6 s7 s8 s9 s10 s11 t3 t4 t5 t6";
 
+/// Each name is read as its register: a `jal` to it writes that one, or none for x0.
 #[test]
 fn register_names(rt: HostRuntime) -> Result<(), Fail> {
     for (number, name) in (0..32u8).zip(NAMES.split(' ')) {
@@ -92,7 +98,8 @@ fn register_names(rt: HostRuntime) -> Result<(), Fail> {
     Ok(())
 }
 
-// Each line has a cause, and the texts that are refused for it, with ` | ` between them.
+/// Texts that are refused. Each line has a cause (`TextCause`), and the texts with it, with ` | `
+/// between them. Where a text has several faults the first from the left counts.
 const CAUSES: &str = "
 Number: addi x1, x1, 2048 | addi x1, x1, 2048 x | addi x1, x1, -2049 | lw x10, 2048(x11) | lw x10, -2049(x11) | sw x10, 2048(x11)
 Number: sw x10, -2049(x11) | jalr x1, 2048(x5) | jalr x1, -2049(x5) | beq x8, x0, 3 | beq x8, x0, 4096 | beq x8, x0, -4098 | jal x1, 1048576
@@ -103,6 +110,7 @@ Word: addi x1, x1, -x | addi x1, x1, --5 | li x1, 1 | nop | .word 1 | ADD x1, x2
 Register: add x1, q9 $ | add x1, x2, x32 | add a0, , a0 | add x01, x2, x3
 ";
 
+/// Each text of `CAUSES` is refused for its line's cause. A line feed belongs to no token: `Word`.
 #[test]
 fn causes(rt: HostRuntime) -> Result<(), Fail> {
     for row in CAUSES.lines().skip(1) {
