@@ -21,7 +21,7 @@ struct Outcome {
     text: Vec<u8>,
 }
 
-// The words of a command line as a shell gives them.
+/// The words of a command line, which white space parts; the first is `sfi`. There are no quotes.
 fn words_of(alloc: Global, line: &str) -> Result<Vec<String>, AllocError> {
     let mut words = Vec::new(alloc);
     for word in line.split_whitespace() {
@@ -30,7 +30,7 @@ fn words_of(alloc: Global, line: &str) -> Result<Vec<String>, AllocError> {
     Ok(words)
 }
 
-// Runs the command over the input.
+/// Runs the command line over these bytes as its standard input.
 fn run(alloc: Global, line: &str, input: &[u8]) -> Result<Outcome, AllocError> {
     let words = words_of(alloc, line)?;
     let mut reader = input;

@@ -9,8 +9,10 @@ use std::alloc::Global;
 use std::process::Abort;
 use std::test::Fail;
 
-// Where the second image's code and data lie, as its digits, and the answer. The first one's code has 256
-// bytes from 01000000 on, its data 256 from 01800000 on.
+/// Where the second image's code and data lie, as edits of the smallest image: code base at byte 8,
+/// data base at 16, start at 24; and the answer. The first one's code has 256 bytes from 01000000
+/// on, its data 256 from 01800000 on. The code, data and guard zones of one, which are the 4096
+/// addresses on each side of its data, may have no address in common with those of the other.
 struct Case(&'static str, Result<u32, AddError>);
 
 const CASES: &[Case] = &[
@@ -31,7 +33,8 @@ const CASES: &[Case] = &[
     ),
 ];
 
-// Adds the case's image to a world whose sandbox has trapped, and runs what was added.
+/// Adds the case's image to a world whose sandbox has trapped. Tries that the answer is the case's,
+/// that the first sandbox is as it was, and that the second is ready, if it was added.
 fn try_case(rt: &impl Abort, alloc: Global, case: &Case) -> Result<(), Fail> {
     let Case(lines, wanted) = case;
     let mut world = smallest_world(rt, alloc)?;
@@ -53,6 +56,7 @@ fn try_case(rt: &impl Abort, alloc: Global, case: &Case) -> Result<(), Fail> {
     Ok(())
 }
 
+/// Places next to each other that just have no address in common, and such that have.
 #[test]
 fn what_lies_apart_is_added(rt: HostRuntime) -> Result<(), Fail> {
     for case in CASES {
@@ -61,7 +65,8 @@ fn what_lies_apart_is_added(rt: HostRuntime) -> Result<(), Fail> {
     Ok(())
 }
 
-// The first leaves, the second too, and then there is room for the second again.
+/// Once the first sandbox is removed the second is number 0. While it is there it can't be added a
+/// second time; once it is removed, too, it can.
 #[test]
 fn what_is_removed_leaves_its_room(rt: HostRuntime) -> Result<(), Fail> {
     let alloc = rt.alloc();

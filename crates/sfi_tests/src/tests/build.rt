@@ -28,6 +28,7 @@ const FAULTS: &[(&str, BuildFault, &str)] = &[
     ),
 ];
 
+/// Each text has its fault, whose text is what a command prints.
 #[test]
 fn faults(rt: HostRuntime) -> Result<(), Fail> {
     for (line, fault, wanted) in FAULTS {
@@ -43,7 +44,8 @@ fn faults(rt: HostRuntime) -> Result<(), Fail> {
     Ok(())
 }
 
-// The smallest image, with `c.ebreak` after its first instruction.
+/// The steps of `build` one by one, of a source with one `ebreak`: they make the smallest image,
+/// but with `c.ebreak`, which fills up a code region, after its first instruction.
 #[test]
 fn a_placed_source_is_linked(rt: HostRuntime) -> Result<(), Fail> {
     let alloc = rt.alloc();

@@ -1,4 +1,6 @@
-//! Each service of the console, called over a memory, without an image.
+//! Each service of the console, called over a memory, without an image. What it answers is what
+//! docs/GATES.md says. Services are exit 0, put 1, get 2, yield 3, post 4 and take 5; the console
+//! serves the sandboxes 0 and 1.
 ghost use Rattle.rv_mem.specs.Segments.{bytes_of};
 ghost use Rattle.sfi_host.specs.Slots.{bytes_in, IsWhole};
 
@@ -6,12 +8,13 @@ use super::guests::{DATA, call, memory, request};
 use rv_mem::{Memory, Width};
 use sfi_host::{Console, GateAnswer};
 
-// a0 of a refused call.
+/// a0 after a refused call.
 const FAILED: u32 = 0xffff_ffff;
 
 // A call, as its caller, its service, a0 and a1; the answer; and a0 after it. a1 stays.
 type Served = ((u32, u32, u32, u32), GateAnswer, u32);
 
+/// The calls in their order: each finds what those before it left.
 const SERVED: &[Served] = &[
     // Exit and yield serve any caller.
     ((2, 0, 7, 8), GateAnswer::Exit(7), 7),
@@ -40,6 +43,8 @@ const SERVED: &[Served] = &[
     ((2, 5, 1, 8), GateAnswer::Replied, FAILED),
 ];
 
+/// Answers, then what was put by each sandbox, and what gets wrote into the data, with `abc` as the
+/// input of each. The byte after the data stays.
 #[test]
 fn a_console_serves(rt: HostRuntime) {
     let mut memory = memory(&rt, rt.alloc(), &[72, 105]);
@@ -58,9 +63,12 @@ fn a_console_serves(rt: HostRuntime) {
     assert_eq!(rt; memory.load(DATA + 256, Width::One), Some(2));
 }
 
-// A call that is replied to, as its caller, its service, a0 and a1; and a0 and a1 after it.
+/// A call that is replied to, as its caller, its service, a0 and a1; and a0 and a1 after it. A post
+/// has the addressee in a0 and the word in a1; a take gives the word in a0, and in a1 its sender's
+/// number plus 1, or 0 where the mailbox is empty.
 type Passed = ((u32, u32, u32, u32), u32, u32);
 
+/// The calls in their order: each finds what those before it left.
 const PASSED: &[Passed] = &[
     // Post: to the other, to itself, and to none.
     ((0, 4, 1, 7), 0, 7),
@@ -74,6 +82,7 @@ const PASSED: &[Passed] = &[
     ((1, 5, 3, 4), 0, 0),
 ];
 
+/// Words that are posted and taken, and a mailbox that is full at the 17th.
 #[test]
 fn a_console_passes_words_on(rt: HostRuntime) {
     let mut memory = memory(&rt, rt.alloc(), &[72, 105]);

@@ -12,14 +12,15 @@ use std::alloc::Global;
 use std::process::Abort;
 use std::test::Fail;
 
-// The world of the smallest image: 64 times `ebreak` and 256 data bytes.
+/// The world of the smallest image: one sandbox, whose code at 01000000 is 64 times `ebreak`, with
+/// 256 data bytes at `DATA`.
 pub(super) fn smallest_world(rt: &impl Abort, alloc: Global) -> Result<World<Segments>, Fail> {
     let bytes = image_of(alloc, "")?;
     let accepted = check(alloc, bytes.as_slice()).expect(rt, "accepted");
     Ok(World::load(alloc, &accepted, Segments::new(alloc))?)
 }
 
-// Whether the one sandbox has taken no step.
+/// Whether the world has one sandbox, which is at its start and has taken no step.
 fn is_fresh(world: &World<Segments>) -> bool {
     let is_first = match world.cpu(0) {
         Some(cpu) => cpu.pc() == 0x0100_0000 && cpu.reg(Reg::numbered(27)) == 255,
@@ -32,6 +33,7 @@ fn is_fresh(world: &World<Segments>) -> bool {
         && is_first
 }
 
+/// A loaded sandbox is at its start, with its data mask in x27.
 #[test]
 fn a_world_before_its_first_turn(rt: HostRuntime) -> Result<(), Fail> {
     let world = smallest_world(&rt, rt.alloc())?;
@@ -47,6 +49,7 @@ const BYTES: &[(u32, Option<u8>)] = &[
     (DATA + 256, None),
 ];
 
+/// `data_byte` gives the data's bytes, and `None` for an address outside the data region.
 #[test]
 fn data_of_a_world(rt: HostRuntime) -> Result<(), Fail> {
     let world = smallest_world(&rt, rt.alloc())?;
@@ -56,7 +59,7 @@ fn data_of_a_world(rt: HostRuntime) -> Result<(), Fail> {
     Ok(())
 }
 
-// A turn of 1000 steps.
+/// A turn of at most 1000 steps of this sandbox.
 pub(super) fn turn(sandbox: u32) -> Turn {
     Turn {
         sandbox,
@@ -64,11 +67,13 @@ pub(super) fn turn(sandbox: u32) -> Turn {
     }
 }
 
-// The sandbox has trapped at this address, and has taken no step.
+/// Whether sandbox 0 has trapped at an `ebreak` at this address, before its first step.
 fn has_trapped(world: &World<Segments>, address: u32) -> bool {
     world.status(0) == Some(Status::Trapped(Cause::Break, address)) && world.steps(0) == Some(0)
 }
 
+/// A plan with turns of a sandbox that isn't there, of one that traps, and of that again: the first
+/// and the last change nothing. The memory then holds the code, and nothing in a guard zone.
 #[test]
 fn the_smallest_image_traps(rt: HostRuntime) -> Result<(), Fail> {
     let mut console = Console::new(rt.alloc(), 1, &[])?;
@@ -86,7 +91,7 @@ fn the_smallest_image_traps(rt: HostRuntime) -> Result<(), Fail> {
     Ok(())
 }
 
-// The world knows no sandbox of that number.
+/// Whether all that can be asked about sandbox `sandbox` is answered with `None`.
 fn knows_none(world: &World<Segments>, sandbox: u32) -> bool {
     world.status(sandbox) == None
         && world.steps(sandbox) == None
@@ -95,6 +100,7 @@ fn knows_none(world: &World<Segments>, sandbox: u32) -> bool {
         && world.cpu(sandbox).is_none()
 }
 
+/// Sandboxes count from 0, so a world of one has no sandbox 1.
 #[test]
 fn no_sandbox_is_there(rt: HostRuntime) -> Result<(), Fail> {
     let world = smallest_world(&rt, rt.alloc())?;
@@ -102,7 +108,8 @@ fn no_sandbox_is_there(rt: HostRuntime) -> Result<(), Fail> {
     Ok(())
 }
 
-// Three bytes are written at the data's end, and nothing before or past the data, nor elsewhere.
+/// Whether three bytes are written at the data's end, and a write is refused whose bytes begin
+/// before the data, end after them, or are of a sandbox that isn't there.
 fn is_written(world: &mut World<Segments>) -> bool {
     world.write(0, DATA + 253, &[1, 2, 3])
         && !world.write(0, DATA + 254, &[4, 5, 6])
@@ -110,7 +117,8 @@ fn is_written(world: &mut World<Segments>) -> bool {
         && !world.write(1, DATA, &[4])
 }
 
-// ReaderSource has the same limits. What isn't read stays as it was.
+/// Whether reads have the same limits, give what `is_written` wrote, and, where they are refused,
+/// leave the caller's bytes as they were.
 fn is_read(world: &World<Segments>) -> bool {
     let mut bytes = [9, 9, 9];
     !world.read(0, DATA + 254, &mut bytes)
@@ -120,6 +128,7 @@ fn is_read(world: &World<Segments>) -> bool {
         && bytes == [1, 2, 3]
 }
 
+/// A host reads and writes a sandbox's data, but nothing else.
 #[test]
 fn data_are_read_and_written_from_outside(rt: HostRuntime) -> Result<(), Fail> {
     let mut world = smallest_world(&rt, rt.alloc())?;
@@ -128,16 +137,19 @@ fn data_are_read_and_written_from_outside(rt: HostRuntime) -> Result<(), Fail> {
     Ok(())
 }
 
-// One turn of the smallest world's sandbox, and what became of it.
+/// Takes one turn of sandbox 0, with a console of its own as the host; gives that sandbox's status
+/// then.
 pub(super) fn turned(world: &mut World<Segments>, alloc: Global) -> Result<Option<Status>, Fail> {
     let mut console = Console::new(alloc, 1, &[])?;
     world.run_plan(&[turn(0)], &mut console);
     Ok(world.status(0))
 }
 
+/// The arguments of a function that is called, in a0 (x10) to a7 (x17).
 pub(super) const ARGUMENTS: [u32; 8] = [11, 12, 13, 14, 15, 16, 17, 18];
 
-// The sandbox is entered at a bundle's start of its code alone, and no other sandbox is.
+/// Whether sandbox 0 is entered at a bundle's start of its code, which makes it ready there, and
+/// not within a bundle or after its code; and whether sandbox 1, which isn't there, isn't either.
 fn is_entered(world: &mut World<Segments>) -> bool {
     !world.enter(0, 0x0100_0008, &ARGUMENTS)
         && !world.enter(0, 0x0100_0100, &ARGUMENTS)
@@ -148,6 +160,8 @@ fn is_entered(world: &mut World<Segments>) -> bool {
         && world.cpu(0).is_some_and(|cpu| cpu.pc() == 0x0100_0010)
 }
 
+/// A sandbox can't be entered while it is ready. After its trap it can, and its code runs from
+/// there.
 #[test]
 fn a_sandbox_is_entered_again(rt: HostRuntime) -> Result<(), Fail> {
     let alloc = rt.alloc();
@@ -160,7 +174,8 @@ fn a_sandbox_is_entered_again(rt: HostRuntime) -> Result<(), Fail> {
     Ok(())
 }
 
-// The number of a register, and what is in it.
+/// A register's number, and its value once the sandbox is entered with `ARGUMENTS`: x2 is the stack
+/// pointer, 16 below the data's end; x24 to x27 are code base, code mask, data base and data mask.
 const REGISTERS: &[(u8, u32)] = &[
     (0, 0),
     (1, 0),
@@ -176,6 +191,7 @@ const REGISTERS: &[(u8, u32)] = &[
     (31, 0),
 ];
 
+/// Each row of `REGISTERS`, as `World::enter` documents them.
 #[test]
 fn an_entered_sandbox_has_fresh_registers(rt: HostRuntime) -> Result<(), Fail> {
     let alloc = rt.alloc();
@@ -190,7 +206,8 @@ fn an_entered_sandbox_has_fresh_registers(rt: HostRuntime) -> Result<(), Fail> {
     Ok(())
 }
 
-// A function that returns the sum of its arguments. The gate of exit isn't the first.
+/// A function that returns the sum of its two arguments. The gate of exit isn't the first, and lies
+/// at 01000010; `sum` lies at 01000030.
 const SUM: &str = ".sandbox 256
 .gate put 1
 .gate exit 0
@@ -199,6 +216,8 @@ sum:    add  a0, a0, a1
         ret
 ";
 
+/// A function that is entered returns to the gate of exit, whose address is in x1: its result is
+/// the number that the sandbox exits with.
 #[test]
 fn a_function_returns_by_the_gate_of_exit(rt: HostRuntime) -> Result<(), Fail> {
     let alloc = rt.alloc();
@@ -227,10 +246,16 @@ const ROOMS: &[(u32, &str, &str, u32)] = &[
     (64, ROOM, "83, 70, 73, 78, 0", 16),
 ];
 
+/// The name of the import that asks for room, `.room`, as a table of names has it: its length, and
+/// its bytes.
 const ROOM: &str = "5, 46, 114, 111, 111, 109";
 
+/// The magic with which a table of names ends, `SFIN`.
 const MAGIC: &str = "83, 70, 73, 78";
 
+/// An entered function's stack pointer lies 16 bytes below the data's end, and lower by the room
+/// that the table's last import asks for, if its name and the magic are right and the data have
+/// that room. The stack pointer at the start doesn't depend on it.
 #[test]
 fn a_function_has_the_room_that_its_image_asks_for(rt: HostRuntime) -> Result<(), Fail> {
     let alloc = rt.alloc();
@@ -250,6 +275,7 @@ fn a_function_has_the_room_that_its_image_asks_for(rt: HostRuntime) -> Result<()
     Ok(())
 }
 
+/// The stack pointer x2 of sandbox 0.
 fn stack_of(rt: &impl Abort, world: &World<Segments>) -> u32 {
     world.cpu(0).expect(rt, "a sandbox").reg(Reg::numbered(2))
 }

@@ -1,4 +1,5 @@
-//! Guests over a memory, without an image, and a host of a few lines.
+//! Guests over a memory, without an image, and a host of a few lines. A `Guest` is what a host sees
+//! of the sandbox that calls it: what it asks, and its data.
 ghost use Rattle.std.specs.Prelude.{◌≤◌, length};
 ghost use Rattle.rv_mem.specs.Segments.{bytes_of};
 ghost use Rattle.sfi_host.specs.Hosts.{Yield};
@@ -18,7 +19,8 @@ pub(super) const REGION: Region = Region {
     size: 256,
 };
 
-// Whatever it is asked, it marks where a0 points and yields, with a0 as its number.
+/// A host that answers each call alike: it writes 7 to the caller's data byte at address a0, if
+/// there is one, sets a0 to `number`, and ends the caller's turn.
 #[derive(Clone, Copy)]
 struct Marker {
     number: u32,
@@ -41,6 +43,7 @@ impl Gates for Marker {
 
     ghost may_refuse = { λ s c. false };
 
+    /// Does what `answer` says, which is proved: a change of one needs the same of the other.
     fn call<M: Memory>(&mut self, guest: &mut Guest<'_, M>) -> GateAnswer {
         guest.put_byte(guest.arg0(), 7);
         guest.set0(self.number);
@@ -48,7 +51,8 @@ impl Gates for Marker {
     }
 }
 
-/// A memory with 256 data bytes, of which the first are given, and one more byte on each side.
+/// A memory with the data region `REGION`, which begins with the bytes of `front`, and one more
+/// byte on each side, 1 and 2, that no guest may reach.
 pub(super) fn memory(rt: &impl Abort, alloc: Global, front: &[u8]) -> Segments
     requires { length front.now ≤ 256 }
     ensures { IsWhole (record { base = 25165824; size = 256 })
@@ -61,7 +65,8 @@ pub(super) fn memory(rt: &impl Abort, alloc: Global, front: &[u8]) -> Segments
     memory
 }
 
-/// A call by a sandbox with these data: the answer, and a0 and a1 after it.
+/// Has the host `gates` answer a call by a sandbox whose data is `REGION` of `memory`. Gives the
+/// answer, and a0 and a1 after it.
 pub(super) fn call<G: Gates>(
     gates: &mut G,
     memory: &mut Segments,
@@ -77,7 +82,8 @@ pub(super) fn call<G: Gates>(
     (answer, guest.arg0(), guest.arg1())
 }
 
-/// What a sandbox asks.
+/// A call of a service by its number, with these a0 and a1, by the sandbox of this number at its
+/// gate 0.
 pub(super) fn request(sandbox: u32, service: u32, a0: u32, a1: u32) -> Request {
     Request {
         sandbox,
@@ -88,6 +94,8 @@ pub(super) fn request(sandbox: u32, service: u32, a0: u32, a1: u32) -> Request {
     }
 }
 
+/// A guest tells what is asked, gives and takes single bytes of the data region, and refuses the
+/// addresses beside it. a0 and a1 are as they were set last.
 #[test]
 fn a_guest_reaches_its_data_alone(rt: HostRuntime) {
     let mut memory = memory(&rt, rt.alloc(), &[72, 105]);
@@ -111,6 +119,7 @@ fn a_guest_reaches_its_data_alone(rt: HostRuntime) {
     assert_eq!(rt; guest.byte(DATA + 255), Some(9));
 }
 
+/// Several bytes are read or written together, or none where one lies outside the data region.
 #[test]
 fn a_guest_copies_its_data(rt: HostRuntime) {
     let mut memory = memory(&rt, rt.alloc(), &[72, 105]);
@@ -129,6 +138,7 @@ fn a_guest_copies_its_data(rt: HostRuntime) {
     assert!(rt; guest.read(0, &mut []));
 }
 
+/// `Marker` answers, marks the byte and leaves a1 and the byte before it.
 #[test]
 fn a_host_of_a_few_lines_answers(rt: HostRuntime) {
     let mut memory = memory(&rt, rt.alloc(), &[72, 105]);

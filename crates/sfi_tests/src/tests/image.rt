@@ -1,4 +1,5 @@
-//! The smallest image, and edits of images, as digits.
+//! The smallest image, and edits of images, as hexadecimal digits, two for each byte. Places count
+//! bytes from the image's first one.
 use std::alloc::{AllocError, Global};
 
 // The head of one sandbox: code 256 bytes at 01000000, data 256 at 01800000, start at the code's
@@ -13,8 +14,8 @@ pub(super) fn smallest(alloc: Global) -> Result<Vec<u8>, AllocError> {
     edited(alloc, HEAD.as_bytes(), &end_in(36, EBREAK, 64))
 }
 
-/// Digits, repeated `times` times, in place of the bytes from one place to another.
-/// Places after the end stand for the end.
+/// An edit of an image: `digits`, `times` times, replace the bytes from place `from` up to but not
+/// with `to`. Places after the image's end stand for that end.
 #[derive(Clone, Copy)]
 pub(super) struct Edit<'a> {
     from: usize,
@@ -23,7 +24,7 @@ pub(super) struct Edit<'a> {
     times: usize,
 }
 
-/// The digits in place of as many from the place on.
+/// The edit by which the digits replace as many of the image's, from byte `at` on.
 pub(super) fn put<'a>(at: usize, digits: &'a str) -> Edit<'a> {
     Edit {
         from: at,
@@ -33,7 +34,7 @@ pub(super) fn put<'a>(at: usize, digits: &'a str) -> Edit<'a> {
     }
 }
 
-/// The digits before the place.
+/// The edit by which the digits are inserted before byte `at`.
 pub(super) fn insert<'a>(at: usize, digits: &'a str) -> Edit<'a> {
     Edit {
         from: at,
@@ -43,7 +44,8 @@ pub(super) fn insert<'a>(at: usize, digits: &'a str) -> Edit<'a> {
     }
 }
 
-/// The digits, repeated `times` times, in place of what stands from byte `at` on.
+/// The edit by which the digits, `times` times, replace all from byte `at` on; with 0 times it cuts
+/// the image there.
 pub(super) fn end_in<'a>(at: usize, digits: &'a str, times: usize) -> Edit<'a> {
     Edit {
         from: at,
@@ -53,7 +55,7 @@ pub(super) fn end_in<'a>(at: usize, digits: &'a str, times: usize) -> Edit<'a> {
     }
 }
 
-/// The text after the edit.
+/// The digits `text` of an image after the edit.
 pub(super) fn edited(alloc: Global, text: &[u8], edit: &Edit<'_>) -> Result<Vec<u8>, AllocError> {
     let from = edit.from.saturating_mul(2).min(text.len());
     let to = edit.to.saturating_mul(2).min(text.len());

@@ -11,7 +11,8 @@ const HEAD: [u8; 52] = [
     0, 1, 2, 0, 0, 0, 2, 0, 0, 0, 0, 0, 0, 1, 1, 0, 0, 0, 0x10, 0, 0, 1, 0, 0, 0, 0,
 ];
 
-// The whole image: its code is the bytes 0 to 255.
+/// The image that begins with `HEAD`: its code is the bytes 0 to 255, its first data bytes are
+/// `Hi`.
 fn image_bytes(rt: &HostRuntime) -> Result<Vec<u8>, Fail> {
     let mut bytes = Vec::new(rt.alloc());
     bytes.extend_from_slice(&HEAD)?;
@@ -22,6 +23,7 @@ fn image_bytes(rt: &HostRuntime) -> Result<Vec<u8>, Fail> {
     Ok(bytes)
 }
 
+/// `parse_image` gives each field of the layout that docs/IMAGE.md describes.
 #[test]
 fn reads_an_image(rt: HostRuntime) -> Result<(), Fail> {
     let bytes = image_bytes(&rt)?;
@@ -58,6 +60,7 @@ const FORMATS: &[(Format, &[u8])] = &[
     (Format::Sfis, b"SFIS"),
 ];
 
+/// An image that was read is written as the same bytes; in another format only its magic differs.
 #[test]
 fn writes_an_image_in_each_format(rt: HostRuntime) -> Result<(), Fail> {
     let alloc = rt.alloc();
@@ -73,6 +76,7 @@ fn writes_an_image_in_each_format(rt: HostRuntime) -> Result<(), Fail> {
     Ok(())
 }
 
+/// The texts of faults are the lines that commands print of them.
 #[test]
 fn says_faults_of_a_layout(rt: HostRuntime) -> Result<(), Fail> {
     let whole = format!(in rt.alloc(); "{}", ImageFault::Layout(LayoutFault::Magic))?;

@@ -4,7 +4,7 @@ use sfi_tool::{Job, job_of, run_tool};
 use std::alloc::{AllocError, Global};
 use std::test::Fail;
 
-// The job that the line asks for.
+/// The job that the command line asks for; the test fails where it asks for none.
 fn job(alloc: Global, line: &str) -> Result<Job, Fail> {
     let words = words_of(alloc, line)?;
     Ok(job_of(alloc, words.as_slice())?)
@@ -14,6 +14,7 @@ fn job(alloc: Global, line: &str) -> Result<Job, Fail> {
 // asks for a report.
 struct Run(&'static str, (u32, u32), &'static [u8], bool);
 
+/// What counts where an option is missing, each option, and values at their bounds.
 const RUNS: &[Run] = &[
     Run("sfi run", (1, 1000), b"", false),
     Run("sfi run --input=", (1, 1000), b"", false),
@@ -28,6 +29,7 @@ const RUNS: &[Run] = &[
     Run("sfi run --report --rounds 2", (2, 1000), b"", true),
 ];
 
+/// The options of `sfi run`, as docs/sfi.1 describes them.
 #[test]
 fn run_options(rt: HostRuntime) -> Result<(), Fail> {
     for Run(line, numbers, bytes, reports) in RUNS {
@@ -41,7 +43,8 @@ fn run_options(rt: HostRuntime) -> Result<(), Fail> {
     Ok(())
 }
 
-// The places come in the order of the words, in digits of either case.
+/// The places of `--at` are for the sandboxes in the order of the words; their hexadecimal digits
+/// may be fewer than 8 and of either case.
 #[test]
 fn places_in_order(rt: HostRuntime) -> Result<(), Fail> {
     let line = "sfi build --at 1:fFfFfFfF --at 00000abc:0";
@@ -56,7 +59,8 @@ fn places_in_order(rt: HostRuntime) -> Result<(), Fail> {
     Ok(())
 }
 
-// What a run prints whose input is this text.
+/// Runs `sfi run --input TEXT`, where the text may have white space, which `words_of` would part,
+/// with `reader` as standard input.
 fn run_on(alloc: Global, text: &str, reader: &mut &[u8]) -> Result<Outcome, AllocError> {
     let mut words = words_of(alloc, "sfi run --input")?;
     words.push(String::from_str(alloc, text)?)?;
@@ -68,10 +72,10 @@ fn run_on(alloc: Global, text: &str, reader: &mut &[u8]) -> Result<Outcome, Allo
     })
 }
 
-// Texts that spell no bytes.
+/// Texts that are no hexadecimal digits of whole bytes.
 const NO_BYTES: &[&str] = &["0", "4 8", " 48", "4g", "0x48", "48\n"];
 
-// Such a text is refused before anything is read.
+/// Such a text is refused with a fault's line and status 2, before standard input is read.
 #[test]
 fn option_hex(rt: HostRuntime) -> Result<(), Fail> {
     for text in NO_BYTES {

@@ -10,12 +10,13 @@
 //! - `text NAME`: the text of that name (rows/texts.rt); `texts N NAME`: N times that text;
 //! - `bytes DIGITS`: the bytes that the digits spell.
 //!
-//! These change the digits of the image that stands there, one after another:
+//! These edit the digits of the image that the input is so far, one after another; AT counts bytes,
+//! from 0:
 //!
-//! - `put AT DIGITS`: the digits stand in place of as many of the image's, from byte AT on;
-//! - `insert AT DIGITS`: they stand before that byte;
-//! - `end AT N DIGITS`: N times, they stand in place of all from that byte on;
-//! - `cut AT`: nothing stands there.
+//! - `put AT DIGITS`: the digits replace as many of the image's, from byte AT on;
+//! - `insert AT DIGITS`: they are inserted before that byte;
+//! - `end AT N DIGITS`: N times, they replace all from that byte on;
+//! - `cut AT`: all from that byte on is removed.
 //!
 //! The commands that read it:
 //!
@@ -54,7 +55,8 @@ use std::str::from_utf8;
 use std::test::Fail;
 pub(super) use texts::text_named;
 
-// What a row says but for its commands.
+/// What a row says but for its commands: what they read, the digits of their `--input`, what they
+/// have to print (`ANY` in it stands for any text), and the status in which they have to end.
 #[derive(Drop)]
 struct Row {
     input: Vec<u8>,
@@ -69,13 +71,14 @@ fn push_bytes(alloc: Global, text: &mut Vec<u8>, digits: &str) -> Result<(), Fai
     Ok(text.extend_from_slice(bytes.as_slice())?)
 }
 
-// Adds to `said` what the command prints of the row's input.
+/// Adds to `said` what the command prints of the row's input so far, whatever its status.
 fn push_printed(alloc: Global, row: &mut Row, command: &str) -> Result<(), Fail> {
     let Outcome { status: _, text } = answer(alloc, row, command)?;
     Ok(row.said.extend_from_slice(text.as_slice())?)
 }
 
-// The row with what a line of it says.
+/// Adds to the row what a line of it says; lines count in their order, since an edit changes the
+/// input so far.
 fn add_line(alloc: Global, row: &mut Row, line: Line<'_>) -> Result<(), Fail> {
     match line {
         Line::Note | Line::Command => {}
@@ -94,7 +97,8 @@ fn add_line(alloc: Global, row: &mut Row, line: Line<'_>) -> Result<(), Fail> {
     Ok(())
 }
 
-// The row of these lines, named `name`.
+/// The row of these lines, named `name`; a test failure where one of them isn't written as rows
+/// are.
 fn read_row(alloc: Global, name: &str, lines: &str) -> Result<Row, Fail> {
     let mut row = Row {
         input: smallest(alloc)?,
@@ -117,7 +121,8 @@ pub(super) fn image_of(alloc: Global, lines: &str) -> Result<Vec<u8>, Fail> {
     Ok(hex::decode(alloc, row.input.as_slice())?)
 }
 
-// What the command prints of the input, as bytes in pieces if it is `check --raw`.
+/// What the command prints of the input, and its status. If it is `check --raw`, it is given the
+/// bytes that the input's digits spell, and these in pieces.
 fn printed(alloc: Global, command: &str, input: &[u8]) -> Result<Outcome, Fail> {
     if !command.contains("check --raw") {
         return Ok(run(alloc, command, input)?);
@@ -126,7 +131,8 @@ fn printed(alloc: Global, command: &str, input: &[u8]) -> Result<Outcome, Fail> 
     Ok(run_in_pieces(alloc, command, bytes.as_slice())?)
 }
 
-// What the first command prints where it fails, and else what the second prints of that.
+/// What the first command prints, if it ends in another status than 0; else what the second prints
+/// of that.
 fn piped(alloc: Global, first: &str, second: &str, input: &[u8]) -> Result<Outcome, Fail> {
     let Outcome { status, text } = printed(alloc, first, input)?;
     match status {
@@ -135,7 +141,7 @@ fn piped(alloc: Global, first: &str, second: &str, input: &[u8]) -> Result<Outco
     }
 }
 
-// The command with the row's digits as its `--input`.
+/// The command with the row's digits, if it has any, as its `--input`.
 fn with_digits(alloc: Global, row: &Row, command: &str) -> Result<String, Fail> {
     match from_utf8(row.digits.as_slice())? {
         "" => Ok(String::from_str(alloc, command)?),
@@ -143,7 +149,7 @@ fn with_digits(alloc: Global, row: &Row, command: &str) -> Result<String, Fail> 
     }
 }
 
-// What the command, or two of them, print of the row's input.
+/// What the command prints of the row's input, or the second of two with ` | ` between them.
 fn answer(alloc: Global, row: &Row, command: &str) -> Result<Outcome, Fail> {
     let command = with_digits(alloc, row, command)?;
     match command.as_str().split_once(" | ") {
@@ -152,7 +158,8 @@ fn answer(alloc: Global, row: &Row, command: &str) -> Result<Outcome, Fail> {
     }
 }
 
-// Whether the text has these parts one after another, with any text beside them.
+/// Whether the text has these parts, which `ANY` separates, in this order, and none over another;
+/// any text may be before, between and after them.
 fn has_parts(text: &str, parts: &str) -> bool {
     let mut rest = text;
     for part in parts.split(ANY) {
@@ -164,7 +171,7 @@ fn has_parts(text: &str, parts: &str) -> bool {
     true
 }
 
-// Whether the text is this one, with any text in place of each `ANY`.
+/// Whether the text is `said`, with any text, also none, in place of each `ANY`.
 fn is_said(text: &str, said: &str) -> bool {
     let Some((front, rest)) = said.split_once(ANY) else {
         return text == said;
@@ -179,7 +186,7 @@ fn is_said(text: &str, said: &str) -> bool {
     }
 }
 
-// Tries a command of the row.
+/// Tries that the command prints what the row says, and ends in its status.
 fn try_command(
     rt: &impl Abort,
     alloc: Global,
@@ -195,7 +202,7 @@ fn try_command(
     Ok(())
 }
 
-// Tries each command of the row.
+/// Tries each command of the row with this text: its name, and then its lines.
 fn try_row(rt: &impl Abort, alloc: Global, text: &str) -> Result<(), Fail> {
     let (name, lines) = text.split_once('\n').unwrap_or((text, ""));
     let row = read_row(alloc, name, lines)?;
@@ -207,7 +214,7 @@ fn try_row(rt: &impl Abort, alloc: Global, text: &str) -> Result<(), Fail> {
     Ok(())
 }
 
-// Tries each of the rows, which have `count` commands in all.
+/// Tries each of the rows, which have `count` commands in all, so that none is passed over.
 fn try_each(rt: &impl Abort, alloc: Global, rows: &str, count: Option<usize>) -> Result<(), Fail> {
     assert!(rt; rows.starts_with("\n= "), "{rows}");
     assert_eq!(rt; Some(rows.matches("\n$ ").count()), count, "{rows}");
@@ -217,7 +224,8 @@ fn try_each(rt: &impl Abort, alloc: Global, rows: &str, count: Option<usize>) ->
     Ok(())
 }
 
-// Tries each row of the table. They have as many commands as it begins with, with those of its head in each.
+/// Tries each row of the table. The number with which it begins has to be that of its rows'
+/// commands, of which those of its head count in each.
 fn try_rows(rt: &impl Abort, alloc: Global, table: &str) -> Result<(), Fail> {
     let rows = unfolded(alloc, table)?;
     try_each(rt, alloc, from_utf8(rows.as_slice())?, count_of(table))
@@ -225,6 +233,7 @@ fn try_rows(rt: &impl Abort, alloc: Global, table: &str) -> Result<(), Fail> {
 
 // One table of all of them would be too large a constant for the prover.
 
+/// Verdicts on images of each layout fault and rule, by docs/IMAGE.md.
 #[test]
 fn image_rows(rt: HostRuntime) -> Result<(), Fail> {
     try_rows(&rt, rt.alloc(), images::LAYOUTS)?;
@@ -235,6 +244,7 @@ fn image_rows(rt: HostRuntime) -> Result<(), Fail> {
     try_rows(&rt, rt.alloc(), images::BYTES)
 }
 
+/// Verdicts on code, and images built of texts, in the first and the second format.
 #[test]
 fn format_rows(rt: HostRuntime) -> Result<(), Fail> {
     try_rows(&rt, rt.alloc(), images::FIRST)?;
@@ -244,6 +254,7 @@ fn format_rows(rt: HostRuntime) -> Result<(), Fail> {
     try_rows(&rt, rt.alloc(), builds::KEPT)
 }
 
+/// Verdicts on code in words (the third format), by the table of its rules in docs/IMAGE.md.
 #[test]
 fn typed_rows(rt: HostRuntime) -> Result<(), Fail> {
     try_rows(&rt, rt.alloc(), typed::KEPT)?;
@@ -253,12 +264,14 @@ fn typed_rows(rt: HostRuntime) -> Result<(), Fail> {
     try_rows(&rt, rt.alloc(), typed::OTHERS_BROKEN)
 }
 
+/// Runs of code in words, and the registers that `sfi run --report` prints.
 #[test]
 fn typed_runs(rt: HostRuntime) -> Result<(), Fail> {
     try_rows(&rt, rt.alloc(), typed::RUNS)?;
     try_rows(&rt, rt.alloc(), typed::STATES)
 }
 
+/// Images built of texts in the third format, by the tables of docs/SOURCE.md.
 #[test]
 fn word_source_rows(rt: HostRuntime) -> Result<(), Fail> {
     try_rows(&rt, rt.alloc(), word_sources::EXPANSIONS)?;
@@ -266,6 +279,8 @@ fn word_source_rows(rt: HostRuntime) -> Result<(), Fail> {
     try_rows(&rt, rt.alloc(), word_sources::REFUSED)
 }
 
+/// The fourth format, code in words with single masks: verdicts, runs and builds, by docs/IMAGE.md
+/// and docs/SOURCE.md.
 #[test]
 fn single_rows(rt: HostRuntime) -> Result<(), Fail> {
     try_rows(&rt, rt.alloc(), single::KEPT)?;
@@ -277,6 +292,7 @@ fn single_rows(rt: HostRuntime) -> Result<(), Fail> {
     try_rows(&rt, rt.alloc(), single::BUILDS)
 }
 
+/// Words of command lines: those that are refused, and places of `--at`.
 #[test]
 fn word_rows(rt: HostRuntime) -> Result<(), Fail> {
     try_rows(&rt, rt.alloc(), words::USAGE)?;
@@ -284,12 +300,14 @@ fn word_rows(rt: HostRuntime) -> Result<(), Fail> {
     try_rows(&rt, rt.alloc(), words::REFUSED)
 }
 
+/// What is printed for help, the version, and words that don't parse.
 #[test]
 fn help_rows(rt: HostRuntime) -> Result<(), Fail> {
     try_rows(&rt, rt.alloc(), words::TEXTS)?;
     try_rows(&rt, rt.alloc(), words::HELP)
 }
 
+/// Images built of texts, digit for digit, and the faults of texts that aren't built.
 #[test]
 fn text_rows(rt: HostRuntime) -> Result<(), Fail> {
     try_rows(&rt, rt.alloc(), builds::BUILDS)?;
@@ -297,6 +315,7 @@ fn text_rows(rt: HostRuntime) -> Result<(), Fail> {
     try_rows(&rt, rt.alloc(), builds::DIRECTIVES)
 }
 
+/// What `check --report`, `convert`, `move`, `translate` and `dis` print.
 #[test]
 fn report_rows(rt: HostRuntime) -> Result<(), Fail> {
     try_rows(&rt, rt.alloc(), reports::REPORTS)?;
@@ -308,6 +327,7 @@ fn report_rows(rt: HostRuntime) -> Result<(), Fail> {
     try_rows(&rt, rt.alloc(), reports::LISTINGS)
 }
 
+/// What `sfi run` and `sfi map` print.
 #[test]
 fn run_rows(rt: HostRuntime) -> Result<(), Fail> {
     try_rows(&rt, rt.alloc(), runs::IMAGES)?;
@@ -319,32 +339,38 @@ fn run_rows(rt: HostRuntime) -> Result<(), Fail> {
 
 // Those that take long stand alone, since a test has a minute.
 
+/// Images at the limits of a layout, and one step beyond.
 #[test]
 fn image_limits(rt: HostRuntime) -> Result<(), Fail> {
     try_rows(&rt, rt.alloc(), images::LIMITS)
 }
 
+/// Layouts of code in words, and larger regions.
 #[test]
 fn typed_limits(rt: HostRuntime) -> Result<(), Fail> {
     try_rows(&rt, rt.alloc(), typed::LAYOUTS)
 }
 
+/// Texts at the limits of what can be built, and one step beyond; and listings of what is built.
 #[test]
 fn text_limits(rt: HostRuntime) -> Result<(), Fail> {
     try_rows(&rt, rt.alloc(), builds::LIMITS)?;
     try_rows(&rt, rt.alloc(), builds::LISTED)
 }
 
+/// The most code of the second format.
 #[test]
 fn long_texts(rt: HostRuntime) -> Result<(), Fail> {
     try_rows(&rt, rt.alloc(), builds::LONG_TEXTS)
 }
 
+/// Texts with an instruction, or a bundle, more than a sandbox may have.
 #[test]
 fn too_long_texts(rt: HostRuntime) -> Result<(), Fail> {
     try_rows(&rt, rt.alloc(), builds::TOO_LONG_TEXTS)
 }
 
+/// Puts and gets at their limits, and one byte beyond.
 #[test]
 fn bytes_at_a_time(rt: HostRuntime) -> Result<(), Fail> {
     try_rows(&rt, rt.alloc(), runs::BYTES)

@@ -1,4 +1,4 @@
-//! Sandboxes that their host stops, and what is left of them.
+//! Sandboxes that their host stops, and what is left of them, as `World::stop` documents it.
 use super::entering::{ARGUMENTS, smallest_world, turn, turned};
 use super::guests::DATA;
 use super::rows::text_named;
@@ -11,7 +11,8 @@ use std::alloc::Global;
 use std::process::Abort;
 use std::test::Fail;
 
-// The sandbox has stopped where it began, with the data that were written to it.
+/// Whether sandbox 0 has stopped at its start, before its first step, with the byte 7 that its host
+/// wrote into its data.
 fn is_stopped(world: &World<Segments>) -> bool {
     world.status(0) == Some(Status::Stopped)
         && world.steps(0) == Some(0)
@@ -19,6 +20,8 @@ fn is_stopped(world: &World<Segments>) -> bool {
         && world.data_byte(0, DATA + 5) == Some(7)
 }
 
+/// `stop` is refused for a sandbox that isn't there or has stopped already, and changes nothing
+/// then.
 #[test]
 fn a_ready_sandbox_is_stopped(rt: HostRuntime) -> Result<(), Fail> {
     let mut world = smallest_world(&rt, rt.alloc())?;
@@ -31,6 +34,8 @@ fn a_ready_sandbox_is_stopped(rt: HostRuntime) -> Result<(), Fail> {
     Ok(())
 }
 
+/// A turn leaves a stopped sandbox as it is; once entered again it runs. One that has trapped can't
+/// be stopped.
 #[test]
 fn a_stopped_sandbox_takes_no_turn_and_is_entered_again(rt: HostRuntime) -> Result<(), Fail> {
     let alloc = rt.alloc();
@@ -47,7 +52,8 @@ fn a_stopped_sandbox_takes_no_turn_and_is_entered_again(rt: HostRuntime) -> Resu
     Ok(())
 }
 
-// The world of the text that writes two letters, with its sandbox at the first call.
+/// The world of the text `hi`, which writes two letters, with its sandbox waiting for the reply to
+/// its first call, a put.
 fn waiting_world(rt: &impl Abort, alloc: Global) -> Result<World<Segments>, Fail> {
     let text = text_named("hi").expect(rt, "a text");
     let image = build(alloc, text).expect(rt, "built");
@@ -71,6 +77,8 @@ fn takes_nothing(world: &mut World<Segments>) -> bool {
     world.waiting(0).is_none() && !world.reply(0, reply) && world.run_to_call(turn(0)).is_none()
 }
 
+/// A sandbox that waits for a reply can be stopped, and gets that reply no more, but can be
+/// entered.
 #[test]
 fn a_sandbox_that_waits_is_stopped(rt: HostRuntime) -> Result<(), Fail> {
     let mut world = waiting_world(&rt, rt.alloc())?;

@@ -1,4 +1,5 @@
-//! Bytes as streams, of which reads give a few at a time, or fail.
+//! Bytes as streams, of which reads give a few at a time, or fail: the verdict is the same, or says
+//! that a read failed.
 use super::rows::image_of;
 use super::{Outcome, words_of};
 use sfi_check::{StreamAnswer, check_stream};
@@ -9,7 +10,8 @@ use std::io::{self, ErrorKind, Read};
 use std::process::Abort;
 use std::test::Fail;
 
-/// Gives at most `step` bytes of `rest` at a call, and fails after `calls` calls.
+/// A reader that gives at most `step` bytes of `rest` at a call. After `calls` calls each further
+/// one fails.
 #[derive(Drop)]
 struct Pieces<'a> {
     rest: &'a [u8],
@@ -18,13 +20,15 @@ struct Pieces<'a> {
 }
 
 impl<'a> Pieces<'a> {
-    // A reader of these bytes.
+    /// A reader of these bytes, as the fields say.
     fn new(rest: &'a [u8], step: usize, calls: usize) -> Pieces<'a> {
         Pieces { rest, step, calls }
     }
 }
 
 impl<'a> Read for Pieces<'a> {
+    /// Gives the next bytes, at most `step` and as many as `buf` holds, or 0 at the end; fails, as
+    /// an interrupted read does, where `calls` is 0.
     fn read(&mut self, buf: &mut [u8]) -> io::Result<usize> {
         if self.calls == 0 {
             return Err(io::Error::from(ErrorKind::Interrupted));
@@ -35,7 +39,8 @@ impl<'a> Read for Pieces<'a> {
     }
 }
 
-/// Runs the command over the bytes, of which a read gives 7, or a thousandth.
+/// Runs the command over the bytes, of which a read gives at most 7, so that bundles come in
+/// pieces; of more than 7000 bytes about a thousandth, which bounds the count of reads.
 pub(super) fn run_in_pieces(
     alloc: Global,
     line: &str,
@@ -48,7 +53,8 @@ pub(super) fn run_in_pieces(
     Ok(Outcome { status, text })
 }
 
-// The smallest image is accepted after `enough` reads of `step` bytes, and not after fewer.
+/// Tries that the smallest image, whose bytes are `bytes`, is accepted where `enough` reads of
+/// `step` bytes work, and that a failed read is answered where fewer do.
 fn try_reads(rt: &impl Abort, bytes: &[u8], step: usize, enough: usize) {
     for calls in 0..=enough {
         let mut reader = Pieces::new(bytes, step, calls);
@@ -65,8 +71,8 @@ fn try_reads(rt: &impl Abort, bytes: &[u8], step: usize, enough: usize) {
     }
 }
 
-// The smallest image has 292 bytes, so 42 reads of 7 or 3 of 100 take it, and one more finds its
-// end. The second read of 100 fails after 100 bytes.
+/// The smallest image has 292 bytes, so 42 reads of 7 or 3 of 100 take it, and one more finds its
+/// end. Each of them fails once.
 #[test]
 fn failing_streams(rt: HostRuntime) -> Result<(), Fail> {
     let bytes = image_of(rt.alloc(), "")?;
@@ -75,7 +81,7 @@ fn failing_streams(rt: HostRuntime) -> Result<(), Fail> {
     Ok(())
 }
 
-// A failed read is remembered, and the fault has a text.
+/// A source remembers that a read failed (`failed`), and the fault has a text.
 #[test]
 fn failed_reads(rt: HostRuntime) -> Result<(), Fail> {
     let alloc = rt.alloc();

@@ -1,4 +1,5 @@
-//! Worlds over segments: plans lead to the same slots as over pages, over which the rows of `sfi run` are.
+//! Worlds over `Segments`. `sfi run`, which the rows of rows/runs.rt try, has its worlds over
+//! `Pages`: what a plan, a list of turns, leads to has to be the same.
 use super::rows::text_named;
 use rv_mem::Segments;
 use sfi_build::build;
@@ -18,6 +19,7 @@ struct Case(
     &'static [u8],
 );
 
+/// The rows of `RUNS` in rows/runs.rt have the same states, steps and outputs.
 const CASES: &[Case] = &[
     Case("hi", b"", (1, 1000), Status::Exited(105), 19, b"Hi"),
     Case("hi", b"", (1000, 1), Status::Exited(105), 19, b"Hi"),
@@ -27,7 +29,7 @@ const CASES: &[Case] = &[
     Case("reads", b"", (1, 1000), Status::Exited(0), 16, b""),
 ];
 
-// A plan for the first sandbox. `turns` is the number of turns, and the steps of each.
+/// A plan for sandbox 0. `turns` is how many turns it has, and the most steps of each.
 fn plan_of(alloc: Global, turns: (u32, u32)) -> Result<Vec<Turn>, AllocError> {
     let (count, steps) = turns;
     let mut plan = Vec::new(alloc);
@@ -37,7 +39,8 @@ fn plan_of(alloc: Global, turns: (u32, u32)) -> Result<Vec<Turn>, AllocError> {
     Ok(plan)
 }
 
-// Runs the case's program by its plan, and compares status, steps and output.
+/// Builds and runs the case's text by its plan, and compares status, steps and output with the
+/// case's.
 fn try_case(rt: &impl Abort, alloc: Global, case: &Case) -> Result<(), AllocError> {
     let Case(name, input, turns, status, steps, output) = case;
     let text = text_named(name).expect(rt, "a text");
@@ -54,6 +57,7 @@ fn try_case(rt: &impl Abort, alloc: Global, case: &Case) -> Result<(), AllocErro
     Ok(())
 }
 
+/// Each case's run over `Segments`.
 #[test]
 fn runs_over_segments(rt: HostRuntime) -> Result<(), Fail> {
     for case in CASES {

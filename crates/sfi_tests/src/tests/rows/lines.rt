@@ -3,10 +3,12 @@ use super::super::image::{Edit, end_in, insert, put};
 use super::texts::text_named;
 use std::alloc::{AllocError, Global};
 
-/// What stands for any text in what is printed. Nothing prints it.
+/// What stands for any text, also none, in what a row says is printed. No command prints this
+/// character.
 pub(super) const ANY: &str = "\0";
 
-/// A text, how many times, and what ends it each time.
+/// A text that is added `times` times, each time with `end` after it: a line feed, nothing or
+/// `ANY`.
 pub(super) struct Part<'a> {
     times: usize,
     text: &'a str,
@@ -15,29 +17,30 @@ pub(super) struct Part<'a> {
 
 /// What a line of a row says.
 pub(super) enum Line<'a> {
-    /// Nothing.
+    /// Nothing: it is a note.
     Note,
-    /// The input is changed so.
+    /// The input's digits are edited so.
     Change(Edit<'a>),
-    /// The input is empty.
+    /// The input is empty from here on, no image.
     Source,
-    /// These stand at the end of the input.
+    /// This is appended to the input.
     Input(Part<'a>),
-    /// The bytes that these digits spell stand there.
+    /// The bytes that these hexadecimal digits spell are appended to the input.
     Bytes(&'a str),
-    /// A command reads the input.
+    /// A command, which reads the input once the whole row is read.
     Command,
-    /// These stand at the end of the digits of `--input`.
+    /// This is appended to the digits of `--input`.
     Digits(Part<'a>),
-    /// These stand at the end of what is printed.
+    /// This is appended to what each command has to print.
     Said(Part<'a>),
-    /// What this command prints stands there.
+    /// What this command prints of the input so far is appended to that.
     SaidBy(&'a str),
-    /// Each command ends in this status.
+    /// Each command has to end in this status.
     Status(u8),
 }
 
-// The number that decimal digits spell.
+/// The number that decimal digits spell; `None` where they spell none, here and below wherever a
+/// line lacks what belongs to its word.
 fn number(digits: &str) -> Option<usize> {
     digits.parse().ok()
 }
@@ -51,7 +54,7 @@ fn once<'a>(text: &'a str, end: &'a str) -> Part<'a> {
     }
 }
 
-// A number, and the text that it repeats.
+/// The part of a line's rest `N TEXT`: the text N times.
 fn many<'a>(rest: &'a str, end: &'a str) -> Option<Part<'a>> {
     let (times, text) = rest.split_once(' ')?;
     Some(Part {
@@ -61,7 +64,7 @@ fn many<'a>(rest: &'a str, end: &'a str) -> Option<Part<'a>> {
     })
 }
 
-// The edit of a line whose first word is `word`.
+/// The edit of a line with this first word, `put`, `insert`, `end` or `cut`, and this rest.
 fn edit_of<'a>(word: &str, rest: &'a str) -> Option<Edit<'a>> {
     if word == "cut" {
         return Some(end_in(number(rest)?, "", 0));
@@ -79,7 +82,7 @@ fn edit_of<'a>(word: &str, rest: &'a str) -> Option<Edit<'a>> {
     }
 }
 
-// The text of that name, repeated `times` times.
+/// The text of that name in rows/texts.rt, `times` times; `None` where none has the name.
 fn named<'a>(times: usize, name: &'a str) -> Option<Part<'a>> {
     let text = text_named(name)?;
     Some(Part {
@@ -89,7 +92,7 @@ fn named<'a>(times: usize, name: &'a str) -> Option<Part<'a>> {
     })
 }
 
-// What a word adds to the input.
+/// What a line with this first word and this rest appends to the input; `None` for any other word.
 fn input_of<'a>(word: &str, rest: &'a str) -> Option<Part<'a>> {
     match word {
         "|" => Some(once(rest, "\n")),
@@ -104,7 +107,8 @@ fn input_of<'a>(word: &str, rest: &'a str) -> Option<Part<'a>> {
     }
 }
 
-// What a word adds to what is printed.
+/// What a line with this first word and this rest appends to what has to be printed; `None` for any
+/// other word.
 fn said_of<'a>(word: &str, rest: &'a str) -> Option<Part<'a>> {
     match word {
         ">" => Some(once(rest, "\n")),
@@ -115,7 +119,7 @@ fn said_of<'a>(word: &str, rest: &'a str) -> Option<Part<'a>> {
     }
 }
 
-/// What the line says; `None` where it is no line of a row.
+/// What the line says, by its first word; `None` where it isn't written as rows.rt says.
 pub(super) fn line_of<'a>(line: &'a str) -> Option<Line<'a>> {
     let (word, rest) = line.split_once(' ').unwrap_or((line, ""));
     match word {
@@ -132,7 +136,7 @@ pub(super) fn line_of<'a>(line: &'a str) -> Option<Line<'a>> {
     }
 }
 
-/// The bytes with the part after them.
+/// Appends the part to the bytes.
 pub(super) fn push_part(bytes: &mut Vec<u8>, part: Part<'_>) -> Result<(), AllocError> {
     let Part { times, text, end } = part;
     for _ in 0..times {
@@ -142,7 +146,8 @@ pub(super) fn push_part(bytes: &mut Vec<u8>, part: Part<'_>) -> Result<(), Alloc
     Ok(())
 }
 
-/// The status that a printed line tells.
+/// The status in which a command ends that prints this line: 1 for a refusal, 2 for a fault, 3 for
+/// words that don't parse, else 0. A row has the greatest of its lines'.
 pub(super) fn status_told(part: &Part<'_>) -> u8 {
     let text = part.text;
     if text.starts_with("refused ") {
@@ -156,7 +161,8 @@ pub(super) fn status_told(part: &Part<'_>) -> u8 {
     }
 }
 
-// Adds lines, of which several may stand on one.
+/// Appends each of the lines after a line feed of its own; in `lines` several may be on one, with
+/// `; ` between them.
 fn push_lines(text: &mut Vec<u8>, lines: &str) -> Result<(), AllocError> {
     for line in lines.lines() {
         for part in line.split("; ") {
@@ -167,7 +173,8 @@ fn push_lines(text: &mut Vec<u8>, lines: &str) -> Result<(), AllocError> {
     Ok(())
 }
 
-// Adds the row, with the head's lines after its name, and each of its lines on a line.
+/// Appends the row, its name first, then the lines of the table's head, then its own, each on a
+/// line of its own.
 fn push_row(text: &mut Vec<u8>, head: &str, row: &str) -> Result<(), AllocError> {
     let (first, rest) = row.split_once('\n').unwrap_or((row, ""));
     let (name, more) = first.split_once("; ").unwrap_or((first, ""));
@@ -178,13 +185,14 @@ fn push_row(text: &mut Vec<u8>, head: &str, row: &str) -> Result<(), AllocError>
     push_lines(text, rest)
 }
 
-/// The number in the line with which the table begins: that of its rows' commands.
+/// The number N in the table's first line, `N commands`; `None` where that is missing.
 pub(super) fn count_of(table: &str) -> Option<usize> {
     let (digits, _) = table.split_once(" commands\n")?;
     number(digits)
 }
 
-/// The rows of the table, each with the lines of the table's head.
+/// The rows of the table without shorthand: each line on its own, and the table's head repeated in
+/// each row.
 pub(super) fn unfolded(alloc: Global, table: &str) -> Result<Vec<u8>, AllocError> {
     let (head, rows) = table.split_once("\n= ").unwrap_or(("", ""));
     let (_, head) = head.split_once('\n').unwrap_or(("", ""));

@@ -1,6 +1,7 @@
 //! Texts of more than one row, by their names.
 
-/// The text of that name.
+/// The text of that name, by which rows (`text NAME`) and tests have it; `None` where none has the
+/// name.
 pub(crate) fn text_named(name: &str) -> Option<&'static str> {
     match name {
         "hi" => Some(HI),
