@@ -1,4 +1,7 @@
-//! Code that tries to get out of its sandbox.
+//! Code that tries to get out of its sandbox. Each attack is put into the smallest image at many
+//! spots; the checks have to make one finding there, at the attack's instruction, or none where the
+//! attack breaks no rule; which one follows from the rules in docs/IMAGE.md. A *pair* is the `and`
+//! and the `or` that put a register into the data or the code region.
 use super::images::{C_EBREAK, C_NOP, EBREAK, HEAD, SFI1, SFI2, SFIS, SFIW, SINGLE_HEAD, bytes_of};
 use sfi_check::{Feed, Refusal, StreamAnswer, check, check_stream};
 use sfi_formats::Format;
@@ -10,26 +13,27 @@ use std::test::Fail;
 /// Where an attack breaks its rule.
 #[derive(Clone, Copy)]
 enum Harm {
+    /// At every spot.
     Anywhere,
     /// In the first format alone: in the second an access on x2 needs no pair.
     FirstFormat,
     /// In the second format alone: in the first x2 is a register like others.
     SecondFormat,
-    /// Where no bundle (in words, no word) of the region begins this many bytes after its first
-    /// byte.
+    /// Where no bundle (in words, no word) of the code region begins this many bytes, modulo 2^32,
+    /// after the attack's first byte: it has a jump that goes there.
     Jump(u32),
-    /// As the region's last instruction alone.
+    /// Where it is the last instruction of the code region.
     AtEnd,
 }
 
 use Harm::{Anywhere, AtEnd, FirstFormat, Jump, SecondFormat};
 
-/// Code, the rule that it breaks, the place of the instruction that does,
-/// counted from its first byte, and where it does.
+/// Its name, its code as digits, the rule that it breaks, the place of the instruction that does,
+/// in bytes from the code's first one, and at which spots it does.
 #[derive(Clone, Copy)]
 struct Attack<'a>(&'a str, &'a str, Rule, u32, Harm);
 
-/// What fills the bundle's bytes before it.
+/// The instruction that fills the bundle's bytes before an attack.
 #[derive(Clone, Copy, Debug, PartialEq, Eq)]
 enum Filler {
     Nop,
@@ -40,7 +44,8 @@ enum Filler {
 use Filler::{CNop, Ebreak, Nop};
 
 impl Filler {
-    /// Pieces with `bytes` bytes of it in all; `bytes` is even.
+    /// Digits and how often they are repeated, in all `bytes` bytes of this filler; `bytes` is
+    /// even. Where its instruction has 4 bytes a `c.nop` makes up for the last 2.
     fn pieces(self, bytes: u32) -> [(&'static str, usize); 2] {
         let words = (bytes / 4) as usize;
         let rest = (C_NOP, (bytes % 4 / 2) as usize);
@@ -52,7 +57,8 @@ impl Filler {
     }
 }
 
-/// Where it stands: in which bundle of the region, and after how many bytes of that.
+/// Where an attack is put: into an image of this format, in which bundle of the code region,
+/// counted from 0, and after how many bytes of that, which the filler fills.
 #[derive(Drop)]
 struct Spot {
     format: Format,
@@ -61,6 +67,7 @@ struct Spot {
     filler: Filler,
 }
 
+/// How many bundles of 16 bytes the smallest image's code has.
 const BUNDLES: u32 = 16;
 
 /// Code that breaks a rule. The columns of a row are: where it does, or how far its jump goes, modulo 2^32; the rule; the
@@ -104,8 +111,9 @@ second V10 0 41610290 c.addi16sp x2, 16
 second V10 8 b37fb501b3efaf0103a10f000290 lw x2
 ";
 
-/// Such rows for code in words. Where another instruction has to come, its place is that of what
-/// comes instead. An `ebreak` at the end keeps V8 where the region ends there.
+/// Such rows for code in words. Where a rule asks for a certain next instruction, the place is that
+/// of the other one that comes instead. An `ebreak` at an attack's end keeps V8 where the region
+/// ends there.
 const WORD_ATTACKS: &str = "
 anywhere V5 0 2320b500 store on x10
 anywhere V5 8 b37fb50133e5af012320b500 store on x10 after its pair
@@ -195,7 +203,8 @@ anywhere V1 0 00000000 no instruction
 end V8 0 13000000 addi at the end
 ";
 
-/// Where an attack breaks its rule, by the first word of its row.
+/// Where an attack breaks its rule, by the first word of its row; `None` for a word that is no name
+/// of a `Harm` and no number.
 fn harm_of(word: &str) -> Option<Harm> {
     match word {
         "anywhere" => Some(Anywhere),
@@ -206,7 +215,7 @@ fn harm_of(word: &str) -> Option<Harm> {
     }
 }
 
-/// The rule of that name.
+/// The rule of that name; `None` where none has it. (V9, for gates, has no attack here.)
 fn rule_of(word: &str) -> Option<Rule> {
     match word {
         "V1" => Some(Rule::V1),
@@ -224,7 +233,7 @@ fn rule_of(word: &str) -> Option<Rule> {
     }
 }
 
-/// The attack of a row.
+/// The attack of a row of a table above; `None` where it isn't written as these.
 fn attack_of<'a>(line: &'a str) -> Option<Attack<'a>> {
     let (harm, rest) = line.split_once(' ')?;
     let (rule, rest) = rest.split_once(' ')?;
@@ -236,7 +245,7 @@ fn attack_of<'a>(line: &'a str) -> Option<Attack<'a>> {
     Some(Attack(name, code, rule, place, harm))
 }
 
-/// Whether a bundle begins there, or in words a word.
+/// Whether a bundle, or in words a word, begins `target` bytes after the code's first one.
 fn begins(format: Format, target: u32) -> bool {
     match format {
         Format::Sfi1 | Format::Sfi2 => target % 16 == 0,
@@ -244,18 +253,19 @@ fn begins(format: Format, target: u32) -> bool {
     }
 }
 
-/// Whether an attack is tried from this place of a bundle on: in words it begins with one.
+/// Whether an attack is tried from this place of a bundle on, in bytes; in words only where a word
+/// begins.
 fn is_tried(format: Format, place: u32) -> bool {
     !format.has_words() || place % 4 == 0
 }
 
 impl<'a> Attack<'a> {
-    /// How many bytes it has, at most those of a bundle.
+    /// How many bytes its code has. No row has more than the 16 of a bundle.
     fn len(&self) -> u32 {
         (self.1.len() / 2).min(16) as u32
     }
 
-    /// Whether it breaks its rule from this place of the region on.
+    /// Whether it breaks its rule if it begins `from` bytes after the code region's first one.
     fn harms(&self, format: Format, from: u32) -> bool {
         match self.4 {
             Anywhere => true,
@@ -269,7 +279,8 @@ impl<'a> Attack<'a> {
         }
     }
 
-    /// What it gives there: its one finding, or none.
+    /// The one finding that a check has to make of it at this spot; `None` where it breaks no rule
+    /// there.
     fn finding(&self, spot: &Spot) -> Option<Finding> {
         let from = spot.bundle.wrapping_mul(16).wrapping_add(spot.place);
         if !self.harms(spot.format, from) {
@@ -282,8 +293,9 @@ impl<'a> Attack<'a> {
         })
     }
 
-    /// The smallest image with it there in place of as many bytes of the code; none where it
-    /// doesn't fit. What is left of an `ebreak` beside it becomes a `c.nop` or a `c.ebreak`.
+    /// The smallest image with the attack at this spot instead of as many bytes of its code, which
+    /// is 64 times `ebreak`; `None` where it doesn't fit into the rest of its bundle, of which the
+    /// filler has the bytes before it. Half an `ebreak` that is left after it becomes a `c.ebreak`.
     fn image(&self, alloc: Global, spot: &Spot) -> Result<Option<Vec<u8>>, Fail> {
         let Some(after) = 16u32.saturating_sub(spot.place).checked_sub(self.len()) else {
             return Ok(None);
@@ -311,14 +323,16 @@ impl<'a> Attack<'a> {
     }
 }
 
-// What a feed answers, which looks at each bundle by itself, where a stream looks at eight.
+/// The verdict of a `Feed`, the checker of bytes in pieces. It looks at each bundle by itself,
+/// where `check_stream` looks at eight at once, so both ways are tried.
 fn fed(bytes: &[u8]) -> StreamAnswer {
     let mut feed = Feed::new();
     feed.feed(bytes);
     feed.answer()
 }
 
-// All three checks find this in an image of one sandbox and 16 bundles, and nothing else.
+/// Whether `check`, `check_stream` and a `Feed` make exactly this finding in the image of one
+/// sandbox and 16 bundles, or all accept it where `finding` is `None`.
 fn is_found(alloc: Global, bytes: &[u8], finding: Option<Finding>) -> bool {
     let mut reader = bytes;
     let mut source = ReaderSource::new(&mut reader);
@@ -342,7 +356,8 @@ fn is_found(alloc: Global, bytes: &[u8], finding: Option<Finding>) -> bool {
     }
 }
 
-// The attack is found at each place of the bundle where it is tried and fits.
+/// Whether the checks are right about the attack at each place of this bundle, counted from 0,
+/// where it is tried and fits.
 fn is_found_in(
     alloc: Global,
     attack: &Attack<'_>,
@@ -370,8 +385,9 @@ fn is_found_in(
     Ok(true)
 }
 
-// The attack is found after each filler, in the first bundle, in each quarter of the block of eight
-// that is looked at together, and in the last bundle, which is in none.
+/// Whether the checks are right about the attack after each filler, in the first bundle, in each
+/// quarter of the block of eight that is looked at together, and in the last bundle, which is in
+/// none.
 fn is_found_everywhere(alloc: Global, attack: &Attack<'_>, format: Format) -> Result<bool, Fail> {
     for bundle in [0u32, 3, 4, 7, 15] {
         for filler in [Nop, CNop, Ebreak] {
@@ -383,6 +399,7 @@ fn is_found_everywhere(alloc: Global, attack: &Attack<'_>, format: Format) -> Re
     Ok(true)
 }
 
+/// Each attack of the tables in its formats: it is found where it breaks its rule, and only there.
 #[test]
 fn attacks_are_found(rt: HostRuntime) -> Result<(), Fail> {
     let tables = [

@@ -1,10 +1,11 @@
-//! Each command with what it reads, and what it prints of that.
+//! Commands with what they read, and what they print of that, for tests of readers and writers that
+//! fail.
 use super::images::{C_EBREAK, EBREAK, HEAD, HI, PAIR_ON_X0, SFI1, bytes_of, digits_of};
 use std::alloc::Global;
 use std::test::Fail;
 
-/// A command line, what it reads, the status with which it ends,
-/// and how the text that it prints begins.
+/// A command line; what it reads, as pieces of a text or, if `is_bytes`, of the digits that spell
+/// it; the status with which it ends; and how the text that it prints begins.
 #[derive(Drop)]
 pub(super) struct Command<'a> {
     pub(super) line: &'a str,
@@ -14,7 +15,10 @@ pub(super) struct Command<'a> {
     pub(super) front: &'a str,
 }
 
-/// Each command, and findings and a fault, with ` | ` between a row's parts.
+/// Each command that reads standard input, and findings and a fault. After `= ` a row has a command
+/// line, the name of its input in `pieces_of`, its status, and the first line or lines that it
+/// prints, with ` | ` between them. bench/refusals.py reads these rows, too, and has an input of
+/// its own for each name.
 pub(super) const COMMANDS: &str = "
 = sfi check | smallest | 0 | accepted sandboxes=1 bundles=16
 = sfi check --report | pair on x0 | 1 | 0 01000008 V5 access sw x11, 0(x0)
@@ -42,17 +46,21 @@ SANDBOX(0,16,01000000,256,01800000,256,01000020,2,2)
 = sfi check | head | 2 | layout fault 3 Short
 ";
 
-// The source of the program.
+/// The source of the program `HI`.
 const SOURCE: &str =
     ".sandbox 256\n.gate put 1\n.gate quit 0\nla a0, msg\nli a1, 2\ncall put\nla a0, msg\nlbu a0, 1(a0)\ncall quit\n.data\nmsg: .byte 72, 105\n";
 
+/// The smallest image: 64 times `ebreak`.
 const SMALLEST: &[(&str, usize)] = &[(SFI1, 1), (HEAD, 1), (EBREAK, 64)];
 
+/// The smallest image, but at first a store after a pair on x0, which breaks V5.
 const ON_X0: &[(&str, usize)] = &[(SFI1, 1), (HEAD, 1), (PAIR_ON_X0, 1), (EBREAK, 61)];
 
+/// The image of `SOURCE`.
 const PROGRAM: &[(&str, usize)] = &[(SFI1, 1), (HI, 1), (C_EBREAK, 88), ("4869", 1)];
 
-/// The pieces of the input of that name.
+/// The pieces of the input of that name, each with how often it is repeated; `None` where none has
+/// the name.
 fn pieces_of(name: &str) -> Option<&'static [(&'static str, usize)]> {
     match name {
         "smallest" | "smallest bytes" => Some(SMALLEST),
@@ -64,7 +72,8 @@ fn pieces_of(name: &str) -> Option<&'static [(&'static str, usize)]> {
     }
 }
 
-/// The command of a row.
+/// The command of a row of `COMMANDS`, without its `= `; `None` where it isn't written as these
+/// are.
 pub(super) fn command_of<'a>(row: &'a str) -> Option<Command<'a>> {
     let (line, rest) = row.split_once(" | ")?;
     let (input, rest) = rest.split_once(" | ")?;
@@ -79,7 +88,8 @@ pub(super) fn command_of<'a>(row: &'a str) -> Option<Command<'a>> {
 }
 
 impl<'a> Command<'a> {
-    /// What it reads: an image's own bytes, or a text.
+    /// What it reads: the bytes that its pieces spell, for an image as bytes, else the pieces' own
+    /// text.
     pub(super) fn input(&self, alloc: Global) -> Result<Vec<u8>, Fail> {
         if self.is_bytes {
             return bytes_of(alloc, self.pieces);

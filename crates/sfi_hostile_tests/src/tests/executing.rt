@@ -1,17 +1,20 @@
-//! `exec` over streams of which one fails.
+//! `exec`, which runs an image's sandboxes as a process, over streams of which one fails. What it
+//! has to end with follows from docs/sfi.1 and the documentation of `Ended` and `ExecFault`.
 use super::failing::{Sink, Tap};
 use super::images::{C_EBREAK, EBREAK, HEAD, PAIR_ON_X0, SFI1, digits_of};
 use sfi_tool::{Ended, ExecFault, Interruption, exec, read_image};
 use std::alloc::Global;
 use std::test::Fail;
 
-/// A program that puts two letters, gets a byte, and exits with how many it got.
+/// A program that puts two letters, gets a byte, and exits with how many it got: its image's digits
+/// after the magic and up to the fill.
 const ASKS: &str = "0100000000000001000100000000800100010000300000010300000002000000\
     000000010100000010000001020000002000000100000000\
     73000000b3ff9001b3ef8f0167800f0073000000b3ff9001b3ef8f0167800f0073000000b3ff9001b3ef8f0167800f00\
     370580011305050093052000eff05ffc370580011305050093051000eff05ffc010001000100010001000100eff05ffc";
 
-/// How many calls of each stream work before one fails.
+/// How many calls work of each stream: the image's file, standard input, output and error. The next
+/// one fails.
 #[derive(Clone, Copy)]
 struct Calls {
     image: usize,
@@ -20,8 +23,9 @@ struct Calls {
     errors: usize,
 }
 
-/// An image, the calls that work, how the reading of the image or `exec` ends, what was put then, and
-/// how what was said begins.
+/// An image, the calls that work, how the reading of the image or `exec` ends, all that was then
+/// written to standard output, and how what was written to standard error begins; where `said` is
+/// empty nothing was.
 struct Row {
     image: &'static [(&'static str, usize)],
     calls: Calls,
@@ -30,6 +34,7 @@ struct Row {
     said: &'static str,
 }
 
+/// More calls than any row makes, so that none fails.
 const ALL: Calls = Calls {
     image: 100,
     input: 100,
@@ -37,10 +42,13 @@ const ALL: Calls = Calls {
     errors: 100,
 };
 
+/// The image of the program `ASKS`, with its data `Hi`.
 const ASKING: &[(&str, usize)] = &[(SFI1, 1), (ASKS, 1), (C_EBREAK, 80), ("4869", 1)];
 
+/// The smallest image, whose first instruction is an `ebreak`.
 const TRAPPING: &[(&str, usize)] = &[(SFI1, 1), (HEAD, 1), (EBREAK, 64)];
 
+/// An image that the checker refuses: a store after a pair on x0.
 const REFUSED: &[(&str, usize)] = &[(SFI1, 1), (HEAD, 1), (PAIR_ON_X0, 1), (EBREAK, 61)];
 
 const ROWS: [Row; 9] = [
@@ -141,7 +149,8 @@ fn sink(alloc: Global, calls: usize) -> Sink {
     }
 }
 
-// Whether the row is right, and no call came after one that failed.
+/// Whether `exec` ends as the row says, and no stream but the image's was called again after a call
+/// of it failed.
 fn is_right(alloc: Global, row: &Row) -> Result<bool, Fail> {
     let text = digits_of(alloc, row.image)?;
     let image = tap(text.as_bytes(), row.calls.image);
@@ -163,6 +172,7 @@ fn is_right(alloc: Global, row: &Row) -> Result<bool, Fail> {
     )
 }
 
+/// Each row: `exec` ends where a stream fails, and its answer tells so.
 #[test]
 fn exec_ends_at_what_fails(rt: HostRuntime) -> Result<(), Fail> {
     for row in ROWS.iter() {

@@ -10,18 +10,21 @@ use std::alloc::{AllocError, Global};
 use std::io::{self, ErrorKind, Read, Write};
 use std::test::Fail;
 
-/// Gives at most `step` bytes of `rest` at a call, and fails after `calls` calls.
+/// A reader that gives at most `step` bytes of `rest` at a call. After `calls` calls each further
+/// one fails.
 #[derive(Drop)]
 pub(super) struct Tap<'a> {
     pub(super) rest: &'a [u8],
     pub(super) step: usize,
     pub(super) calls: usize,
     pub(super) has_failed: bool,
-    /// A call came after one that failed.
+    /// Whether a call came after one that failed, which no caller should make.
     pub(super) is_tried_again: bool,
 }
 
 impl<'a> Read for Tap<'a> {
+    /// Gives the next bytes, at most `step` and as many as `buf` holds, or 0 at the end; fails, as
+    /// an interrupted read does, where `calls` is 0.
     fn read(&mut self, buf: &mut [u8]) -> io::Result<usize> {
         self.is_tried_again |= self.has_failed;
         if self.calls == 0 {
@@ -34,7 +37,8 @@ impl<'a> Read for Tap<'a> {
     }
 }
 
-/// Takes at most `step` bytes at a call. After `calls` calls it fails, or takes nothing.
+/// A writer that takes at most `step` bytes at a call. After `calls` calls each further one fails
+/// if `fails`, and else takes 0 bytes.
 #[derive(Drop)]
 pub(super) struct Sink {
     pub(super) taken: Vec<u8>,
@@ -42,11 +46,13 @@ pub(super) struct Sink {
     pub(super) calls: usize,
     pub(super) fails: bool,
     pub(super) has_refused: bool,
-    /// A call came after one that failed or took nothing.
+    /// Whether a call came after one that failed or took nothing, which no caller should make.
     pub(super) is_tried_again: bool,
 }
 
 impl Write for Sink {
+    /// Takes the first bytes of `buf`, at most `step`, and gives their count; where `calls` is 0
+    /// fails, as an interrupted write does, or takes 0 bytes.
     fn write(&mut self, buf: &[u8]) -> io::Result<usize> {
         self.is_tried_again |= self.has_refused;
         if self.calls == 0 {
@@ -62,13 +68,14 @@ impl Write for Sink {
         Ok(count)
     }
 
+    /// Does nothing: no byte that was taken waits.
     fn flush(&mut self) -> io::Result<()> {
         Ok(())
     }
 }
 
-/// How many bytes a read and a write move at most, how many of each there are,
-/// and whether the write after these fails.
+/// How many bytes a read and a write move at most, how many reads and writes work, and whether a
+/// write after these fails, or else takes 0 bytes. A read after these fails.
 #[derive(Drop)]
 struct Pace {
     step: usize,
@@ -77,9 +84,10 @@ struct Pace {
     fails: bool,
 }
 
+/// How many bytes a read or a write moves at most, but where single bytes are tried.
 const STEP: usize = 61;
 
-// No call fails.
+/// So many calls work that none fails.
 const NEVER: Pace = Pace {
     step: STEP,
     reads: 100_000,
@@ -87,7 +95,8 @@ const NEVER: Pace = Pace {
     fails: true,
 };
 
-/// The status, what was printed, and whether a failed call was tried again.
+/// How a command ended: its status, what it printed, and whether it called a reader or a writer
+/// again that had failed.
 #[derive(Drop)]
 struct Ended {
     status: u8,
@@ -102,7 +111,7 @@ impl Ended {
     }
 }
 
-// The words of a command line.
+/// The words of a command line, which white space parts; the first is `sfi`.
 fn words_of(alloc: Global, line: &str) -> Result<Vec<String>, AllocError> {
     let mut words = Vec::new(alloc);
     for word in line.split_whitespace() {
@@ -111,7 +120,7 @@ fn words_of(alloc: Global, line: &str) -> Result<Vec<String>, AllocError> {
     Ok(words)
 }
 
-// The command over that input.
+/// Runs the command line over `input`, with reads and writes of this pace.
 fn run(alloc: Global, line: &str, input: &[u8], pace: Pace) -> Result<Ended, AllocError> {
     let words = words_of(alloc, line)?;
     let mut reader = Tap {
@@ -137,8 +146,9 @@ fn run(alloc: Global, line: &str, input: &[u8], pace: Pace) -> Result<Ended, All
     })
 }
 
-// Nothing is printed after a failed read. The last of the reads finds the input's end, and each of them
-// is made: one for each piece of the input, and maybe one before them, of a magic alone.
+/// Whether the command ends in status 5 and prints nothing where any of its reads fails, and as
+/// `whole` where none does. It makes a read for each piece of `STEP` bytes of the input and one
+/// that finds its end, and maybe one before them, of the magic alone.
 fn reads_fail(alloc: Global, line: &str, input: &[u8], whole: &Ended) -> Result<bool, AllocError> {
     let least = input.len().div_ceil(STEP).saturating_add(1);
     for reads in 0..least.saturating_add(1) {
@@ -155,7 +165,8 @@ fn reads_fail(alloc: Global, line: &str, input: &[u8], whole: &Ended) -> Result<
     Ok(ended.is(whole.status, whole.printed.as_slice()))
 }
 
-// After a write that fails, or that takes nothing, what the writes before it took is printed.
+/// Whether the command ends in status 5 after any write that fails, or that takes nothing, with
+/// only what the writes before it took printed; and as `whole` where none fails.
 fn writes_fail(alloc: Global, line: &str, input: &[u8], whole: &Ended) -> Result<bool, AllocError> {
     let text = whole.printed.as_slice();
     let enough = text.len().div_ceil(STEP);
@@ -181,7 +192,7 @@ fn writes_fail(alloc: Global, line: &str, input: &[u8], whole: &Ended) -> Result
     Ok(ended.is(whole.status, text))
 }
 
-// Reads and writes of one byte change nothing.
+/// Whether the command ends as `whole` where each read and each write moves one byte.
 fn small_steps_are_taken(
     alloc: Global,
     line: &str,
@@ -192,8 +203,8 @@ fn small_steps_are_taken(
     Ok(ended.is(whole.status, whole.printed.as_slice()))
 }
 
-// Where nothing fails, the command ends with its status and prints its text;
-// else that holds which is said above.
+/// Whether the command ends with its row's status and text where nothing fails, and as the three
+/// functions above say where reads or writes fail or are small.
 fn is_right(alloc: Global, command: &Command<'_>) -> Result<bool, Fail> {
     let line = command.line;
     let input = command.input(alloc)?;
@@ -207,6 +218,7 @@ fn is_right(alloc: Global, command: &Command<'_>) -> Result<bool, Fail> {
     )
 }
 
+/// Each row of `COMMANDS`, with a failure of each of its reads and writes.
 #[test]
 fn commands_end_at_what_fails(rt: HostRuntime) -> Result<(), Fail> {
     for row in COMMANDS.split("\n= ").skip(1) {
@@ -228,6 +240,7 @@ struct Repeated<'a> {
 }
 
 impl<'a> Read for Repeated<'a> {
+    /// Gives bytes from the front of `piece`, as many as there are, as `buf` holds and as are left.
     fn read(&mut self, buf: &mut [u8]) -> io::Result<usize> {
         let count = buf.len().min(self.piece.len()).min(self.left);
         buf[..count].copy_from_slice(&self.piece[..count]);
@@ -236,10 +249,11 @@ impl<'a> Read for Repeated<'a> {
     }
 }
 
-/// The most bytes of an input text.
+/// The most bytes of an input: `INPUT_LIMIT` of crates/sfi_io.
 const LIMIT: usize = 134217728;
 
-// Whether the command, given `count` bytes of value `byte`, prints `said` and ends in status 2.
+/// Whether the command, given `count` bytes of value `byte`, prints exactly `said` and ends in
+/// status 2.
 fn is_refused(
     alloc: Global,
     command: &str,
@@ -258,6 +272,7 @@ fn is_refused(
     Ok(status == 2 && text.as_slice() == said.as_bytes())
 }
 
+/// White space that is one byte too long is refused for its length.
 #[test]
 fn an_image_above_the_limit(rt: HostRuntime) -> Result<(), Fail> {
     let said = "input fault too large\n";
@@ -265,6 +280,7 @@ fn an_image_above_the_limit(rt: HostRuntime) -> Result<(), Fail> {
     Ok(())
 }
 
+/// A text above the limit is refused for its length, before it is found to be no UTF-8.
 #[test]
 fn a_source_above_the_limit(rt: HostRuntime) -> Result<(), Fail> {
     let said = "input fault too large\n";
@@ -272,6 +288,7 @@ fn a_source_above_the_limit(rt: HostRuntime) -> Result<(), Fail> {
     Ok(())
 }
 
+/// A text at the limit is read, and then refused for what it has: no UTF-8.
 #[test]
 fn a_source_at_the_limit(rt: HostRuntime) -> Result<(), Fail> {
     let said = "input fault utf8\n";
@@ -279,7 +296,8 @@ fn a_source_at_the_limit(rt: HostRuntime) -> Result<(), Fail> {
     Ok(())
 }
 
-// The bytes of an image are read no further than its fault.
+/// The bytes of an image are read no further than its first fault, so that an endless input ends
+/// the command.
 #[test]
 fn bytes_without_end(rt: HostRuntime) -> Result<(), Fail> {
     let said = "layout fault 1 Magic\n";
@@ -289,7 +307,7 @@ fn bytes_without_end(rt: HostRuntime) -> Result<(), Fail> {
 
 // ---- a host without memory
 
-/// A console whose memory may be gone: then it refuses each put.
+/// A console whose memory is gone while `is_gone`: then it answers each put with `Memory`.
 #[derive(Drop)]
 struct Scarce {
     console: Console,
@@ -310,6 +328,8 @@ impl Gates for Scarce {
 
     ghost may_refuse = { λ s c. true };
 
+    /// Answers as the console does, as `answer` says, but a put while memory is gone with `Memory`,
+    /// as `may_refuse` allows. Both are proved: a change here needs the same there.
     fn call<M: Memory>(&mut self, guest: &mut Guest<'_, M>) -> GateAnswer {
         if self.is_gone && guest.service() == PUT {
             return GateAnswer::Memory;
@@ -324,8 +344,9 @@ const PLAN: [Turn; 1] = [Turn {
     steps: 1000,
 }];
 
-// A refused put ends the plan, and what was done before it stands;
-// the same plan again does the rest.
+/// A put that is answered with `Memory` ends the plan, and leaves what was done before it: 4 steps.
+/// The same plan again, once there is memory, does the rest, as if nothing had failed: 19 steps in
+/// all, and the output `Hi`.
 #[test]
 fn a_refused_put_is_served_later(rt: HostRuntime) -> Result<(), Fail> {
     let alloc = rt.alloc();

@@ -4,7 +4,7 @@ use sfi_image::{LayoutFault, ReaderSource};
 use std::alloc::{AllocError, Global};
 use std::test::Fail;
 
-/// The magics of the formats.
+/// The magics of the four formats: the digits of `SFI1`, `SFI2`, `SFIW` and `SFIS`.
 pub(super) const SFI1: &str = "53464931";
 
 pub(super) const SFI2: &str = "53464932";
@@ -45,7 +45,7 @@ pub(super) fn hi_pieces(magic: &str) -> [(&str, usize); 4] {
     [(magic, 1), (HI, 1), (C_EBREAK, 88), ("4869", 1)]
 }
 
-/// The digits of the pieces, each repeated by its count.
+/// The pieces one after another, each as often as its count says: digits, or the lines of a text.
 pub(super) fn digits_of(alloc: Global, pieces: &[(&str, usize)]) -> Result<String, AllocError> {
     let mut digits = String::new(alloc);
     for (piece, times) in pieces {
@@ -56,13 +56,13 @@ pub(super) fn digits_of(alloc: Global, pieces: &[(&str, usize)]) -> Result<Strin
     Ok(digits)
 }
 
-/// The bytes that these digits spell.
+/// The bytes that the pieces' hexadecimal digits spell.
 pub(super) fn bytes_of(alloc: Global, pieces: &[(&str, usize)]) -> Result<Vec<u8>, Fail> {
     let digits = digits_of(alloc, pieces)?;
     Ok(hex::decode(alloc, digits.as_bytes())?)
 }
 
-// Both checks answer that the bytes are cut short.
+/// Whether both `check` and `check_stream` answer that the bytes are an image that is cut short.
 fn is_short(alloc: Global, bytes: &[u8]) -> bool {
     let mut reader = bytes;
     let mut source = ReaderSource::new(&mut reader);
@@ -73,6 +73,7 @@ fn is_short(alloc: Global, bytes: &[u8]) -> bool {
         )
 }
 
+/// An image that is cut at any length is found to be short; the whole image isn't.
 #[test]
 fn every_front_is_short(rt: HostRuntime) -> Result<(), Fail> {
     let alloc = rt.alloc();
