@@ -152,9 +152,9 @@ difference w a b =
 abbrev pub logical : Width → ℕ → Computed
 logical w r = flagged w (Some false) (Some false) r
 
--- a op b: a is the first operand, in which the result goes, b the second (volume 2, ADD, OR, AND, SUB, XOR and CMP). Sub and cmp
--- both are a - b with the flags of the difference, and cmp writes no result (`alu_finished`). Or, and and xor clear carry and
--- overflow. Zero and sign are the result's.
+-- a op b: a is the first operand, in which the result goes, b the second (volume 2, ADD, OR, AND, SUB, XOR
+-- and CMP). Sub and cmp both are a - b with the flags of the difference, and cmp writes no result
+-- (`alu_finished`). Or, and and xor clear carry and overflow. Zero and sign are the result's.
 abbrev pub alu : AluOp → Width → ℕ → ℕ → Computed
 alu Add w a b = sum w a b
 alu Or w a b = logical w (bit_or a b)
