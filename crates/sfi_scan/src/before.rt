@@ -10,26 +10,30 @@ use rv_word::{Instr, Reg, RegOp};
 use sfi_formats::{CODE_BASE_REGISTER, CODE_MASK_REGISTER, DATA_BASE_REGISTER, DATA_MASK_REGISTER};
 use sfi_pairs::is_reserved;
 
-/// The two instructions directly before a place in its bundle, as far as there are.
+/// The two instructions directly before a place in its bundle, as far as there are: `second` is the
+/// nearer one, `first` the one before it. `specs/private/Blocks` has it as `near`.
 #[derive(Clone, Copy)]
 pub(crate) struct Before {
     pub(crate) first: Option<Instr>,
     pub(crate) second: Option<Instr>,
 }
 
-/// Which reserved registers a pair uses: a mask and a base.
+/// Which reserved registers a masked pair uses, by number. Its two instructions,
+/// `and target, a, mask` and `or target, target, base`, put any number into the region of that mask
+/// and base.
 #[derive(Clone, Copy)]
 pub(crate) struct Pair {
     pub(crate) mask: u8,
     pub(crate) base: u8,
 }
 
-/// `and target, a, x27`, `or target, target, x26`.
+/// The pair that puts the target into the data: `and target, a, x27`, `or target, target, x26`.
 pub(crate) const DATA: Pair = Pair {
     mask: DATA_MASK_REGISTER,
     base: DATA_BASE_REGISTER,
 };
-/// `and target, a, x25`, `or target, target, x24`.
+/// The pair that puts the target at a bundle start of the code: `and target, a, x25`,
+/// `or target, target, x24`.
 pub(crate) const CODE: Pair = Pair {
     mask: CODE_MASK_REGISTER,
     base: CODE_BASE_REGISTER,
@@ -42,7 +46,7 @@ pub(crate) fn may_be_target(reg: Reg) -> bool
     reg.number() != 0 && !is_reserved(reg)
 }
 
-/// Whether the instruction is `and target, a, mask`.
+/// Whether the instruction is `and target, a, mask`, with any register `a`.
 pub(crate) fn is_masking(mask: u8, target: u8, instr: &Instr) -> bool
     ensures { result ≡ is_masking mask target instr.now }
 {
@@ -73,7 +77,7 @@ pub(crate) fn is_placing(base: u8, target: u8, instr: &Instr) -> bool
 }
 
 impl Before {
-    /// What stands before a bundle's first instruction: nothing.
+    /// What comes before a bundle's first instruction: none.
     pub(crate) fn nothing() -> Self
         ensures { result ≡ near [] }
     {
@@ -83,7 +87,7 @@ impl Before {
         }
     }
 
-    /// What stands before the instruction that follows `instr`.
+    /// What comes before the instruction after `instr`, if `self` comes before `instr`.
     pub(crate) fn and_then(self, instr: Instr) -> Self
         ensures { (earlier : List Instr) → near earlier ≡ self →
             result ≡ near (instr ∷ earlier) }
@@ -94,7 +98,8 @@ impl Before {
         }
     }
 
-    /// Whether the two instructions are the pair on the target register.
+    /// Whether the two instructions are `pair` with `target`, which is neither x0 nor reserved. So
+    /// `target` lies in that region when control comes to the place, which no jump enters.
     pub(crate) fn is_pair(&self, pair: Pair, target: Reg) -> bool
         ensures { (earlier : List Instr) → near earlier ≡ self.now →
             result ≡ follows_pair pair.mask pair.base target earlier }

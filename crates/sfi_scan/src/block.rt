@@ -1,4 +1,11 @@
-//! A first look at eight bundles at once. Bit i of a mask is for the block's halfword i.
+//! A first look at a block, eight bundles of code in bundles, at once. A mask here is a set of the
+//! block's 64 halfwords: bit i is for halfword i, at byte 2 * i. A word goes by its first halfword.
+//!
+//! `sfi_masks` classes all halfwords by vectors; what that leaves is tested one by one. In all
+//! functions `words` has the starts of 32-bit instructions, `after` the halfwords directly before
+//! which two such instructions lie in the same bundle, and `stack` says whether the format has a
+//! stack pointer. `place` is that of the block's first bundle. The definitions are in
+//! specs/private/Blocks.
 ghost use Rattle.std.specs.Prelude.{bit_and, ◌≡◌, ℕ, ◌+◌, ◌*◌, ◌/◌, ◌%◌, ◌<◌, ◌≤◌, [], true, false};
 ghost use Rattle.std.specs.Bool.{OnTrue};
 ghost use Rattle.sfi_masks.specs.Masks.{is_in, IsFreeAccess, word_at as block_word};
@@ -45,10 +52,11 @@ pub(crate) fn bits_without(mask: u64, other: u64) -> u64
     mask & !other
 }
 
-/// Guesses where instructions begin. A halfword of `long` begins 32 bits if it begins any; in a run
-/// of these, alternate halfwords are second halves. The carries of one addition find them (Langdale
-/// and Lemire, "Parsing Gigabytes of JSON per Second", 2019). Nothing rests on this: [`are_starts`]
-/// sees whether it is right.
+/// Guesses where instructions begin. A halfword of `long`, whose two lowest bits are 11, begins a
+/// 32-bit instruction if it begins any; in a run of these, alternate halfwords are second halves.
+/// The carries of one addition find them (Langdale and Lemire, "Parsing Gigabytes of JSON per
+/// Second", 2019). No proof rests on this: [`are_starts`] sees whether it is right, and a wrong
+/// guess only costs time.
 #[inline(always)]
 fn starts_of(long: u64) -> u64 {
     let follows = long << 1;
@@ -57,7 +65,8 @@ fn starts_of(long: u64) -> u64 {
     !seconds
 }
 
-/// Whether instructions begin exactly at these places, and none crosses a bundle's end.
+/// Whether instructions begin exactly at `starts`, and none crosses a bundle's end. `long` has the
+/// halfwords whose two lowest bits are 11.
 #[inline(always)]
 fn are_starts(starts: u64, long: u64) -> bool
     ensures { OnTrue result (AreStarts starts (bit_and starts long)) }
@@ -66,7 +75,8 @@ fn are_starts(starts: u64, long: u64) -> bool
     starts == !(words << 1) && words & LAST == 0
 }
 
-/// The places directly before which two words stand in the same bundle.
+/// The halfwords directly before which two 32-bit instructions lie in the same bundle: an
+/// instruction directly after a masked pair begins at one of these.
 #[inline(always)]
 fn after_two(words: u64) -> u64
     ensures { AreAfterTwo words result }
@@ -74,7 +84,7 @@ fn after_two(words: u64) -> u64
     (words & words >> 2) << 4 & LAST_FOUR
 }
 
-/// The places where the first of three words begins that stand in one bundle, one after another.
+/// Where the first of three 32-bit instructions begins that lie one after another in one bundle.
 #[inline(always)]
 fn three_words(words: u64) -> u64
     ensures { AreThreeWords words result }
@@ -82,7 +92,7 @@ fn three_words(words: u64) -> u64
     words & words >> 2 & words >> 4 & FIRST_THREE
 }
 
-/// The place of bundle `bundle` of the block, counted from 0.
+/// The place of bundle `bundle` of the block, counted from 0. None of a block is a listed gate's.
 #[inline(always)]
 pub(crate) fn bundle_at(place: &BundlePlace, bundle: usize) -> BundlePlace
     requires within { IsWithinBlock place.now }
@@ -117,8 +127,8 @@ fn word_of(block: &[u8; BLOCK_BYTES], i: usize) -> u32
     word_at(block, 2 * i)
 }
 
-/// The words of the two instructions directly before halfword `i`. `after` has the places after two
-/// words.
+/// The words of the two instructions directly before halfword `i`, or zeros, which no pair has,
+/// unless both have 32 bits and lie in its bundle, as `after` says.
 #[inline(always)]
 fn words_before_half(block: &[u8; BLOCK_BYTES], after: u64, i: usize) -> Words
     requires place { i < 64 }
@@ -138,7 +148,8 @@ fn words_before_half(block: &[u8; BLOCK_BYTES], after: u64, i: usize) -> Words
     }
 }
 
-/// Whether the access at halfword `i` stays in the data and its guard zones.
+/// Whether the load or store at halfword `i`, which writes no register that it may not, breaks no
+/// rule: whether its base has its pair, or is the stack pointer.
 #[inline(always)]
 fn is_clean_access_at(stack: bool, block: &[u8; BLOCK_BYTES], after: u64, i: usize) -> bool
     requires place { i < 64 }
@@ -152,7 +163,8 @@ fn is_clean_access_at(stack: bool, block: &[u8; BLOCK_BYTES], after: u64, i: usi
     may_access(stack, words_before_half(block, after, i), base)
 }
 
-/// The bits of `accesses` whose access stays in the data and its guard zones.
+/// The bits of `accesses` whose load or store breaks no rule. `accesses` has only 32-bit ones that
+/// write no register that they may not.
 #[inline(always)]
 fn clean_accesses(stack: bool, block: &[u8; BLOCK_BYTES], after: u64, accesses: u64) -> u64
     requires inside { (i : ℕ) → i < 64 → is_in accesses i ≡ true → i % 8 < 7 }
@@ -175,7 +187,8 @@ fn clean_accesses(stack: bool, block: &[u8; BLOCK_BYTES], after: u64, accesses: 
     clean
 }
 
-/// Whether the instruction at halfword `i` breaks no rule, by its outline.
+/// Whether the instruction at halfword `i` is seen by its outline to break no rule. It has 32 bits
+/// if bit i of `words` is set, else 16.
 #[inline(always)]
 fn is_clean_at(
     place: &BundlePlace,
@@ -213,7 +226,7 @@ fn is_clean_at(
     }
 }
 
-/// The bits of `others` whose instruction breaks no rule.
+/// The bits of `others` whose instruction is seen by its outline to break no rule.
 #[inline(always)]
 fn clean_others(
     place: &BundlePlace,
@@ -242,8 +255,8 @@ fn clean_others(
     clean
 }
 
-/// Whether the instruction at halfword `i` writes the stack pointer, and the pair after it puts
-/// that back.
+/// Whether the instruction at halfword `i` writes the stack pointer, and the pair directly after it
+/// puts that back into the data.
 #[inline(always)]
 fn is_written(block: &[u8; BLOCK_BYTES], words: u64, i: usize) -> bool
     requires place { i < 64 }
@@ -257,7 +270,7 @@ fn is_written(block: &[u8; BLOCK_BYTES], words: u64, i: usize) -> bool
 }
 
 /// The bits of `places` whose instruction writes the stack pointer, which the pair after it puts
-/// back, with the bits of that pair's words.
+/// back into the data, with the bits of that pair's words. 0 in a format without a stack pointer.
 #[inline(always)]
 fn stack_writes(stack: bool, block: &[u8; BLOCK_BYTES], words: u64, places: u64) -> u64
     ensures stack { (i : ℕ) → is_in result i ≡ true → stack ≡ true }
@@ -279,8 +292,9 @@ fn stack_writes(stack: bool, block: &[u8; BLOCK_BYTES], words: u64, places: u64)
     written
 }
 
-/// A mask with bits in each bundle that isn't seen to be clean: at its doubtful instructions, or
-/// everywhere.
+/// A mask with bits in each bundle that isn't seen to be clean: at the instructions that may break
+/// a rule; or at all halfwords of the block, where instructions don't begin as guessed, or one
+/// crosses a bundle's end.
 #[inline(always)]
 fn doubtful_places(place: &BundlePlace, stack: bool, block: &[u8; BLOCK_BYTES]) -> u64
     requires within { IsWithinBlock place.now }
@@ -308,7 +322,7 @@ fn doubtful_places(place: &BundlePlace, stack: bool, block: &[u8; BLOCK_BYTES]) 
     bits_without(rest, stack_writes(stack, block, words, rest))
 }
 
-/// A bit for each bundle in which `places` has no bit.
+/// A bit for each bundle in which `places` has no bit, the lowest for the first bundle.
 #[inline(always)]
 fn bundles_without(places: u64) -> u8
     ensures { (k : ℕ) → k < 8 → is_in result k ≡ true →
@@ -329,7 +343,8 @@ fn bundles_without(places: u64) -> u8
 }
 
 /// A bit for each bundle of the block that is seen to break no rule, the lowest for the first. One
-/// that isn't seen to may still break none.
+/// that isn't seen to may still break none. `place` is that of the first; none of the eight is a
+/// gate's or the region's last.
 pub fn clean_bundles(place: &BundlePlace, block: &[u8; BLOCK_BYTES]) -> u8
     requires { IsWithinBlock place.now }
     ensures { (i : ℕ) → i < 8 → is_in result i ≡ true →

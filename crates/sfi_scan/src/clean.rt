@@ -1,5 +1,11 @@
-//! A first look at a bundle: whether it breaks no rule. It makes no instruction, so it is quick;
-//! what it doesn't let pass may still be clean.
+//! A first look at a bundle: whether it breaks no rule. It goes by the bits of words and by
+//! outlines (what an instruction does, without its values), and decodes none in full, so it is
+//! quick; what it doesn't let pass may still be clean, and is read exactly.
+//!
+//! In all functions `stack` says whether the format has a stack pointer; it is passed, not asked
+//! for, so that each format's code is compiled apart. `at` is an offset in the bundle in bytes, and
+//! `from` the offset from which all instructions up to `at` have 32 bits. The definitions are in
+//! specs/private/Blocks.
 ghost use Rattle.std.specs.Prelude.{◌≡◌, ◌+◌, ◌<◌, ◌≤◌, ◌&&◌, not, List, [], length, false, true};
 ghost use Rattle.std.specs.Bool.{OnTrue};
 ghost use Rattle.rv_comp.specs.Fronts.{IsShortSpelling};
@@ -33,7 +39,7 @@ pub(crate) struct Words {
     pub(crate) second: u32,
 }
 
-/// The halfword that begins at byte `at`.
+/// The little-endian halfword that begins at byte `at`.
 #[inline(always)]
 pub(crate) fn half_at(bytes: &[u8], at: usize) -> u16
     requires { at + 2 ≤ length bytes.now }
@@ -45,7 +51,7 @@ pub(crate) fn half_at(bytes: &[u8], at: usize) -> u16
     u16::from_le_bytes(*half)
 }
 
-/// The word that begins at byte `at`.
+/// The little-endian word that begins at byte `at`.
 #[inline(always)]
 pub(crate) fn word_at(bytes: &[u8], at: usize) -> u32
     requires { at + 4 ≤ length bytes.now }
@@ -57,7 +63,8 @@ pub(crate) fn word_at(bytes: &[u8], at: usize) -> u32
     u32::from_le_bytes(*word)
 }
 
-/// The two words before `at`, if all instructions between `from` and `at` have 32 bits.
+/// The words of the two instructions directly before byte `at`: those between `from` and `at` have
+/// 32 bits. Zeros where there are fewer than two.
 #[inline(always)]
 fn words_before(bytes: &[u8; BUNDLE_BYTES], at: usize, from: usize) -> Words
     requires order { from ≤ at }
@@ -78,7 +85,7 @@ fn words_before(bytes: &[u8; BUNDLE_BYTES], at: usize, from: usize) -> Words
 }
 
 impl Words {
-    /// Whether the two words are the pair on the target register.
+    /// Whether the two words spell `pair` with `target`, which is neither x0 nor reserved.
     #[inline(always)]
     fn is_pair(self, pair: Pair, target: Reg) -> bool
         requires mask { pair.mask < 32 }
@@ -100,7 +107,8 @@ impl Words {
     }
 }
 
-/// Whether this look lets pass no instruction that writes the register.
+/// Whether a write of the register may break V4 or V10, so that no instruction that writes it
+/// passes on its own: it is reserved, or the stack pointer.
 #[inline(always)]
 fn is_protected(stack: bool, reg: Reg) -> bool
     ensures { (b : BundlePlace) → stack ≡ has_stack b.format → result ≡ is_protected b reg }
@@ -108,7 +116,8 @@ fn is_protected(stack: bool, reg: Reg) -> bool
     is_reserved(reg) || (stack && reg.number() == STACK)
 }
 
-/// Whether an access on this base stays in the data and its guard zones.
+/// Whether an access on this base, directly after these words, doesn't break V5: so it stays in the
+/// data and its guard zones.
 #[inline(always)]
 pub(crate) fn may_access(stack: bool, words: Words, base: Reg) -> bool
     ensures { (b : BundlePlace) (earlier : List Instr) →
@@ -118,7 +127,8 @@ pub(crate) fn may_access(stack: bool, words: Words, base: Reg) -> bool
     (stack && base.number() == STACK) || are_data_pair(words.first, words.second, base)
 }
 
-/// Whether an access with these registers, after these words, breaks no rule.
+/// Whether a load or store with these registers, directly after these words, breaks no rule.
+/// `written` is x0 for a store.
 #[inline(always)]
 fn is_clean_access(stack: bool, words: Words, access: Access) -> bool
     ensures { (b : BundlePlace) (earlier : List Instr) →
@@ -128,7 +138,7 @@ fn is_clean_access(stack: bool, words: Words, access: Access) -> bool
     !is_protected(stack, access.written) && may_access(stack, words, access.base)
 }
 
-/// Whether an indirect jump, after these words, breaks no rule.
+/// Whether `jalr rd, imm(base)`, directly after these words, breaks no rule.
 #[inline(always)]
 fn is_clean_indirect_jump(
     place: &BundlePlace,
@@ -152,7 +162,9 @@ fn is_clean_indirect_jump(
     words.is_pair(CODE, base)
 }
 
-/// Whether an instruction with this outline breaks no rule. The bundle isn't the region's last.
+/// Whether an instruction with this outline at `address`, directly after these words, breaks no
+/// rule. The bundle isn't the region's last, whose end has a rule of its own. A new rule has to
+/// make this false where it may be broken.
 #[inline(always)]
 pub(crate) fn is_clean(
     place: &BundlePlace,
@@ -184,7 +196,8 @@ pub(crate) fn is_clean(
     }
 }
 
-/// Whether the halfword is a form that breaks no rule there.
+/// Whether `halfword`, at byte `at` of the bundle, is a 16-bit instruction that breaks no rule
+/// there.
 #[inline(always)]
 fn is_clean_short(
     place: &BundlePlace,
@@ -213,8 +226,8 @@ fn is_clean_short(
     }
 }
 
-/// Whether the word at this place of the bundle is an instruction that breaks no rule there. Most
-/// compute, load or store, so these are tested first.
+/// Whether `word`, at byte `at` of the bundle, is a 32-bit instruction that breaks no rule there.
+/// Most compute, load or store, so these are tested first.
 #[inline(always)]
 fn is_clean_wide(
     place: &BundlePlace,
@@ -246,7 +259,8 @@ fn is_clean_wide(
     }
 }
 
-/// Whether the word is an instruction that computes into the stack pointer, or loads into it by it.
+/// Whether the word is an instruction that computes into the stack pointer, or loads into it with
+/// it as base: directly before the pair on the stack pointer it breaks no rule.
 pub(crate) fn is_allowed_stack_write(word: u32) -> bool
     ensures { OnTrue result (IsStackWrite word) }
 {
@@ -260,7 +274,7 @@ pub(crate) fn is_allowed_stack_write(word: u32) -> bool
     }
 }
 
-/// Whether the words are the pair on the stack pointer.
+/// Whether the words spell the pair on the stack pointer, `and x2, a, x27` and `or x2, x2, x26`.
 #[inline(always)]
 pub(crate) fn are_stack_pair_words(first: u32, second: u32) -> bool
     ensures { OnTrue result (AreStackPair first second) }
@@ -275,7 +289,8 @@ pub(crate) fn are_stack_pair_words(first: u32, second: u32) -> bool
     masking == first
 }
 
-/// Whether at this place of the bundle the stack pointer is written, and put back into the data.
+/// Whether the three words from byte `at` of the bundle on are a write of the stack pointer, and
+/// the pair that puts it back into the data.
 #[inline(always)]
 fn is_stack_written(bytes: &[u8; BUNDLE_BYTES], at: usize) -> bool
     requires { at + 12 ≤ bundle_size }
@@ -289,8 +304,8 @@ fn is_stack_written(bytes: &[u8; BUNDLE_BYTES], at: usize) -> bool
     is_allowed_stack_write(word_at(bytes, at))
 }
 
-/// Whether the bundle is seen to break no rule but perhaps that of a gate's bundle. It is compiled
-/// once for a format with a stack pointer and once for one without.
+/// Whether the bundle is seen to break no rule but perhaps V9, that of a gate's bundle. It is
+/// compiled once for a format with a stack pointer and once for one without.
 #[inline(always)]
 fn looks_clean(place: &BundlePlace, stack: bool, bytes: &[u8; BUNDLE_BYTES]) -> bool
     requires within { IsWithin place.now }
@@ -302,7 +317,7 @@ fn looks_clean(place: &BundlePlace, stack: bool, bytes: &[u8; BUNDLE_BYTES]) -> 
         return false;
     }
     let mut at: usize = 0;
-    // Where the 32-bit instructions begin that are read up to here.
+    // All instructions between this offset and `at` have 32 bits.
     let mut from: usize = 0;
     while at < BUNDLE_BYTES {
         let halfword = half_at(bytes, at);
@@ -324,8 +339,9 @@ fn looks_clean(place: &BundlePlace, stack: bool, bytes: &[u8; BUNDLE_BYTES]) -> 
     true
 }
 
-/// Whether the bundle is seen clean: `looks_clean`, compiled once per kind of format, so that the
-/// first pays nothing for the second.
+/// Whether the bundle is seen to break no rule but perhaps V9; false says nothing. It is
+/// `looks_clean`, compiled once per kind of format, so that the first format pays nothing for the
+/// second.
 pub(crate) fn is_seen_clean(place: &BundlePlace, bytes: &[u8; BUNDLE_BYTES]) -> bool
     requires { IsWithin place.now }
     ensures { OnTrue result (AreReadingFindings place.now bytes.now []) }

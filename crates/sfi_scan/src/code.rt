@@ -17,14 +17,16 @@ use sfi_formats::{BUNDLE_BYTES, BUNDLE_SIZE};
 use sfi_masks::BLOCK_BYTES;
 use sfi_rules::{BundlePlace, Owed};
 
-/// How a stretch is scanned. Blocks of eight bundles are looked at as wholes: fast where the processor
-/// has vectors.
+/// A value of the parameter `BLOCKS`, which says how a stretch is scanned. Blocks of eight bundles
+/// are looked at as wholes: fast where the processor has vectors.
 pub const IN_BLOCKS: bool = true;
 
-/// Bundle by bundle: less machine code, a fifth of it where there are no vectors.
+/// The other value of `BLOCKS`: bundle by bundle. The findings are the same; this is less machine
+/// code, a fifth of it where there are no vectors.
 pub const BUNDLE_BY_BUNDLE: bool = false;
 
-/// The place of the stretch's bundle after its first `before` bytes.
+/// The place of the bundle that begins `before` bytes, a multiple of 16, after the stretch's first.
+/// Only the stretch's first bundle can be a listed gate's.
 #[inline(always)]
 pub(crate) fn place_after(place: &BundlePlace, before: usize) -> BundlePlace
     requires { place.now.address + before < 2 ^ 32 }
@@ -37,7 +39,8 @@ pub(crate) fn place_after(place: &BundlePlace, before: usize) -> BundlePlace
     }
 }
 
-/// Scans a bundle, and hands its findings to the sink.
+/// Scans a bundle, and hands its findings to the sink. `findings` is room to work in, here and in
+/// the functions below: what it holds before doesn't matter.
 #[inline(always)]
 fn scan_one_bundle<F: FindingSink>(
     place: &BundlePlace,
@@ -55,7 +58,8 @@ fn scan_one_bundle<F: FindingSink>(
     }
 }
 
-/// Scans the block's bundles from number `from` on that aren't seen to be clean, in order.
+/// Scans the block's bundles from number `from` on, 0 to 7, that aren't seen to be clean, in order.
+/// `place` is that of the block's first bundle; bit i of `clean` is set if bundle i is seen clean.
 #[inline(never)]
 fn scan_doubtful_bundles<F: FindingSink>(
     place: &BundlePlace,
@@ -91,7 +95,7 @@ fn is_within_block(place: &BundlePlace) -> bool
     place.code_size - (place.address - place.code_base) >= BLOCK_BYTES as u32 + BUNDLE_SIZE
 }
 
-/// The `N` bytes of `code` from byte `start` on.
+/// The `N` bytes of `code` from byte `start` on, as an array, without a copy.
 #[inline(always)]
 pub(crate) fn bytes_from<const N: usize>(code: &[u8], start: usize) -> &[u8; N]
     requires { start + N ≤ length code.now }
@@ -103,9 +107,11 @@ pub(crate) fn bytes_from<const N: usize>(code: &[u8], start: usize) -> &[u8; N]
     bytes
 }
 
-/// Where the block begins by which a stretch is looked at from byte `at` on, if scanning in blocks: the
-/// next eight bundles; where fewer are left, the stretch's last eight. None of a block's bundles is a
-/// gate's, nor the region's last.
+/// The offset in `code`, the stretch at `place`, of the block by which its bytes from `at` on are
+/// looked at: the next eight bundles, or where fewer are left, the stretch's last eight, of which
+/// the first were scanned already. None of a block's bundles may be a gate's or the region's last,
+/// which have rules of their own: `None` where one is, where the stretch is shorter than a block,
+/// or where `BLOCKS` says bundle by bundle.
 #[inline(always)]
 pub(crate) fn block_start<const BLOCKS: bool>(
     place: &BundlePlace,
@@ -133,8 +139,8 @@ pub(crate) fn block_start<const BLOCKS: bool>(
     Some(start)
 }
 
-/// Scans a stretch from byte `at` on: the rest of a block, or else the next bundle. Answers the
-/// offset after it.
+/// Scans a stretch from byte `at` on: the rest of the block that [`block_start`] gives, or else the
+/// next bundle. Returns the offset of the first byte that isn't scanned yet.
 #[inline(always)]
 fn scan_next_bundles<F: FindingSink, const BLOCKS: bool>(
     place: &BundlePlace,
@@ -162,8 +168,8 @@ fn scan_next_bundles<F: FindingSink, const BLOCKS: bool>(
     at + BUNDLE_BYTES
 }
 
-/// Scans a stretch of bundles, the first of which lies at `place`, and hands the findings of each
-/// to the sink, in order.
+/// Scans a stretch of code in bundles, the first of which lies at `place`, and hands the findings
+/// of each that has some to the sink, in order.
 pub fn scan_code<F: FindingSink, const BLOCKS: bool>(place: &BundlePlace, code: &[u8], sink: &mut F)
     requires { (n : ℕ) × IsStretch place.now code.now n }
     ensures { (n : ℕ) → IsStretch place.now code.now n → IsScanned F.takes place.now code.now n sink.old sink.new }
@@ -175,8 +181,9 @@ pub fn scan_code<F: FindingSink, const BLOCKS: bool>(place: &BundlePlace, code: 
     }
 }
 
-/// Scans a stretch of code of any format at `place`, before which `owed` is owed. Hands the
-/// findings to the sink, in order, and answers what is owed after it: in bundles nothing.
+/// Scans a stretch of code of any format, whose first bundle lies at `place`, and hands the
+/// findings to the sink, in order. In code in words `owed` is what the code before it leaves owed,
+/// and the result what is owed after it, which the next stretch gets; in bundles nothing ever is.
 pub fn scan_stretch<F: FindingSink, const BLOCKS: bool>(
     place: &BundlePlace,
     code: &[u8],

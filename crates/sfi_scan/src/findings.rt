@@ -44,7 +44,7 @@ impl BundleFindings {
         self.count
     }
 
-    /// The finding of this number, counted from 0.
+    /// Finding `k`, counted from 0; `None` if there are not so many.
     pub fn at(&self, k: usize) -> Option<Finding>
         ensures { result ≡ slice_get self.now k }
     {
@@ -69,7 +69,8 @@ impl BundleFindings {
         self.count = 0;
     }
 
-    /// Appends a finding; there are at most eight.
+    /// Appends a finding, of which there are at most seven before: a bundle has at most eight
+    /// instructions, and each at most one finding.
     pub(crate) fn push(&mut self, finding: Finding)
         requires { length self.old < 8 }
         ensures { self.new ≡ self.old ++ finding ∷ [] }

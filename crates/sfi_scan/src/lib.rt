@@ -1,10 +1,14 @@
 //! The scan: the places of an image where the rules of `sfi_rules` are broken.
 //!
-//! [`scan_stretch`] scans code that lies together. With [`IN_BLOCKS`] it looks at eight bundles at
-//! once (`block.rt`), then at each bundle that this leaves (`clean.rt`), and reads what neither sees
-//! to be clean instruction by instruction (`scan.rt`, `rules.rt`). Code in words, the third format,
-//! is scanned alike by `words.rt` and the modules in `words/`: first eight bundles at once, then
-//! word by word, with what is owed before each ([`scan_words`]).
+//! [`scan_stretch`] scans a stretch: whole bundles of one code region, one behind another, of which
+//! only the first may be a listed gate's. With [`IN_BLOCKS`] it looks at a block, eight bundles, at
+//! once (`block.rt`), then at each bundle that this leaves (`clean.rt`), and reads what neither
+//! sees to be clean instruction by instruction (`scan.rt`, `rules.rt`). Code in words, of the third
+//! and fourth format, is scanned alike by `words.rt` and the modules in `words/`: first eight
+//! bundles at once, then word by word, with what is owed before each ([`scan_words`], [`Owed`]).
+//!
+//! The first looks only save time. One that says clean is proved to be right; about code of which
+//! it doesn't say so it says nothing, and the exact reading decides.
 #![tactic(auto)]
 
 mod ahead;

@@ -6,10 +6,11 @@ use crate::sink::FindingSink;
 use sfi_rules::Finding;
 use std::alloc::{AllocError, Global};
 
-/// All findings that it took, unless memory ran out.
+/// A sink that keeps all findings in a vector. If memory runs out it remembers that, and
+/// [`into_result`](FindingList::into_result) is an error.
 #[derive(Drop)]
 pub struct FindingList {
-    /// The findings for which there was memory.
+    /// The findings that it took, in order, but those for which there was no memory.
     pub found: Vec<Finding>,
     /// Whether memory ran out for a finding.
     pub lacks_memory: bool,
@@ -45,7 +46,7 @@ impl FindingList {
         }
     }
 
-    /// The findings that it took.
+    /// All findings that it took; an error if memory ran out for one.
     pub fn into_result(self) -> Result<Vec<Finding>, AllocError>
         ensures { IfOk result (λ found. (self.lacks_memory ≡ false) × (found.items ≡ self.found.items)) }
     {

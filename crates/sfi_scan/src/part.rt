@@ -12,8 +12,9 @@ use sfi_image::SandboxPart;
 use sfi_rules::{BundlePlace, Finding, Owed};
 use std::alloc::{AllocError, Global};
 
-/// The findings of the part of an image of this format, which is that of the sandbox of this
-/// number, in the order of their addresses.
+/// The findings in the code of one sandbox, in the order of their addresses. `part` is what an
+/// image of this format has of it, and `sandbox` its number in that image, which findings bear. An
+/// error means that memory ran out.
 pub fn scan_part_as(
     alloc: Global,
     format: Format,
@@ -32,6 +33,7 @@ pub fn scan_part_as(
         code_size: part.code.len() as u32,
         listed: false,
     };
+    // A stretch ends where a gate's bundle begins, with which the next one begins.
     let mut owed = Owed::Nothing;
     let mut at = 0;
     for gate in part.gates.iter() {

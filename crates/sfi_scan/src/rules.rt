@@ -1,4 +1,7 @@
-//! The rules, each as a test on an instruction and what stands around it.
+//! The rules of code in bundles, each as a test on an instruction, those around it, and its
+//! bundle's place. Most say what the definition of the same name in specs/Rules or specs/Readings
+//! of `sfi_rules` does. `before` has the two instructions before it in the bundle; `address` is its
+//! own.
 ghost use Rattle.std.specs.Prelude.{◌≡◌, ◌&&◌, not, List};
 ghost use Rattle.rv_word.specs.Spelling.{offset_by};
 ghost use Rattle.rv_word.specs.declared.instr.Instr.{Instr};
@@ -16,7 +19,8 @@ use sfi_formats::{BUNDLE_SIZE, STACK_POINTER};
 use sfi_pairs::is_reserved;
 use sfi_rules::{BundlePlace, Rule};
 
-/// Whether the instruction breaks V3: an `ecall` that isn't the first instruction of a listed bundle.
+/// Whether the instruction breaks V3: an `ecall` that isn't the first instruction of a listed
+/// gate's bundle. `is_first` says whether it is its bundle's first.
 fn breaks_ecall(place: &BundlePlace, is_first: bool, instr: &Instr) -> bool
     ensures { (x : InstrInBundle) → x.bundle ≡ place.now → is_empty x.earlier ≡ is_first →
         result ≡ breaks_ecall x instr.now }
@@ -40,7 +44,8 @@ pub(crate) fn breaks_reserved(instr: &Instr) -> bool
 /// The stack pointer's number.
 pub(crate) const STACK: u8 = STACK_POINTER;
 
-/// Whether the instruction breaks V5: an access neither on the stack pointer nor directly after its pair.
+/// Whether the instruction breaks V5: a load or store whose base is neither the stack pointer of
+/// the second format nor put into the data by the pair directly before it.
 fn breaks_access(place: &BundlePlace, before: &Before, instr: &Instr) -> bool
     ensures { (x : InstrInBundle) → x.bundle ≡ place.now → near x.earlier ≡ before.now →
         result ≡ breaks_access x instr.now }
@@ -53,7 +58,8 @@ fn breaks_access(place: &BundlePlace, before: &Before, instr: &Instr) -> bool
     }
 }
 
-/// Whether the instruction breaks V6: a `jalr` with an offset, or not directly after its pair.
+/// Whether the instruction breaks V6: a `jalr` with an offset, or not directly after the pair that
+/// puts its base at a bundle start of the code.
 fn breaks_jump(before: &Before, instr: &Instr) -> bool
     ensures { (x : InstrInBundle) → near x.earlier ≡ before.now → result ≡ breaks_jump x instr.now }
 {
@@ -63,14 +69,15 @@ fn breaks_jump(before: &Before, instr: &Instr) -> bool
     }
 }
 
-/// The address plus the offset, modulo 2^32.
+/// The address plus the offset in bytes, modulo 2^32: the target of a jump or branch.
 pub(crate) fn offset_by(address: u32, offset: i32) -> u32
     ensures { result ≡ offset_by address offset }
 {
     address.wrapping_add_signed(offset)
 }
 
-/// Whether a bundle of the code region begins at the address.
+/// Whether a bundle of the code region begins at the absolute address `address`, so that a jump may
+/// lead there.
 pub(crate) fn is_bundle_start(place: &BundlePlace, address: u32) -> bool
     requires { IsWithin place.now }
     ensures { result ≡ is_bundle_start place.now address }
@@ -94,7 +101,8 @@ fn breaks_target(place: &BundlePlace, address: u32, instr: &Instr) -> bool
     }
 }
 
-/// Whether the instruction may be the code region's last: control never runs on past it.
+/// Whether the instruction may be the code region's last, since control never goes on to the
+/// address after it. An `ecall` may not: the host's reply goes on there.
 pub(crate) fn ends_region(instr: &Instr) -> bool
     ensures { result ≡ ends_region instr.now }
 {
@@ -112,7 +120,8 @@ pub(crate) fn is_last_bundle(place: &BundlePlace) -> bool
     place.address - place.code_base == place.code_size - BUNDLE_SIZE
 }
 
-/// Whether the two instructions are the pair on the stack pointer.
+/// Whether the two instructions are the pair on the stack pointer, `and x2, a, x27` and
+/// `or x2, x2, x26`, which puts it into the data.
 fn is_stack_pair(first: &Instr, second: &Instr) -> bool
     ensures { result ≡ is_stack_pair first.now second.now }
 {
@@ -165,7 +174,9 @@ fn precedes_pair(two: &Ahead) -> bool
     }
 }
 
-/// Whether the instruction breaks V10: it writes the stack pointer, and no pair on it stands there.
+/// Whether the instruction breaks V10: it writes the stack pointer, and is neither of the pair on
+/// it nor directly before it. A `jal` or `jalr` may not stand before it, since control then leaves.
+/// `after` has the bytes of its bundle after it.
 fn breaks_stack(place: &BundlePlace, before: &Before, instr: &Instr, after: &[u8]) -> bool
     ensures { (x : InstrInBundle) → x.bundle ≡ place.now → near x.earlier ≡ before.now →
         IsLongestReading after.now x.later → result ≡ breaks_stack x instr.now }
@@ -179,7 +190,10 @@ fn breaks_stack(place: &BundlePlace, before: &Before, instr: &Instr, after: &[u8
         || (!is_jump(instr) && precedes_pair(&two)))
 }
 
-/// The lowest rule that the instruction breaks, if any. `after` has the bytes of its bundle after it.
+/// The lowest rule that the instruction at `address` breaks, of those that look at instructions;
+/// `None` if it breaks none. `after` has the bytes of its bundle after it. The tests go in the
+/// order of `all_rules` of `sfi_rules`, so a new one comes in at its number. V1, V2 and V9 are
+/// found elsewhere.
 pub(crate) fn lowest_rule(
     place: &BundlePlace,
     address: u32,

@@ -13,7 +13,7 @@ use sfi_formats::BUNDLE_BYTES;
 use sfi_pairs::STUB;
 use sfi_rules::{BundlePlace, Finding, Rule};
 
-/// The finding that `rule` is broken `offset` bytes after the bundle's first.
+/// The finding that `rule` is broken `offset` bytes after the start of the bundle at `place`.
 fn finding(place: &BundlePlace, offset: usize, rule: Rule) -> Finding
     requires within { IsWithin place.now }
     requires inside { offset < bundle_size }
@@ -30,7 +30,9 @@ fn finding(place: &BundlePlace, offset: usize, rule: Rule) -> Finding
     }
 }
 
-/// Reads the bundle, and replaces the findings by those of its instructions.
+/// Reads the bundle instruction by instruction, and replaces `findings` by what it finds: at most
+/// one for each instruction, of the lowest rule that it breaks. It stops at bytes that can't be
+/// read. Not inlined, since few bundles get here.
 #[inline(never)]
 fn scan_instructions(place: &BundlePlace, bytes: &[u8; BUNDLE_BYTES], findings: &mut BundleFindings)
     requires within { IsWithin place.now }
@@ -62,7 +64,11 @@ fn scan_instructions(place: &BundlePlace, bytes: &[u8; BUNDLE_BYTES], findings: 
     }
 }
 
-/// Replaces the findings by those of the bundle with these bytes, in the order of their addresses.
+/// Replaces `findings` by those of the bundle with these bytes, in the order of their addresses. A
+/// listed gate's bundle that isn't the stub has V9 alone. For code in bundles; [`scan_words`] is
+/// for code in words.
+///
+/// [`scan_words`]: crate::scan_words
 pub fn scan_bundle(place: &BundlePlace, bytes: &[u8; BUNDLE_BYTES], findings: &mut BundleFindings)
     requires { IsWithin place.now }
     ensures { AreBundleFindings place.now bytes.now findings.new }

@@ -1,5 +1,7 @@
-//! The tables of the first look at a bundle: which forms compute into a register that may be written, as most forms do, and
-//! the words of the pair that puts a register into the data region.
+//! The tables of the first look at a bundle: which 16-bit instructions compute into a register that
+//! may be written, as most do, and the words of the pair that puts a register into the data region.
+//! They hold what the reserved registers and the decoding of `rv_comp` imply: where those change,
+//! so do these.
 ghost use Rattle.std.specs.Prelude.{◌≡◌, not, List, true};
 ghost use Rattle.std.specs.Bool.{OnTrue};
 ghost use Rattle.rv_word.specs.declared.instr.Instr.{Instr};
@@ -13,8 +15,10 @@ use rv_word::Reg;
 use sfi_formats::{DATA_BASE_REGISTER, DATA_MASK_REGISTER};
 
 /// Masks, by a halfword's bits 15:9 and 1:0. A halfword that shares a set bit with its mask is a
-/// form that computes into a register that isn't reserved. Beside each line stand bits 15:11; its
-/// 16 entries go by bits 10:9, and then by bits 1:0.
+/// 16-bit instruction that computes into a register that isn't reserved: with mask 3 each is, since
+/// its bits 1:0 aren't 00; with 8160 and 124 those whose immediate or register in these bits isn't
+/// 0; with 0 none. Beside each line stand bits 15:11; its 16 entries go by bits 10:9, and then by
+/// bits 1:0.
 const COMPUTING: [u16; 512] = [
     8160, 3, 3, 0, 8160, 3, 3, 0, 8160, 3, 3, 0, 8160, 3, 3, 0, // 00000
     8160, 3, 3, 0, 8160, 3, 3, 0, 8160, 0, 0, 0, 8160, 3, 3, 0, // 00001
@@ -51,7 +55,8 @@ const COMPUTING: [u16; 512] = [
 ];
 
 /// Whether the halfword is seen to compute into a register that is neither reserved nor a stack
-/// pointer. Where x2 is one, 2 in bits 11:7 isn't seen.
+/// pointer, so that it breaks no rule anywhere; false says nothing. `stack` says whether x2 is a
+/// stack pointer: then no halfword with 2 in bits 11:7 is let pass.
 #[inline(always)]
 pub(crate) fn is_free_half(stack: bool, halfword: u16) -> bool
     ensures { (b : BundlePlace) → stack ≡ has_stack b.format →
@@ -67,10 +72,10 @@ pub(crate) fn is_free_half(stack: bool, halfword: u16) -> bool
 /// Bits 19:15 of a word, which name its first operand.
 const OPERAND: u32 = 0b11111 << 15;
 
-/// The operation of both words, on two registers.
+/// The opcode of both words of a pair: of operations on two registers.
 const OP: u32 = 0b011_0011;
 
-// `and target, x0, x27`. `none`: no word with its operand bits cleared.
+// The word of `and target, x0, x27`; of `none` one that no word is whose operand bits are cleared.
 macro_rules! masking {
     (none) => {
         u32::MAX
@@ -80,7 +85,7 @@ macro_rules! masking {
     };
 }
 
-// `or target, target, x26`.
+// The word of `or target, target, x26`; of `none` 0, which is never compared.
 macro_rules! placing {
     (none) => {
         0
@@ -107,7 +112,8 @@ const PLACING: [u32; 32] = by_register!(
     none none none none 28 29 30 31
 );
 
-/// Whether the two words directly before an access are the pair on its base.
+/// Whether `first` and `second`, the words directly before an access, spell the data pair on its
+/// base `target`, which is neither x0 nor reserved.
 #[inline(always)]
 pub(crate) fn are_data_pair(first: u32, second: u32, target: Reg) -> bool
     ensures { (earlier : List Instr) →

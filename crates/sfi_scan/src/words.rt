@@ -1,4 +1,9 @@
-//! The scan of code in words, 16 bytes at a time.
+//! The scan of code in words, of the third and fourth format, 16 bytes at a time: these are called
+//! a bundle here, too. What is owed ([`Owed`]) is what the next instruction has to do, because an
+//! earlier one wrote a typed register: each function takes what is owed before its code, and
+//! returns what is owed after it. As in code.rt, `at` is an offset in `code`, the stretch at
+//! `place`, and `findings` room to work in. `SINGLE` says whether data are masked by one
+//! instruction, as in the fourth format.
 ghost use Rattle.std.specs.Prelude.{◌≡◌, ◌*◌, ◌≤◌, ◌<◌, ℕ, IfSome, length};
 ghost use Rattle.sfi_formats.specs.Formats.{has_single_mask};
 ghost use Rattle.sfi_formats.specs.Limits.{bundle_size};
@@ -25,9 +30,9 @@ use sfi_rules::{BundlePlace, Owed};
 /// How many words a bundle has.
 const WORDS: usize = BUNDLE_BYTES / 4;
 
-/// Replaces the findings by those of the words of these 16 bytes, in the order of their addresses.
-/// `owed` is owed before them; before a region's first bytes nothing is. Answers what is owed after
-/// them.
+/// Replaces `found` by the findings of the words of these 16 bytes at `place`, in the order of
+/// their addresses. `owed` is owed before them; before a region's first bytes nothing is. Returns
+/// what is owed after them.
 pub fn scan_words(
     place: &BundlePlace,
     bytes: &[u8; BUNDLE_BYTES],
@@ -48,7 +53,7 @@ pub fn scan_words(
     next
 }
 
-/// Scans 16 bytes, and hands their findings to the sink. Answers what is owed after them.
+/// Scans 16 bytes, and hands their findings, if any, to the sink. Returns what is owed after them.
 #[inline(always)]
 fn scan_bundle_of_words<F: FindingSink>(
     place: &BundlePlace,
@@ -67,8 +72,9 @@ fn scan_bundle_of_words<F: FindingSink>(
     next
 }
 
-/// Looks at the next block of the stretch from byte `at` on, or at its last one where fewer than
-/// eight bundles are left. If it is clean: the offset after it, and what is owed there.
+/// Looks at the block that [`block_start`] gives for byte `at`, at its words from that byte on. If
+/// they are seen to break no rule, returns the offset after the block, and what is owed there; else
+/// `None`, also where no block is given.
 #[inline(always)]
 fn look_at_next_block<const SINGLE: bool>(
     place: &BundlePlace,
@@ -89,9 +95,10 @@ fn look_at_next_block<const SINGLE: bool>(
     Some((start + BLOCK_BYTES, next))
 }
 
-/// Looks at blocks of the stretch from byte `at` on, until one isn't seen to be clean: the offset
-/// of that, and what is owed there. It is compiled once for all sinks, and for single masks and others
-/// apart, so that each loop holds its own tables.
+/// Looks at blocks of the stretch from byte `at` on, until one isn't seen to break no rule. Returns
+/// the offset up to which all is clean, the stretch's end at most, and what is owed there. It is
+/// compiled once for all sinks, and for single masks and others apart, so that each loop holds its
+/// own tables.
 #[inline(never)]
 fn skip_clean_blocks<const SINGLE: bool>(
     place: &BundlePlace,
@@ -116,7 +123,7 @@ fn skip_clean_blocks<const SINGLE: bool>(
     (end, left)
 }
 
-/// The answer of `skip_clean_blocks`, if scanning in blocks; else byte `at` itself, and what is owed
+/// What `skip_clean_blocks` returns, if scanning in blocks; else `at` itself, and what is owed
 /// there.
 #[inline(always)]
 fn skip_clean_code<const BLOCKS: bool>(
@@ -152,8 +159,8 @@ fn doubtful_end<const BLOCKS: bool>(place: &BundlePlace, code: &[u8], at: usize)
     }
 }
 
-/// Scans a stretch bundle by bundle, from byte `at` up to byte `stop`. Answers the offset after it,
-/// and what is owed there.
+/// Scans a stretch bundle by bundle, from byte `at` up to byte `stop`. Returns the offset after the
+/// last one, and what is owed there.
 #[inline(always)]
 fn scan_bundles<F: FindingSink>(
     place: &BundlePlace,
@@ -181,8 +188,8 @@ fn scan_bundles<F: FindingSink>(
 }
 
 /// Scans a stretch from byte `at` on: blocks as long as they are seen to be clean, and then bundle
-/// by bundle up to the end of the next block. Answers the offset after that, and what is owed
-/// there.
+/// by bundle up to the end of the next block, or the next bundle alone where there is no block.
+/// Returns the offset of the first byte that isn't scanned yet, and what is owed there.
 #[inline(always)]
 fn scan_next_words<F: FindingSink, const BLOCKS: bool>(
     place: &BundlePlace,
@@ -205,7 +212,8 @@ fn scan_next_words<F: FindingSink, const BLOCKS: bool>(
 }
 
 /// Scans a stretch of code in words, in blocks or bundle by bundle, with `owed` owed before it, and
-/// hands the findings of each 16 bytes to the sink, in order. Answers what is owed after it.
+/// hands the findings of each 16 bytes to the sink, in order. Returns what is owed after it. The
+/// scan of code in bundles is `scan_code`.
 pub(crate) fn scan_words_as<F: FindingSink, const BLOCKS: bool>(
     place: &BundlePlace,
     code: &[u8],

@@ -1,5 +1,11 @@
-//! A first look at eight bundles of code in words at once. Bit i of a mask is for the block's halfword i;
-//! a word goes by its first.
+//! A first look at a block, eight bundles of code in words, at once. Of a mask bit i is for the
+//! block's halfword i, at byte 2 * i; a word goes by its first, so its bit is even.
+//!
+//! `sfi_masks` tells most words to be free: they break no rule where nothing is owed before them,
+//! and leave nothing owed. The rest is tested here: pairs of words, steps (`addi d, d, k` of a data
+//! register) that the next word uses, jumps. Words that this doesn't see to be clean are scanned
+//! exactly, in order, by what is owed. `place` is that of the block's first bundle. The definitions
+//! are in specs/private/Words.
 ghost use Rattle.std.specs.Prelude.{◌≡◌, ℕ, ◌+◌, ◌-◌, ◌*◌, ◌%◌, ◌^◌, ◌<◌, ◌≤◌, ◌⊎◌, true, false, IfSome};
 ghost use Rattle.std.specs.Bool.{OnTrue};
 ghost use Rattle.rv_word.specs.Spelling.{IsWordOf};
@@ -21,31 +27,36 @@ use sfi_masks::{BLOCK_BYTES, Masks, single_masks_of, word_masks_of};
 use sfi_pairs::{is_data_register, is_data_register_in};
 use sfi_rules::{BundlePlace, Owed};
 
-/// `and x31, x0, x27`.
+/// The word of `and x31, x0, x27`: the first step of a mask of data, with the bits of its operand
+/// cleared.
 const MASKING: u32 = 0x01b0_7fb3;
 
 /// The bits of a word that name its first operand.
 const OPERAND: u32 = 0b11111 << 15;
 
-/// `or x0, x31, x26`.
+/// The word of `or x0, x31, x26`: the second step, with the bits of its destination cleared.
 const PLACING: u32 = 0x01af_e033;
 
 /// The bits of a word that name its destination.
 const DESTINATION: u32 = 0b11111 << 7;
 
-/// `and x30, x0, x25`.
+/// The word of `and x30, x0, x25`: the first step of a mask of code, with the bits of its operand
+/// cleared.
 const CODE_MASKING: u32 = 0x0190_7f33;
 
-/// `or x30, x30, x24`.
+/// The word of `or x30, x30, x24`, the second step.
 const CODE_PLACING: u32 = 0x018f_6f33;
 
-/// The largest offset, up or down, of an access on a data register after a step of it.
+/// The largest offset in bytes, up or down, of an access on a data register directly after a step
+/// of it.
 const SLACK: u32 = sfi_formats::SLACK;
 
-/// The bits that name what a load writes, and the one that is set in a store's opcode.
+/// The bits that name what a load writes, and the one that is set in a store's opcode and not in a
+/// load's: of a load or store all are 0 where it loads into x0.
 const LOADED: u32 = 0b11111 << 7 | 1 << 5;
 
-/// The words that aren't free by the masks. A word goes by its first halfword.
+/// The words that aren't free by the masks: a word is free if it is a free instruction of 32 bits,
+/// or two free ones of 16.
 #[inline(always)]
 fn not_free(masks: Masks) -> u64
     ensures words { (i : ℕ) → i < 64 → is_in result i ≡ true → i % 2 ≡ 0 }
@@ -74,8 +85,9 @@ fn is_any_data_placing_word(word: u32) -> bool
     is_data_register(Reg::numbered((word >> 7 & 0b11111) as u8))
 }
 
-/// Whether the words are a pair: of data, where a mask has two steps, or `and x30, a, x25` and
-/// `or x30, x30, x24`.
+/// Whether the words are both steps of a mask, so that together they break no rule and leave
+/// nothing owed, where nothing is owed before them: of a data register, where such a mask has two
+/// steps, or `and x30, a, x25` and `or x30, x30, x24`.
 #[inline(always)]
 fn are_pair_words(format: Format, first: u32, second: u32) -> bool
     ensures { OnTrue result (IsPair format first second) }
@@ -92,7 +104,7 @@ fn are_pair_words(format: Format, first: u32, second: u32) -> bool
     second == CODE_PLACING
 }
 
-/// Where pairs of these words begin.
+/// The bits of `words` at which a pair begins, whose second word is of `words`, too.
 #[inline(always)]
 fn pairs_in(format: Format, block: &[u8; BLOCK_BYTES], words: u64) -> u64
     requires { (i : ℕ) → i < 64 → is_in words i ≡ true → i % 2 ≡ 0 }
@@ -112,7 +124,7 @@ fn pairs_in(format: Format, block: &[u8; BLOCK_BYTES], words: u64) -> u64
     pairs
 }
 
-/// Whether the word is `addi d, d, k`.
+/// Whether the word is `addi d, d, k` for some k.
 #[inline(always)]
 fn is_step_of(d: Reg, word: u32) -> bool
     ensures { OnTrue result (IsStepOf d word) }
@@ -121,7 +133,8 @@ fn is_step_of(d: Reg, word: u32) -> bool
     word & 0xf_ffff == u32::from(d.number()) * 0x8080 + 0x13
 }
 
-/// The twelve bits of the word's offset, if it is a load or store.
+/// The twelve bits of the word's offset, below 4096, if it is a load or store; else any number
+/// below that.
 #[inline(always)]
 fn offset_bits(word: u32) -> u32
     ensures small { result < 2 ^ 12 }
@@ -135,7 +148,8 @@ fn offset_bits(word: u32) -> u32
     }
 }
 
-/// Whether the word, a load or store, loads into x0.
+/// Whether the word, a load or store, loads into x0. A processor may drop such a load, so it isn't
+/// sure to trap outside the data.
 #[inline(always)]
 fn is_dropped(word: u32) -> bool
     ensures { (i : Instr) → IsWordOf word i → result ≡ false → is_dropped i ≡ false }
@@ -143,7 +157,8 @@ fn is_dropped(word: u32) -> bool
     word & LOADED == 0
 }
 
-/// Whether the word accesses memory on d, at most `SLACK` beside it, and doesn't load into x0.
+/// Whether the word is a load or store on d with an offset of at most `SLACK`, up or down, and no
+/// load into x0: `is_use` of `sfi_pairs` for the word's bits.
 #[inline(always)]
 fn is_use_of(d: Reg, word: u32) -> bool
     ensures { OnTrue result (IsUseOf d word) }
@@ -160,7 +175,7 @@ fn is_use_of(d: Reg, word: u32) -> bool
     (offset_bits(word) + SLACK & 0xfff) <= 2 * SLACK
 }
 
-/// Whether the word steps a data register, which the next one uses.
+/// Whether the word steps a data register, which the next one uses, so that no mask of it is owed.
 #[inline(always)]
 fn is_used_step(format: Format, word: u32, next: u32) -> bool
     ensures { OnTrue result (IsUsedStep format word next) }
@@ -175,8 +190,8 @@ fn is_used_step(format: Format, word: u32, next: u32) -> bool
     is_use_of(d, next)
 }
 
-/// The bits of the words that step a data register directly before an access on it, which is a free
-/// word.
+/// The bits of `words` that step a data register directly before an access on it, which is a word
+/// of `free` and not of `words`. `free` has the starts of free instructions of 32 bits.
 #[inline(always)]
 fn used_steps(place: &BundlePlace, block: &[u8; BLOCK_BYTES], free: u64, words: u64) -> u64
     requires within { IsWithinBlock place.now }
@@ -200,7 +215,8 @@ fn used_steps(place: &BundlePlace, block: &[u8; BLOCK_BYTES], free: u64, words: 
     steps
 }
 
-/// Whether the word at halfword `i` jumps or branches, and breaks no rule.
+/// Whether the word at halfword `i` is a jump or branch that breaks no rule, where nothing is owed
+/// before it.
 #[inline(always)]
 fn is_clean_other_at(place: &BundlePlace, block: &[u8; BLOCK_BYTES], i: usize) -> bool
     requires within { IsWithinBlock place.now }
@@ -213,7 +229,8 @@ fn is_clean_other_at(place: &BundlePlace, block: &[u8; BLOCK_BYTES], i: usize) -
     is_clean_other_word(&bundle, address, word_at(block, 2 * i))
 }
 
-/// The bits of `words` that jump or branch, and break no rule.
+/// The bits of `words` that are jumps or branches which break no rule, where nothing is owed before
+/// them.
 #[inline(always)]
 fn clean_others(place: &BundlePlace, block: &[u8; BLOCK_BYTES], words: u64) -> u64
     requires within { IsWithinBlock place.now }
@@ -232,8 +249,8 @@ fn clean_others(place: &BundlePlace, block: &[u8; BLOCK_BYTES], words: u64) -> u
     plain
 }
 
-/// The bits of `words` that aren't seen to be clean, by themselves or with the next word. `free`
-/// has the free instructions of 32 bits.
+/// The bits of `words` that aren't seen to break no rule, by themselves or with the word beside
+/// them, where nothing is owed before them. `free` has the starts of free instructions of 32 bits.
 #[inline(always)]
 fn doubtful_words(place: &BundlePlace, block: &[u8; BLOCK_BYTES], words: u64, free: u64) -> u64
     requires within { IsWithinBlock place.now }
@@ -251,7 +268,8 @@ fn doubtful_words(place: &BundlePlace, block: &[u8; BLOCK_BYTES], words: u64, fr
     bits_without(rest, clean_others(place, block, rest))
 }
 
-/// What is owed after the word at halfword `i`, if it breaks no rule with `owed` before it.
+/// What is owed after the word at halfword `i`, if it breaks no rule with `owed` before it; `None`
+/// if it breaks one. `findings` is room to work in. Not inlined, since few words get here.
 #[inline(never)]
 fn after_scanned_word(
     place: &BundlePlace,
@@ -310,8 +328,9 @@ fn next_word_from(words: u64, at: usize, owed: Owed) -> usize
     }
 }
 
-/// What is owed after the block, if none of `words`, from word `from` on, breaks a rule. No other
-/// word of the block does.
+/// What is owed after the block, if none of its words from word `from` on, 0 to 31, breaks a rule
+/// with `owed` before them; else `None`. Only those of `words` are looked at, and any before which
+/// something is owed: each other is seen already to break no rule where nothing is.
 #[inline(always)]
 fn after_words(
     place: &BundlePlace,
@@ -341,7 +360,8 @@ fn after_words(
     Some(left)
 }
 
-/// `words` without the single masks among them, where masks are `single`. If `words` is empty, none are
+/// `words` without the words `and d, a, x27` among them, d being a data register, if `single` says
+/// that one such masks d: they break no rule, and leave nothing owed. If `words` is empty, none are
 /// looked for.
 #[inline(always)]
 fn without_single_masks(single: bool, block: &[u8; BLOCK_BYTES], words: u64) -> u64
@@ -358,8 +378,9 @@ fn without_single_masks(single: bool, block: &[u8; BLOCK_BYTES], words: u64) -> 
     bits_without(words, single_masks_of(block))
 }
 
-/// The words that are still to be looked at: each other breaks no rule if nothing is owed before it, and
-/// leaves nothing owed. And where free instructions of 32 bits begin. `SINGLE` as in `word_masks_of`.
+/// First the words that are still to be looked at: each other breaks no rule if nothing is owed
+/// before it, and leaves nothing owed. Second, where free instructions of 32 bits begin. `SINGLE`
+/// as in `word_masks_of`.
 #[inline(always)]
 fn told_by_masks<const SINGLE: bool>(place: &BundlePlace, block: &[u8; BLOCK_BYTES]) -> (u64, u64)
     requires within { IsWithinBlock place.now }
@@ -382,9 +403,9 @@ fn is_nothing(owed: Owed) -> bool
     matches!(owed, Owed::Nothing)
 }
 
-/// What is owed after the block, if its words from word `from` on, with `owed` before them, are
-/// seen to break no rule. None of its bundles is the region's last, nor a gate's. `SINGLE` as in
-/// `word_masks_of`.
+/// What is owed after the block, if its words from word `from` on, 0 to 31, with `owed` before
+/// them, are seen to break no rule; else `None`. None of its bundles is the region's last, nor a
+/// gate's. `SINGLE` as in `word_masks_of`.
 #[inline(always)]
 pub(crate) fn look_at_block<const SINGLE: bool>(
     place: &BundlePlace,

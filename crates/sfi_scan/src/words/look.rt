@@ -1,6 +1,11 @@
-//! A first look at a word of code in words: whether it breaks no rule, and what is owed after it.
+//! A first look at a word of code in words: whether it breaks no rule, and what is owed after it
+//! (`Owed`: what the next instruction has to do, because a typed register was written).
 //! It goes by the word's bits, and decodes only writes of typed registers outside data pairs, and
-//! what follows a step, so it is quick. A word about which it says nothing may still break no rule.
+//! what follows a step (`addi d, d, k` of a data register d), so it is quick.
+//!
+//! A function that returns an option returns what is owed after the word, if it is seen to break no
+//! rule, and else `None`: such a word may still break no rule, and is read exactly. `address` is
+//! the word's own. No word here is its region's last. The definitions are in specs/private/Words.
 ghost use Rattle.std.specs.Prelude.{◌≡◌, ◌+◌, ◌<◌, ◌==◌, ◌&&◌, ◌||◌, not, ℕ, true, false, IfSome, length, []};
 ghost use Rattle.std.specs.Bool.{OnTrue};
 ghost use Rattle.rv_word.specs.Spelling.{bits};
@@ -32,8 +37,8 @@ use sfi_formats::{
 use sfi_pairs::{is_data_register, is_data_register_in, is_reserved, is_use};
 use sfi_rules::{BundlePlace, Owed};
 
-/// Whether the register is reserved or typed, which it then is in each format of words: a write of it has
-/// rules of its own.
+/// Whether the register is reserved or typed in the third or in the fourth format (x26 is reserved
+/// in one, and typed in the other): a write of it has rules of its own, V4 and V10 to V12.
 #[inline(always)]
 fn is_reserved_or_typed(reg: Reg) -> bool
     ensures { result ≡ is_reserved_or_typed reg }
@@ -59,8 +64,9 @@ fn is_clean_indirect_jump_in_words(rd: Reg, base: Reg, imm: i32) -> bool
     base.number() == CODE_REGISTER
 }
 
-/// Whether an instruction with this outline, before which nothing is owed, breaks no rule but
-/// perhaps at the region's end, and leaves nothing owed.
+/// Whether an instruction with this outline at `address`, before which nothing is owed, breaks no
+/// rule but perhaps V8, that of the region's end, and leaves nothing owed. A new rule has to make
+/// this false where it may be broken.
 #[inline(always)]
 fn is_clean_alone(place: &BundlePlace, address: u32, outline: Outline) -> bool
     requires { IsWithin place.now }
@@ -95,7 +101,7 @@ fn rs1_of(word: u32) -> Reg {
     Reg::numbered((word >> 15 & 0b11111) as u8)
 }
 
-/// Whether the word is `and x31, a, x27`.
+/// Whether the word is `and x31, a, x27`, by which x31 becomes an offset in the data.
 #[inline(always)]
 fn is_data_masking_word(a: Reg, word: u32) -> bool
     ensures { OnTrue result (IsWordOf word (Op And 31 a 27)) }
@@ -104,7 +110,8 @@ fn is_data_masking_word(a: Reg, word: u32) -> bool
     op_word(RegOp::And, target, a, Reg::numbered(DATA_MASK_REGISTER)) == word
 }
 
-/// Whether the word is `or d, x31, x26`, and d is a data register, whose mask has two steps.
+/// Whether the word is `or d, x31, x26`, and d is a data register, whose mask has two steps in the
+/// format.
 #[inline(always)]
 fn is_data_placing_word(format: Format, d: Reg, word: u32) -> bool
     ensures word { OnTrue result (IsWordOf word (Op Or d 31 26)) }
@@ -121,7 +128,8 @@ fn is_data_placing_word(format: Format, d: Reg, word: u32) -> bool
     op_word(RegOp::Or, d, offset, Reg::numbered(DATA_BASE_REGISTER)) == word
 }
 
-/// Whether the word is `and d, a, x27`, and d is a data register, whose masks are single.
+/// Whether the word is `and d, a, x27`, and d is a data register, whose mask is that one step in
+/// the format.
 #[inline(always)]
 fn is_single_mask_word(format: Format, d: Reg, a: Reg, word: u32) -> bool
     ensures word { OnTrue result (IsWordOf word (Op And d a 27)) }
@@ -137,7 +145,8 @@ fn is_single_mask_word(format: Format, d: Reg, a: Reg, word: u32) -> bool
     op_word(RegOp::And, d, a, Reg::numbered(DATA_MASK_REGISTER)) == word
 }
 
-/// What is owed after a word that computes into a data register or x30.
+/// What is owed after a word that computes into a data register or x30, where nothing is owed
+/// before it: by the exact rule (`owed_by`).
 fn after_typed(format: Format, word: u32) -> Option<Owed>
     requires computes { IsWordThat word (Computes (bits word 11 7)) }
     requires typed { (is_data_register_in format (bits word 11 7) || (bits word 11 7 == 30)) ≡ true }
@@ -150,8 +159,8 @@ fn after_typed(format: Format, word: u32) -> Option<Owed>
     }
 }
 
-/// What is owed after a word that computes into a reserved or typed register; none where it isn't
-/// seen to break no rule.
+/// What is owed after a word that computes into a reserved or typed register, where nothing is owed
+/// before it. Not inlined, as most words compute into another.
 #[inline(never)]
 fn after_kept(format: Format, word: u32) -> Option<Owed>
     requires { IsWordThat word (Computes (bits word 11 7)) }
@@ -175,8 +184,7 @@ fn after_kept(format: Format, word: u32) -> Option<Owed>
     None
 }
 
-/// Whether a word with this outline breaks no rule, and leaves nothing owed, where nothing is owed
-/// before it.
+/// [`is_clean_alone`] for a word with this outline at `address`; false where it has none.
 #[inline(always)]
 fn is_known_clean_alone(place: &BundlePlace, address: u32, outline: Option<Outline>) -> bool
     requires within { IsWithin place.now }
@@ -190,8 +198,9 @@ fn is_known_clean_alone(place: &BundlePlace, address: u32, outline: Option<Outli
     }
 }
 
-/// Whether the word jumps or branches, and breaks no rule, and leaves nothing owed, where nothing is owed
-/// before it. A call for each opcode, so that the compiler drops outlines that it cannot have.
+/// Whether the word is a jump or branch that breaks no rule and leaves nothing owed, where nothing
+/// is owed before it. Each opcode has a call of its own, so that the compiler drops outlines that
+/// it cannot have.
 #[inline(always)]
 pub(crate) fn is_clean_other_word(place: &BundlePlace, address: u32, word: u32) -> bool
     requires within { IsWithin place.now }
@@ -206,7 +215,8 @@ pub(crate) fn is_clean_other_word(place: &BundlePlace, address: u32, word: u32) 
     }
 }
 
-/// What is owed after a word that neither computes nor accesses memory.
+/// What is owed after a word that neither computes nor accesses memory, where nothing is owed
+/// before it.
 fn after_outline(place: &BundlePlace, address: u32, word: u32) -> Option<Owed>
     requires within { IsWithin place.now }
     requires before_end { IsBeforeEnd place.now address 4 }
@@ -221,7 +231,8 @@ fn after_outline(place: &BundlePlace, address: u32, word: u32) -> Option<Owed>
     Some(Owed::Nothing)
 }
 
-/// What is owed after a word that isn't known to compute.
+/// What is owed after a word that isn't known to compute, where nothing is owed before it. Loads
+/// and stores are tested first.
 #[inline(always)]
 fn after_other(place: &BundlePlace, address: u32, word: u32) -> Option<Owed>
     requires within { IsWithin place.now }
@@ -242,7 +253,8 @@ fn after_other(place: &BundlePlace, address: u32, word: u32) -> Option<Owed>
     }
 }
 
-/// What is owed after a word before which nothing is owed.
+/// What is owed after a word before which nothing is owed. Most words compute, so this is tested
+/// first.
 #[inline(always)]
 fn after_nothing(place: &BundlePlace, address: u32, word: u32) -> Option<Owed>
     requires within { IsWithin place.now }
@@ -258,7 +270,8 @@ fn after_nothing(place: &BundlePlace, address: u32, word: u32) -> Option<Owed>
     after_other(place, address, word)
 }
 
-/// Whether the word is `and x31, d, x27`, and the mask of d has two steps.
+/// Whether the word is `and x31, d, x27`, and the mask of data register d has two steps in the
+/// format.
 fn is_data_masking_word_of(format: Format, d: u8, word: u32) -> bool
     ensures word { OnTrue result (IsWordOf word (Op And 31 d 27)) }
     ensures two_steps { OnTrue result (has_single_mask format ≡ false) }
@@ -273,7 +286,7 @@ fn is_data_masking_word_of(format: Format, d: u8, word: u32) -> bool
     is_data_masking_word(a, word)
 }
 
-/// Whether the word is `or d, x31, x26`, and d is a data register, whose mask has two steps.
+/// [`is_data_placing_word`] for the register that the word writes, which has to be d.
 fn is_data_placing_word_of(format: Format, d: u8, word: u32) -> bool
     ensures word { OnTrue result (IsWordOf word (Op Or d 31 26)) }
     ensures data { OnTrue result (is_data_register d ≡ true) }
@@ -286,7 +299,8 @@ fn is_data_placing_word_of(format: Format, d: u8, word: u32) -> bool
     is_data_placing_word(format, rd, word)
 }
 
-/// What is owed after a word that begins the mask of data register d.
+/// What is owed after a word that is the first or only step of the mask of data register d, where
+/// that is owed before it; `None` if it isn't.
 #[inline(always)]
 fn after_masking(format: Format, d: u8, word: u32) -> Option<Owed>
     ensures owed { (b : BundlePlace) (at : ℕ) → b.format ≡ format → IsBeforeEnd b at 4 →
@@ -316,7 +330,8 @@ fn is_code_placing_word(word: u32) -> bool
     op_word(RegOp::Or, code, code, Reg::numbered(CODE_BASE_REGISTER)) == word
 }
 
-/// Whether the word loads or stores on register d after its step, and breaks no rule.
+/// Whether the word is a load or store on d that may follow a step of d, with a small offset, and
+/// breaks no rule.
 fn is_clean_use(place: &BundlePlace, address: u32, d: u8, word: u32) -> bool
     requires within { IsWithin place.now }
     requires before_end { IsBeforeEnd place.now address 4 }
@@ -331,7 +346,8 @@ fn is_clean_use(place: &BundlePlace, address: u32, d: u8, word: u32) -> bool
     is_clean_alone(place, address, outline_of(instr))
 }
 
-/// What is owed after a word before which `owed`, which isn't nothing, is owed.
+/// What is owed after a word before which `owed`, which isn't nothing, is owed. Not inlined, since
+/// few words get here.
 #[inline(never)]
 fn after_owed(place: &BundlePlace, address: u32, owed: Owed, word: u32) -> Option<Owed>
     requires within { IsWithin place.now }
@@ -365,8 +381,8 @@ fn after_owed(place: &BundlePlace, address: u32, owed: Owed, word: u32) -> Optio
     }
 }
 
-/// Whether the halfword is a form that breaks no rule there, where nothing is owed, and leaves
-/// nothing owed.
+/// Whether the halfword at `address` is a 16-bit instruction that breaks no rule there, where
+/// nothing is owed before it, and leaves nothing owed.
 #[inline(always)]
 fn is_clean_half_alone(place: &BundlePlace, address: u32, halfword: u16) -> bool
     requires { IsWithin place.now }
@@ -378,7 +394,8 @@ fn is_clean_half_alone(place: &BundlePlace, address: u32, halfword: u16) -> bool
     }
 }
 
-/// What is owed after the two halfwords of a word, where they are forms that break no rule.
+/// What is owed after the two halfwords of a word, where both are 16-bit instructions. `None`
+/// wherever something is owed before them: the exact reading then decides.
 #[inline(always)]
 fn after_halves(place: &BundlePlace, address: u32, word: &[u8], owed: Owed) -> Option<Owed>
     requires within { IsWithin place.now }
@@ -400,7 +417,8 @@ fn after_halves(place: &BundlePlace, address: u32, word: &[u8], owed: Owed) -> O
     }
 }
 
-/// What is owed after a 32-bit instruction, where it is seen to break no rule.
+/// What is owed after a word whose two lowest bits are 11, which is a 32-bit instruction if it is
+/// any.
 #[inline(always)]
 fn look_at_wide_word(place: &BundlePlace, address: u32, owed: Owed, word: u32) -> Option<Owed>
     requires within { IsWithin place.now }
@@ -415,7 +433,8 @@ fn look_at_wide_word(place: &BundlePlace, address: u32, owed: Owed, word: u32) -
     }
 }
 
-/// What is owed after the word, where it is seen to break no rule. It isn't the region's last.
+/// What is owed after the word of these four bytes, where it is seen to break no rule with `owed`
+/// before it; `None` where it isn't. It isn't the region's last.
 #[inline(always)]
 pub(crate) fn look_at_word(
     place: &BundlePlace,

@@ -1,4 +1,7 @@
-//! What the next instructions owe: the state of a scan.
+//! What is owed, the state of a scan of code in words: what the next instruction has to do
+//! (`Owed`), because an earlier one wrote a data register or x30. Each function says what the
+//! definition of about the same name in specs/words/Rules or specs/words/Findings of `sfi_rules`
+//! does. `format` says which registers are data registers, and whether masks have two steps or one.
 ghost use Rattle.std.specs.Prelude.{◌≡◌};
 ghost use Rattle.rv_word.specs.Outlines.{destination};
 ghost use Rattle.sfi_rules.specs.words.Rules.{left, owed_by_mask, owed_by_data, owed_by_code, owed_by, joined, is_of_data, is_of_code};
@@ -40,7 +43,8 @@ fn owed_by_mask(format: Format, d: u8) -> Owed
     }
 }
 
-/// What is still owed after the instruction; none where it isn't an instruction that was owed.
+/// What is left of `owed` after the instruction: nothing if it does what is owed, or the second
+/// step of a mask; `None` if it doesn't, which breaks V10 or V11. `left` of specs/words/Rules.
 fn owed_still(format: Format, owed: Owed, instr: &Instr) -> Option<Owed>
     ensures { result ≡ left format owed instr.now }
 {
@@ -59,7 +63,8 @@ fn owed_still(format: Format, owed: Owed, instr: &Instr) -> Option<Owed>
     }
 }
 
-/// What must come after this write of data register `d`; none where nothing can make it right.
+/// What must come after `instr`, which writes data register `d`; `None` where nothing can make that
+/// right, since it is a jump.
 fn owed_by_data(format: Format, d: u8, instr: &Instr) -> Option<Owed>
     ensures { result ≡ owed_by_data format d instr.now }
 {
@@ -74,7 +79,8 @@ fn owed_by_data(format: Format, d: u8, instr: &Instr) -> Option<Owed>
     }
 }
 
-/// What must come after this write of the code register; none where nothing can make it right.
+/// What must come after `instr`, which writes the code register x30; `None` where nothing can make
+/// that right, since it is no step of its mask.
 fn owed_by_code(instr: &Instr) -> Option<Owed>
     ensures { result ≡ owed_by_code instr.now }
 {
@@ -87,7 +93,8 @@ fn owed_by_code(instr: &Instr) -> Option<Owed>
     }
 }
 
-/// What must come after the instruction, by what it writes; none where nothing can make it right.
+/// What must come after the instruction, by the register that it writes; `None` where nothing can
+/// make the write right.
 pub(crate) fn owed_by(format: Format, instr: &Instr) -> Option<Owed>
     ensures { result ≡ owed_by format instr.now }
 {
@@ -105,8 +112,9 @@ pub(crate) fn owed_by(format: Format, instr: &Instr) -> Option<Owed>
     }
 }
 
-/// What an instruction makes of what is owed: what is left of it, none where the instruction isn't one
-/// that was owed, and what it owes itself, none where nothing can make its write right.
+/// What an instruction makes of what is owed. `left` is what is left of what was owed before it,
+/// `None` where it doesn't do that; `own` what must come after it by its own write, `None` where
+/// nothing can make that right.
 #[derive(Clone, Copy)]
 pub(crate) struct Owing {
     left: Option<Owed>,
@@ -114,7 +122,7 @@ pub(crate) struct Owing {
 }
 
 impl Owing {
-    /// What the instruction makes of `owed`.
+    /// What the instruction makes of `owed`, which is owed before it.
     pub(crate) fn of(format: Format, owed: Owed, instr: &Instr) -> Owing
         ensures left { result.left ≡ left format owed instr.now }
         ensures own { result.own ≡ owed_by format instr.now }
@@ -125,7 +133,9 @@ impl Owing {
         }
     }
 
-    /// What is owed after the instruction, whether it meets what was owed before it or not.
+    /// What is owed after the instruction, whether it did what was owed or not: what it writes
+    /// itself counts anew. An instruction after which something is left writes x31 alone, and so
+    /// asks for nothing itself.
     pub(crate) fn next(self) -> Owed
         ensures { result ≡ joined self.left self.own }
     {
@@ -139,7 +149,9 @@ impl Owing {
     }
 }
 
-/// Whether the instruction breaks V10.
+/// Whether the instruction breaks V10: it doesn't do what is owed by a write of a data register, or
+/// writes one so that nothing can make it right. `owing` is what it makes of `owed`, which is owed
+/// before it.
 pub(crate) fn fails_data(format: Format, owed: Owed, owing: Owing, instr: &Instr) -> bool
     requires left { owing.left ≡ left format owed instr.now }
     requires own { owing.own ≡ owed_by format instr.now }
@@ -149,7 +161,8 @@ pub(crate) fn fails_data(format: Format, owed: Owed, owing: Owing, instr: &Instr
         || (writes_data(format, instr) && owing.own.is_none())
 }
 
-/// Whether the instruction breaks V11.
+/// Whether the instruction breaks V11: it doesn't do what is owed by a write of x30, or writes it
+/// so that nothing can make it right. `owing` is what it makes of `owed`, which is owed before it.
 pub(crate) fn fails_code(format: Format, owed: Owed, owing: Owing, instr: &Instr) -> bool
     requires left { owing.left ≡ left format owed instr.now }
     requires own { owing.own ≡ owed_by format instr.now }

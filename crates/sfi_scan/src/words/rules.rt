@@ -1,4 +1,6 @@
-//! The rules, each as a test on an instruction and what is owed before it.
+//! The rules of code in words, each as a test on an instruction and what is owed before it (`Owed`:
+//! what it has to do, because an earlier one wrote a typed register). Each says what the definition
+//! of about the same name in specs/words of `sfi_rules` does. `address` is the instruction's own.
 ghost use Rattle.std.specs.Prelude.{◌≡◌};
 ghost use Rattle.sfi_pairs.specs.Pairs.{is_placing};
 ghost use Rattle.sfi_rules.specs.Readings.{IsWithin};
@@ -87,7 +89,7 @@ pub(crate) fn is_pointer_step(d: u8, instr: &Instr) -> bool
 
 // ---- the rules
 
-/// Whether the address is that of a listed gate.
+/// Whether the absolute address `address` is that of a listed gate: only a bundle's first can be.
 fn is_at_gate(place: &BundlePlace, address: u32) -> bool
     ensures { result ≡ is_at_gate place.now address }
 {
@@ -104,14 +106,15 @@ fn breaks_ecall_in_words(place: &BundlePlace, address: u32, instr: &Instr) -> bo
     }
 }
 
-/// Whether an access may have this base register: a data register, or the data base.
+/// Whether a load or store may have this base register: a data register of the format, or x26,
+/// which holds the data's base.
 pub(crate) fn is_access_base(format: Format, base: Reg) -> bool
     ensures { result ≡ may_access format base }
 {
     is_data_register_in(format, base) || base.number() == DATA_BASE_REGISTER
 }
 
-/// Whether the instruction breaks V4: it writes a reserved register.
+/// Whether the instruction breaks V4: it writes a register that is reserved in the format.
 fn breaks_reserved_in_words(format: Format, instr: &Instr) -> bool
     ensures { result ≡ breaks_reserved format instr.now }
 {
@@ -121,7 +124,8 @@ fn breaks_reserved_in_words(format: Format, instr: &Instr) -> bool
     }
 }
 
-/// Whether the instruction breaks V5: an access on another base register.
+/// Whether the instruction breaks V5: a load or store on a register that [`is_access_base`] doesn't
+/// allow.
 fn breaks_access_in_words(format: Format, instr: &Instr) -> bool
     ensures { result ≡ breaks_access format instr.now }
 {
@@ -131,7 +135,7 @@ fn breaks_access_in_words(format: Format, instr: &Instr) -> bool
     }
 }
 
-/// Whether the instruction breaks V6: a `jalr` with an offset, or not on the code register.
+/// Whether the instruction breaks V6: a `jalr` with an offset, or not on the code register x30.
 fn breaks_jump_in_words(instr: &Instr) -> bool
     ensures { result ≡ breaks_jump instr.now }
 {
@@ -141,7 +145,8 @@ fn breaks_jump_in_words(instr: &Instr) -> bool
     }
 }
 
-/// Whether a word of the code region begins at the address.
+/// Whether a word of the code region begins at the absolute address `address`, so that a jump may
+/// lead there.
 pub(crate) fn is_word_start(place: &BundlePlace, address: u32) -> bool
     requires { IsWithin place.now }
     ensures { result ≡ is_word_start place.now.code_base place.now.code_size address }
@@ -172,7 +177,8 @@ fn breaks_offset(format: Format, instr: &Instr) -> bool
         && !(format.has_single_mask() || is_masking(DATA_MASK_REGISTER, OFFSET_REGISTER, instr))
 }
 
-/// Whether the instruction breaks V8: it ends the code region, and control may run on past it.
+/// Whether the instruction of `size` bytes breaks V8: it ends the code region, and control may go
+/// on to the address after it.
 fn breaks_last(place: &BundlePlace, address: u32, size: u32, owed: Owed, instr: &Instr) -> bool
     requires within { IsWithin place.now }
     requires inside { IsInside place.now address size }
@@ -187,7 +193,10 @@ fn breaks_last(place: &BundlePlace, address: u32, size: u32, owed: Owed, instr: 
     address - place.code_base == place.code_size - size && !ends_region(instr)
 }
 
-/// The lowest rule that the instruction of `size` bytes at `address` breaks, if any.
+/// The lowest rule that the instruction of `size` bytes at `address` breaks, of those that look at
+/// instructions; `None` if it breaks none. `owing` is what it makes of `owed`, which is owed before
+/// it. The tests go in the order of the rules' numbers. V1 and V2 are found where words are read;
+/// V9 is none here.
 pub(crate) fn lowest_rule_in_words(
     place: &BundlePlace,
     address: u32,

@@ -1,4 +1,6 @@
-//! The scan of one word of code in words.
+//! The scan of one word of code in words: one instruction of 32 bits, or two of 16. Each function
+//! takes what is owed before it (`Owed`: what it has to do, because an earlier one wrote a typed
+//! register), and returns what is owed after it. It appends to `found`.
 ghost use Rattle.std.specs.Prelude.{◌≡◌, ◌+◌, ◌*◌, ◌≤◌, ◌<◌, ◌++◌, List, Some, length};
 ghost use Rattle.sfi_rules.specs.Readings.{IsWithin};
 ghost use Rattle.sfi_rules.specs.declared.finding.Finding.{Finding};
@@ -26,7 +28,8 @@ fn add_finding(place: &BundlePlace, address: u32, rule: Rule, found: &mut Bundle
     });
 }
 
-/// Adds the finding of the instruction, if it has one, and answers what is owed after it.
+/// Appends the finding of the instruction of `size` bytes, if it has one: of the lowest rule that
+/// it breaks. Returns what is owed after it.
 fn scan_instruction(
     place: &BundlePlace,
     address: u32,
@@ -55,8 +58,8 @@ fn scan_instruction(
     owing.next()
 }
 
-/// Adds the findings of the word at `address`, instruction by instruction, and answers what is owed
-/// after it.
+/// Appends the findings of the word at `address`, instruction by instruction, and returns what is
+/// owed after it: nothing after bytes that can't be read. Not inlined, since few words get here.
 #[inline(never)]
 fn scan_word_exactly(
     place: &BundlePlace,
@@ -98,8 +101,9 @@ fn scan_word_exactly(
     }
 }
 
-/// Adds the findings of the word at `address`, and answers what is owed after it. Most have none,
-/// so a look comes first; the region's end has a rule of its own.
+/// Appends the findings of the word of these four bytes at `address`, two at most, and returns what
+/// is owed after it. Most have none, so a first look comes before the exact reading, but at the
+/// region's last word, which has a rule of its own.
 #[inline(always)]
 pub(crate) fn scan_word(
     place: &BundlePlace,
