@@ -3,8 +3,9 @@ ghost use Rattle.std.specs.Prelude.{◌≡◌};
 
 use sfi_formats::Format;
 
-/// A rule of sandboxed code. What breaks it depends on whether code is in bundles, as in the first two
-/// formats, or in words.
+/// A rule of sandboxed code. What breaks it depends on whether code is in bundles, as in the first
+/// two formats, or in words. The variants here say it for readers; the definitions are in
+/// specs/Rules, for words in specs/words.
 #[derive(Clone, Copy, PartialEq, Eq, Debug)]
 pub enum Rule {
     /// The bytes are no instruction.
@@ -45,7 +46,7 @@ impl Rule {
     ghost use Rattle.sfi_rules.specs.Rules.{number_of, numbered, rule_name};
     ghost use Rattle.sfi_rules.specs.declared.rule.Rule.TheVariants.{V10};
 
-    /// The rule's number, 1 for V1 and so on.
+    /// The rule's number, 1 for V1 and so on: C and reports know the rule by it.
     pub fn number(self) -> u32
         ensures { result ≡ number_of self }
     {
@@ -65,7 +66,8 @@ impl Rule {
         }
     }
 
-    /// Rule `number`, if there is one.
+    /// The rule of that number, which is what [`number`](Rule::number) gives for it; `None` if it
+    /// isn't 1 to 12.
     pub fn numbered(number: u32) -> Option<Rule>
         ensures { result ≡ numbered number }
     {
@@ -86,7 +88,8 @@ impl Rule {
         }
     }
 
-    /// The rule's name in the format.
+    /// The rule's name in reports, of an image of that format: V10 alone has two. The tables of
+    /// docs/IMAGE.md have these names, too.
     pub fn name(self, format: Format) -> &'static str
         ensures { result.now ≡ rule_name format self }
     {
@@ -106,7 +109,7 @@ impl Rule {
         }
     }
 
-    /// The name of V10 in the format.
+    /// The name of V10: in words it is about data registers, else about the stack pointer.
     fn name_of_typed(format: Format) -> &'static str
         ensures { result.now ≡ rule_name format V10 }
     {
