@@ -32,7 +32,8 @@ impl<'a> Model for Accepted<'a> {
 }
 
 impl<'a> Accepted<'a> {
-    /// Marks the image, which is clean, as accepted.
+    /// Marks the image as accepted. Its caller knows that it is clean: that no rule is broken in
+    /// it.
     pub(crate) fn new(image: Image<'a>) -> Accepted<'a>
         requires { IsClean image }
         ensures { result ≡ image.entry }
@@ -59,7 +60,7 @@ impl<'a> Accepted<'a> {
         self.image.parts().len()
     }
 
-    /// How many bundles the code regions have together.
+    /// How many bundles, of 16 bytes in each format, the code regions have together.
     pub fn bundle_count(&self) -> usize
         ensures count { result ≡ bundle_count self.now }
         ensures clean { IsClean self.now }

@@ -43,7 +43,7 @@ pub enum ConvertFault {
 }
 
 impl ConvertFault {
-    /// The fault's number, 1 to 5.
+    /// The fault's number, 1 to 5. The texts of `NotOld` and `Words` above have it, too.
     pub fn number(&self) -> u32
         ensures { result ≡ number_of self.now }
     {
@@ -71,7 +71,8 @@ impl From<Refusal> for ConvertFault {
     }
 }
 
-/// Refuses sandboxes that break a rule of the second format.
+/// Judges the sandboxes by the rules of the second format: an error, `Stack` with all findings, if
+/// they break one.
 fn check_stack(alloc: Global, parts: &[SandboxPart<'_>]) -> Result<(), ConvertFault>
     requires { IsRightLayout (views Sfi2 parts.now) }
     ensures { ChecksStack (views Sfi2 parts.now) result }
@@ -86,7 +87,8 @@ fn check_stack(alloc: Global, parts: &[SandboxPart<'_>]) -> Result<(), ConvertFa
     }
 }
 
-/// The conversion of an accepted image of code in bundles, or its findings under the second format's rules.
+/// The bytes of the same sandboxes in the second format, or `Stack` if they break one of its rules.
+/// Code in bundles alone.
 fn convert_accepted(alloc: Global, accepted: &Accepted<'_>) -> Result<Vec<u8>, ConvertFault>
     requires bundles { has_words (format_of accepted.now) ≡ false }
     ensures { Converts accepted.now result }

@@ -16,13 +16,15 @@ use sfi_formats::BUNDLE_BYTES;
 use sfi_image::{LayoutFault, LayoutReader, Want};
 use sfi_scan::{BUNDLE_BY_BUNDLE, FindingSink, Owed};
 
-/// The size of the array for the bytes that are held. At most 27 are: what comes next of an image has at
-/// most 28 bytes, and a part of it is held only until it is whole.
+/// The size in bytes of the array for the bytes that are held. At most 27 are: what comes next of
+/// an image has at most 28 bytes, and a part of it is held only until it is whole. `SfiStream` of
+/// `sfi_c` has an array of the same size.
 const ROOM: usize = 64;
 
 /// What is known of the bytes that were fed so far, in any pieces. It takes no memory.
 ///
-/// The fields are public so that a caller may keep them elsewhere between two pieces, as C does.
+/// The fields are public so that a caller may keep them elsewhere between two pieces, as C does: a
+/// new one has to be in `SfiStream` of `sfi_c`, too.
 #[derive(Drop)]
 pub struct Feed {
     /// The reader of the layout, which has taken all bytes before those that are held.
@@ -59,7 +61,8 @@ impl Feed {
         }
     }
 
-    /// Keeps the bytes that are left of a piece in `held`.
+    /// Keeps the bytes that are left of a piece, fewer than 28, in `held`, instead of those held
+    /// before.
     fn hold(&mut self, bytes: &[u8])
         requires { length bytes.now < 28 }
         ensures reader { self.new.reader ≡ self.old.reader }
@@ -73,8 +76,8 @@ impl Feed {
         self.count = bytes.len();
     }
 
-    /// Takes a piece that begins with the held bytes: hands it to the reader and the scan, as far as
-    /// what comes next is whole, and holds what is left.
+    /// Takes `bytes`, which begin with the held bytes: hands them to the reader and the scan, as
+    /// far as what comes next is whole, and holds what is left. After a fault it drops the rest.
     fn take_all<F: FindingSink, const BLOCKS: bool>(&mut self, bytes: &[u8], sink: &mut F)
         requires fault { self.old.fault ≡ None }
         requires long { length self.old.held ≡ 64 }
@@ -106,7 +109,8 @@ impl Feed {
         }
     }
 
-    /// How many bytes what comes next has, which begins with the held bytes; or how many may be held.
+    /// How many bytes the field or bundle has that comes next, and begins with the held bytes;
+    /// `ROOM` where neither comes next.
     fn wanted(&self) -> usize
         requires front { (x : ImagePrefix) × StandsFor self.now.reader x }
         requires cut { IsCut self.now.reader self.now.count }
@@ -120,8 +124,9 @@ impl Feed {
         }
     }
 
-    /// Takes bytes from the front of `bytes`, and says how many: where some are held, as many as
-    /// make what comes next whole with these, and else all.
+    /// Takes bytes from the front of `bytes`, and returns how many: where some are held, as many as
+    /// make what comes next whole with these, and else all. After a fault all, which change
+    /// nothing.
     fn top_up<F: FindingSink, const BLOCKS: bool>(&mut self, bytes: &[u8], sink: &mut F) -> usize
         requires some { 0 < length bytes.now }
         requires fed { (first : F) × (before : List ℕ)
@@ -147,7 +152,9 @@ impl Feed {
         more
     }
 
-    /// Takes the bytes that come next, and hands the findings in them to the sink.
+    /// Takes the bytes that come next, any number of them, and hands the findings in what is whole
+    /// with them to the sink. `BLOCKS` says how code is scanned: `IN_BLOCKS` or `BUNDLE_BY_BUNDLE`
+    /// of `sfi_scan`.
     pub(crate) fn feed_into<F: FindingSink, const BLOCKS: bool>(
         &mut self,
         bytes: &[u8],
@@ -165,7 +172,8 @@ impl Feed {
         }
     }
 
-    /// Takes the bytes that come next.
+    /// Takes the bytes that come next, any number of them. It scans bundle by bundle, which is less
+    /// machine code, for devices.
     pub fn feed(&mut self, bytes: &[u8])
         requires { (before : List ℕ) × IsFed self.old before }
         ensures { (before : List ℕ) → IsFed self.old before

@@ -7,7 +7,7 @@ ghost use Rattle.sfi_check.specs.private.{verdict_for_c};
 use crate::stream_answer::StreamAnswer;
 use sfi_scan::Finding;
 
-/// What a verdict says of the bytes.
+/// What a verdict says of the bytes: `enum sfi_status` of `sfi_c`'s include/sfi.h.
 #[derive(Clone, Copy, PartialEq, Eq, Debug)]
 pub enum Status {
     /// They are an image in which no rule is broken.
@@ -33,7 +33,8 @@ impl Status {
     }
 }
 
-/// A rule that is broken, and where: `struct sfi_finding`.
+/// A rule that is broken, and where: `struct sfi_finding` of `sfi_c`'s include/sfi.h, field for
+/// field.
 #[repr(C)]
 #[derive(Clone, Copy, PartialEq, Eq, Debug)]
 pub struct SfiFinding {
@@ -49,7 +50,7 @@ pub struct SfiFinding {
 impl SfiFinding {
     ghost use Rattle.sfi_check.specs.ForC.{finding_for_c, no_finding};
 
-    /// The finding for C.
+    /// The finding as C gets it: the rule by its number.
     pub fn from_finding(finding: Finding) -> SfiFinding
         ensures { result ≡ finding_for_c finding }
     {
@@ -72,7 +73,8 @@ impl SfiFinding {
     }
 }
 
-/// The verdict on an image: `struct sfi_verdict`. What its status doesn't speak of is 0.
+/// The verdict on an image: `struct sfi_verdict` of `sfi_c`'s include/sfi.h, field for field. A
+/// field that belongs to another status than this one is 0.
 #[repr(C)]
 #[derive(Clone, Copy, PartialEq, Eq, Debug)]
 pub struct SfiVerdict {
@@ -82,7 +84,7 @@ pub struct SfiVerdict {
     pub layout_fault: u32,
     /// Accepted: how many sandboxes the image has, 1 to 16.
     pub sandboxes: u32,
-    /// Accepted: how many bundles of code they have together.
+    /// Accepted: how many bundles of code, of 16 bytes in each format, they have together.
     pub bundles: u32,
     /// Refused: how often rules are broken, at least 1.
     pub findings: u32,
@@ -127,7 +129,7 @@ fn no_image(layout_fault: u32) -> SfiVerdict
     }
 }
 
-/// The verdict that says what `answer` says.
+/// The verdict that says to C what `answer` says. All bytes were read, so no read failed.
 fn verdict_for_c(answer: StreamAnswer) -> SfiVerdict
     requires { answer ≢ StreamAnswer.ReadFault }
     ensures { result ≡ verdict_for_c answer }

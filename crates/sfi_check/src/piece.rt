@@ -12,14 +12,14 @@ use sfi_formats::BUNDLE_BYTES;
 use sfi_image::{LayoutFault, LayoutReader, Want};
 use sfi_scan::{BundlePlace, FindingSink, scan_stretch};
 
-/// How one step ends.
+/// What one call of [`feed_next`] did.
 #[derive(Clone, Copy)]
 pub(crate) enum FeedEnd {
     /// It took this number of bytes.
     Took(usize),
-    /// More bytes are wanted than there are.
+    /// It took nothing: what comes next has more bytes than there are.
     Short,
-    /// The image is whole.
+    /// It took nothing: the image is whole, and a byte that follows is a fault.
     Whole,
     /// A test of the layout failed.
     Fault(LayoutFault),
@@ -37,8 +37,9 @@ fn take_bytes(reader: &mut LayoutReader, bytes: &[u8]) -> FeedEnd
     }
 }
 
-/// Hands the bundles that come next to the reader, as many as there are before the next gate, and
-/// scans them.
+/// Hands the bundles that come next to the reader, and scans them: all whole ones at the front of
+/// `rest`, up to the next gate's bundle or the region's end, since a scan takes one stretch.
+/// `place` is that of the first.
 #[inline(always)]
 fn feed_code<F: FindingSink, const BLOCKS: bool>(
     reader: &mut LayoutReader,
@@ -72,7 +73,8 @@ fn feed_code<F: FindingSink, const BLOCKS: bool>(
     FeedEnd::Took(len)
 }
 
-/// Hands what comes next to the reader, if its bytes are there, and scans it if it is code.
+/// Hands what comes next to the reader, if its bytes are at the front of `rest`, and scans it if it
+/// is code: its findings go to the tally and to the sink. Nothing may have failed before.
 #[inline(always)]
 pub(crate) fn feed_next<F: FindingSink, const BLOCKS: bool>(
     reader: &mut LayoutReader,

@@ -10,10 +10,11 @@ use crate::stream_answer::StreamAnswer;
 use sfi_image::{ByteSource, ReadFault};
 use sfi_scan::{FindingSink, IN_BLOCKS};
 
-/// How many bytes are read at a time, at most.
+/// How many bytes are read at a time, at most. The contracts below have this number, too.
 const PIECE: usize = 4096;
 
-/// Reads bytes to the front of the piece, `most` of them at most.
+/// Reads bytes to the front of the piece, `most` of them at most. Returns how many; 0 is the
+/// stream's end.
 fn read_next_bytes<S: ByteSource>(
     source: &mut S,
     piece: &mut [u8; PIECE],

@@ -12,6 +12,6 @@ pub enum StreamAnswer {
     Layout(LayoutFault),
     /// Rules are broken: how many findings there are, and the first by sandbox and address.
     Findings { count: u32, first: Finding },
-    /// A read failed.
+    /// A read failed, so nothing is said of the bytes.
     ReadFault,
 }

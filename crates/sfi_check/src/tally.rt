@@ -1,4 +1,4 @@
-//! What was found so far.
+//! What was found so far, in numbers: what a verdict needs of the findings, without a list of them.
 ghost use Rattle.std.specs.Prelude.{◌≡◌, ◌==◌, ◌+◌, ◌<◌, ◌≤◌, ◌^◌, ◌++◌, List, cond, length, slice_get};
 ghost use Rattle.sfi_formats.specs.Limits.{sandboxes_most};
 ghost use Rattle.sfi_rules.specs.declared.finding.Finding.{Finding};
@@ -17,7 +17,8 @@ pub struct Tally {
     pub count: u32,
     /// The first finding, by sandbox and then by address.
     pub first: Option<Finding>,
-    /// What is owed after the code of the last bundle, where code is in words.
+    /// What is owed after the code of the last bundle, where code is in words: what the next
+    /// instruction has to do, because an earlier one wrote a typed register.
     pub owed: Owed,
 }
 
@@ -45,7 +46,8 @@ impl Tally {
         }
     }
 
-    /// Counts `bundles` more bundles of sandbox `sandbox`, and the sandboxes up to that one.
+    /// Counts `bundles` more bundles of sandbox `sandbox`, counted from 0, and the sandboxes up to
+    /// that one.
     #[inline]
     pub(crate) fn add_bundles(&mut self, sandbox: u32, bundles: u32)
         requires room { self.old.bundles + bundles < 2 ^ 32 }
@@ -59,7 +61,8 @@ impl Tally {
         self.bundles += bundles;
     }
 
-    /// Counts the findings of a bundle, which come after those so far.
+    /// Counts the findings of a bundle, which come after those so far. The count never wraps: an
+    /// image has fewer than 2^32 instructions, and each at most one finding.
     #[inline]
     pub(crate) fn add_findings(&mut self, found: &BundleFindings)
         ensures { Counts self.old self.new found.now }

@@ -58,8 +58,8 @@ pub fn accept<'a>(alloc: Global, bytes: &'a [u8]) -> Result<Accepted<'a>, AllocE
     }
 }
 
-/// The findings of the sandboxes, if they were those of an image of this format, by sandbox and
-/// then by address.
+/// The findings that the sandboxes would have in an image of this format, which needn't be their
+/// own, by sandbox and then by address. An error means that memory ran out.
 pub(crate) fn findings_as(
     alloc: Global,
     format: Format,
