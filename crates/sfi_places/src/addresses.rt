@@ -10,7 +10,9 @@ ghost use Rattle.sfi_places.specs.private.{IsReplaced, GoesTo, GatesGo, CanMove}
 use crate::numbers::{read_number, write_number};
 use sfi_formats::Place;
 
-// Where some numbers of a sandbox lie, counted from its first byte, and how many bytes a gate has.
+// Where some numbers of a sandbox lie in its image, in bytes from its first one: a sandbox begins
+// with seven numbers of four bytes, and its gates follow (specs/Spelling of `sfi_image`). And how
+// many bytes a gate has.
 const DATA_BASE_AT: usize = 8;
 
 const START_AT: usize = 16;
@@ -19,7 +21,8 @@ pub(crate) const GATES_AT: usize = 28;
 
 const GATE_BYTES: usize = 8;
 
-/// Moves the address at `offset` of the image by as much as `to` is from `from`.
+/// Moves the address that the image has at byte `offset` by as much as `to` is from `from`, the old
+/// base of its region.
 fn write_address(image: &mut [u8], offset: usize, from: u32, to: u32)
     requires { (at : ℕ) × GoesTo from to at × LiesAt image.old offset (number at) }
     ensures { (at : ℕ) → GoesTo from to at
@@ -29,8 +32,8 @@ fn write_address(image: &mut [u8], offset: usize, from: u32, to: u32)
     write_number(image, offset, to + (address - from));
 }
 
-/// Moves the addresses of `gate_count` gates, the first of which stands at `offset`, by as much as
-/// `to` is from `from`.
+/// Moves the addresses of `gate_count` gates, the first of which the image has at byte `offset`, by
+/// as much as the code base `to` is from the old one, `from`.
 fn move_gates(image: &mut [u8], offset: usize, gate_count: u32, from: u32, to: u32)
     requires { (gs : List Gate) × (length gs ≡ gate_count) × GatesGo from to gs
         × LiesAt image.old offset (flat_map gate gs) }
@@ -43,7 +46,9 @@ fn move_gates(image: &mut [u8], offset: usize, gate_count: u32, from: u32, to: u
     }
 }
 
-/// Writes the sandbox at the offset, which lies at `from` and has `gate_count` gates, for the place `to`.
+/// Writes the fields and gates of the sandbox whose bytes begin at `offset`, which lies at `from`
+/// and has `gate_count` gates, for the place `to`. It tests nothing, and is undone by the call with
+/// both swapped.
 pub(crate) fn write_place(image: &mut [u8], offset: usize, gate_count: u32, from: Place, to: Place)
     requires { (p : Part) × CanMove from to gate_count p × LiesAt image.old offset (part p) }
     ensures { (p : Part) → CanMove from to gate_count p

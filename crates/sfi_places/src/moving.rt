@@ -36,7 +36,8 @@ impl From<LayoutFault> for MoveFault {
     }
 }
 
-/// The fields of the image's sandbox `number`, the offset of its first byte, and that where it ends.
+/// The fields of the image's sandbox `number`, counted from 0, the offset of its first byte in the
+/// image, and that of the first byte after it.
 fn fields_of_sandbox(image: &[u8], number: u32) -> Result<(Fields, usize, usize), MoveFault>
     ensures found { IfOk result (λ f. (p : Part) × (h : IsSandboxOf image.now number p)
         × (f.0 ≡ fields_of p) × (f.1 ≡ sandbox_offset h.parts number)
@@ -50,7 +51,7 @@ fn fields_of_sandbox(image: &[u8], number: u32) -> Result<(Fields, usize, usize)
     Ok((view.fields, end - length - GATES_AT, end))
 }
 
-/// Whether the bytes are an image.
+/// Whether the bytes are an image: whether no test of the layout fails. Its code isn't judged.
 fn is_image(bytes: &[u8]) -> bool
     ensures image { OnTrue result ((ps : List Part) × IsImage bytes.now ps) }
     ensures fault { OnFalse result ((k : LayoutFault) × IsFault bytes.now k) }
@@ -58,7 +59,9 @@ fn is_image(bytes: &[u8]) -> bool
     sandbox_of(bytes, 0).is_ok()
 }
 
-/// Moves the sandbox to the place, if that is right.
+/// Moves the sandbox to the place, if that is right. The code base is tested first, so that no
+/// moved address passes 2^32; the rest is seen at the image as it would be, which is written back
+/// if that is none.
 fn try_move(image: &mut [u8], number: u32, code_base: u32, data_base: u32) -> Result<(), MoveFault>
     ensures moved { OnOk result (IsMoved image.old number
         (record { code_base = code_base; data_base = data_base }) image.new) }

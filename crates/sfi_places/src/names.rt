@@ -19,14 +19,15 @@ const NAME_AT: usize = 5;
 
 const FOOTER_BYTES: usize = 16;
 
-/// Whether the address is one of the `size` addresses from `base` on.
+/// Whether the address is one of the `size` addresses from `base` on, those of a region.
 fn is_within(base: u32, size: u32, address: u32) -> bool
     ensures { result ≡ holds (record { base = base; size = size }) address }
 {
     base <= address && address - base < size
 }
 
-/// What an address is where the sandbox with these fields lies at the place.
+/// What an address becomes where the sandbox with these fields moves to the place. One in neither
+/// of its regions stays.
 fn address_there(fields: &Fields, to: Place, address: u32) -> u32
     requires { HasRoomThere fields.now to }
     ensures { result ≡ address_there fields.now to address }
@@ -40,7 +41,9 @@ fn address_there(fields: &Fields, to: Place, address: u32) -> u32
     address
 }
 
-/// Writes the entry at the offset for the place, and says how many bytes it has.
+/// Writes the entry at byte `at` of the image for the place, and returns how many bytes it has. One
+/// whose name begins with a dot is a claim of the tools (tools/suygapid/image/names.py): it has a
+/// number, no address, and stays.
 fn write_entry(image: &mut [u8], at: usize, fields: &Fields, to: Place) -> usize
     requires room { HasRoomThere fields.now to }
     requires lies { (e : Named) × IsNamed e × LiesAt image.old at (entry e) }
@@ -72,7 +75,8 @@ fn write_entries(image: &mut [u8], begin: usize, end: usize, fields: &Fields, to
     }
 }
 
-/// How many bytes the entries have of the table in which the bytes end, if they end in one.
+/// How many bytes the entries, exports and imports, have of the table of names in which the bytes
+/// end; `None` if they don't end in one.
 fn entries_len(bytes: &[u8]) -> Option<usize>
     ensures found { IfSome result (λ n. (t : Table) × HasTable bytes.now t
         × (n ≡ length (entries t.exports) + length (entries t.imports))) }
@@ -84,8 +88,8 @@ fn entries_len(bytes: &[u8]) -> Option<usize>
     }
 }
 
-/// Writes the first data bytes of the sandbox with these fields, from offset `begin` to `end`, for the
-/// place: the table of names in which they end, if they end in one.
+/// Writes the table of names for the place, if the first data bytes of the sandbox with these
+/// fields end in one. They lie from byte `begin` of the image up to `end`.
 pub(crate) fn write_names(image: &mut [u8], begin: usize, end: usize, fields: &Fields, to: Place)
     requires room { HasRoomThere fields.now to }
     requires lies { (first : List ℕ) × LiesAt image.old begin first
