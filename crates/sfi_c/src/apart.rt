@@ -23,7 +23,9 @@ fn bounds_of(part: &SfiPart) -> Bounds
     }
 }
 
-/// Whether no region or guard zone of one meets one of the other, nor a zone at zero of the other.
+/// Whether no region or guard zone of one has an address in common with one of the other, nor with
+/// a zone at zero of the other: that is the addresses below its data size + 4096 and the last 4096,
+/// if it is of the fourth format.
 fn are_told_apart(one: &SfiPart, other: &SfiPart) -> bool
     ensures { IsTrue result ↔ AreToldApart one.now other.now }
 {
@@ -31,7 +33,8 @@ fn are_told_apart(one: &SfiPart, other: &SfiPart) -> bool
 }
 
 /// Tells whether no region or guard zone of one has an address in common with one of the other, nor
-/// with a zone at zero of the other, by their formats, bases and sizes alone.
+/// with a zone at zero of the other, by their formats, bases and sizes alone: so sandboxes of two
+/// images may lie in memory together.
 #[unsafe(no_mangle)]
 pub extern "C" fn sfi_c_apart(one: &SfiPart, other: &SfiPart) -> bool
     ensures apart { IsTrue result ↔ AreToldApart one.now other.now }

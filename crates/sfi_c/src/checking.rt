@@ -1,4 +1,4 @@
-//! The calls that C makes.
+//! The calls by which C gets the verdict on an image that lies in memory as a whole.
 ghost use Rattle.std.specs.Prelude.{◌≡◌, ◌≢◌, ◌≤◌, List, ◌∷◌, length};
 ghost use Rattle.sfi_image.specs.declared.fault.LayoutFault.{LayoutFault};
 ghost use Rattle.sfi_image.specs.Spelling.{Part};
@@ -12,7 +12,8 @@ ghost use Rattle.sfi_c.specs.Parts.{with_findings};
 use crate::finding::{Array, write_findings};
 use sfi_check::{SfiFinding, SfiVerdict, Status, check_into};
 
-/// Writes the verdict on the bytes to `verdict`, and returns its status. It takes no memory.
+/// Writes the verdict on the bytes to `verdict`, and returns its status, the number of a
+/// [`Status`]. It takes no memory.
 #[unsafe(no_mangle)]
 pub extern "C" fn sfi_c_check(image: &[u8], verdict: &mut SfiVerdict) -> u32
     ensures status { result ≡ verdict.new.status }
@@ -42,7 +43,8 @@ pub extern "C" fn sfi_c_check(image: &[u8], verdict: &mut SfiVerdict) -> u32
     verdict.status
 }
 
-/// Writes the image's findings to `sink`, in which nothing is written yet.
+/// Writes the image's findings to `sink`, in which nothing is written yet, as many as it has room
+/// for.
 fn fill_with_findings(image: &[u8], sink: &mut Array<'_>)
     requires { sink.old.written ≡ 0 }
     ensures same_array { sink.new.elements.ghost_name ≡ sink.old.elements.ghost_name }
@@ -52,7 +54,7 @@ fn fill_with_findings(image: &[u8], sink: &mut Array<'_>)
     check_into(image, sink);
 }
 
-/// Writes the image's findings to the array.
+/// Writes the image's findings to the array, from its front on, as many as it has room for.
 fn list_findings(image: &[u8], array: &mut [SfiFinding])
     ensures { (found : List Finding) → HasFindings image.now found
         → array.new ≡ with_findings found array.old }
@@ -64,9 +66,9 @@ fn list_findings(image: &[u8], array: &mut [SfiFinding])
     fill_with_findings(image, &mut sink);
 }
 
-/// Writes the verdict on the bytes to `verdict`, and returns its status. Where the bytes are
-/// refused, their findings are written to the array, from its front on, as many as it has room for;
-/// the verdict tells how many there are. It takes no memory.
+/// Writes the verdict on the bytes to `verdict`, and returns its status, the number of a
+/// [`Status`]. Where an image is refused, its findings are written to the array, from its front on,
+/// as many as it has room for; the verdict tells how many there are. It takes no memory.
 #[unsafe(no_mangle)]
 pub extern "C" fn sfi_c_findings(
     image: &[u8],

@@ -1,4 +1,5 @@
-//! The calls that C makes on an image that comes in pieces.
+//! The calls by which C gets the verdict on an image that comes in pieces: [`sfi_c_begin`],
+//! [`sfi_c_feed`] for each piece, and [`sfi_c_end`].
 ghost use Rattle.std.specs.Prelude.{◌≡◌, ◌≤◌, ◌↔◌, ℕ, List, [], ◌∷◌, ◌++◌, length, IsTrue};
 ghost use Rattle.sfi_image.specs.declared.fault.LayoutFault.{LayoutFault};
 ghost use Rattle.sfi_image.specs.Spelling.{Part};
@@ -34,8 +35,8 @@ pub extern "C" fn sfi_c_feed(stream: &mut SfiStream, bytes: &[u8])
     *stream = kept(&feed);
 }
 
-/// Writes the verdict on all bytes that were fed so far to `verdict`, and returns its status. It may
-/// be asked for at any time, and more bytes may be fed afterwards.
+/// Writes the verdict on all bytes that were fed so far to `verdict`, and returns its status, the
+/// number of a [`Status`]. It may be asked for at any time, and more bytes may be fed afterwards.
 #[unsafe(no_mangle)]
 pub extern "C" fn sfi_c_end(stream: &SfiStream, verdict: &mut SfiVerdict) -> u32
     requires { (bytes : List ℕ) × IsStreamOf stream.now bytes }

@@ -5,7 +5,7 @@ ghost use Rattle.sfi_c.specs.Parts.{with_findings};
 use sfi_check::{FindingSink, SfiFinding};
 use sfi_scan::BundleFindings;
 
-/// Writes the findings to the front of the array, as many as it holds.
+/// Writes the findings to the front of the array, as many as it has room for.
 pub(crate) fn write_findings(found: &BundleFindings, array: &mut [SfiFinding])
     ensures { array.new ≡ with_findings found.now array.old }
 {
@@ -18,7 +18,8 @@ pub(crate) fn write_findings(found: &BundleFindings, array: &mut [SfiFinding])
     }
 }
 
-/// An array whose first `written` elements are written.
+/// A caller's array, whose first `written` elements are written. Findings for which it has no room
+/// are dropped.
 #[derive(Drop)]
 pub(crate) struct Array<'a> {
     pub(crate) elements: &'a mut [SfiFinding],

@@ -2,7 +2,9 @@
 //! which `include/sfi.h` declares.
 //!
 //! A call keeps nothing. Whatever the bytes are, it returns, and reads nothing but them. The
-//! contracts hold for a caller that passes what the header asks for: nothing checks it.
+//! contracts hold for a caller that passes what the header asks for: nothing checks it. In C a
+//! slice is two arguments, a pointer and the number of elements. The structs here, and the numbers
+//! that calls return, are those of the header, where a change has to follow.
 #![tactic(auto)]
 
 mod apart;

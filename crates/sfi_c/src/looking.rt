@@ -12,7 +12,8 @@ ghost use Rattle.sfi_c.specs.Parts.{lookup_number, IsPartOf, IsGateOf, IsBeyondG
 use crate::part::{SfiGate, SfiPart, copy_gates, gate_for_c, part_for_c};
 use sfi_image::{Gate, LayoutFault, PartView, sandbox_of};
 
-/// What is said of a sandbox or a gate that was asked for.
+/// What is said of a sandbox or a gate that was asked for: `enum sfi_lookup` of include/sfi.h, and
+/// `SFI_NO_IMAGE`.
 #[derive(Clone, Copy, PartialEq, Eq, Debug)]
 pub enum Lookup {
     /// The image has the sandbox or gate.
@@ -46,7 +47,7 @@ impl From<LayoutFault> for Lookup {
     }
 }
 
-/// What is said: that it was found, or why not.
+/// What C is told of a search: that it found something, or why not.
 pub(crate) fn lookup_of<T>(sought: &Result<T, Lookup>) -> Lookup
     ensures { result ≡ said_by sought.now }
 {
@@ -56,7 +57,8 @@ pub(crate) fn lookup_of<T>(sought: &Result<T, Lookup>) -> Lookup
     }
 }
 
-/// Sandbox `number`, and where it ends, counted from the image's first byte.
+/// What the image has of its sandbox `number`, counted from 0, and the offset of the first byte
+/// after it in the image. The error is never `Found`.
 fn find_sandbox<'a>(image: &'a [u8], number: u32) -> Result<(PartView<'a>, usize), Lookup>
     ensures found { IfOk result (λ f. (p : Part) × (h : IsSandboxOf image.entry.now number p)
         × IsViewOf f.0 p × (f.1 ≡ sandbox_offset h.parts number + length (part p))) }
@@ -70,7 +72,7 @@ fn find_sandbox<'a>(image: &'a [u8], number: u32) -> Result<(PartView<'a>, usize
     }
 }
 
-/// Gate `index` in sandbox `number`.
+/// Gate `index` of the image's sandbox `number`, both counted from 0. The error is never `Found`.
 fn look_up_gate(image: &[u8], number: u32, index: u32) -> Result<Gate, Lookup>
     ensures found { IfOk result (λ g. (p : Part) × IsSandboxOf image.now number p
         × (slice_get p.gates index ≡ Some g)) }
@@ -113,8 +115,9 @@ pub extern "C" fn sfi_c_part(image: &[u8], number: u32, part: &mut SfiPart) -> u
     lookup.number()
 }
 
-/// Writes to `gate` gate `index`, counted from 0, of the image's sandbox `number`,
-/// and returns the number of a [`Lookup`]. It looks at the layout alone, and takes no memory.
+/// Writes to `gate` gate `index`, counted from 0, of the image's sandbox `number`, and returns the
+/// number of a [`Lookup`]. Gates are in the order of their addresses. It looks at the layout alone,
+/// and takes no memory.
 #[unsafe(no_mangle)]
 pub extern "C" fn sfi_c_gate(image: &[u8], number: u32, index: u32, gate: &mut SfiGate) -> u32
     ensures known { result ≤ 2 }

@@ -13,7 +13,8 @@ ghost use Rattle.sfi_c.specs.private.{move_said_of};
 use sfi_formats::Place;
 use sfi_places::{MoveFault, move_sandbox};
 
-/// What is said of a sandbox that was to be moved.
+/// What is said of a sandbox that was to be moved. Its numbers are in `enum sfi_lookup` of
+/// include/sfi.h, but that of `NoImage`, which is `SFI_NO_IMAGE`.
 #[derive(Clone, Copy, PartialEq, Eq, Debug)]
 pub enum MoveAnswer {
     /// The sandbox lies at the place.
@@ -22,7 +23,7 @@ pub enum MoveAnswer {
     Beyond,
     /// The bytes are no image.
     NoImage,
-    /// The place is wrong.
+    /// The sandbox can't lie at the place, as `NoPlace` of `sfi_places` says.
     NoPlace,
 }
 

@@ -1,4 +1,6 @@
-//! Numbers by which C keeps our enums.
+//! Numbers by which C keeps our enums, in an `SfiStream` and other structs. A function `X_numbered`
+//! undoes `X_number`, and takes any other number, too, since C may pass one. A new variant goes
+//! into both, and into specs/Streams.
 ghost use Rattle.std.specs.Prelude.{◌≡◌};
 ghost use Rattle.sfi_c.specs.Parts.{format_number};
 ghost use Rattle.sfi_c.specs.Streams.{stage_of, format_of, owed_of, fault_of, first_finding};
@@ -7,7 +9,7 @@ use sfi_check::SfiFinding;
 use sfi_image::{Format, LayoutFault, Stage};
 use sfi_rules::{Finding, Owed, Rule};
 
-/// The number of what comes next.
+/// The number of what a layout reader reads next.
 pub(crate) fn stage_number(next: Stage) -> u32
     ensures { stage_of result ≡ next }
 {
@@ -23,7 +25,7 @@ pub(crate) fn stage_number(next: Stage) -> u32
     }
 }
 
-/// What comes next, by its number; `Nothing` for each number above 6.
+/// What a layout reader reads next, by its number; `Nothing` for each number above 6.
 pub(crate) fn stage_numbered(number: u32) -> Stage
     ensures { result ≡ stage_of number }
 {
@@ -39,7 +41,7 @@ pub(crate) fn stage_numbered(number: u32) -> Stage
     }
 }
 
-/// The number of a format.
+/// The number of a format, as `format` of `struct sfi_part` in include/sfi.h has it.
 pub(crate) fn format_number(format: Format) -> u32
     ensures number { result ≡ format_number format }
     ensures back { format_of result ≡ format }
@@ -65,7 +67,8 @@ pub(crate) fn format_numbered(number: u32) -> Format
     }
 }
 
-/// The number of what is owed: one for its kind, plus 8 times its register.
+/// The number of what is owed (what the next instruction has to do, in code in words): one for its
+/// kind, 0 to 4, plus 8 times its register.
 pub(crate) fn owed_number(owed: Owed) -> u32
     ensures { owed_of result ≡ owed }
 {
@@ -78,7 +81,7 @@ pub(crate) fn owed_number(owed: Owed) -> u32
     }
 }
 
-/// What is owed, by its number.
+/// What is owed, by its number. `Nothing` for each kind above 4.
 pub(crate) fn owed_numbered(number: u32) -> Owed
     ensures { result ≡ owed_of number }
 {
@@ -92,7 +95,7 @@ pub(crate) fn owed_numbered(number: u32) -> Owed
     }
 }
 
-/// The number of the layout's fault, or 0.
+/// The number of the layout's fault, 1 to 11, or 0 where there is none.
 pub(crate) fn fault_number(fault: Option<LayoutFault>) -> u32
     ensures { fault_of result ≡ fault }
 {
@@ -102,7 +105,8 @@ pub(crate) fn fault_number(fault: Option<LayoutFault>) -> u32
     }
 }
 
-/// The layout fault whose number is `number`, if there is one.
+/// The layout's fault of that number; `None` for 0 and all above 11. `LayoutFault` of `sfi_image`
+/// has the same numbers.
 pub(crate) fn fault_numbered(number: u32) -> Option<LayoutFault>
     ensures { result ≡ fault_of number }
 {

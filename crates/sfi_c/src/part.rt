@@ -7,7 +7,7 @@ ghost use Rattle.sfi_c.specs.Parts.{told_at, told_gate, with_gates};
 use crate::numbers::format_number;
 use sfi_image::{Gate, PartView};
 
-/// A sandbox of an image: `struct sfi_part`.
+/// A sandbox of an image: `struct sfi_part` of include/sfi.h, field for field.
 #[repr(C)]
 #[derive(Clone, Copy, PartialEq, Eq, Debug)]
 pub struct SfiPart {
@@ -35,7 +35,7 @@ pub struct SfiPart {
     pub init_offset: usize,
 }
 
-/// A gate of a sandbox: `struct sfi_gate`.
+/// A gate of a sandbox: `struct sfi_gate` of include/sfi.h, field for field.
 #[repr(C)]
 #[derive(Clone, Copy, PartialEq, Eq, Debug)]
 pub struct SfiGate {
@@ -46,7 +46,7 @@ pub struct SfiGate {
     pub service: u32,
 }
 
-/// A sandbox as C gets it. `end` is where its bytes end, counted from the image's first.
+/// A sandbox as C gets it. `end` is the offset in the image of the first byte after the sandbox.
 pub(crate) fn part_for_c(view: &PartView<'_>, end: usize) -> SfiPart
     requires { (p : Part) × (offset : ℕ) × IsViewOf view.now p × (end ≡ offset + length (part p)) }
     ensures { (p : Part) (offset : ℕ) → IsViewOf view.now p → end ≡ offset + length (part p)

@@ -10,12 +10,14 @@ use sfi_check::{Feed, SfiFinding, Tally};
 use sfi_image::{Fields, GateArray, LayoutReader, Span, SpanArray};
 use std::mem::size_of;
 
-/// What is known of the bytes of an image so far: `struct sfi_stream`, in which C sees no field.
-/// Of each array as many elements count, from its front on, as its count says.
+/// What is known of the bytes of an image so far, a [`Feed`] as plain numbers: `struct sfi_stream`,
+/// in which C sees no field. Of each array as many elements count, from its front on, as its count
+/// says. A new field goes into [`feed_of`], [`kept`] and specs/Streams; the header has the size.
 #[repr(C)]
 #[derive(Clone, Copy)]
 pub struct SfiStream {
-    /// The spans of the sandboxes so far, two for each.
+    /// The spans of the sandboxes so far, which may not overlap: two for each, its code region and
+    /// its data region with guard zones.
     pub spans: [Span; 32],
     /// How many spans there are.
     pub span_count: u64,
@@ -29,13 +31,13 @@ pub struct SfiStream {
     pub gates: [u32; 64],
     /// The bytes that are held until what comes next is whole.
     pub held: [u8; 64],
-    /// What comes next, by number.
+    /// What comes next, by `stage_number`.
     pub next: u32,
     /// How many sandboxes the image has.
     pub count: u32,
     /// How many of these sandboxes have had their fields read.
     pub begun: u32,
-    /// The image's format: 1, 2 or 3.
+    /// The image's format, 1 to 4, by `format_number`.
     pub format: u32,
     /// The first address of the last sandbox's code region.
     pub code_base: u32,
@@ -63,7 +65,7 @@ pub struct SfiStream {
     pub findings: u32,
     /// The first of these findings, or three zeros.
     pub first: SfiFinding,
-    /// What is owed before the code that comes next, by number.
+    /// What is owed before the code that comes next, by `owed_number`.
     pub owed: u32,
     /// The number of the layout's fault, 1 to 11, or 0 if none was met.
     pub fault: u32,
@@ -72,7 +74,7 @@ pub struct SfiStream {
 // The header says so, too.
 const _: () = prove!(size_of::<SfiStream>() == 952);
 
-/// The sandbox's fields that the stream keeps.
+/// The fields of the last sandbox, which the stream keeps.
 fn fields_of(stream: &SfiStream) -> Fields
     ensures { result ≡ fields_of stream.now }
 {
@@ -105,7 +107,7 @@ fn reader_of(stream: &SfiStream) -> LayoutReader
     }
 }
 
-/// The tally that the stream keeps.
+/// The numbers of findings and bundles that the stream keeps.
 fn tally_of(stream: &SfiStream) -> Tally
     ensures { result ≡ tally_of stream.now }
 {
@@ -118,7 +120,7 @@ fn tally_of(stream: &SfiStream) -> Tally
     }
 }
 
-/// The feed that a stream of C's keeps.
+/// The feed that a stream of C's keeps, to which the next bytes are fed.
 pub(crate) fn feed_of(stream: &SfiStream) -> Feed
     ensures { result ≡ feed_of stream.now }
 {
@@ -131,7 +133,7 @@ pub(crate) fn feed_of(stream: &SfiStream) -> Feed
     }
 }
 
-/// The feed as a stream for C to keep.
+/// The feed as a stream for C to keep: [`feed_of`] gives the feed again.
 pub(crate) fn kept(feed: &Feed) -> SfiStream
     ensures { feed_of result ≡ feed.now }
 {
