@@ -5,7 +5,8 @@ ghost use Rattle.sfi_slots.specs.Slots.{format_numbered, bounds_of, LieApart};
 use sfi_formats::Format;
 use sfi_image::{Bounds, are_bounds_apart};
 
-/// What the checker told of an accepted sandbox.
+/// Where an accepted sandbox lies, as the checker told it (`SfiPart` of `sfi_c`):
+/// `struct sfi_bounds` of include/sfi_slots.h, field for field.
 #[repr(C)]
 #[derive(Clone, Copy, PartialEq, Eq, Debug)]
 pub struct SfiBounds {
@@ -21,7 +22,8 @@ pub struct SfiBounds {
     pub data_size: u32,
 }
 
-/// The format of that number.
+/// The format of that number; of 0 and all above 4 the fourth, which asks most of others, so that
+/// each number has a format.
 pub(crate) fn format_numbered(number: u32) -> Format
     ensures { result ≡ format_numbered number }
 {
@@ -33,7 +35,7 @@ pub(crate) fn format_numbered(number: u32) -> Format
     }
 }
 
-/// Where the version lies, and its image's format.
+/// The same bounds as `sfi_image` has them.
 fn bounds_of(bounds: &SfiBounds) -> Bounds
     ensures { result ≡ bounds_of bounds.now }
 {
@@ -46,7 +48,9 @@ fn bounds_of(bounds: &SfiBounds) -> Bounds
     }
 }
 
-/// Whether no region or guard zone of one meets one of the other, nor a zone at zero of the other.
+/// Whether no region or guard zone of one has an address in common with one of the other, nor with
+/// a zone at zero of the other: that is the addresses below its data size + 4096 and the last 4096,
+/// if it is of the fourth format.
 pub(crate) fn lie_apart(one: &SfiBounds, other: &SfiBounds) -> bool
     ensures { IsTrue result ↔ LieApart one.now other.now }
 {

@@ -1,4 +1,6 @@
-//! The calls of C. Each answers whether it was due, and changes at most the slot of the number.
+//! The calls of C. Each changes at most the slot `number`, counted from 0, and returns whether it
+//! did: false where the call isn't due, since the slot isn't in a state for it, or there is no such
+//! slot, and then nothing changes. What each makes of its slot is in changes.rt.
 ghost use Rattle.std.specs.Prelude.{◌≡◌, ◌<◌, ◌↔◌, IsTrue, IsSome, Bool, Some, Option, length, replicate, slice_get, is_some};
 ghost use Rattle.sfi_slots.specs.declared.slot.SfiSlot.{SfiSlot};
 ghost use Rattle.sfi_slots.specs.Slots.{MayEnter, IsApartFromOthers, empty_slot, begun, accepted, refused, tried, placing, grown, turned, confirmed, rolled_back, removed, next_of, with_next, slots_after};
@@ -7,7 +9,7 @@ use crate::bounds::SfiBounds;
 use crate::changes;
 use crate::slot::{EMPTY, SfiSlot, is_apart_from_others, may_enter, new_version, slot_at};
 
-/// Puts a changed slot in its place.
+/// Writes `next`, if there is one, over slot `number`. Returns whether there was.
 fn put(slots: &mut [SfiSlot], number: u32, next: Option<SfiSlot>) -> bool
     requires { number < length slots.now }
     ensures slots { slots.new ≡ with_next slots.old number next }
@@ -22,7 +24,7 @@ fn put(slots: &mut [SfiSlot], number: u32, next: Option<SfiSlot>) -> bool
     }
 }
 
-/// Leaves nothing in any slot: the first call.
+/// Empties all slots, whatever they hold: the first call.
 #[unsafe(no_mangle)]
 pub extern "C" fn sfi_slots_clear(slots: &mut [SfiSlot])
     ensures { slots.new ≡ replicate (length slots.old) empty_slot }
@@ -37,7 +39,7 @@ pub extern "C" fn sfi_slots_clear(slots: &mut [SfiSlot])
 }
 
 /// Begins an update: drops the version that isn't current, into whose memory the image's bytes then
-/// come.
+/// come. Not while the current one is on trial, since the other is then the one to go back to.
 #[unsafe(no_mangle)]
 pub extern "C" fn sfi_slots_begin(slots: &mut [SfiSlot], number: u32) -> bool
     ensures slots { slots.new ≡ slots_after begun slots.old number }
@@ -49,8 +51,9 @@ pub extern "C" fn sfi_slots_begin(slots: &mut [SfiSlot], number: u32) -> bool
     }
 }
 
-/// The bytes that came were accepted, as a sandbox with these bounds. Not where they meet what
-/// another slot keeps.
+/// The checker accepted the bytes that came, as a sandbox with these bounds: the version is
+/// accepted, too. Not where an address of these bounds is one of a version that another slot keeps,
+/// or nothing was being received.
 #[unsafe(no_mangle)]
 pub extern "C" fn sfi_slots_accept(slots: &mut [SfiSlot], number: u32, bounds: &SfiBounds) -> bool
     ensures { (fits : Bool) × (IsTrue fits ↔ IsApartFromOthers bounds.now slots.old number)
@@ -64,7 +67,8 @@ pub extern "C" fn sfi_slots_accept(slots: &mut [SfiSlot], number: u32, bounds: &
     }
 }
 
-/// The bytes that came were refused.
+/// The checker refused the bytes that came: their version is dropped. Not where nothing was being
+/// received.
 #[unsafe(no_mangle)]
 pub extern "C" fn sfi_slots_refuse(slots: &mut [SfiSlot], number: u32) -> bool
     ensures slots { slots.new ≡ slots_after refused slots.old number }
@@ -76,7 +80,8 @@ pub extern "C" fn sfi_slots_refuse(slots: &mut [SfiSlot], number: u32) -> bool
     }
 }
 
-/// Makes the accepted update the current version, on trial for so many turns.
+/// Makes the accepted update the current version, on trial for `turns` turns; the older one is
+/// kept. Nothing of its code is written yet. Not while the current version is on trial.
 #[unsafe(no_mangle)]
 pub extern "C" fn sfi_slots_try(slots: &mut [SfiSlot], number: u32, turns: u32) -> bool
     ensures slots { slots.new ≡ slots_after (tried turns) slots.old number }
@@ -88,7 +93,8 @@ pub extern "C" fn sfi_slots_try(slots: &mut [SfiSlot], number: u32, turns: u32) 
     }
 }
 
-/// Before the current version's code is written to its place from its front on.
+/// Called before the current version's code is written to its place, from its front on, also again:
+/// none of it counts as written then.
 #[unsafe(no_mangle)]
 pub extern "C" fn sfi_slots_place(slots: &mut [SfiSlot], number: u32) -> bool
     ensures slots { slots.new ≡ slots_after placing slots.old number }
@@ -100,7 +106,8 @@ pub extern "C" fn sfi_slots_place(slots: &mut [SfiSlot], number: u32) -> bool
     }
 }
 
-/// Before the next `count` bytes of it are written.
+/// Called before the next `count` bytes of the current version's code are written, which count as
+/// written then. Not where that is more than its code has.
 #[unsafe(no_mangle)]
 pub extern "C" fn sfi_slots_write(slots: &mut [SfiSlot], number: u32, count: u32) -> bool
     ensures slots { slots.new ≡ slots_after (grown count) slots.old number }
@@ -112,8 +119,8 @@ pub extern "C" fn sfi_slots_write(slots: &mut [SfiSlot], number: u32, count: u32
     }
 }
 
-/// A turn of a trial is over, and the version hasn't reported: false where that was the last, or it
-/// isn't on trial.
+/// A turn of a trial is over, and the version hasn't reported. False where that was the last one,
+/// so that the caller has to roll back, or where the version isn't on trial.
 #[unsafe(no_mangle)]
 pub extern "C" fn sfi_slots_turn(slots: &mut [SfiSlot], number: u32) -> bool
     ensures slots { slots.new ≡ slots_after turned slots.old number }
@@ -125,7 +132,7 @@ pub extern "C" fn sfi_slots_turn(slots: &mut [SfiSlot], number: u32) -> bool
     }
 }
 
-/// The version on trial has reported.
+/// The version on trial has reported that it works: it is good from now on.
 #[unsafe(no_mangle)]
 pub extern "C" fn sfi_slots_confirm(slots: &mut [SfiSlot], number: u32) -> bool
     ensures slots { slots.new ≡ slots_after confirmed slots.old number }
@@ -137,7 +144,8 @@ pub extern "C" fn sfi_slots_confirm(slots: &mut [SfiSlot], number: u32) -> bool
     }
 }
 
-/// Drops the version on trial: the older one, if there is one, is current again.
+/// Drops the version on trial: the older one, if there is one, is current again, and its code has
+/// to be written again.
 #[unsafe(no_mangle)]
 pub extern "C" fn sfi_slots_roll_back(slots: &mut [SfiSlot], number: u32) -> bool
     ensures slots { slots.new ≡ slots_after rolled_back slots.old number }
@@ -149,7 +157,7 @@ pub extern "C" fn sfi_slots_roll_back(slots: &mut [SfiSlot], number: u32) -> boo
     }
 }
 
-/// Drops both versions.
+/// Drops both versions. Not unless the current one is good.
 #[unsafe(no_mangle)]
 pub extern "C" fn sfi_slots_remove(slots: &mut [SfiSlot], number: u32) -> bool
     ensures slots { slots.new ≡ slots_after removed slots.old number }
@@ -161,7 +169,9 @@ pub extern "C" fn sfi_slots_remove(slots: &mut [SfiSlot], number: u32) -> bool
     }
 }
 
-/// Whether the slot's current version may be entered at `pc`.
+/// Whether the slot's current version may be entered at the absolute address `pc`: it is on trial
+/// or good, all of its code is written, and a bundle or, in the third and fourth format, a word of
+/// it begins there. False if there is no such slot.
 #[unsafe(no_mangle)]
 pub extern "C" fn sfi_slots_may_enter(slots: &[SfiSlot], number: u32, pc: u32) -> bool
     ensures { IsTrue result ↔ (s : SfiSlot) × (slice_get slots.now number ≡ Some s) × MayEnter s pc }

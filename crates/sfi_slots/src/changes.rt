@@ -1,11 +1,13 @@
-//! What a call makes of a slot; `None` where it isn't due, and changes nothing.
+//! What each call of calls.rt makes of its slot; `None` where the slot isn't in a state for the
+//! call, which then changes nothing. Each function is the definition of its name in specs/Slots.
 ghost use Rattle.std.specs.Prelude.{◌≡◌};
 ghost use Rattle.sfi_slots.specs.Slots.{with_versions, begun, accepted, refused, tried, placing, grown, turned, confirmed, rolled_back, removed};
 
 use crate::bounds::SfiBounds;
 use crate::slot::{ACCEPTED, EMPTY, GOOD, ON_TRIAL, RECEIVING, SfiSlot, SfiVersion, new_version};
 
-/// Another version is current, of which nothing is written.
+/// The slot with these two versions. None of the current one's code counts as written, since the
+/// code that lies in its place may be another's.
 fn with_versions(slot: &SfiSlot, current: SfiVersion, other: SfiVersion) -> SfiSlot
     ensures { result ≡ with_versions slot.now current other }
 {
@@ -17,7 +19,8 @@ fn with_versions(slot: &SfiSlot, current: SfiVersion, other: SfiVersion) -> SfiS
     }
 }
 
-/// An update begins: the version that isn't current is dropped.
+/// An update begins: the version that isn't current is dropped. `None` while the current one is on
+/// trial.
 pub(crate) fn begun(slot: SfiSlot) -> Option<SfiSlot>
     ensures { result ≡ begun slot }
 {
@@ -30,7 +33,9 @@ pub(crate) fn begun(slot: SfiSlot) -> Option<SfiSlot>
     })
 }
 
-/// The update was accepted, with these bounds, which fit beside the other slots' or don't.
+/// The update was accepted, with these bounds. `fits` says whether these lie apart from what other
+/// slots keep: `None` if not, or if no update was being received, or no number is left for the
+/// version.
 pub(crate) fn accepted(fits: bool, bounds: SfiBounds, slot: SfiSlot) -> Option<SfiSlot>
     ensures { result ≡ accepted fits bounds slot }
 {
@@ -55,7 +60,7 @@ pub(crate) fn accepted(fits: bool, bounds: SfiBounds, slot: SfiSlot) -> Option<S
     })
 }
 
-/// The update was refused.
+/// The update was refused, and is dropped. `None` if none was being received.
 pub(crate) fn refused(slot: SfiSlot) -> Option<SfiSlot>
     ensures { result ≡ refused slot }
 {
@@ -68,7 +73,9 @@ pub(crate) fn refused(slot: SfiSlot) -> Option<SfiSlot>
     })
 }
 
-/// The accepted update takes the current version's place, on trial for so many turns.
+/// The accepted update takes the current version's place, on trial for `turns` turns; the current
+/// one becomes the other. `None` while the current one is on trial, or if there is no accepted
+/// update.
 pub(crate) fn tried(turns: u32, slot: SfiSlot) -> Option<SfiSlot>
     ensures { result ≡ tried turns slot }
 {
@@ -86,7 +93,7 @@ pub(crate) fn tried(turns: u32, slot: SfiSlot) -> Option<SfiSlot>
     Some(with_versions(&slot, current, slot.current))
 }
 
-/// The current version's code is written anew.
+/// The current version's code is written anew. `None` if no version is current.
 pub(crate) fn placing(slot: SfiSlot) -> Option<SfiSlot>
     ensures { result ≡ placing slot }
 {
@@ -96,7 +103,8 @@ pub(crate) fn placing(slot: SfiSlot) -> Option<SfiSlot>
     Some(SfiSlot { written: 0, ..slot })
 }
 
-/// The next `count` bytes of it are written.
+/// The next `count` bytes of the current version's code are written. `None` if it has no such
+/// bytes, or no version is current.
 pub(crate) fn grown(count: u32, slot: SfiSlot) -> Option<SfiSlot>
     ensures { result ≡ grown count slot }
 {
@@ -113,7 +121,8 @@ pub(crate) fn grown(count: u32, slot: SfiSlot) -> Option<SfiSlot>
     })
 }
 
-/// A turn of a trial is used, and another one is left.
+/// A turn of a trial is used, and another one is left. `None` if none is, or no version is on
+/// trial.
 pub(crate) fn turned(slot: SfiSlot) -> Option<SfiSlot>
     ensures { result ≡ turned slot }
 {
@@ -133,7 +142,7 @@ pub(crate) fn turned(slot: SfiSlot) -> Option<SfiSlot>
     })
 }
 
-/// The version on trial has reported.
+/// The version on trial has reported, and is good. `None` if none is on trial.
 pub(crate) fn confirmed(slot: SfiSlot) -> Option<SfiSlot>
     ensures { result ≡ confirmed slot }
 {
@@ -150,7 +159,8 @@ pub(crate) fn confirmed(slot: SfiSlot) -> Option<SfiSlot>
     })
 }
 
-/// The version on trial is dropped, and the older one, if there is one, is current again.
+/// The version on trial is dropped, and the older one, if there is one, is current again. `None` if
+/// none is on trial.
 pub(crate) fn rolled_back(slot: SfiSlot) -> Option<SfiSlot>
     ensures { result ≡ rolled_back slot }
 {
@@ -160,7 +170,7 @@ pub(crate) fn rolled_back(slot: SfiSlot) -> Option<SfiSlot>
     Some(with_versions(&slot, slot.other, new_version(EMPTY, slot.current.memory)))
 }
 
-/// Both versions are dropped.
+/// Both versions are dropped; the number of updates stays. `None` unless the current one is good.
 pub(crate) fn removed(slot: SfiSlot) -> Option<SfiSlot>
     ensures { result ≡ removed slot }
 {

@@ -2,8 +2,12 @@
 //! written over, and what may be entered. A static library for C, whose calls change nothing but
 //! the slots that the caller passes.
 //!
-//! Each slot has two versions. An update takes the place of the one that isn't current, and then
-//! the other's on trial.
+//! A slot is for one plug-in, and has two versions of it: the current one, which runs, and another,
+//! older or newer. An update is received in the place of that other one. If it is accepted, it
+//! becomes current, on trial: for some turns of the host it has to report that it works, or the
+//! older one is current again. The structs, the states' numbers and the calls are also in
+//! include/sfi_slots.h; what each call makes of a slot is defined in specs/Slots. In C the slice
+//! `slots` is two arguments, a pointer and a count.
 #![tactic(auto)]
 
 mod bounds;

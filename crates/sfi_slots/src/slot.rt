@@ -1,4 +1,5 @@
-//! A slot and its two versions, and which are kept.
+//! A slot and its two versions. A version is kept if its image was accepted and it wasn't dropped:
+//! it may run, now or later.
 ghost use Rattle.std.specs.Prelude.{◌≡◌, ◌≢◌, ◌<◌, ◌↔◌, ℕ, IsTrue, length, slice_get, Some};
 ghost use Rattle.sfi_slots.specs.declared.slot.SfiSlot.{SfiSlot};
 ghost use Rattle.sfi_slots.specs.Slots.{IsKept, IsApartFrom, IsApartFromSlot, IsApartFromOthers, MayEnter, new_version, unit_of};
@@ -6,7 +7,9 @@ ghost use Rattle.sfi_slots.specs.Slots.{IsKept, IsApartFrom, IsApartFromSlot, Is
 use crate::bounds::{SfiBounds, format_numbered, lie_apart};
 use sfi_formats::BUNDLE_SIZE;
 
-/// A version's state where there is none.
+/// The state of a version that isn't there. It goes through the states in the order of their
+/// numbers, which `enum sfi_slot_state` of include/sfi_slots.h and specs/Slots have, too; from
+/// `ACCEPTED` on it is kept.
 pub const EMPTY: u32 = 0;
 /// Its image's bytes are coming: nothing is known of them.
 pub const RECEIVING: u32 = 1;
@@ -17,23 +20,24 @@ pub const ON_TRIAL: u32 = 3;
 /// It has reported.
 pub const GOOD: u32 = 4;
 
-/// A version of a plug-in. What its state doesn't speak of is 0, but for `memory`.
+/// A version of a plug-in: `struct sfi_version` of include/sfi_slots.h. What its state doesn't
+/// speak of is 0, but for `memory`.
 #[repr(C)]
 #[derive(Clone, Copy, PartialEq, Eq, Debug)]
 pub struct SfiVersion {
     /// One of the five above.
     pub state: u32,
-    /// Counted from 1 in each slot.
+    /// Which of the slot's accepted updates it is, counted from 1.
     pub number: u32,
-    /// In how many turns it has to report.
+    /// On trial: in how many more turns of the host it has to report.
     pub turns: u32,
     /// Which of the slot's two memories for images holds its image: 0 or 1.
     pub memory: u32,
-    /// What was accepted.
+    /// Where its sandbox lies, as it was accepted.
     pub bounds: SfiBounds,
 }
 
-/// A plug-in's slot.
+/// A plug-in's slot: `struct sfi_slot` of include/sfi_slots.h.
 #[repr(C)]
 #[derive(Clone, Copy, PartialEq, Eq, Debug)]
 pub struct SfiSlot {
@@ -47,7 +51,8 @@ pub struct SfiSlot {
     pub written: u32,
 }
 
-/// A version of which nothing was accepted.
+/// A version of which nothing was accepted: in state `EMPTY` or `RECEIVING`, with its image in
+/// `memory`.
 pub(crate) fn new_version(state: u32, memory: u32) -> SfiVersion
     ensures { result ≡ new_version state memory }
 {
@@ -67,7 +72,7 @@ pub(crate) fn new_version(state: u32, memory: u32) -> SfiVersion
     }
 }
 
-/// Whether the bounds are apart from those of the version, if it is kept.
+/// Whether the bounds lie apart from those of the version; true if it isn't kept.
 fn is_apart_from(bounds: &SfiBounds, version: &SfiVersion) -> bool
     ensures { IsTrue result ↔ IsApartFrom bounds.now version.now }
 {
@@ -77,7 +82,7 @@ fn is_apart_from(bounds: &SfiBounds, version: &SfiVersion) -> bool
     lie_apart(bounds, &version.bounds)
 }
 
-/// The same for both versions of a slot.
+/// Whether the bounds lie apart from those of both versions of a slot, as far as they are kept.
 fn is_apart_from_slot(bounds: &SfiBounds, slot: &SfiSlot) -> bool
     ensures { IsTrue result ↔ IsApartFromSlot bounds.now slot.now }
 {
@@ -87,14 +92,15 @@ fn is_apart_from_slot(bounds: &SfiBounds, slot: &SfiSlot) -> bool
     is_apart_from(bounds, &slot.other)
 }
 
-/// The slot of the number, if there is one.
+/// A copy of slot `number`, counted from 0; `None` if there are not so many.
 pub(crate) fn slot_at(slots: &[SfiSlot], number: usize) -> Option<SfiSlot>
     ensures { result ≡ slice_get slots.now number }
 {
     slots.get(number).copied()
 }
 
-/// The same for slot `i`, unless that is the slot of the number, or there is none.
+/// Whether the bounds lie apart from what slot `i` keeps; true if `i` is `number`, or there is no
+/// such slot.
 fn is_apart_at(bounds: &SfiBounds, slots: &[SfiSlot], i: usize, number: u32) -> bool
     ensures { IsTrue result ↔ ((s : SfiSlot) → slice_get slots.now i ≡ Some s → i ≢ number
         → IsApartFromSlot bounds.now s) }
@@ -108,7 +114,8 @@ fn is_apart_at(bounds: &SfiBounds, slots: &[SfiSlot], i: usize, number: u32) -> 
     }
 }
 
-/// The same for each slot but that of the number.
+/// Whether the bounds lie apart from what each slot but `number` keeps: an update of slot `number`
+/// may lie where its older version does.
 pub(crate) fn is_apart_from_others(bounds: &SfiBounds, slots: &[SfiSlot], number: u32) -> bool
     ensures { IsTrue result ↔ IsApartFromOthers bounds.now slots.now number }
 {
@@ -120,7 +127,9 @@ pub(crate) fn is_apart_from_others(bounds: &SfiBounds, slots: &[SfiSlot], number
     true
 }
 
-/// Whether the current version of the slot may be entered at `pc`.
+/// Whether the current version of the slot may be entered at the absolute address `pc`: it is on
+/// trial or good, all of its code is written, and a bundle of it begins there, or in code in words
+/// a word.
 pub(crate) fn may_enter(slot: &SfiSlot, pc: u32) -> bool
     ensures { IsTrue result ↔ MayEnter slot.now pc }
 {
@@ -141,8 +150,9 @@ pub(crate) fn may_enter(slot: &SfiSlot, pc: u32) -> bool
     offset % unit_of(bounds.format) == 0
 }
 
-/// How many bytes a unit of code has in the format of that number, or a bundle's where no format has it:
-/// a sandbox is entered at multiples.
+/// How many bytes lie between the places where a sandbox of the format of that number may be
+/// entered: 4 in code in words, formats 3 and 4, else 16. At multiples of 16 each format may be
+/// entered, so other numbers get 16.
 fn unit_of(number: u32) -> u32
     ensures is { result ≡ unit_of number }
     ensures positive { 0 < result }
