@@ -1,4 +1,6 @@
-//! Names with their addresses, one after another.
+//! Names with their addresses, one after another. An entry is the address in four bytes,
+//! little-endian, a byte that says how many bytes the name has, and the name: `entry` of
+//! specs/Tables says the same.
 ghost use Rattle.std.specs.Prelude.{◌≡◌, ◌≢◌, ℕ, ◌<◌, ◌≤◌, ◌+◌, ◌++◌, ◌↔◌, ◌-◌, List, length, take, drop, IsTrue, Some, None, IfSome, IfNone, OnOk, slice_get};
 ghost use Rattle.std.specs.List.{All};
 ghost use Rattle.sfi_image.specs.Spelling.{number, IsWord};
@@ -9,7 +11,7 @@ ghost use Rattle.sfi_names.specs.Tables.{address_of};
 use byteorder::{ByteOrder, LittleEndian};
 use std::alloc::AllocError;
 
-/// How many bytes a number has.
+/// How many bytes a number has, in a table as in an image.
 pub(crate) const NUMBER_BYTES: usize = 4;
 
 /// A name with its address.
@@ -21,7 +23,7 @@ pub struct NameEntry<'a> {
     pub name: &'a [u8],
 }
 
-/// The number at the front, and the bytes after it.
+/// The little-endian number in the first four bytes, and the bytes after it.
 pub(crate) fn number_at(bytes: &[u8]) -> (u32, &[u8])
     requires { NUMBER_BYTES ≤ length bytes.now }
     ensures front { bytes.now ≡ number result.0 ++ result.1.now }
@@ -32,7 +34,7 @@ pub(crate) fn number_at(bytes: &[u8]) -> (u32, &[u8])
     (LittleEndian::read_u32(front), rest)
 }
 
-/// Appends the number in four bytes.
+/// Appends the number in four bytes, little-endian. An error means that memory ran out.
 #[tactic(auto, unfolding(sfi_image::specs::Spelling::number))]
 pub(crate) fn push_number(bytes: &mut Vec<u8>, n: u32) -> Result<(), AllocError>
     ensures { OnOk result (bytes.new.items ≡ bytes.old.items ++ number n) }
@@ -44,7 +46,7 @@ pub(crate) fn push_number(bytes: &mut Vec<u8>, n: u32) -> Result<(), AllocError>
 }
 
 impl NameEntry<'_> {
-    /// Appends the entry's bytes.
+    /// Appends the entry's bytes. An error means that memory ran out.
     #[tactic(auto, using(std::proofs::Common::append_assoc), unfolding(crate::specs::Tables::entry))]
     pub fn push(&self, bytes: &mut Vec<u8>) -> Result<(), AllocError>
         requires { IsName self.now.name.now }
@@ -57,7 +59,7 @@ impl NameEntry<'_> {
     }
 }
 
-/// The bytes are a name.
+/// Whether the bytes are a name: 1 to 255, each a visible character of ASCII.
 fn is_name(bytes: &[u8]) -> bool
     ensures { IsTrue result ↔ IsName bytes.now }
 {
@@ -95,7 +97,8 @@ pub fn first_name_entry(bytes: &[u8]) -> Option<(NameEntry<'_>, &[u8])>
     }
 }
 
-/// The bytes are entries and nothing else.
+/// Whether the bytes are entries, one after another, and nothing else; also true where
+/// there is no byte.
 pub(crate) fn are_name_entries(bytes: &[u8]) -> bool
     ensures { IsTrue result ↔ ((es : List Named) × All IsNamed es × (bytes.now ≡ entries es)) }
 {
@@ -109,7 +112,7 @@ pub(crate) fn are_name_entries(bytes: &[u8]) -> bool
     true
 }
 
-/// The address of the first of the entries that has the name.
+/// The address of the first of the entries in `bytes` that has the name; `None` if none has it.
 pub(crate) fn address_named(bytes: &[u8], name: &[u8]) -> Option<u32>
     ensures { (es : List Named) → All IsNamed es → bytes.now ≡ entries es
         → result ≡ address_of name.now es }
@@ -124,7 +127,8 @@ pub(crate) fn address_named(bytes: &[u8], name: &[u8]) -> Option<u32>
     None
 }
 
-/// The entry at an index, counted from 0.
+/// The entry of that index, counted from 0, among the entries in `bytes`; `None` if there are not
+/// so many.
 pub(crate) fn entry_at(bytes: &[u8], index: u32) -> Option<NameEntry<'_>>
     ensures found { IfSome result (λ f. (es : List Named) → All IsNamed es
         → bytes.now ≡ entries es → slice_get es index ≡ Some (named f)) }

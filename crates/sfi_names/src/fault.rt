@@ -5,6 +5,6 @@
 pub enum NamesFault {
     /// They don't end in the magic, `SFIN`.
     NoTable,
-    /// They end in the magic, and what stands before it is no table's.
+    /// They end in the magic, but the bytes before it are not those of a table.
     BadTable,
 }

@@ -1,10 +1,11 @@
-//! What stands at the end of a table.
+//! The end of a table: three numbers, the version and how many bytes the exports and the imports
+//! have, and then the magic. `footer` of specs/Tables says the same.
 ghost use Rattle.std.specs.Prelude.{◌≡◌, ◌<◌, ◌+◌, ◌++◌, List, length, IfSome, IfNone};
 ghost use Rattle.sfi_image.specs.Spelling.{number, IsWord};
 
 use crate::entry::{NUMBER_BYTES, number_at};
 
-/// How many bytes the three numbers before the magic have.
+/// How many bytes the three numbers before the magic have; the magic isn't counted.
 const FOOTER_BYTES: usize = 3 * NUMBER_BYTES;
 
 // The numbers before the magic, and all bytes before them.
@@ -16,7 +17,7 @@ pub(crate) struct Footer<'a> {
     pub(crate) before: &'a [u8],
 }
 
-/// The last `count` bytes, with those before them.
+/// All but the last `count` bytes, and these; `None` if there are fewer.
 pub(crate) fn cut_end(bytes: &[u8], count: usize) -> Option<(&[u8], &[u8])>
     ensures found { IfSome result (λ f. (bytes.now ≡ f.0.now ++ f.1.now) × (length f.1.now ≡ count)) }
     ensures none { IfNone result (length bytes.now < count) }
@@ -27,7 +28,8 @@ pub(crate) fn cut_end(bytes: &[u8], count: usize) -> Option<(&[u8], &[u8])>
     Some(bytes.split_at(bytes.len() - count))
 }
 
-/// The numbers at the end of the bytes.
+/// The three numbers at the end of `bytes`, which are all before a table's magic; `None` if there
+/// are too few bytes. Whether the numbers fit what is before them isn't tested.
 pub(crate) fn footer_of(bytes: &[u8]) -> Option<Footer<'_>>
     ensures found { IfSome result (λ f. bytes.now ≡ f.before.now
         ++ (number f.version ++ (number f.exports_bytes ++ number f.imports_bytes))) }

@@ -21,7 +21,7 @@ pub enum Missing {
     NoSandbox,
     /// The sandbox's first data bytes don't end in the magic of a table.
     NoTable,
-    /// They end in the magic, and what stands before it is no table's.
+    /// They end in the magic, but the bytes before it are not those of a table.
     BadTable,
     /// The table doesn't have the name, or no entry of the index.
     NoName,
@@ -30,7 +30,8 @@ pub enum Missing {
 impl Missing {
     ghost use Rattle.sfi_names.specs.Images.{number_of};
 
-    /// The number by which C knows it, 1 to 5.
+    /// The number by which C knows it, 1 to 5: that of `enum sfi_run_names` of `sfi_run`'s
+    /// include/sfi_run.h.
     pub fn number(self) -> u32
         ensures { result ≡ number_of self }
     {
@@ -52,7 +53,7 @@ impl From<LayoutFault> for Missing {
     }
 }
 
-/// Which names of a table.
+/// Which of a table's two lists of names.
 #[derive(Clone, Copy, Debug, PartialEq, Eq)]
 pub enum Kind {
     /// Functions that a host may call, and objects of the data that it may use.
@@ -84,7 +85,7 @@ pub fn address_in(image: &[u8], number: u32, kind: Kind, name: &[u8]) -> Result<
     find_address(image, number, kind, name)
 }
 
-/// The address that a name stands for, or why there is none.
+/// The work of [`address_in`], apart: its contract is all that the proof of that function's takes.
 fn find_address(image: &[u8], number: u32, kind: Kind, name: &[u8]) -> Result<u32, Missing>
     ensures { IsAnswer image.now number kind name.now result }
 {
@@ -120,7 +121,7 @@ pub fn entry_in<'a>(
     find_entry(image, number, kind, index)
 }
 
-/// The entry at an index, or why there is none.
+/// The work of [`entry_in`], apart: its contract is all that the proof of that function's takes.
 fn find_entry<'a>(
     image: &'a [u8],
     number: u32,
@@ -143,7 +144,7 @@ fn find_entry<'a>(
     }
 }
 
-/// The table of the image's sandbox `number`, or why there is none.
+/// The work of [`names_in`], apart: its contract is all that the proof of that function's takes.
 fn read_names<'a>(image: &'a [u8], number: u32) -> Result<Names<'a>, Missing>
     ensures found { IfOk result (λ n. (t : Table) × HasTableOf image.entry.now number t
         × IsNamesOf n t) }
@@ -156,7 +157,8 @@ fn read_names<'a>(image: &'a [u8], number: u32) -> Result<Names<'a>, Missing>
     }
 }
 
-/// The first data bytes of the image's sandbox `number`, or why there are none.
+/// The first data bytes of the image's sandbox `number`, counted from 0, in which a table may end;
+/// an error if the bytes are no image, or it has no such sandbox.
 fn init_bytes<'a>(image: &'a [u8], number: u32) -> Result<&'a [u8], Missing>
     ensures found { IfOk result (λ d. IsInitOf image.entry.now number d.now) }
     ensures missing { IfErr result (λ m. HasNoInit image.entry.now number m) }

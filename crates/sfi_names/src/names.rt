@@ -27,7 +27,7 @@ pub struct Names<'a> {
 }
 
 impl<'a> Names<'a> {
-    /// The table in which the bytes end.
+    /// The table in which the bytes end, or why there is none. Its entries are tested, too.
     pub fn at_end(bytes: &'a [u8]) -> Result<Names<'a>, NamesFault>
         ensures found { IfOk result (λ n. (t : Table) × HasTable bytes.entry.now t
             × IsNamesOf n t) }
@@ -45,21 +45,22 @@ impl<'a> Names<'a> {
         }
     }
 
-    /// The address of the first export of that name.
+    /// The address of the first export of that name; `None` if there is none.
     pub fn export_named(&self, name: &[u8]) -> Option<u32>
         ensures { (t : Table) → IsNamesOf self.now t → result ≡ address_of name.now t.exports }
     {
         address_named(self.exports, name)
     }
 
-    /// The address of the first import of that name: of its gate.
+    /// The address of the first import of that name, which is its gate's; `None` if there is none.
     pub fn import_named(&self, name: &[u8]) -> Option<u32>
         ensures { (t : Table) → IsNamesOf self.now t → result ≡ address_of name.now t.imports }
     {
         address_named(self.imports, name)
     }
 
-    /// Appends the table's bytes.
+    /// Appends the table's bytes, as [`at_end`](Names::at_end) reads them. An error means that
+    /// memory ran out.
     pub fn push(&self, bytes: &mut Vec<u8>) -> Result<(), AllocError>
         requires { (t : Table) × IsNamesOf self.now t }
         ensures { (t : Table) → IsNamesOf self.now t
@@ -75,7 +76,7 @@ impl<'a> Names<'a> {
     }
 }
 
-/// The bytes before the magic, if they end in it.
+/// The bytes before the magic; `None` if they don't end in it.
 fn before_magic(bytes: &[u8]) -> Option<&[u8]>
     ensures found { IfSome result (λ b. bytes.now ≡ b.now ++ magic) }
     ensures none { IfNone result (EndsIn bytes.now magic → ⊥) }
@@ -88,7 +89,8 @@ fn before_magic(bytes: &[u8]) -> Option<&[u8]>
     }
 }
 
-/// The table whose bytes before the magic end these.
+/// The table that ends in `bytes` and the magic after them; `None` if what they end in is no
+/// table's.
 fn names_before(bytes: &[u8]) -> Option<Names<'_>>
     ensures found { IfSome result (λ n. (t : Table) × HasTable (bytes.now ++ magic) t
         × IsNamesOf n t) }

@@ -5,10 +5,12 @@ ghost use Rattle.sfi_names.specs.Rooms.{ends_with_room, room_in, room_of};
 use crate::names::MAGIC;
 use byteorder::{ByteOrder, LittleEndian};
 
-/// How many bytes the last import has, where it is the room, with what stands after it in a table.
+/// How many bytes the last import has, where it is the room, with what follows it in a table: the
+/// number in 4 bytes, the name with its length in 6, the footer's three numbers in 12, and the
+/// magic in 4.
 const ROOM_BYTES: usize = 26;
 
-/// The length of the room's name, and the name.
+/// The length of the room's name, and the name: tools/suygapid/image/names.py writes it.
 const ROOM_NAME: [u8; 6] = *b"\x05.room";
 
 /// Whether these 26 bytes have the name of the room and the magic in their places.
@@ -19,7 +21,7 @@ fn ends_with_room(last: &[u8]) -> bool
     &last[4..10] == ROOM_NAME.as_slice() && &last[22..26] == MAGIC.as_slice()
 }
 
-/// The room that these 26 bytes ask for.
+/// The number of bytes of room that these 26 bytes ask for; 0 if they are no room's.
 fn room_in(last: &[u8]) -> u32
     requires { length last.now ≡ ROOM_BYTES }
     ensures { result ≡ room_in last.now }
