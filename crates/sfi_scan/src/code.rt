@@ -60,6 +60,7 @@ fn scan_one_bundle<F: FindingSink>(
 
 /// Scans the block's bundles from number `from` on, 0 to 7, that aren't seen to be clean, in order.
 /// `place` is that of the block's first bundle; bit i of `clean` is set if bundle i is seen clean.
+/// Not inlined, since most blocks are seen clean as wholes.
 #[inline(never)]
 fn scan_doubtful_bundles<F: FindingSink>(
     place: &BundlePlace,

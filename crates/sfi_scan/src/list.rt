@@ -22,6 +22,7 @@ impl FindingSink for FindingList {
 
     ghost takes = { λ s found t. Lists s.found.items s.lacks_memory found t.found.items t.lacks_memory };
 
+    // What there is no memory for is dropped: the result is an error then.
     fn put(&mut self, found: &BundleFindings) {
         if self.found.extend_from_slice(found.as_slice()).is_err() {
             self.lacks_memory = true;

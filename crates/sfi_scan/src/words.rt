@@ -1,7 +1,7 @@
 //! The scan of code in words, of the third and fourth format, 16 bytes at a time: these are called
 //! a bundle here, too. What is owed ([`Owed`]) is what the next instruction has to do, because an
-//! earlier one wrote a typed register: each function takes what is owed before its code, and
-//! returns what is owed after it. As in code.rt, `at` is an offset in `code`, the stretch at
+//! earlier one wrote a typed register: a function that scans takes what is owed before its code,
+//! and returns what is owed after it. As in code.rt, `at` is an offset in `code`, the stretch at
 //! `place`, and `findings` room to work in. `SINGLE` says whether data are masked by one
 //! instruction, as in the fourth format.
 ghost use Rattle.std.specs.Prelude.{◌≡◌, ◌*◌, ◌≤◌, ◌<◌, ℕ, IfSome, length};

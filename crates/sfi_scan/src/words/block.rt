@@ -172,6 +172,7 @@ fn is_use_of(d: Reg, word: u32) -> bool
     if is_dropped(word) {
         return false;
     }
+    // Modulo 4096 the offsets allowed are one range only after this shift.
     (offset_bits(word) + SLACK & 0xfff) <= 2 * SLACK
 }
 
