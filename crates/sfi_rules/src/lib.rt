@@ -9,8 +9,10 @@
 //! In the third format code is in words of four bytes, and some registers are typed. There are no
 //! pairs that must not be entered in the middle: each word's start is a place where a run may be
 //! entered. The data registers x2, x3, x4 and x29 lie in the data region or near it, x31 is an
-//! offset in it, and x30 is a word's start; each rule looks at an instruction and at the next two at
-//! most (`specs/words`). No code here scans, and nothing here knows the machine.
+//! offset in it, and x30 is a word's start; each rule looks at an instruction and at the next two
+//! at most (`specs/words`). The fourth format is the third with masks of one step: x26 and x31 are
+//! data registers, too, and no register holds an offset. No code here scans, and nothing here knows
+//! the machine.
 #![tactic(auto)]
 
 mod finding;

@@ -14,7 +14,7 @@ pub enum Rule {
     V2,
     /// An `ecall` that isn't the first instruction of a listed gate.
     V3,
-    /// A reserved register, x24 to x27, is written.
+    /// A reserved register is written: x24 to x27, but x26 isn't reserved in the fourth format.
     V4,
     /// A load or store without the data pair on its base directly before it. In the second format
     /// one on x2 needs no pair. In words: one on neither a data register nor x26.
@@ -36,9 +36,10 @@ pub enum Rule {
     /// directly follows in its bundle. In words: what must follow a write of a data register
     /// doesn't, or a jump writes one.
     V10,
-    /// In words: what must follow a mask of x30 doesn't, or x30 is written otherwise.
+    /// In words: x30 is written by `and x30, a, x25` and `or x30, x30, x24` doesn't follow
+    /// directly, or it is written otherwise than by these two.
     V11,
-    /// In words: the offset register x31 is written otherwise than by `and x31, a, x27`.
+    /// In the third format: the offset register x31 is written otherwise than by `and x31, a, x27`.
     V12,
 }
 
