@@ -62,6 +62,7 @@ impl From<Refusal> for ConvertFault {
 
     ghost from_gives = { λ refusal fault. fault ≡ fault_of refusal };
 
+    // Want of memory says nothing of the bytes, so it is no refusal of them here.
     fn from(refusal: Refusal) -> ConvertFault {
         match refusal {
             Refusal::Layout(fault) => ConvertFault::Refused(Refusal::Layout(fault)),
