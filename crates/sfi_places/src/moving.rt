@@ -21,7 +21,9 @@ pub enum MoveFault {
     /// The image has fewer sandboxes.
     NoSandbox,
     /// The place is wrong: a base is no multiple of its region's size, the data have no room for a
-    /// guard zone, or a region or guard zone meets one of this or another sandbox.
+    /// guard zone, or a region or guard zone overlaps one of this or another sandbox. In the fourth
+    /// format also: the data base is no single bit or below the data's size, or a region or guard
+    /// zone lies in a zone at zero.
     NoPlace,
 }
 

@@ -11,8 +11,9 @@ use sfi_formats::Place;
 use sfi_image::Fields;
 use sfi_names::Names;
 
-// How many bytes of an entry stand before its name, where the last of them says how long that is, and
-// how many bytes of a table after its entries.
+// Of an entry of a table of names (specs/Tables of `sfi_names`): which byte says how long its name
+// is, and at which the name begins, counted from 0. And how many bytes a table has after its
+// entries: its three numbers and the magic.
 const LENGTH_AT: usize = 4;
 
 const NAME_AT: usize = 5;
