@@ -42,6 +42,7 @@ impl Lookup {
 impl From<LayoutFault> for Lookup {
     ghost from_gives = { λ _ l. l ≡ NoImage };
 
+    // Which fault it is, `sfi_c_check` says.
     fn from(_fault: LayoutFault) -> Lookup {
         Lookup::NoImage
     }
