@@ -52,8 +52,8 @@ pub extern "C" fn sfi_slots_begin(slots: &mut [SfiSlot], number: u32) -> bool
 }
 
 /// The checker accepted the bytes that came, as a sandbox with these bounds: the version is
-/// accepted, too. Not where an address of these bounds is one of a version that another slot keeps,
-/// or nothing was being received.
+/// accepted, too. Not where the bounds don't lie apart (as `lie_apart` says) from those of each
+/// version that another slot keeps, or nothing was being received.
 #[unsafe(no_mangle)]
 pub extern "C" fn sfi_slots_accept(slots: &mut [SfiSlot], number: u32, bounds: &SfiBounds) -> bool
     ensures { (fits : Bool) × (IsTrue fits ↔ IsApartFromOthers bounds.now slots.old number)

@@ -17,7 +17,7 @@ pub const RECEIVING: u32 = 1;
 pub const ACCEPTED: u32 = 2;
 /// It runs, and has to report that it works.
 pub const ON_TRIAL: u32 = 3;
-/// It has reported.
+/// It runs, and has reported that it works.
 pub const GOOD: u32 = 4;
 
 /// A version of a plug-in: `struct sfi_version` of include/sfi_slots.h. What its state doesn't
@@ -41,9 +41,9 @@ pub struct SfiVersion {
 #[repr(C)]
 #[derive(Clone, Copy, PartialEq, Eq, Debug)]
 pub struct SfiSlot {
-    /// The version that runs, or none.
+    /// The version that runs, or none: in state `ON_TRIAL`, `GOOD` or `EMPTY`.
     pub current: SfiVersion,
-    /// The older one, an update, or none.
+    /// The older version, kept to go back to; an update, received or accepted; or none.
     pub other: SfiVersion,
     /// How many updates were accepted.
     pub updates: u32,
