@@ -97,8 +97,7 @@ pub fn first_name_entry(bytes: &[u8]) -> Option<(NameEntry<'_>, &[u8])>
     }
 }
 
-/// Whether the bytes are entries, one after another, and nothing else; also true where
-/// there is no byte.
+/// Whether the bytes are entries, one after another, and nothing else; true where there is no byte.
 pub(crate) fn are_name_entries(bytes: &[u8]) -> bool
     ensures { IsTrue result ↔ ((es : List Named) × All IsNamed es × (bytes.now ≡ entries es)) }
 {

@@ -48,6 +48,7 @@ impl Missing {
 impl From<LayoutFault> for Missing {
     ghost from_gives = { λ _ m. m ≡ NoImage };
 
+    // Which fault it is, a check of the image says.
     fn from(_fault: LayoutFault) -> Missing {
         Missing::NoImage
     }
