@@ -21,7 +21,7 @@ impl Model for BundleFindings {
 }
 
 impl BundleFindings {
-    /// No finding.
+    /// An empty list, which one scan after another may fill.
     pub fn new() -> Self
         ensures { result ≡ [] }
     {

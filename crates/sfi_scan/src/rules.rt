@@ -142,7 +142,8 @@ pub(crate) fn is_jump(instr: &Instr) -> bool
     matches!(instr, Instr::Jal { .. } | Instr::Jalr { .. })
 }
 
-/// Whether the instruction and the one directly after it are the pair on the stack pointer.
+/// Whether the instruction and the one directly after it, the first of `two`, are the pair on the
+/// stack pointer.
 fn begins_pair(instr: &Instr, two: &Ahead) -> bool
     ensures { (later : List Piece) → ahead later ≡ two.now →
         result ≡ begins_pair instr.now later }
@@ -164,7 +165,8 @@ fn ends_pair(before: &Before, instr: &Instr) -> bool
     }
 }
 
-/// Whether the two instructions directly after it are the pair on the stack pointer.
+/// Whether `two`, the two instructions directly after a write of the stack pointer, are the pair on
+/// it.
 fn precedes_pair(two: &Ahead) -> bool
     ensures { (later : List Piece) → ahead later ≡ two.now → result ≡ precedes_pair later }
 {

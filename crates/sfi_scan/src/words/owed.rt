@@ -32,7 +32,8 @@ fn is_owed_by_code(owed: Owed) -> bool
     matches!(owed, Owed::Code)
 }
 
-/// What is owed after the first step of the mask of data register `d`.
+/// What is owed after the first step of the mask of data register `d`: that it is placed, where a
+/// mask has two steps, else nothing.
 fn owed_by_mask(format: Format, d: u8) -> Owed
     ensures { result ≡ owed_by_mask format d }
 {
