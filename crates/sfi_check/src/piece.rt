@@ -25,7 +25,7 @@ pub(crate) enum FeedEnd {
     Fault(LayoutFault),
 }
 
-/// Hands these bytes to the reader.
+/// Hands these bytes, as many as the reader wants next, to it.
 #[inline(always)]
 fn take_bytes(reader: &mut LayoutReader, bytes: &[u8]) -> FeedEnd
     requires { (x : ImagePrefix) × StandsFor reader.old x × IsLengthOf (length bytes.now) (want_of x) }
