@@ -93,9 +93,9 @@ fn try_move(image: &mut [u8], number: u32, code_base: u32, data_base: u32) -> Re
     Err(MoveFault::NoPlace)
 }
 
-/// Moves the image's sandbox `number`, counted from 0, to the place: of the image's bytes only
-/// its two bases, its start, its gates' addresses and those in its table of names change. It takes
-/// no memory.
+/// Moves the image's sandbox `number`, counted from 0, to the place: of the image's bytes only its
+/// two bases, its start, its gates' addresses and those in its table of names change, and with an
+/// error none. It takes no memory.
 pub fn move_sandbox(image: &mut [u8], number: u32, to: Place) -> Result<(), MoveFault>
     // What each answer means.
     ensures moved { OnOk result (IsMoved image.old number to image.new) }

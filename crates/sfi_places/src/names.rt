@@ -61,7 +61,8 @@ fn write_entry(image: &mut [u8], at: usize, fields: &Fields, to: Place) -> usize
     NAME_AT + size
 }
 
-/// Writes the entries from offset `begin` to `end` for the place.
+/// Writes the entries of a table of names, from byte `begin` of the image up to `end`, for the
+/// place.
 fn write_entries(image: &mut [u8], begin: usize, end: usize, fields: &Fields, to: Place)
     requires room { HasRoomThere fields.now to }
     requires lies { (es : List Named) × All IsNamed es × LiesAt image.old begin (entries es)
