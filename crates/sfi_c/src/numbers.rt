@@ -136,7 +136,7 @@ pub(crate) fn first_finding_for_c(first: Option<Finding>) -> SfiFinding
     }
 }
 
-/// The first finding that C keeps, if there is one.
+/// The first finding that C keeps; `None` where its rule is 0, or no rule's number.
 pub(crate) fn first_finding_from_c(first: SfiFinding) -> Option<Finding>
     ensures { result ≡ first_finding first }
 {
