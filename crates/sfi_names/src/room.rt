@@ -13,7 +13,8 @@ const ROOM_BYTES: usize = 26;
 /// The length of the room's name, and the name: tools/suygapid/image/names.py writes it.
 const ROOM_NAME: [u8; 6] = *b"\x05.room";
 
-/// Whether these 26 bytes have the name of the room and the magic in their places.
+/// Whether these 26 bytes have the name of the room and its length from byte 4 on, and the magic
+/// from byte 22 on.
 fn ends_with_room(last: &[u8]) -> bool
     requires { length last.now ≡ ROOM_BYTES }
     ensures { result ≡ ends_with_room last.now }
@@ -32,9 +33,11 @@ fn room_in(last: &[u8]) -> u32
     LittleEndian::read_u32(&last[..4])
 }
 
-/// How many bytes above the stack of a function that a host calls the table at the end of these
-/// first data bytes asks for: what its last import stands for, if its name is `.room`, else 0. gcc
-/// and clang reach objects of a frame by a base above the frame, which would pass the data's end.
+/// How many bytes the table at the end of these first data bytes asks to be left free above the
+/// stack of a function that a host calls: the number that its last import has in the place of an
+/// address, if that import's name is `.room`, else 0. gcc and clang reach objects of a frame by a
+/// base above the frame, which would pass the data's end. Of the table only its last 26 bytes are
+/// looked at.
 #[tactic(auto, unfolding(crate::specs::Rooms::room_of))]
 pub fn room_at_end(bytes: &[u8]) -> u32
     ensures { result ≡ room_of bytes.now }
